@@ -1,0 +1,45 @@
+// Files as entries of a path and a content, of which the first with a path counts.
+ghost use Rattle.std.specs.Prelude.{◌≡◌, IfOk};
+ghost use Rattle.std.specs.Option.{option_copied};
+ghost use Rattle.pp_base.specs.FileMap.{content_at, files_of, among};
+
+use crate::{Memory, Text};
+use std::alloc::Global;
+
+/// The content of a path: that of its first entry.
+#[tactic(auto, using(crate::proofs::Scan::scan_found, crate::proofs::Scan::scan_on, crate::proofs::Scan::scan_ends))]
+pub fn first_content<'a>(entries: &'a [(Text, Text)], path: &[u8]) -> Option<&'a Text>
+    ensures { option_copied result ≡ content_at (files_of entries.now) path.now }
+{
+    let mut rest = entries;
+    while let [(name, bytes), after @ ..] = rest {
+        if path == name.as_slice() {
+            return Some(bytes);
+        }
+        rest = after;
+    }
+    None
+}
+
+/// Whether a path, or a pattern, stands among the texts.
+pub fn is_among(texts: &[Text], text: &[u8]) -> bool
+    ensures { result ≡ among texts.now text.now }
+{
+    let mut rest = texts;
+    while let [first, after @ ..] = rest {
+        if first.as_slice() == text {
+            return true;
+        }
+        rest = after;
+    }
+    false
+}
+
+/// An entry of its own for a path and a content.
+pub fn entry_of(alloc: Global, path: &[u8], bytes: &[u8]) -> Result<(Text, Text), Memory>
+    ensures { IfOk result (λ entry. entry ≡ (path.now, bytes.now)) }
+{
+    let name = Text::from_slice(alloc, path)?;
+    let content = Text::from_slice(alloc, bytes)?;
+    Ok((name, content))
+}
