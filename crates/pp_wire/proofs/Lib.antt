@@ -1,0 +1,7 @@
+pub mod Varints
+pub mod Walks
+pub mod Shrinking
+pub mod Steps
+pub mod Shortest
+pub mod Again
+pub mod CallerLemmas

@@ -1,0 +1,7 @@
+pub mod Reading
+pub mod Varint
+pub mod Walk
+pub mod Place
+pub mod Fields
+pub mod Spelling
+pub mod Appends

@@ -1,0 +1,22 @@
+//! The fields of the Protocol Buffers wire format, walked and written.
+#![tactic(auto)]
+
+mod fault;
+mod field;
+mod laws;
+mod packed;
+mod reading;
+mod varint;
+mod walker;
+mod writing;
+
+pub use fault::{WireFault, WireKind};
+pub use field::{Field, Payload};
+pub use laws::{bytes_are_read, number_is_read, packed_is_read};
+pub use packed::Packed;
+pub use varint::varint_len;
+pub use walker::Walker;
+pub use writing::{put_bytes, put_number, put_packed, put_varint};
+
+#[cfg(test)]
+mod tests;

@@ -1,0 +1,70 @@
+//! The fields of a message, one after another.
+
+ghost use Rattle.std.specs.Prelude.{◌≡◌, ◌+◌, ◌≤◌, ◌<◌, ◌^◌, length};
+ghost use Rattle.pp_wire.specs.Walk.{first, after};
+ghost use Rattle.pp_wire.specs.Fields.{fields, seen};
+
+use crate::reading::field_of;
+use crate::{Field, WireFault};
+use std::marker::Model;
+
+/// Gives the fields of a message in order, or the first fault. It takes no memory and copies no payload.
+#[derive(Debug, Drop)]
+pub struct Walker<'a> {
+    rest: &'a [u8],
+    // The place behind the last byte.
+    end: u64,
+    fault: Option<WireFault>,
+}
+
+impl<'a> Model for Walker<'a> {
+    ghost use Rattle.std.specs.Prelude.{◌≤◌, length};
+    ghost use Rattle.pp_wire.specs.Walk.{Walk, stopped, walk_of};
+    ghost use Rattle.pp_wire.specs.Fields.{Item, field};
+
+    ghost Value = { Walk Item };
+
+    ghost view = { λ w. stopped w.fault (walk_of (field w.end) w.rest.now) };
+
+    ghost invariant = { λ w. length w.rest.now ≤ w.end };
+}
+
+impl<'a> Walker<'a> {
+    /// The fields of a message whose first byte is at the place `base` of the file.
+    pub fn new(bytes: &'a [u8], base: u64) -> Self
+        requires { base + length bytes.now < 2 ^ 64 }
+        ensures fields { result ≡ fields bytes.now base }
+        ensures few { length result.items ≤ length bytes.now }
+    {
+        Walker {
+            rest: bytes,
+            end: base + bytes.len() as u64,
+            fault: None,
+        }
+    }
+
+    /// The next field, or `None` exactly at the end of the bytes. After a fault each later call gives the same fault.
+    pub fn next(&mut self) -> Option<Result<Field<'a>, WireFault>>
+        ensures given { seen result ≡ first self.old }
+        ensures left { self.new ≡ after self.old }
+    {
+        if let Some(fault) = self.fault {
+            return Some(Err(fault));
+        }
+        if self.rest.is_empty() {
+            return None;
+        }
+        match field_of(self.end, self.rest) {
+            Ok((field, rest)) => {
+                self.rest = rest;
+                Some(Ok(field))
+            }
+            Err(kind) => {
+                let at = self.end - self.rest.len() as u64;
+                let fault = WireFault { kind, at };
+                self.fault = Some(fault);
+                Some(Err(fault))
+            }
+        }
+    }
+}
