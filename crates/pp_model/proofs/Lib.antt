@@ -1,0 +1,7 @@
+pub mod CompactLemmas
+pub mod ConfigLemmas
+pub mod FrameLemmas
+pub mod LoadedLemmas
+pub mod LookupLemmas
+pub mod RuleLemmas
+pub mod ValueLemmas

@@ -1,0 +1,59 @@
+-- What follows where no table rule fails. For crates above.
+use Rattle.std.proofs.Common.{◌≡◌, ℕ, ◌<◌, ◌≤◌, List, length, get_or, Bool, true, false, cond, inl, inr, refl, sym, subst, ◌∙◌, arith}
+use Rattle.std.specs.Prelude.{◌==◌, not, ℤ, pos, negsuc, Some, None, Contains}
+use Rattle.std.specs.List.{AllPass, list_all, position_or_len}
+use Rattle.std.proofs.lemmas.Bool.{ltb-true, ltb-false, eqb-true, or_cases, not-false, true≢false}
+use Rattle.std.proofs.lemmas.List.{get_or_default}
+use Rattle.std.proofs.lemmas.List.Sums.{fails_before_first, AllPass-from_list_all}
+use Rattle.std.proofs.lemmas.List.Folds.{Any-from_list_any}
+use Rattle.pp_model.specs.declared.profile.Sample.{Sample}
+use Rattle.pp_model.specs.declared.profile.Profile.{Profile}
+use Rattle.pp_model.specs.Conditions.{RefersTo, IsSampleOf}
+use Rattle.pp_model.specs.Rules.{NoRuleFails, is_text_of, stands_in, is_zero_or_in, first_failing, location_ids}
+use Rattle.pp_model.specs.Frames.{text_number}
+
+-- a choice that gives nothing was not made
+false_from_none : (b : Bool) (n : ℕ) → cond b (Some n) None ≡ None → b ≡ false
+false_from_none true n given = cc
+false_from_none false n given = refl
+
+-- a rule that fails nowhere holds of each item
+pub passes : {X : Type 0} (test : X → Bool) (xs : List X) → first_failing test xs ≡ None → AllPass test xs
+passes test xs nowhere = λ k d within.
+    let past : length xs ≤ position_or_len (λ x. not (test x)) xs = ltb-false _ _ (false_from_none _ _ nowhere) in
+    not-false _ (fails_before_first (λ x. not (test x)) xs k d (omega (arith, past, within)))
+
+-- an index that is in range
+pub text_below : (n : ℕ) (i : ℤ) → is_text_of n i ≡ true → text_number i < n
+text_below n (pos i) inside = ltb-true i n inside
+text_below n (negsuc i) inside = absurd (true≢false (sym inside))
+
+pub text_is : (n : ℕ) (i : ℤ) → is_text_of n i ≡ true → i ≡ pos (text_number i)
+text_is n (pos i) inside = refl
+text_is n (negsuc i) inside = absurd (true≢false (sym inside))
+
+-- a number that a search finds is in the list
+pub contains_from : (ids : List ℕ) (id : ℕ) → stands_in ids id ≡ true → Contains ids id
+contains_from ids id found =
+    let (k, other, within, is, same) = Any-from_list_any (λ o. o == id) ids found in
+    let e : other ≡ id = eqb-true other id same in
+    (k, within, get_or_default ids k id other within ∙ is ∙ e)
+
+-- a reference that isn't 0 is there
+pub contains_unless_zero : (ids : List ℕ) (id : ℕ) → is_zero_or_in ids id ≡ true → (id ≡ 0 → ⊥) → Contains ids id
+contains_unless_zero ids id known nonzero =
+    elim (or_cases (id == 0) (stands_in ids id) known) [
+      | inl zero ↦ absurd (nonzero (eqb-true id 0 zero))
+      | inr found ↦ contains_from ids id found
+    ]
+
+-- a sample of a valid profile refers to locations of it
+pub refers_from_valid : (p : Profile) (s : Sample) → NoRuleFails p → IsSampleOf p s → RefersTo p s
+refers_from_valid p s valid (k, within, is) = λ j d below.
+    let passed = passes (λ (t : Sample). list_all (stands_in (location_ids p)) t.location_id) p.sample valid.sample_reference k s within in
+    let here = subst (λ (t : Sample). list_all (stands_in (location_ids p)) t.location_id ≡ true) is passed in
+    contains_from (location_ids p) _ (AllPass-from_list_all (stands_in (location_ids p)) s.location_id here j d below)
+
+-- the sample at a place is one of the profile
+pub sample_at : (p : Profile) (k : ℕ) (d : Sample) → k < length p.sample → IsSampleOf p (get_or p.sample k d)
+sample_at p k d within = (k, within, get_or_default p.sample k _ d within)

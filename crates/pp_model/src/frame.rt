@@ -1,0 +1,70 @@
+//! The frames of a sample's stack.
+ghost use Rattle.std.specs.Prelude.{◌≡◌, ◌++◌, ◌<◌, length, IfOk};
+ghost use Rattle.pp_model.specs.Rules.{IsCompact};
+ghost use Rattle.pp_model.specs.Conditions.{RefersTo, IsStackOf};
+ghost use Rattle.pp_model.specs.Frames.{stack_of, StandsFor, rows, lines_at};
+
+use crate::loaded::Loaded;
+use crate::profile::{Profile, Sample};
+use pp_base::{List, Memory};
+use std::alloc::Global;
+
+/// One frame: a line of a location, or a location without lines.
+#[derive(Clone, Copy, Debug, PartialEq, Eq)]
+pub struct Frame {
+    /// The place in the sample's list of locations, 0 for the leaf.
+    pub place: u64,
+    /// The location's index.
+    pub location: u64,
+    /// Which of the location's lines, and None where it has none.
+    pub row: Option<u64>,
+}
+
+/// Frames, leaf first.
+pub type Stack = List<Frame>;
+
+/// The stack of a sample: the lines of each location in order, or one frame without a row.
+pub fn frames(alloc: Global, l: &Loaded, s: &Sample) -> Result<Stack, Memory>
+    requires { RefersTo l.now.profile s.now }
+    ensures places { IfOk result (λ stack. stack ≡ stack_of l.now.profile s.now) }
+    ensures texts { IfOk result (λ stack. StandsFor l.now.profile stack s.now) }
+    ensures of_profile { IfOk result (λ stack. IsStackOf l.now.profile stack) }
+{
+    stack_in(alloc, l.profile.get(), s)
+}
+
+fn stack_in(alloc: Global, p: &Profile, s: &Sample) -> Result<Stack, Memory>
+    requires compact { IsCompact p.now }
+    requires refers { RefersTo p.now s.now }
+    ensures places { IfOk result (λ stack. stack ≡ stack_of p.now s.now) }
+    ensures texts { IfOk result (λ stack. StandsFor p.now stack s.now) }
+    ensures of_profile { IfOk result (λ stack. IsStackOf p.now stack) }
+{
+    let mut stack = List::new(alloc);
+    for (place, id) in s.location_id.as_slice().iter().enumerate() {
+        push_rows(p, place as u64, *id - 1, &mut stack)?;
+    }
+    Ok(stack)
+}
+
+fn push_rows(p: &Profile, place: u64, location: u64, stack: &mut Stack) -> Result<(), Memory>
+    requires { location < length p.now.location }
+    ensures { IfOk result (λ _. stack.new ≡ stack.old ++ rows place location (lines_at p.now location)) }
+{
+    let lines = p.location.as_slice()[location as usize].line.len();
+    if lines == 0 {
+        return stack.push(Frame {
+            place,
+            location,
+            row: None,
+        });
+    }
+    for row in 0..lines as u64 {
+        stack.push(Frame {
+            place,
+            location,
+            row: Some(row),
+        })?;
+    }
+    Ok(())
+}

@@ -1,0 +1,134 @@
+//! What a frame stands for, as text indices and numbers. An id is its place plus 1, so nothing is sought.
+ghost use Rattle.std.specs.Prelude.{◌≡◌, ◌<◌, pos, length, IfSome, true};
+ghost use Rattle.std.specs.Option.{option_copied};
+ghost use Rattle.pp_model.specs.Rules.{NoRuleFails, IsCompact, function_has_texts, mapping_has_texts};
+ghost use Rattle.pp_model.specs.Conditions.{IsFrameOf, location_at};
+ghost use Rattle.pp_model.specs.Frames.{written, text_at, text_number, line_at, function_at, mapping_at, place_read, function_index, file_index, object_index, line_number, column_number, address_number};
+
+use crate::frame::Frame;
+use crate::loaded::Loaded;
+use crate::profile::{Function, Line, Location, Mapping, Profile};
+
+/// The text index of the function's name, 0 where it isn't known.
+pub fn function_of(l: &Loaded, f: &Frame) -> u64
+    requires { IsFrameOf l.now.profile f.now }
+    ensures index { result ≡ function_index l.now.profile f.now }
+    ensures text { text_at l.now.profile result ≡ (written l.now.profile f.now).function }
+    ensures range { result < length l.now.profile.text }
+{
+    match function_in(l.profile.get(), f) {
+        Some(function) => text_index(function.name),
+        None => 0,
+    }
+}
+
+/// The text index of the file's name, 0 where it isn't known.
+pub fn file_of(l: &Loaded, f: &Frame) -> u64
+    requires { IsFrameOf l.now.profile f.now }
+    ensures index { result ≡ file_index l.now.profile f.now }
+    ensures text { text_at l.now.profile result ≡ (written l.now.profile f.now).file }
+    ensures range { result < length l.now.profile.text }
+{
+    match function_in(l.profile.get(), f) {
+        Some(function) => text_index(function.filename),
+        None => 0,
+    }
+}
+
+/// The text index of the mapping's file, 0 where it isn't known.
+pub fn object_of(l: &Loaded, f: &Frame) -> u64
+    requires { IsFrameOf l.now.profile f.now }
+    ensures index { result ≡ object_index l.now.profile f.now }
+    ensures text { text_at l.now.profile result ≡ (written l.now.profile f.now).object }
+    ensures range { result < length l.now.profile.text }
+{
+    match mapping_in(l.profile.get(), f) {
+        Some(mapping) => text_index(mapping.file),
+        None => 0,
+    }
+}
+
+/// The line's number, 0 where the frame has no line.
+pub fn line_of(l: &Loaded, f: &Frame) -> i64
+    requires { IsFrameOf l.now.profile f.now }
+    ensures { result ≡ line_number l.now.profile f.now }
+{
+    match line_in(l.profile.get(), f) {
+        Some(line) => line.line,
+        None => 0,
+    }
+}
+
+/// The line's column, 0 where the frame has no line.
+pub fn column_in(l: &Loaded, f: &Frame) -> i64
+    requires { IsFrameOf l.now.profile f.now }
+    ensures { result ≡ column_number l.now.profile f.now }
+{
+    match line_in(l.profile.get(), f) {
+        Some(line) => line.column,
+        None => 0,
+    }
+}
+
+/// The address of the frame's location.
+pub fn address_of(l: &Loaded, f: &Frame) -> u64
+    requires { IsFrameOf l.now.profile f.now }
+    ensures { result ≡ address_number l.now.profile f.now }
+{
+    location_in(l.profile.get(), f).address
+}
+
+fn location_in<'a>(p: &'a Profile, f: &Frame) -> &'a Location
+    requires { f.now.location < length p.now.location }
+    ensures { result.now ≡ location_at p.now f.now.location }
+{
+    &p.location.as_slice()[f.location as usize]
+}
+
+fn line_in<'a>(p: &'a Profile, f: &Frame) -> Option<&'a Line>
+    requires { IsFrameOf p.now f.now }
+    ensures { option_copied result ≡ line_at p.now f.now }
+{
+    let lines = location_in(p, f).line.as_slice();
+    match f.row {
+        Some(row) => Some(&lines[row as usize]),
+        None => None,
+    }
+}
+
+fn function_in<'a>(p: &'a Profile, f: &Frame) -> Option<&'a Function>
+    requires frame { IsFrameOf p.now f.now }
+    requires valid { NoRuleFails p.now }
+    requires compact { IsCompact p.now }
+    ensures same { option_copied result ≡ function_at p.now f.now }
+    ensures texts { IfSome result (λ function. function_has_texts p.now function.now ≡ true) }
+{
+    let line = line_in(p, f)?;
+    with_id(p.function.as_slice(), line.function_id)
+}
+
+fn mapping_in<'a>(p: &'a Profile, f: &Frame) -> Option<&'a Mapping>
+    requires frame { IsFrameOf p.now f.now }
+    requires valid { NoRuleFails p.now }
+    requires compact { IsCompact p.now }
+    ensures same { option_copied result ≡ mapping_at p.now f.now }
+    ensures texts { IfSome result (λ mapping. mapping_has_texts p.now mapping.now ≡ true) }
+{
+    with_id(p.mapping.as_slice(), location_in(p, f).mapping_id)
+}
+
+fn with_id<T>(items: &[T], id: u64) -> Option<&T>
+    ensures { option_copied result ≡ place_read items.now id }
+{
+    if id == 0 {
+        return None;
+    }
+    items.get((id - 1) as usize)
+}
+
+fn text_index(i: i64) -> u64
+    requires { i ≡ pos (text_number i) }
+    ensures { result ≡ text_number i }
+{
+    i as u64
+}
