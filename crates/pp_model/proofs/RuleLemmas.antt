@@ -1,5 +1,5 @@
 -- What follows where no table rule fails. For crates above.
-use Rattle.std.proofs.Common.{◌≡◌, ℕ, ◌<◌, ◌≤◌, List, length, get_or, Bool, true, false, cond, inl, inr, refl, sym, subst, ◌∙◌, arith}
+use Rattle.std.proofs.Common.{◌≡◌, ℕ, ◌<◌, ◌≤◌, List, length, get_or, Bool, true, false, cond, inl, inr, refl, sym, subst, ◌∙◌, arith, ap}
 use Rattle.std.specs.Prelude.{◌==◌, not, ℤ, pos, negsuc, Some, None, Contains}
 use Rattle.std.specs.List.{AllPass, list_all, position_or_len}
 use Rattle.std.proofs.lemmas.Bool.{ltb-true, ltb-false, eqb-true, or_cases, not-false, true≢false}
@@ -57,3 +57,11 @@ refers_from_valid p s valid (k, within, is) = λ j d below.
 -- the sample at a place is one of the profile
 pub sample_at : (p : Profile) (k : ℕ) (d : Sample) → k < length p.sample → IsSampleOf p (get_or p.sample k d)
 sample_at p k d within = (k, within, get_or_default p.sample k _ d within)
+
+-- a sample that is read from the tables refers to locations of the profile
+pub item_refers :
+    (p q : Profile) (items : List Sample) (k : ℕ) (s : Sample) → q ≡ p → items ≡ q.sample → s ≡ get_or items k s → k < length items →
+    NoRuleFails q → RefersTo p s
+item_refers p q items k s same are is within valid =
+    subst (λ r. RefersTo r s) same
+    (refers_from_valid q s valid (k, omega (arith, within, ap length are), ap (λ ss. get_or ss k s) (sym are) ∙ sym is))

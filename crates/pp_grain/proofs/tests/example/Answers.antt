@@ -1,0 +1,39 @@
+use Rattle.std.proofs.Common.{refl}
+use Rattle.pp_grain.proofs.tests.example.Goals as goal
+
+-- no rule fails, as each computes
+pub claim-requires : goal.claim-requires
+claim-requires c =
+    rw (
+      c.in_ok-one.ensures,
+      c.in_ok-one-2.ensures,
+      c.in_ok-sample.ensures,
+      c.in_ok-two.ensures,
+      c.mapping.ensures,
+      c.mapping-2.ensures,
+      c.in_ok-locations.ensures,
+      c.in_ok-two-2.ensures,
+      c.function.ensures,
+      c.function-2.ensures,
+      c.in_ok-texts.ensures,
+      c.new.ensures,
+    )
+    record {
+      text_zero = refl;
+      header_text = refl;
+      comment_text = refl;
+      type_text = refl;
+      sample_text = refl;
+      mapping_text = refl;
+      function_text = refl;
+      untyped = refl;
+      mapping_zero = refl;
+      mapping_repeat = refl;
+      function_zero = refl;
+      function_repeat = refl;
+      location_zero = refl;
+      location_repeat = refl;
+      location_reference = refl;
+      sample_reference = refl;
+      values = refl;
+    }

@@ -1,0 +1,5 @@
+pub mod Example
+pub mod Keys
+pub mod Naming
+pub mod Sight
+pub mod Told

@@ -1,0 +1,61 @@
+-- The name of a key.
+use Rattle.std.specs.Prelude.{ℕ, ◌+◌, ◌-◌, ◌*◌, ◌/◌, ◌%◌, ◌^◌, Bool, not, ◌==◌, nat_lt, List, [], ◌∷◌, ◌++◌, map, codes, if◌then◌else◌, ℤ, ◌&&◌}
+use Rattle.std.specs.Fmt.{signed_decimal}
+use Rattle.std.specs.List.{after_last, join_with_byte, range_with_len}
+use Rattle.pp_model.specs.Frames.{Written}
+use Rattle.pp_grain.specs.Keys.{is_empty, is_zero, is_nameless}
+
+-- a lower-case hexadecimal digit
+abbrev pub hex_digit : ℕ → ℕ
+hex_digit d = if nat_lt d 10 then 48 + d else 87 + d
+
+-- the k-th of sixteen hexadecimal digits, the highest first
+abbrev pub digit_at : ℕ → ℕ → ℕ
+digit_at n k = hex_digit (n / 2 ^ (60 - 4 * k) % 16)
+
+-- sixteen hexadecimal digits
+abbrev pub hex16 : ℕ → List ℕ
+hex16 n = map (digit_at n) (range_with_len 0 16)
+
+-- the byte of a slash
+abbrev pub is_slash : ℕ → Bool
+is_slash b = b == 47
+
+-- one word, where the test holds, and none otherwise
+abbrev pub word_if : Bool → List ℕ → List (List ℕ)
+word_if holds word = if holds then word ∷ [] else []
+
+-- the number after a colon, where it is not 0
+abbrev pub colon_number : ℤ → List ℕ
+colon_number n = if is_zero n then [] else codes ":" ++ signed_decimal n
+
+-- the line after the file, with its column
+abbrev pub line_text : Written → List ℕ
+line_text key = if is_zero key.line then [] else colon_number key.line ++ colon_number key.column
+
+-- the file with line and column, or alone where the line is 0
+abbrev pub place_text : Written → List ℕ
+place_text key = key.file ++ line_text key
+
+-- a file or a line is there
+abbrev pub has_place : Written → Bool
+has_place key = not (is_empty key.file && is_zero key.line)
+
+-- what stands for code that nothing is known of but its object
+abbrev pub object_text : List ℕ → List ℕ
+object_text base = if is_empty base then codes "<unknown>" else codes "[" ++ base ++ codes "]"
+
+-- the place where one is there, else the object's last part
+abbrev pub place_or_object : Written → List ℕ
+place_or_object key = if has_place key then place_text key else object_text (after_last is_slash key.object)
+
+-- the words of a name but for the address: function and place, or else the object
+abbrev pub code_words : Written → List (List ℕ)
+code_words key =
+    word_if (not (is_empty key.function)) key.function
+    ++ word_if (has_place key) (place_text key)
+    ++ word_if (is_nameless key) (object_text (after_last is_slash key.object))
+
+-- The name: its words, set apart by spaces.
+abbrev pub name_text : Written → List ℕ
+name_text key = join_with_byte 32 (word_if (not (key.address == 0)) (hex16 key.address) ++ code_words key)

@@ -1,0 +1,14 @@
+-- A key with its texts, as the code holds it.
+use Rattle.pp_model.specs.Frames.{Written}
+use Rattle.pp_grain.specs.declared.texts.KeyTexts.{KeyTexts}
+
+-- what the key stands for
+abbrev pub told : KeyTexts → Written
+told key = record {
+  function = key.function.now;
+  file = key.file.now;
+  line = key.line;
+  column = key.column;
+  address = key.address;
+  object = key.object.now;
+}

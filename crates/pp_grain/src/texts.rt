@@ -1,0 +1,41 @@
+//! The texts that a key's indices stand for.
+ghost use Rattle.std.specs.Prelude.{◌≡◌, ◌<◌, length};
+ghost use Rattle.pp_model.specs.Frames.{text_at};
+ghost use Rattle.pp_grain.specs.Told.{told};
+ghost use Rattle.pp_grain.specs.Keys.{key_written, IsKeyOf};
+
+use crate::key::Key;
+use pp_model::Profile;
+
+/// A key with its texts, borrowed from the profile.
+#[derive(Clone, Copy, Debug)]
+pub struct KeyTexts<'a> {
+    pub function: &'a [u8],
+    pub file: &'a [u8],
+    pub line: i64,
+    pub column: i64,
+    pub address: u64,
+    pub object: &'a [u8],
+}
+
+/// The key's texts.
+pub fn texts_of<'a>(p: &'a Profile, key: &Key) -> KeyTexts<'a>
+    requires { IsKeyOf p.now key.now }
+    ensures { told result ≡ key_written p.now key.now }
+{
+    KeyTexts {
+        function: text(p, key.function),
+        file: text(p, key.file),
+        line: key.line,
+        column: key.column,
+        address: key.address,
+        object: text(p, key.object),
+    }
+}
+
+pub fn text(p: &Profile, i: u64) -> &[u8]
+    requires { i < length p.now.text }
+    ensures { result.now ≡ text_at p.now i }
+{
+    p.text.as_slice()[i as usize].as_slice()
+}

@@ -1,0 +1,5 @@
+pub mod Bounds
+pub mod Joins
+pub mod Adds
+pub mod Messages
+pub mod Written

@@ -1,0 +1,6 @@
+use Rattle.std.proofs.Common.{◌≡◌, map, take}
+use Rattle.pp_tables.specs.Encode.{unsigned}
+use Rattle.pp_tables.proofs.spelled.unsigned_of.Given as goal
+
+abbrev pub invariant-loop-n : goal.invariant-loop-n
+invariant-loop-n l = l.numbers.items ≡ map unsigned (take l.n-index l.list)

@@ -1,0 +1,75 @@
+-- Profiles whose numbers lie in their types: 64 bits, signed or not. A profile in memory is such a one.
+use Rattle.std.specs.Prelude.{ℕ, ◌^◌, ◌<◌, ℤ, FitsSigned, List}
+use Rattle.std.specs.List.{AllByRecursion}
+use Rattle.std.specs.Int.{w64}
+use Rattle.pp_model.specs.declared.profile.ValueType.{ValueType}
+use Rattle.pp_model.specs.declared.profile.Label.{Label}
+use Rattle.pp_model.specs.declared.profile.Sample.{Sample}
+use Rattle.pp_model.specs.declared.profile.Mapping.{Mapping}
+use Rattle.pp_model.specs.declared.profile.Line.{Line}
+use Rattle.pp_model.specs.declared.profile.Location.{Location}
+use Rattle.pp_model.specs.declared.profile.Function.{Function}
+use Rattle.pp_model.specs.declared.profile.Profile.{Profile}
+
+abbrev pub IsUint : ℕ → Type 0
+IsUint n = n < 2 ^ 64
+
+abbrev pub IsInt : ℤ → Type 0
+IsInt z = FitsSigned w64 z
+
+pub record ValueTypeFits (v : ValueType) : Type 0 where
+  pub kind : IsInt v.kind
+  pub unit : IsInt v.unit
+
+pub record LabelFits (l : Label) : Type 0 where
+  pub key : IsInt l.key
+  pub text : IsInt l.text
+  pub num : IsInt l.num
+  pub num_unit : IsInt l.num_unit
+
+pub record SampleFits (s : Sample) : Type 0 where
+  pub location_id : AllByRecursion IsUint s.location_id
+  pub value : AllByRecursion IsInt s.value
+  pub label : AllByRecursion LabelFits s.label
+
+pub record MappingFits (m : Mapping) : Type 0 where
+  pub id : IsUint m.id
+  pub start : IsUint m.start
+  pub limit : IsUint m.limit
+  pub offset : IsUint m.offset
+  pub file : IsInt m.file
+  pub build_id : IsInt m.build_id
+
+pub record LineFits (l : Line) : Type 0 where
+  pub function_id : IsUint l.function_id
+  pub line : IsInt l.line
+  pub column : IsInt l.column
+
+pub record LocationFits (l : Location) : Type 0 where
+  pub id : IsUint l.id
+  pub mapping_id : IsUint l.mapping_id
+  pub address : IsUint l.address
+  pub line : AllByRecursion LineFits l.line
+
+pub record FunctionFits (f : Function) : Type 0 where
+  pub id : IsUint f.id
+  pub name : IsInt f.name
+  pub system_name : IsInt f.system_name
+  pub filename : IsInt f.filename
+  pub start_line : IsInt f.start_line
+
+pub record ProfileFits (p : Profile) : Type 0 where
+  pub sample_type : AllByRecursion ValueTypeFits p.sample_type
+  pub sample : AllByRecursion SampleFits p.sample
+  pub mapping : AllByRecursion MappingFits p.mapping
+  pub location : AllByRecursion LocationFits p.location
+  pub function : AllByRecursion FunctionFits p.function
+  pub drop_frames : IsInt p.drop_frames
+  pub keep_frames : IsInt p.keep_frames
+  pub time_nanos : IsInt p.time_nanos
+  pub duration_nanos : IsInt p.duration_nanos
+  pub period_type : ValueTypeFits p.period_type
+  pub period : IsInt p.period
+  pub comment : AllByRecursion IsInt p.comment
+  pub default_sample_type : IsInt p.default_sample_type
+  pub doc_url : IsInt p.doc_url

@@ -1,0 +1,53 @@
+-- The profile that a file's bytes are, or why they are none.
+use Rattle.std.specs.Prelude.{◌≡◌, ℕ, ◌≤◌, length, ◌==◌, ◌&&◌, Bool, false, List, [], ◌∷◌, Option, Some, None, Result, Ok, Err, if◌then◌else◌, ⊤}
+use Rattle.pp_wire.specs.declared.fault.WireFault.{WireFault}
+use Rattle.pp_wire.specs.Fields.{Item, fields}
+use Rattle.pp_model.specs.declared.profile.Profile.{Profile}
+use Rattle.pp_tables.specs.declared.refusal.ReadRefusal.{ReadRefusal}
+use Rattle.pp_tables.specs.declared.refusal.ReadRefusal.TheVariants as refusal
+use Rattle.pp_tables.specs.Message.{fault_in}
+use Rattle.pp_tables.specs.Tables.{profile_rules, no_profile, profile_with}
+
+-- the bytes of a gzip file: they begin with 1f 8b
+abbrev pub is_gzip : List ℕ → Bool
+is_gzip [] = false
+is_gzip (a ∷ []) = false
+is_gzip (a ∷ b ∷ bytes) = a == 31 && b == 139
+
+-- texts are never none: where none are given there is the one empty text
+abbrev pub or_one_empty : List (List ℕ) → List (List ℕ)
+or_one_empty [] = [] ∷ []
+or_one_empty (text ∷ texts) = text ∷ texts
+
+-- the profile that the fields of its message make
+abbrev pub profile_of : List Item → Profile
+profile_of items = let p = profile_with no_profile items in record p { text = or_one_empty p.text }
+
+abbrev pub unless : Option WireFault → Profile → Result Profile ReadRefusal
+unless (Some fault) p = Err (refusal.Wire fault)
+unless None p = Ok p
+
+abbrev pub read_message : List ℕ → Result Profile ReadRefusal
+read_message bytes = unless (fault_in profile_rules bytes 0) (profile_of (fields bytes 0).items)
+
+abbrev pub read : List ℕ → Result Profile ReadRefusal
+read [] = Err refusal.Empty
+read (b ∷ bytes) = if is_gzip (b ∷ bytes) then Err refusal.Compressed else read_message (b ∷ bytes)
+
+-- what was answered is that, unless memory ran out
+abbrev pub Answers : Result Profile ReadRefusal → Result Profile ReadRefusal → Type 0
+Answers (Ok p) wanted = wanted ≡ Ok p
+Answers (Err refusal.Memory) wanted = ⊤
+Answers (Err refusal.Empty) wanted = wanted ≡ Err refusal.Empty
+Answers (Err refusal.Compressed) wanted = wanted ≡ Err refusal.Compressed
+Answers (Err (refusal.Wire fault)) wanted = wanted ≡ Err (refusal.Wire fault)
+
+-- no table has more entries than that
+pub record HasAtMost (n : ℕ) (p : Profile) : Type 0 where
+  pub sample_types : length p.sample_type ≤ n
+  pub samples : length p.sample ≤ n
+  pub mappings : length p.mapping ≤ n
+  pub locations : length p.location ≤ n
+  pub functions : length p.function ≤ n
+  pub texts : length p.text ≤ n
+  pub comments : length p.comment ≤ n

@@ -1,0 +1,23 @@
+//! The message of profile.proto, read as the tables of a profile.
+#![tactic(auto)]
+
+mod code;
+mod fields;
+mod laws;
+mod message;
+mod profile;
+mod reading;
+mod refusal;
+mod sample;
+mod spelled;
+mod writing;
+
+pub use laws::written_is_read;
+pub use reading::read_profile;
+pub use refusal::ReadRefusal;
+pub use writing::write_profile;
+
+#[cfg(test)]
+mod fixtures;
+#[cfg(test)]
+mod tests;

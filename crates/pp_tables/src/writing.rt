@@ -1,0 +1,221 @@
+//! The canonical bytes of a profile.
+ghost use Rattle.std.specs.Prelude.{◌≡◌, ◌++◌, OnOk, IfOk};
+ghost use Rattle.pp_tables.specs.Encode.{period_type_field, table_bytes, header_bytes, encode};
+
+use crate::spelled::{Spelled, put_bool, put_int, put_messages, put_packed_ints};
+use pp_base::{Memory, Text};
+use pp_model::{Function, Label, Line, Location, Mapping, Profile, Sample, Valid, ValueType};
+use pp_wire::{put_bytes, put_number, put_packed};
+use std::alloc::Global;
+
+impl Spelled for ValueType {
+    ghost use Rattle.pp_tables.specs.Encode.{value_type_bytes};
+
+    ghost bytes = { value_type_bytes };
+
+    fn put(&self, _: Global, out: &mut Text) -> Result<(), Memory> {
+        // int64 type = 1;
+        put_int(out, 1, &self.kind)?;
+        // int64 unit = 2;
+        put_int(out, 2, &self.unit)?;
+        Ok(())
+    }
+}
+
+impl Spelled for Label {
+    ghost use Rattle.pp_tables.specs.Encode.{label_bytes};
+
+    ghost bytes = { label_bytes };
+
+    fn put(&self, _: Global, out: &mut Text) -> Result<(), Memory> {
+        // int64 key = 1;
+        put_int(out, 1, &self.key)?;
+        // int64 str = 2;
+        put_int(out, 2, &self.text)?;
+        // int64 num = 3;
+        put_int(out, 3, &self.num)?;
+        // int64 num_unit = 4;
+        put_int(out, 4, &self.num_unit)?;
+        Ok(())
+    }
+}
+
+impl Spelled for Sample {
+    ghost use Rattle.pp_tables.specs.Encode.{sample_bytes};
+
+    ghost bytes = { sample_bytes };
+
+    fn put(&self, alloc: Global, out: &mut Text) -> Result<(), Memory> {
+        // repeated uint64 location_id = 1;
+        put_packed(out, 1, self.location_id.as_slice())?;
+        // repeated int64 value = 2;
+        put_packed_ints(alloc, out, 2, self.value.as_slice())?;
+        // repeated Label label = 3;
+        put_messages(alloc, out, 3, self.label.as_slice())?;
+        Ok(())
+    }
+}
+
+impl Spelled for Mapping {
+    ghost use Rattle.pp_tables.specs.Encode.{mapping_bytes};
+
+    ghost bytes = { mapping_bytes };
+
+    fn put(&self, _: Global, out: &mut Text) -> Result<(), Memory> {
+        // uint64 id = 1;
+        put_number(out, 1, self.id)?;
+        // uint64 memory_start = 2;
+        put_number(out, 2, self.start)?;
+        // uint64 memory_limit = 3;
+        put_number(out, 3, self.limit)?;
+        // uint64 file_offset = 4;
+        put_number(out, 4, self.offset)?;
+        // int64 filename = 5;
+        put_int(out, 5, &self.file)?;
+        // int64 build_id = 6;
+        put_int(out, 6, &self.build_id)?;
+        // bool has_functions = 7;
+        put_bool(out, 7, self.has_functions)?;
+        // bool has_filenames = 8;
+        put_bool(out, 8, self.has_filenames)?;
+        // bool has_line_numbers = 9;
+        put_bool(out, 9, self.has_line_numbers)?;
+        // bool has_inline_frames = 10;
+        put_bool(out, 10, self.has_inline_frames)?;
+        Ok(())
+    }
+}
+
+impl Spelled for Line {
+    ghost use Rattle.pp_tables.specs.Encode.{line_bytes};
+
+    ghost bytes = { line_bytes };
+
+    fn put(&self, _: Global, out: &mut Text) -> Result<(), Memory> {
+        // uint64 function_id = 1;
+        put_number(out, 1, self.function_id)?;
+        // int64 line = 2;
+        put_int(out, 2, &self.line)?;
+        // int64 column = 3;
+        put_int(out, 3, &self.column)?;
+        Ok(())
+    }
+}
+
+impl Spelled for Location {
+    ghost use Rattle.pp_tables.specs.Encode.{location_bytes};
+
+    ghost bytes = { location_bytes };
+
+    fn put(&self, alloc: Global, out: &mut Text) -> Result<(), Memory> {
+        // uint64 id = 1;
+        put_number(out, 1, self.id)?;
+        // uint64 mapping_id = 2;
+        put_number(out, 2, self.mapping_id)?;
+        // uint64 address = 3;
+        put_number(out, 3, self.address)?;
+        // repeated Line line = 4;
+        put_messages(alloc, out, 4, self.line.as_slice())?;
+        // bool is_folded = 5;
+        put_bool(out, 5, self.folded)?;
+        Ok(())
+    }
+}
+
+impl Spelled for Function {
+    ghost use Rattle.pp_tables.specs.Encode.{function_bytes};
+
+    ghost bytes = { function_bytes };
+
+    fn put(&self, _: Global, out: &mut Text) -> Result<(), Memory> {
+        // uint64 id = 1;
+        put_number(out, 1, self.id)?;
+        // int64 name = 2;
+        put_int(out, 2, &self.name)?;
+        // int64 system_name = 3;
+        put_int(out, 3, &self.system_name)?;
+        // int64 filename = 4;
+        put_int(out, 4, &self.filename)?;
+        // int64 start_line = 5;
+        put_int(out, 5, &self.start_line)?;
+        Ok(())
+    }
+}
+
+impl Spelled for Text {
+    ghost bytes = { λ text. text };
+
+    fn put(&self, _: Global, out: &mut Text) -> Result<(), Memory> {
+        out.extend(self.as_slice())
+    }
+}
+
+/// The canonical bytes of the profile: fields in the order of their numbers, repeated ones in list order. Scalars that
+/// are 0 or false, empty packed lists and a period type of two zeros are left out.
+pub fn write_profile(alloc: Global, p: &Valid) -> Result<Text, Memory>
+    ensures { IfOk result (λ text. text ≡ encode p.now) }
+{
+    bytes_of(alloc, p.get())
+}
+
+pub(crate) fn bytes_of(alloc: Global, p: &Profile) -> Result<Text, Memory>
+    ensures { IfOk result (λ text. text ≡ encode p.now) }
+{
+    let mut out = Text::new(alloc);
+    put_tables(alloc, &mut out, p)?;
+    put_header(alloc, &mut out, p)?;
+    Ok(out)
+}
+
+fn put_tables(alloc: Global, out: &mut Text, p: &Profile) -> Result<(), Memory>
+    ensures { OnOk result (out.new ≡ out.old ++ table_bytes p.now) }
+{
+    // repeated ValueType sample_type = 1;
+    put_messages(alloc, out, 1, p.sample_type.as_slice())?;
+    // repeated Sample sample = 2;
+    put_messages(alloc, out, 2, p.sample.as_slice())?;
+    // repeated Mapping mapping = 3;
+    put_messages(alloc, out, 3, p.mapping.as_slice())?;
+    // repeated Location location = 4;
+    put_messages(alloc, out, 4, p.location.as_slice())?;
+    // repeated Function function = 5;
+    put_messages(alloc, out, 5, p.function.as_slice())?;
+    // repeated string string_table = 6;
+    put_messages(alloc, out, 6, p.text.as_slice())?;
+    Ok(())
+}
+
+fn put_header(alloc: Global, out: &mut Text, p: &Profile) -> Result<(), Memory>
+    ensures { OnOk result (out.new ≡ out.old ++ header_bytes p.now) }
+{
+    // int64 drop_frames = 7;
+    put_int(out, 7, &p.drop_frames)?;
+    // int64 keep_frames = 8;
+    put_int(out, 8, &p.keep_frames)?;
+    // int64 time_nanos = 9;
+    put_int(out, 9, &p.time_nanos)?;
+    // int64 duration_nanos = 10;
+    put_int(out, 10, &p.duration_nanos)?;
+    // ValueType period_type = 11;
+    put_period_type(alloc, out, &p.period_type)?;
+    // int64 period = 12;
+    put_int(out, 12, &p.period)?;
+    // repeated int64 comment = 13;
+    put_packed_ints(alloc, out, 13, p.comment.as_slice())?;
+    // int64 default_sample_type = 14;
+    put_int(out, 14, &p.default_sample_type)?;
+    // int64 doc_url = 15;
+    put_int(out, 15, &p.doc_url)?;
+    Ok(())
+}
+
+fn put_period_type(alloc: Global, out: &mut Text, v: &ValueType) -> Result<(), Memory>
+    ensures { OnOk result (out.new ≡ out.old ++ period_type_field v.now) }
+{
+    if v.kind.cast_unsigned() == 0 && v.unit.cast_unsigned() == 0 {
+        return Ok(());
+    }
+    let mut payload = Text::new(alloc);
+    v.put(alloc, &mut payload)?;
+    put_bytes(out, 11, payload.as_slice())
+}

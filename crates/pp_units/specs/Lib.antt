@@ -1,0 +1,9 @@
+pub mod Scales
+pub mod Shown
+pub mod Rounded
+pub mod Numbers
+pub mod Digits
+pub mod Ranges
+pub mod BoundIn
+pub mod Fractions
+pub mod Head

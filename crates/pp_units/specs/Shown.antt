@@ -1,0 +1,69 @@
+-- How the values of one unit are printed: which unit is picked for them, or forced.
+use Rattle.std.specs.Prelude.{ℕ, ◌*◌, Bool, true, false, List, Option, Some, None, find, unwrap_or, nat_le, if◌then◌else◌}
+use Rattle.std.specs.Option.{option_map_or}
+use Rattle.pp_units.specs.declared.family.Family.{Family}
+use Rattle.pp_units.specs.declared.family.Family.TheVariants.{Time, Bytes, Plain, Other}
+use Rattle.pp_units.specs.declared.scale.Scale.{Scale}
+use Rattle.pp_units.specs.declared.scale.Scale.TheVariants.{Nanoseconds, SingleBytes, Counts}
+use Rattle.pp_units.specs.declared.unit.Unit.{Unit as PrintedUnit}
+use Rattle.pp_units.specs.Scales.{family_of_scale, factor, suffix_of_scale, falling, is_spelled, scale_of, family}
+
+-- how values of one unit are printed
+pub record Shown : Type 0 where
+  -- how many of the family's smallest unit a value of 1 is
+  pub from : ℕ
+  -- how many of it the printed unit is
+  pub to : ℕ
+  -- what stands after a number
+  pub suffix : List ℕ
+
+-- the facts of a `Unit`
+abbrev pub shown : PrintedUnit → Shown
+shown unit = record { from = unit.from; to = unit.to; suffix = unit.suffix }
+
+-- how many of the family's smallest unit a unit is
+abbrev pub factor_of : List ℕ → ℕ
+factor_of unit = option_map_or factor (scale_of unit) 1
+
+-- what is printed for a unit: one that is not in the table as it stands
+abbrev pub suffix_of : List ℕ → List ℕ
+suffix_of unit = option_map_or suffix_of_scale (scale_of unit) unit
+
+-- the smallest unit of a family of the table
+abbrev pub smallest : Family → Scale
+smallest Time = Nanoseconds
+smallest Bytes = SingleBytes
+smallest Plain = Counts
+smallest Other = Counts
+
+-- the largest unit of a family of which the amount, counted in the smallest, has one, or the smallest where it has none
+abbrev pub largest_within : ℕ → Family → Scale
+largest_within amount kind = unwrap_or (find (λ scale. nat_le (factor scale) amount) (falling kind)) (smallest kind)
+
+-- as `picked`, for the unit's place in the table
+abbrev pub picked_by : ℕ → List ℕ → Option Scale → Shown
+picked_by total unit None = record { from = 1; to = 1; suffix = unit }
+picked_by total unit (Some scale) =
+    let largest = largest_within (total * factor scale) (family_of_scale scale) in
+    record { from = factor scale; to = factor largest; suffix = suffix_of_scale largest }
+
+-- the largest unit of the family in which the total is at least 1, or the smallest where the total is 0
+unfoldable pub picked : ℕ → List ℕ → Shown
+picked total unit = picked_by total unit (scale_of unit)
+
+-- two units measure the same: they are of one family, and of no family only where they are spelled alike
+abbrev pub agree : Family → Family → Bool → Bool
+agree Time Time alike = true
+agree Bytes Bytes alike = true
+agree Plain Plain alike = true
+agree Other Other alike = alike
+agree _ _ alike = false
+
+-- the same, of the units' texts
+unfoldable pub is_same_kind : List ℕ → List ℕ → Bool
+is_same_kind wanted unit = agree (family wanted) (family unit) (is_spelled wanted unit)
+
+-- the unit that is asked for, or none where it measures something else
+unfoldable pub forced : List ℕ → List ℕ → Option Shown
+forced wanted unit =
+    if is_same_kind wanted unit then Some (record { from = factor_of unit; to = factor_of wanted; suffix = suffix_of wanted }) else None
