@@ -12,7 +12,7 @@ mod texts;
 pub use key::Key;
 pub use keys::{counted, key_of};
 pub use names::Names;
-pub use naming::write_name;
+pub use naming::{write_name, write_texts_name};
 pub use order::{key_order, texts_order};
 pub use texts::{KeyTexts, texts_of};
 

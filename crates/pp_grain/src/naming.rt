@@ -20,8 +20,16 @@ pub fn write_name(l: &Loaded, key: &Key, out: &mut Text) -> Result<(), Memory>
     ensures ok { OnOk result (out.new ≡ out.old ++ name_text (key_written l.now.profile key.now)) }
     ensures err { OnErr result (out.new ≡ out.old) }
 {
+    write_texts_name(&texts_of(l.profile.get(), key), out)
+}
+
+/// The same of a key whose texts are at hand.
+pub fn write_texts_name(key: &KeyTexts, out: &mut Text) -> Result<(), Memory>
+    ensures ok { OnOk result (out.new ≡ out.old ++ name_text (told key.now)) }
+    ensures err { OnErr result (out.new ≡ out.old) }
+{
     let start = out.len();
-    let put = put_name(&texts_of(l.profile.get(), key), out);
+    let put = put_name(key, out);
     if put.is_err() {
         out.truncate(start);
     }
