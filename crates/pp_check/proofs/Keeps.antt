@@ -1,0 +1,49 @@
+-- Where no rule has a fault, no rule fails.
+use Rattle.std.proofs.Common.{◌≡◌, List, [], ◌∷◌, ℕ, refl}
+use Rattle.std.specs.Prelude.{Option, Some, None, ⊤}
+use Rattle.pp_model.specs.declared.profile.Profile.{Profile}
+use Rattle.pp_model.specs.Rules.{NoRuleFails}
+use Rattle.pp_check.specs.declared.fault.Table.{Table}
+use Rattle.pp_check.specs.declared.fault.TableFault.{TableFault}
+use Rattle.pp_check.specs.Finds.{at, first_of}
+use Rattle.pp_check.specs.FirstFault.{faults, first_fault}
+
+-- each of these is none
+abbrev AreNone : List (Option TableFault) → Type 0
+AreNone [] = ⊤
+AreNone (o ∷ os) = (o ≡ None) × AreNone os
+
+-- the first of them is none only where all are
+all_none : (os : List (Option TableFault)) → first_of os ≡ None → AreNone os
+all_none [] none = tt
+all_none (None ∷ os) none = (refl, all_none os none)
+all_none (Some f ∷ os) none = cc
+
+-- a rule without a fault fails nowhere
+at_none : (rule : ℕ) (table : Table) (found : Option ℕ) → at rule table found ≡ None → found ≡ None
+at_none rule table None none = refl
+at_none rule table (Some k) none = cc
+
+-- a profile without a fault breaks no rule
+pub keeps_rules : (p : Profile) → first_fault p ≡ None → NoRuleFails p
+unfolding first_fault
+keeps_rules p nothing =
+    let none = all_none (faults p) nothing in record {
+      text_zero = at_none _ _ _ none.0;
+      header_text = at_none _ _ _ none.1.0;
+      comment_text = at_none _ _ _ none.1.1.0;
+      type_text = at_none _ _ _ none.1.1.1.0;
+      sample_text = at_none _ _ _ none.1.1.1.1.0;
+      mapping_text = at_none _ _ _ none.1.1.1.1.1.0;
+      function_text = at_none _ _ _ none.1.1.1.1.1.1.0;
+      untyped = at_none _ _ _ none.1.1.1.1.1.1.1.0;
+      mapping_zero = at_none _ _ _ none.1.1.1.1.1.1.1.1.0;
+      mapping_repeat = at_none _ _ _ none.1.1.1.1.1.1.1.1.1.0;
+      function_zero = at_none _ _ _ none.1.1.1.1.1.1.1.1.1.1.0;
+      function_repeat = at_none _ _ _ none.1.1.1.1.1.1.1.1.1.1.1.0;
+      location_zero = at_none _ _ _ none.1.1.1.1.1.1.1.1.1.1.1.1.0;
+      location_repeat = at_none _ _ _ none.1.1.1.1.1.1.1.1.1.1.1.1.1.0;
+      location_reference = at_none _ _ _ none.1.1.1.1.1.1.1.1.1.1.1.1.1.1.0;
+      sample_reference = at_none _ _ _ none.1.1.1.1.1.1.1.1.1.1.1.1.1.1.1.0;
+      values = at_none _ _ _ none.1.1.1.1.1.1.1.1.1.1.1.1.1.1.1.1.0;
+    }

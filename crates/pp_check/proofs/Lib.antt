@@ -1,0 +1,6 @@
+pub mod Order
+pub mod Keeps
+pub mod Stages
+pub mod Repeats
+pub mod KnownLemmas
+pub mod Scans

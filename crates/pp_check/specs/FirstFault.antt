@@ -1,0 +1,58 @@
+-- The first table rule that fails: the least rule, then the first of its tables, then the least index.
+use Rattle.std.specs.Prelude.{ℕ, ◌+◌, ◌<◌, ◌^◌, nat_lt, length, List, [], ◌∷◌, ◌++◌, Option}
+use Rattle.pp_model.specs.declared.profile.Profile.{Profile}
+use Rattle.pp_model.specs.Rules as rules
+use Rattle.pp_model.specs.Rules.{first_failing}
+use Rattle.pp_check.specs.declared.fault.Table.{Table}
+use Rattle.pp_check.specs.declared.fault.Table.TheVariants.{Texts, Header, Comments, SampleTypes, Samples, Mappings, Functions, Locations}
+use Rattle.pp_check.specs.declared.fault.TableFault.{TableFault}
+use Rattle.pp_check.specs.Finds.{at, first_of}
+
+-- rules 1 to 3
+abbrev pub text_faults : Profile → List (Option TableFault)
+text_faults p =
+    at 1 Texts (rules.text_zero_fault p)
+    ∷ at 2 Header (rules.header_text_fault p)
+    ∷ at 2 Comments (rules.comment_text_fault p)
+    ∷ at 2 SampleTypes (rules.type_text_fault p)
+    ∷ at 2 Samples (rules.sample_text_fault p)
+    ∷ at 2 Mappings (rules.mapping_text_fault p)
+    ∷ at 2 Functions (rules.function_text_fault p)
+    ∷ at 3 SampleTypes (rules.untyped_fault p)
+    ∷ []
+
+-- a rule that ids are not 0, and the next rule, that they are distinct
+abbrev pub id_faults : ℕ → Table → List ℕ → List (Option TableFault)
+id_faults rule table ids =
+    at rule table (first_failing (λ id. nat_lt 0 id) ids) ∷ at (rule + 1) table (rules.first_repeated ids) ∷ []
+
+-- rules 10 to 12
+abbrev pub reference_faults : Profile → List (Option TableFault)
+reference_faults p =
+    at 10 Locations (rules.location_fault p)
+    ∷ at 11 Samples (rules.sample_fault p)
+    ∷ at 12 Samples (rules.value_fault p)
+    ∷ []
+
+-- each rule on each of its tables, in the order in which they decide
+abbrev pub faults : Profile → List (Option TableFault)
+faults p =
+    text_faults p
+    ++ (id_faults 4 Mappings (rules.mapping_ids p)
+    ++ (id_faults 6 Functions (rules.function_ids p)
+    ++ (id_faults 8 Locations (rules.location_ids p)
+    ++ reference_faults p)))
+
+-- the first fault of a profile, or none
+unfoldable pub first_fault : Profile → Option TableFault
+first_fault p = first_of (faults p)
+
+-- Each table has fewer entries than an index can tell.
+pub record IsIndexed (p : Profile) : Type 0 where
+  pub texts : length p.text < 2 ^ 32
+  pub comments : length p.comment < 2 ^ 32
+  pub sample_types : length p.sample_type < 2 ^ 32
+  pub samples : length p.sample < 2 ^ 32
+  pub mappings : length p.mapping < 2 ^ 32
+  pub functions : length p.function < 2 ^ 32
+  pub locations : length p.location < 2 ^ 32

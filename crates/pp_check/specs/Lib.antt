@@ -1,0 +1,4 @@
+pub mod Finds
+pub mod FirstFault
+pub mod Known
+pub mod Checks

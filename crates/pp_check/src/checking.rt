@@ -1,0 +1,88 @@
+// The table rules, in the order in which they decide.
+ghost use Rattle.std.specs.Prelude.{◌≡◌, IfOk};
+ghost use Rattle.pp_check.specs.FirstFault.{first_fault, text_faults, reference_faults, IsIndexed};
+ghost use Rattle.pp_check.specs.Finds.{first_of, Finds, FindsFault};
+ghost use Rattle.pp_check.specs.Checks.{Checks};
+ghost use Rattle.pp_check.specs.Known.{Knows};
+ghost use Rattle.pp_model.specs.Rules.{mapping_ids, function_ids, location_ids};
+
+use crate::fault::{CheckRefusal, Table, TableFault, refuse};
+use crate::ids::known_ids;
+use crate::known::Known;
+use crate::references::{location_fault, sample_fault, value_fault};
+use crate::texts::{
+    comment_text_fault, function_text_fault, header_text_fault, mapping_text_fault,
+    sample_text_fault, text_zero_fault, type_text_fault, untyped_fault,
+};
+use pp_base::Memory;
+use pp_model::{Profile, Valid};
+use std::alloc::Global;
+
+/// The first table rule that fails, with its table and the least index there. The least rule decides; rule 2 tries its
+/// tables in the order header, comments, sample types, samples, mappings, functions.
+pub fn first_fault(alloc: Global, p: &Profile) -> Result<Option<TableFault>, Memory>
+    requires { IsIndexed p.now }
+    ensures { IfOk result (λ fault. fault ≡ first_fault p.now) }
+{
+    match keep_rules(alloc, p) {
+        Ok(()) => Ok(None),
+        Err(CheckRefusal::Fault(fault)) => Ok(Some(fault)),
+        Err(CheckRefusal::Memory) => Err(Memory),
+    }
+}
+
+/// The same profile, where no table rule fails. Otherwise the fault that `first_fault` tells, and the profile is spent,
+/// as it is on want of memory.
+pub fn check(alloc: Global, p: Profile) -> Result<Valid, CheckRefusal>
+    requires { IsIndexed p }
+    ensures { Checks p result }
+{
+    keep_rules(alloc, &p)?;
+    Ok(Valid::claim(p))
+}
+
+// Asks all rules, in their order.
+fn keep_rules(alloc: Global, p: &Profile) -> Result<(), CheckRefusal>
+    requires { IsIndexed p.now }
+    ensures { Finds (first_fault p.now) result }
+{
+    keep_texts(p)?;
+    let mappings = known_ids(alloc, 4, Table::Mappings, p.mapping.as_slice())?;
+    let functions = known_ids(alloc, 6, Table::Functions, p.function.as_slice())?;
+    let locations = known_ids(alloc, 8, Table::Locations, p.location.as_slice())?;
+    keep_references(p, &mappings, &functions, &locations)?;
+    Ok(())
+}
+
+// Asks rules 1 to 3.
+fn keep_texts(p: &Profile) -> Result<(), TableFault>
+    requires { IsIndexed p.now }
+    ensures { FindsFault (first_of (text_faults p.now)) result }
+{
+    refuse(1, Table::Texts, text_zero_fault(p))?;
+    refuse(2, Table::Header, header_text_fault(p))?;
+    refuse(2, Table::Comments, comment_text_fault(p))?;
+    refuse(2, Table::SampleTypes, type_text_fault(p))?;
+    refuse(2, Table::Samples, sample_text_fault(p))?;
+    refuse(2, Table::Mappings, mapping_text_fault(p))?;
+    refuse(2, Table::Functions, function_text_fault(p))?;
+    refuse(3, Table::SampleTypes, untyped_fault(p))
+}
+
+// Asks rules 10 to 12.
+fn keep_references(
+    p: &Profile,
+    mappings: &Known,
+    functions: &Known,
+    locations: &Known,
+) -> Result<(), TableFault>
+    requires indexed { IsIndexed p.now }
+    requires mappings { Knows mappings.now (mapping_ids p.now) }
+    requires functions { Knows functions.now (function_ids p.now) }
+    requires locations { Knows locations.now (location_ids p.now) }
+    ensures { FindsFault (first_of (reference_faults p.now)) result }
+{
+    refuse(10, Table::Locations, location_fault(p, mappings, functions))?;
+    refuse(11, Table::Samples, sample_fault(p, locations))?;
+    refuse(12, Table::Samples, value_fault(p))
+}

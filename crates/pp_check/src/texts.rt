@@ -1,0 +1,142 @@
+// Rules 1 to 3: texts, their indices, and sample types.
+ghost use Rattle.std.specs.Prelude.{◌≡◌, ℤ, ◌<◌, length, IfSome};
+ghost use Rattle.std.specs.List.{list_all};
+ghost use Rattle.pp_model.specs.Rules as rules;
+
+use pp_model::{Function, Label, Mapping, Profile, Sample, ValueType};
+
+/// Rule 1: there is a text 0, and it is empty.
+pub fn text_zero_fault(p: &Profile) -> Option<usize>
+    ensures fault { result ≡ rules.text_zero_fault p.now }
+    ensures within { IfSome result (λ index. index < 1) }
+{
+    match p.text.as_slice() {
+        [first, ..] if first.len() == 0 => None,
+        _ => Some(0),
+    }
+}
+
+// Whether the index is that of a text.
+fn is_text(p: &Profile, index: i64) -> bool
+    ensures { result ≡ rules.is_text p.now index }
+{
+    match usize::try_from(index) {
+        Ok(index) => index < p.text.len(),
+        Err(_) => false,
+    }
+}
+
+/// Rule 2, of the header.
+pub fn header_text_fault(p: &Profile) -> Option<usize>
+    ensures fault { result ≡ rules.header_text_fault p.now }
+    ensures within { IfSome result (λ index. index < 1) }
+{
+    let is_whole = is_text(p, p.drop_frames)
+        && is_text(p, p.keep_frames)
+        && is_text(p, p.period_type.kind)
+        && is_text(p, p.period_type.unit)
+        && is_text(p, p.default_sample_type)
+        && is_text(p, p.doc_url);
+    if is_whole { None } else { Some(0) }
+}
+
+/// Rule 2, of the comments.
+pub fn comment_text_fault(p: &Profile) -> Option<usize>
+    ensures fault { result ≡ rules.comment_text_fault p.now }
+    ensures within { IfSome result (λ index. index < length p.now.comment) }
+{
+    p.comment
+        .as_slice()
+        .iter()
+        .position(|text| !is_text(p, *text))
+}
+
+fn type_has_texts(p: &Profile, kind: &ValueType) -> bool
+    ensures { result ≡ rules.type_has_texts p.now kind.now }
+{
+    is_text(p, kind.kind) && is_text(p, kind.unit)
+}
+
+/// Rule 2, of the sample types.
+pub fn type_text_fault(p: &Profile) -> Option<usize>
+    ensures fault { result ≡ rules.type_text_fault p.now }
+    ensures within { IfSome result (λ index. index < length p.now.sample_type) }
+{
+    p.sample_type
+        .as_slice()
+        .iter()
+        .position(|kind| !type_has_texts(p, kind))
+}
+
+fn label_has_texts(p: &Profile, label: &Label) -> bool
+    ensures { result ≡ rules.label_has_texts p.now label.now }
+{
+    is_text(p, label.key) && is_text(p, label.text) && is_text(p, label.num_unit)
+}
+
+fn sample_has_texts(p: &Profile, sample: &Sample) -> bool
+    ensures { result ≡ list_all (rules.label_has_texts p.now) sample.now.label }
+{
+    sample
+        .label
+        .as_slice()
+        .iter()
+        .all(|label| label_has_texts(p, label))
+}
+
+/// Rule 2, of the samples' labels.
+pub fn sample_text_fault(p: &Profile) -> Option<usize>
+    ensures fault { result ≡ rules.sample_text_fault p.now }
+    ensures within { IfSome result (λ index. index < length p.now.sample) }
+{
+    p.sample
+        .as_slice()
+        .iter()
+        .position(|sample| !sample_has_texts(p, sample))
+}
+
+fn mapping_has_texts(p: &Profile, mapping: &Mapping) -> bool
+    ensures { result ≡ rules.mapping_has_texts p.now mapping.now }
+{
+    is_text(p, mapping.file) && is_text(p, mapping.build_id)
+}
+
+/// Rule 2, of the mappings.
+pub fn mapping_text_fault(p: &Profile) -> Option<usize>
+    ensures fault { result ≡ rules.mapping_text_fault p.now }
+    ensures within { IfSome result (λ index. index < length p.now.mapping) }
+{
+    p.mapping
+        .as_slice()
+        .iter()
+        .position(|mapping| !mapping_has_texts(p, mapping))
+}
+
+fn function_has_texts(p: &Profile, function: &Function) -> bool
+    ensures { result ≡ rules.function_has_texts p.now function.now }
+{
+    is_text(p, function.name) && is_text(p, function.system_name) && is_text(p, function.filename)
+}
+
+/// Rule 2, of the functions.
+pub fn function_text_fault(p: &Profile) -> Option<usize>
+    ensures fault { result ≡ rules.function_text_fault p.now }
+    ensures within { IfSome result (λ index. index < length p.now.function) }
+{
+    p.function
+        .as_slice()
+        .iter()
+        .position(|function| !function_has_texts(p, function))
+}
+
+/// Rule 3: a profile with samples has a sample type.
+pub fn untyped_fault(p: &Profile) -> Option<usize>
+    ensures fault { result ≡ rules.untyped_fault p.now }
+    ensures within { IfSome result (λ index. index < 1) }
+{
+    if p.sample.len() == 0 || 0 < p.sample_type.len() {
+        None
+    } else {
+        Some(0)
+    }
+}

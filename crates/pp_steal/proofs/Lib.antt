@@ -1,0 +1,12 @@
+pub mod Keeps
+pub mod Dealt
+pub mod Tending
+pub mod Making
+pub mod Each
+pub mod Ends
+pub mod Closing
+pub mod Marking
+pub mod Gathering
+pub mod Laws
+pub mod Placing
+pub mod Whole
