@@ -1,0 +1,296 @@
+// The worked rows of the top report: what goes out, what is told, and the status.
+
+use crate::fixtures::{P0, P1, P5};
+use crate::{Cause, Ending, run};
+use pp_base::{
+    CalmFiles, CalmSink, CalmSource, Files, List, Literal, MemFiles, MemSink, Memory, OpenGate,
+    Sink, Text,
+};
+use std::alloc::Global;
+use std::process::Abort;
+use std::test::Fail;
+use std::thread::Threads;
+
+const P1_TOP: &[u8] =
+    b"Type: cpu\nShowing nodes accounting for 60ms, 100.00% of 60ms total\n      flat    flat%     sum%        cum     cum%\n      40ms   66.67%   66.67%       40ms   66.67%  leaf\n      20ms   33.33%  100.00%       50ms   83.33%  work\n         0    0.00%  100.00%       60ms  100.00%  main\n";
+
+const REPORTS: [(&[u8], &[u8]); 6] = [
+    (
+        P0,
+        b"Type: samples\nShowing nodes accounting for 1, 100.00% of 1 total\n      flat    flat%     sum%        cum     cum%\n         1  100.00%  100.00%          1  100.00%  main\n",
+    ),
+    (P1, P1_TOP),
+    (
+        P5,
+        b"File: app\nType: cpu\nDuration: 300ms, Total samples = 250ms\nShowing nodes accounting for 250ms, 100.00% of 250ms total\n      flat    flat%     sum%        cum     cum%\n     140ms   56.00%   56.00%      140ms   56.00%  main.mix\n      60ms   24.00%   80.00%      200ms   80.00%  main.hash\n      50ms   20.00%  100.00%       50ms   20.00%  runtime.mallocgc\n         0    0.00%  100.00%      250ms  100.00%  main.main\n         0    0.00%  100.00%      250ms  100.00%  main.work\n         0    0.00%  100.00%      250ms  100.00%  runtime.main\n",
+    ),
+    // a duration of 0
+    (
+        b"\x0a\x04\x08\x01\x10\x02\x12\x06\x0a\x01\x01\x12\x01\x01\x22\x06\x08\x01\x22\x02\x08\x01\x2a\x04\x08\x01\x10\x03\x32\x00\x32\x07\x73\x61\x6d\x70\x6c\x65\x73\x32\x05\x63\x6f\x75\x6e\x74\x32\x04\x6d\x61\x69\x6e\x50\x00",
+        b"Type: samples\nShowing nodes accounting for 1, 100.00% of 1 total\n      flat    flat%     sum%        cum     cum%\n         1  100.00%  100.00%          1  100.00%  main\n",
+    ),
+    // no samples
+    (
+        b"\x0a\x04\x08\x01\x10\x02\x32\x00\x32\x07\x73\x61\x6d\x70\x6c\x65\x73\x32\x05\x63\x6f\x75\x6e\x74",
+        b"Type: samples\nShowing nodes accounting for 0, 0% of 0 total\n      flat    flat%     sum%        cum     cum%\n",
+    ),
+    // an unknown field
+    (
+        b"\xf8\xff\xff\xff\x0f\x00",
+        b"Showing nodes accounting for 0, 0% of 0 total\n      flat    flat%     sum%        cum     cum%\n",
+    ),
+];
+
+const REFUSALS: [(&[u8], &[u8]); 27] = [
+    (b"", b"pprof: d: empty\n"),
+    (b"\x1f\x8b\x08", b"pprof: d: compressed\n"),
+    (b"\x0a\x05\x08\x01", b"pprof: d: truncated at 0\n"),
+    (b"\x12\xff\xff\xff\xff\x0f", b"pprof: d: truncated at 0\n"),
+    (
+        b"\x12\xff\xff\xff\xff\xff\xff\xff\xff\xff\x01",
+        b"pprof: d: truncated at 0\n",
+    ),
+    (b"\x12\x03\x0a\x05\x01", b"pprof: d: truncated at 2\n"),
+    (b"\x12\x02\x0a\x80", b"pprof: d: truncated at 2\n"),
+    (b"\x12\x03\x0a\x01\x80", b"pprof: d: truncated at 2\n"),
+    (
+        b"\x12\x0d\x0a\x0b\x80\x80\x80\x80\x80\x80\x80\x80\x80\x80\x01",
+        b"pprof: d: varint too long at 2\n",
+    ),
+    (
+        b"\x80\x80\x80\x80\x10\x00",
+        b"pprof: d: bad field number at 0\n",
+    ),
+    (b"\x13", b"pprof: d: bad kind at 0\n"),
+    (b"\x0f", b"pprof: d: bad kind at 0\n"),
+    (b"\x32\x01\x61", b"pprof: d: rule 1 fails at text 0\n"),
+    (
+        b"\x38\xff\xff\xff\xff\xff\xff\xff\xff\xff\x01",
+        b"pprof: d: rule 2 fails at header 0\n",
+    ),
+    (
+        b"\x5a\x02\x08\x01\x5a\x02\x10\x01",
+        b"pprof: d: rule 2 fails at header 0\n",
+    ),
+    (b"\x12\x00", b"pprof: d: rule 3 fails at sample type 0\n"),
+    (b"\x1a\x00", b"pprof: d: rule 4 fails at mapping 0\n"),
+    (
+        b"\x22\x02\x08\x01\x22\x02\x08\x01",
+        b"pprof: d: rule 9 fails at location 1\n",
+    ),
+    (
+        b"\x22\x04\x08\x01\x10\x07",
+        b"pprof: d: rule 10 fails at location 0\n",
+    ),
+    (
+        b"\x0a\x00\x12\x06\x0a\x01\x05\x12\x01\x01",
+        b"pprof: d: rule 11 fails at sample 0\n",
+    ),
+    (
+        b"\x0a\x00\x12\x00",
+        b"pprof: d: rule 12 fails at sample 0\n",
+    ),
+    (
+        b"\x2a\x02\x08\x01\x2a\x04\x08\x01\x10\x09\x32\x00",
+        b"pprof: d: rule 2 fails at function 1\n",
+    ),
+    (
+        b"\x1a\x00\x2a\x04\x08\x01\x10\x09\x32\x00",
+        b"pprof: d: rule 2 fails at function 0\n",
+    ),
+    (b"\x0d\x00\x00\x00\x00", b"pprof: d: wrong kind at 0\n"),
+    (
+        b"\x0a\x04\x08\x01\x10\x02\x12\x06\x0a\x01\x01\x12\x01\x01\x22\x06\x08\x01\x22\x02\x08\x01\x2a\x04\x08\x01\x10\x03\x32\x00\x32\x07\x73\x61\x6d\x70\x6c\x65\x73\x32\x05\x63\x6f\x75\x6e\x74\x32\x04\x6d\x61\x69",
+        b"pprof: d: truncated at 46\n",
+    ),
+    (
+        b"\x0a\x04\x08\x01\x10\x02\x12\x06\x0a\x01\x01\x12\x01\x01\x22\x06\x08\x01\x22\x02\x08\x01\x2a\x04\x08\x01\x10\x03\x32\x00\x32\x07\x73\x61\x6d\x70\x6c\x65\x73\x32\x05\x63\x6f\x75\x6e\x74\x32\x04\x6d\x61\x69\x6e\x78\x09",
+        b"pprof: d: rule 2 fails at header 0\n",
+    ),
+    (
+        b"\x0a\x04\x08\x01\x10\x02\x12\x06\x0a\x01\x01\x12\x01\x01\x22\x06\x08\x01\x22\x02\x08\x01\x2a\x04\x08\x01\x10\x03\x32\x00\x32\x07\x73\x61\x6d\x70\x6c\x65\x73\x32\x05\x63\x6f\x75\x6e\x74\x32\x04\x6d\x61\x69\x6e\x7a\x00",
+        b"pprof: d: wrong kind at 52\n",
+    ),
+];
+
+fn entries_of(alloc: Global, path: &[u8], bytes: &[u8]) -> Result<List<(Text, Text)>, Memory> {
+    let mut entries = List::new(alloc);
+    entries.push((
+        Text::from_slice(alloc, path)?,
+        Text::from_slice(alloc, bytes)?,
+    ))?;
+    Ok(entries)
+}
+
+fn words_of(alloc: Global, words: &[&[u8]]) -> Result<Vec<Text>, Memory> {
+    let mut texts = List::new(alloc);
+    for word in words {
+        texts.push(Text::from_slice(alloc, word)?)?;
+    }
+    Ok(texts.into_vec())
+}
+
+fn numbers_of(alloc: Global, numbers: &[u32]) -> Result<List<u32>, Memory> {
+    Ok(List::from_vec(numbers.to_vec(alloc)?))
+}
+
+fn run_over<R: Threads + Sync, F: Files, O: Sink, E: Sink>(
+    rt: &R,
+    alloc: Global,
+    words: &[Text],
+    files: &mut F,
+    out: &mut O,
+    err: &mut E,
+) -> Ending {
+    let mut input = CalmSource::new(Text::new(alloc), 1);
+    let mut matcher = Literal::new(alloc, List::new(alloc));
+    run(
+        rt,
+        alloc,
+        words,
+        files,
+        &mut input,
+        out,
+        err,
+        &mut matcher,
+        &OpenGate,
+    )
+}
+
+// Runs over one file, and looks at both outputs and the status.
+fn runs<R: Threads + Sync + Abort>(
+    rt: &R,
+    alloc: Global,
+    words: &[&[u8]],
+    path: &[u8],
+    bytes: &[u8],
+    wanted: (&[u8], &[u8], u8),
+) -> Result<(), Fail> {
+    let words = words_of(alloc, words)?;
+    let mut files = CalmFiles::new(alloc, entries_of(alloc, path, bytes)?, List::new(alloc));
+    let mut out = CalmSink::new(alloc, 16);
+    let mut err = CalmSink::new(alloc, 16);
+    let ending = run_over(rt, alloc, &words, &mut files, &mut out, &mut err);
+    assert_eq!(rt; out.bytes().as_slice(), wanted.0);
+    assert_eq!(rt; err.bytes().as_slice(), wanted.1);
+    assert_eq!(rt; ending.status, wanted.2);
+    Ok(())
+}
+
+#[test]
+fn reports(rt: HostRuntime) -> Result<(), Fail> {
+    for (bytes, text) in REPORTS {
+        runs(
+            &rt,
+            rt.alloc(),
+            &[b"-top", b"p"],
+            b"p",
+            bytes,
+            (text, b"", 0),
+        )?;
+    }
+    Ok(())
+}
+
+#[test]
+fn refusals(rt: HostRuntime) -> Result<(), Fail> {
+    for (bytes, line) in REFUSALS {
+        runs(
+            &rt,
+            rt.alloc(),
+            &[b"-top", b"d"],
+            b"d",
+            bytes,
+            (b"", line, 1),
+        )?;
+    }
+    runs(
+        &rt,
+        rt.alloc(),
+        &[b"-top", b"n"],
+        b"d",
+        b"",
+        (b"", b"pprof: n: no such file\n", 1),
+    )?;
+    runs(
+        &rt,
+        rt.alloc(),
+        &[b"-tree", b"d"],
+        b"d",
+        P0,
+        (b"", b"pprof: not built\n", 1),
+    )?;
+    runs(
+        &rt,
+        rt.alloc(),
+        &[b"-top", b"d"],
+        b"d",
+        b"\x0a\x04\x08\x01\x10\x02\x12\x0f\x0a\x01\x01\x12\x0a\xff\xff\xff\xff\xff\xff\xff\xff\xff\x01\x22\x06\x08\x01\x22\x02\x08\x01\x2a\x04\x08\x01\x10\x03\x32\x00\x32\x07\x73\x61\x6d\x70\x6c\x65\x73\x32\x05\x63\x6f\x75\x6e\x74\x32\x04\x6d\x61\x69\x6e",
+        (b"", b"pprof: not built\n", 1),
+    )
+}
+
+// Runs over P1, where the calls of these numbers fail.
+fn fails<R: Threads + Sync + Abort>(
+    rt: &R,
+    alloc: Global,
+    reads: &[u32],
+    writes: &[u32],
+    wanted: (usize, &[u8], Cause),
+) -> Result<(), Fail> {
+    let words = words_of(alloc, &[b"-top", b"p"])?;
+    let mut files = MemFiles::new(
+        alloc,
+        entries_of(alloc, b"p", P1)?,
+        List::new(alloc),
+        numbers_of(alloc, reads)?,
+    );
+    let mut out = MemSink::new(alloc, 16, numbers_of(alloc, writes)?);
+    let mut err = CalmSink::new(alloc, 16);
+    let ending = run_over(rt, alloc, &words, &mut files, &mut out, &mut err);
+    assert_eq!(rt; out.bytes().as_slice(), &P1_TOP[..wanted.0]);
+    assert_eq!(rt; err.bytes().as_slice(), wanted.1);
+    assert_eq!(rt; ending.cause, wanted.2);
+    Ok(())
+}
+
+#[test]
+fn a_read_fails(rt: HostRuntime) -> Result<(), Fail> {
+    fails(
+        &rt,
+        rt.alloc(),
+        &[0],
+        &[],
+        (0, b"pprof: file fault\n", Cause::FileFault),
+    )
+}
+
+// Each write takes 16 bytes; calls are numbered from 0.
+#[test]
+fn each_write_fails(rt: HostRuntime) -> Result<(), Fail> {
+    for number in 0u32..18 {
+        let front = number as usize * 16;
+        fails(
+            &rt,
+            rt.alloc(),
+            &[],
+            &[number],
+            (front, b"pprof: output fault\n", Cause::OutFault),
+        )?;
+    }
+    Ok(())
+}
+
+// Nothing can be told where standard error fails.
+#[test]
+fn standard_error_fails(rt: HostRuntime) -> Result<(), Fail> {
+    let alloc = rt.alloc();
+    let words = words_of(alloc, &[b"-top"])?;
+    let mut files = CalmFiles::new(alloc, List::new(alloc), List::new(alloc));
+    let mut out = CalmSink::new(alloc, 16);
+    let mut err = MemSink::new(alloc, 16, numbers_of(alloc, &[0])?);
+    let ending = run_over(&rt, alloc, &words, &mut files, &mut out, &mut err);
+    assert_eq!(rt; ending.cause, Cause::ErrFault);
+    assert_eq!(rt; err.bytes().len(), 0);
+    Ok(())
+}
