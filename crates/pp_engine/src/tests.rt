@@ -248,7 +248,8 @@ fn fails<R: Threads + Sync + Abort>(
     let mut out = MemSink::new(alloc, 16, numbers_of(alloc, writes)?);
     let mut err = CalmSink::new(alloc, 16);
     let ending = run_over(rt, alloc, &words, &mut files, &mut out, &mut err);
-    assert_eq!(rt; out.bytes().as_slice(), &P1_TOP[..wanted.0]);
+    assert!(rt; P1_TOP.starts_with(out.bytes().as_slice()));
+    assert_eq!(rt; out.bytes().len(), wanted.0);
     assert_eq!(rt; err.bytes().as_slice(), wanted.1);
     assert_eq!(rt; ending.cause, wanted.2);
     Ok(())
