@@ -59,22 +59,27 @@ kept_by Addresses shown w =
 abbrev pub key_texts : Grain → Bool → Written → Written
 key_texts grain showcolumns w = with_object (kept_by grain showcolumns w) w.object
 
--- the order of one field
+-- the order of the function texts, by their bytes
 abbrev pub by_function : Written → Written → Ordering
 by_function a b = slice_cmp nat_cmp a.function b.function
 
+-- the order of the file texts, by their bytes
 abbrev pub by_file : Written → Written → Ordering
 by_file a b = slice_cmp nat_cmp a.file b.file
 
+-- the order of the line numbers
 abbrev pub by_line : Written → Written → Ordering
 by_line a b = int_cmp a.line b.line
 
+-- the order of the column numbers
 abbrev pub by_column : Written → Written → Ordering
 by_column a b = int_cmp a.column b.column
 
+-- the order of the addresses
 abbrev pub by_address : Written → Written → Ordering
 by_address a b = nat_cmp a.address b.address
 
+-- the order of the object texts, by their bytes
 abbrev pub by_object : Written → Written → Ordering
 by_object a b = slice_cmp nat_cmp a.object b.object
 

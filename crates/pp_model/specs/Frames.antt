@@ -20,12 +20,15 @@ text_number (negsuc _) = 0
 abbrev pub text_at : Profile → ℕ → List ℕ
 text_at p i = slice_index_or p.text i []
 
+-- the first mapping with the id
 abbrev pub mapping_with : Profile → ℕ → Option Mapping
 mapping_with p id = find (λ m. m.id == id) p.mapping
 
+-- the first function with the id
 abbrev pub function_with : Profile → ℕ → Option Function
 function_with p id = find (λ f. f.id == id) p.function
 
+-- the first location with the id
 abbrev pub location_with : Profile → ℕ → Option Location
 location_with p id = find (λ l. l.id == id) p.location
 
@@ -42,14 +45,15 @@ pub record Written : Type 0 where
   pub address : ℕ
   pub object : List ℕ
 
--- the file of the location's mapping
+-- the text index of the file of the location's mapping, 0 where none is known
 abbrev pub object_number : Profile → Location → ℕ
 object_number p location = option_map_or (λ m. text_number m.file) (mapping_with p location.mapping_id) 0
 
--- the name and the file of the line's function
+-- the text index of the name of the line's function, 0 where none is known
 abbrev pub name_number : Profile → Line → ℕ
 name_number p line = option_map_or (λ f. text_number f.name) (function_with p line.function_id) 0
 
+-- the text index of the file of the line's function, 0 where none is known
 abbrev pub file_number : Profile → Line → ℕ
 file_number p line = option_map_or (λ f. text_number f.filename) (function_with p line.function_id) 0
 
@@ -115,27 +119,31 @@ lines_at p location = (location_at p location).line
 abbrev pub line_at : Profile → Frame → Option Line
 line_at p f = option_and_then (λ r. slice_get (location_at p f.location).line r) f.row
 
--- the function of the frame's line, and the mapping of its location
+-- the function of the frame's line
 abbrev pub function_at : Profile → Frame → Option Function
 function_at p f = option_and_then (λ line. function_with p line.function_id) (line_at p f)
 
+-- the mapping of the frame's location
 abbrev pub mapping_at : Profile → Frame → Option Mapping
 mapping_at p f = mapping_with p (location_at p f.location).mapping_id
 
--- the text index of the frame's function name, of its file name and of its object, 0 where not known
+-- the text index of the frame's function name, 0 where not known
 abbrev pub function_index : Profile → Frame → ℕ
 function_index p f = option_map_or (λ f. text_number f.name) (function_at p f) 0
 
+-- the text index of the frame's file name, 0 where not known
 abbrev pub file_index : Profile → Frame → ℕ
 file_index p f = option_map_or (λ f. text_number f.filename) (function_at p f) 0
 
+-- the text index of the frame's object, 0 where not known
 abbrev pub object_index : Profile → Frame → ℕ
 object_index p f = option_map_or (λ m. text_number m.file) (mapping_at p f) 0
 
--- the number of the frame's line and of its column, 0 where it has no line
+-- the number of the frame's line, 0 where it has no line
 abbrev pub line_number : Profile → Frame → ℤ
 line_number p f = option_map_or (λ line. line.line) (line_at p f) (pos 0)
 
+-- the column of the frame's line, 0 where it has no line
 abbrev pub column_number : Profile → Frame → ℤ
 column_number p f = option_map_or (λ line. line.column) (line_at p f) (pos 0)
 

@@ -37,12 +37,15 @@ zero_unless passes = if passes then None else Some 0
 abbrev pub first_repeated : List ℕ → Option ℕ
 first_repeated ids = position (λ k. stands_in (take k ids) (slice_index ids k)) (range_with_len 0 (length ids))
 
+-- the ids of the mappings, in order
 abbrev pub mapping_ids : Profile → List ℕ
 mapping_ids p = map (λ m. m.id) p.mapping
 
+-- the ids of the functions, in order
 abbrev pub function_ids : Profile → List ℕ
 function_ids p = map (λ f. f.id) p.function
 
+-- the ids of the locations, in order
 abbrev pub location_ids : Profile → List ℕ
 location_ids p = map (λ l. l.id) p.location
 
@@ -60,34 +63,43 @@ text_zero_fault p = zero_unless (begins_empty p.text)
 abbrev pub header_texts : Profile → List ℤ
 header_texts p = p.drop_frames ∷ p.keep_frames ∷ p.period_type.kind ∷ p.period_type.unit ∷ p.default_sample_type ∷ p.doc_url ∷ []
 
--- Rule 2: each text index is in range, asked of one table after the other.
+-- Rule 2: each text index is in range, asked of one table after the other. First the header, as index 0.
 abbrev pub header_text_fault : Profile → Option ℕ
 header_text_fault p = zero_unless (list_all (is_text p) (header_texts p))
 
+-- Rule 2: then the comments.
 abbrev pub comment_text_fault : Profile → Option ℕ
 comment_text_fault p = first_failing (is_text p) p.comment
 
+-- name and unit of a sample type are texts
 abbrev pub type_has_texts : Profile → ValueType → Bool
 type_has_texts p t = is_text p t.kind && is_text p t.unit
 
+-- Rule 2: then the sample types.
 abbrev pub type_text_fault : Profile → Option ℕ
 type_text_fault p = first_failing (type_has_texts p) p.sample_type
 
+-- key, text and unit of a label are texts
 abbrev pub label_has_texts : Profile → Label → Bool
 label_has_texts p l = is_text p l.key && is_text p l.text && is_text p l.num_unit
 
+-- Rule 2: then the samples, by their labels.
 abbrev pub sample_text_fault : Profile → Option ℕ
 sample_text_fault p = first_failing (λ s. list_all (label_has_texts p) s.label) p.sample
 
+-- file and build id of a mapping are texts
 abbrev pub mapping_has_texts : Profile → Mapping → Bool
 mapping_has_texts p m = is_text p m.file && is_text p m.build_id
 
+-- Rule 2: then the mappings.
 abbrev pub mapping_text_fault : Profile → Option ℕ
 mapping_text_fault p = first_failing (mapping_has_texts p) p.mapping
 
+-- both names and the file of a function are texts
 abbrev pub function_has_texts : Profile → Function → Bool
 function_has_texts p f = is_text p f.name && is_text p f.system_name && is_text p f.filename
 
+-- Rule 2: last the functions.
 abbrev pub function_text_fault : Profile → Option ℕ
 function_text_fault p = first_failing (function_has_texts p) p.function
 
@@ -95,24 +107,27 @@ function_text_fault p = first_failing (function_has_texts p) p.function
 abbrev pub untyped_fault : Profile → Option ℕ
 untyped_fault p = zero_unless (length p.sample == 0 || nat_lt 0 (length p.sample_type))
 
--- Rules 4 and 5: the ids of mappings are not 0, and distinct.
+-- Rule 4: no mapping has the id 0.
 abbrev pub mapping_zero_fault : Profile → Option ℕ
 mapping_zero_fault p = first_failing (λ id. nat_lt 0 id) (mapping_ids p)
 
+-- Rule 5: no mapping has the id of an earlier one.
 abbrev pub mapping_repeat_fault : Profile → Option ℕ
 mapping_repeat_fault p = first_repeated (mapping_ids p)
 
--- Rules 6 and 7: the same for functions.
+-- Rule 6: no function has the id 0.
 abbrev pub function_zero_fault : Profile → Option ℕ
 function_zero_fault p = first_failing (λ id. nat_lt 0 id) (function_ids p)
 
+-- Rule 7: no function has the id of an earlier one.
 abbrev pub function_repeat_fault : Profile → Option ℕ
 function_repeat_fault p = first_repeated (function_ids p)
 
--- Rules 8 and 9: the same for locations.
+-- Rule 8: no location has the id 0.
 abbrev pub location_zero_fault : Profile → Option ℕ
 location_zero_fault p = first_failing (λ id. nat_lt 0 id) (location_ids p)
 
+-- Rule 9: no location has the id of an earlier one.
 abbrev pub location_repeat_fault : Profile → Option ℕ
 location_repeat_fault p = first_repeated (location_ids p)
 

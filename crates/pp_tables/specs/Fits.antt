@@ -11,27 +11,33 @@ use Rattle.pp_model.specs.declared.profile.Location.{Location}
 use Rattle.pp_model.specs.declared.profile.Function.{Function}
 use Rattle.pp_model.specs.declared.profile.Profile.{Profile}
 
+-- it fits 64 bits without a sign
 abbrev pub IsUint : ℕ → Type 0
 IsUint n = n < 2 ^ 64
 
+-- it fits 64 bits with a sign
 abbrev pub IsInt : ℤ → Type 0
 IsInt z = FitsSigned w64 z
 
+-- both text indices of the sample type fit
 pub record ValueTypeFits (v : ValueType) : Type 0 where
   pub kind : IsInt v.kind
   pub unit : IsInt v.unit
 
+-- all numbers of the label fit
 pub record LabelFits (l : Label) : Type 0 where
   pub key : IsInt l.key
   pub text : IsInt l.text
   pub num : IsInt l.num
   pub num_unit : IsInt l.num_unit
 
+-- all location ids, values and labels of the sample fit
 pub record SampleFits (s : Sample) : Type 0 where
   pub location_id : AllByRecursion IsUint s.location_id
   pub value : AllByRecursion IsInt s.value
   pub label : AllByRecursion LabelFits s.label
 
+-- all numbers of the mapping fit
 pub record MappingFits (m : Mapping) : Type 0 where
   pub id : IsUint m.id
   pub start : IsUint m.start
@@ -40,17 +46,20 @@ pub record MappingFits (m : Mapping) : Type 0 where
   pub file : IsInt m.file
   pub build_id : IsInt m.build_id
 
+-- all numbers of the line fit
 pub record LineFits (l : Line) : Type 0 where
   pub function_id : IsUint l.function_id
   pub line : IsInt l.line
   pub column : IsInt l.column
 
+-- all numbers and lines of the location fit
 pub record LocationFits (l : Location) : Type 0 where
   pub id : IsUint l.id
   pub mapping_id : IsUint l.mapping_id
   pub address : IsUint l.address
   pub line : AllByRecursion LineFits l.line
 
+-- all numbers of the function fit
 pub record FunctionFits (f : Function) : Type 0 where
   pub id : IsUint f.id
   pub name : IsInt f.name
@@ -58,6 +67,7 @@ pub record FunctionFits (f : Function) : Type 0 where
   pub filename : IsInt f.filename
   pub start_line : IsInt f.start_line
 
+-- all tables and numbers of the profile fit
 pub record ProfileFits (p : Profile) : Type 0 where
   pub sample_type : AllByRecursion ValueTypeFits p.sample_type
   pub sample : AllByRecursion SampleFits p.sample

@@ -23,13 +23,16 @@ or_one_empty (text ∷ texts) = text ∷ texts
 abbrev pub profile_of : List Item → Profile
 profile_of items = let p = profile_with no_profile items in record p { text = or_one_empty p.text }
 
+-- that profile, unless there is a fault
 abbrev pub unless : Option WireFault → Profile → Result Profile ReadRefusal
 unless (Some fault) p = Err (refusal.Wire fault)
 unless None p = Ok p
 
+-- what the bytes of a message are: the first fault in them, or what its fields make
 abbrev pub read_message : List ℕ → Result Profile ReadRefusal
 read_message bytes = unless (fault_in profile_rules bytes 0) (profile_of (fields bytes 0).items)
 
+-- What a file's bytes are.
 abbrev pub read : List ℕ → Result Profile ReadRefusal
 read [] = Err refusal.Empty
 read (b ∷ bytes) = if is_gzip (b ∷ bytes) then Err refusal.Compressed else read_message (b ∷ bytes)

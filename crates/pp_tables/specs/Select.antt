@@ -28,13 +28,15 @@ scalar (Eight n) = []
 scalar (Four n) = []
 scalar (Bytes bytes place) = []
 
--- a uint64, an int64 and a bool
+-- a uint64
 abbrev pub uints_in : Item → List ℕ
 uints_in item = scalar item.content
 
+-- an int64
 abbrev pub ints_in : Item → List ℤ
 ints_in item = map signed (scalar item.content)
 
+-- a bool
 abbrev pub bools_in : Item → List Bool
 bools_in item = map flag (scalar item.content)
 
@@ -45,10 +47,11 @@ listed (Eight n) at = []
 listed (Four n) at = []
 listed (Bytes bytes place) at = (numbers bytes at).items
 
--- repeated uint64s and int64s
+-- repeated uint64s
 abbrev pub uint_list_in : Item → List ℕ
 uint_list_in item = listed item.content item.at
 
+-- repeated int64s
 abbrev pub int_list_in : Item → List ℤ
 int_list_in item = map signed (listed item.content item.at)
 

@@ -21,9 +21,11 @@ scalars_to last n = if nat_lt 0 n && nat_le n last then Scalar else Unknown
 abbrev pub value_type_rules : ℕ → Rule
 value_type_rules = scalars_to 2
 
+-- a ValueType without fields
 abbrev pub no_value_type : ValueType
 no_value_type = record { kind = pos 0; unit = pos 0 }
 
+-- a ValueType after these fields
 abbrev pub value_type_with : ValueType → List Item → ValueType
 value_type_with old items = record {
   kind = last_or old.kind (all ints_in 1 items);
@@ -34,9 +36,11 @@ value_type_with old items = record {
 abbrev pub label_rules : ℕ → Rule
 label_rules = scalars_to 4
 
+-- a Label without fields
 abbrev pub no_label : Label
 no_label = record { key = pos 0; text = pos 0; num = pos 0; num_unit = pos 0 }
 
+-- a Label after these fields
 abbrev pub label_with : Label → List Item → Label
 label_with old items = record {
   key = last_or old.key (all ints_in 1 items);
@@ -51,9 +55,11 @@ sample_rules n =
     if n == 1 || n == 2 then Numbers
     else (if n == 3 then Nested (fault_in label_rules) else Unknown)
 
+-- a Sample without fields
 abbrev pub no_sample : Sample
 no_sample = record { location_id = []; value = []; label = [] }
 
+-- a Sample after these fields
 abbrev pub sample_with : Sample → List Item → Sample
 sample_with old items = record {
   location_id = old.location_id ++ all uint_list_in 1 items;
@@ -66,6 +72,7 @@ sample_with old items = record {
 abbrev pub mapping_rules : ℕ → Rule
 mapping_rules = scalars_to 10
 
+-- a Mapping without fields
 abbrev pub no_mapping : Mapping
 no_mapping = record {
   id = 0;
@@ -80,6 +87,7 @@ no_mapping = record {
   has_inline_frames = false;
 }
 
+-- a Mapping after these fields
 abbrev pub mapping_with : Mapping → List Item → Mapping
 mapping_with old items = record {
   id = last_or old.id (all uints_in 1 items);
@@ -98,9 +106,11 @@ mapping_with old items = record {
 abbrev pub line_rules : ℕ → Rule
 line_rules = scalars_to 3
 
+-- a Line without fields
 abbrev pub no_line : Line
 no_line = record { function_id = 0; line = pos 0; column = pos 0 }
 
+-- a Line after these fields
 abbrev pub line_with : Line → List Item → Line
 line_with old items = record {
   function_id = last_or old.function_id (all uints_in 1 items);
@@ -112,9 +122,11 @@ line_with old items = record {
 abbrev pub location_rules : ℕ → Rule
 location_rules n = if n == 4 then Nested (fault_in line_rules) else scalars_to 5 n
 
+-- a Location without fields
 abbrev pub no_location : Location
 no_location = record { id = 0; mapping_id = 0; address = 0; line = []; folded = false }
 
+-- a Location after these fields
 abbrev pub location_with : Location → List Item → Location
 location_with old items = record {
   id = last_or old.id (all uints_in 1 items);
@@ -128,9 +140,11 @@ location_with old items = record {
 abbrev pub function_rules : ℕ → Rule
 function_rules = scalars_to 5
 
+-- a Function without fields
 abbrev pub no_function : Function
 no_function = record { id = 0; name = pos 0; system_name = pos 0; filename = pos 0; start_line = pos 0 }
 
+-- a Function after these fields
 abbrev pub function_with : Function → List Item → Function
 function_with old items = record {
   id = last_or old.id (all uints_in 1 items);
@@ -153,6 +167,7 @@ profile_rules n =
     else (if n == 11 then Nested (fault_in value_type_rules)
     else (if n == 13 then Numbers else scalars_to 15 n)))))))
 
+-- a Profile without fields
 abbrev pub no_profile : Profile
 no_profile = record {
   sample_type = [];
@@ -172,7 +187,7 @@ no_profile = record {
   doc_url = pos 0;
 }
 
--- a period type that comes more than once is the message of its payloads joined
+-- a Profile after these fields: a period type that comes more than once is the message of its payloads joined
 abbrev pub profile_with : Profile → List Item → Profile
 profile_with old items = record {
   sample_type = old.sample_type ++ all (messages_in (value_type_with no_value_type)) 1 items;

@@ -23,16 +23,19 @@ Takes (Err (refusal.Wire f)) fault P = fault ≡ Some f
 Takes (Err refusal.Empty) fault P = ⊥
 Takes (Err refusal.Compressed) fault P = ⊥
 
--- a scalar, and a list, after one field more
+-- a scalar after one field more
 abbrev pub set_by : {A : Type 0} → (Item → List A) → ℕ → Item → A → A
 set_by read n item x = if item.number == n then last_or x (read item) else x
 
+-- a list after one field more
 abbrev pub add_by : {A : Type 0} → (Item → List A) → ℕ → Item → List A → List A
 add_by read n item xs = if item.number == n then xs ++ read item else xs
 
+-- a ValueType after one field more
 abbrev pub value_type_put : ValueType → Item → ValueType
 value_type_put old item = record { kind = set_by ints_in 1 item old.kind; unit = set_by ints_in 2 item old.unit }
 
+-- a Label after one field more
 abbrev pub label_put : Label → Item → Label
 label_put old item = record {
   key = set_by ints_in 1 item old.key;
@@ -41,6 +44,7 @@ label_put old item = record {
   num_unit = set_by ints_in 4 item old.num_unit;
 }
 
+-- a Sample after one field more
 abbrev pub sample_put : Sample → Item → Sample
 sample_put old item = record {
   location_id = add_by uint_list_in 1 item old.location_id;
@@ -48,6 +52,7 @@ sample_put old item = record {
   label = add_by (messages_in (label_with no_label)) 3 item old.label;
 }
 
+-- a Mapping after one field more
 abbrev pub mapping_put : Mapping → Item → Mapping
 mapping_put old item = record {
   id = set_by uints_in 1 item old.id;
@@ -62,6 +67,7 @@ mapping_put old item = record {
   has_inline_frames = set_by bools_in 10 item old.has_inline_frames;
 }
 
+-- a Line after one field more
 abbrev pub line_put : Line → Item → Line
 line_put old item = record {
   function_id = set_by uints_in 1 item old.function_id;
@@ -69,6 +75,7 @@ line_put old item = record {
   column = set_by ints_in 3 item old.column;
 }
 
+-- a Location after one field more
 abbrev pub location_put : Location → Item → Location
 location_put old item = record {
   id = set_by uints_in 1 item old.id;
@@ -78,6 +85,7 @@ location_put old item = record {
   folded = set_by bools_in 5 item old.folded;
 }
 
+-- a Function after one field more
 abbrev pub function_put : Function → Item → Function
 function_put old item = record {
   id = set_by uints_in 1 item old.id;
@@ -87,6 +95,7 @@ function_put old item = record {
   start_line = set_by ints_in 5 item old.start_line;
 }
 
+-- a Profile after one field more
 abbrev pub profile_put : Profile → Item → Profile
 profile_put old item = record {
   sample_type = add_by (messages_in (value_type_with no_value_type)) 1 item old.sample_type;
