@@ -11,14 +11,14 @@ use std::process::Abort;
 use std::test::Fail;
 use std::thread::Threads;
 
+const P0_TOP: &[u8] =
+    b"Type: samples\nShowing nodes accounting for 1, 100.00% of 1 total\n      flat    flat%     sum%        cum     cum%\n         1  100.00%  100.00%          1  100.00%  main\n";
+
 const P1_TOP: &[u8] =
     b"Type: cpu\nShowing nodes accounting for 60ms, 100.00% of 60ms total\n      flat    flat%     sum%        cum     cum%\n      40ms   66.67%   66.67%       40ms   66.67%  leaf\n      20ms   33.33%  100.00%       50ms   83.33%  work\n         0    0.00%  100.00%       60ms  100.00%  main\n";
 
 const REPORTS: [(&[u8], &[u8]); 6] = [
-    (
-        P0,
-        b"Type: samples\nShowing nodes accounting for 1, 100.00% of 1 total\n      flat    flat%     sum%        cum     cum%\n         1  100.00%  100.00%          1  100.00%  main\n",
-    ),
+    (P0, P0_TOP),
     (P1, P1_TOP),
     (
         P5,
@@ -27,7 +27,7 @@ const REPORTS: [(&[u8], &[u8]); 6] = [
     // a duration of 0
     (
         b"\x0a\x04\x08\x01\x10\x02\x12\x06\x0a\x01\x01\x12\x01\x01\x22\x06\x08\x01\x22\x02\x08\x01\x2a\x04\x08\x01\x10\x03\x32\x00\x32\x07\x73\x61\x6d\x70\x6c\x65\x73\x32\x05\x63\x6f\x75\x6e\x74\x32\x04\x6d\x61\x69\x6e\x50\x00",
-        b"Type: samples\nShowing nodes accounting for 1, 100.00% of 1 total\n      flat    flat%     sum%        cum     cum%\n         1  100.00%  100.00%          1  100.00%  main\n",
+        P0_TOP,
     ),
     // no samples
     (
@@ -190,6 +190,36 @@ fn reports(rt: HostRuntime) -> Result<(), Fail> {
         )?;
     }
     Ok(())
+}
+
+// P0 with its sample's location written so many times: these bytes, the locations, the rest.
+const DEEP_FRONT: &[u8] =
+    b"\x0a\x04\x08\x01\x10\x02\x12\xa7\x8d\x06\x0a\xa0\x8d\x06";
+const DEEP: usize = 100_000;
+const DEEP_BACK: &[u8] =
+    b"\x12\x01\x01\x22\x06\x08\x01\x22\x02\x08\x01\x2a\x04\x08\x01\x10\x03\x32\x00\x32\x07samples\x32\x05count\x32\x04main";
+
+fn deep_profile(alloc: Global) -> Result<Text, Memory> {
+    let mut bytes = Text::from_slice(alloc, DEEP_FRONT)?;
+    for _ in 0..DEEP {
+        bytes.extend(b"\x01")?;
+    }
+    bytes.extend(DEEP_BACK)?;
+    Ok(bytes)
+}
+
+// A location that a sample has many times counts once.
+#[test]
+fn a_deep_stack(rt: HostRuntime) -> Result<(), Fail> {
+    let bytes = deep_profile(rt.alloc())?;
+    runs(
+        &rt,
+        rt.alloc(),
+        &[b"-top", b"d"],
+        b"d",
+        bytes.as_slice(),
+        (P0_TOP, b"", 0),
+    )
 }
 
 #[test]

@@ -3,6 +3,8 @@
 
 mod files;
 mod streams;
+#[cfg(test)]
+mod tests;
 mod words;
 
 use files::RealFiles;

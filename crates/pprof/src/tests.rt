@@ -1,0 +1,70 @@
+// The adapters over the machine's own files, and over a writer that fails.
+
+use crate::files::RealFiles;
+use crate::streams::Output;
+use pp_base::{FileRead, FileWrite, Files, Sink, SinkWrite, Text};
+use std::io::{self, ErrorKind, Write};
+use std::test::Fail;
+
+// A reader of the other end is gone.
+#[derive(Drop)]
+struct BrokenPipe;
+
+impl Write for BrokenPipe {
+    fn write(&mut self, _bytes: &[u8]) -> io::Result<usize> {
+        Err(ErrorKind::BrokenPipe.into())
+    }
+
+    fn flush(&mut self) -> io::Result<()> {
+        Ok(())
+    }
+}
+
+// A path that isn't UTF-8, one of no file, an empty file, one without end, and a folder, which opens and then can't be read.
+const READS: [(&[u8], FileRead); 5] = [
+    (b"\xff", FileRead::Missing),
+    (b"/dev/null/profile", FileRead::Missing),
+    (b"/dev/null", FileRead::Read),
+    (b"/dev/zero", FileRead::TooLong),
+    (b"/", FileRead::Failed),
+];
+
+// A path that isn't UTF-8, one of no file, a folder, a file that takes all, and one that is full.
+const WRITES: [(&[u8], FileWrite); 5] = [
+    (b"\xff", FileWrite::Locked),
+    (b"/dev/null/profile", FileWrite::Locked),
+    (b"/", FileWrite::Locked),
+    (b"/dev/null", FileWrite::Written),
+    (b"/dev/full", FileWrite::Failed),
+];
+
+#[test]
+fn reads(rt: HostRuntime) -> Result<(), Fail> {
+    let alloc = rt.alloc();
+    let mut files = RealFiles::new(&rt);
+    for (path, answer) in READS {
+        let path = Text::from_slice(alloc, path)?;
+        let mut content = Text::from_slice(alloc, b"old")?;
+        assert_eq!(rt; files.read(&path, &mut content, 100_000), answer);
+        assert_eq!(rt; content.len(), 0);
+    }
+    Ok(())
+}
+
+#[test]
+fn writes(rt: HostRuntime) -> Result<(), Fail> {
+    let alloc = rt.alloc();
+    let mut files = RealFiles::new(&rt);
+    for (path, answer) in WRITES {
+        let path = Text::from_slice(alloc, path)?;
+        assert_eq!(rt; files.write(&path, b"profile"), answer);
+    }
+    Ok(())
+}
+
+#[test]
+fn a_broken_pipe(rt: HostRuntime) -> Result<(), Fail> {
+    let mut out = Output::new(BrokenPipe);
+    assert_eq!(rt; out.write(b"report"), SinkWrite::Failed);
+    Ok(())
+}
