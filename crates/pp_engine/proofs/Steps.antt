@@ -1,6 +1,7 @@
 -- What was done, step by step.
 use Rattle.std.proofs.Common.{◌≡◌, ◌++◌, [], ◌∷◌, List, ℕ, Option, Some, None, IfSome, take, drop, length, drop_of_length-le, arith, refl, sym, ap, ◌∙◌, inl, inr}
-use Rattle.std.specs.Prelude.{map, Result, Ok, Err, OnErr}
+use Rattle.std.specs.Prelude.{◌⊎◌, true, map, Result, Ok, Err, OnErr}
+use Rattle.std.proofs.lemmas.Bool.{false≢true}
 use Rattle.std.proofs.lemmas.List.{append-nil, take-append-drop}
 use Rattle.std.proofs.lemmas.List.Concat.{flat_map-append}
 use Rattle.pp_base.specs.FileMap.{FileMap, content_at, with_content}
@@ -9,12 +10,14 @@ use Rattle.pp_base.specs.Told.{extended, extended-extended, extended-nil}
 use Rattle.pp_base.specs.Writes.{PutsFront, PutsSome, PutsWhole}
 use Rattle.pp_base.specs.declared.whole.WriteFault.{WriteFault}
 use Rattle.pp_base.specs.declared.whole.WriteFault.TheVariants as faults
+use Rattle.pp_engine.specs.declared.ending.Cause.{Cause}
+use Rattle.pp_engine.specs.declared.ending.Cause.TheVariants as causes
 use Rattle.pp_engine.specs.declared.load.Loading.{Loading}
 use Rattle.pp_engine.specs.declared.load.Loading.TheVariants.{Ready, Refused, NotBuilt}
 use Rattle.pp_engine.specs.declared.report.Told.{Told}
 use Rattle.pp_engine.specs.Effects.{Effect, ToOut, ToErr, ToFile, out_of, err_of, outs, errs, files_after, Outside, outside, Did, DidFront, IsFrontOf}
 use Rattle.pp_engine.specs.Load.{of_content as load_of}
-use Rattle.pp_engine.specs.Session.{told_run, given, RanFront, of_path, of_loading, of_report}
+use Rattle.pp_engine.specs.Session.{told_run, given, Ended, RanFront, of_path, of_loading, of_report, is_loaded, is_valid}
 use Rattle.pp_engine.specs.Words.{path_of}
 
 -- the first bytes are a front
@@ -132,6 +135,23 @@ ran_front words (Some f) f1 (Some l) (Some i) (Some a) out0 err0 out1 err1 err2 
       did = did_more _ _ _ e.done (ToErr p.0 ∷ []) e.did (did_err out1 err1 err2 f1 p.0 p.2);
       asked = ([], asked-of_path f (path_of words) ∙ ap (λ x. x ++ []) (sym (none_given a)));
     }
+
+loaded_done : (path : List ℕ) (loading : Loading) → is_loaded loading ≡ true → (of_loading path loading).cause ≡ causes.Done
+loaded_done path (Ready l) loaded = refl
+loaded_done path (Refused refusal) loaded = absurd (false≢true loaded)
+loaded_done path NotBuilt loaded = absurd (false≢true loaded)
+
+-- a session whose profile is loaded ends done
+valid_done : (files : FileMap) (path : Option (List ℕ)) → is_valid files path ≡ true → (of_path files path).cause ≡ causes.Done
+valid_done files None valid = absurd (false≢true valid)
+valid_done files (Some path) valid = loaded_done path (load_of (content_at files path)) valid
+
+-- and so a run that did all of it
+pub ran_done : (f : Option FileMap) (path : Option (List ℕ)) (old new : Outside) (cause : Cause) (P Q R S M : Type 0)
+    → ((m : FileMap) → f ≡ Some m → Ended (of_path m path) old new cause)
+    → IfSome f (λ m. is_valid m path ≡ true → P → Q → R → S → (cause ≡ causes.Done) ⊎ M)
+ran_done None path old new cause P Q R S M ended = tt
+ran_done (Some m) path old new cause P Q R S M ended = λ valid p q r s. inl ((ended m refl).ending ∙ valid_done m path valid)
 
 -- whichever line a fault has, if any
 pub for_line : (line : Option (List ℕ)) (P : List ℕ → Type 0) (err1 err2 : Option (List ℕ)) → IfSome line (PutsFront err1 err2)

@@ -55,10 +55,11 @@ is_heavy_tally total tallies k = is_heavy total 5000000 (tally_at tallies k).cum
 abbrev pub numbers_with : List Tally → ℕ → List ℕ
 numbers_with tallies n = filter (has_tally tallies) (range_with_len 0 n)
 
--- those that are heavy, and those that are not
+-- those that are heavy
 abbrev pub heavy_numbers : ℕ → List Tally → ℕ → List ℕ
 heavy_numbers total tallies n = filter (is_heavy_tally total tallies) (numbers_with tallies n)
 
+-- those that are not
 abbrev pub light_numbers : ℕ → List Tally → ℕ → List ℕ
 light_numbers total tallies n = filter (λ k. not (is_heavy_tally total tallies k)) (numbers_with tallies n)
 

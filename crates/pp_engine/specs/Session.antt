@@ -1,5 +1,5 @@
 -- The session: from the words and what the outside holds to effects, an ending and the patterns asked.
-use Rattle.std.specs.Prelude.{◌≡◌, ◌++◌, [], ◌∷◌, List, ℕ, Option, Some, None, length, drop, map}
+use Rattle.std.specs.Prelude.{◌≡◌, ◌++◌, [], ◌∷◌, List, ℕ, Bool, true, false, Option, Some, None, length, drop, map}
 use Rattle.pp_base.specs.FileMap.{FileMap, content_at}
 use Rattle.pp_base.specs.Front.{IsFront}
 use Rattle.pp_base.specs.Judges.{Answer}
@@ -38,6 +38,17 @@ of_loading path NotBuilt = ended_by causes.NotBuilt not_built_line
 abbrev pub of_path : FileMap → Option (List ℕ) → Session
 of_path files None = ended_by causes.NotBuilt not_built_line
 of_path files (Some path) = of_loading path (load_of (content_at files path))
+
+-- a profile was loaded
+abbrev pub is_loaded : Loading → Bool
+is_loaded (Ready l) = true
+is_loaded (Refused refusal) = false
+is_loaded NotBuilt = false
+
+-- The words name a path, and the profile there is loaded.
+abbrev pub is_valid : FileMap → Option (List ℕ) → Bool
+is_valid files None = false
+is_valid files (Some path) = is_loaded (load_of (content_at files path))
 
 -- The session of these words, files, locked paths, standard input and answers of the matcher.
 abbrev pub session : List (List ℕ) → FileMap → List (List ℕ) → List ℕ → List Answer → Session

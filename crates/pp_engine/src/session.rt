@@ -1,11 +1,11 @@
 // The top call: what a run does, from its words to its ending.
-ghost use Rattle.std.specs.Prelude.{◌≡◌, ◌≤◌, ◌⊎◌, Some, None, IfErr, IfOk, OnErr, IfNone, IfSome, IsNone};
+ghost use Rattle.std.specs.Prelude.{◌≡◌, ◌≤◌, ◌⊎◌, true, Some, None, IfErr, IfOk, OnErr, IfNone, IfSome, IsNone};
 ghost use Rattle.pp_base.specs.Fault.{Rose};
 ghost use Rattle.pp_engine.specs.Effects.{outside, DidFront};
 ghost use Rattle.pp_engine.specs.Endings.{StopsAt, fault_line, status_of};
 ghost use Rattle.pp_engine.specs.Ready.{IsReady, IsReportable};
 ghost use Rattle.pp_engine.specs.TopReport.{top_report};
-ghost use Rattle.pp_engine.specs.Session.{Ended, ended_by, of_report, of_loading, of_path, told_run, RanWhole, RanFront};
+ghost use Rattle.pp_engine.specs.Session.{Ended, ended_by, of_report, of_loading, of_path, is_valid, told_run, RanWhole, RanFront};
 ghost use Rattle.pp_engine.specs.Words.{path_of};
 
 use crate::ending::{Cause, Ending, Stop};
@@ -183,6 +183,12 @@ pub fn run<R: Threads + Sync, F: Files, I: Source, O: Sink, E: Sink, M: Matcher,
     ensures complete { ¬ (Rose (F.faults files.old) (F.faults files.new)) → ¬ (Rose (I.faults input.old) (I.faults input.new))
         → ¬ (Rose (O.faults out.old) (O.faults out.new)) → ¬ (Rose (E.faults err.old) (E.faults err.new))
         → IsNone (fault_line result.cause) ⊎ (result.cause ≡ Cause.Memory) }
+
+    // A run whose words name a profile that is loaded then ends done, if memory suffices.
+    ensures valid { IfSome (F.content files.old) (λ m. is_valid m (path_of words.now) ≡ true
+        → ¬ (Rose (F.faults files.old) (F.faults files.new)) → ¬ (Rose (I.faults input.old) (I.faults input.new))
+        → ¬ (Rose (O.faults out.old) (O.faults out.new)) → ¬ (Rose (E.faults err.old) (E.faults err.new))
+        → (result.cause ≡ Cause.Done) ⊎ (result.cause ≡ Cause.Memory)) }
 
     // Words that name no path are not built, whatever the objects tell.
     ensures words { path_of words.now ≡ None → IsNone (fault_line result.cause) → result.cause ≡ Cause.NotBuilt }

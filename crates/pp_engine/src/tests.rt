@@ -193,9 +193,10 @@ fn reports(rt: HostRuntime) -> Result<(), Fail> {
 }
 
 // P0 with its sample's location written so many times: these bytes, the locations, the rest.
-const DEEP_FRONT: &[u8] =
-    b"\x0a\x04\x08\x01\x10\x02\x12\xa7\x8d\x06\x0a\xa0\x8d\x06";
+const DEEP_FRONT: &[u8] = b"\x0a\x04\x08\x01\x10\x02\x12\xa7\x8d\x06\x0a\xa0\x8d\x06";
+
 const DEEP: usize = 100_000;
+
 const DEEP_BACK: &[u8] =
     b"\x12\x01\x01\x22\x06\x08\x01\x22\x02\x08\x01\x2a\x04\x08\x01\x10\x03\x32\x00\x32\x07samples\x32\x05count\x32\x04main";
 
