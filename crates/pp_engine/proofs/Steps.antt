@@ -1,13 +1,14 @@
 -- What was done, step by step.
-use Rattle.std.proofs.Common.{◌≡◌, ◌++◌, [], ◌∷◌, List, ℕ, Option, Some, None, IfSome, take, drop, length, drop_of_length-le, arith, refl, sym, ap, ◌∙◌, inl, inr}
+use Rattle.std.proofs.Common.{◌≡◌, ◌++◌, [], ◌∷◌, List, ℕ, Option, Some, None, IfSome, length, drop_of_length-le, arith, refl, sym, ap, ◌∙◌, inl, inr}
 use Rattle.std.specs.Prelude.{◌⊎◌, true, map, Result, Ok, Err, OnErr}
 use Rattle.std.proofs.lemmas.Bool.{false≢true}
-use Rattle.std.proofs.lemmas.List.{append-nil, take-append-drop}
+use Rattle.std.proofs.lemmas.List.{append-nil}
 use Rattle.std.proofs.lemmas.List.Concat.{flat_map-append}
+use Rattle.pp_base.proofs.CallerLemmas.{some_is_front}
 use Rattle.pp_base.specs.FileMap.{FileMap, content_at, with_content}
 use Rattle.pp_base.specs.Judges.{Answer}
 use Rattle.pp_base.specs.Told.{extended, extended-extended, extended-nil}
-use Rattle.pp_base.specs.Writes.{PutsFront, PutsSome, PutsWhole}
+use Rattle.pp_base.specs.Writes.{PutsFront, PutsWhole}
 use Rattle.pp_base.specs.declared.whole.WriteFault.{WriteFault}
 use Rattle.pp_base.specs.declared.whole.WriteFault.TheVariants as faults
 use Rattle.pp_engine.specs.declared.ending.Cause.{Cause}
@@ -20,18 +21,14 @@ use Rattle.pp_engine.specs.Load.{of_content as load_of}
 use Rattle.pp_engine.specs.Session.{told_run, given, Ended, RanFront, of_path, of_loading, of_report, is_loaded, is_valid}
 use Rattle.pp_engine.specs.Words.{path_of}
 
--- the first bytes are a front
-some_front : (old new : Option (List ℕ)) (bytes : List ℕ) (sent : ℕ) → PutsSome old new bytes sent → PutsFront old new bytes
-some_front old new bytes sent p = (take sent bytes, (drop sent bytes, sym (take-append-drop sent bytes)), p.1)
-
--- and so are all of them
+-- all of the bytes are a front
 pub whole_front : (old new : Option (List ℕ)) (bytes : List ℕ) → new ≡ extended old bytes → PutsFront old new bytes
 whole_front old new bytes e = (bytes, ([], sym (append-nil bytes)), e)
 
 -- after a fault a front is written
 pub fault_front : (old new : Option (List ℕ)) (bytes : List ℕ) (e : WriteFault) → PutsWhole {A = Unit {0}} old new bytes (Err e) → PutsFront old new bytes
-fault_front old new bytes (faults.Failed sent) p = some_front old new bytes sent p
-fault_front old new bytes (faults.Memory sent) p = some_front old new bytes sent p
+fault_front old new bytes (faults.Failed sent) p = some_is_front old new bytes sent p
+fault_front old new bytes (faults.Memory sent) p = some_is_front old new bytes sent p
 
 -- the files after some effects and then others
 files_after-append : (files : Option FileMap) (es fs : List Effect) → files_after files (es ++ fs) ≡ files_after (files_after files es) fs
