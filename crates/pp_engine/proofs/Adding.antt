@@ -12,7 +12,8 @@ use Rattle.pp_model.specs.declared.profile.Sample.{Sample}
 use Rattle.pp_engine.specs.declared.tally.Tally.{Tally}
 use Rattle.pp_engine.proofs.Tallies.{or-true, or-false}
 use Rattle.pp_engine.specs.Sums.{Counted, weighed, sum_where, has, leads, cum, flat}
-use Rattle.pp_engine.specs.Tally.{tally_at, selected, numbers_at, numbered, numbered_all, with_counted, AreNumbersBelow, occurs, IsTallyOf, AreTallies, with_cum, with_sample, absolute}
+use Rattle.pp_engine.specs.Column.{selected}
+use Rattle.pp_engine.specs.Tally.{tally_at, numbers_at, numbered, numbered_all, with_counted, AreNumbersBelow, occurs, IsTallyOf, AreTallies, with_cum, with_sample, absolute}
 
 -- the value of a sample that passes, and 0 of another
 abbrev pub part : {K : Type 0} → (List K → Bool) → Counted K → ℤ

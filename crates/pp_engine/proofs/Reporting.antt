@@ -12,11 +12,10 @@ use Rattle.pp_model.specs.Sizes.{absolute_sum}
 use Rattle.pp_units.specs.declared.head.Head.{Head}
 use Rattle.pp_units.specs.Head.{head_text}
 use Rattle.pp_units.specs.Shown.{shown}
-use Rattle.pp_engine.specs.Column.{absolute_of, is_base, total_of}
+use Rattle.pp_engine.specs.Column.{absolute_of, is_base, total_of, selected}
 use Rattle.pp_engine.specs.Heads.{IsHeadOf}
 use Rattle.pp_engine.specs.Ready.{IsReportable}
 use Rattle.pp_engine.specs.Report.{counted_samples, table_text, column_text}
-use Rattle.pp_engine.specs.Tally.{selected}
 use Rattle.pp_engine.proofs.Buildable.{fails_below}
 use Rattle.pp_engine.proofs.Heads.{head_lines_of}
 

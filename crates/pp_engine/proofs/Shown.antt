@@ -21,7 +21,7 @@ use Rattle.pp_grain.specs.Keys.{key_cmp}
 use Rattle.pp_grain.proofs.CallerLemmas.{key_cmp_total}
 use Rattle.pp_engine.specs.Sums.{Counted, all_keys, cum, flat}
 use Rattle.pp_engine.specs.Tally.{occurs}
-use Rattle.pp_engine.specs.Trim.{is_heavy, is_heavy_key, heavy_keys, report_order, light_count}
+use Rattle.pp_engine.specs.Trim.{least_fraction, is_heavy, is_heavy_key, heavy_keys, report_order, light_count}
 use Rattle.pp_model.specs.declared.config.Sort.TheVariants as sorts
 use Rattle.pp_engine.specs.declared.rank.Row.{Row}
 use Rattle.pp_engine.specs.Ranks.{Entry, row_entry, row_key, row_cmp, size_cmp}
@@ -146,14 +146,14 @@ module _ (f : ℕ → Written) (n : ℕ) (apart : (a b : ℕ) → a < n → b < 
         ∙ sym (list_any-renamed f (eq_by_cmp key_cmp q) (filter hv oc))
 
     -- how many are too light
-    pub light_is : (total : ℕ) (lt : ℕ → Bool) → ((k : ℕ) → lt k ≡ not (is_heavy total 5000000 (cum nat_cmp N k)))
-        → length (filter lt (filter occ (range_with_len 0 n))) ≡ light_count key_cmp total 5000000 S
+    pub light_is : (total : ℕ) (lt : ℕ → Bool) → ((k : ℕ) → lt k ≡ not (is_heavy total least_fraction (cum nat_cmp N k)))
+        → length (filter lt (filter occ (range_with_len 0 n))) ≡ light_count key_cmp total least_fraction S
     light_is total lt lt_is =
         let picked : List ℕ = filter lt (filter occ (range_with_len 0 n)) in
         sym (length-map picked f)
-        ∙ length-from_keys (eq_by_cmp_equiv key_cmp_total) (map f picked) (filter (λ k. not (is_heavy_key key_cmp total 5000000 S k)) (all_keys S))
+        ∙ length-from_keys (eq_by_cmp_equiv key_cmp_total) (map f picked) (filter (λ k. not (is_heavy_key key_cmp total least_fraction S k)) (all_keys S))
         (renamed_distinct picked (picked_below lt) (picked_distinct lt occ n))
-        (λ q. sym (members (λ z. not (is_heavy total 5000000 z)) lt lt_is q))
+        (λ q. sym (members (λ z. not (is_heavy total least_fraction z)) lt lt_is q))
 
 -- what an order says where it says that two tie
 ties : (o : Ordering) → is_eq o ≡ true → o ≡ Equal
@@ -225,8 +225,8 @@ module _ (S : List (Counted Written)) where
   -- sorted rows with distinct keys and the right members are the heavy keys in report order
   pub heavy_are : (total : ℕ) (rows : List Row) → All HasSums (map row_entry rows) → IsSortedBy (λ a b. is_lt (row_cmp a b)) rows
       → IsDistinct (eq_by_cmp key_cmp) (map row_key rows)
-      → ((q : Written) → list_any (eq_by_cmp key_cmp q) (filter (is_heavy_key key_cmp total 5000000 S) (all_keys S)) ≡ list_any (eq_by_cmp key_cmp q) (map row_key rows))
-      → heavy_keys key_cmp sorts.Flat total 5000000 S ≡ map row_key rows
+      → ((q : Written) → list_any (eq_by_cmp key_cmp q) (filter (is_heavy_key key_cmp total least_fraction S) (all_keys S)) ≡ list_any (eq_by_cmp key_cmp q) (map row_key rows))
+      → heavy_keys key_cmp sorts.Flat total least_fraction S ≡ map row_key rows
   heavy_are total rows sums sorted distinct same =
-      ranked report_total report_same (filter (is_heavy_key key_cmp total 5000000 S) (all_keys S)) (map row_key rows) (keys_sorted rows sums sorted) (all_apart (map row_key rows) distinct)
-      (λ q. (λ i. list_any (λ x. report_ties q x i) (filter (is_heavy_key key_cmp total 5000000 S) (all_keys S))) ∙ same q ∙ (λ i. list_any (λ x. sym (report_ties q x) i) (map row_key rows)))
+      ranked report_total report_same (filter (is_heavy_key key_cmp total least_fraction S) (all_keys S)) (map row_key rows) (keys_sorted rows sums sorted) (all_apart (map row_key rows) distinct)
+      (λ q. (λ i. list_any (λ x. report_ties q x i) (filter (is_heavy_key key_cmp total least_fraction S) (all_keys S))) ∙ same q ∙ (λ i. list_any (λ x. sym (report_ties q x) i) (map row_key rows)))

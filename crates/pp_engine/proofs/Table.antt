@@ -26,8 +26,9 @@ use Rattle.pp_grain.proofs.CallerLemmas.{key_cmp_total, same_keys}
 use Rattle.pp_engine.specs.declared.rank.Row.{Row}
 use Rattle.pp_engine.specs.declared.tally.Tally.{Tally}
 use Rattle.pp_engine.specs.Sums.{Counted, weighed}
-use Rattle.pp_engine.specs.Tally.{selected, numbers_at, numbered, numbered_all, occurs, AreTallies, AreNumbersBelow}
-use Rattle.pp_engine.specs.Trim.{is_heavy, heavy_keys, light_count}
+use Rattle.pp_engine.specs.Column.{selected}
+use Rattle.pp_engine.specs.Tally.{numbers_at, numbered, numbered_all, occurs, AreTallies, AreNumbersBelow}
+use Rattle.pp_engine.specs.Trim.{least_fraction, is_heavy, heavy_keys, light_count}
 use Rattle.pp_engine.specs.Rows.{no_key, key_at, written_key, IsRow, AreRows}
 use Rattle.pp_engine.specs.Ranks.{Entry, row_entry, row_key, row_line, entry_of, has_tally, is_heavy_tally, heavy_numbers, light_numbers, IsRanked}
 use Rattle.pp_engine.specs.Report.{counted_of, counted_samples, line_of}
@@ -37,9 +38,9 @@ use Rattle.pp_engine.proofs.Shown.{tied, tied_self, HasSums, members, light_is, 
 
 -- The rows are the lines of the heavy keys, in report order, and so many keys are too light.
 pub record IsTable (samples : List (Counted Written)) (total : ℕ) (rows : List Row) (light : ℕ) : Type 0 where
-  pub lines : map row_line rows ≡ map (line_of samples) (heavy_keys key_cmp sorts.Flat total 5000000 samples)
-  pub candidates : length rows ≡ length (heavy_keys key_cmp sorts.Flat total 5000000 samples)
-  pub too_light : light ≡ light_count key_cmp total 5000000 samples
+  pub lines : map row_line rows ≡ map (line_of samples) (heavy_keys key_cmp sorts.Flat total least_fraction samples)
+  pub candidates : length rows ≡ length (heavy_keys key_cmp sorts.Flat total least_fraction samples)
+  pub too_light : light ≡ light_count key_cmp total least_fraction samples
 
 map-map : {A B C : Type 0} (g : B → C) (h : A → B) (xs : List A) → map g (map h xs) ≡ map (λ x. g (h x)) xs
 map-map g h [] = refl
@@ -152,13 +153,13 @@ module _ (p : Profile) (compact : IsCompact p) (valid : NoRuleFails p) (names : 
           let apart : IsDistinct (eq_by_cmp key_cmp) (map row_key rws) =
           IsDistinct-IsPermutation (eq_by_cmp key_cmp) (λ x y. (eq_by_cmp_equiv key_cmp_total).symm x y) (map f heavy) (map row_key rws) keys
           (renamed_distinct f n names_apart heavy heavy_below (picked_distinct (is_heavy_tally total ts) (has_tally ts) n)) in
-          let listed : heavy_keys key_cmp sorts.Flat total 5000000 S ≡ map row_key rws =
+          let listed : heavy_keys key_cmp sorts.Flat total least_fraction S ≡ map row_key rws =
           heavy_are S total rws sums is.sorted apart
-          (λ q. members f n names_apart M N_below (has_tally ts) occ_is (is_heavy total 5000000) (is_heavy_tally total ts) (λ k. ap (is_heavy total 5000000) (tallied.each k).cum) q
+          (λ q. members f n names_apart M N_below (has_tally ts) occ_is (is_heavy total least_fraction) (is_heavy_tally total ts) (λ k. ap (is_heavy total least_fraction) (tallied.each k).cum) q
           ∙ list_any-IsPermutation (eq_by_cmp key_cmp q) (map f heavy) (map row_key rws) keys) in
           subst (λ (ss : List (Counted Written)). IsTable ss total rws light) same_samples (record {
             lines = lines_same S rws sums ∙ ap (map (line_of S)) (sym listed);
             candidates = sym (length-map rws row_key) ∙ ap length (sym listed);
             too_light = is.too_light ∙ ap (λ m. length (light_numbers total ts m)) tallied.count
-                ∙ light_is f n names_apart M N_below (has_tally ts) occ_is total (λ k. not (is_heavy_tally total ts k)) (λ k. ap (λ z. not (is_heavy total 5000000 z)) (tallied.each k).cum);
+                ∙ light_is f n names_apart M N_below (has_tally ts) occ_is total (λ k. not (is_heavy_tally total ts k)) (λ k. ap (λ z. not (is_heavy total least_fraction z)) (tallied.each k).cum);
           })

@@ -9,7 +9,7 @@ use Rattle.pp_grain.specs.declared.key.Key.{Key}
 use Rattle.pp_units.specs.Shown.{Shown}
 use Rattle.pp_engine.specs.declared.rank.Row.{Row}
 use Rattle.pp_engine.specs.declared.tally.Tally.{Tally}
-use Rattle.pp_engine.specs.Column.{absolute_of}
+use Rattle.pp_engine.specs.Column.{absolute_of, selected}
 use Rattle.pp_engine.specs.Ranks.{row_line, IsRanked}
 use Rattle.pp_engine.specs.Report.{counted_samples, table_text}
 use Rattle.pp_engine.specs.Rows.{AreRows}
@@ -47,7 +47,7 @@ numbered_absolute column rows (s ∷ ss) =
     omega (
       arith,
       sum_by-cons (λ (t : Counted ℕ). nat_abs t.value) (numbered column rows s) (numbered_all column rows ss),
-      sum_by-cons (λ (t : Sample). nat_abs (Rattle.pp_engine.specs.Tally.selected column t)) s ss,
+      sum_by-cons (λ (t : Sample). nat_abs (selected column t)) s ss,
       numbered_absolute column rows ss,
     )
 

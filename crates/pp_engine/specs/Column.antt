@@ -1,11 +1,11 @@
 -- The column that a report shows, the values that it selects, and their total.
-use Rattle.std.specs.Prelude.{ℕ, ◌-◌, ◌==◌, Bool, ◌&&◌, ℤ, nat_abs, List, length, Option, Some, None, if◌then◌else◌, codes, position, bytes_eq}
+use Rattle.std.specs.Prelude.{ℕ, ◌-◌, ◌==◌, Bool, ◌&&◌, ℤ, pos, nat_abs, List, length, Option, Some, None, if◌then◌else◌, codes, position, bytes_eq}
 use Rattle.std.specs.List.{list_any, filter, sum_by}
 use Rattle.pp_model.specs.declared.profile.Label.{Label}
 use Rattle.pp_model.specs.declared.profile.Sample.{Sample}
 use Rattle.pp_model.specs.declared.profile.Profile.{Profile}
 use Rattle.pp_model.specs.Frames.{text_at, text_number}
-use Rattle.pp_engine.specs.Tally.{selected}
+use Rattle.pp_model.specs.Sizes.{value_in}
 
 -- the text of the index
 abbrev pub text_of : Profile → ℤ → List ℕ
@@ -36,13 +36,19 @@ is_base_label p label = bytes_eq (text_of p label.key) (codes "pprof::base") && 
 abbrev pub is_base : Profile → Sample → Bool
 is_base p s = list_any (is_base_label p) s.label
 
+-- the value that a report selects from the sample, and 0 without a column
+abbrev pub selected : Option ℕ → Sample → ℤ
+selected None s = pos 0
+selected (Some column) s = value_in s column
+
 -- the sum of the absolute selected values
 abbrev pub absolute_of : Option ℕ → List Sample → ℕ
 absolute_of column samples = sum_by (λ s. nat_abs (selected column s)) samples
 
--- Total: that of the base's samples, and where it is 0 that of all.
+-- the first, and where it is 0 the second
 abbrev pub total_by : ℕ → ℕ → ℕ
 total_by base all = if base == 0 then all else base
 
+-- Total: the sum over the base's samples, and where it is 0 that over all.
 abbrev pub total_of : Profile → Option ℕ → ℕ
 total_of p column = total_by (absolute_of column (filter (is_base p) p.sample)) (absolute_of column p.sample)

@@ -1,5 +1,6 @@
 pub mod Built
 pub mod Column
+pub mod Counted
 pub mod Effects
 pub mod Endings
 pub mod Heads

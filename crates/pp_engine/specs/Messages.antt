@@ -1,9 +1,10 @@
 -- The lines that tell why a profile is not loaded.
-use Rattle.std.specs.Prelude.{ℕ, List, ◌++◌, codes, decimal}
+use Rattle.std.specs.Prelude.{ℕ, List, ◌++◌, codes}
 use Rattle.pp_wire.specs.declared.fault.WireKind.{WireKind}
 use Rattle.pp_wire.specs.declared.fault.WireKind.TheVariants as kinds
 use Rattle.pp_check.specs.declared.fault.Table.{Table}
 use Rattle.pp_check.specs.declared.fault.Table.TheVariants as tables
+use Rattle.pp_engine.specs.Counted.{counted_text}
 use Rattle.pp_engine.specs.declared.refusal.LoadRefusal.{LoadRefusal}
 use Rattle.pp_engine.specs.declared.refusal.LoadRefusal.TheVariants as refusals
 
@@ -25,10 +26,6 @@ table_text tables.Samples = codes "sample"
 table_text tables.Mappings = codes "mapping"
 table_text tables.Functions = codes "function"
 table_text tables.Locations = codes "location"
-
--- a text and a number after it
-abbrev pub counted_text : List ℕ → ℕ → List ℕ
-counted_text front number = front ++ decimal number
 
 -- why a file is not loaded
 abbrev pub reason_text : LoadRefusal → List ℕ

@@ -14,7 +14,7 @@ use Rattle.pp_engine.specs.declared.tally.Tally.{Tally}
 use Rattle.pp_engine.specs.Rows.{written_key}
 use Rattle.pp_engine.specs.Tally.{tally_at}
 use Rattle.pp_engine.specs.Top.{Line}
-use Rattle.pp_engine.specs.Trim.{is_heavy}
+use Rattle.pp_engine.specs.Trim.{least_fraction, is_heavy}
 use Rattle.pp_grain.specs.Naming.{name_text}
 
 -- what the row's key stands for
@@ -49,7 +49,7 @@ has_tally tallies k = nat_lt 0 (tally_at tallies k).last
 
 -- the key's cum is at least the least fraction of the total
 abbrev pub is_heavy_tally : ℕ → List Tally → ℕ → Bool
-is_heavy_tally total tallies k = is_heavy total 5000000 (tally_at tallies k).cum
+is_heavy_tally total tallies k = is_heavy total least_fraction (tally_at tallies k).cum
 
 -- the key numbers below n that occur
 abbrev pub numbers_with : List Tally → ℕ → List ℕ

@@ -13,10 +13,9 @@ use Rattle.pp_units.specs.Head.{labelled, duration_line, is_slash}
 use Rattle.std.specs.List.{after_last}
 use Rattle.pp_grain.specs.Keys.{key_texts, key_cmp}
 use Rattle.pp_grain.specs.Naming.{name_text}
-use Rattle.pp_engine.specs.Column.{text_of, total_of}
-use Rattle.pp_engine.specs.Tally.{selected}
+use Rattle.pp_engine.specs.Column.{text_of, selected, total_of}
 use Rattle.pp_engine.specs.Sums.{Counted, weighed, cum, flat}
-use Rattle.pp_engine.specs.Trim.{heavy_keys, light_count, shown_keys}
+use Rattle.pp_engine.specs.Trim.{least_fraction, heavy_keys, light_count, shown_keys}
 use Rattle.pp_engine.specs.Top.{Line, top_text}
 
 -- the keys of the sample's frames, leaf first
@@ -55,10 +54,6 @@ head_lines p kind total unit =
     labelled (codes "File: ") (after_last is_slash (first_file p p.mapping))
     ++ labelled (codes "Type: ") (text_of p kind.kind)
     ++ duration_line p.duration_nanos total unit
-
--- the least fraction of the total that a shown key has, in billionths
-abbrev pub least_fraction : ℕ
-least_fraction = 5000000
 
 -- what stands below them, for these samples
 abbrev pub table_text : Shown → ℕ → List (Counted Written) → List ℕ

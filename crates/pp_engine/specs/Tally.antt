@@ -1,16 +1,11 @@
--- What is kept for each key number while samples are added up.
+-- What is kept for each key number while samples are added up. No public clause of the session cites it.
 use Rattle.std.specs.Prelude.{◌≡◌, ℕ, ◌-◌, ◌<◌, ◌≤◌, nat_lt, ◌==◌, ℤ, pos, ◌+ℤ◌, Bool, List, [], length, map, slice_index_or, Option, None, Some, if◌then◌else◌, flat_map, nat_abs, All}
 use Rattle.std.specs.List.{list_any, sum_by}
 use Rattle.std.specs.Ordering.{nat_cmp, int_eq}
 use Rattle.pp_model.specs.declared.profile.Sample.{Sample}
-use Rattle.pp_model.specs.Sizes.{value_in}
+use Rattle.pp_engine.specs.Column.{selected}
 use Rattle.pp_engine.specs.Sums.{Counted, cum, flat, has, leads}
 use Rattle.pp_engine.specs.declared.tally.Tally.{Tally}
-
--- the value that a report selects from the sample, and 0 without a column
-abbrev pub selected : Option ℕ → Sample → ℤ
-selected None s = pos 0
-selected (Some column) s = value_in s column
 
 -- the key numbers of the location with the id
 abbrev pub numbers_at : List (List ℕ) → ℕ → List ℕ

@@ -1,7 +1,8 @@
 -- The text of the top report: the lines of its head, and a line for each key that it shows.
-use Rattle.std.specs.Prelude.{ℕ, ◌==◌, nat_lt, ℤ, pos, ◌+ℤ◌, List, [], ◌∷◌, ◌++◌, length, codes, decimal, if◌then◌else◌}
+use Rattle.std.specs.Prelude.{ℕ, ◌==◌, nat_lt, ℤ, pos, ◌+ℤ◌, List, [], ◌∷◌, ◌++◌, length, codes, if◌then◌else◌}
 use Rattle.pp_units.specs.Shown.{Shown}
 use Rattle.pp_units.specs.Numbers.{value_text, percent_text, right_text}
+use Rattle.pp_engine.specs.Counted.{counted_text}
 
 -- What a line of the report says: the two sums of a key, and its name.
 pub record Line : Type 0 where
@@ -56,11 +57,11 @@ showing_line unit total sum =
 
 -- how many keys are too light to be shown, if any
 abbrev pub dropped_line : ℕ → List ℕ
-dropped_line dropped = if dropped == 0 then [] else codes "Dropped " ++ decimal dropped ++ codes " nodes by nodefraction\n"
+dropped_line dropped = if dropped == 0 then [] else counted_text (codes "Dropped ") dropped ++ codes " nodes by nodefraction\n"
 
 -- so many of so many are shown
 abbrev pub counts_text : ℕ → ℕ → List ℕ
-counts_text shown candidates = (codes "Showing top " ++ decimal shown) ++ (codes " nodes out of " ++ decimal candidates) ++ codes "\n"
+counts_text shown candidates = counted_text (codes "Showing top ") shown ++ counted_text (codes " nodes out of ") candidates ++ codes "\n"
 
 -- how many of the others are shown, where they are not all
 abbrev pub limited_line : ℕ → ℕ → List ℕ

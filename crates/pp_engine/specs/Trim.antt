@@ -7,7 +7,12 @@ use Rattle.std.specs.declared.cmp.Ordering.{Ordering}
 use Rattle.std.specs.FinMap as finite
 use Rattle.pp_model.specs.declared.config.Sort.{Sort}
 use Rattle.pp_model.specs.declared.config.Sort.TheVariants as sorts
+use Rattle.pp_model.specs.Defaults.{defaults}
 use Rattle.pp_engine.specs.Sums.{Counted, all_keys, cum, flat}
+
+-- the least fraction of the total that a shown key has where no option says so, in billionths
+abbrev pub least_fraction : ℕ
+least_fraction = defaults.nodefraction.billionths
 
 -- |cum| is at least this fraction, in billionths, of the total
 abbrev pub is_heavy : ℕ → ℕ → ℤ → Bool

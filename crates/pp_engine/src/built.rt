@@ -4,7 +4,7 @@ ghost use Rattle.std.specs.List.{sum_by, list_all};
 ghost use Rattle.pp_model.specs.Sizes.{value_in};
 ghost use Rattle.pp_engine.specs.Built.{has_no_patterns, has_no_negative, has_sums, are_numbered, has_numbers, are_distinct, is_built};
 
-use crate::column::text_of;
+use crate::column::{text_of, value_in};
 use pp_base::{Memory, Text};
 use pp_model::{Function, Location, Mapping, Profile, Sample};
 use std::alloc::Global;
@@ -77,15 +77,6 @@ fn size_in(sample: &Sample, column: usize) -> u64
     ensures { result ≡ nat_abs (value_in sample.now column) }
 {
     value_in(sample, column).unsigned_abs()
-}
-
-fn value_in(sample: &Sample, column: usize) -> i64
-    ensures { result ≡ value_in sample.now column }
-{
-    match sample.value.as_slice().get(column) {
-        None => 0,
-        Some(value) => *value,
-    }
 }
 
 // An entry of a table with ids.

@@ -2,9 +2,9 @@
 ghost use Rattle.std.specs.Prelude.{◌≡◌, ◌<◌, ◌^◌, length, position, bytes_eq, IfSome};
 ghost use Rattle.std.specs.List.{filter};
 ghost use Rattle.pp_model.specs.Conditions.{IsColumnOf};
-ghost use Rattle.pp_engine.specs.Column.{text_of, default_column, type_named, is_base_label, is_base, total_of, absolute_of};
+ghost use Rattle.pp_model.specs.Sizes.{value_in};
+ghost use Rattle.pp_engine.specs.Column.{text_of, default_column, type_named, selected, is_base_label, is_base, total_of, absolute_of};
 
-use crate::tally::selected;
 use pp_model::{Label, Profile, Sample};
 
 /// The text of the index, and the empty text where there is none.
@@ -54,6 +54,26 @@ fn place_named(p: &Profile, name: &[u8]) -> Option<usize>
         .as_slice()
         .iter()
         .position(|kind| text_of(p, kind.kind) == name)
+}
+
+/// The sample's value of the column, and 0 where it has none.
+pub fn value_in(sample: &Sample, column: usize) -> i64
+    ensures { result ≡ value_in sample.now column }
+{
+    match sample.value.as_slice().get(column) {
+        None => 0,
+        Some(value) => *value,
+    }
+}
+
+/// The value that a report selects, which is 0 where there is no column.
+pub fn selected(sample: &Sample, column: Option<u32>) -> i64
+    ensures { result ≡ selected column sample.now }
+{
+    match column {
+        None => 0,
+        Some(column) => value_in(sample, column as usize),
+    }
 }
 
 /// Total: the sum of the absolute selected values of the base's samples, and where it is 0 that of all.

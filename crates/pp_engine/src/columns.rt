@@ -1,10 +1,10 @@
 // The columns of a line of the top report, and the lines above its table.
-ghost use Rattle.std.specs.Prelude.{◌≡◌, ◌++◌, ◌<◌, ◌^◌, pos, codes, decimal, IfOk};
+ghost use Rattle.std.specs.Prelude.{◌≡◌, ◌++◌, ◌<◌, ◌^◌, pos, codes, IfOk};
 ghost use Rattle.pp_units.specs.Shown.{shown};
 ghost use Rattle.pp_units.specs.Numbers.{value_text};
 ghost use Rattle.pp_engine.specs.Top.{value_column, percent_column, pair_text, between_text, columns_text, showing_line, dropped_line, counts_text, limited_line};
 
-use itoa::Buffer;
+use crate::counted::put_counted;
 use pp_base::{Memory, Text};
 use pp_units::{Small, Unit, put_right, put_value, write_percent};
 
@@ -112,15 +112,6 @@ fn put_framed(
     out.extend(back)
 }
 
-// A number after a text.
-fn put_number(front: &[u8], number: u64, out: &mut Text) -> Result<(), Memory>
-    ensures { IfOk result (λ _. out.new ≡ out.old ++ (front.now ++ decimal number)) }
-{
-    let mut digits = Buffer::new();
-    out.extend(front)?;
-    out.extend(digits.format(number).as_bytes())
-}
-
 /// How many keys are too light to be shown, if any.
 pub fn put_dropped(dropped: u64, out: &mut Text) -> Result<(), Memory>
     ensures { IfOk result (λ _. out.new ≡ out.old ++ dropped_line dropped) }
@@ -128,7 +119,7 @@ pub fn put_dropped(dropped: u64, out: &mut Text) -> Result<(), Memory>
     if dropped == 0 {
         return Ok(());
     }
-    put_number(b"Dropped ", dropped, out)?;
+    put_counted(b"Dropped ", dropped, out)?;
     out.extend(b" nodes by nodefraction\n")
 }
 
@@ -145,7 +136,7 @@ pub fn put_limited(shown: u64, candidates: u64, out: &mut Text) -> Result<(), Me
 fn put_counts(shown: u64, candidates: u64, out: &mut Text) -> Result<(), Memory>
     ensures { IfOk result (λ _. out.new ≡ out.old ++ counts_text shown candidates) }
 {
-    put_number(b"Showing top ", shown, out)?;
-    put_number(b" nodes out of ", candidates, out)?;
+    put_counted(b"Showing top ", shown, out)?;
+    put_counted(b" nodes out of ", candidates, out)?;
     out.extend(b"\n")
 }

@@ -4,6 +4,7 @@
 mod built;
 mod column;
 mod columns;
+mod counted;
 mod ending;
 mod lines;
 mod load;

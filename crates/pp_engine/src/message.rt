@@ -1,9 +1,10 @@
 // The lines that tell why a profile is not loaded.
 ghost use Rattle.std.specs.Prelude.{◌≡◌, ◌++◌, codes, IfOk};
-ghost use Rattle.pp_engine.specs.Messages.{kind_text, table_text, reason_text, refusal_line, counted_text};
+ghost use Rattle.pp_engine.specs.Counted.{counted_text};
+ghost use Rattle.pp_engine.specs.Messages.{kind_text, table_text, reason_text, refusal_line};
 
+use crate::counted::put_counted;
 use crate::refusal::LoadRefusal;
-use itoa::Buffer;
 use pp_base::{Memory, Text};
 use pp_check::{Table, TableFault};
 use pp_wire::{WireFault, WireKind};
@@ -91,12 +92,4 @@ fn table_text(table: Table) -> &'static [u8]
         Table::Functions => b"function",
         Table::Locations => b"location",
     }
-}
-
-fn put_counted(front: &[u8], number: u64, line: &mut Text) -> Result<(), Memory>
-    ensures { IfOk result (λ _. line.new ≡ line.old ++ counted_text front.now number) }
-{
-    let mut digits = Buffer::new();
-    line.extend(front)?;
-    line.extend(digits.format(number).as_bytes())
 }

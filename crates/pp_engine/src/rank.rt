@@ -1,7 +1,7 @@
 // Which keys a report shows, in report order.
 ghost use Rattle.std.specs.Prelude.{◌≡◌, ◌<◌, ◌^◌, length, All, IfOk};
 ghost use Rattle.pp_grain.specs.Keys.{IsKeyOf};
-ghost use Rattle.pp_engine.specs.Trim.{is_heavy};
+ghost use Rattle.pp_engine.specs.Trim.{is_heavy, least_fraction};
 ghost use Rattle.pp_grain.specs.Keys.{key_written};
 ghost use Rattle.pp_engine.specs.Ranks.{row_cmp, row_entry, Collected, IsRanked};
 
@@ -93,7 +93,7 @@ fn row_of<'a>(p: &'a Profile, key: Key, tally: &Tally) -> Row<'a>
 // Whether a cum is at least the least fraction of the total.
 fn is_heavy(total: u64, tally: &Tally) -> bool
     requires { total < 2 ^ 63 }
-    ensures { result ≡ is_heavy total 5000000 tally.now.cum }
+    ensures { result ≡ is_heavy total least_fraction tally.now.cum }
 {
     u128::from(total) * LEAST_FRACTION <= u128::from(tally.cum.unsigned_abs()) * BILLION
 }

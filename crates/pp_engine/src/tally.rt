@@ -1,8 +1,10 @@
 // Sums over the samples, by key number.
 ghost use Rattle.std.specs.Prelude.{◌≡◌, ◌≢◌, ℕ, ◌+◌, ◌+ℤ◌, ◌<◌, ◌≤◌, ◌^◌, nat_abs, length, All, IfOk, flat_map};
 ghost use Rattle.pp_engine.specs.Sums.{weighed};
-ghost use Rattle.pp_engine.specs.Tally.{tally_at, selected, numbers_at, numbered, numbered_all, no_tally, with_counted, seen, with_cum, with_flat, with_sample, absolute, AreNumbersBelow, AreTallies};
+ghost use Rattle.pp_engine.specs.Column.{selected};
+ghost use Rattle.pp_engine.specs.Tally.{tally_at, numbers_at, numbered, numbered_all, no_tally, with_counted, seen, with_cum, with_flat, with_sample, absolute, AreNumbersBelow, AreTallies};
 
+use crate::column::selected;
 use pp_base::{List, Memory};
 use pp_model::Sample;
 use std::alloc::Global;
@@ -90,19 +92,6 @@ fn gather(keys: &mut Vec<u64>, rows: &[List<u64>], ids: &[u64]) -> Result<(), Me
         keys.extend_from_slice(rows[*id as usize - 1].as_slice())?;
     }
     Ok(())
-}
-
-// The value that a report selects, which is 0 where there is no column.
-pub fn selected(sample: &Sample, column: Option<u32>) -> i64
-    ensures { result ≡ selected column sample.now }
-{
-    match column {
-        None => 0,
-        Some(column) => match sample.value.as_slice().get(column as usize) {
-            None => 0,
-            Some(value) => *value,
-        },
-    }
 }
 
 // Adds one sample, whose number is above those of the samples before it, if its value isn't 0.

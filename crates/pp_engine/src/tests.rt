@@ -1,10 +1,11 @@
 // The worked rows of the top report: what goes out, what is told, and the status.
+ghost use Rattle.std.specs.Prelude.{None};
 
 use crate::fixtures::{P0, P1, P5};
 use crate::{Cause, Ending, run};
 use pp_base::{
-    CalmFiles, CalmSink, CalmSource, Files, List, Literal, MemFiles, MemSink, Memory, OpenGate,
-    Sink, Text,
+    CalmFiles, CalmSink, CalmSource, FileRead, FileWrite, Files, List, Literal, MemFiles, MemSink,
+    Memory, OpenGate, Sink, Text,
 };
 use std::alloc::Global;
 use std::process::Abort;
@@ -17,7 +18,7 @@ const P0_TOP: &[u8] =
 const P1_TOP: &[u8] =
     b"Type: cpu\nShowing nodes accounting for 60ms, 100.00% of 60ms total\n      flat    flat%     sum%        cum     cum%\n      40ms   66.67%   66.67%       40ms   66.67%  leaf\n      20ms   33.33%  100.00%       50ms   83.33%  work\n         0    0.00%  100.00%       60ms  100.00%  main\n";
 
-const REPORTS: [(&[u8], &[u8]); 6] = [
+const REPORTS: [(&[u8], &[u8]); 13] = [
     (P0, P0_TOP),
     (P1, P1_TOP),
     (
@@ -33,6 +34,41 @@ const REPORTS: [(&[u8], &[u8]); 6] = [
     (
         b"\x0a\x04\x08\x01\x10\x02\x32\x00\x32\x07\x73\x61\x6d\x70\x6c\x65\x73\x32\x05\x63\x6f\x75\x6e\x74",
         b"Type: samples\nShowing nodes accounting for 0, 0% of 0 total\n      flat    flat%     sum%        cum     cum%\n",
+    ),
+    // a recursive function
+    (
+        b"\x0a\x04\x08\x01\x10\x02\x12\x09\x0a\x04\x01\x01\x02\x01\x12\x01\x05\x22\x08\x08\x01\x22\x04\x08\x01\x10\x01\x22\x08\x08\x02\x22\x04\x08\x02\x10\x02\x2a\x06\x08\x01\x10\x03\x20\x04\x2a\x06\x08\x02\x10\x05\x20\x06\x32\x00\x32\x07\x73\x61\x6d\x70\x6c\x65\x73\x32\x05\x63\x6f\x75\x6e\x74\x32\x01\x66\x32\x03\x66\x2e\x63\x32\x01\x67\x32\x03\x67\x2e\x63",
+        b"Type: samples\nShowing nodes accounting for 5, 100.00% of 5 total\n      flat    flat%     sum%        cum     cum%\n         5  100.00%  100.00%          5  100.00%  f\n         0    0.00%  100.00%          5  100.00%  g\n",
+    ),
+    // a key of exactly the least fraction
+    (
+        b"\x0a\x04\x08\x01\x10\x02\x12\x09\x0a\x03\x01\x02\x03\x12\x02\xc7\x01\x12\x06\x0a\x01\x04\x12\x01\x01\x22\x08\x08\x01\x22\x04\x08\x01\x10\x03\x22\x08\x08\x02\x22\x04\x08\x02\x10\x02\x22\x08\x08\x03\x22\x04\x08\x03\x10\x01\x22\x08\x08\x04\x22\x04\x08\x04\x10\x04\x2a\x06\x08\x01\x10\x03\x20\x04\x2a\x06\x08\x02\x10\x05\x20\x06\x2a\x06\x08\x03\x10\x07\x20\x08\x2a\x06\x08\x04\x10\x09\x20\x0a\x32\x00\x32\x07\x73\x61\x6d\x70\x6c\x65\x73\x32\x05\x63\x6f\x75\x6e\x74\x32\x01\x63\x32\x03\x63\x2e\x63\x32\x01\x62\x32\x03\x62\x2e\x63\x32\x01\x61\x32\x03\x61\x2e\x63\x32\x01\x64\x32\x03\x64\x2e\x63",
+        b"Type: samples\nShowing nodes accounting for 200, 100.00% of 200 total\n      flat    flat%     sum%        cum     cum%\n       199   99.50%   99.50%        199   99.50%  c\n         1    0.50%  100.00%          1    0.50%  d\n         0    0.00%  100.00%        199   99.50%  a\n         0    0.00%  100.00%        199   99.50%  b\n",
+    ),
+    // one below it
+    (
+        b"\x0a\x04\x08\x01\x10\x02\x12\x09\x0a\x03\x01\x02\x03\x12\x02\xc8\x01\x12\x06\x0a\x01\x04\x12\x01\x01\x22\x08\x08\x01\x22\x04\x08\x01\x10\x03\x22\x08\x08\x02\x22\x04\x08\x02\x10\x02\x22\x08\x08\x03\x22\x04\x08\x03\x10\x01\x22\x08\x08\x04\x22\x04\x08\x04\x10\x04\x2a\x06\x08\x01\x10\x03\x20\x04\x2a\x06\x08\x02\x10\x05\x20\x06\x2a\x06\x08\x03\x10\x07\x20\x08\x2a\x06\x08\x04\x10\x09\x20\x0a\x32\x00\x32\x07\x73\x61\x6d\x70\x6c\x65\x73\x32\x05\x63\x6f\x75\x6e\x74\x32\x01\x63\x32\x03\x63\x2e\x63\x32\x01\x62\x32\x03\x62\x2e\x63\x32\x01\x61\x32\x03\x61\x2e\x63\x32\x01\x64\x32\x03\x64\x2e\x63",
+        b"Type: samples\nShowing nodes accounting for 200, 99.50% of 201 total\nDropped 1 nodes by nodefraction\n      flat    flat%     sum%        cum     cum%\n       200   99.50%   99.50%        200   99.50%  c\n         0    0.00%   99.50%        200   99.50%  a\n         0    0.00%   99.50%        200   99.50%  b\n",
+    ),
+    // the largest value
+    (
+        b"\x0a\x04\x08\x01\x10\x02\x12\x0e\x0a\x01\x01\x12\x09\xff\xff\xff\xff\xff\xff\xff\xff\x7f\x22\x08\x08\x01\x22\x04\x08\x01\x10\x01\x2a\x06\x08\x01\x10\x03\x20\x04\x32\x00\x32\x07\x73\x61\x6d\x70\x6c\x65\x73\x32\x05\x63\x6f\x75\x6e\x74\x32\x01\x66\x32\x03\x66\x2e\x63",
+        b"Type: samples\nShowing nodes accounting for 9223372036854775807, 100.00% of 9223372036854775807 total\n      flat    flat%     sum%        cum     cum%\n9223372036854775807  100.00%  100.00% 9223372036854775807  100.00%  f\n",
+    ),
+    // a sample of a base, whose value is the total
+    (
+        b"\x0a\x04\x08\x01\x10\x02\x12\x06\x0a\x01\x01\x12\x01\x3c\x12\x0c\x0a\x01\x02\x12\x01\x28\x1a\x04\x08\x03\x10\x04\x22\x08\x08\x01\x22\x04\x08\x01\x10\x02\x22\x08\x08\x02\x22\x04\x08\x02\x10\x01\x2a\x06\x08\x01\x10\x05\x20\x06\x2a\x06\x08\x02\x10\x07\x20\x08\x32\x00\x32\x07\x73\x61\x6d\x70\x6c\x65\x73\x32\x05\x63\x6f\x75\x6e\x74\x32\x0b\x70\x70\x72\x6f\x66\x3a\x3a\x62\x61\x73\x65\x32\x04\x74\x72\x75\x65\x32\x01\x67\x32\x03\x67\x2e\x63\x32\x01\x66\x32\x03\x66\x2e\x63",
+        b"Type: samples\nShowing nodes accounting for 100, 250.00% of 40 total\n      flat    flat%     sum%        cum     cum%\n        60  150.00%  150.00%         60  150.00%  g\n        40  100.00%  250.00%         40  100.00%  f\n",
+    ),
+    // a document address
+    (
+        b"\x0a\x04\x08\x01\x10\x02\x12\x06\x0a\x01\x01\x12\x01\x01\x22\x06\x08\x01\x22\x02\x08\x01\x2a\x04\x08\x01\x10\x03\x32\x00\x32\x07\x73\x61\x6d\x70\x6c\x65\x73\x32\x05\x63\x6f\x75\x6e\x74\x32\x04\x6d\x61\x69\x6e\x78\x03",
+        P0_TOP,
+    ),
+    // a default sample type
+    (
+        b"\x0a\x04\x08\x01\x10\x02\x0a\x04\x08\x03\x10\x04\x12\x12\x0a\x03\x01\x02\x03\x12\x05\x03\x80\x87\xa7\x0e\x1a\x04\x08\x0b\x10\x0c\x12\x11\x0a\x02\x04\x03\x12\x05\x02\x80\xda\xc4\x09\x1a\x04\x08\x0b\x10\x0d\x12\x14\x0a\x02\x01\x05\x12\x05\x01\x80\xad\xe2\x04\x1a\x07\x08\x0e\x18\x80\x08\x20\x0e\x22\x08\x08\x01\x22\x04\x08\x01\x10\x0a\x22\x08\x08\x02\x22\x04\x08\x02\x10\x14\x22\x08\x08\x03\x22\x04\x08\x03\x10\x1e\x22\x08\x08\x04\x22\x04\x08\x02\x10\x15\x22\x08\x08\x05\x22\x04\x08\x03\x10\x1f\x2a\x06\x08\x01\x10\x05\x20\x06\x2a\x06\x08\x02\x10\x07\x20\x08\x2a\x06\x08\x03\x10\x09\x20\x0a\x32\x00\x32\x07\x73\x61\x6d\x70\x6c\x65\x73\x32\x05\x63\x6f\x75\x6e\x74\x32\x03\x63\x70\x75\x32\x0b\x6e\x61\x6e\x6f\x73\x65\x63\x6f\x6e\x64\x73\x32\x04\x6c\x65\x61\x66\x32\x06\x6c\x65\x61\x66\x2e\x63\x32\x04\x77\x6f\x72\x6b\x32\x06\x77\x6f\x72\x6b\x2e\x63\x32\x04\x6d\x61\x69\x6e\x32\x06\x6d\x61\x69\x6e\x2e\x63\x32\x06\x74\x68\x72\x65\x61\x64\x32\x01\x61\x32\x01\x62\x32\x05\x62\x79\x74\x65\x73\x70\x01",
+        b"Type: samples\nShowing nodes accounting for 6, 100.00% of 6 total\n      flat    flat%     sum%        cum     cum%\n         4   66.67%   66.67%          4   66.67%  leaf\n         2   33.33%  100.00%          5   83.33%  work\n         0    0.00%  100.00%          6  100.00%  main\n",
     ),
     // an unknown field
     (
@@ -157,7 +193,25 @@ fn run_over<R: Threads + Sync, F: Files, O: Sink, E: Sink>(
     )
 }
 
-// Runs over one file, and looks at both outputs and the status.
+// Runs over these files, and looks at both outputs and the status.
+fn runs_over<R: Threads + Sync + Abort, F: Files>(
+    rt: &R,
+    alloc: Global,
+    words: &[&[u8]],
+    files: &mut F,
+    wanted: (&[u8], &[u8], u8),
+) -> Result<(), Fail> {
+    let words = words_of(alloc, words)?;
+    let mut out = CalmSink::new(alloc, 16);
+    let mut err = CalmSink::new(alloc, 16);
+    let ending = run_over(rt, alloc, &words, files, &mut out, &mut err);
+    assert_eq!(rt; out.bytes().as_slice(), wanted.0);
+    assert_eq!(rt; err.bytes().as_slice(), wanted.1);
+    assert_eq!(rt; ending.status, wanted.2);
+    Ok(())
+}
+
+// Runs over one file.
 fn runs<R: Threads + Sync + Abort>(
     rt: &R,
     alloc: Global,
@@ -166,15 +220,8 @@ fn runs<R: Threads + Sync + Abort>(
     bytes: &[u8],
     wanted: (&[u8], &[u8], u8),
 ) -> Result<(), Fail> {
-    let words = words_of(alloc, words)?;
     let mut files = CalmFiles::new(alloc, entries_of(alloc, path, bytes)?, List::new(alloc));
-    let mut out = CalmSink::new(alloc, 16);
-    let mut err = CalmSink::new(alloc, 16);
-    let ending = run_over(rt, alloc, &words, &mut files, &mut out, &mut err);
-    assert_eq!(rt; out.bytes().as_slice(), wanted.0);
-    assert_eq!(rt; err.bytes().as_slice(), wanted.1);
-    assert_eq!(rt; ending.status, wanted.2);
-    Ok(())
+    runs_over(rt, alloc, words, &mut files, wanted)
 }
 
 #[test]
@@ -261,6 +308,38 @@ fn refusals(rt: HostRuntime) -> Result<(), Fail> {
     )
 }
 
+// Files that are all too long.
+#[derive(Drop)]
+struct LongFiles;
+
+impl Files for LongFiles {
+    ghost content = { λ _. None };
+
+    ghost locked = { λ _. None };
+
+    ghost faults = { λ _. 0 };
+
+    fn read(&mut self, _path: &Text, into: &mut Text, _limit: u64) -> FileRead {
+        into.clear();
+        FileRead::TooLong
+    }
+
+    fn write(&mut self, _path: &Text, _bytes: &[u8]) -> FileWrite {
+        FileWrite::Locked
+    }
+}
+
+#[test]
+fn a_file_is_too_long(rt: HostRuntime) -> Result<(), Fail> {
+    runs_over(
+        &rt,
+        rt.alloc(),
+        &[b"-top", b"d"],
+        &mut LongFiles,
+        (b"", b"pprof: d: longer than 268435456 bytes\n", 1),
+    )
+}
+
 // Runs over P1, where the calls of these numbers fail.
 fn fails<R: Threads + Sync + Abort>(
     rt: &R,
@@ -283,6 +362,7 @@ fn fails<R: Threads + Sync + Abort>(
     assert_eq!(rt; out.bytes().len(), wanted.0);
     assert_eq!(rt; err.bytes().as_slice(), wanted.1);
     assert_eq!(rt; ending.cause, wanted.2);
+    assert_eq!(rt; ending.status, 3);
     Ok(())
 }
 
@@ -313,16 +393,30 @@ fn each_write_fails(rt: HostRuntime) -> Result<(), Fail> {
     Ok(())
 }
 
-// Nothing can be told where standard error fails.
-#[test]
-fn standard_error_fails(rt: HostRuntime) -> Result<(), Fail> {
-    let alloc = rt.alloc();
-    let words = words_of(alloc, &[b"-top"])?;
+const NO_SUCH_FILE: &[u8] = b"pprof: p: no such file\n";
+
+// Where standard error fails in the line of a refusal, nothing more is told.
+fn standard_error_fails_at<R: Threads + Sync + Abort>(
+    rt: &R,
+    alloc: Global,
+    number: u32,
+) -> Result<(), Fail> {
+    let words = words_of(alloc, &[b"-top", b"p"])?;
     let mut files = CalmFiles::new(alloc, List::new(alloc), List::new(alloc));
     let mut out = CalmSink::new(alloc, 16);
-    let mut err = MemSink::new(alloc, 16, numbers_of(alloc, &[0])?);
-    let ending = run_over(&rt, alloc, &words, &mut files, &mut out, &mut err);
+    let mut err = MemSink::new(alloc, 8, numbers_of(alloc, &[number])?);
+    let ending = run_over(rt, alloc, &words, &mut files, &mut out, &mut err);
     assert_eq!(rt; ending.cause, Cause::ErrFault);
-    assert_eq!(rt; err.bytes().len(), 0);
+    assert_eq!(rt; ending.status, 3);
+    assert!(rt; NO_SUCH_FILE.starts_with(err.bytes().as_slice()));
+    assert_eq!(rt; err.bytes().len(), number as usize * 8);
+    Ok(())
+}
+
+#[test]
+fn standard_error_fails(rt: HostRuntime) -> Result<(), Fail> {
+    for number in 0u32..3 {
+        standard_error_fails_at(&rt, rt.alloc(), number)?;
+    }
     Ok(())
 }
