@@ -47,7 +47,8 @@ fn type_named(p: &Profile, name: &[u8]) -> Option<u32>
 }
 
 fn place_named(p: &Profile, name: &[u8]) -> Option<usize>
-    ensures value { result ≡ position (λ t. bytes_eq (text_of p.now t.kind) name.now) p.now.sample_type }
+    ensures value { result
+        ≡ position (λ t. bytes_eq (text_of p.now t.kind) name.now) p.now.sample_type }
     ensures bound { IfSome result (λ place. place < length p.now.sample_type) }
 {
     p.sample_type

@@ -90,7 +90,8 @@ impl Measure {
     fn put_total(&self, out: &mut Text) -> Result<(), Memory>
         requires { self.now.total < 2 ^ 63 }
         ensures { IfOk result (λ _.
-            out.new ≡ out.old ++ (codes " of " ++ value_text (pos self.now.total) (shown self.now.unit) ++ codes " total\n")) }
+            out.new ≡ out.old ++ (codes " of "
+            ++ value_text (pos self.now.total) (shown self.now.unit) ++ codes " total\n")) }
     {
         put_framed(b" of ", self.total as i64, &self.unit, b" total\n", out)
     }

@@ -31,6 +31,7 @@ pub enum Cause {
 pub struct Ending {
     /// 0 where all was done, 1 for a refusal, 3 for a fault of the outside, 4 for want of memory.
     pub status: u8,
+    /// Why the run ended.
     pub cause: Cause,
 }
 
@@ -53,10 +54,15 @@ impl Ending {
 /// What stops a run on its way: the object that failed, or want of memory.
 #[derive(Clone, Copy, Debug, PartialEq, Eq)]
 pub enum Stop {
+    /// A file failed.
     File,
+    /// Standard input failed.
     Input,
+    /// Standard output failed.
     Out,
+    /// Standard error failed.
     Err,
+    /// Want of memory.
     Memory,
 }
 

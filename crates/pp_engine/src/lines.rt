@@ -24,7 +24,8 @@ pub fn put_ranking(
 ) -> Result<(), Memory>
     requires total { measure.now.total < 2 ^ 63 }
     requires fits { sum_by (λ r. nat_abs r.flat) ranking.now.rows.items < 2 ^ 63 }
-    ensures { IfOk result (λ _. out.new ≡ out.old ++ top_text (shown measure.now.unit) measure.now.total ranking.now.light
+    ensures { IfOk result (λ _. out.new ≡ out.old
+        ++ top_text (shown measure.now.unit) measure.now.total ranking.now.light
         (length ranking.now.rows.items) (map row_line ranking.now.rows.items)) }
 {
     put_summary(measure, ranking, out)?;
@@ -35,7 +36,8 @@ pub fn put_ranking(
 fn put_summary(measure: &Measure, ranking: &Ranking, out: &mut Text) -> Result<(), Memory>
     requires total { measure.now.total < 2 ^ 63 }
     requires fits { sum_by (λ r. nat_abs r.flat) ranking.now.rows.items < 2 ^ 63 }
-    ensures { IfOk result (λ _. out.new ≡ out.old ++ summary_text (shown measure.now.unit) measure.now.total ranking.now.light
+    ensures { IfOk result (λ _. out.new ≡ out.old
+        ++ summary_text (shown measure.now.unit) measure.now.total ranking.now.light
         (length ranking.now.rows.items) (map row_line ranking.now.rows.items)) }
 {
     let rows: &[Row] = &ranking.rows;
@@ -58,8 +60,8 @@ fn flat_sum(rows: &[Row]) -> i64
 
 fn put_rows(alloc: Global, measure: &Measure, rows: &[Row], out: &mut Text) -> Result<(), Memory>
     requires { sum_by (λ r. nat_abs r.flat) rows.now < 2 ^ 63 }
-    ensures { IfOk result (λ _. out.new
-        ≡ out.old ++ lines_text (shown measure.now.unit) measure.now.total (pos 0) (map row_line rows.now)) }
+    ensures { IfOk result (λ _. out.new ≡ out.old
+        ++ lines_text (shown measure.now.unit) measure.now.total (pos 0) (map row_line rows.now)) }
 {
     let mut scratch = Text::new(alloc);
     let mut sum = 0;
@@ -78,8 +80,8 @@ fn put_row(
     scratch: &mut Text,
     out: &mut Text,
 ) -> Result<(), Memory>
-    ensures { IfOk result (λ _. out.new
-        ≡ out.old ++ line_text (shown measure.now.unit) measure.now.total sum (row_line row.now)) }
+    ensures { IfOk result (λ _. out.new ≡ out.old
+        ++ line_text (shown measure.now.unit) measure.now.total sum (row_line row.now)) }
 {
     measure.put_columns(row.flat, sum, row.cum, scratch, out)?;
     put_name(row, out)

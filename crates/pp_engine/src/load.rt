@@ -38,7 +38,8 @@ pub fn load<F: Files>(alloc: Global, path: &Text, files: &mut F) -> Result<Loadi
     ensures ready { IfOk result IsReady }
     ensures same { F.content files.new ≡ F.content files.old }
     ensures later { F.faults files.old ≤ F.faults files.new }
-    ensures stop { IfErr result (λ s. StopsAt s (Rose (F.faults files.old) (F.faults files.new)) ⊥ ⊥ ⊥) }
+    ensures stop { IfErr result
+        (λ s. StopsAt s (Rose (F.faults files.old) (F.faults files.new)) ⊥ ⊥ ⊥) }
 {
     let mut content = Text::new(alloc);
     match files.read(path, &mut content, FILE_LIMIT) {

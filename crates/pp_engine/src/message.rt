@@ -22,7 +22,8 @@ pub fn refusal_line(alloc: Global, path: &Text, refusal: LoadRefusal) -> Result<
 }
 
 fn put_path(path: &Text, line: &mut Text) -> Result<(), Memory>
-    ensures { IfOk result (λ _. line.new ≡ line.old ++ (codes "pprof: " ++ path.now ++ codes ": ")) }
+    ensures { IfOk result (λ _.
+        line.new ≡ line.old ++ (codes "pprof: " ++ path.now ++ codes ": ")) }
 {
     line.extend(b"pprof: ")?;
     line.extend(path.as_slice())?;
@@ -64,7 +65,8 @@ fn kind_text(kind: WireKind) -> &'static [u8]
 
 fn put_table_fault(fault: TableFault, line: &mut Text) -> Result<(), Memory>
     ensures { IfOk result (λ _. line.new ≡ line.old
-        ++ (counted_text (codes "rule ") fault.rule ++ codes " fails at " ++ counted_text (table_text fault.table ++ codes " ") fault.index)) }
+        ++ (counted_text (codes "rule ") fault.rule ++ codes " fails at "
+        ++ counted_text (table_text fault.table ++ codes " ") fault.index)) }
 {
     put_counted(b"rule ", u64::from(fault.rule), line)?;
     line.extend(b" fails at ")?;

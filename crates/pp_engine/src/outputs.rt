@@ -13,7 +13,8 @@ pub fn tell<E: Sink>(err: &mut E, bytes: &[u8]) -> Result<(), Stop>
     ensures ok { OnOk result (E.written err.new ≡ extended (E.written err.old) bytes.now) }
     ensures err { OnErr result (PutsFront (E.written err.old) (E.written err.new) bytes.now) }
     ensures later { E.faults err.old ≤ E.faults err.new }
-    ensures stop { IfErr result (λ s. StopsAt s ⊥ ⊥ ⊥ (Rose (E.faults err.old) (E.faults err.new))) }
+    ensures stop { IfErr result
+        (λ s. StopsAt s ⊥ ⊥ ⊥ (Rose (E.faults err.old) (E.faults err.new))) }
 {
     match write_all(err, bytes) {
         Ok(()) => Ok(()),
@@ -27,7 +28,8 @@ pub fn show<O: Sink>(out: &mut O, bytes: &[u8]) -> Result<(), Stop>
     ensures ok { OnOk result (O.written out.new ≡ extended (O.written out.old) bytes.now) }
     ensures err { OnErr result (PutsFront (O.written out.old) (O.written out.new) bytes.now) }
     ensures later { O.faults out.old ≤ O.faults out.new }
-    ensures stop { IfErr result (λ s. StopsAt s ⊥ ⊥ (Rose (O.faults out.old) (O.faults out.new)) ⊥) }
+    ensures stop { IfErr result
+        (λ s. StopsAt s ⊥ ⊥ (Rose (O.faults out.old) (O.faults out.new)) ⊥) }
 {
     match write_all(out, bytes) {
         Ok(()) => Ok(()),
@@ -38,7 +40,8 @@ pub fn show<O: Sink>(out: &mut O, bytes: &[u8]) -> Result<(), Stop>
 
 /// Tells of what stopped a run, as far as standard error takes it. Of its own fault nothing is told.
 pub fn tell_stop<E: Sink>(err: &mut E, stop: Stop)
-    ensures told { IfSome (fault_line (cause_of stop)) (PutsFront (E.written err.old) (E.written err.new)) }
+    ensures told { IfSome (fault_line (cause_of stop))
+        (PutsFront (E.written err.old) (E.written err.new)) }
     ensures later { E.faults err.old ≤ E.faults err.new }
 {
     match stop {

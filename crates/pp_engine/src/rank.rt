@@ -20,8 +20,11 @@ const BILLION: u128 = 1_000_000_000;
 /// A key that occurs, with its sums.
 #[derive(Clone, Copy, Debug)]
 pub struct Row<'a> {
+    /// What the key stands for.
     pub texts: KeyTexts<'a>,
+    /// The sum over the samples whose leaf has the key.
     pub flat: i64,
+    /// The sum over the samples that have the key, each sample once.
     pub cum: i64,
 }
 
@@ -43,7 +46,8 @@ pub fn rank<'a>(
     requires keys { All (IsKeyOf p.now) names.now }
     requires count { length tallies.now ≡ length names.now }
     requires total { total < 2 ^ 63 }
-    ensures { IfOk result (λ ranking. IsRanked p.now names.now tallies.now total ranking.rows.items ranking.light) }
+    ensures { IfOk result (λ ranking.
+        IsRanked p.now names.now tallies.now total ranking.rows.items ranking.light) }
 {
     let mut ranking = collect(alloc, p, names, tallies, total)?;
     ranking.rows.sort_by(|a, b| row_order(a, b))?;
@@ -61,8 +65,8 @@ fn collect<'a>(
     requires keys { All (IsKeyOf p.now) names.now }
     requires count { length tallies.now ≡ length names.now }
     requires total { total < 2 ^ 63 }
-    ensures { IfOk result (λ ranking.
-        Collected p.now names.now tallies.now total (length tallies.now) ranking.rows.items ranking.light) }
+    ensures { IfOk result (λ ranking. Collected p.now names.now tallies.now total
+        (length tallies.now) ranking.rows.items ranking.light) }
 {
     let mut rows = Vec::new(alloc);
     let mut light = 0;
@@ -81,7 +85,8 @@ fn collect<'a>(
 
 fn row_of<'a>(p: &'a Profile, key: Key, tally: &Tally) -> Row<'a>
     requires { IsKeyOf p.now key }
-    ensures { row_entry result ≡ record { key = key_written p.now key; flat = tally.now.flat; cum = tally.now.cum } }
+    ensures { row_entry result
+        ≡ record { key = key_written p.now key; flat = tally.now.flat; cum = tally.now.cum } }
 {
     Row {
         texts: texts_of(p, &key),

@@ -26,7 +26,9 @@ const NO_TYPE: ValueType = ValueType { kind: 0, unit: 0 };
 /// What a report tells: its notes, each a line, and its text.
 #[derive(Debug, Drop)]
 pub struct Told {
+    /// For standard error.
     pub notes: Text,
+    /// For standard output.
     pub text: Text,
 }
 
@@ -111,7 +113,8 @@ fn put_table(
     requires fits { absolute_of column l.now.profile.sample < 2 ^ 63 }
     requires total { measure.now.total < 2 ^ 63 }
     ensures { IfOk result (λ _. text.new ≡ text.old
-        ++ table_text (shown measure.now.unit) measure.now.total (counted_samples Functions false l.now.profile column)) }
+        ++ table_text (shown measure.now.unit) measure.now.total
+        (counted_samples Functions false l.now.profile column)) }
 {
     let p = l.profile.get();
     let mut names = Names::new(alloc)?;

@@ -52,7 +52,8 @@ fn number_frames(
 ) -> Result<List<u64>, Memory>
     requires { IsStackOf l.now.profile stack.now }
     ensures grown { IfOk result (λ _. Grown l.now.profile names.old names.new) }
-    ensures row { IfOk result (λ row. IsNumbered l.now.profile names.new (map (written l.now.profile) stack.now) row) }
+    ensures row { IfOk result (λ row.
+        IsNumbered l.now.profile names.new (map (written l.now.profile) stack.now) row) }
 {
     let mut row = List::new(alloc);
     for frame in stack {

@@ -27,10 +27,12 @@ fn refuse<E: Sink>(err: &mut E, line: &[u8], cause: Cause) -> Result<Cause, Stop
     ensures ok { (out : _) (files : _) → IfOk result (Ended (ended_by cause line.now)
         (outside out (E.written err.old) files) (outside out (E.written err.new) files)) }
     ensures err { (out : _) (files : _) → OnErr result (DidFront
-        (outside out (E.written err.old) files) (outside out (E.written err.new) files) (ended_by cause line.now).effects) }
+        (outside out (E.written err.old) files) (outside out (E.written err.new) files)
+        (ended_by cause line.now).effects) }
     ensures cause { IfOk result (λ c. c ≡ cause) }
     ensures later { E.faults err.old ≤ E.faults err.new }
-    ensures stop { IfErr result (λ s. StopsAt s ⊥ ⊥ ⊥ (Rose (E.faults err.old) (E.faults err.new))) }
+    ensures stop { IfErr result
+        (λ s. StopsAt s ⊥ ⊥ ⊥ (Rose (E.faults err.old) (E.faults err.new))) }
 {
     tell(err, line)?;
     Ok(cause)
@@ -45,9 +47,11 @@ fn perform_report<O: Sink, E: Sink>(
 ) -> Result<Cause, Stop>
     requires { IsReportable l.now.profile }
     ensures ok { (files : _) → IfOk result (Ended (of_report (top_report l.now.profile))
-        (outside (O.written out.old) (E.written err.old) files) (outside (O.written out.new) (E.written err.new) files)) }
+        (outside (O.written out.old) (E.written err.old) files)
+        (outside (O.written out.new) (E.written err.new) files)) }
     ensures err { (files : _) → OnErr result (DidFront
-        (outside (O.written out.old) (E.written err.old) files) (outside (O.written out.new) (E.written err.new) files)
+        (outside (O.written out.old) (E.written err.old) files)
+        (outside (O.written out.new) (E.written err.new) files)
         (of_report (top_report l.now.profile)).effects) }
     ensures cause { IfOk result (λ c. IsNone (fault_line c)) }
     ensures later_out { O.faults out.old ≤ O.faults out.new }
@@ -71,9 +75,11 @@ fn perform_loading<O: Sink, E: Sink>(
 ) -> Result<Cause, Stop>
     requires { IsReady loading.now }
     ensures ok { (files : _) → IfOk result (Ended (of_loading path.now loading.now)
-        (outside (O.written out.old) (E.written err.old) files) (outside (O.written out.new) (E.written err.new) files)) }
+        (outside (O.written out.old) (E.written err.old) files)
+        (outside (O.written out.new) (E.written err.new) files)) }
     ensures err { (files : _) → OnErr result (DidFront
-        (outside (O.written out.old) (E.written err.old) files) (outside (O.written out.new) (E.written err.new) files)
+        (outside (O.written out.old) (E.written err.old) files)
+        (outside (O.written out.new) (E.written err.new) files)
         (of_loading path.now loading.now).effects) }
     ensures cause { IfOk result (λ c. IsNone (fault_line c)) }
     ensures later_out { O.faults out.old ≤ O.faults out.new }
@@ -99,12 +105,14 @@ fn perform_path<F: Files, O: Sink, E: Sink>(
     out: &mut O,
     err: &mut E,
 ) -> Result<Cause, Stop>
-    ensures ok { (m : _) → F.content files.old ≡ Some m → IfOk result (Ended (of_path m (Some path.now))
+    ensures ok { (m : _) → F.content files.old ≡ Some m → IfOk result (Ended
+        (of_path m (Some path.now))
         (outside (O.written out.old) (E.written err.old) (F.content files.old))
         (outside (O.written out.new) (E.written err.new) (F.content files.new))) }
     ensures err { (m : _) → F.content files.old ≡ Some m → OnErr result (DidFront
         (outside (O.written out.old) (E.written err.old) (F.content files.old))
-        (outside (O.written out.new) (E.written err.new) (F.content files.new)) (of_path m (Some path.now)).effects) }
+        (outside (O.written out.new) (E.written err.new) (F.content files.new))
+        (of_path m (Some path.now)).effects) }
     ensures cause { IfOk result (λ c. IsNone (fault_line c)) }
     ensures later_files { F.faults files.old ≤ F.faults files.new }
     ensures later_out { O.faults out.old ≤ O.faults out.new }
@@ -124,12 +132,14 @@ fn perform<F: Files, O: Sink, E: Sink>(
     out: &mut O,
     err: &mut E,
 ) -> Result<Cause, Stop>
-    ensures ok { (m : _) → F.content files.old ≡ Some m → IfOk result (Ended (of_path m (path_of words.now))
+    ensures ok { (m : _) → F.content files.old ≡ Some m → IfOk result (Ended
+        (of_path m (path_of words.now))
         (outside (O.written out.old) (E.written err.old) (F.content files.old))
         (outside (O.written out.new) (E.written err.new) (F.content files.new))) }
     ensures err { (m : _) → F.content files.old ≡ Some m → OnErr result (DidFront
         (outside (O.written out.old) (E.written err.old) (F.content files.old))
-        (outside (O.written out.new) (E.written err.new) (F.content files.new)) (of_path m (path_of words.now)).effects) }
+        (outside (O.written out.new) (E.written err.new) (F.content files.new))
+        (of_path m (path_of words.now)).effects) }
     ensures words { path_of words.now ≡ None → IfOk result (λ c. c ≡ Cause.NotBuilt) }
     ensures cause { IfOk result (λ c. IsNone (fault_line c)) }
     ensures later_files { F.faults files.old ≤ F.faults files.new }
@@ -174,24 +184,33 @@ pub fn run<R: Threads + Sync, F: Files, I: Source, O: Sink, E: Sink, M: Matcher,
         (outside (O.written out.new) (E.written err.new) (F.content files.new)) line)) }
 
     // A fault is answered only where that object has failed in this call.
-    ensures file_fault { result.cause ≡ Cause.FileFault → Rose (F.faults files.old) (F.faults files.new) }
-    ensures input_fault { result.cause ≡ Cause.InputFault → Rose (I.faults input.old) (I.faults input.new) }
-    ensures out_fault { result.cause ≡ Cause.OutFault → Rose (O.faults out.old) (O.faults out.new) }
-    ensures err_fault { result.cause ≡ Cause.ErrFault → Rose (E.faults err.old) (E.faults err.new) }
+    ensures file_fault { result.cause ≡ Cause.FileFault
+        → Rose (F.faults files.old) (F.faults files.new) }
+    ensures input_fault { result.cause ≡ Cause.InputFault
+        → Rose (I.faults input.old) (I.faults input.new) }
+    ensures out_fault { result.cause ≡ Cause.OutFault
+        → Rose (O.faults out.old) (O.faults out.new) }
+    ensures err_fault { result.cause ≡ Cause.ErrFault
+        → Rose (E.faults err.old) (E.faults err.new) }
 
     // Where none has failed, only want of memory stops it.
-    ensures complete { ¬ (Rose (F.faults files.old) (F.faults files.new)) → ¬ (Rose (I.faults input.old) (I.faults input.new))
-        → ¬ (Rose (O.faults out.old) (O.faults out.new)) → ¬ (Rose (E.faults err.old) (E.faults err.new))
+    ensures complete { ¬ (Rose (F.faults files.old) (F.faults files.new))
+        → ¬ (Rose (I.faults input.old) (I.faults input.new))
+        → ¬ (Rose (O.faults out.old) (O.faults out.new))
+        → ¬ (Rose (E.faults err.old) (E.faults err.new))
         → IsNone (fault_line result.cause) ⊎ (result.cause ≡ Cause.Memory) }
 
     // A run whose words name a profile that is loaded then ends done, if memory suffices.
     ensures valid { IfSome (F.content files.old) (λ m. is_valid m (path_of words.now) ≡ true
-        → ¬ (Rose (F.faults files.old) (F.faults files.new)) → ¬ (Rose (I.faults input.old) (I.faults input.new))
-        → ¬ (Rose (O.faults out.old) (O.faults out.new)) → ¬ (Rose (E.faults err.old) (E.faults err.new))
+        → ¬ (Rose (F.faults files.old) (F.faults files.new))
+        → ¬ (Rose (I.faults input.old) (I.faults input.new))
+        → ¬ (Rose (O.faults out.old) (O.faults out.new))
+        → ¬ (Rose (E.faults err.old) (E.faults err.new))
         → (result.cause ≡ Cause.Done) ⊎ (result.cause ≡ Cause.Memory)) }
 
     // Words that name no path are not built, whatever the objects tell.
-    ensures words { path_of words.now ≡ None → IsNone (fault_line result.cause) → result.cause ≡ Cause.NotBuilt }
+    ensures words { path_of words.now ≡ None → IsNone (fault_line result.cause)
+        → result.cause ≡ Cause.NotBuilt }
 
     // These words read no input and ask no pattern.
     ensures unread { I.left input.new ≡ I.left input.old }

@@ -41,7 +41,8 @@ impl Tally {
     // Adds the value to the flat.
     fn lead(&mut self, value: i64)
         requires { nat_abs self.old.flat + nat_abs value < 2 ^ 63 }
-        ensures { self.new ≡ record { flat = self.old.flat +ℤ value; cum = self.old.cum; last = self.old.last } }
+        ensures { self.new
+            ≡ record { flat = self.old.flat +ℤ value; cum = self.old.cum; last = self.old.last } }
     {
         self.flat += value;
     }
@@ -52,7 +53,8 @@ fn add_cum(tallies: &mut [Tally], value: i64, keys: &[u64], number: u64)
     requires below { All (λ k. k < length tallies.old) keys.now }
     requires earlier { (k : ℕ) → (tally_at tallies.old k).last < number }
     requires fits { (k : ℕ) → nat_abs (tally_at tallies.old k).cum + nat_abs value < 2 ^ 63 }
-    ensures { (k : ℕ) → tally_at tallies.new k ≡ with_cum value number keys.now k (tally_at tallies.old k) }
+    ensures { (k : ℕ) → tally_at tallies.new k
+        ≡ with_cum value number keys.now k (tally_at tallies.old k) }
 {
     for key in keys {
         tallies[*key as usize].see(value, number);
@@ -63,7 +65,8 @@ fn add_cum(tallies: &mut [Tally], value: i64, keys: &[u64], number: u64)
 fn add_flat(tallies: &mut [Tally], value: i64, keys: &[u64])
     requires below { All (λ k. k < length tallies.old) keys.now }
     requires fits { (k : ℕ) → nat_abs (tally_at tallies.old k).flat + nat_abs value < 2 ^ 63 }
-    ensures { (k : ℕ) → tally_at tallies.new k ≡ with_flat value keys.now k (tally_at tallies.old k) }
+    ensures { (k : ℕ) → tally_at tallies.new k
+        ≡ with_flat value keys.now k (tally_at tallies.old k) }
 {
     if let [leaf, ..] = keys {
         tallies[*leaf as usize].lead(value);
@@ -76,7 +79,8 @@ fn add_sample(tallies: &mut [Tally], value: i64, keys: &[u64], number: u64)
     requires earlier { (k : ℕ) → (tally_at tallies.old k).last < number }
     requires cum_fits { (k : ℕ) → nat_abs (tally_at tallies.old k).cum + nat_abs value < 2 ^ 63 }
     requires flat_fits { (k : ℕ) → nat_abs (tally_at tallies.old k).flat + nat_abs value < 2 ^ 63 }
-    ensures { (k : ℕ) → tally_at tallies.new k ≡ with_sample value number keys.now k (tally_at tallies.old k) }
+    ensures { (k : ℕ) → tally_at tallies.new k
+        ≡ with_sample value number keys.now k (tally_at tallies.old k) }
 {
     add_cum(tallies, value, keys, number);
     add_flat(tallies, value, keys);
@@ -109,8 +113,8 @@ fn count_sample(
         nat_abs (tally_at tallies.old k).cum + nat_abs (selected column sample.now) < 2 ^ 63 }
     requires flat_fits { (k : ℕ) →
         nat_abs (tally_at tallies.old k).flat + nat_abs (selected column sample.now) < 2 ^ 63 }
-    ensures { IfOk result (λ _. (k : ℕ) →
-        tally_at tallies.new k ≡ with_counted (numbered column rows.now sample.now) number k (tally_at tallies.old k)) }
+    ensures { IfOk result (λ _. (k : ℕ) → tally_at tallies.new k
+        ≡ with_counted (numbered column rows.now sample.now) number k (tally_at tallies.old k)) }
 {
     let value = selected(sample, column);
     if value == 0 {
@@ -129,11 +133,12 @@ fn add_samples(
     column: Option<u32>,
     rows: &[List<u64>],
 ) -> Result<(), Memory>
-    requires numbers { All (λ s. AreNumbersBelow (length tallies.old) rows.now s.location_id) samples.now }
+    requires numbers { All
+        (λ s. AreNumbersBelow (length tallies.old) rows.now s.location_id) samples.now }
     requires fits { absolute (numbered_all column rows.now samples.now) < 2 ^ 63 }
     requires none { (k : ℕ) → tally_at tallies.old k ≡ no_tally }
-    ensures { IfOk result (λ _.
-        AreTallies (weighed (numbered_all column rows.now samples.now)) (length tallies.old) tallies.new) }
+    ensures { IfOk result (λ _. AreTallies
+        (weighed (numbered_all column rows.now samples.now)) (length tallies.old) tallies.new) }
 {
     let mut keys = Vec::new(alloc);
     for (index, sample) in samples.iter().enumerate() {
