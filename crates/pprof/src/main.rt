@@ -8,25 +8,27 @@ mod tests;
 mod words;
 
 use files::RealFiles;
-use pp_base::{CalmSource, List, Literal, OpenGate, Text};
+use pp_base::{CalmSource, List, Literal, OpenGate, Text, write_all};
 use pp_engine::run;
 use std::alloc::Global;
 use std::process::ExitCode;
 use streams::Output;
 use words::read_words;
 
-/// The status where there is no memory for the words after the program's name.
-const MEMORY: u8 = 4;
+/// The line and the status where there is no memory for the words after the program's name.
+const NO_MEMORY: &[u8] = b"pprof: out of memory\n";
+const MEMORY_STATUS: u8 = 4;
 
 fn main(rt: HostRuntime) -> ExitCode {
     let alloc: Global = rt.alloc();
+    let mut out = Output::new(rt.stdout());
+    let mut err = Output::new(rt.stderr());
     let Ok(words) = read_words(&rt, alloc) else {
-        return ExitCode::from(MEMORY);
+        let _ = write_all(&mut err, NO_MEMORY);
+        return ExitCode::from(MEMORY_STATUS);
     };
     let mut files = RealFiles::new(&rt);
     let mut input = CalmSource::new(Text::new(alloc), 1);
-    let mut out = Output::new(rt.stdout());
-    let mut err = Output::new(rt.stderr());
     let mut matcher = Literal::new(alloc, List::new(alloc));
     let ending = run(
         &rt,
