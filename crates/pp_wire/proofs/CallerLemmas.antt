@@ -16,10 +16,6 @@ use Rattle.pp_wire.proofs.Shrinking.{LeavesBelow, varint_below}
 pub length-numbers : (bytes : List ℕ) (at : ℕ) → length (numbers bytes at).items ≤ length bytes
 length-numbers bytes at = length-walk_of (λ rest. placed at (varint rest)) bytes
 
--- no more fields than bytes
-pub length-fields : (bytes : List ℕ) (base : ℕ) → length (fields bytes base).items ≤ length bytes
-length-fields bytes base = length-walk_of (field (base + length bytes)) bytes
-
 -- the bytes of a run, and none of a number
 abbrev pub run_length : Content → ℕ
 run_length (Varint n) = 0

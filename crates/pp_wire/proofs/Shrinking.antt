@@ -66,7 +66,7 @@ content_below end kind bytes =
     (choice n (eqb kind 2) (run end bytes) _ (run_below end bytes)
     (choice n (eqb kind 5) (four bytes) (Err BadKind) (four_below bytes) tt)))
 
-field_in_below : (end : ℕ) (bytes : List ℕ) → LeavesBelow (length bytes) (field_in end bytes)
+pub field_in_below : (end : ℕ) (bytes : List ℕ) → LeavesBelow (length bytes) (field_in end bytes)
 unfolding field_in
 field_in_below end bytes =
     chain (length bytes) (length bytes) (varint bytes) _ (varint_below bytes)

@@ -45,17 +45,22 @@ number_in tag = if nat_lt 0 (tag / 8) && nat_lt (tag / 8) (2 ^ 29) then Ok (tag 
 
 -- kind 1: eight bytes, lowest first
 unfoldable pub eight : List ℕ → Read Content WireKind
-eight bytes = if nat_lt (length bytes) 8 then Err Truncated else Ok (Eight (from_le_bytes w64 (take 8 bytes)), drop 8 bytes)
+eight bytes =
+    if nat_lt (length bytes) 8 then Err Truncated
+    else Ok (Eight (from_le_bytes w64 (take 8 bytes)), drop 8 bytes)
 
 -- kind 5: four bytes, lowest first
 unfoldable pub four : List ℕ → Read Content WireKind
-four bytes = if nat_lt (length bytes) 4 then Err Truncated else Ok (Four (from_le_bytes w32 (take 4 bytes)), drop 4 bytes)
+four bytes =
+    if nat_lt (length bytes) 4 then Err Truncated
+    else Ok (Four (from_le_bytes w32 (take 4 bytes)), drop 4 bytes)
 
 -- kind 2: a length, and that many bytes. All bytes end at the place `end`.
 unfoldable pub run : ℕ → List ℕ → Read Content WireKind
 run end bytes = do
   len ← varint bytes
-  if nat_lt (length len.1) len.0 then Err Truncated else Ok (Bytes (take len.0 len.1) (end - length len.1), drop len.0 len.1)
+  if nat_lt (length len.1) len.0 then Err Truncated
+      else Ok (Bytes (take len.0 len.1) (end - length len.1), drop len.0 len.1)
 
 -- kind 0: a varint
 unfoldable pub number : List ℕ → Read Content WireKind
@@ -80,14 +85,19 @@ field_in end bytes = do
   content ← content end (tag.0 % 8) tag.1
   Ok (record { number = number; content = content.0; at = end - length bytes }, content.1)
 
+-- the field at the front of bytes of which the first is at the place `base`
+abbrev pub field_at : List ℕ → ℕ → Read Item WireKind
+field_at bytes base = field_in (base + length bytes) bytes
+
 -- a field, or its fault with the place of its tag
 unfoldable pub field : ℕ → List ℕ → Read Item WireFault
 field end bytes = placed (end - length bytes) (field_in end bytes)
 
--- the fields of bytes of which the first is at the place `base`
+-- the fields of bytes of which the first is at the place `base`; `fields_are_read_in_turn` says it as a recursion
 abbrev pub fields : List ℕ → ℕ → Walk Item
 fields bytes base = walk_of (field (base + length bytes)) bytes
 
--- the varints of a packed payload, whose faults are those of the field at the place `at`
+-- the varints of a packed payload, whose faults are those of the field at the place `at`;
+-- `numbers_are_read_in_turn` says it as a recursion
 abbrev pub numbers : List ℕ → ℕ → Walk ℕ
 numbers bytes at = walk_of (λ rest. placed at (varint rest)) bytes

@@ -1,5 +1,5 @@
 -- Readers over lists of bytes: a value and the bytes after it, or what is wrong.
-use Rattle.std.specs.Prelude.{◌≡◌, List, ℕ, Result, Ok, Err}
+use Rattle.std.specs.Prelude.{◌≡◌, List, ◌++◌, ℕ, Result, Ok, Err}
 
 -- what the first reader gave goes into the second
 infixl 10 ◌>>=◌
@@ -15,3 +15,7 @@ Read A E = Result (A × List ℕ) E
 abbrev pub Gives : {X Y E : Type 0} → (X → Y) → Result X E → Result Y E → Type 0
 Gives view (Ok x) read = read ≡ Ok (view x)
 Gives view (Err e) read = read ≡ Err e
+
+-- the rest is what the bytes end with, behind some front
+abbrev pub EndsWith : List ℕ → List ℕ → Type 0
+EndsWith bytes rest = (front : List ℕ) × (bytes ≡ front ++ rest)

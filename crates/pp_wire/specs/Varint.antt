@@ -9,7 +9,8 @@ unfoldable pub groups : ℕ → List ℕ → Read ℕ WireKind
 groups zero bytes = Err LongVarint
 groups (suc n) [] = Err Truncated
 groups (suc n) (b ∷ bytes) =
-    if nat_lt b 128 then Ok (b, bytes) else (groups n bytes >>= λ high. Ok ((b - 128) + 128 * high.0, high.1))
+    if nat_lt b 128 then Ok (b, bytes)
+    else (groups n bytes >>= λ high. Ok ((b - 128) + 128 * high.0, high.1))
 
 -- the varint at the front: at most ten groups, of which 64 bits count, so of a tenth byte the lowest alone
 unfoldable pub varint : List ℕ → Read ℕ WireKind

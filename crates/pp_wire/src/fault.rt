@@ -26,6 +26,7 @@ pub enum WireKind {
 #[derive(Clone, Copy, Debug, PartialEq, Eq, Error)]
 #[error("{kind} at {at}")]
 pub struct WireFault {
+    /// Which rule the field breaks.
     pub kind: WireKind,
     /// The place of the first byte of the faulty field's tag, counted from 0 at the start of the file.
     pub at: u64,

@@ -16,10 +16,12 @@ pub enum Payload<'a> {
     Bytes(&'a [u8], u64),
 }
 
+/// One field of a message: which it is, what it holds, and where it lies.
 #[derive(Clone, Copy, Debug)]
 pub struct Field<'a> {
     /// At least 1 and below 2^29.
     pub number: u32,
+    /// What stands behind the tag.
     pub payload: Payload<'a>,
     /// The place of the first byte of the tag, counted from 0 at the start of the file.
     pub at: u64,

@@ -43,7 +43,9 @@ impl<'a> Walker<'a> {
         }
     }
 
-    /// The next field, or `None` exactly at the end of the bytes. After a fault each later call gives the same fault.
+    /// The next field, or `None` exactly at the end of the bytes. A faulty field is never passed: the walker stays in
+    /// front of it and answers with its fault from then on. It never answers `WrongKind`, since it does not know which
+    /// fields the message may have (`fields_are_read_in_turn`, `no_wrong_kind`).
     pub fn next(&mut self) -> Option<Result<Field<'a>, WireFault>>
         ensures given { seen result ≡ first self.old }
         ensures left { self.new ≡ after self.old }

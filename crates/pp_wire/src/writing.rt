@@ -93,7 +93,8 @@ fn append_bytes(out: &mut Text, number: u32, bytes: &[u8]) -> Result<(), Memory>
 
 fn append_packed(out: &mut Text, number: u32, list: &[u64]) -> Result<(), Memory>
     requires { number < 2 ^ 29 }
-    ensures ok { OnOk result (out.new ≡ out.old ++ bytes_field number (flat_map varint_bytes list.now)) }
+    ensures ok { OnOk result
+        (out.new ≡ out.old ++ bytes_field number (flat_map varint_bytes list.now)) }
     ensures err { OnErr result (Grew out.old out.new) }
 {
     put_varint(out, 8 * u64::from(number) + 2)?;
