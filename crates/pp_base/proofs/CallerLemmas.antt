@@ -1,17 +1,8 @@
--- For crates above: counts that rose, and fronts.
-use Rattle.std.proofs.Common.{◌≤◌, ℕ, List, Option, take, drop, sym, arith}
+-- For crates above: fronts.
+use Rattle.std.proofs.Common.{ℕ, List, Option, take, drop, sym}
 use Rattle.std.proofs.lemmas.List.{take-append-drop}
-use Rattle.pp_base.specs.Fault.{Rose}
 use Rattle.pp_base.specs.Front.{IsFront}
 use Rattle.pp_base.specs.Writes.{PutsSome, PutsFront}
-
--- a count that rose and did not fall afterwards has risen
-pub rose-later : (first mid now : ℕ) → Rose first mid → mid ≤ now → Rose first now
-rose-later first mid now rose later = omega arith
-
--- a count that did not fall and then rose has risen
-pub later-rose : (first mid now : ℕ) → first ≤ mid → Rose mid now → Rose first now
-later-rose first mid now later rose = omega arith
 
 -- what is taken from the front is a front
 pub take-IsFront : {A : Type 0} (n : ℕ) (whole : List A) → IsFront (take n whole) whole

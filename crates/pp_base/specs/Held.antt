@@ -42,12 +42,16 @@ pub record LiteralHeld : Type 0 where
 
 -- how a proof tells calm files apart
 abbrev pub files_code : Coded FilesHeld
-files_code = code_by (FileMap × List (List ℕ)) (coded× file_code (coded_list (coded_list coded_ℕ))) (λ h. (h.content, h.locked)) (λ p. record { content = p.0; locked = p.1 }) (λ _. refl)
+files_code = code_by (FileMap × List (List ℕ)) (coded× file_code (coded_list (coded_list coded_ℕ)))
+    (λ h. (h.content, h.locked)) (λ p. record { content = p.0; locked = p.1 }) (λ _. refl)
 
 -- how a proof tells counted calls apart
 abbrev pub calls_code : Coded Calls
-calls_code = code_by (List ℕ × (ℕ × ℕ)) (coded× (coded_list coded_ℕ) (coded× coded_ℕ coded_ℕ)) (λ c. (c.fails, (c.number, c.faults))) (λ p. record { fails = p.0; number = p.1.0; faults = p.1.1 }) (λ _. refl)
+calls_code = code_by (List ℕ × (ℕ × ℕ)) (coded× (coded_list coded_ℕ) (coded× coded_ℕ coded_ℕ))
+    (λ c. (c.fails, (c.number, c.faults)))
+    (λ p. record { fails = p.0; number = p.1.0; faults = p.1.1 }) (λ _. refl)
 
 -- how a proof tells files apart
 abbrev pub mem_files_code : Coded MemFilesHeld
-mem_files_code = code_by (FilesHeld × Calls) (coded× files_code calls_code) (λ h. (h.calm, h.calls)) (λ p. record { calm = p.0; calls = p.1 }) (λ _. refl)
+mem_files_code = code_by (FilesHeld × Calls) (coded× files_code calls_code)
+    (λ h. (h.calm, h.calls)) (λ p. record { calm = p.0; calls = p.1 }) (λ _. refl)

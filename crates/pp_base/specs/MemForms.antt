@@ -56,7 +56,10 @@ half_of bytes = take (length bytes / 2) bytes
 
 -- the files with this content at the path
 abbrev pub put : FilesHeld → List ℕ → List ℕ → FilesHeld
-put files path bytes = record { content = with_file files.content path bytes; locked = files.locked }
+put files path bytes = record {
+  content = with_file files.content path bytes;
+  locked = files.locked;
+}
 
 -- what a failed write leaves of the files: the first half of the bytes, where the path isn't locked
 abbrev pub broken_off : FilesHeld → List ℕ → List ℕ → Bool → FilesHeld
@@ -74,11 +77,13 @@ MemWrites old new path bytes writes.Failed = (fails_next old.calls ≡ true)
       calm = broken_off old.calm path bytes (among old.calm.locked path);
       calls = after_call old.calls;
     })
-MemWrites old new path bytes writes.Memory = new ≡ record { calm = old.calm; calls = after_call old.calls }
+MemWrites old new path bytes writes.Memory =
+    new ≡ record { calm = old.calm; calls = after_call old.calls }
 
 -- A matcher of plain texts refuses exactly the patterns listed, and keeps each answer.
 abbrev pub LiteralJudges : LiteralHeld → LiteralHeld → List ℕ → List (List ℕ) → Judgement → Type 0
-LiteralJudges old new pattern subjects (judgement.Found verdicts) = (among old.refused pattern ≡ false)
+LiteralJudges old new pattern subjects (judgement.Found verdicts) =
+    (among old.refused pattern ≡ false)
     × (verdicts ≡ map (occurs pattern) subjects)
     × (new ≡ record { refused = old.refused; answers = old.answers ++ (pattern, true) ∷ [] })
 LiteralJudges old new pattern subjects judgement.Refused = (among old.refused pattern ≡ true)

@@ -1,10 +1,11 @@
-// Files in memory that never fail.
+//! Files in memory that never fail.
+
 ghost use Rattle.std.specs.Prelude.{◌≡◌, Some, OnOk, OnErr, false};
 ghost use Rattle.std.specs.Option.{option_copied};
 ghost use Rattle.pp_base.specs.FileMap.{content_at, files_of, with_file, among};
 ghost use Rattle.pp_base.specs.MemForms.{half_of};
 
-use crate::entries::{entry_of, first_content, is_among};
+use crate::entries::{first_content, is_among, put_entry};
 use crate::{FileRead, FileWrite, Files, List, Memory, Text};
 use std::alloc::Global;
 use std::marker::Model;
@@ -63,9 +64,7 @@ impl CalmFiles {
         }) }
         ensures err { OnErr result (self.new ≡ self.old) }
     {
-        let entry = entry_of(self.alloc, path.as_slice(), bytes)?;
-        self.entries.insert(0, entry)?;
-        Ok(())
+        put_entry(self.alloc, &mut self.entries, path.as_slice(), bytes)
     }
 
     /// What a write that breaks off leaves: the first half of the bytes, rounded down.

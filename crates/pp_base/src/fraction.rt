@@ -1,4 +1,5 @@
-// A fraction of a total.
+//! A fraction of a total.
+
 ghost use Rattle.std.specs.Prelude.{◌≤◌};
 
 /// A fraction from 0 to 1, in billionths.

@@ -1,4 +1,5 @@
-// Why a report on what a pattern finds was not written.
+//! Why a report on what a pattern finds was not written.
+
 ghost use Rattle.std.specs.Prelude.{◌≡◌};
 ghost use Rattle.pp_base.specs.declared.refusal.MatchRefusal.TheVariants as variants;
 

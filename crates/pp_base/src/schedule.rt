@@ -1,4 +1,5 @@
-// Calls that fail by their number.
+//! Calls that fail by their number.
+
 ghost use Rattle.std.specs.Prelude.{◌≡◌, ◌≤◌, ◌==◌};
 ghost use Rattle.std.specs.List.{list_any};
 ghost use Rattle.pp_base.specs.Calls.{fails_next, after_call};

@@ -1,4 +1,5 @@
-// Sources in memory.
+//! Sources in memory.
+
 ghost use Rattle.std.specs.Prelude.{◌≡◌, ◌<◌, ◌≤◌, Some, length};
 ghost use Rattle.pp_base.specs.Fault.{Rose};
 ghost use Rattle.pp_base.specs.Reads.{Takes};
@@ -62,7 +63,8 @@ impl Source for CalmSource {
     }
 }
 
-/// A source that gives at most `most` bytes a call, and fails at the calls whose numbers, from 0, stand in `fails`.
+/// A source that gives at most `most` bytes a call, and of which some calls fail: the first where `fails` has 0, the
+/// next where it has 1, and so on.
 #[derive(Debug, Drop)]
 pub struct MemSource {
     calm: CalmSource,
@@ -103,7 +105,8 @@ impl Source for MemSource {
         requires { 0 < length buf.old }
         ensures bytes { Takes (Some self.old.calm.left) (Some self.new.calm.left) buf.new result }
         ensures later { self.old.calls.faults ≤ self.new.calls.faults }
-        ensures failed { result ≡ SourceRead.Failed → Rose self.old.calls.faults self.new.calls.faults }
+        ensures failed { result ≡ SourceRead.Failed
+            → Rose self.old.calls.faults self.new.calls.faults }
         ensures exact { MemTakes self.old self.new buf.new result }
     {
         if self.schedule.next_fails() {
