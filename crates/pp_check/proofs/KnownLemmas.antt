@@ -23,6 +23,7 @@ numbered_more numbered added id next =
           ∙ sym (ap (λ b. b || added == id) (and_right (nat_lt 0 id) _ (lt-leb id numbered (omega arith))) ∙ ne_eqb added id (λ e. absurd (omega arith)))
     ]
 
+-- the last two of three tests change places
 or_swap : (a b c : Bool) → ((a || b) || c) ≡ ((a || c) || b)
 or_swap true b c = refl
 or_swap false true true = refl
@@ -30,6 +31,7 @@ or_swap false true false = refl
 or_swap false false true = refl
 or_swap false false false = refl
 
+-- a choice that gives true where its test holds is one more test
 or_cond : (a b t : Bool) → (a || cond t true b) ≡ ((a || b) || t)
 or_cond true b t = refl
 or_cond false true true = refl
@@ -37,6 +39,7 @@ or_cond false false true = refl
 or_cond false true false = refl
 or_cond false false false = refl
 
+-- a test adds nothing to one that holds wherever it does
 or_same : (a t : Bool) → (t ≡ true → a ≡ true) → a ≡ (a || t)
 or_same true t holds = refl
 or_same false false holds = refl

@@ -18,9 +18,11 @@ repeats ids k = stands_in (take k ids) (slice_index ids k)
 abbrev pub NoneBelow : List ℕ → ℕ → Type 0
 NoneBelow ids i = (k : ℕ) → k < i → repeats ids k ≡ false
 
+-- the item k of the numbers below n is k
 place : (n k : ℕ) → k < n → get_or (range_with_len 0 n) k 0 ≡ k
 place n k within = get_or-range_with_len 0 n k 0 within ∙ zero-add k
 
+-- the first place whose id stands earlier
 first_place : (ids : List ℕ) (i : ℕ) → i ≤ length ids → NoneBelow ids i → (i < length ids → repeats ids i ≡ true)
     → position_or_len (repeats ids) (range_with_len 0 (length ids)) ≡ i
 first_place ids i within none here =

@@ -37,9 +37,10 @@ scanned_more old new ids i id added within scanned is new_id added_true adds = r
   distinct = below_more (λ k. repeats ids k ≡ false) i scanned.distinct (sym (seen_before old ids i id scanned is) ∙ not-true _ (sym new_id ∙ added_true));
 }
 
--- past the last id all are known, and none stands earlier
+-- past the last id none stands earlier
 pub scanned_all : (known : Known) (ids : List ℕ) (i : ℕ) → i ≡ length ids → Scanned known ids i → None ≡ first_repeated ids
 scanned_all known ids i past scanned = repeats_nowhere ids i past scanned.distinct
 
+-- past the last id all are known
 pub knows_all : (known : Known) (ids : List ℕ) (i : ℕ) → i ≡ length ids → Scanned known ids i → Knows known ids
 knows_all known ids i past scanned = subst (Knows known) (take_all i ids (omega arith)) scanned.seen

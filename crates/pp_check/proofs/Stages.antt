@@ -1,13 +1,12 @@
 -- The rules in stages: the first stage with a fault decides.
-use Rattle.std.proofs.Common.{◌≡◌, ◌++◌, ℕ, List, map, sym, subst, ◌∙◌}
+use Rattle.std.proofs.Common.{◌≡◌, ◌++◌, List, sym, subst, ◌∙◌}
 use Rattle.std.specs.Prelude.{Option, Some, None, Result, Ok, Err, IsErrAnd}
 use Rattle.pp_model.specs.declared.profile.Profile.{Profile}
-use Rattle.pp_check.specs.declared.fault.Table.{Table}
 use Rattle.pp_check.specs.declared.fault.TableFault.{TableFault}
 use Rattle.pp_check.specs.declared.fault.CheckRefusal.{CheckRefusal}
 use Rattle.pp_check.specs.declared.fault.CheckRefusal.TheVariants.{Fault, Memory}
 use Rattle.pp_check.specs.Finds.{first_of, Finds}
-use Rattle.pp_check.specs.FirstFault.{faults, first_fault, id_faults}
+use Rattle.pp_check.specs.FirstFault.{faults, first_fault}
 use Rattle.pp_check.proofs.Order.{decided_after, decided_in_front}
 
 -- the faults are those of the definition
@@ -15,6 +14,7 @@ pub opened : {A : Type 0} (p : Profile) (r : Result A CheckRefusal) → Finds (f
 unfolding first_fault
 opened p r found = found
 
+-- a fault, or want of memory, of the first stage is that of the whole
 in_front : (A B : Type 0) (os more : List (Option TableFault)) (e : CheckRefusal) → Finds {A = B} (first_of os) (Err e) → Finds {A = A} (first_of (os ++ more)) (Err e)
 in_front A B os more (Fault f) found = decided_in_front os more f found
 in_front A B os more Memory found = tt
@@ -47,11 +47,7 @@ later os more r none found = subst (λ o. Finds o r) (sym (decided_after os more
 pub later_none : (os more : List (Option TableFault)) → first_of os ≡ None → first_of more ≡ None → first_of (os ++ more) ≡ None
 later_none os more none rest = decided_after os more none ∙ rest
 
+-- without a fault of the definition the profile has none
 pub opened_none : (p : Profile) → first_of (faults p) ≡ None → first_fault p ≡ None
 unfolding first_fault
 opened_none p none = none
-
--- the faults of the same ids are the same
-pub ids_alike : {T : Type 0} (A : Type 0) (id_of : T → ℕ) (rule : ℕ) (table : Table) (items given : List T) (r : Result A CheckRefusal) → given ≡ items
-    → Finds (first_of (id_faults rule table (map id_of given))) r → Finds (first_of (id_faults rule table (map id_of items))) r
-ids_alike A id_of rule table items given r same found = subst (λ xs. Finds (first_of (id_faults rule table (map id_of xs))) r) same found

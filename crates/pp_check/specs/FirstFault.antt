@@ -21,10 +21,31 @@ text_faults p =
     ∷ at 3 SampleTypes (rules.untyped_fault p)
     ∷ []
 
--- a rule that ids are not 0, and the next rule, that they are distinct
+-- by any table's ids: a rule that they are not 0, and the next rule, that they are distinct
 abbrev pub id_faults : ℕ → Table → List ℕ → List (Option TableFault)
 id_faults rule table ids =
     at rule table (first_failing (λ id. nat_lt 0 id) ids) ∷ at (rule + 1) table (rules.first_repeated ids) ∷ []
+
+-- rules 4 and 5
+abbrev pub mapping_faults : Profile → List (Option TableFault)
+mapping_faults p =
+    at 4 Mappings (rules.mapping_zero_fault p)
+    ∷ at 5 Mappings (rules.mapping_repeat_fault p)
+    ∷ []
+
+-- rules 6 and 7
+abbrev pub function_faults : Profile → List (Option TableFault)
+function_faults p =
+    at 6 Functions (rules.function_zero_fault p)
+    ∷ at 7 Functions (rules.function_repeat_fault p)
+    ∷ []
+
+-- rules 8 and 9
+abbrev pub location_faults : Profile → List (Option TableFault)
+location_faults p =
+    at 8 Locations (rules.location_zero_fault p)
+    ∷ at 9 Locations (rules.location_repeat_fault p)
+    ∷ []
 
 -- rules 10 to 12
 abbrev pub reference_faults : Profile → List (Option TableFault)
@@ -38,9 +59,9 @@ reference_faults p =
 abbrev pub faults : Profile → List (Option TableFault)
 faults p =
     text_faults p
-    ++ (id_faults 4 Mappings (rules.mapping_ids p)
-    ++ (id_faults 6 Functions (rules.function_ids p)
-    ++ (id_faults 8 Locations (rules.location_ids p)
+    ++ (mapping_faults p
+    ++ (function_faults p
+    ++ (location_faults p
     ++ reference_faults p)))
 
 -- the first fault of a profile, or none

@@ -1,6 +1,6 @@
 // The table rules, in the order in which they decide.
 ghost use Rattle.std.specs.Prelude.{◌≡◌, IfOk};
-ghost use Rattle.pp_check.specs.FirstFault.{first_fault, text_faults, reference_faults, IsIndexed};
+ghost use Rattle.pp_check.specs.FirstFault.{first_fault, text_faults, mapping_faults, function_faults, location_faults, reference_faults, IsIndexed};
 ghost use Rattle.pp_check.specs.Finds.{first_of, Finds, FindsFault};
 ghost use Rattle.pp_check.specs.Checks.{Checks};
 ghost use Rattle.pp_check.specs.Known.{Knows};
@@ -19,7 +19,7 @@ use pp_model::{Profile, Valid};
 use std::alloc::Global;
 
 /// The first table rule that fails, with its table and the least index there. The least rule decides; rule 2 tries its
-/// tables in the order header, comments, sample types, samples, mappings, functions.
+/// tables in the order header, comments, sample types, samples, mappings, functions. `Err` is want of memory.
 pub fn first_fault(alloc: Global, p: &Profile) -> Result<Option<TableFault>, Memory>
     requires { IsIndexed p.now }
     ensures { IfOk result (λ fault. fault ≡ first_fault p.now) }
@@ -47,9 +47,9 @@ fn keep_rules(alloc: Global, p: &Profile) -> Result<(), CheckRefusal>
     ensures { Finds (first_fault p.now) result }
 {
     keep_texts(p)?;
-    let mappings = known_ids(alloc, 4, Table::Mappings, p.mapping.as_slice())?;
-    let functions = known_ids(alloc, 6, Table::Functions, p.function.as_slice())?;
-    let locations = known_ids(alloc, 8, Table::Locations, p.location.as_slice())?;
+    let mappings = known_mappings(alloc, p)?;
+    let functions = known_functions(alloc, p)?;
+    let locations = known_locations(alloc, p)?;
     keep_references(p, &mappings, &functions, &locations)?;
     Ok(())
 }
@@ -67,6 +67,33 @@ fn keep_texts(p: &Profile) -> Result<(), TableFault>
     refuse(2, Table::Mappings, mapping_text_fault(p))?;
     refuse(2, Table::Functions, function_text_fault(p))?;
     refuse(3, Table::SampleTypes, untyped_fault(p))
+}
+
+// Asks rules 4 and 5. Where none fails, these are the ids of the mappings.
+fn known_mappings(alloc: Global, p: &Profile) -> Result<Known, CheckRefusal>
+    requires { IsIndexed p.now }
+    ensures faults { Finds (first_of (mapping_faults p.now)) result }
+    ensures known { IfOk result (λ known. Knows known (mapping_ids p.now)) }
+{
+    known_ids(alloc, 4, Table::Mappings, p.mapping.as_slice())
+}
+
+// Asks rules 6 and 7. Where none fails, these are the ids of the functions.
+fn known_functions(alloc: Global, p: &Profile) -> Result<Known, CheckRefusal>
+    requires { IsIndexed p.now }
+    ensures faults { Finds (first_of (function_faults p.now)) result }
+    ensures known { IfOk result (λ known. Knows known (function_ids p.now)) }
+{
+    known_ids(alloc, 6, Table::Functions, p.function.as_slice())
+}
+
+// Asks rules 8 and 9. Where none fails, these are the ids of the locations.
+fn known_locations(alloc: Global, p: &Profile) -> Result<Known, CheckRefusal>
+    requires { IsIndexed p.now }
+    ensures faults { Finds (first_of (location_faults p.now)) result }
+    ensures known { IfOk result (λ known. Knows known (location_ids p.now)) }
+{
+    known_ids(alloc, 8, Table::Locations, p.location.as_slice())
 }
 
 // Asks rules 10 to 12.

@@ -16,6 +16,7 @@ pub trait HasId {
     /// The id.
     ghost id_of: { Self → ℕ };
 
+    /// The number by which other tables refer to it.
     fn id(&self) -> u64
         ensures { result ≡ id_of self.now };
 }
@@ -71,6 +72,7 @@ fn zero_id<T: HasId>(items: &[T]) -> Option<usize>
     items.iter().map(|item| item.id()).position(|id| !is_id(id))
 }
 
+// Whether the number may be an id.
 fn is_id(id: u64) -> bool
     ensures { result ≡ nat_lt 0 id }
 {

@@ -26,7 +26,8 @@ fn line_refers(p: &Profile, functions: &Known, line: &Line) -> bool
 // Whether the functions of the location's lines are 0 or there.
 fn lines_refer(p: &Profile, functions: &Known, location: &Location) -> bool
     requires { Knows functions.now (rules.function_ids p.now) }
-    ensures { result ≡ list_all (λ line. rules.is_zero_or_in (rules.function_ids p.now) line.function_id) location.now.line }
+    ensures { result ≡ list_all
+        (λ line. rules.is_zero_or_in (rules.function_ids p.now) line.function_id) location.now.line }
 {
     location
         .line
@@ -35,6 +36,7 @@ fn lines_refer(p: &Profile, functions: &Known, location: &Location) -> bool
         .all(|line| line_refers(p, functions, line))
 }
 
+// Whether the location's mapping and its lines' functions are 0 or there.
 fn location_refers(p: &Profile, mappings: &Known, functions: &Known, location: &Location) -> bool
     requires mappings { Knows mappings.now (rules.mapping_ids p.now) }
     requires functions { Knows functions.now (rules.function_ids p.now) }
@@ -63,9 +65,11 @@ fn is_location(p: &Profile, locations: &Known, id: u64) -> bool
     locations.contains(id)
 }
 
+// Whether the sample's locations are there.
 fn sample_refers(p: &Profile, locations: &Known, sample: &Sample) -> bool
     requires { Knows locations.now (rules.location_ids p.now) }
-    ensures { result ≡ list_all (rules.stands_in (rules.location_ids p.now)) sample.now.location_id }
+    ensures { result ≡ list_all
+        (rules.stands_in (rules.location_ids p.now)) sample.now.location_id }
 {
     sample
         .location_id

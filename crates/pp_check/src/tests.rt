@@ -192,7 +192,7 @@ fn rows_hold(rt: &impl Abort, alloc: Global, rows: &[Row]) -> Result<(), Memory>
 use Entry::{Comment, DropFrames, PeriodUnit, Type};
 
 // Each rule at its first index, and rules before tables.
-const FIRST: [Row; 12] = [
+const FIRST: [Row; 13] = [
     (&[Entry::Text(b"")], None),
     (&[], Some((1, Table::Texts, 0))),
     (&[Entry::Text(b"a")], Some((1, Table::Texts, 0))),
@@ -227,6 +227,10 @@ const FIRST: [Row; 12] = [
     (
         &[Entry::Text(b""), Type(0), Entry::Sample(&[5], &[1], &[])],
         Some((11, Table::Samples, 0)),
+    ),
+    (
+        &[Entry::Text(b""), Type(0), Entry::Sample(&[], &[], &[])],
+        Some((12, Table::Samples, 0)),
     ),
     (
         &[

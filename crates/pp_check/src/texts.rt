@@ -5,7 +5,7 @@ ghost use Rattle.pp_model.specs.Rules as rules;
 
 use pp_model::{Function, Label, Mapping, Profile, Sample, ValueType};
 
-/// Rule 1: there is a text 0, and it is empty.
+/// Rule 1: index 0, unless there is a text 0 and it is empty.
 pub fn text_zero_fault(p: &Profile) -> Option<usize>
     ensures fault { result ≡ rules.text_zero_fault p.now }
     ensures within { IfSome result (λ index. index < 1) }
@@ -26,7 +26,7 @@ fn is_text(p: &Profile, index: i64) -> bool
     }
 }
 
-/// Rule 2, of the header.
+/// Rule 2, of the header, which counts as one entry, of index 0.
 pub fn header_text_fault(p: &Profile) -> Option<usize>
     ensures fault { result ≡ rules.header_text_fault p.now }
     ensures within { IfSome result (λ index. index < 1) }
@@ -40,7 +40,7 @@ pub fn header_text_fault(p: &Profile) -> Option<usize>
     if is_whole { None } else { Some(0) }
 }
 
-/// Rule 2, of the comments.
+/// Rule 2: the least index of a comment that is no text.
 pub fn comment_text_fault(p: &Profile) -> Option<usize>
     ensures fault { result ≡ rules.comment_text_fault p.now }
     ensures within { IfSome result (λ index. index < length p.now.comment) }
@@ -51,13 +51,14 @@ pub fn comment_text_fault(p: &Profile) -> Option<usize>
         .position(|text| !is_text(p, *text))
 }
 
+// Whether kind and unit are texts.
 fn type_has_texts(p: &Profile, kind: &ValueType) -> bool
     ensures { result ≡ rules.type_has_texts p.now kind.now }
 {
     is_text(p, kind.kind) && is_text(p, kind.unit)
 }
 
-/// Rule 2, of the sample types.
+/// Rule 2: the least index of a sample type whose kind or unit is no text.
 pub fn type_text_fault(p: &Profile) -> Option<usize>
     ensures fault { result ≡ rules.type_text_fault p.now }
     ensures within { IfSome result (λ index. index < length p.now.sample_type) }
@@ -68,12 +69,14 @@ pub fn type_text_fault(p: &Profile) -> Option<usize>
         .position(|kind| !type_has_texts(p, kind))
 }
 
+// Whether key, text and unit are texts.
 fn label_has_texts(p: &Profile, label: &Label) -> bool
     ensures { result ≡ rules.label_has_texts p.now label.now }
 {
     is_text(p, label.key) && is_text(p, label.text) && is_text(p, label.num_unit)
 }
 
+// Whether the texts of the sample's labels are there.
 fn sample_has_texts(p: &Profile, sample: &Sample) -> bool
     ensures { result ≡ list_all (rules.label_has_texts p.now) sample.now.label }
 {
@@ -84,7 +87,7 @@ fn sample_has_texts(p: &Profile, sample: &Sample) -> bool
         .all(|label| label_has_texts(p, label))
 }
 
-/// Rule 2, of the samples' labels.
+/// Rule 2: the least index of a sample with a label whose key, text or unit is no text.
 pub fn sample_text_fault(p: &Profile) -> Option<usize>
     ensures fault { result ≡ rules.sample_text_fault p.now }
     ensures within { IfSome result (λ index. index < length p.now.sample) }
@@ -95,13 +98,14 @@ pub fn sample_text_fault(p: &Profile) -> Option<usize>
         .position(|sample| !sample_has_texts(p, sample))
 }
 
+// Whether file and build id are texts.
 fn mapping_has_texts(p: &Profile, mapping: &Mapping) -> bool
     ensures { result ≡ rules.mapping_has_texts p.now mapping.now }
 {
     is_text(p, mapping.file) && is_text(p, mapping.build_id)
 }
 
-/// Rule 2, of the mappings.
+/// Rule 2: the least index of a mapping whose file or build id is no text.
 pub fn mapping_text_fault(p: &Profile) -> Option<usize>
     ensures fault { result ≡ rules.mapping_text_fault p.now }
     ensures within { IfSome result (λ index. index < length p.now.mapping) }
@@ -112,13 +116,14 @@ pub fn mapping_text_fault(p: &Profile) -> Option<usize>
         .position(|mapping| !mapping_has_texts(p, mapping))
 }
 
+// Whether both names and the file are texts.
 fn function_has_texts(p: &Profile, function: &Function) -> bool
     ensures { result ≡ rules.function_has_texts p.now function.now }
 {
     is_text(p, function.name) && is_text(p, function.system_name) && is_text(p, function.filename)
 }
 
-/// Rule 2, of the functions.
+/// Rule 2: the least index of a function whose names or file are no texts.
 pub fn function_text_fault(p: &Profile) -> Option<usize>
     ensures fault { result ≡ rules.function_text_fault p.now }
     ensures within { IfSome result (λ index. index < length p.now.function) }
@@ -129,7 +134,7 @@ pub fn function_text_fault(p: &Profile) -> Option<usize>
         .position(|function| !function_has_texts(p, function))
 }
 
-/// Rule 3: a profile with samples has a sample type.
+/// Rule 3: index 0, where there are samples and no sample type.
 pub fn untyped_fault(p: &Profile) -> Option<usize>
     ensures fault { result ≡ rules.untyped_fault p.now }
     ensures within { IfSome result (λ index. index < 1) }

@@ -13,9 +13,11 @@ use Rattle.pp_model.specs.Frames.{place_read}
 pub place_of : (ids : List ℕ) (id : ℕ) → AreNumbered ids → Contains ids id → (k : ℕ) × (k < length ids) × (id ≡ k + 1)
 place_of ids id numbered (k, within, is) = (k, within, sym is ∙ get_or_default ids k id 0 within ∙ numbered k within)
 
+-- an id of the list is not 0
 pub one_le_id : (ids : List ℕ) (id : ℕ) → AreNumbered ids → Contains ids id → 1 ≤ id
 one_le_id ids id numbered inside = let (k, within, is) = place_of ids id numbered inside in omega (arith, is)
 
+-- its place is one of the list
 pub place_within : (ids : List ℕ) (id : ℕ) → AreNumbered ids → Contains ids id → id - 1 < length ids
 place_within ids id numbered inside = let (k, within, is) = place_of ids id numbered inside in omega (arith, is, within)
 

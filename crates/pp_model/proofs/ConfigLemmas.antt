@@ -36,12 +36,14 @@ pub record SameVariables (a b : Config) : Type 0 where
   pub trim_path : a.trim_path ≡ b.trim_path
   pub workers : a.workers ≡ b.workers
 
+-- two fractions of as many billionths are the same
 pub same_fraction : (a b : Fraction) → a.billionths ≡ b.billionths → a ≡ b
 same_fraction a b same = λ i. record {
   billionths = same i;
   at_most_one = is_prop→PathP (λ j. same j ≤ 1000000000) (λ j. hlevel props) a.at_most_one b.at_most_one i;
 }
 
+-- two configurations with the same variables are the same
 pub same_config : (a b : Config) → SameVariables a b → a ≡ b
 same_config a b same = λ i. record {
   sort = same.sort i;

@@ -11,6 +11,7 @@ use Rattle.pp_model.specs.declared.profile.Profile.{Profile}
 fits_prop : (p : Profile) (verdicts : Option (List Bool)) → IsProp (ForSome verdicts (λ found. length found ≡ length p.text))
 fits_prop p verdicts = hlevel props
 
+-- two with the same profile and verdicts are the same
 pub same_loaded : (a b : Loaded) → a.profile ≡ b.profile → a.drop ≡ b.drop → a.keep ≡ b.keep → a ≡ b
 same_loaded a b profile drop keep = λ i. record {
   profile = profile i;

@@ -14,9 +14,11 @@ use Rattle.pp_model.specs.Rules.{AreNumbered, function_ids, mapping_ids}
 use Rattle.pp_model.specs.Frames.{place_read, line_at, function_with, function_at, mapping_with}
 use Rattle.pp_model.proofs.CompactLemmas.{find_by_place}
 
+-- nothing but zeros
 no_function : Function
 no_function = record { id = 0; name = pos 0; system_name = pos 0; filename = pos 0; start_line = pos 0 }
 
+-- nothing but zeros
 no_mapping : Mapping
 no_mapping = record {
   id = 0;
@@ -57,6 +59,7 @@ passes_read test xs id x is all =
           subst (λ y. test y ≡ true) (get_or_from_slice_get xs (id - 1) x x at) (all (id - 1) x (slice_get_within xs (id - 1) x at))
     ]) is
 
+-- the same of a reference
 pub reference_passes :
     {X : Type 0} (test : X → Bool) (xs given : List X) (id : ℕ) (read : Option (Bor X)) → given ≡ xs → option_copied read ≡ place_read given id →
     AllPass test xs → IfSome read (λ x. test x.now ≡ true)

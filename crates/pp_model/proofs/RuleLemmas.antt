@@ -28,6 +28,7 @@ pub text_below : (n : ℕ) (i : ℤ) → is_text_of n i ≡ true → text_number
 text_below n (pos i) inside = ltb-true i n inside
 text_below n (negsuc i) inside = absurd (true≢false (sym inside))
 
+-- an index that is in range is a place
 pub text_is : (n : ℕ) (i : ℤ) → is_text_of n i ≡ true → i ≡ pos (text_number i)
 text_is n (pos i) inside = refl
 text_is n (negsuc i) inside = absurd (true≢false (sym inside))

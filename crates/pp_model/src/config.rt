@@ -29,9 +29,11 @@ pub struct Config {
     pub noinlines: bool,
     pub showcolumns: bool,
     pub path_tree: bool,
-    /// The most rows of a report, and -1 for the report's own number.
+    /// The most rows of a report, 0 for no limit, and -1 for the report's own number.
     pub nodecount: i32,
+    /// The least part of the total that the cum of a row has, by absolute values.
     pub nodefraction: Fraction,
+    /// The least part of the total that an edge has, by absolute values.
     pub edgefraction: Fraction,
     pub focus: Text,
     pub ignore: Text,
@@ -48,9 +50,11 @@ pub struct Config {
     pub sample_index: Text,
     pub unit: Text,
     pub relative_percentages: bool,
+    /// What each value is divided by, from 1 to 2^63-1.
     pub divide_by: u64,
     pub source_path: Text,
     pub trim_path: Text,
+    /// How many threads may work, from 1 to 64.
     pub workers: u32,
     pub ghost nodecount_from: { negsuc 0 ≤ℤ nodecount },
     pub ghost divisor_from: { 1 ≤ divide_by },
@@ -137,6 +141,7 @@ impl Config {
     }
 }
 
+// A copy of the text.
 fn same(alloc: Global, text: &Text) -> Result<Text, Memory>
     ensures { IfOk result (λ copy. copy ≡ text.now) }
 {

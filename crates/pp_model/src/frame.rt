@@ -23,7 +23,8 @@ pub struct Frame {
 /// Frames, leaf first.
 pub type Stack = List<Frame>;
 
-/// The stack of a sample: the lines of each location in order, or one frame without a row.
+/// The stack of a sample, leaf first: for each location its lines in order, or one frame without a row. `Err` is want of
+/// memory.
 pub fn frames(alloc: Global, l: &Loaded, s: &Sample) -> Result<Stack, Memory>
     requires { RefersTo l.now.profile s.now }
     ensures places { IfOk result (λ stack. stack ≡ stack_of l.now.profile s.now) }
@@ -33,6 +34,7 @@ pub fn frames(alloc: Global, l: &Loaded, s: &Sample) -> Result<Stack, Memory>
     stack_in(alloc, l.profile.get(), s)
 }
 
+// The same, of the profile's tables.
 fn stack_in(alloc: Global, p: &Profile, s: &Sample) -> Result<Stack, Memory>
     requires compact { IsCompact p.now }
     requires refers { RefersTo p.now s.now }
@@ -47,9 +49,11 @@ fn stack_in(alloc: Global, p: &Profile, s: &Sample) -> Result<Stack, Memory>
     Ok(stack)
 }
 
+// Adds the frames of the location that stands at this place of the sample.
 fn push_rows(p: &Profile, place: u64, location: u64, stack: &mut Stack) -> Result<(), Memory>
     requires { location < length p.now.location }
-    ensures { IfOk result (λ _. stack.new ≡ stack.old ++ rows place location (lines_at p.now location)) }
+    ensures { IfOk result
+        (λ _. stack.new ≡ stack.old ++ rows place location (lines_at p.now location)) }
 {
     let lines = p.location.as_slice()[location as usize].line.len();
     if lines == 0 {

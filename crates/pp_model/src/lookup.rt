@@ -78,6 +78,7 @@ pub fn address_of(l: &Loaded, f: &Frame) -> u64
     location_in(l.profile.get(), f).address
 }
 
+// The frame's location.
 fn location_in<'a>(p: &'a Profile, f: &Frame) -> &'a Location
     requires { f.now.location < length p.now.location }
     ensures { result.now ≡ location_at p.now f.now.location }
@@ -85,6 +86,7 @@ fn location_in<'a>(p: &'a Profile, f: &Frame) -> &'a Location
     &p.location.as_slice()[f.location as usize]
 }
 
+// The frame's line, if it has one.
 fn line_in<'a>(p: &'a Profile, f: &Frame) -> Option<&'a Line>
     requires { IsFrameOf p.now f.now }
     ensures { option_copied result ≡ line_at p.now f.now }
@@ -96,6 +98,7 @@ fn line_in<'a>(p: &'a Profile, f: &Frame) -> Option<&'a Line>
     }
 }
 
+// The function of the frame's line, if it is known.
 fn function_in<'a>(p: &'a Profile, f: &Frame) -> Option<&'a Function>
     requires frame { IsFrameOf p.now f.now }
     requires valid { NoRuleFails p.now }
@@ -107,6 +110,7 @@ fn function_in<'a>(p: &'a Profile, f: &Frame) -> Option<&'a Function>
     with_id(p.function.as_slice(), line.function_id)
 }
 
+// The mapping of the frame's location, if it is known.
 fn mapping_in<'a>(p: &'a Profile, f: &Frame) -> Option<&'a Mapping>
     requires frame { IsFrameOf p.now f.now }
     requires valid { NoRuleFails p.now }
@@ -117,6 +121,7 @@ fn mapping_in<'a>(p: &'a Profile, f: &Frame) -> Option<&'a Mapping>
     with_id(p.mapping.as_slice(), location_in(p, f).mapping_id)
 }
 
+// The item whose place plus 1 is the id.
 fn with_id<T>(items: &[T], id: u64) -> Option<&T>
     ensures { option_copied result ≡ place_read items.now id }
 {
@@ -126,6 +131,7 @@ fn with_id<T>(items: &[T], id: u64) -> Option<&T>
     items.get((id - 1) as usize)
 }
 
+// A text index that is in range, as a place.
 fn text_index(i: i64) -> u64
     requires { i ≡ pos (text_number i) }
     ensures { result ≡ text_number i }

@@ -68,7 +68,8 @@ fn three<T: Drop>(alloc: Global, a: T, b: T, c: T) -> Result<List<T>, Memory>
 
 /// The empty text, a function and the one that it calls, their file, and the program's.
 fn texts(alloc: Global) -> Result<List<Text>, Memory>
-    ensures { IfOk result (λ list. list ≡ [] ∷ codes "main" ∷ codes "leaf" ∷ codes "a.c" ∷ codes "app" ∷ []) }
+    ensures { IfOk result
+        (λ list. list ≡ [] ∷ codes "main" ∷ codes "leaf" ∷ codes "a.c" ∷ codes "app" ∷ []) }
 {
     let main = Text::from_slice(alloc, b"main")?;
     let leaf = Text::from_slice(alloc, b"leaf")?;

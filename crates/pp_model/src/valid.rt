@@ -50,6 +50,7 @@ impl Valid {
         self.profile
     }
 
+    // The same change as that of a `Compact`.
     fn set_value(&mut self, sample: usize, column: usize, value: i64)
         requires sample { sample < length self.old.sample }
         requires column { column < length self.old.sample_type }
@@ -83,7 +84,7 @@ impl Compact {
     ghost use Rattle.pp_model.specs.Values.{with_value};
     ghost use Rattle.pp_model.specs.Rules.{NoRuleFails, IsCompact};
 
-    /// Takes a profile whose ids are known to be places plus 1, and whose texts to be distinct.
+    /// Takes a profile whose ids are known to be places plus 1, and whose texts are known to be distinct.
     pub fn claim(p: Valid) -> Compact
         requires { IsCompact p }
         ensures { result ≡ p }
