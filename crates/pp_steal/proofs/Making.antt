@@ -15,7 +15,7 @@ use Rattle.pp_steal.specs.declared.view.OnceEach.{OnceEach}
 use Rattle.pp_steal.specs.declared.deal.Deal.{Deal}
 use Rattle.pp_steal.specs.declared.chair.Chair.{Chair}
 use Rattle.pp_steal.specs.Dealing.{dealt_to, is_of, lane_of}
-use Rattle.pp_steal.specs.Lanes.{Make, Standing, AreNewRows, IsNewRow, IsNewLane, AreNewLanes, IsNewMake, IsDealt, AreDealt, IsReady, AreReady, AreMarked, Deques, deque_of, homes_of, homes_at, IsFresh, AreFresh, make_of, the_make}
+use Rattle.pp_steal.specs.Lanes.{Make, Standing, HasItsPieces, AreNewRows, IsNewRow, IsNewLane, AreNewLanes, IsNewMake, IsDealt, AreDealt, IsReady, AreReady, AreMarked, Deques, deque_of, homes_of, homes_at, IsFresh, AreFresh, make_of, the_make}
 use Rattle.pp_steal.proofs.Dealt.{filter-append}
 use Rattle.pp_steal.proofs.Each.{each_set, each_push, each_split}
 
@@ -144,8 +144,15 @@ pub row_last : (deal : Deal) (lanes pieces : ℕ) (homes : List ((ℕ × ℕ) ×
     → AreNewRows deal lanes pieces homes rest × IsNewRow deal lanes pieces homes row
 row_last deal lanes pieces homes rows rest row all e = each_split (λ (j : ℕ) (r : Vec Chair Global). IsNewRow deal lanes pieces homes r) rest row (subst (AreNewRows deal lanes pieces homes) e all)
 
-pub lanes_more : (make : Make) (lanes : List Standing) (lane : Standing) → AreNewLanes make lanes → (lane.make ≡ make) → (lane.own ≡ length lanes) × (lane.taken ≡ []) → AreNewLanes make (lanes ++ lane ∷ [])
-lanes_more make lanes lane all is own = each_push (IsNewLane make) lanes lane (record { of = is; at = own.0; taken = own.1 }) all
+pub lanes_more : (make : Make) (lanes : List Standing) (lane : Standing) → AreNewLanes make lanes → (lane.make ≡ make) → (lane.own ≡ length lanes) × (lane.taken ≡ []) → HasItsPieces lane → AreNewLanes make (lanes ++ lane ∷ [])
+lanes_more make lanes lane all is own has =
+    let of_make : lane.dealt ≡ dealt_to make.deal (length make.deques) make.pieces lane.own = subst (λ (m : Make). lane.dealt ≡ dealt_to m.deal (length m.deques) m.pieces lane.own) is has in
+    let dealt : lane.dealt ≡ dealt_to make.deal (length make.deques) make.pieces (length lanes) = subst (λ (k : ℕ). lane.dealt ≡ dealt_to make.deal (length make.deques) make.pieces k) own.0 of_make in
+    each_push (IsNewLane make) lanes lane (record { of = is; at = own.0; dealt = dealt; taken = own.1 }) all
+
+-- the pieces of a lane that has a chair at each deque
+pub its_pieces : (deal : Deal) (pieces own : ℕ) (chairs : List Chair) (dealt : List ℕ) → dealt ≡ dealt_to deal (length chairs) pieces own → dealt ≡ dealt_to deal (length (map deque_of chairs)) pieces own
+its_pieces deal pieces own chairs dealt e = e ∙ ap (λ (n : ℕ). dealt_to deal n pieces own) (sym (length-map chairs deque_of))
 
 pub ready_at : (deal : Deal) (lanes pieces : ℕ) (workers : Deques) (own : ℕ) (w : Deque) → own < length workers → w ≡ get_or workers own w → AreReady deal lanes pieces workers → AreMarked (length workers) workers
     → IsReady deal lanes pieces own (worker_view w) × ((worker_view {T = ℕ} {A = Global} {V = View} {P = OnceEach} w).role ≡ Marked)

@@ -23,14 +23,19 @@ pub record Make : Type 0 where
   pub deal : Deal
   pub pieces : ℕ
 
--- A lane as callers see it: the make that it is of, its own number, the pieces that it took, how often its own deque gave
--- nothing, and how often that of each lane did
+-- A lane as callers see it: the make that it is of, its own number, the pieces that its deque was dealt, those that it took,
+-- how often its own deque gave nothing, and how often that of each lane did
 pub record Standing : Type 0 where
   pub make : Make
   pub own : ℕ
+  pub dealt : List ℕ
   pub taken : List ℕ
   pub empties : ℕ
   pub misses : List ℕ
+
+-- the lane's deque was dealt the pieces of the make that go to the lane
+abbrev pub HasItsPieces : Standing → Type 0
+HasItsPieces s = s.dealt ≡ dealt_to s.make.deal (length s.make.deques) s.make.pieces s.own
 
 -- what the lane took
 abbrev pub taken_of : Standing → List ℕ
@@ -162,17 +167,18 @@ pub record AreLanesOf (make : Make) (lanes : List Standing) : Type 0 where
   pub many : length lanes ≡ length make.deques
   pub each : (lane : ℕ) (s : Standing) → lane < length lanes → IsLaneOf make lane (slice_index_or lanes lane s)
 
--- a lane that has taken nothing
+-- a lane whose deque was dealt its pieces, and which has taken nothing
 pub record IsNewLane (make : Make) (lane : ℕ) (s : Standing) : Type 0 where
   pub of : s.make ≡ make
   pub at : s.own ≡ lane
+  pub dealt : s.dealt ≡ dealt_to make.deal (length make.deques) make.pieces lane
   pub taken : s.taken ≡ []
 
--- the first lanes of a make, which have taken nothing
+-- the first lanes of a make, which were dealt their pieces and have taken nothing
 abbrev pub AreNewLanes : Make → List Standing → Type 0
 AreNewLanes make lanes = (lane : ℕ) (s : Standing) → lane < length lanes → IsNewLane make lane (slice_index_or lanes lane s)
 
--- n lanes of one make, to which these pieces were dealt, and which have taken nothing
+-- n lanes of one make, to which the pieces below `pieces` were dealt in this way, and which have taken nothing
 pub record IsNewMake (deal : Deal) (pieces n : ℕ) (lanes : List Standing) : Type 0 where
   pub make : Make
   pub by : make.deal ≡ deal

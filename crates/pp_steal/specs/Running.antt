@@ -1,4 +1,5 @@
--- What a lane at work has done, and outcomes at their places.
+-- What a lane at work has done, and outcomes at their places. The clause of `run_pieces` cites `AreOutcomes` alone; the other
+-- words are for what it calls.
 use Rattle.std.specs.Prelude.{◌≡◌, ℕ, ◌<◌, false, List, [], length, slice_index_or, Option, Some, None}
 use Rattle.std.specs.declared.alloc.Global.{Global}
 use Rattle.std.specs.declared.vec.Vec.{Vec}

@@ -5,7 +5,7 @@ ghost use Rattle.pp_steal.specs.declared.chair.Chair.{Chair};
 ghost use Rattle.pp_steal.specs.declared.view.Role.TheVariants.{Marked};
 ghost use Rattle.pp_steal.specs.Dealing.{AreDistinctPieces};
 ghost use Rattle.pp_steal.specs.Room.{RoomFor};
-ghost use Rattle.pp_steal.specs.Lanes.{IsReady, AreFresh, make_of, homes_at, deque_of, Tends};
+ghost use Rattle.pp_steal.specs.Lanes.{IsReady, AreFresh, HasItsPieces, make_of, homes_at, deque_of, Tends};
 ghost use Rattle.pp_steal.specs.Reaching.{Gave, NoneFell, AllRose};
 
 use crate::chair::{Chair, Owner};
@@ -15,7 +15,8 @@ use crate::room::Room;
 use crate::view::Take;
 use std::marker::Model;
 
-/// A lane of a pool. Contracts see which make it is of, its number, the pieces that it took and its counts.
+/// A lane of a pool. Contracts see which make it is of, its number, the pieces that its own deque was dealt, those
+/// that it took, and its counts.
 #[derive(Drop)]
 pub struct Lane {
     deal: Deal,
@@ -41,30 +42,35 @@ impl Model for Lane {
     ghost view = { λ a. record {
       make = the_make (map deque_of a.chairs.items) a.deal a.pieces;
       own = a.own;
+      dealt = (worker_view a.worker).dealt;
       taken = a.taken.items;
       empties = a.empties;
       misses = map (λ c. c.misses) a.chairs.items;
     } };
 
-    ghost invariant = { λ a. Tends a.deal a.pieces a.own a.taken.items (worker_view a.worker) a.chairs.items
+    ghost invariant = { λ a. Tends a.deal a.pieces a.own a.taken.items
+        (worker_view a.worker) a.chairs.items
         × (a.pieces ≤ vec_capacity a.taken)
-        × ((c : Chair) → worker_deque a.worker ≡ stealer_deque (slice_index_or a.chairs.items a.own c).thief)
+        × ((c : Chair) → worker_deque a.worker
+        ≡ stealer_deque (slice_index_or a.chairs.items a.own c).thief)
         × RoomFor a.own (length a.chairs.items) a.pieces a.room };
 }
 
 impl Lane {
-    /// The next piece for this lane: of its own deque, or else of another lane's, from its right neighbour round. `None` where
-    /// no deque gave a piece. No memory.
+    /// The next piece for this lane: of its own deque, or else of another lane's, from its right neighbour round. With `None`
+    /// the count of its own deque rose, and that of each other lane. No memory.
     pub fn next(&mut self) -> Option<u32>
         ensures same_make { self.new.make ≡ self.old.make }
         ensures same_own { self.new.own ≡ self.old.own }
+        ensures dealt { HasItsPieces self.new }
         ensures pieces { AreDistinctPieces self.new.make.pieces self.new.taken }
         ensures counts { NoneFell self.old.empties (slice_index self.old.misses)
             self.new.empties (slice_index self.new.misses) }
         ensures some { IfSome result (Gave self.old.taken self.new.taken) }
         ensures none { IfNone result (self.new.taken ≡ self.old.taken) }
         ensures tried { IfNone result (AllRose (length self.old.make.deques) self.old.own
-            self.old.empties (slice_index self.old.misses) self.new.empties (slice_index self.new.misses)) }
+            self.old.empties (slice_index self.old.misses)
+            self.new.empties (slice_index self.new.misses)) }
     {
         let piece = sweep(self);
         // A field is read, so that the invariant of the lane as it is now is known.
@@ -153,6 +159,7 @@ impl Lane {
         requires room { RoomFor own (length parts.chairs.items) parts.pieces parts.room }
         ensures make { result.make ≡ make_of (homes_at parts.chairs.items) parts.deal parts.pieces }
         ensures own { result.own ≡ own }
+        ensures dealt { HasItsPieces result }
         ensures taken { result.taken ≡ [] }
     {
         let Parts {

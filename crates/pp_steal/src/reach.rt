@@ -3,8 +3,8 @@ ghost use Rattle.std.specs.Prelude.{◌≡◌, ◌≢◌, ℕ, ◌<◌, ◌≤�
 ghost use Rattle.pp_steal.specs.Lanes.{Make};
 ghost use Rattle.pp_steal.specs.Reaching.{Answers, Gave, NoneFell, AllRose};
 
-/// A lane that can take pieces of its own deque and of the other lanes' deques. Lanes are numbered from 0. No call takes
-/// memory.
+/// A lane that can take pieces of its own deque and of the other lanes' deques. Lanes are numbered from 0. A count that is at
+/// its last value, 2^64 - 1, is said to rise though it stays. No call takes memory.
 pub trait Reach {
     /// How many lanes there are.
     ghost lanes: { Self → ℕ };
@@ -33,7 +33,7 @@ pub trait Reach {
         ensures is { result ≡ own self.now }
         ensures below { result < lanes self.now };
 
-    /// A piece of its own deque, or `None` where that gave nothing.
+    /// A piece of its own deque. With `None` the count of that deque rose.
     fn pop(&mut self) -> Option<u32>
         ensures same_lanes { lanes self.new ≡ lanes self.old }
         ensures same_own { own self.new ≡ own self.old }
@@ -42,7 +42,7 @@ pub trait Reach {
         ensures answer { Answers (taken self.old) (taken self.new)
             (empties self.old) (empties self.new) result };
 
-    /// A piece of the deque of another lane, or `None` where that gave nothing.
+    /// A piece of the deque of another lane. With `None` the count of that lane rose.
     fn steal(&mut self, from: u32) -> Option<u32>
         requires below { from < lanes self.old }
         requires other { from ≢ own self.old }
@@ -55,8 +55,8 @@ pub trait Reach {
             (misses self.old from) (misses self.new from) result };
 }
 
-/// A piece of its own deque, or else of the first other lane that gives one, from its right neighbour round. Each other lane
-/// is tried once. `None` where no deque gave a piece. No memory.
+/// A piece of its own deque, or else of the first other lane that gives one, from its right neighbour round. With `None` the
+/// count of its own deque rose, and that of each other lane. No memory.
 pub fn sweep<R: Reach>(reach: &mut R) -> Option<u32>
     ensures same_lanes { R.lanes reach.new ≡ R.lanes reach.old }
     ensures same_own { R.own reach.new ≡ R.own reach.old }

@@ -40,7 +40,7 @@ pub(crate) fn stations_for<T: Drop>(
     Ok(all)
 }
 
-// Each lane works, on a thread of its own.
+// Each lane works, on a thread of its own where one can be made.
 pub(crate) fn serve_all<R: Threads + Sync, J: Job, G: Gate>(
     rt: &R,
     job: &J,

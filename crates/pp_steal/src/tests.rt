@@ -2,6 +2,7 @@ ghost use Rattle.std.specs.Prelude.{◌≡◌, ◌<◌, ◌≤◌, length};
 ghost use Rattle.pp_steal.specs.Closing.{IsWholeMake};
 
 use super::*;
+use crate::outcomes::{empty_slots, run_left};
 use pp_base::{Gate, List, Memory, OpenGate};
 use std::alloc::Global;
 use std::process::Abort;
@@ -156,6 +157,8 @@ fn a_piece_is_stolen(rt: HostRuntime) -> Result<(), Fail> {
         let gate = Held::new();
         let outcomes = run_pieces(&rt, rt.alloc(), &squares, 5, 2, Deal::First, &gate)?;
         assert_eq!(rt; outcomes.as_slice(), [0, 1, 4, 9, 16].as_slice());
+        assert_eq!(rt; gate.entered.load(Ordering::SeqCst), 5);
+        assert_eq!(rt; gate.left.load(Ordering::SeqCst), 5);
         if gate.gave_up.load(Ordering::SeqCst) == 0 {
             met = true;
             break;
@@ -172,4 +175,88 @@ fn want_of_memory_is_answered(rt: HostRuntime) {
     assert!(rt; outcomes.is_err());
     let outcomes = run_pieces(&rt, rt.alloc(), &squares, 0, 64, Deal::Round, &OpenGate);
     assert!(rt; outcomes.is_ok_and(|all| all.len() == 0));
+}
+
+// A job and its gate in one, which notes each call in turn by two digits: 1 for `enter`, 2 for `run` or 3 for `leave`, and the
+// piece, below 10.
+#[derive(Drop)]
+struct Noted {
+    squares: Squares,
+    calls: AtomicU64,
+}
+
+impl Noted {
+    fn new(wants_at: u32) -> Noted {
+        Noted {
+            squares: Squares { wants_at },
+            calls: AtomicU64::new(0),
+        }
+    }
+
+    fn note(&self, call: u64, piece: u32) {
+        let digits = call.wrapping_mul(10).wrapping_add(u64::from(piece));
+        let calls = self.calls.load(Ordering::SeqCst);
+        let calls = calls.wrapping_mul(100).wrapping_add(digits);
+        self.calls.store(calls, Ordering::SeqCst);
+    }
+
+    fn calls(&self) -> u64 {
+        self.calls.load(Ordering::SeqCst)
+    }
+}
+
+impl Gate for Noted {
+    fn enter(&self, piece: u32) {
+        self.note(1, piece);
+    }
+
+    fn leave(&self, piece: u32) {
+        self.note(3, piece);
+    }
+}
+
+impl Job for Noted {
+    type Out = u64;
+
+    ghost use Rattle.std.specs.Prelude.{◌≡◌, ◌*◌, ◌^◌};
+
+    ghost pieces = { λ _. 2 ^ 32 };
+
+    ghost right = { λ _ piece out. out ≡ piece * piece };
+
+    fn run(&self, piece: u32) -> Result<u64, Memory> {
+        self.note(2, piece);
+        self.squares.run(piece)
+    }
+}
+
+#[test]
+fn a_lane_enters_and_leaves_around_its_piece(rt: HostRuntime) -> Result<(), Fail> {
+    let noted = Noted::new(9);
+    let outcomes = run_pieces(&rt, rt.alloc(), &noted, 1, 1, Deal::Round, &noted)?;
+    assert_eq!(rt; outcomes.as_slice(), [0].as_slice());
+    assert_eq!(rt; noted.calls(), 10_20_30);
+
+    // It leaves a piece whose job wants memory too.
+    let noted = Noted::new(0);
+    let outcomes = run_pieces(&rt, rt.alloc(), &noted, 1, 1, Deal::Round, &noted);
+    assert!(rt; outcomes.is_err());
+    assert_eq!(rt; noted.calls(), 10_20_30);
+    Ok(())
+}
+
+// The slots of four pieces after the pieces 1 and 3, which no lane took, were run.
+fn slots_of_left(alloc: Global, noted: &Noted) -> Result<Vec<Option<u64>>, Memory> {
+    let mut slots = empty_slots(alloc, 4)?;
+    run_left(noted, noted, [1, 3].as_slice(), &mut slots)?;
+    Ok(slots)
+}
+
+#[test]
+fn left_pieces_are_run_in_rising_order(rt: HostRuntime) -> Result<(), Fail> {
+    let noted = Noted::new(9);
+    let slots = slots_of_left(rt.alloc(), &noted)?;
+    assert_eq!(rt; slots.as_slice(), [None, Some(1), None, Some(9)].as_slice());
+    assert_eq!(rt; noted.calls(), 11_21_31_13_23_33);
+    Ok(())
 }

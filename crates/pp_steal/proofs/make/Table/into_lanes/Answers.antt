@@ -81,5 +81,5 @@ loop-worker-preserved c =
       many = omega (arith, i.many, length-append c.pop.new.self.items (c.in-Some-pop.chairs ∷ []));
       rows = r.0;
       room = rw c.push_reserved.ensures.capacity i.room;
-      new = rw c.push_reserved.ensures.items (lanes_more _ lanes c.new.result i.new (c.new.ensures.make ∙ ap (λ h. make_of h c.args.self.deal c.args.self.pieces) r.1.0) (c.new.ensures.own ∙ own_is, c.new.ensures.taken));
+      new = rw c.push_reserved.ensures.items (lanes_more _ lanes c.new.result i.new (c.new.ensures.make ∙ ap (λ h. make_of h c.args.self.deal c.args.self.pieces) r.1.0) (c.new.ensures.own ∙ own_is, c.new.ensures.taken) c.new.ensures.dealt);
     }
