@@ -1,15 +1,14 @@
 -- Bytes that make one change to a message, whatever follows them.
-use Rattle.std.proofs.Common.{◌≡◌, ℕ, ℤ, suc, ◌+◌, ◌<◌, ◌≤◌, ◌^◌, Bool, true, false, cond, eqb, List, [], ◌∷◌, ◌++◌, length, map, Option, Some, None, refl, sym, ap, subst, ◌∙◌, inl, inr, append_assoc, arith}
+use Rattle.std.proofs.Common.{◌≡◌, ℕ, ◌+◌, ◌<◌, ◌≤◌, ◌^◌, Bool, true, false, cond, eqb, List, [], ◌∷◌, ◌++◌, length, Option, None, refl, sym, ap, subst, ◌∙◌, inl, inr, append_assoc, arith}
 use Rattle.std.specs.List.{flat_map, AllByRecursion}
 use Rattle.std.proofs.lemmas.List.{append-nil, length-append}
 use Rattle.std.proofs.lemmas.Bool.Decides.{eqb_tells}
-use Rattle.std.proofs.lemmas.List.Concat.{flat_map-cons}
 use Rattle.pp_wire.specs.declared.fault.WireFault.{WireFault}
 use Rattle.pp_wire.specs.Walk.{Walk, more, walk_in}
 use Rattle.pp_wire.specs.Fields.{Content, Varint, Bytes, Item, fields, numbers}
 use Rattle.pp_wire.specs.Spelling.{varint_bytes, tag_bytes, number_field, bytes_field, packed_field}
 use Rattle.pp_wire.proofs.Again.{number_field_again, bytes_field_again, packed_again}
-use Rattle.pp_tables.specs.Message.{Rule, Scalar, Numbers, Run, Nested, fault_by, fault_of, or_else, walk_fault, fault_in}
+use Rattle.pp_tables.specs.Message.{Rule, Scalar, Numbers, Nested, fault_by, fault_of, or_else, walk_fault, fault_in}
 
 -- a message as it is filled
 pub record Message (X : Type 0) : Type 0 where
@@ -31,7 +30,7 @@ pub record Whole {X : Type 0} (M : Message X) (bytes : List ℕ) (change : X →
   pub fault : (base : ℕ) → fault_in M.rules bytes base ≡ None
   pub value : (old : X) (base : ℕ) → M.filled old (fields bytes base).items ≡ change old
 
-nothing : (base : ℕ) → fields [] base ≡ record { items = []; fault = None }
+pub nothing : (base : ℕ) → fields [] base ≡ record { items = []; fault = None }
 unfolding walk_in
 nothing base = refl
 

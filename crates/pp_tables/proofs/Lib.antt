@@ -3,3 +3,5 @@ pub mod Joins
 pub mod Adds
 pub mod Messages
 pub mod Written
+pub mod Followed
+pub mod Payloads

@@ -1,12 +1,11 @@
 -- Each message of the canonical bytes is read as what was written.
-use Rattle.std.proofs.Common.{◌≡◌, ℕ, ℤ, pos, negsuc, suc, ◌+◌, ◌-◌, ◌<◌, ◌≤◌, ◌^◌, Bool, true, false, cond, eqb, List, [], ◌∷◌, ◌++◌, length, map, Option, Some, None, refl, sym, ap, subst, ◌∙◌, inl, inr, append_assoc, arith, lit≤, lit<}
+use Rattle.std.proofs.Common.{◌≡◌, ℕ, ℤ, pos, negsuc, ◌<◌, ◌^◌, Bool, true, false, cond, eqb, List, [], ◌∷◌, ◌++◌, length, map, refl, sym, ap, ◌∙◌, inl, inr, arith, lit≤, lit<}
 use Rattle.std.specs.Int.{w64}
 use Rattle.std.specs.List.{AllByRecursion}
 use Rattle.std.proofs.lemmas.List.{append-nil, length-append}
 use Rattle.std.proofs.lemmas.Int.{to_z-of_z}
-use Rattle.std.proofs.lemmas.Bool.{eqb-true}
 use Rattle.std.proofs.lemmas.Bool.Decides.{eqb_tells}
-use Rattle.pp_wire.specs.Spelling.{number_field, packed_field}
+use Rattle.pp_wire.specs.Spelling.{packed_field}
 use Rattle.pp_model.specs.declared.profile.ValueType.{ValueType}
 use Rattle.pp_model.specs.declared.profile.Label.{Label}
 use Rattle.pp_model.specs.declared.profile.Sample.{Sample}
@@ -18,8 +17,8 @@ use Rattle.pp_tables.specs.Select.{signed, flag}
 use Rattle.pp_tables.specs.Tables.{value_type_rules, no_value_type, value_type_with, label_rules, no_label, label_with, sample_rules, no_sample, sample_with, mapping_rules, no_mapping, mapping_with, line_rules, no_line, line_with, location_rules, no_location, location_with, function_rules, no_function, function_with}
 use Rattle.pp_tables.specs.Takes.{value_type_put, label_put, sample_put, mapping_put, line_put, location_put, function_put}
 use Rattle.pp_tables.specs.Filling.{value_type_more, label_more, sample_none, sample_more, mapping_more, line_more, location_none, location_more, function_more}
-use Rattle.pp_tables.specs.Encode.{unsigned, int_field, bit, bool_field, message_fields, value_type_bytes, label_bytes, sample_bytes, mapping_bytes, line_bytes, location_bytes, function_bytes}
-use Rattle.pp_tables.specs.Fits.{IsUint, IsInt, ValueTypeFits, LabelFits, SampleFits, MappingFits, LineFits, LocationFits, FunctionFits}
+use Rattle.pp_tables.specs.Encode.{unsigned, bit, bool_field, message_fields, value_type_bytes, label_bytes, sample_bytes, mapping_bytes, line_bytes, location_bytes, function_bytes}
+use Rattle.pp_tables.specs.Fits.{IsInt, ValueTypeFits, LabelFits, SampleFits, MappingFits, LineFits, LocationFits, FunctionFits}
 use Rattle.pp_tables.proofs.Adds.{Message, Adds, Whole, adds_then, whole, scalar_adds, packed_adds, table_adds}
 
 -- a part is no longer than the whole

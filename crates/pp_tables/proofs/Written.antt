@@ -1,23 +1,20 @@
 -- A profile's canonical bytes are read as that profile.
-use Rattle.std.proofs.Common.{◌≡◌, ℕ, ℤ, pos, suc, ◌+◌, ◌<◌, ◌≤◌, ◌^◌, Bool, true, false, cond, eqb, List, [], ◌∷◌, ◌++◌, length, map, Option, Some, None, Result, Ok, Err, refl, sym, ap, subst, ◌∙◌, inl, inr, append_assoc, arith, lit≤, lit<}
+use Rattle.std.proofs.Common.{◌≡◌, ℕ, ℤ, pos, ◌<◌, ◌^◌, Bool, true, false, cond, eqb, List, [], ◌∷◌, ◌++◌, length, map, None, Ok, Err, refl, sym, ap, subst, ◌∙◌, append_assoc, arith, lit≤, lit<}
 use Rattle.std.specs.Prelude.{◌&&◌}
-use Rattle.std.specs.List.{flat_map, AllByRecursion}
+use Rattle.std.specs.List.{AllByRecursion}
 use Rattle.std.proofs.lemmas.List.{append-nil, length-append}
 use Rattle.std.proofs.lemmas.Bool.{eqb-true}
-use Rattle.pp_wire.specs.declared.fault.WireKind.TheVariants.{BadKind}
-use Rattle.pp_wire.specs.declared.fault.WireFault.{WireFault}
-use Rattle.pp_wire.specs.Walk.{Walk, walk_in}
-use Rattle.pp_wire.specs.Fields.{Bytes, fields, field, field_in, number_in, content}
+use Rattle.pp_wire.specs.Walk.{walk_in}
+use Rattle.pp_wire.specs.Fields.{fields, field, field_in, number_in, content}
 use Rattle.pp_wire.specs.Varint.{groups, varint}
 use Rattle.pp_wire.specs.Spelling.{tag_bytes, varint_bytes, bytes_field, packed_field}
 use Rattle.pp_model.specs.declared.profile.ValueType.{ValueType}
 use Rattle.pp_model.specs.declared.profile.Profile.{Profile}
 use Rattle.pp_model.specs.Rules.{begins_empty, zero_unless, NoRuleFails}
-use Rattle.pp_tables.specs.declared.refusal.ReadRefusal.{ReadRefusal}
 use Rattle.pp_tables.specs.declared.refusal.ReadRefusal.TheVariants as refusal
-use Rattle.pp_tables.specs.Message.{fault_in, fault_by, or_else, walk_fault}
-use Rattle.pp_tables.specs.Select.{signed, fields_in}
-use Rattle.pp_tables.specs.Tables.{value_type_with, no_value_type, no_sample, no_mapping, no_location, no_function, profile_rules, no_profile, profile_with}
+use Rattle.pp_tables.specs.Message.{fault_in, walk_fault}
+use Rattle.pp_tables.specs.Select.{signed}
+use Rattle.pp_tables.specs.Tables.{no_value_type, no_sample, no_mapping, no_location, no_function, profile_rules, no_profile, profile_with}
 use Rattle.pp_tables.specs.Takes.{profile_put}
 use Rattle.pp_tables.specs.Filling.{profile_none, profile_more}
 use Rattle.pp_tables.specs.Read.{is_gzip, or_one_empty, profile_of, unless, read_message, read}

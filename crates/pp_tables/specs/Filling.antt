@@ -77,7 +77,7 @@ all-append : {A : Type 0} (read : Item → List A) (n : ℕ) (xs ys : List Item)
 all-append read n xs ys = ap (flat_map read) (filter-append (λ item. eqb item.number n) xs ys) ∙ flat_map-append read (filter (λ item. eqb item.number n) xs) (filter (λ item. eqb item.number n) ys)
 
 -- payloads one after another are the fields one after another
-value_type_joined : (m : ValueType) (xs ys : List Item) → value_type_with (value_type_with m xs) ys ≡ value_type_with m (xs ++ ys)
+pub value_type_joined : (m : ValueType) (xs ys : List Item) → value_type_with (value_type_with m xs) ys ≡ value_type_with m (xs ++ ys)
 value_type_joined m xs ys =
     cc (last_or-append m.kind (all ints_in 1 xs) (all ints_in 1 ys), last_or-append m.unit (all ints_in 2 xs) (all ints_in 2 ys), all-append ints_in 1 xs ys, all-append ints_in 2 xs ys)
 

@@ -6,3 +6,4 @@ pub mod Takes
 pub mod Filling
 pub mod Encode
 pub mod Fits
+pub mod Joined

@@ -187,7 +187,8 @@ no_profile = record {
   doc_url = pos 0;
 }
 
--- a Profile after these fields: a period type that comes more than once is the message of its payloads joined
+-- a Profile after these fields: a period type takes the fields of all its payloads, which is the message of the payloads
+-- joined (the law payloads_are_joined)
 abbrev pub profile_with : Profile → List Item → Profile
 profile_with old items = record {
   sample_type = old.sample_type ++ all (messages_in (value_type_with no_value_type)) 1 items;

@@ -1,12 +1,27 @@
-//! A profile that was written is read again. The function does nothing: its clause is the law.
-ghost use Rattle.std.specs.Prelude.{◌≡◌, ◌<◌, ◌^◌, length, Ok};
+//! What holds of any profile and any bytes. These functions do nothing: their clauses are the laws.
+ghost use Rattle.std.specs.Prelude.{◌≡◌, ◌<◌, ◌^◌, ℕ, List, length, Ok};
+ghost use Rattle.std.specs.List.{flat_map, AllByRecursion};
+ghost use Rattle.pp_wire.specs.Fields.{fields};
 ghost use Rattle.pp_model.specs.declared.profile.Profile.{Profile};
 ghost use Rattle.pp_model.specs.Rules.{NoRuleFails};
 ghost use Rattle.pp_tables.specs.Fits.{ProfileFits};
 ghost use Rattle.pp_tables.specs.Encode.{encode};
 ghost use Rattle.pp_tables.specs.Read.{read};
+ghost use Rattle.pp_tables.specs.Select.{all};
+ghost use Rattle.pp_tables.specs.Tables.{value_type_with, no_value_type};
+ghost use Rattle.pp_tables.specs.Joined.{PayloadAt, payloads_in, joined, fields_at, IsFaultless, Makes};
 
 /// Of a profile that keeps the table rules, the canonical bytes are read as that profile, table by table.
 pub fn written_is_read()
     ensures { (p : Profile) → NoRuleFails p → ProfileFits p → length (encode p) < 2 ^ 64 → read (encode p) ≡ Ok p }
+{}
+
+/// A value type that comes in several payloads is the message of these payloads joined, wherever that would lie. So the
+/// period type of a file is the message of the payloads of all its fields 11 joined.
+pub fn payloads_are_joined()
+    ensures payloads { (payloads : List PayloadAt) (at : ℕ) → AllByRecursion IsFaultless payloads
+        → Makes (joined payloads) at (value_type_with no_value_type (flat_map fields_at payloads)) }
+
+    ensures period_type { (bytes : List ℕ) (p : Profile) (at : ℕ) → read bytes ≡ Ok p
+        → Makes (joined (all payloads_in 11 (fields bytes 0).items)) at p.period_type }
 {}

@@ -12,7 +12,7 @@ mod sample;
 mod spelled;
 mod writing;
 
-pub use laws::written_is_read;
+pub use laws::{payloads_are_joined, written_is_read};
 pub use reading::read_profile;
 pub use refusal::ReadRefusal;
 pub use writing::write_profile;

@@ -1,6 +1,6 @@
 //! What has canonical bytes as a message, and the fields that are made of it.
 ghost use Rattle.std.specs.Prelude.{◌≡◌, ◌≤◌, ◌<◌, ◌^◌, ◌++◌, map, OnOk, IfOk};
-ghost use Rattle.pp_wire.specs.Spelling.{packed_field};
+ghost use Rattle.pp_wire.specs.Spelling.{bytes_field, packed_field};
 ghost use Rattle.pp_tables.specs.Encode.{unsigned, int_field, bool_field, message_fields};
 
 use pp_base::{Memory, Text};
@@ -71,9 +71,24 @@ pub(crate) fn put_messages<M: Spelled>(
 {
     let mut payload = Text::new(alloc);
     for message in list {
-        payload.clear();
-        message.put(alloc, &mut payload)?;
-        put_bytes(out, number, payload.as_slice())?;
+        put_message(alloc, out, number, message, &mut payload)?;
     }
     Ok(())
+}
+
+/// Appends a field for the message. What the payload had before is lost.
+pub(crate) fn put_message<M: Spelled>(
+    alloc: Global,
+    out: &mut Text,
+    number: u32,
+    message: &M,
+    payload: &mut Text,
+) -> Result<(), Memory>
+    requires least { 1 ≤ number }
+    requires below { number < 2 ^ 29 }
+    ensures { OnOk result (out.new ≡ out.old ++ bytes_field number (M.bytes message.now)) }
+{
+    payload.clear();
+    message.put(alloc, payload)?;
+    put_bytes(out, number, payload.as_slice())
 }

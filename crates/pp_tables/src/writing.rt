@@ -2,10 +2,10 @@
 ghost use Rattle.std.specs.Prelude.{◌≡◌, ◌++◌, OnOk, IfOk};
 ghost use Rattle.pp_tables.specs.Encode.{period_type_field, table_bytes, header_bytes, encode};
 
-use crate::spelled::{Spelled, put_bool, put_int, put_messages, put_packed_ints};
+use crate::spelled::{Spelled, put_bool, put_int, put_message, put_messages, put_packed_ints};
 use pp_base::{Memory, Text};
 use pp_model::{Function, Label, Line, Location, Mapping, Profile, Sample, Valid, ValueType};
-use pp_wire::{put_bytes, put_number, put_packed};
+use pp_wire::{put_number, put_packed};
 use std::alloc::Global;
 
 impl Spelled for ValueType {
@@ -27,6 +27,7 @@ impl Spelled for Label {
 
     ghost bytes = { label_bytes };
 
+    #[tactic(auto, using(crate::proofs::Joins::then_part))]
     fn put(&self, _: Global, out: &mut Text) -> Result<(), Memory> {
         // int64 key = 1;
         put_int(out, 1, &self.key)?;
@@ -61,6 +62,7 @@ impl Spelled for Mapping {
 
     ghost bytes = { mapping_bytes };
 
+    #[tactic(auto, using(crate::proofs::Joins::then_part))]
     fn put(&self, _: Global, out: &mut Text) -> Result<(), Memory> {
         // uint64 id = 1;
         put_number(out, 1, self.id)?;
@@ -127,6 +129,7 @@ impl Spelled for Function {
 
     ghost bytes = { function_bytes };
 
+    #[tactic(auto, using(crate::proofs::Joins::then_part))]
     fn put(&self, _: Global, out: &mut Text) -> Result<(), Memory> {
         // uint64 id = 1;
         put_number(out, 1, self.id)?;
@@ -185,6 +188,7 @@ fn put_tables(alloc: Global, out: &mut Text, p: &Profile) -> Result<(), Memory>
     Ok(())
 }
 
+#[tactic(auto, using(crate::proofs::Joins::then_part))]
 fn put_header(alloc: Global, out: &mut Text, p: &Profile) -> Result<(), Memory>
     ensures { OnOk result (out.new ≡ out.old ++ header_bytes p.now) }
 {
@@ -216,6 +220,5 @@ fn put_period_type(alloc: Global, out: &mut Text, v: &ValueType) -> Result<(), M
         return Ok(());
     }
     let mut payload = Text::new(alloc);
-    v.put(alloc, &mut payload)?;
-    put_bytes(out, 11, payload.as_slice())
+    put_message(alloc, out, 11, v, &mut payload)
 }
