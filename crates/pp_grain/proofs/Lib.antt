@@ -1,3 +1,4 @@
 pub mod CallerLemmas
+pub mod HexLemmas
 pub mod NamingLemmas
 pub mod SightLemmas

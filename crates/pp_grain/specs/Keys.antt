@@ -11,12 +11,14 @@ use Rattle.pp_model.specs.declared.profile.Profile.{Profile}
 use Rattle.pp_model.specs.Frames.{Written, text_at}
 use Rattle.pp_grain.specs.declared.key.Key.{Key}
 
--- the next frame towards the root is of another place, or there is none
+-- no frame of the same place follows on the way to the root
 abbrev pub is_last_of_place : List Frame → ℕ → Bool
 is_last_of_place stack i =
-    option_map_or (λ next. not (next.place == (slice_index_or stack i next).place)) (slice_get stack (i + 1)) true
+    option_map_or (λ next. not (next.place == (slice_index_or stack i next).place))
+    (slice_get stack (i + 1)) true
 
--- Whether the frame counts: with noinlines, only the last of its place, into which the others were inlined.
+-- Whether the frame counts: with noinlines, only the last of its place, which the others were
+-- inlined into.
 abbrev pub counts : List Frame → ℕ → Bool → Bool
 counts stack i noinlines = not noinlines || is_last_of_place stack i
 
@@ -45,15 +47,43 @@ column_if shown column = if shown then column else pos 0
 -- what the grain keeps of a frame, but for the object
 abbrev pub kept_by : Grain → Bool → Written → Written
 kept_by Functions _ w =
-    record { function = w.function; file = []; line = pos 0; column = pos 0; address = 0; object = [] }
+    record {
+      function = w.function;
+      file = [];
+      line = pos 0;
+      column = pos 0;
+      address = 0;
+      object = [];
+    }
 kept_by FileFunctions _ w =
-    record { function = w.function; file = w.file; line = pos 0; column = pos 0; address = 0; object = [] }
+    record {
+      function = w.function;
+      file = w.file;
+      line = pos 0;
+      column = pos 0;
+      address = 0;
+      object = [];
+    }
 kept_by Files _ w =
     record { function = []; file = w.file; line = pos 0; column = pos 0; address = 0; object = [] }
 kept_by Lines shown w =
-    record { function = w.function; file = w.file; line = w.line; column = column_if shown w.column; address = 0; object = [] }
+    record {
+      function = w.function;
+      file = w.file;
+      line = w.line;
+      column = column_if shown w.column;
+      address = 0;
+      object = [];
+    }
 kept_by Addresses shown w =
-    record { function = w.function; file = w.file; line = w.line; column = column_if shown w.column; address = w.address; object = [] }
+    record {
+      function = w.function;
+      file = w.file;
+      line = w.line;
+      column = column_if shown w.column;
+      address = w.address;
+      object = [];
+    }
 
 -- The key of a frame.
 abbrev pub key_texts : Grain → Bool → Written → Written
@@ -83,10 +113,13 @@ by_address a b = nat_cmp a.address b.address
 abbrev pub by_object : Written → Written → Ordering
 by_object a b = slice_cmp nat_cmp a.object b.object
 
--- The order of keys: by function, file, line, column, address and object in turn, texts by their bytes.
+-- The order of keys: by function, file, line, column, address and object in turn, texts by their
+-- bytes.
 abbrev pub key_cmp : Written → Written → Ordering
 key_cmp =
-    then_cmp (then_cmp (then_cmp (then_cmp (then_cmp by_function by_file) by_line) by_column) by_address) by_object
+    then_cmp
+    (then_cmp (then_cmp (then_cmp (then_cmp by_function by_file) by_line) by_column) by_address)
+    by_object
 
 -- the key's texts are texts of the profile
 pub record IsKeyOf (p : Profile) (key : Key) : Type 0 where

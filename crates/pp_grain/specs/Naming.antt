@@ -1,19 +1,16 @@
 -- The name of a key.
-use Rattle.std.specs.Prelude.{ℕ, ◌+◌, ◌-◌, ◌*◌, ◌/◌, ◌%◌, ◌^◌, Bool, not, ◌==◌, nat_lt, List, [], ◌∷◌, ◌++◌, map, codes, if◌then◌else◌, ℤ, ◌&&◌}
+use Rattle.std.specs.Prelude.{ℕ, ◌-◌, ◌*◌, ◌/◌, ◌%◌, ◌^◌, Bool, not, ◌==◌, List, [], ◌∷◌, ◌++◌, map, codes, if◌then◌else◌, ℤ, ◌&&◌}
+use Rattle.std.specs.Char.{digit_char}
 use Rattle.std.specs.Fmt.{signed_decimal}
 use Rattle.std.specs.List.{after_last, join_with_byte, range_with_len}
 use Rattle.pp_model.specs.Frames.{Written}
 use Rattle.pp_grain.specs.Keys.{is_empty, is_zero, is_nameless}
 
--- a lower-case hexadecimal digit
-abbrev pub hex_digit : ℕ → ℕ
-hex_digit d = if nat_lt d 10 then 48 + d else 87 + d
-
--- the k-th of sixteen hexadecimal digits, the highest first
+-- the k-th of sixteen hexadecimal digits, the highest first, in lower case
 abbrev pub digit_at : ℕ → ℕ → ℕ
-digit_at n k = hex_digit (n / 2 ^ (60 - 4 * k) % 16)
+digit_at n k = digit_char (n / 2 ^ (60 - 4 * k) % 16)
 
--- sixteen hexadecimal digits
+-- Sixteen hexadecimal digits. Read in base 16 they are the number again.
 abbrev pub hex16 : ℕ → List ℕ
 hex16 n = map (digit_at n) (range_with_len 0 16)
 
@@ -45,9 +42,10 @@ has_place key = not (is_empty key.file && is_zero key.line)
 abbrev pub object_text : List ℕ → List ℕ
 object_text base = if is_empty base then codes "<unknown>" else codes "[" ++ base ++ codes "]"
 
--- the place where one is there, else the object's last part
+-- the place where one is there, else the object's last part; no public clause cites it
 abbrev pub place_or_object : Written → List ℕ
-place_or_object key = if has_place key then place_text key else object_text (after_last is_slash key.object)
+place_or_object key =
+    if has_place key then place_text key else object_text (after_last is_slash key.object)
 
 -- the words of a name but for the address: function and place, or else the object
 abbrev pub code_words : Written → List (List ℕ)
@@ -58,4 +56,5 @@ code_words key =
 
 -- The name: its words, set apart by spaces.
 abbrev pub name_text : Written → List ℕ
-name_text key = join_with_byte 32 (word_if (not (key.address == 0)) (hex16 key.address) ++ code_words key)
+name_text key =
+    join_with_byte 32 (word_if (not (key.address == 0)) (hex16 key.address) ++ code_words key)

@@ -9,7 +9,8 @@ abbrev pub same_key : Key → Key → Bool
 same_key a b =
     a.function == b.function
     && (a.file == b.file
-    && (int_eq a.line b.line && (int_eq a.column b.column && (a.address == b.address && a.object == b.object))))
+    && (int_eq a.line b.line
+    && (int_eq a.column b.column && (a.address == b.address && a.object == b.object))))
 
 -- the keys seen, in order of first sight, after one more
 abbrev pub seen_with : List Key → Key → List Key

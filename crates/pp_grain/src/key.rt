@@ -1,8 +1,8 @@
 //! What a row stands for, as indices.
 
-/// A function, a file, a place in it and an address, as far as the grain keeps them: each is 0 where it isn't kept
-/// or not known. `function`, `file` and `object` are text indices. The object is there only where `function`, `file`
-/// and `line` are all 0.
+/// A function, a file, a place in it and an address, as far as the grain keeps them: each is 0 where
+/// it isn't kept or not known. `function`, `file` and `object` are text indices. The object is there
+/// only where the other texts are empty and the line is 0.
 #[derive(Clone, Copy, Debug, PartialEq, Eq, Hash)]
 pub struct Key {
     pub function: u64,

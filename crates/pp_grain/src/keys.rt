@@ -21,7 +21,8 @@ const NOTHING: Key = Key {
     object: 0,
 };
 
-/// Whether the frame counts. With `noinlines` it does where the next frame towards the root is of another place.
+/// Whether the frame at `i` counts, where 0 is the leaf. With `noinlines` only the last frame of each
+/// place does, the one that the others of the place were inlined into.
 pub fn counted(stack: &Stack, i: usize, noinlines: bool) -> bool
     requires { i < length stack.now }
     ensures { result ≡ counts stack.now i noinlines }
@@ -39,7 +40,8 @@ pub fn counted(stack: &Stack, i: usize, noinlines: bool) -> bool
 /// The key of the frame: what the grain keeps of it. Only lines and addresses have columns.
 pub fn key_of(l: &Loaded, f: &Frame, grain: Grain, showcolumns: bool) -> Key
     requires { IsFrameOf l.now.profile f.now }
-    ensures texts { key_written l.now.profile result ≡ key_texts grain showcolumns (written l.now.profile f.now) }
+    ensures texts { key_written l.now.profile result
+        ≡ key_texts grain showcolumns (written l.now.profile f.now) }
     ensures of_profile { IsKeyOf l.now.profile result }
 {
     let key = kept_by(l, f, grain, showcolumns);
@@ -53,6 +55,7 @@ pub fn key_of(l: &Loaded, f: &Frame, grain: Grain, showcolumns: bool) -> Key
     }
 }
 
+// Whether the key has neither a function, nor a file, nor a line.
 fn is_nameless(p: &Profile, key: &Key) -> bool
     requires { IsKeyOf p.now key.now }
     ensures same { result ≡ is_nameless (key_written p.now key.now) }
@@ -86,6 +89,7 @@ fn kept_by(l: &Loaded, f: &Frame, grain: Grain, showcolumns: bool) -> Key
     }
 }
 
+// The key with line and column, and with this address.
 fn line_key(l: &Loaded, f: &Frame, address: u64, showcolumns: bool) -> Key
     requires { IsFrameOf l.now.profile f.now }
     ensures texts { text_at l.now.profile 0 ≡ [] → key_written l.now.profile result

@@ -1,5 +1,5 @@
-//! The keys that the rows of a report stand for: which frames count, the key of a frame, the order of keys, their
-//! names, and their numbers at first sight.
+//! The keys that the rows of a report stand for: which frames count, the key of a frame, the order
+//! of keys, their names, and their numbers at first sight.
 #![tactic(auto)]
 
 mod key;

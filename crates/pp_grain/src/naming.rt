@@ -1,9 +1,11 @@
 //! The name of a key.
 ghost use Rattle.std.specs.Prelude.{◌≡◌, ◌++◌, ◌<◌, take, length, OnOk, OnErr};
+ghost use Rattle.std.specs.Char.{digit_char};
 ghost use Rattle.std.specs.List.{after_last, join_with_byte};
+ghost use Rattle.std.specs.Str.Parse.{digits_value};
 ghost use Rattle.pp_grain.specs.Keys.{key_written, IsKeyOf};
 ghost use Rattle.pp_grain.specs.Told.{told};
-ghost use Rattle.pp_grain.specs.Naming.{name_text, code_words, place_or_object, place_text, colon_number, object_text, is_slash, hex16, hex_digit};
+ghost use Rattle.pp_grain.specs.Naming.{name_text, code_words, place_or_object, place_text, colon_number, object_text, is_slash, hex16};
 
 use crate::key::Key;
 use crate::texts::{KeyTexts, texts_of};
@@ -13,8 +15,9 @@ use pp_model::Loaded;
 
 /// Adds the key's name at the end of `out`. On want of memory `out` is as it was.
 ///
-/// The words of the name stand apart by a space: the address as sixteen hexadecimal digits, the function, the file with
-/// line and column. Where there is no function, file or line, the last part of the object's path stands in brackets.
+/// The words of the name stand apart by a space: the address as sixteen hexadecimal digits, the
+/// function, the file with line and column. Where there is no function, file or line, the last part
+/// of the object's path stands in brackets.
 pub fn write_name(l: &Loaded, key: &Key, out: &mut Text) -> Result<(), Memory>
     requires { IsKeyOf l.now.profile key.now }
     ensures ok { OnOk result (out.new ≡ out.old ++ name_text (key_written l.now.profile key.now)) }
@@ -112,7 +115,7 @@ fn put_object(base: &[u8], out: &mut Text) -> Result<(), Memory>
     out.extend(b"]")
 }
 
-// What stands after the last slash.
+// What stands after the last slash, or all where there is none.
 fn last_part(path: &[u8]) -> &[u8]
     ensures { result.now ≡ after_last is_slash path.now }
 {
@@ -123,8 +126,10 @@ fn last_part(path: &[u8]) -> &[u8]
     path.split_at(start).1
 }
 
+// The number in sixteen hexadecimal digits, with zeros in front.
 fn hex16(n: u64) -> [u8; 16]
-    ensures { result ≡ hex16 n }
+    ensures digits { result ≡ hex16 n }
+    ensures value { digits_value 16 result ≡ n }
 {
     let mut digits = [0; 16];
     for k in 0..16 {
@@ -135,7 +140,7 @@ fn hex16(n: u64) -> [u8; 16]
 
 fn hex_digit(d: u8) -> u8
     requires { d < 16 }
-    ensures { result ≡ hex_digit d }
+    ensures { result ≡ digit_char d }
 {
     if d < 10 { b'0' + d } else { b'a' + (d - 10) }
 }

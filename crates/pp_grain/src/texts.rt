@@ -10,11 +10,17 @@ use pp_model::Profile;
 /// A key with its texts, borrowed from the profile.
 #[derive(Clone, Copy, Debug)]
 pub struct KeyTexts<'a> {
+    /// The function's name, empty where it isn't kept or not known.
     pub function: &'a [u8],
+    /// The path of the source file, empty where it isn't kept or not known.
     pub file: &'a [u8],
+    /// The line's number in the file, 0 where it isn't kept or not known.
     pub line: i64,
+    /// The column in the line, 0 where it isn't kept or not known.
     pub column: i64,
+    /// 0 where it isn't kept or not known.
     pub address: u64,
+    /// The path of the mapping's file, empty where the function, the file or the line is there.
     pub object: &'a [u8],
 }
 
@@ -33,6 +39,7 @@ pub fn texts_of<'a>(p: &'a Profile, key: &Key) -> KeyTexts<'a>
     }
 }
 
+/// The text with the index.
 pub fn text(p: &Profile, i: u64) -> &[u8]
     requires { i < length p.now.text }
     ensures { result.now ≡ text_at p.now i }

@@ -333,9 +333,9 @@ lies_same_other : lies (codes "1widgets:") (pos 5) (codes "WIDGETS") ≡ Some tr
 unfolding lies range_of bound_of in_range is_same_kind scale_of is_named
 lies_same_other = refl
 
-lies_minutes_unknown : lies (codes "1hour:1hour") (pos 3600) (codes "s") ≡ Some true
+lies_at_the_hour : lies (codes "1hour:1hour") (pos 3600) (codes "s") ≡ Some true
 unfolding lies range_of bound_of in_range is_same_kind scale_of is_named
-lies_minutes_unknown = refl
+lies_at_the_hour = refl
 
 lies_negative : lies (codes ":-1s") (negsuc 999) (codes "ms") ≡ Some true
 unfolding lies range_of bound_of in_range is_same_kind scale_of is_named

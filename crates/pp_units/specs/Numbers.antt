@@ -13,14 +13,15 @@ full hundredths = decimal (hundredths / 100) ++ decimals hundredths
 
 -- the same, where `.00` is left out
 abbrev pub shortened : ℕ → List ℕ
-shortened hundredths = decimal (hundredths / 100) ++ (if hundredths % 100 == 0 then [] else decimals hundredths)
+shortened hundredths =
+    decimal (hundredths / 100) ++ (if hundredths % 100 == 0 then [] else decimals hundredths)
 
 -- a minus before the text of a number below 0
 abbrev pub signed : (ℕ → List ℕ) → ℤ → List ℕ
 signed text (pos n) = text n
 signed text (negsuc n) = codes "-" ++ text (suc n)
 
--- a minus, where so many are below 0
+-- a minus, where so many are below 0; no public clause cites it
 abbrev pub sign_text : Bool → ℕ → List ℕ
 sign_text negative n = if negative && nat_lt 0 n then codes "-" else []
 
@@ -38,7 +39,8 @@ value_text value unit = number_text value unit ++ suffix_after (number_text valu
 
 -- how much of the total a value is, in hundredths of a percent
 unfoldable pub percent_text : ℤ → ℕ → List ℕ
-percent_text value total = if total == 0 then codes "0%" else signed full (rounded value 10000 total) ++ codes "%"
+percent_text value total =
+    if total == 0 then codes "0%" else signed full (rounded value 10000 total) ++ codes "%"
 
 -- a text that ends at the right of so many places; a longer one stands whole
 abbrev pub right_text : ℕ → List ℕ → List ℕ

@@ -13,7 +13,9 @@ digits_of text = take_while is_ascii_digit (without_leading_sign text)
 
 -- what stands after the digits
 abbrev pub unit_of : List ℕ → List ℕ
-unit_of text = let unsigned = without_leading_sign text in drop (prefix_len is_ascii_digit unsigned) unsigned
+unit_of text =
+    let unsigned = without_leading_sign text in
+    drop (prefix_len is_ascii_digit unsigned) unsigned
 
 -- a number of this size and sign
 abbrev pub with_sign : Bool → ℕ → ℤ
@@ -38,7 +40,8 @@ bound_at unit number = record { number = number; unit = unit }
 
 -- the bound that a text spells
 unfoldable pub bound_of : List ℕ → Option Bound
-bound_of text = if is_bound text then option_map (bound_at (unit_of text)) (number_of text) else None
+bound_of text =
+    if is_bound text then option_map (bound_at (unit_of text)) (number_of text) else None
 
 -- one side of a range: nothing, or a bound
 abbrev pub side_of : List ℕ → Option (Option Bound)

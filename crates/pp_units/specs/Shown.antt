@@ -36,9 +36,11 @@ smallest Bytes = SingleBytes
 smallest Plain = Counts
 smallest Other = Counts
 
--- the largest unit of a family of which the amount, counted in the smallest, has one, or the smallest where it has none
+-- the largest unit of a family of which the amount, counted in the smallest, has one,
+-- or the smallest where it has none
 abbrev pub largest_within : ℕ → Family → Scale
-largest_within amount kind = unwrap_or (find (λ scale. nat_le (factor scale) amount) (falling kind)) (smallest kind)
+largest_within amount kind =
+    unwrap_or (find (λ scale. nat_le (factor scale) amount) (falling kind)) (smallest kind)
 
 -- as `picked`, for the unit's place in the table
 abbrev pub picked_by : ℕ → List ℕ → Option Scale → Shown
@@ -47,11 +49,12 @@ picked_by total unit (Some scale) =
     let largest = largest_within (total * factor scale) (family_of_scale scale) in
     record { from = factor scale; to = factor largest; suffix = suffix_of_scale largest }
 
--- the largest unit of the family in which the total is at least 1, or the smallest where the total is 0
+-- the largest unit of the family that the total has one of, and the smallest for a total of 0
 unfoldable pub picked : ℕ → List ℕ → Shown
 picked total unit = picked_by total unit (scale_of unit)
 
--- two units measure the same: they are of one family, and of no family only where they are spelled alike
+-- two units measure the same: they are of one family, and of no family only where they are
+-- spelled alike
 abbrev pub agree : Family → Family → Bool → Bool
 agree Time Time alike = true
 agree Bytes Bytes alike = true
@@ -66,4 +69,6 @@ is_same_kind wanted unit = agree (family wanted) (family unit) (is_spelled wante
 -- the unit that is asked for, or none where it measures something else
 unfoldable pub forced : List ℕ → List ℕ → Option Shown
 forced wanted unit =
-    if is_same_kind wanted unit then Some (record { from = factor_of unit; to = factor_of wanted; suffix = suffix_of wanted }) else None
+    if is_same_kind wanted unit
+    then Some (record { from = factor_of unit; to = factor_of wanted; suffix = suffix_of wanted })
+    else None

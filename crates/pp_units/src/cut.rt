@@ -1,4 +1,4 @@
-// Texts that a byte parts.
+//! Texts that a byte parts.
 ghost use Rattle.std.specs.Prelude.{◌≡◌, ◌==◌, is_some, IfSome};
 ghost use Rattle.std.specs.List.{list_any, before_first, after_first};
 

@@ -1,4 +1,4 @@
-// Numbers in digits.
+//! Numbers in digits.
 ghost use Rattle.std.specs.Prelude.{◌≡◌, ◌^◌, ◌≤◌};
 ghost use Rattle.pp_units.specs.Digits.{within};
 

@@ -1,4 +1,4 @@
-// What units measure.
+//! What units measure.
 ghost use Rattle.std.specs.Prelude.{◌≡◌};
 ghost use Rattle.pp_units.specs.Shown.{smallest};
 ghost use Rattle.pp_units.specs.Scales.{family, falling};

@@ -1,4 +1,4 @@
-// The unit that a report is asked to use.
+//! The unit that a report is asked to use.
 ghost use Rattle.std.specs.Prelude.{◌≡◌, ◌≤◌, ◌^◌, IfOk, option_map};
 ghost use Rattle.pp_units.specs.Shown.{shown, forced, is_same_kind, factor_of, suffix_of};
 

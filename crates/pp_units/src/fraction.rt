@@ -1,4 +1,4 @@
-// Fractions of at most one.
+//! Fractions of at most one.
 ghost use Rattle.std.specs.Prelude.{◌≡◌, ◌^◌, ◌≤◌, IfSome, option_map};
 ghost use Rattle.pp_units.specs.Fractions.{fraction_of, at_most_one};
 
@@ -8,9 +8,10 @@ use pp_base::Fraction;
 
 const BILLION: u64 = 1_000_000_000;
 
-/// The fraction that the text spells: up to nine digits, and then a point and one to nine digits or
-/// neither; the first part may be empty where the second is there. `None` where the text is no such
-/// fraction, or is above 1.
+/// The fraction that the text spells. `None` where it spells none, or one above 1.
+///
+/// With a point, one to nine decimals stand after it and at most nine digits before it, as in
+/// `.25`. Without a point the text has one to nine digits.
 #[tactic(auto, unfolding(crate::specs::Fractions::fraction_of))]
 pub fn read_fraction(text: &[u8]) -> Option<Fraction>
     ensures { option_map (λ found. found.billionths) result ≡ fraction_of text.now }

@@ -1,4 +1,4 @@
-// The first lines of a report.
+//! The first lines of a report.
 ghost use Rattle.std.specs.Prelude.{◌≡◌, ◌++◌, pos, OnOk, OnErr};
 ghost use Rattle.std.specs.List.{after_last};
 ghost use Rattle.pp_units.specs.Shown.{shown};

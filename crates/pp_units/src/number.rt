@@ -1,4 +1,4 @@
-// Values and percentages.
+//! Values and percentages.
 ghost use Rattle.std.specs.Prelude.{◌≡◌, ◌+◌, ◌*◌, ◌/◌, ◌<◌, ◌≤◌, [], ◌++◌, ◌↔◌, length, pos, codes, decimal, OnOk, OnErr};
 ghost use Rattle.pp_units.specs.Shown.{shown};
 ghost use Rattle.pp_units.specs.Numbers.{number_text, suffix_after, value_text, percent_text, sign_text, shortened, decimals};

@@ -1,4 +1,4 @@
-// The unit that is picked for a total.
+//! The unit that is picked for a total.
 ghost use Rattle.std.specs.Prelude.{◌≡◌, IfOk};
 ghost use Rattle.pp_units.specs.Shown.{shown, picked, largest_within};
 
@@ -7,8 +7,9 @@ use crate::{Family, Unit};
 use pp_base::{Memory, Text};
 use std::alloc::Global;
 
-/// The largest unit of the unit's family in which the total is at least 1, or the smallest where
-/// the total is 0. A unit that is not in the table is printed as it stands.
+/// How values are printed beside the total: in the largest unit of the family that the total has
+/// one of, and in the smallest for a total of 0. A unit that is not in the table is printed as it
+/// stands.
 #[tactic(auto, unfolding(crate::specs::Shown::picked))]
 pub fn pick_unit(alloc: Global, total: u64, unit: &[u8]) -> Result<Unit, Memory>
     ensures { IfOk result (λ unit'. shown unit' ≡ picked total unit.now) }

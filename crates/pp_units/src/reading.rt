@@ -1,4 +1,4 @@
-// How ranges are read.
+//! How ranges are read.
 ghost use Rattle.std.specs.Prelude.{◌≡◌, ◌≤◌, true, length, drop, take_while, IfOk, option_map};
 ghost use Rattle.std.specs.Char.{is_ascii_digit, is_ascii_alphabetic};
 ghost use Rattle.std.specs.List.{list_all, prefix_len};

@@ -1,4 +1,4 @@
-// Columns that end at the right.
+//! Columns that end at the right.
 ghost use Rattle.std.specs.Prelude.{◌≡◌, ◌++◌, take, length, replicate, OnOk, OnErr};
 ghost use Rattle.pp_units.specs.Numbers.{right_text};
 

@@ -1,4 +1,4 @@
-// Rounding to whole numbers.
+//! Rounding to whole numbers.
 ghost use Rattle.std.specs.Prelude.{◌≡◌, ◌+◌, ◌*◌, ◌^◌, ◌<◌};
 ghost use Rattle.pp_units.specs.Rounded.{nearest, IsNearest};
 

@@ -1,4 +1,4 @@
-// The table of units.
+//! The table of units.
 ghost use Rattle.std.specs.Prelude.{◌≡◌, ◌≤◌, ◌^◌, [], ◌∷◌, find, nat_le};
 ghost use Rattle.pp_units.specs.Scales.{family_of_scale, factor, suffix_of_scale, is_spelled, is_among, is_named, scale_of};
 

@@ -1,4 +1,4 @@
-// A buffer for one number.
+//! A buffer for one number.
 ghost use Rattle.std.specs.Prelude.{◌≡◌, ℕ, ◌+◌, ◌<◌, ◌≤◌, List, [], ◌∷◌, ◌++◌, length, take};
 
 use std::marker::Model;
@@ -22,6 +22,7 @@ impl Model for Small {
 }
 
 impl Small {
+    /// An empty buffer.
     pub fn new() -> Self
         ensures { result ≡ [] }
     {

@@ -1,4 +1,4 @@
-// The printed texts, and that each call succeeds where there is memory.
+//! The printed texts, and that each call succeeds where there is memory.
 use crate::*;
 use pp_base::Text;
 use std::test::Fail;
@@ -173,36 +173,43 @@ fn fractions(rt: HostRuntime) {
     }
 }
 
-#[test]
-fn heads(rt: HostRuntime) -> Result<(), Fail> {
-    let head = Head {
-        file: Text::from_slice(rt.alloc(), b"/usr/bin/x")?,
-        kind: Text::from_slice(rt.alloc(), b"cpu")?,
-        duration: 10_500_000_000,
-        total: 60_000_000,
-        unit: pick_unit(rt.alloc(), 60_000_000, b"nanoseconds")?,
-    };
-    let mut lines = Text::new(rt.alloc());
-    write_head(rt.alloc(), &head, &mut lines)?;
-    assert_eq!(rt;
-        lines.as_slice(),
-        b"File: x\nType: cpu\nDuration: 10.50s, Total samples = 60ms\n".as_slice()
-    );
-    Ok(())
-}
+// A file, the name of a type, nanoseconds, a total and its unit, and the lines.
+static HEADS: [(&str, &str, i64, u64, &str, &str); 5] = [
+    (
+        "/tmp/app",
+        "cpu",
+        300_000_000,
+        250_000_000,
+        "nanoseconds",
+        "File: app\nType: cpu\nDuration: 300ms, Total samples = 250ms\n",
+    ),
+    (
+        "/usr/bin/x",
+        "cpu",
+        10_500_000_000,
+        0,
+        "ns",
+        "File: x\nType: cpu\nDuration: 10.50s, Total samples = 0\n",
+    ),
+    ("", "samples", 0, 6, "count", "Type: samples\n"),
+    ("/x/y", "", -1, 6, "count", "File: y\n"),
+    ("bin/", "", 0, 1, "", ""),
+];
 
 #[test]
-fn heads_of_nothing(rt: HostRuntime) -> Result<(), Fail> {
-    let head = Head {
-        file: Text::from_slice(rt.alloc(), b"bin/")?,
-        kind: Text::new(rt.alloc()),
-        duration: 0,
-        total: 1,
-        unit: pick_unit(rt.alloc(), 1, b"")?,
-    };
-    let mut lines = Text::new(rt.alloc());
-    write_head(rt.alloc(), &head, &mut lines)?;
-    assert_eq!(rt; lines.len(), 0);
+fn heads(rt: HostRuntime) -> Result<(), Fail> {
+    for (file, kind, duration, total, unit, want) in HEADS {
+        let head = Head {
+            file: Text::from_slice(rt.alloc(), file.as_bytes())?,
+            kind: Text::from_slice(rt.alloc(), kind.as_bytes())?,
+            duration,
+            total,
+            unit: pick_unit(rt.alloc(), total, unit.as_bytes())?,
+        };
+        let mut lines = Text::new(rt.alloc());
+        write_head(rt.alloc(), &head, &mut lines)?;
+        assert_eq!(rt; lines.as_slice(), want.as_bytes(), "{file} {kind}");
+    }
     Ok(())
 }
 

@@ -1,4 +1,4 @@
-// How the values of one unit are printed.
+//! How the values of one unit are printed.
 ghost use Rattle.std.specs.Prelude.{◌≤◌, ◌^◌};
 
 use pp_base::Text;

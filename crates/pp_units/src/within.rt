@@ -1,4 +1,4 @@
-// What lies in a range.
+//! What lies in a range.
 ghost use Rattle.std.specs.Prelude.{◌≡◌};
 ghost use Rattle.pp_units.specs.Ranges.{in_range, is_above, is_below, scaled};
 

@@ -1,8 +1,10 @@
-use Rattle.std.proofs.Common.{◌≡◌, ◌≢◌, ℕ, ◌+◌, ◌<◌, ◌≤◌, List, length, get_or, set, sym, ◌∙◌, arith, below_more, get_or-set_other, get_or-set_same}
+use Rattle.std.proofs.Common.{ap, ◌≡◌, ◌≢◌, ℕ, ◌+◌, ◌<◌, ◌≤◌, List, length, get_or, set, sym, ◌∙◌, arith, below_more, get_or-set_other, get_or-set_same}
 use Rattle.std.proofs.lemmas.Grind.{same_number_lists}
 use Rattle.std.proofs.lemmas.List.{length-set}
 use Rattle.std.proofs.lemmas.List.FromFn.{get_or-map-range_with_len}
+use Rattle.std.specs.Str.Parse.{digits_value}
 use Rattle.pp_grain.specs.Naming.{digit_at, hex16}
+use Rattle.pp_grain.proofs.HexLemmas.{hex16_value}
 use Rattle.pp_grain.proofs.naming.hex16.Goals as goal
 
 -- one digit more
@@ -25,5 +27,9 @@ all n k digits long so_far past =
 pub loop-k-preserved : goal.loop-k-preserved
 loop-k-preserved c = more _ _ _ _ c.loop-k.invariant.0 c.loop-k.invariant.1 c.loop-k-test.true c.hex_digit.ensures
 
-pub returns : goal.returns
-returns c = all _ _ _ c.loop-k.invariant.0 c.loop-k.invariant.1 c.loop-k-test.false
+pub returns-clause-digits : goal.returns-clause-digits
+returns-clause-digits c = all _ _ _ c.loop-k.invariant.0 c.loop-k.invariant.1 c.loop-k-test.false
+
+pub returns-clause-value : goal.returns-clause-value
+returns-clause-value c =
+    ap (digits_value 16) (all _ _ _ c.loop-k.invariant.0 c.loop-k.invariant.1 c.loop-k-test.false) ∙ hex16_value c.args.n c.ranges.n.fits

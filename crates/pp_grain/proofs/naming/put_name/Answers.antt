@@ -9,7 +9,7 @@ pub returns-clause-ok : goal.returns-clause-ok
 returns-clause-ok c =
     let key = told c.args.key.now in
     joined c.put_code-2.result c.args.out.now _ _ _ (hex16 key.address) (codes " ") (join_with_byte 32 (code_words key)) (name_text key)
-    (c.in_ok-extend.ensures.ok ∙ ap (λ digits. c.args.out.now ++ digits) c.hex16.ensures) c.in_ok-extend-2.ensures.ok c.put_code-2.ensures.ok
+    (c.in_ok-extend.ensures.ok ∙ ap (λ digits. c.args.out.now ++ digits) c.hex16.ensures.digits) c.in_ok-extend-2.ensures.ok c.put_code-2.ensures.ok
     (after_address key c.if-key-eq0.false)
 
 pub returns-clause-err : goal.returns-clause-err

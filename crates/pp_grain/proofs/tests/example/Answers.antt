@@ -5,9 +5,10 @@ use Rattle.pp_grain.proofs.tests.example.Goals as goal
 pub claim-requires : goal.claim-requires
 claim-requires c =
     rw (
+      c.in_ok-p.ensures,
       c.in_ok-one.ensures,
-      c.in_ok-one-2.ensures,
       c.in_ok-sample.ensures,
+      c.in_ok-all_ids.ensures,
       c.in_ok-two.ensures,
       c.mapping.ensures,
       c.mapping-2.ensures,
@@ -16,7 +17,6 @@ claim-requires c =
       c.function.ensures,
       c.function-2.ensures,
       c.in_ok-texts.ensures,
-      c.new.ensures,
     )
     record {
       text_zero = refl;
