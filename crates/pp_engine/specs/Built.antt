@@ -17,7 +17,9 @@ has_no_negative p = list_all (λ s. list_all (λ value. int_le (pos 0) value) s.
 
 -- the values of each column add up to no more than 64 bits with a sign hold
 abbrev pub has_sums : Profile → Bool
-has_sums p = list_all (λ column. nat_le (absolute_sum p column) (2 ^ 63 - 1)) (range_with_len 0 (length p.sample_type))
+has_sums p =
+    list_all (λ column. nat_le (absolute_sum p column) (2 ^ 63 - 1))
+    (range_with_len 0 (length p.sample_type))
 
 -- each id is its place plus 1
 abbrev pub are_numbered : List ℕ → Bool
@@ -25,7 +27,8 @@ are_numbered ids = list_all (λ k. slice_index ids k == k + 1) (range_with_len 0
 
 -- the ids of all tables are
 abbrev pub has_numbers : Profile → Bool
-has_numbers p = are_numbered (mapping_ids p) && are_numbered (function_ids p) && are_numbered (location_ids p)
+has_numbers p =
+    are_numbered (mapping_ids p) && are_numbered (function_ids p) && are_numbered (location_ids p)
 
 -- no text stands twice
 abbrev pub are_distinct : List (List ℕ) → Bool
@@ -34,4 +37,5 @@ are_distinct (text ∷ texts) = not (list_any (bytes_eq text) texts) && are_dist
 
 -- a report can be made
 abbrev pub is_built : Profile → Bool
-is_built p = has_no_patterns p && has_no_negative p && has_sums p && has_numbers p && are_distinct p.text
+is_built p =
+    has_no_patterns p && has_no_negative p && has_sums p && has_numbers p && are_distinct p.text

@@ -22,15 +22,20 @@ first_else None other = other
 
 -- the first sample type of the name, which no empty name has
 abbrev pub type_named : Profile → List ℕ → Option ℕ
-type_named p name = if length name == 0 then None else position (λ t. bytes_eq (text_of p t.kind) name) p.sample_type
+type_named p name =
+    if length name == 0 then None
+    else position (λ t. bytes_eq (text_of p t.kind) name) p.sample_type
 
 -- The column where none is asked for: the first of the profile's default name, else the last.
 abbrev pub default_column : Profile → Option ℕ
-default_column p = first_else (type_named p (text_of p p.default_sample_type)) (last_of (length p.sample_type))
+default_column p =
+    first_else (type_named p (text_of p p.default_sample_type)) (last_of (length p.sample_type))
 
 -- the label `pprof::base` of the text `true`
 abbrev pub is_base_label : Profile → Label → Bool
-is_base_label p label = bytes_eq (text_of p label.key) (codes "pprof::base") && bytes_eq (text_of p label.text) (codes "true")
+is_base_label p label =
+    bytes_eq (text_of p label.key) (codes "pprof::base")
+    && bytes_eq (text_of p label.text) (codes "true")
 
 -- the sample carries it
 abbrev pub is_base : Profile → Sample → Bool
@@ -51,4 +56,5 @@ total_by base all = if base == 0 then all else base
 
 -- Total: the sum over the base's samples, and where it is 0 that over all.
 abbrev pub total_of : Profile → Option ℕ → ℕ
-total_of p column = total_by (absolute_of column (filter (is_base p) p.sample)) (absolute_of column p.sample)
+total_of p column =
+    total_by (absolute_of column (filter (is_base p) p.sample)) (absolute_of column p.sample)

@@ -36,4 +36,5 @@ of_read (Err reading.Memory) = NotBuilt
 -- the content of the path, where it is there
 abbrev pub of_content : Option (List ℕ) → Loading
 of_content None = Refused (refusals.Missing 0)
-of_content (Some bytes) = if nat_lt file_limit (length bytes) then Refused (refusals.TooLong 0) else of_read (read bytes)
+of_content (Some bytes) =
+    if nat_lt file_limit (length bytes) then Refused (refusals.TooLong 0) else of_read (read bytes)

@@ -33,13 +33,16 @@ reason_text (refusals.Missing source) = codes "no such file"
 reason_text (refusals.TooLong source) = codes "longer than 268435456 bytes"
 reason_text (refusals.Empty source) = codes "empty"
 reason_text (refusals.Compressed source) = codes "compressed"
-reason_text (refusals.Wire source fault) = kind_text fault.kind ++ counted_text (codes " at ") fault.at
+reason_text (refusals.Wire source fault) =
+    kind_text fault.kind ++ counted_text (codes " at ") fault.at
 reason_text (refusals.Table source fault) =
-    counted_text (codes "rule ") fault.rule ++ codes " fails at " ++ counted_text (table_text fault.table ++ codes " ") fault.index
+    counted_text (codes "rule ") fault.rule ++ codes " fails at "
+    ++ counted_text (table_text fault.table ++ codes " ") fault.index
 
 -- the line on a path
 abbrev pub refusal_line : List ℕ → LoadRefusal → List ℕ
-refusal_line path refusal = (codes "pprof: " ++ path ++ codes ": ") ++ reason_text refusal ++ codes "\n"
+refusal_line path refusal =
+    (codes "pprof: " ++ path ++ codes ": ") ++ reason_text refusal ++ codes "\n"
 
 -- the line on what is not there yet
 abbrev pub not_built_line : List ℕ

@@ -27,7 +27,9 @@ size_cmp a b = nat_cmp (nat_abs b) (nat_abs a)
 
 -- report order of rows
 abbrev pub row_cmp : Row → Row → Ordering
-row_cmp a b = ordering_then (ordering_then (size_cmp a.flat b.flat) (size_cmp a.cum b.cum)) (key_cmp (row_key a) (row_key b))
+row_cmp a b =
+    ordering_then (ordering_then (size_cmp a.flat b.flat) (size_cmp a.cum b.cum))
+    (key_cmp (row_key a) (row_key b))
 
 -- a key and its sums
 pub record Entry : Type 0 where
@@ -41,7 +43,9 @@ row_entry row = record { key = row_key row; flat = row.flat; cum = row.cum }
 
 -- what is said of the key number
 abbrev pub entry_of : Profile → List Key → List Tally → ℕ → Entry
-entry_of p names tallies k = record { key = written_key p names k; flat = (tally_at tallies k).flat; cum = (tally_at tallies k).cum }
+entry_of p names tallies k =
+    let tally = tally_at tallies k in
+    record { key = written_key p names k; flat = tally.flat; cum = tally.cum }
 
 -- some sample had the key
 abbrev pub has_tally : List Tally → ℕ → Bool
@@ -61,17 +65,22 @@ heavy_numbers total tallies n = filter (is_heavy_tally total tallies) (numbers_w
 
 -- those that are not
 abbrev pub light_numbers : ℕ → List Tally → ℕ → List ℕ
-light_numbers total tallies n = filter (λ k. not (is_heavy_tally total tallies k)) (numbers_with tallies n)
+light_numbers total tallies n =
+    filter (λ k. not (is_heavy_tally total tallies k)) (numbers_with tallies n)
 
 -- The rows are those of the heavy numbers below n, in order, and so many are light.
-pub record Collected (p : Profile) (names : List Key) (tallies : List Tally) (total n : ℕ) (rows : List Row) (light : ℕ) : Type 0 where
+pub record Collected (p : Profile) (names : List Key) (tallies : List Tally) (total n : ℕ)
+    (rows : List Row) (light : ℕ) : Type 0 where
   pub entries : map row_entry rows ≡ map (entry_of p names tallies) (heavy_numbers total tallies n)
   pub too_light : light ≡ length (light_numbers total tallies n)
 
 -- The rows stand in report order, and are those of the heavy numbers; so many are light.
-pub record IsRanked (p : Profile) (names : List Key) (tallies : List Tally) (total : ℕ) (rows : List Row) (light : ℕ) : Type 0 where
+pub record IsRanked (p : Profile) (names : List Key) (tallies : List Tally) (total : ℕ)
+    (rows : List Row) (light : ℕ) : Type 0 where
   pub sorted : IsSortedBy (λ a b. is_lt (row_cmp a b)) rows
-  pub entries : IsPermutation (map (entry_of p names tallies) (heavy_numbers total tallies (length tallies))) (map row_entry rows)
+  pub entries : IsPermutation
+      (map (entry_of p names tallies) (heavy_numbers total tallies (length tallies)))
+      (map row_entry rows)
   pub too_light : light ≡ length (light_numbers total tallies (length tallies))
 
 -- the line of the row

@@ -24,15 +24,18 @@ keys_of grain showcolumns p s = map (key_texts grain showcolumns) (written_stack
 
 -- the sample as a report counts it
 abbrev pub counted_of : Grain → Bool → Profile → Option ℕ → Sample → Counted Written
-counted_of grain showcolumns p column s = record { value = selected column s; keys = keys_of grain showcolumns p s }
+counted_of grain showcolumns p column s =
+    record { value = selected column s; keys = keys_of grain showcolumns p s }
 
 -- the samples that put keys into a report
 abbrev pub counted_samples : Grain → Bool → Profile → Option ℕ → List (Counted Written)
-counted_samples grain showcolumns p column = weighed (map (counted_of grain showcolumns p column) p.sample)
+counted_samples grain showcolumns p column =
+    weighed (map (counted_of grain showcolumns p column) p.sample)
 
 -- the line of a key
 abbrev pub line_of : List (Counted Written) → Written → Line
-line_of samples k = record { flat = flat key_cmp samples k; cum = cum key_cmp samples k; name = name_text k }
+line_of samples k =
+    record { flat = flat key_cmp samples k; cum = cum key_cmp samples k; name = name_text k }
 
 -- a type without name and unit
 abbrev pub no_type : ValueType
@@ -59,11 +62,13 @@ head_lines p kind total unit =
 abbrev pub table_text : Shown → ℕ → List (Counted Written) → List ℕ
 table_text unit total samples =
     let heavy = heavy_keys key_cmp sorts.Flat total least_fraction samples in
-    top_text unit total (light_count key_cmp total least_fraction samples) (length heavy) (map (line_of samples) (shown_keys 0 heavy))
+    top_text unit total (light_count key_cmp total least_fraction samples) (length heavy)
+    (map (line_of samples) (shown_keys 0 heavy))
 
 -- the report of the column
 abbrev pub column_text : Profile → Option ℕ → List ℕ
 column_text p column =
     let total = total_of p column in
     let unit = picked total (text_of p (type_of p column).unit) in
-    head_lines p (type_of p column) total unit ++ table_text unit total (counted_samples grains.Functions false p column)
+    head_lines p (type_of p column) total unit
+    ++ table_text unit total (counted_samples grains.Functions false p column)

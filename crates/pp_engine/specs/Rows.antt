@@ -20,7 +20,8 @@ abbrev pub written_key : Profile → List Key → ℕ → Written
 written_key p names n = key_written p (key_at names n)
 
 -- the numbers are those of the frames' keys, in order
-pub record IsNumbered (p : Profile) (names : List Key) (frames : List Written) (row : List ℕ) : Type 0 where
+pub record IsNumbered (p : Profile) (names : List Key) (frames : List Written)
+    (row : List ℕ) : Type 0 where
   pub keys : map (written_key p names) row ≡ map (key_texts Functions false) frames
   pub below : All (λ n. n < length names) row
 

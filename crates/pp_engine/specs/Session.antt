@@ -26,7 +26,8 @@ ended_by cause line = record { effects = ToErr line ∷ []; cause = cause; asked
 
 -- the notes, then the text
 abbrev pub of_report : Told → Session
-of_report told = record { effects = ToErr told.notes ∷ ToOut told.text ∷ []; cause = causes.Done; asked = [] }
+of_report told =
+    record { effects = ToErr told.notes ∷ ToOut told.text ∷ []; cause = causes.Done; asked = [] }
 
 -- the report of the path, as it was loaded
 abbrev pub of_loading : List ℕ → Loading → Session
@@ -64,9 +65,13 @@ pub record ToldRun : Type 0 where
   pub asked : List (List ℕ)
 
 -- It is told where the files, the input and the matcher tell what they hold.
-abbrev pub told_run : List (List ℕ) → Option FileMap → Option (List (List ℕ)) → Option (List ℕ) → Option (List Answer) → Option (List Answer) → Option ToldRun
+abbrev pub told_run : List (List ℕ) → Option FileMap → Option (List (List ℕ)) → Option (List ℕ)
+    → Option (List Answer) → Option (List Answer) → Option ToldRun
 told_run words (Some files) (Some locked) (Some input) (Some old) (Some new) =
-    Some (record { session = session words files locked input (given old new); asked = map (λ a. a.0) (given old new) })
+    Some (record {
+      session = session words files locked input (given old new);
+      asked = map (λ a. a.0) (given old new);
+    })
 told_run words files locked input old new = None
 
 -- The session was done as a whole, and so it ended.

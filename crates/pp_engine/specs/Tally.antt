@@ -13,7 +13,8 @@ numbers_at rows id = slice_index_or rows (id - 1) []
 
 -- a sample with the key numbers of its frames
 abbrev pub numbered : Option ℕ → List (List ℕ) → Sample → Counted ℕ
-numbered column rows s = record { value = selected column s; keys = flat_map (numbers_at rows) s.location_id }
+numbered column rows s =
+    record { value = selected column s; keys = flat_map (numbers_at rows) s.location_id }
 
 -- no sample had the key
 abbrev pub no_tally : Tally
@@ -44,15 +45,19 @@ absolute samples = sum_by (λ s. nat_abs s.value) samples
 
 -- the tally after one more frame of the sample with this value and number: a sample counts once
 abbrev pub seen : ℤ → ℕ → Tally → Tally
-seen value number t = if t.last == number then t else record { flat = t.flat; cum = t.cum +ℤ value; last = number }
+seen value number t =
+    if t.last == number then t else record { flat = t.flat; cum = t.cum +ℤ value; last = number }
 
 -- the tally of the key number after a sample with this value and number, which has these keys
 abbrev pub with_cum : ℤ → ℕ → List ℕ → ℕ → Tally → Tally
-with_cum value number keys k t = if has nat_cmp k keys then record { flat = t.flat; cum = t.cum +ℤ value; last = number } else t
+with_cum value number keys k t =
+    if has nat_cmp k keys then record { flat = t.flat; cum = t.cum +ℤ value; last = number } else t
 
 -- the same for the flat, which only the leaf's key has
 abbrev pub with_flat : ℤ → List ℕ → ℕ → Tally → Tally
-with_flat value keys k t = if leads nat_cmp k keys then record { flat = t.flat +ℤ value; cum = t.cum; last = t.last } else t
+with_flat value keys k t =
+    if leads nat_cmp k keys then record { flat = t.flat +ℤ value; cum = t.cum; last = t.last }
+    else t
 
 -- the tally after the whole sample
 abbrev pub with_sample : ℤ → ℕ → List ℕ → ℕ → Tally → Tally
@@ -60,11 +65,13 @@ with_sample value number keys k t = with_flat value keys k (with_cum value numbe
 
 -- the same of a counted sample, which leaves the tally where its value is 0
 abbrev pub with_counted : Counted ℕ → ℕ → ℕ → Tally → Tally
-with_counted s number k t = if int_eq s.value (pos 0) then t else with_sample s.value number s.keys k t
+with_counted s number k t =
+    if int_eq s.value (pos 0) then t else with_sample s.value number s.keys k t
 
 -- the locations of a sample are there, and their key numbers are below n
 abbrev pub AreNumbersBelow : ℕ → List (List ℕ) → List ℕ → Type 0
-AreNumbersBelow n rows ids = All (λ id. (0 < id) × (id ≤ length rows) × All (λ k. k < n) (numbers_at rows id)) ids
+AreNumbersBelow n rows ids =
+    All (λ id. (0 < id) × (id ≤ length rows) × All (λ k. k < n) (numbers_at rows id)) ids
 
 -- the samples as they are counted, in order
 abbrev pub numbered_all : Option ℕ → List (List ℕ) → List Sample → List (Counted ℕ)

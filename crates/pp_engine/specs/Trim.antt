@@ -33,8 +33,10 @@ each_once order keys = finite.keys (finite.from_entries {R = order} (map item ke
 module _ {K : Type 0} (order : K → K → Ordering) where
   -- report order: by the one sum, then by the other, then by the keys themselves
   abbrev pub report_order : Sort → List (Counted K) → K → K → Ordering
-  report_order sorts.Flat samples = then_cmp (by_size (flat order samples)) (then_cmp (by_size (cum order samples)) order)
-  report_order sorts.Cum samples = then_cmp (by_size (cum order samples)) (then_cmp (by_size (flat order samples)) order)
+  report_order sorts.Flat samples =
+      then_cmp (by_size (flat order samples)) (then_cmp (by_size (cum order samples)) order)
+  report_order sorts.Cum samples =
+      then_cmp (by_size (cum order samples)) (then_cmp (by_size (flat order samples)) order)
 
   -- the key is heavy by its cum
   abbrev pub is_heavy_key : ℕ → ℕ → List (Counted K) → K → Bool
@@ -42,11 +44,15 @@ module _ {K : Type 0} (order : K → K → Ordering) where
 
   -- the keys that occur and are heavy, in report order
   abbrev pub heavy_keys : Sort → ℕ → ℕ → List (Counted K) → List K
-  heavy_keys sort total billionths samples = each_once (report_order sort samples) (filter (is_heavy_key total billionths samples) (all_keys samples))
+  heavy_keys sort total billionths samples =
+      each_once (report_order sort samples)
+      (filter (is_heavy_key total billionths samples) (all_keys samples))
 
   -- how many keys occur and are not heavy
   abbrev pub light_count : ℕ → ℕ → List (Counted K) → ℕ
-  light_count total billionths samples = distinct_count (eq_by_cmp order) (filter (λ k. not (is_heavy_key total billionths samples k)) (all_keys samples))
+  light_count total billionths samples =
+      distinct_count (eq_by_cmp order)
+      (filter (λ k. not (is_heavy_key total billionths samples k)) (all_keys samples))
 
 -- the first of them: as many as the limit says, and all where it is 0
 abbrev pub shown_keys : {K : Type 0} → ℕ → List K → List K

@@ -13,5 +13,6 @@ is_option (b ∷ bs) = b == dash
 
 -- the path to report on, where the words are `-top` and one word that is no option
 abbrev pub path_of : List (List ℕ) → Option (List ℕ)
-path_of (format ∷ path ∷ []) = if bytes_eq format (codes "-top") && not (is_option path) then Some path else None
+path_of (format ∷ path ∷ []) =
+    if bytes_eq format (codes "-top") && not (is_option path) then Some path else None
 path_of words = None

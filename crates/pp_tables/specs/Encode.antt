@@ -38,17 +38,22 @@ value_type_bytes v = int_field 1 v.kind ++ int_field 2 v.unit
 
 -- message Label
 abbrev pub label_bytes : Label → List ℕ
-label_bytes l = int_field 1 l.key ++ int_field 2 l.text ++ int_field 3 l.num ++ int_field 4 l.num_unit
+label_bytes l =
+    int_field 1 l.key ++ int_field 2 l.text ++ int_field 3 l.num ++ int_field 4 l.num_unit
 
 -- message Sample
 abbrev pub sample_bytes : Sample → List ℕ
-sample_bytes s = packed_field 1 s.location_id ++ packed_field 2 (map unsigned s.value) ++ message_fields label_bytes 3 s.label
+sample_bytes s =
+    packed_field 1 s.location_id ++ packed_field 2 (map unsigned s.value)
+    ++ message_fields label_bytes 3 s.label
 
 -- message Mapping
 abbrev pub mapping_bytes : Mapping → List ℕ
 mapping_bytes m =
-    number_field 1 m.id ++ number_field 2 m.start ++ number_field 3 m.limit ++ number_field 4 m.offset ++ int_field 5 m.file ++ int_field 6 m.build_id
-    ++ bool_field 7 m.has_functions ++ bool_field 8 m.has_filenames ++ bool_field 9 m.has_line_numbers ++ bool_field 10 m.has_inline_frames
+    number_field 1 m.id ++ number_field 2 m.start ++ number_field 3 m.limit
+    ++ number_field 4 m.offset ++ int_field 5 m.file ++ int_field 6 m.build_id
+    ++ bool_field 7 m.has_functions ++ bool_field 8 m.has_filenames
+    ++ bool_field 9 m.has_line_numbers ++ bool_field 10 m.has_inline_frames
 
 -- message Line
 abbrev pub line_bytes : Line → List ℕ
@@ -57,12 +62,14 @@ line_bytes l = number_field 1 l.function_id ++ int_field 2 l.line ++ int_field 3
 -- message Location
 abbrev pub location_bytes : Location → List ℕ
 location_bytes l =
-    number_field 1 l.id ++ number_field 2 l.mapping_id ++ number_field 3 l.address ++ message_fields line_bytes 4 l.line ++ bool_field 5 l.folded
+    number_field 1 l.id ++ number_field 2 l.mapping_id ++ number_field 3 l.address
+    ++ message_fields line_bytes 4 l.line ++ bool_field 5 l.folded
 
 -- message Function
 abbrev pub function_bytes : Function → List ℕ
 function_bytes f =
-    number_field 1 f.id ++ int_field 2 f.name ++ int_field 3 f.system_name ++ int_field 4 f.filename ++ int_field 5 f.start_line
+    number_field 1 f.id ++ int_field 2 f.name ++ int_field 3 f.system_name ++ int_field 4 f.filename
+    ++ int_field 5 f.start_line
 
 -- both parts are 0
 abbrev pub is_no_type : ValueType → Bool
@@ -75,14 +82,18 @@ period_type_field v = if is_no_type v then [] else bytes_field 11 (value_type_by
 -- message Profile, fields 1 to 6
 abbrev pub table_bytes : Profile → List ℕ
 table_bytes p =
-    message_fields value_type_bytes 1 p.sample_type ++ message_fields sample_bytes 2 p.sample ++ message_fields mapping_bytes 3 p.mapping
-    ++ message_fields location_bytes 4 p.location ++ message_fields function_bytes 5 p.function ++ message_fields (λ text. text) 6 p.text
+    message_fields value_type_bytes 1 p.sample_type ++ message_fields sample_bytes 2 p.sample
+    ++ message_fields mapping_bytes 3 p.mapping
+    ++ message_fields location_bytes 4 p.location ++ message_fields function_bytes 5 p.function
+    ++ message_fields (λ text. text) 6 p.text
 
 -- message Profile, the fields from 7 on
 abbrev pub header_bytes : Profile → List ℕ
 header_bytes p =
-    int_field 7 p.drop_frames ++ int_field 8 p.keep_frames ++ int_field 9 p.time_nanos ++ int_field 10 p.duration_nanos
-    ++ period_type_field p.period_type ++ int_field 12 p.period ++ packed_field 13 (map unsigned p.comment)
+    int_field 7 p.drop_frames ++ int_field 8 p.keep_frames ++ int_field 9 p.time_nanos
+    ++ int_field 10 p.duration_nanos
+    ++ period_type_field p.period_type ++ int_field 12 p.period
+    ++ packed_field 13 (map unsigned p.comment)
     ++ int_field 14 p.default_sample_type ++ int_field 15 p.doc_url
 
 -- message Profile: the canonical bytes of the file

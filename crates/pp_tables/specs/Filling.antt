@@ -17,81 +17,183 @@ use Rattle.pp_tables.specs.Select.{all, last_or, uints_in, ints_in, bools_in, ui
 use Rattle.pp_tables.specs.Tables.{value_type_with, no_value_type, label_with, no_label, sample_with, no_sample, mapping_with, no_mapping, line_with, no_line, location_with, no_location, function_with, no_function, profile_with}
 use Rattle.pp_tables.specs.Takes.{set_by, add_by, value_type_put, label_put, sample_put, mapping_put, line_put, location_put, function_put, profile_put}
 
-last_or-append : {A : Type 0} (x : A) (ys zs : List A) → last_or (last_or x ys) zs ≡ last_or x (ys ++ zs)
+last_or-append : {A : Type 0} (x : A) (ys zs : List A) → last_or (last_or x ys) zs
+    ≡ last_or x (ys ++ zs)
 last_or-append x [] zs = refl
 last_or-append x (y ∷ ys) zs = last_or-append y ys zs
 
-set_case : {A : Type 0} (b : Bool) (read : Item → List A) (i : Item) (rest : List Item) (x : A) → last_or (cond b (last_or x (read i)) x) (flat_map read rest) ≡ last_or x (flat_map read (cond b (i ∷ rest) rest))
+set_case : {A : Type 0} (b : Bool) (read : Item → List A) (i : Item) (rest : List Item) (x : A)
+    → last_or (cond b (last_or x (read i)) x) (flat_map read rest)
+    ≡ last_or x (flat_map read (cond b (i ∷ rest) rest))
 set_case true read i rest x = last_or-append x (read i) (flat_map read rest)
 set_case false read i rest x = refl
 
-add_case : {A : Type 0} (b : Bool) (read : Item → List A) (i : Item) (rest : List Item) (xs : List A) → cond b (xs ++ read i) xs ++ flat_map read rest ≡ xs ++ flat_map read (cond b (i ∷ rest) rest)
+add_case : {A : Type 0} (b : Bool) (read : Item
+    → List A) (i : Item) (rest : List Item) (xs : List A) → cond b (xs ++ read i) xs
+    ++ flat_map read rest ≡ xs ++ flat_map read (cond b (i ∷ rest) rest)
 add_case true read i rest xs = append_assoc xs (read i) (flat_map read rest)
 add_case false read i rest xs = refl
 
 -- a scalar that takes one field and then the others has what all give
-pub set_more : {A : Type 0} (read : Item → List A) (n : ℕ) (i : Item) (items : List Item) (x : A) → last_or (set_by read n i x) (all read n items) ≡ last_or x (all read n (i ∷ items))
-set_more read n i items x = set_case (eqb i.number n) read i (filter (λ item. eqb item.number n) items) x
+pub set_more : {A : Type 0} (read : Item → List A) (n : ℕ) (i : Item) (items : List Item) (x : A)
+    → last_or (set_by read n i x) (all read n items) ≡ last_or x (all read n (i ∷ items))
+set_more read n i items x =
+    set_case (eqb i.number n) read i (filter (λ item. eqb item.number n) items) x
 
 -- a list that takes one field and then the others has what all give
-pub add_more : {A : Type 0} (read : Item → List A) (n : ℕ) (i : Item) (items : List Item) (xs : List A) → add_by read n i xs ++ all read n items ≡ xs ++ all read n (i ∷ items)
-add_more read n i items xs = add_case (eqb i.number n) read i (filter (λ item. eqb item.number n) items) xs
+pub add_more : {A : Type 0} (read : Item
+    → List A) (n : ℕ) (i : Item) (items : List Item) (xs : List A) → add_by read n i xs
+    ++ all read n items ≡ xs ++ all read n (i ∷ items)
+add_more read n i items xs =
+    add_case (eqb i.number n) read i (filter (λ item. eqb item.number n) items) xs
 
 -- the same of a Label
-pub label_more : (m : Label) (i : Item) (items : List Item) → label_with (label_put m i) items ≡ label_with m (i ∷ items)
-label_more m i items = cc (set_more ints_in 1 i items m.key, set_more ints_in 2 i items m.text, set_more ints_in 3 i items m.num, set_more ints_in 4 i items m.num_unit)
+pub label_more : (m : Label) (i : Item) (items : List Item) → label_with (label_put m i) items
+    ≡ label_with m (i ∷ items)
+label_more m i items =
+    cc (
+      set_more ints_in 1 i items m.key,
+      set_more ints_in 2 i items m.text,
+      set_more ints_in 3 i items m.num,
+      set_more ints_in 4 i items m.num_unit,
+    )
 
 -- no field changes no Sample
 pub sample_none : (m : Sample) → sample_with m [] ≡ m
 sample_none m = rw (append-nil m.location_id, append-nil m.value, append-nil m.label) refl
 
 -- the same of a Sample
-pub sample_more : (m : Sample) (i : Item) (items : List Item) → sample_with (sample_put m i) items ≡ sample_with m (i ∷ items)
-sample_more m i items = cc (add_more uint_list_in 1 i items m.location_id, add_more int_list_in 2 i items m.value, add_more (messages_in (label_with no_label)) 3 i items m.label)
+pub sample_more : (m : Sample) (i : Item) (items : List Item) → sample_with (sample_put m i) items
+    ≡ sample_with m (i ∷ items)
+sample_more m i items =
+    cc (
+      add_more uint_list_in 1 i items m.location_id,
+      add_more int_list_in 2 i items m.value,
+      add_more (messages_in (label_with no_label)) 3 i items m.label,
+    )
 
 -- the same of a Mapping
-pub mapping_more : (m : Mapping) (i : Item) (items : List Item) → mapping_with (mapping_put m i) items ≡ mapping_with m (i ∷ items)
-mapping_more m i items = cc (set_more uints_in 1 i items m.id, set_more uints_in 2 i items m.start, set_more uints_in 3 i items m.limit, set_more uints_in 4 i items m.offset, set_more ints_in 5 i items m.file, set_more ints_in 6 i items m.build_id, set_more bools_in 7 i items m.has_functions, set_more bools_in 8 i items m.has_filenames, set_more bools_in 9 i items m.has_line_numbers, set_more bools_in 10 i items m.has_inline_frames)
+pub mapping_more : (m : Mapping) (i : Item) (items : List Item)
+    → mapping_with (mapping_put m i) items ≡ mapping_with m (i ∷ items)
+mapping_more m i items =
+    cc (
+      set_more uints_in 1 i items m.id,
+      set_more uints_in 2 i items m.start,
+      set_more uints_in 3 i items m.limit,
+      set_more uints_in 4 i items m.offset,
+      set_more ints_in 5 i items m.file,
+      set_more ints_in 6 i items m.build_id,
+      set_more bools_in 7 i items m.has_functions,
+      set_more bools_in 8 i items m.has_filenames,
+      set_more bools_in 9 i items m.has_line_numbers,
+      set_more bools_in 10 i items m.has_inline_frames,
+    )
 
 -- the same of a Line
-pub line_more : (m : Line) (i : Item) (items : List Item) → line_with (line_put m i) items ≡ line_with m (i ∷ items)
-line_more m i items = cc (set_more uints_in 1 i items m.function_id, set_more ints_in 2 i items m.line, set_more ints_in 3 i items m.column)
+pub line_more : (m : Line) (i : Item) (items : List Item) → line_with (line_put m i) items
+    ≡ line_with m (i ∷ items)
+line_more m i items =
+    cc (
+      set_more uints_in 1 i items m.function_id,
+      set_more ints_in 2 i items m.line,
+      set_more ints_in 3 i items m.column,
+    )
 
 -- no field changes no Location
 pub location_none : (m : Location) → location_with m [] ≡ m
 location_none m = rw (append-nil m.line) refl
 
 -- the same of a Location
-pub location_more : (m : Location) (i : Item) (items : List Item) → location_with (location_put m i) items ≡ location_with m (i ∷ items)
-location_more m i items = cc (set_more uints_in 1 i items m.id, set_more uints_in 2 i items m.mapping_id, set_more uints_in 3 i items m.address, add_more (messages_in (line_with no_line)) 4 i items m.line, set_more bools_in 5 i items m.folded)
+pub location_more : (m : Location) (i : Item) (items : List Item)
+    → location_with (location_put m i) items ≡ location_with m (i ∷ items)
+location_more m i items =
+    cc (
+      set_more uints_in 1 i items m.id,
+      set_more uints_in 2 i items m.mapping_id,
+      set_more uints_in 3 i items m.address,
+      add_more (messages_in (line_with no_line)) 4 i items m.line,
+      set_more bools_in 5 i items m.folded,
+    )
 
 -- the same of a Function
-pub function_more : (m : Function) (i : Item) (items : List Item) → function_with (function_put m i) items ≡ function_with m (i ∷ items)
-function_more m i items = cc (set_more uints_in 1 i items m.id, set_more ints_in 2 i items m.name, set_more ints_in 3 i items m.system_name, set_more ints_in 4 i items m.filename, set_more ints_in 5 i items m.start_line)
+pub function_more : (m : Function) (i : Item) (items : List Item)
+    → function_with (function_put m i) items ≡ function_with m (i ∷ items)
+function_more m i items =
+    cc (
+      set_more uints_in 1 i items m.id,
+      set_more ints_in 2 i items m.name,
+      set_more ints_in 3 i items m.system_name,
+      set_more ints_in 4 i items m.filename,
+      set_more ints_in 5 i items m.start_line,
+    )
 
 -- the same of a ValueType
-pub value_type_more : (m : ValueType) (i : Item) (items : List Item) → value_type_with (value_type_put m i) items ≡ value_type_with m (i ∷ items)
-value_type_more m i items = cc (set_more ints_in 1 i items m.kind, set_more ints_in 2 i items m.unit)
+pub value_type_more : (m : ValueType) (i : Item) (items : List Item)
+    → value_type_with (value_type_put m i) items ≡ value_type_with m (i ∷ items)
+value_type_more m i items =
+    cc (set_more ints_in 1 i items m.kind, set_more ints_in 2 i items m.unit)
 
-all-append : {A : Type 0} (read : Item → List A) (n : ℕ) (xs ys : List Item) → all read n (xs ++ ys) ≡ all read n xs ++ all read n ys
-all-append read n xs ys = ap (flat_map read) (filter-append (λ item. eqb item.number n) xs ys) ∙ flat_map-append read (filter (λ item. eqb item.number n) xs) (filter (λ item. eqb item.number n) ys)
+all-append : {A : Type 0} (read : Item → List A) (n : ℕ) (xs ys : List Item) → all read n (xs ++ ys)
+    ≡ all read n xs ++ all read n ys
+all-append read n xs ys =
+    ap (flat_map read) (filter-append (λ item. eqb item.number n) xs ys)
+    ∙ flat_map-append read (filter (λ item. eqb item.number n) xs)
+    (filter (λ item. eqb item.number n) ys)
 
 -- payloads one after another are the fields one after another
-pub value_type_joined : (m : ValueType) (xs ys : List Item) → value_type_with (value_type_with m xs) ys ≡ value_type_with m (xs ++ ys)
+pub value_type_joined : (m : ValueType) (xs ys : List Item)
+    → value_type_with (value_type_with m xs) ys ≡ value_type_with m (xs ++ ys)
 value_type_joined m xs ys =
-    cc (last_or-append m.kind (all ints_in 1 xs) (all ints_in 1 ys), last_or-append m.unit (all ints_in 2 xs) (all ints_in 2 ys), all-append ints_in 1 xs ys, all-append ints_in 2 xs ys)
+    cc (
+      last_or-append m.kind (all ints_in 1 xs) (all ints_in 1 ys),
+      last_or-append m.unit (all ints_in 2 xs) (all ints_in 2 ys),
+      all-append ints_in 1 xs ys,
+      all-append ints_in 2 xs ys,
+    )
 
-period_case : (b : Bool) (i : Item) (rest : List Item) (m : ValueType) → value_type_with (cond b (value_type_with m (fields_in i)) m) (flat_map fields_in rest) ≡ value_type_with m (flat_map fields_in (cond b (i ∷ rest) rest))
+period_case : (b : Bool) (i : Item) (rest : List Item) (m : ValueType)
+    → value_type_with (cond b (value_type_with m (fields_in i)) m) (flat_map fields_in rest)
+    ≡ value_type_with m (flat_map fields_in (cond b (i ∷ rest) rest))
 period_case true i rest m = value_type_joined m (fields_in i) (flat_map fields_in rest)
 period_case false i rest m = refl
 
-period_more : (i : Item) (items : List Item) (m : ValueType) → value_type_with (cond (eqb i.number 11) (value_type_with m (fields_in i)) m) (all fields_in 11 items) ≡ value_type_with m (all fields_in 11 (i ∷ items))
-period_more i items m = period_case (eqb i.number 11) i (filter (λ item. eqb item.number 11) items) m
+period_more : (i : Item) (items : List Item) (m : ValueType)
+    → value_type_with (cond (eqb i.number 11) (value_type_with m (fields_in i)) m)
+    (all fields_in 11 items) ≡ value_type_with m (all fields_in 11 (i ∷ items))
+period_more i items m =
+    period_case (eqb i.number 11) i (filter (λ item. eqb item.number 11) items) m
 
 -- no field changes no Profile
 pub profile_none : (m : Profile) → profile_with m [] ≡ m
-profile_none m = rw (append-nil m.sample_type, append-nil m.sample, append-nil m.mapping, append-nil m.location, append-nil m.function, append-nil m.text, append-nil m.comment) refl
+profile_none m =
+    rw (
+      append-nil m.sample_type,
+      append-nil m.sample,
+      append-nil m.mapping,
+      append-nil m.location,
+      append-nil m.function,
+      append-nil m.text,
+      append-nil m.comment,
+    ) refl
 
 -- the same of a Profile
-pub profile_more : (m : Profile) (i : Item) (items : List Item) → profile_with (profile_put m i) items ≡ profile_with m (i ∷ items)
-profile_more m i items = cc (add_more (messages_in (value_type_with no_value_type)) 1 i items m.sample_type, add_more (messages_in (sample_with no_sample)) 2 i items m.sample, add_more (messages_in (mapping_with no_mapping)) 3 i items m.mapping, add_more (messages_in (location_with no_location)) 4 i items m.location, add_more (messages_in (function_with no_function)) 5 i items m.function, add_more texts_in 6 i items m.text, set_more ints_in 7 i items m.drop_frames, set_more ints_in 8 i items m.keep_frames, set_more ints_in 9 i items m.time_nanos, set_more ints_in 10 i items m.duration_nanos, period_more i items m.period_type, set_more ints_in 12 i items m.period, add_more int_list_in 13 i items m.comment, set_more ints_in 14 i items m.default_sample_type, set_more ints_in 15 i items m.doc_url)
+pub profile_more : (m : Profile) (i : Item) (items : List Item)
+    → profile_with (profile_put m i) items ≡ profile_with m (i ∷ items)
+profile_more m i items =
+    cc (
+      add_more (messages_in (value_type_with no_value_type)) 1 i items m.sample_type,
+      add_more (messages_in (sample_with no_sample)) 2 i items m.sample,
+      add_more (messages_in (mapping_with no_mapping)) 3 i items m.mapping,
+      add_more (messages_in (location_with no_location)) 4 i items m.location,
+      add_more (messages_in (function_with no_function)) 5 i items m.function,
+      add_more texts_in 6 i items m.text,
+      set_more ints_in 7 i items m.drop_frames,
+      set_more ints_in 8 i items m.keep_frames,
+      set_more ints_in 9 i items m.time_nanos,
+      set_more ints_in 10 i items m.duration_nanos,
+      period_more i items m.period_type,
+      set_more ints_in 12 i items m.period,
+      add_more int_list_in 13 i items m.comment,
+      set_more ints_in 14 i items m.default_sample_type,
+      set_more ints_in 15 i items m.doc_url,
+    )

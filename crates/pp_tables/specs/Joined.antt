@@ -14,7 +14,8 @@ pub record PayloadAt : Type 0 where
 
 -- the payload of a field, where it is a run
 abbrev pub payloads_in : Item → List PayloadAt
-payloads_in item = of_payload (λ bytes place. record { bytes = bytes; at = place } ∷ []) item.content
+payloads_in item =
+    of_payload (λ bytes place. record { bytes = bytes; at = place } ∷ []) item.content
 
 -- all bytes, one payload after another
 abbrev pub joined : List PayloadAt → List ℕ

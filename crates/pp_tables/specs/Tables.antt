@@ -142,7 +142,8 @@ function_rules = scalars_to 5
 
 -- a Function without fields
 abbrev pub no_function : Function
-no_function = record { id = 0; name = pos 0; system_name = pos 0; filename = pos 0; start_line = pos 0 }
+no_function =
+    record { id = 0; name = pos 0; system_name = pos 0; filename = pos 0; start_line = pos 0 }
 
 -- a Function after these fields
 abbrev pub function_with : Function → List Item → Function

@@ -33,7 +33,8 @@ add_by read n item xs = if item.number == n then xs ++ read item else xs
 
 -- a ValueType after one field more
 abbrev pub value_type_put : ValueType → Item → ValueType
-value_type_put old item = record { kind = set_by ints_in 1 item old.kind; unit = set_by ints_in 2 item old.unit }
+value_type_put old item =
+    record { kind = set_by ints_in 1 item old.kind; unit = set_by ints_in 2 item old.unit }
 
 -- a Label after one field more
 abbrev pub label_put : Label → Item → Label
@@ -108,7 +109,9 @@ profile_put old item = record {
   keep_frames = set_by ints_in 8 item old.keep_frames;
   time_nanos = set_by ints_in 9 item old.time_nanos;
   duration_nanos = set_by ints_in 10 item old.duration_nanos;
-  period_type = if item.number == 11 then value_type_with old.period_type (fields_in item) else old.period_type;
+  period_type =
+      if item.number == 11 then value_type_with old.period_type (fields_in item)
+      else old.period_type;
   period = set_by ints_in 12 item old.period;
   comment = add_by int_list_in 13 item old.comment;
   default_sample_type = set_by ints_in 14 item old.default_sample_type;

@@ -22,7 +22,8 @@ fn wrong_kind(field: &Field<'_>) -> WireFault
 
 fn scalar_of(field: &Field<'_>) -> Result<u64, WireFault>
     ensures ok { IfOk result (λ n. content_of field.now.payload ≡ Varint n) }
-    ensures err { IfErr result (λ fault. fault_by Scalar (content_of field.now.payload) field.now.at ≡ Some fault) }
+    ensures err { IfErr result (λ fault. fault_by Scalar (content_of field.now.payload) field.now.at
+        ≡ Some fault) }
 {
     match field.payload {
         Payload::Varint(n) => Ok(n),
@@ -31,21 +32,24 @@ fn scalar_of(field: &Field<'_>) -> Result<u64, WireFault>
 }
 
 pub(crate) fn set_uint(number: &mut u64, field: &Field<'_>) -> Result<(), ReadRefusal>
-    ensures { Takes result (fault_by Scalar (content_of field.now.payload) field.now.at) (number.new ≡ last_or number.old (uints_in (item field.now))) }
+    ensures { Takes result (fault_by Scalar (content_of field.now.payload) field.now.at)
+        (number.new ≡ last_or number.old (uints_in (item field.now))) }
 {
     *number = scalar_of(field)?;
     Ok(())
 }
 
 pub(crate) fn set_int(number: &mut i64, field: &Field<'_>) -> Result<(), ReadRefusal>
-    ensures { Takes result (fault_by Scalar (content_of field.now.payload) field.now.at) (number.new ≡ last_or number.old (ints_in (item field.now))) }
+    ensures { Takes result (fault_by Scalar (content_of field.now.payload) field.now.at)
+        (number.new ≡ last_or number.old (ints_in (item field.now))) }
 {
     *number = scalar_of(field)?.cast_signed();
     Ok(())
 }
 
 pub(crate) fn set_bool(flag: &mut bool, field: &Field<'_>) -> Result<(), ReadRefusal>
-    ensures { Takes result (fault_by Scalar (content_of field.now.payload) field.now.at) (flag.new ≡ last_or flag.old (bools_in (item field.now))) }
+    ensures { Takes result (fault_by Scalar (content_of field.now.payload) field.now.at)
+        (flag.new ≡ last_or flag.old (bools_in (item field.now))) }
 {
     *flag = scalar_of(field)? != 0;
     Ok(())
@@ -54,7 +58,8 @@ pub(crate) fn set_bool(flag: &mut bool, field: &Field<'_>) -> Result<(), ReadRef
 fn run_of<'a>(field: &Field<'a>) -> Result<(&'a [u8], u64), WireFault>
     ensures ok { IfOk result (λ run. content_of field.now.payload ≡ Bytes run.0.now run.1) }
     ensures within { IfOk result (λ run. run.1 + length run.0.now < 2 ^ 64) }
-    ensures err { IfErr result (λ fault. fault_by Run (content_of field.now.payload) field.now.at ≡ Some fault) }
+    ensures err { IfErr result (λ fault. fault_by Run (content_of field.now.payload) field.now.at
+        ≡ Some fault) }
 {
     match field.payload {
         Payload::Bytes(bytes, at) => Ok((bytes, at)),
@@ -67,7 +72,8 @@ pub(crate) fn push_text(
     list: &mut List<Text>,
     field: &Field<'_>,
 ) -> Result<(), ReadRefusal>
-    ensures { Takes result (fault_by Run (content_of field.now.payload) field.now.at) (list.new ≡ list.old ++ texts_in (item field.now)) }
+    ensures { Takes result (fault_by Run (content_of field.now.payload) field.now.at)
+        (list.new ≡ list.old ++ texts_in (item field.now)) }
 {
     let (bytes, _) = run_of(field)?;
     list.push(Text::from_slice(alloc, bytes)?)?;
@@ -79,7 +85,9 @@ pub(crate) fn fill_from<M: Message>(
     message: &mut M,
     field: &Field<'_>,
 ) -> Result<(), ReadRefusal>
-    ensures { Takes result (fault_by (Nested (fault_in M.rules)) (content_of field.now.payload) field.now.at) (message.new ≡ M.filled message.old (fields_in (item field.now))) }
+    ensures { Takes result
+        (fault_by (Nested (fault_in M.rules)) (content_of field.now.payload) field.now.at)
+        (message.new ≡ M.filled message.old (fields_in (item field.now))) }
 {
     let (bytes, at) = run_of(field)?;
     fill(alloc, message, bytes, at)
@@ -90,7 +98,9 @@ pub(crate) fn push_message<M: Message>(
     list: &mut List<M>,
     field: &Field<'_>,
 ) -> Result<(), ReadRefusal>
-    ensures { Takes result (fault_by (Nested (fault_in M.rules)) (content_of field.now.payload) field.now.at) (list.new ≡ list.old ++ messages_in (M.filled M.empty) (item field.now)) }
+    ensures { Takes result
+        (fault_by (Nested (fault_in M.rules)) (content_of field.now.payload) field.now.at)
+        (list.new ≡ list.old ++ messages_in (M.filled M.empty) (item field.now)) }
 {
     let (bytes, at) = run_of(field)?;
     let mut message = M::none(alloc);
@@ -100,7 +110,8 @@ pub(crate) fn push_message<M: Message>(
 }
 
 pub(crate) fn push_uints(list: &mut List<u64>, field: &Field<'_>) -> Result<(), ReadRefusal>
-    ensures { Takes result (fault_by Numbers (content_of field.now.payload) field.now.at) (list.new ≡ list.old ++ uint_list_in (item field.now)) }
+    ensures { Takes result (fault_by Numbers (content_of field.now.payload) field.now.at)
+        (list.new ≡ list.old ++ uint_list_in (item field.now)) }
 {
     match field.payload {
         Payload::Varint(n) => Ok(list.push(n)?),
@@ -110,7 +121,8 @@ pub(crate) fn push_uints(list: &mut List<u64>, field: &Field<'_>) -> Result<(), 
 }
 
 fn push_packed_uints(list: &mut List<u64>, bytes: &[u8], at: u64) -> Result<(), ReadRefusal>
-    ensures { Takes result (numbers bytes.now at).fault (list.new ≡ list.old ++ (numbers bytes.now at).items) }
+    ensures { Takes result (numbers bytes.now at).fault
+        (list.new ≡ list.old ++ (numbers bytes.now at).items) }
 {
     let mut packed = Packed::new(bytes, at);
     while let Some(next) = packed.next() {
@@ -120,7 +132,8 @@ fn push_packed_uints(list: &mut List<u64>, bytes: &[u8], at: u64) -> Result<(), 
 }
 
 pub(crate) fn push_ints(list: &mut List<i64>, field: &Field<'_>) -> Result<(), ReadRefusal>
-    ensures { Takes result (fault_by Numbers (content_of field.now.payload) field.now.at) (list.new ≡ list.old ++ int_list_in (item field.now)) }
+    ensures { Takes result (fault_by Numbers (content_of field.now.payload) field.now.at)
+        (list.new ≡ list.old ++ int_list_in (item field.now)) }
 {
     match field.payload {
         Payload::Varint(n) => Ok(list.push(n.cast_signed())?),
@@ -130,7 +143,8 @@ pub(crate) fn push_ints(list: &mut List<i64>, field: &Field<'_>) -> Result<(), R
 }
 
 fn push_packed_ints(list: &mut List<i64>, bytes: &[u8], at: u64) -> Result<(), ReadRefusal>
-    ensures { Takes result (numbers bytes.now at).fault (list.new ≡ list.old ++ map signed (numbers bytes.now at).items) }
+    ensures { Takes result (numbers bytes.now at).fault
+        (list.new ≡ list.old ++ map signed (numbers bytes.now at).items) }
 {
     let mut packed = Packed::new(bytes, at);
     while let Some(next) = packed.next() {

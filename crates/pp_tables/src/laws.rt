@@ -13,7 +13,8 @@ ghost use Rattle.pp_tables.specs.Joined.{PayloadAt, payloads_in, joined, fields_
 
 /// Of a profile that keeps the table rules, the canonical bytes are read as that profile, table by table.
 pub fn written_is_read()
-    ensures { (p : Profile) → NoRuleFails p → ProfileFits p → length (encode p) < 2 ^ 64 → read (encode p) ≡ Ok p }
+    ensures { (p : Profile) → NoRuleFails p → ProfileFits p → length (encode p) < 2 ^ 64
+        → read (encode p) ≡ Ok p }
 {}
 
 /// A value type that comes in several payloads is the message of these payloads joined, wherever that would lie. So the

@@ -30,11 +30,13 @@ pub(crate) trait Message: Drop {
 
     /// Takes the next field.
     fn take(&mut self, alloc: Global, field: &Field<'_>) -> Result<(), ReadRefusal>
-        ensures { Takes result (fault_of rules (item field.now)) (self.new ≡ put self.old (item field.now)) };
+        ensures { Takes result (fault_of rules (item field.now))
+            (self.new ≡ put self.old (item field.now)) };
 
     ghost filled_none: { (m : Self) → filled m [] ≡ m };
 
-    ghost filled_more: { (m : Self) (i : Item) (items : List Item) → filled (put m i) items ≡ filled m (i ∷ items) };
+    ghost filled_more: { (m : Self) (i : Item) (items : List Item)
+        → filled (put m i) items ≡ filled m (i ∷ items) };
 }
 
 /// Fills a message with the fields of bytes of which the first is at the place `at`.
@@ -45,7 +47,8 @@ pub(crate) fn fill<M: Message>(
     at: u64,
 ) -> Result<(), ReadRefusal>
     requires { at + length bytes.now < 2 ^ 64 }
-    ensures { Takes result (fault_in M.rules bytes.now at) (message.new ≡ M.filled message.old (fields bytes.now at).items) }
+    ensures { Takes result (fault_in M.rules bytes.now at)
+        (message.new ≡ M.filled message.old (fields bytes.now at).items) }
 {
     let mut walker = Walker::new(bytes, at);
     while let Some(next) = walker.next() {
