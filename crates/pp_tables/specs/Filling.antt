@@ -28,9 +28,8 @@ set_case : {A : Type 0} (b : Bool) (read : Item → List A) (i : Item) (rest : L
 set_case true read i rest x = last_or-append x (read i) (flat_map read rest)
 set_case false read i rest x = refl
 
-add_case : {A : Type 0} (b : Bool) (read : Item
-    → List A) (i : Item) (rest : List Item) (xs : List A) → cond b (xs ++ read i) xs
-    ++ flat_map read rest ≡ xs ++ flat_map read (cond b (i ∷ rest) rest)
+add_case : {A : Type 0} (b : Bool) (read : Item → List A) (i : Item) (rest : List Item) (xs : List A)
+    → cond b (xs ++ read i) xs ++ flat_map read rest ≡ xs ++ flat_map read (cond b (i ∷ rest) rest)
 add_case true read i rest xs = append_assoc xs (read i) (flat_map read rest)
 add_case false read i rest xs = refl
 
@@ -41,9 +40,8 @@ set_more read n i items x =
     set_case (eqb i.number n) read i (filter (λ item. eqb item.number n) items) x
 
 -- a list that takes one field and then the others has what all give
-pub add_more : {A : Type 0} (read : Item
-    → List A) (n : ℕ) (i : Item) (items : List Item) (xs : List A) → add_by read n i xs
-    ++ all read n items ≡ xs ++ all read n (i ∷ items)
+pub add_more : {A : Type 0} (read : Item → List A) (n : ℕ) (i : Item) (items : List Item) (xs : List A)
+    → add_by read n i xs ++ all read n items ≡ xs ++ all read n (i ∷ items)
 add_more read n i items xs =
     add_case (eqb i.number n) read i (filter (λ item. eqb item.number n) items) xs
 
