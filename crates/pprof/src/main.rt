@@ -17,6 +17,7 @@ use words::read_words;
 
 /// The line and the status where there is no memory for the words after the program's name.
 const NO_MEMORY: &[u8] = b"pprof: out of memory\n";
+
 const MEMORY_STATUS: u8 = 4;
 
 fn main(rt: HostRuntime) -> ExitCode {
