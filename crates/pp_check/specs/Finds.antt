@@ -7,7 +7,8 @@ use Rattle.pp_check.specs.declared.fault.CheckRefusal.TheVariants.{Fault, Memory
 
 -- the fault of a rule that was tried on a table, where it fails at an index
 abbrev pub at : ℕ → Table → Option ℕ → Option TableFault
-at rule table found = option_map (λ index. record { rule = rule; table = table; index = index }) found
+at rule table found =
+    option_map (λ index. record { rule = rule; table = table; index = index }) found
 
 -- the first fault that there is
 abbrev pub first_of : List (Option TableFault) → Option TableFault

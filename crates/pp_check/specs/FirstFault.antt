@@ -24,7 +24,8 @@ text_faults p =
 -- by any table's ids: a rule that they are not 0, and the next rule, that they are distinct
 abbrev pub id_faults : ℕ → Table → List ℕ → List (Option TableFault)
 id_faults rule table ids =
-    at rule table (first_failing (λ id. nat_lt 0 id) ids) ∷ at (rule + 1) table (rules.first_repeated ids) ∷ []
+    at rule table (first_failing (λ id. nat_lt 0 id) ids)
+    ∷ at (rule + 1) table (rules.first_repeated ids) ∷ []
 
 -- rules 4 and 5
 abbrev pub mapping_faults : Profile → List (Option TableFault)

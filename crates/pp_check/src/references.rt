@@ -27,7 +27,8 @@ fn line_refers(p: &Profile, functions: &Known, line: &Line) -> bool
 fn lines_refer(p: &Profile, functions: &Known, location: &Location) -> bool
     requires { Knows functions.now (rules.function_ids p.now) }
     ensures { result ≡ list_all
-        (λ line. rules.is_zero_or_in (rules.function_ids p.now) line.function_id) location.now.line }
+        (λ line. rules.is_zero_or_in (rules.function_ids p.now) line.function_id)
+        location.now.line }
 {
     location
         .line

@@ -40,7 +40,8 @@ example_location id mapping address lines =
 -- the six locations, with ids that are their places plus 1
 abbrev pub example_locations : List Location
 example_locations =
-    example_location 1 1 64 (example_line 2 (negsuc 6) (pos 3) ∷ example_line 1 (pos 9) (pos 0) ∷ [])
+    example_location 1 1 64
+    (example_line 2 (negsuc 6) (pos 3) ∷ example_line 1 (pos 9) (pos 0) ∷ [])
     ∷ example_location 2 1 4214955 []
     ∷ example_location 3 0 0 []
     ∷ example_location 4 2 0 []
@@ -61,7 +62,8 @@ abbrev pub worked_locations : List Location
 worked_locations =
     example_location 1 0 0 (example_line 1 (pos 7) (pos 3) ∷ [])
     ∷ example_location 2 0 0 (example_line 1 (pos 7) (pos 9) ∷ [])
-    ∷ example_location 3 0 4853776 (example_line 2 (pos 8) (pos 0) ∷ example_line 3 (pos 21) (pos 0) ∷ [])
+    ∷ example_location 3 0 4853776
+    (example_line 2 (pos 8) (pos 0) ∷ example_line 3 (pos 21) (pos 0) ∷ [])
     ∷ []
 
 -- a sample of one location, whose value is 1

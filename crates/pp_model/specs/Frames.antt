@@ -47,7 +47,8 @@ pub record Written : Type 0 where
 
 -- the text index of the file of the location's mapping, 0 where none is known
 abbrev pub object_number : Profile → Location → ℕ
-object_number p location = option_map_or (λ m. text_number m.file) (mapping_with p location.mapping_id) 0
+object_number p location =
+    option_map_or (λ m. text_number m.file) (mapping_with p location.mapping_id) 0
 
 -- the text index of the name of the line's function, 0 where none is known
 abbrev pub name_number : Profile → Line → ℕ
@@ -55,7 +56,8 @@ name_number p line = option_map_or (λ f. text_number f.name) (function_with p l
 
 -- the text index of the file of the line's function, 0 where none is known
 abbrev pub file_number : Profile → Line → ℕ
-file_number p line = option_map_or (λ f. text_number f.filename) (function_with p line.function_id) 0
+file_number p line =
+    option_map_or (λ f. text_number f.filename) (function_with p line.function_id) 0
 
 -- the frame of one line of the location
 abbrev pub written_line : Profile → Location → Line → Written
@@ -86,7 +88,8 @@ written_lines p location (line ∷ lines) = map (written_line p location) (line 
 
 -- the frames of the location with the id
 abbrev pub written_at : Profile → ℕ → List Written
-written_at p id = option_map_or (λ location. written_lines p location location.line) (location_with p id) []
+written_at p id =
+    option_map_or (λ location. written_lines p location location.line) (location_with p id) []
 
 -- The stack of the sample, written out, leaf first.
 abbrev pub written_stack : Profile → Sample → List Written
@@ -105,7 +108,8 @@ rows place location (line ∷ lines) =
 -- the frames of the locations with these ids, whose first has this place in the sample
 abbrev pub frames_from : Profile → ℕ → List ℕ → List Frame
 frames_from p place [] = []
-frames_from p place (id ∷ ids) = rows place (id - 1) (location_at p (id - 1)).line ++ frames_from p (place + 1) ids
+frames_from p place (id ∷ ids) =
+    rows place (id - 1) (location_at p (id - 1)).line ++ frames_from p (place + 1) ids
 
 -- The stack of the sample as places, leaf first. A location's id is its place plus 1.
 abbrev pub stack_of : Profile → Sample → List Frame

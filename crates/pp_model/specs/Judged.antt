@@ -13,7 +13,8 @@ judged p None = None
 judged p (Some finds) = Some (map finds p.text)
 
 -- there are as many verdicts as texts
-pub judged_fits : (p : Profile) (pattern : Option (List ℕ → Bool)) → ForSome (judged p pattern) (λ found. length found ≡ length p.text)
+pub judged_fits : (p : Profile) (pattern : Option (List ℕ → Bool))
+    → ForSome (judged p pattern) (λ found. length found ≡ length p.text)
 judged_fits p None = λ found is. absurd (none-some found is)
 judged_fits p (Some finds) = λ found is.
     subst (λ verdicts. length verdicts ≡ length p.text) (same_Some _ _ is) (length-map p.text finds)

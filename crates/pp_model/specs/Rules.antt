@@ -35,7 +35,8 @@ zero_unless passes = if passes then None else Some 0
 
 -- the least index of a number that stands earlier in the list too
 abbrev pub first_repeated : List ℕ → Option ℕ
-first_repeated ids = position (λ k. stands_in (take k ids) (slice_index ids k)) (range_with_len 0 (length ids))
+first_repeated ids =
+    position (λ k. stands_in (take k ids) (slice_index ids k)) (range_with_len 0 (length ids))
 
 -- the ids of the mappings, in order
 abbrev pub mapping_ids : Profile → List ℕ
@@ -61,7 +62,9 @@ text_zero_fault p = zero_unless (begins_empty p.text)
 
 -- the text indices of the header
 abbrev pub header_texts : Profile → List ℤ
-header_texts p = p.drop_frames ∷ p.keep_frames ∷ p.period_type.kind ∷ p.period_type.unit ∷ p.default_sample_type ∷ p.doc_url ∷ []
+header_texts p =
+    p.drop_frames ∷ p.keep_frames ∷ p.period_type.kind ∷ p.period_type.unit ∷ p.default_sample_type
+    ∷ p.doc_url ∷ []
 
 -- Rule 2: each text index is in range, asked of one table after the other. First the header, as index 0.
 abbrev pub header_text_fault : Profile → Option ℕ
@@ -134,7 +137,8 @@ location_repeat_fault p = first_repeated (location_ids p)
 -- what a location refers to is there: its mapping and the functions of its lines
 abbrev pub location_refers : Profile → Location → Bool
 location_refers p l =
-    is_zero_or_in (mapping_ids p) l.mapping_id && list_all (λ line. is_zero_or_in (function_ids p) line.function_id) l.line
+    is_zero_or_in (mapping_ids p) l.mapping_id
+    && list_all (λ line. is_zero_or_in (function_ids p) line.function_id) l.line
 
 -- Rule 10: each location refers to a mapping and to functions that are there, or to none.
 abbrev pub location_fault : Profile → Option ℕ

@@ -14,4 +14,7 @@ with_column s column value = record s { value = slice_set s.value column value }
 -- the profile with another value in one column of one sample
 abbrev pub with_value : Profile → ℕ → ℕ → ℤ → Profile
 with_value p sample column value =
-    record p { sample = slice_set p.sample sample (with_column (slice_index_or p.sample sample no_sample) column value) }
+    record p {
+      sample = slice_set p.sample sample
+          (with_column (slice_index_or p.sample sample no_sample) column value);
+    }

@@ -57,16 +57,22 @@ pub record EndsAt (home : DequeId × Global) (lane : ℕ) (chairs : List Chair) 
 
 -- the last chair of each row is
 abbrev pub AllEndAt : DequeId × Global → ℕ → List (Vec Chair Global) → Type 0
-AllEndAt home lane rows = (k : ℕ) (row : Vec Chair Global) → k < length rows → EndsAt home lane (slice_index_or rows k row).items
+AllEndAt home lane rows =
+    (k : ℕ) (row : Vec Chair Global) → k < length rows
+    → EndsAt home lane (slice_index_or rows k row).items
 
 -- the parts of all lanes: the owners' handles, a row of chairs for each lane, and what each took
-pub record AreParts (deal : Deal) (pieces : ℕ) (workers : Deques) (rows : List (Vec Chair Global)) (taken : List (List ℕ)) : Type 0 where
+pub record AreParts (deal : Deal) (pieces : ℕ) (workers : Deques) (rows : List (Vec Chair Global))
+    (taken : List (List ℕ)) : Type 0 where
   pub some : 0 < length workers
   pub rows_too : length rows ≡ length workers
   pub taken_too : length taken ≡ length workers
-  pub homes : (k : ℕ) (row : Vec Chair Global) → k < length rows → homes_at (slice_index_or rows k row).items ≡ homes_of workers
-  pub tend : (k : ℕ) (w : Worker ℕ Global View OnceEach) (row : Vec Chair Global) → k < length workers
-      → Tends deal pieces k (slice_index_or taken k []) (worker_view (slice_index_or workers k w)) (slice_index_or rows k row).items
+  pub homes : (k : ℕ) (row : Vec Chair Global) → k < length rows
+      → homes_at (slice_index_or rows k row).items ≡ homes_of workers
+  pub tend : (k : ℕ) (w : Worker ℕ Global View OnceEach) (row : Vec Chair Global)
+      → k < length workers
+      → Tends deal pieces k (slice_index_or taken k []) (worker_view (slice_index_or workers k w))
+      (slice_index_or rows k row).items
 
 -- each row without its chairs from `lane` on
 abbrev pub RowsCut : ℕ → List (Vec Chair Global) → List (Vec Chair Global) → Type 0
@@ -75,7 +81,8 @@ RowsCut lane before after = (k : ℕ) (row : Vec Chair Global) → k < length be
 
 -- the owner and the passes at its deque took pieces that were dealt, none of them twice
 abbrev pub TookOnce : View → ℕ → List (Vec Chair Global) → Type 0
-TookOnce owner lane rows = (x : ℕ) → times x owner.taken + times_at x lane rows ≤ times x owner.dealt
+TookOnce owner lane rows =
+    (x : ℕ) → times x owner.taken + times_at x lane rows ≤ times x owner.dealt
 
 -- marks of the pieces that stand somewhere in what was counted
 abbrev pub AreMarksOf : (ℕ → ℕ) → List Bool → Type 0
@@ -93,18 +100,23 @@ unmarked_of marks pieces = filter (λ x. not (slice_index_or marks x false)) (up
 -- Over all lanes, of the pieces that were dealt to this lane's deque none was taken twice. No clause cites it: the loop of
 -- `settle_all` does
 abbrev pub IsLearned : Deal → ℕ → ℕ → List (List ℕ) → ℕ → Type 0
-IsLearned deal lanes pieces taken lane = (x : ℕ) → times_in x (map (filter (is_of deal lanes lane)) taken) ≤ times x (dealt_to deal lanes pieces lane)
+IsLearned deal lanes pieces taken lane =
+    (x : ℕ) → times_in x (map (filter (is_of deal lanes lane)) taken)
+    ≤ times x (dealt_to deal lanes pieces lane)
 
 -- the name of an owner's deque
 abbrev pub id_of : Worker ℕ Global View OnceEach → DequeId
 id_of w = (worker_deque w).0
 
 -- The parts of the first k lanes. No clause cites it: the loop of `gather` does
-pub record Gathers (make : Make) (k : ℕ) (lanes : List Standing) (workers : Deques) (rows : List (Vec Chair Global)) (taken : List (List ℕ)) : Type 0 where
+pub record Gathers (make : Make) (k : ℕ) (lanes : List Standing) (workers : Deques)
+    (rows : List (Vec Chair Global)) (taken : List (List ℕ)) : Type 0 where
   pub count : length workers ≡ k
   pub rows_too : length rows ≡ k
   pub ids : map id_of workers ≡ take k make.deques
-  pub deques : (j : ℕ) (row : Vec Chair Global) → j < length rows → map deque_of (slice_index_or rows j row).items ≡ make.deques
+  pub deques : (j : ℕ) (row : Vec Chair Global) → j < length rows
+      → map deque_of (slice_index_or rows j row).items ≡ make.deques
   pub took : taken ≡ map taken_of (take k lanes)
   pub tend : (j : ℕ) (w : Worker ℕ Global View OnceEach) (row : Vec Chair Global) → j < k
-      → Tends make.deal make.pieces j (slice_index_or taken j []) (worker_view (slice_index_or workers j w)) (slice_index_or rows j row).items
+      → Tends make.deal make.pieces j (slice_index_or taken j [])
+      (worker_view (slice_index_or workers j w)) (slice_index_or rows j row).items

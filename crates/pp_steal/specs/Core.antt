@@ -98,7 +98,8 @@ pub record Joins (pass other : ℕ) (d e : Deque) : Type 0 where
   pub two : other ≢ pass
   pub live : IsLive view.role
   pub role : guest.role ≡ Guest
-  pub next : e ≡ a_deque d.items (slice_set (slice_set d.views pass (joined view guest)) other spent)
+  pub next : e
+      ≡ a_deque d.items (slice_set (slice_set d.views pass (joined view guest)) other spent)
 
 -- the step may come at the first deque, and leaves the second
 abbrev pub Steps : Step → Deque → Deque → Type 0
@@ -136,7 +137,8 @@ pool_taken x (d ∷ ds) = times_taken x d.views + pool_taken x ds
 -- the deques of a pool, to which all pieces were dealt
 pub record ArePool (deal : Deal) (lanes pieces : ℕ) (ds : List Deque) : Type 0 where
   pub many : length ds ≡ lanes
-  pub each : (lane : ℕ) (d : Deque) → lane < lanes → IsOfPool (dealt_to deal lanes pieces lane) (slice_index_or ds lane d)
+  pub each : (lane : ℕ) (d : Deque) → lane < lanes
+      → IsOfPool (dealt_to deal lanes pieces lane) (slice_index_or ds lane d)
 
 -- no deque holds a piece
 abbrev pub AllEmpty : List Deque → Type 0
@@ -144,14 +146,18 @@ AllEmpty ds = (lane : ℕ) (d : Deque) → lane < length ds → (slice_index_or 
 
 -- whatever steps came, the deque is sound
 abbrev pub EachStateIsSound : Type 0
-EachStateIsSound = (steps : List Step) (d : Deque) → Runs steps empty_deque d → Sound d.items d.views
+EachStateIsSound =
+    (steps : List Step) (d : Deque) → Runs steps empty_deque d → Sound d.items d.views
 
 -- after dealing, items and taken lists of the pool hold each piece once
 abbrev pub EachPieceOnce : Type 0
-EachPieceOnce = (deal : Deal) (lanes pieces : ℕ) (ds : List Deque) → 0 < lanes → ArePool deal lanes pieces ds
+EachPieceOnce =
+    (deal : Deal) (lanes pieces : ℕ) (ds : List Deque) → 0 < lanes → ArePool deal lanes pieces ds
     → (x : ℕ) → pool_times x ds ≡ times x (upto pieces)
 
 -- where all deques are empty, the taken lists alone do
 abbrev pub EachTakenOnce : Type 0
-EachTakenOnce = (deal : Deal) (lanes pieces : ℕ) (ds : List Deque) → 0 < lanes → ArePool deal lanes pieces ds → AllEmpty ds
+EachTakenOnce =
+    (deal : Deal) (lanes pieces : ℕ) (ds : List Deque) → 0 < lanes → ArePool deal lanes pieces ds
+    → AllEmpty ds
     → (x : ℕ) → pool_taken x ds ≡ times x (upto pieces)

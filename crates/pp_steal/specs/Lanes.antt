@@ -46,7 +46,8 @@ abbrev pub deque_of : Chair → DequeId
 deque_of c = (stealer_deque c.thief).0
 
 -- a chair at the deque of `lane`: its pass knows what this lane took there, and at its own deque it takes nothing
-pub record Sits (deal : Deal) (lanes pieces own : ℕ) (taken : List ℕ) (lane : ℕ) (c : Chair) : Type 0 where
+pub record Sits (deal : Deal) (lanes pieces own : ℕ) (taken : List ℕ) (lane : ℕ)
+    (c : Chair) : Type 0 where
   pub pass : IsPassOf (stealer_deque c.thief) c.pass
   pub guest : (view c.pass).role ≡ Guest
   pub dealt : (view c.pass).dealt ≡ dealt_to deal lanes pieces lane
@@ -59,7 +60,8 @@ AllSit deal lanes pieces own taken chairs = (lane : ℕ) (c : Chair) → lane < 
 
 -- What a lane knows. What it took are pieces, none of them twice. Of these, each pass knows those that were dealt to its
 -- deque; at its own deque that is the owner's pass
-pub record Tends (deal : Deal) (pieces own : ℕ) (taken : List ℕ) (mine : View) (chairs : List Chair) : Type 0 where
+pub record Tends (deal : Deal) (pieces own : ℕ) (taken : List ℕ) (mine : View)
+    (chairs : List Chair) : Type 0 where
   pub below : own < length chairs
   pub few : length chairs ≤ 64
   pub distinct : AreDistinctPieces pieces taken
@@ -73,28 +75,33 @@ abbrev pub Deques : Type 0
 Deques = List (Worker ℕ Global View OnceEach)
 
 -- a deque with room for all pieces, which was dealt these pieces of them and gave none
-pub record IsDealt (deal : Deal) (lanes pieces dealt lane : ℕ) (w : Worker ℕ Global View OnceEach) : Type 0 where
+pub record IsDealt (deal : Deal) (lanes pieces dealt lane : ℕ)
+    (w : Worker ℕ Global View OnceEach) : Type 0 where
   pub room : pieces ≤ worker_capacity w
   pub used : worker_index w ≤ dealt
   pub knows : worker_view w ≡ a_view Owner (dealt_to deal lanes dealt lane) []
 
 -- the pieces below `dealt` were dealt, each to its lane's deque
 abbrev pub AreDealt : Deal → ℕ → ℕ → ℕ → Deques → Type 0
-AreDealt deal lanes pieces dealt workers = (lane : ℕ) (w : Worker ℕ Global View OnceEach) → lane < length workers
+AreDealt deal lanes pieces dealt workers =
+    (lane : ℕ) (w : Worker ℕ Global View OnceEach) → lane < length workers
     → IsDealt deal lanes pieces dealt lane (slice_index_or workers lane w)
 
 -- the owner of a deque that was dealt the lane's pieces, of which it took none
 abbrev pub IsReady : Deal → ℕ → ℕ → ℕ → View → Type 0
-IsReady deal lanes pieces lane v = (marked v.role ≡ Marked) × (v.dealt ≡ dealt_to deal lanes pieces lane) × (v.taken ≡ [])
+IsReady deal lanes pieces lane v =
+    (marked v.role ≡ Marked) × (v.dealt ≡ dealt_to deal lanes pieces lane) × (v.taken ≡ [])
 
 -- each owner is ready
 abbrev pub AreReady : Deal → ℕ → ℕ → Deques → Type 0
-AreReady deal lanes pieces workers = (lane : ℕ) (w : Worker ℕ Global View OnceEach) → lane < length workers
+AreReady deal lanes pieces workers =
+    (lane : ℕ) (w : Worker ℕ Global View OnceEach) → lane < length workers
     → IsReady deal lanes pieces lane (worker_view (slice_index_or workers lane w))
 
 -- the first owners are marked as split
 abbrev pub AreMarked : ℕ → Deques → Type 0
-AreMarked below workers = (lane : ℕ) (w : Worker ℕ Global View OnceEach) → lane < length workers → lane < below
+AreMarked below workers =
+    (lane : ℕ) (w : Worker ℕ Global View OnceEach) → lane < length workers → lane < below
     → (worker_view (slice_index_or workers lane w)).role ≡ Marked
 
 -- which deques they are
@@ -107,7 +114,8 @@ homes_at chairs = map (λ (c : Chair). stealer_deque c.thief) chairs
 
 -- a chair with which nothing was taken
 abbrev pub IsFresh : List ℕ → Chair → Type 0
-IsFresh dealt c = IsPassOf (stealer_deque c.thief) c.pass × (view c.pass ≡ a_view Guest dealt []) × (c.misses ≡ 0)
+IsFresh dealt c =
+    IsPassOf (stealer_deque c.thief) c.pass × (view c.pass ≡ a_view Guest dealt []) × (c.misses ≡ 0)
 
 -- each chair is fresh, and its pass knows the pieces that were dealt to the lane whose place it has
 abbrev pub AreFresh : Deal → ℕ → ℕ → List Chair → Type 0
@@ -116,7 +124,8 @@ AreFresh deal lanes pieces chairs = (lane : ℕ) (c : Chair) → lane < length c
 
 -- fresh chairs of one lane, at these deques
 abbrev pub IsNewRow : Deal → ℕ → ℕ → List (DequeId × Global) → Vec Chair Global → Type 0
-IsNewRow deal lanes pieces homes row = (homes_at row.items ≡ homes) × AreFresh deal lanes pieces row.items
+IsNewRow deal lanes pieces homes row =
+    (homes_at row.items ≡ homes) × AreFresh deal lanes pieces row.items
 
 -- the same for some lanes
 abbrev pub AreNewRows : Deal → ℕ → ℕ → List (DequeId × Global) → List (Vec Chair Global) → Type 0
@@ -151,7 +160,8 @@ IsRowOf t row = IsNewRow t.deal (length t.workers.items) t.pieces (homes_of t.wo
 
 -- rows of such chairs
 abbrev pub AreRowsOf : Table → List (Vec Chair Global) → Type 0
-AreRowsOf t rows = AreNewRows t.deal (length t.workers.items) t.pieces (homes_of t.workers.items) rows
+AreRowsOf t rows =
+    AreNewRows t.deal (length t.workers.items) t.pieces (homes_of t.workers.items) rows
 
 -- the make that comes of the table
 abbrev pub make_of_table : Table → Make
@@ -165,7 +175,8 @@ pub record IsLaneOf (make : Make) (lane : ℕ) (s : Standing) : Type 0 where
 -- they are all the lanes of the make, in their order
 pub record AreLanesOf (make : Make) (lanes : List Standing) : Type 0 where
   pub many : length lanes ≡ length make.deques
-  pub each : (lane : ℕ) (s : Standing) → lane < length lanes → IsLaneOf make lane (slice_index_or lanes lane s)
+  pub each : (lane : ℕ) (s : Standing) → lane < length lanes
+      → IsLaneOf make lane (slice_index_or lanes lane s)
 
 -- a lane whose deque was dealt its pieces, and which has taken nothing
 pub record IsNewLane (make : Make) (lane : ℕ) (s : Standing) : Type 0 where
@@ -176,7 +187,9 @@ pub record IsNewLane (make : Make) (lane : ℕ) (s : Standing) : Type 0 where
 
 -- the first lanes of a make, which were dealt their pieces and have taken nothing
 abbrev pub AreNewLanes : Make → List Standing → Type 0
-AreNewLanes make lanes = (lane : ℕ) (s : Standing) → lane < length lanes → IsNewLane make lane (slice_index_or lanes lane s)
+AreNewLanes make lanes =
+    (lane : ℕ) (s : Standing) → lane < length lanes
+    → IsNewLane make lane (slice_index_or lanes lane s)
 
 -- n lanes of one make, to which the pieces below `pieces` were dealt in this way, and which have taken nothing
 pub record IsNewMake (deal : Deal) (pieces n : ℕ) (lanes : List Standing) : Type 0 where

@@ -66,7 +66,8 @@ pub record Sound (items : List ℕ) (views : List View) : Type 0 where
   pub rises : Rises dealt
   pub part : IsPartOf items dealt
   pub once : (x : ℕ) → times x items + times_taken x views ≡ times x dealt
-  pub fits : (port : ℕ) (v : View) → get_elem? views port ≡ some v → Fits dealt (length views) port v
+  pub fits : (port : ℕ) (v : View) → get_elem? views port ≡ some v
+      → Fits dealt (length views) port v
 
 -- the view after the pass took these pieces
 abbrev pub took : View → List ℕ → View

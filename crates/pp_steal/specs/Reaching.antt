@@ -15,13 +15,17 @@ Answers before after count count' None = (after ≡ before) × (count ≤ count'
 
 -- no count fell
 abbrev pub NoneFell : ℕ → (ℕ → ℕ) → ℕ → (ℕ → ℕ) → Type 0
-NoneFell empties misses empties' misses' = (empties ≤ empties') × ((lane : ℕ) → misses lane ≤ misses' lane)
+NoneFell empties misses empties' misses' =
+    (empties ≤ empties') × ((lane : ℕ) → misses lane ≤ misses' lane)
 
 -- the count of the own deque rose, and that of each other lane
-pub record AllRose (lanes own empties : ℕ) (misses : ℕ → ℕ) (empties' : ℕ) (misses' : ℕ → ℕ) : Type 0 where
+pub record AllRose (lanes own empties : ℕ) (misses : ℕ → ℕ)
+    (empties' : ℕ) (misses' : ℕ → ℕ) : Type 0 where
   pub own_rose : Rose empties empties'
   pub others_rose : (lane : ℕ) → lane < lanes → lane ≢ own → Rose (misses lane) (misses' lane)
 
 -- The lane comes before the step, from the right neighbour of `own` round. No clause cites it: the loop of `sweep` does
 abbrev pub InTurn : ℕ → ℕ → ℕ → ℕ → Type 0
-InTurn lanes own step lane = ((own < lane) × (lane < own + step) × (lane < lanes)) ⊎ ((lane < own) × (lane + lanes < own + step))
+InTurn lanes own step lane =
+    ((own < lane) × (lane < own + step) × (lane < lanes))
+    ⊎ ((lane < own) × (lane + lanes < own + step))

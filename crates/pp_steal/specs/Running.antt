@@ -7,9 +7,11 @@ use Rattle.pp_steal.specs.declared.station.Station.{Station}
 use Rattle.pp_steal.specs.Lanes.{Standing}
 
 -- the k-th outcome is right for the k-th piece
-pub record HasOutcomes {T : Type 0} (right : ℕ → T → Type 0) (taken : List ℕ) (outcomes : List T) : Type 0 where
+pub record HasOutcomes {T : Type 0} (right : ℕ → T → Type 0)
+    (taken : List ℕ) (outcomes : List T) : Type 0 where
   pub many : length outcomes ≡ length taken
-  pub each : (k : ℕ) (d : T) → k < length outcomes → right (slice_index_or taken k 0) (slice_index_or outcomes k d)
+  pub each : (k : ℕ) (d : T) → k < length outcomes
+      → right (slice_index_or taken k 0) (slice_index_or outcomes k d)
 
 -- a lane that has taken nothing, with no outcomes yet
 pub record IsIdle {T : Type 0} (s : Station T) : Type 0 where
@@ -31,7 +33,8 @@ abbrev pub outcomes_of_station : {T : Type 0} → Station T → Vec T Global
 outcomes_of_station s = s.outcomes
 
 -- the slot of the piece has an outcome that is right for it
-pub record HasRight {T : Type 0} (right : ℕ → T → Type 0) (slots : List (Option T)) (piece : ℕ) : Type 0 where
+pub record HasRight {T : Type 0} (right : ℕ → T → Type 0)
+    (slots : List (Option T)) (piece : ℕ) : Type 0 where
   pub outcome : T
   pub there : slice_index_or slots piece None ≡ Some outcome
   pub is_right : right piece outcome
@@ -42,23 +45,31 @@ KeepsRight right before after = (x : ℕ) → HasRight right before x → HasRig
 
 -- each piece of the list has a right outcome in its slot
 abbrev pub ArePlaced : {T : Type 0} → (ℕ → T → Type 0) → List (Option T) → List ℕ → Type 0
-ArePlaced right slots list = (i : ℕ) → i < length list → HasRight right slots (slice_index_or list i 0)
+ArePlaced right slots list =
+    (i : ℕ) → i < length list → HasRight right slots (slice_index_or list i 0)
 
 -- each piece of these lists has
 abbrev pub AllArePlaced : {T : Type 0} → (ℕ → T → Type 0) → List (Option T) → List (List ℕ) → Type 0
-AllArePlaced right slots taken = (k : ℕ) (i : ℕ) → k < length taken → i < length (slice_index_or taken k [])
+AllArePlaced right slots taken =
+    (k : ℕ) (i : ℕ) → k < length taken → i < length (slice_index_or taken k [])
     → HasRight right slots (slice_index_or (slice_index_or taken k []) i 0)
 
 -- each lane has done its work
-abbrev pub AreServed : {T : Type 0} → (ℕ → T → Type 0) → List (Station T) → List (Station T) → Type 0
-AreServed {T} right before after = (k : ℕ) (d : Station T) → k < length before → IsServed right (slice_index_or before k d) (slice_index_or after k d)
+abbrev pub AreServed : {T : Type 0} → (ℕ → T → Type 0) → List (Station T) → List (Station T)
+    → Type 0
+AreServed {T} right before after =
+    (k : ℕ) (d : Station T) → k < length before
+    → IsServed right (slice_index_or before k d) (slice_index_or after k d)
 
 -- for each lane, there is a right outcome of each piece that it took
-pub record AllHaveOutcomes {T : Type 0} (right : ℕ → T → Type 0) (taken : List (List ℕ)) (outcomes : List (Vec T Global)) : Type 0 where
+pub record AllHaveOutcomes {T : Type 0} (right : ℕ → T → Type 0)
+    (taken : List (List ℕ)) (outcomes : List (Vec T Global)) : Type 0 where
   pub many : length outcomes ≡ length taken
-  pub each : (k : ℕ) (d : Vec T Global) → k < length taken → HasOutcomes right (slice_index_or taken k []) (slice_index_or outcomes k d).items
+  pub each : (k : ℕ) (d : Vec T Global) → k < length taken
+      → HasOutcomes right (slice_index_or taken k []) (slice_index_or outcomes k d).items
 
 -- at the place of each piece there is an outcome that is right for it, and there are as many places as pieces
-pub record AreOutcomes {T : Type 0} (right : ℕ → T → Type 0) (pieces : ℕ) (outcomes : List T) : Type 0 where
+pub record AreOutcomes {T : Type 0} (right : ℕ → T → Type 0)
+    (pieces : ℕ) (outcomes : List T) : Type 0 where
   pub many : length outcomes ≡ pieces
   pub each : (piece : ℕ) (d : T) → piece < pieces → right piece (slice_index_or outcomes piece d)
