@@ -1,11 +1,11 @@
--- Where no rule has a fault, no rule fails.
+-- There is no fault exactly where no rule fails.
 use Rattle.std.proofs.Common.{◌≡◌, List, [], ◌∷◌, ℕ, refl}
 use Rattle.std.specs.Prelude.{Option, Some, None, ⊤}
 use Rattle.pp_model.specs.declared.profile.Profile.{Profile}
 use Rattle.pp_model.specs.Rules.{NoRuleFails}
 use Rattle.pp_check.specs.declared.fault.Table.{Table}
 use Rattle.pp_check.specs.declared.fault.TableFault.{TableFault}
-use Rattle.pp_check.specs.Finds.{at, first_of}
+use Rattle.pp_check.specs.Finds.{at, first_fault_of}
 use Rattle.pp_check.specs.FirstFault.{faults, first_fault}
 
 -- each of these is none
@@ -14,7 +14,7 @@ AreNone [] = ⊤
 AreNone (o ∷ os) = (o ≡ None) × AreNone os
 
 -- the first of them is none only where all are
-all_none : (os : List (Option TableFault)) → first_of os ≡ None → AreNone os
+all_none : (os : List (Option TableFault)) → first_fault_of os ≡ None → AreNone os
 all_none [] none = tt
 all_none (None ∷ os) none = (refl, all_none os none)
 all_none (Some f ∷ os) none = cc
@@ -47,3 +47,68 @@ keeps_rules p nothing =
       sample_reference = at_none _ _ _ none.1.1.1.1.1.1.1.1.1.1.1.1.1.1.1.0;
       values = at_none _ _ _ none.1.1.1.1.1.1.1.1.1.1.1.1.1.1.1.1.0;
     }
+
+-- where each is none, so is the first
+none_first : (os : List (Option TableFault)) → AreNone os → first_fault_of os ≡ None
+none_first [] none = refl
+none_first (None ∷ os) none = none_first os none.1
+none_first (Some f ∷ os) none = absurd cc
+
+-- a rule that fails nowhere has no fault
+none_at : (rule : ℕ) (table : Table) (found : Option ℕ) → found ≡ None → at rule table found ≡ None
+none_at rule table None none = refl
+none_at rule table (Some k) none = cc
+
+-- a profile that breaks no rule has no fault
+pub has_no_fault : (p : Profile) → NoRuleFails p → first_fault p ≡ None
+unfolding first_fault
+has_no_fault p keeps =
+    none_first (faults p) (
+      none_at _ _ _ keeps.text_zero,
+      (
+        none_at _ _ _ keeps.header_text,
+        (
+          none_at _ _ _ keeps.comment_text,
+          (
+            none_at _ _ _ keeps.type_text,
+            (
+              none_at _ _ _ keeps.sample_text,
+              (
+                none_at _ _ _ keeps.mapping_text,
+                (
+                  none_at _ _ _ keeps.function_text,
+                  (
+                    none_at _ _ _ keeps.untyped,
+                    (
+                      none_at _ _ _ keeps.mapping_zero,
+                      (
+                        none_at _ _ _ keeps.mapping_repeat,
+                        (
+                          none_at _ _ _ keeps.function_zero,
+                          (
+                            none_at _ _ _ keeps.function_repeat,
+                            (
+                              none_at _ _ _ keeps.location_zero,
+                              (
+                                none_at _ _ _ keeps.location_repeat,
+                                (
+                                  none_at _ _ _ keeps.location_reference,
+                                  (
+                                    none_at _ _ _ keeps.sample_reference,
+                                    (none_at _ _ _ keeps.values, tt),
+                                  ),
+                                ),
+                              ),
+                            ),
+                          ),
+                        ),
+                      ),
+                    ),
+                  ),
+                ),
+              ),
+            ),
+          ),
+        ),
+      ),
+    )

@@ -11,10 +11,10 @@ at rule table found =
     option_map (λ index. record { rule = rule; table = table; index = index }) found
 
 -- the first fault that there is
-abbrev pub first_of : List (Option TableFault) → Option TableFault
-first_of [] = None
-first_of (None ∷ faults) = first_of faults
-first_of (Some fault ∷ faults) = Some fault
+abbrev pub first_fault_of : List (Option TableFault) → Option TableFault
+first_fault_of [] = None
+first_fault_of (None ∷ faults) = first_fault_of faults
+first_fault_of (Some fault ∷ faults) = Some fault
 
 -- A call that takes no memory answers the fault, where there is one.
 abbrev pub FindsFault : {A : Type 0} → Option TableFault → Result A TableFault → Type 0

@@ -6,7 +6,7 @@ use Rattle.pp_model.specs.Rules.{first_failing}
 use Rattle.pp_check.specs.declared.fault.Table.{Table}
 use Rattle.pp_check.specs.declared.fault.Table.TheVariants.{Texts, Header, Comments, SampleTypes, Samples, Mappings, Functions, Locations}
 use Rattle.pp_check.specs.declared.fault.TableFault.{TableFault}
-use Rattle.pp_check.specs.Finds.{at, first_of}
+use Rattle.pp_check.specs.Finds.{at, first_fault_of}
 
 -- rules 1 to 3
 abbrev pub text_faults : Profile → List (Option TableFault)
@@ -67,7 +67,7 @@ faults p =
 
 -- the first fault of a profile, or none
 unfoldable pub first_fault : Profile → Option TableFault
-first_fault p = first_of (faults p)
+first_fault p = first_fault_of (faults p)
 
 -- Each table has fewer entries than an index can tell.
 pub record IsIndexed (p : Profile) : Type 0 where

@@ -1,49 +1,15 @@
 // Rules 4 to 9: the ids of mappings, functions and locations are not 0, and distinct.
-ghost use Rattle.std.specs.Prelude.{◌≡◌, ℕ, ◌<◌, ◌^◌, [], length, map, nat_lt, IfOk, IfSome, IfNone};
+ghost use Rattle.std.specs.Prelude.{◌≡◌, ◌<◌, ◌^◌, [], length, map, nat_lt, IfOk, IfSome, IfNone};
 ghost use Rattle.pp_model.specs.Rules.{first_failing, first_repeated};
 ghost use Rattle.pp_check.specs.Known.{Knows};
 ghost use Rattle.pp_check.specs.FirstFault.{id_faults};
-ghost use Rattle.pp_check.specs.Finds.{first_of, Finds};
+ghost use Rattle.pp_check.specs.Finds.{first_fault_of, Finds};
 
 use crate::fault::{CheckRefusal, Table, refuse};
 use crate::known::Known;
 use pp_base::Memory;
-use pp_model::{Function, Location, Mapping};
+use pp_model::HasId;
 use std::alloc::Global;
-
-/// What has an id.
-pub trait HasId {
-    /// The id.
-    ghost id_of: { Self → ℕ };
-
-    /// The number by which other tables refer to it.
-    fn id(&self) -> u64
-        ensures { result ≡ id_of self.now };
-}
-
-impl HasId for Mapping {
-    ghost id_of = { λ m. m.id };
-
-    fn id(&self) -> u64 {
-        self.id
-    }
-}
-
-impl HasId for Function {
-    ghost id_of = { λ f. f.id };
-
-    fn id(&self) -> u64 {
-        self.id
-    }
-}
-
-impl HasId for Location {
-    ghost id_of = { λ l. l.id };
-
-    fn id(&self) -> u64 {
-        self.id
-    }
-}
 
 /// The ids of a table, or its first fault: by the rule of this number, an id that is 0, and by the next rule an id that
 /// stands earlier.
@@ -55,7 +21,7 @@ pub fn known_ids<T: HasId>(
 ) -> Result<Known, CheckRefusal>
     requires numbers { rule < 255 }
     requires indexed { length items.now < 2 ^ 32 }
-    ensures faults { Finds (first_of (id_faults rule table (map T.id_of items.now))) result }
+    ensures faults { Finds (first_fault_of (id_faults rule table (map T.id_of items.now))) result }
     ensures known { IfOk result (λ known. Knows known (map T.id_of items.now)) }
 {
     refuse(rule, table, zero_id(items))?;

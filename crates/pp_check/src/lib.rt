@@ -11,10 +11,10 @@ mod checking;
 mod fault;
 mod ids;
 mod known;
+mod laws;
 mod references;
-#[cfg(test)]
-mod tests;
 mod texts;
 
 pub use checking::{check, first_fault};
 pub use fault::{CheckRefusal, Table, TableFault};
+pub use laws::no_fault_means_no_rule_fails;

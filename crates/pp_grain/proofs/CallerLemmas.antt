@@ -7,20 +7,12 @@ use Rattle.std.specs.FinMap.{nat_cmp-IsAntisymmetric, int_cmp-IsAntisymmetric, s
 use Rattle.std.specs.Ordering.{ordering_then}
 use Rattle.std.specs.Cmp.{IsTotalOrder}
 use Rattle.std.proofs.lemmas.Bool.{cases_order}
-use Rattle.std.proofs.lemmas.Cmp.{then_total, int_cmp_total, nat_list_cmp_total, nat_cmp_total}
+use Rattle.std.proofs.lemmas.Cmp.{on_total, then_total, int_cmp_total, nat_list_cmp_total, nat_cmp_total}
 use Rattle.pp_model.specs.declared.profile.Profile.{Profile}
 use Rattle.pp_model.specs.Frames.{Written}
 use Rattle.pp_model.specs.Rules.{IsCompact}
 use Rattle.pp_grain.specs.declared.key.Key.{Key}
 use Rattle.pp_grain.specs.Keys.{key_cmp, key_written, IsKeyOf}
-
--- an order of one field is total
-on_field : {A K : Type 0} {R : A → A → Ordering} (f : K → A) → IsTotalOrder R → IsTotalOrder (λ (x y : K). R (f x) (f y))
-on_field f total = record {
-  antisymm = λ x y. total.antisymm (f x) (f y);
-  trans = λ x y z. total.trans (f x) (f y) (f z);
-  congr = λ x y z. total.congr (f x) (f y) (f z);
-}
 
 -- The order of keys is total.
 pub key_cmp_total : IsTotalOrder key_cmp
@@ -29,18 +21,18 @@ key_cmp_total =
     (then_total
     (then_total
     (then_total
-    (then_total (on_field (λ (k : Written). k.function) nat_list_cmp_total) (on_field (λ (k : Written). k.file) nat_list_cmp_total))
-    (on_field (λ (k : Written). k.line) int_cmp_total))
-    (on_field (λ (k : Written). k.column) int_cmp_total))
-    (on_field (λ (k : Written). k.address) nat_cmp_total))
-    (on_field (λ (k : Written). k.object) nat_list_cmp_total)
+    (then_total (on_total (λ (k : Written). k.function) nat_list_cmp_total) (on_total (λ (k : Written). k.file) nat_list_cmp_total))
+    (on_total (λ (k : Written). k.line) int_cmp_total))
+    (on_total (λ (k : Written). k.column) int_cmp_total))
+    (on_total (λ (k : Written). k.address) nat_cmp_total))
+    (on_total (λ (k : Written). k.object) nat_list_cmp_total)
 
 -- The order of keys as indices is total.
 pub key_order_total : (p : Profile) → IsTotalOrder (λ (a b : Key). key_cmp (key_written p a) (key_written p b))
-key_order_total p = on_field (key_written p) key_cmp_total
+key_order_total p = on_total (key_written p) key_cmp_total
 
--- two orders in turn tie only where each does
-both_equal : (a b : Ordering) → ordering_then a b ≡ Equal → (a ≡ Equal) × (b ≡ Equal)
+-- Two orders in turn tie only where each does.
+pub both_equal : (a b : Ordering) → ordering_then a b ≡ Equal → (a ≡ Equal) × (b ≡ Equal)
 both_equal Less b tie = let no : ⊥ = cc in absurd no
 both_equal Equal b tie = (refl, tie)
 both_equal Greater b tie = let no : ⊥ = cc in absurd no

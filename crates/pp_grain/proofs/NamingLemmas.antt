@@ -1,13 +1,14 @@
 -- Names that are put together word by word.
 use Rattle.std.proofs.Common.{◌≡◌, ℕ, List, [], ◌∷◌, ◌++◌, length, take, drop, Bool, true, false, not, refl, sym, ap, ◌∙◌, append_assoc, codes}
 use Rattle.std.specs.Prelude.{◌&&◌, Result, Ok, Err, OnOk, OnErr, if◌then◌else◌, ℤ, pos, negsuc}
-use Rattle.std.specs.List.{join_with_byte, after_last}
+use Rattle.std.specs.List.{join_with_byte}
+use Rattle.pp_base.specs.Paths.{last_name}
 use Rattle.std.proofs.Math.Seq.{take-append_seam}
 use Rattle.std.proofs.lemmas.Bool.{ne_eqb}
 use Rattle.std.proofs.lemmas.List.{take-append-drop}
 use Rattle.pp_model.specs.Frames.{Written}
 use Rattle.pp_grain.specs.Keys.{is_empty, is_zero}
-use Rattle.pp_grain.specs.Naming.{colon_number, hex16, word_if, place_text, object_text, is_slash, code_words, name_text}
+use Rattle.pp_grain.specs.Naming.{colon_number, hex16, word_if, place_text, object_text, code_words, name_text}
 
 -- three texts, one after the other
 pub joined :
@@ -48,7 +49,7 @@ some_word false false lineless function place object = (function, place ∷ [], 
 pub after_address :
     (key : Written) → (key.address ≡ 0 → ⊥) → hex16 key.address ++ codes " " ++ join_with_byte 32 (code_words key) ≡ name_text key
 after_address key nonzero =
-    let (w, ws, is) = some_word (is_empty key.function) (is_empty key.file) (is_zero key.line) key.function (place_text key) (object_text (after_last is_slash key.object)) in
+    let (w, ws, is) = some_word (is_empty key.function) (is_empty key.file) (is_zero key.line) key.function (place_text key) (object_text (last_name key.object)) in
     append_assoc (hex16 key.address) (codes " ") _
     ∙ ap (λ words. hex16 key.address ++ 32 ∷ join_with_byte 32 words) is
     ∙ sym (ap (λ words. join_with_byte 32 ((hex16 key.address ∷ []) ++ words)) is)

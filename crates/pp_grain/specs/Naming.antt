@@ -2,7 +2,8 @@
 use Rattle.std.specs.Prelude.{ℕ, ◌-◌, ◌*◌, ◌/◌, ◌%◌, ◌^◌, Bool, not, ◌==◌, List, [], ◌∷◌, ◌++◌, map, codes, if◌then◌else◌, ℤ, ◌&&◌}
 use Rattle.std.specs.Char.{digit_char}
 use Rattle.std.specs.Fmt.{signed_decimal}
-use Rattle.std.specs.List.{after_last, join_with_byte, range_with_len}
+use Rattle.std.specs.List.{join_with_byte, range_with_len}
+use Rattle.pp_base.specs.Paths.{last_name}
 use Rattle.pp_model.specs.Frames.{Written}
 use Rattle.pp_grain.specs.Keys.{is_empty, is_zero, is_nameless}
 
@@ -14,10 +15,6 @@ digit_at n k = digit_char (n / 2 ^ (60 - 4 * k) % 16)
 abbrev pub hex16 : ℕ → List ℕ
 hex16 n = map (digit_at n) (range_with_len 0 16)
 
--- the byte of a slash
-abbrev pub is_slash : ℕ → Bool
-is_slash b = b == 47
-
 -- one word, where the test holds, and none otherwise
 abbrev pub word_if : Bool → List ℕ → List (List ℕ)
 word_if holds word = if holds then word ∷ [] else []
@@ -27,12 +24,12 @@ abbrev pub colon_number : ℤ → List ℕ
 colon_number n = if is_zero n then [] else codes ":" ++ signed_decimal n
 
 -- the line after the file, with its column
-abbrev pub line_text : Written → List ℕ
-line_text key = if is_zero key.line then [] else colon_number key.line ++ colon_number key.column
+abbrev pub line_and_column : Written → List ℕ
+line_and_column key = if is_zero key.line then [] else colon_number key.line ++ colon_number key.column
 
 -- the file with line and column, or alone where the line is 0
 abbrev pub place_text : Written → List ℕ
-place_text key = key.file ++ line_text key
+place_text key = key.file ++ line_and_column key
 
 -- a file or a line is there
 abbrev pub has_place : Written → Bool
@@ -45,14 +42,14 @@ object_text base = if is_empty base then codes "<unknown>" else codes "[" ++ bas
 -- the place where one is there, else the object's last part; no public clause cites it
 abbrev pub place_or_object : Written → List ℕ
 place_or_object key =
-    if has_place key then place_text key else object_text (after_last is_slash key.object)
+    if has_place key then place_text key else object_text (last_name key.object)
 
 -- the words of a name but for the address: function and place, or else the object
 abbrev pub code_words : Written → List (List ℕ)
 code_words key =
     word_if (not (is_empty key.function)) key.function
     ++ word_if (has_place key) (place_text key)
-    ++ word_if (is_nameless key) (object_text (after_last is_slash key.object))
+    ++ word_if (is_nameless key) (object_text (last_name key.object))
 
 -- The name: its words, set apart by spaces.
 abbrev pub name_text : Written → List ℕ

@@ -17,5 +17,5 @@ abbrev pub seen_with : List Key → Key → List Key
 seen_with keys key = if list_any (same_key key) keys then keys else keys ++ key ∷ []
 
 -- the number of the key: its place, or the next one where it is new
-abbrev pub number_in : List Key → Key → ℕ
-number_in keys key = position_or_len (same_key key) keys
+abbrev pub key_number_in : List Key → Key → ℕ
+key_number_in keys key = position_or_len (same_key key) keys

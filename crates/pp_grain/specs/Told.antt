@@ -3,8 +3,8 @@ use Rattle.pp_model.specs.Frames.{Written}
 use Rattle.pp_grain.specs.declared.texts.KeyTexts.{KeyTexts}
 
 -- what the key stands for
-abbrev pub told : KeyTexts → Written
-told key = record {
+abbrev pub written_texts : KeyTexts → Written
+written_texts key = record {
   function = key.function.now;
   file = key.file.now;
   line = key.line;

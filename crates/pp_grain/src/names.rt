@@ -23,7 +23,7 @@ impl Model for Names {
 
 impl Names {
     ghost use Rattle.std.specs.Prelude.{◌≡◌, ◌≢◌, ◌<◌, [], length, slice_get, AllPairs, IfOk, OnOk, OnErr};
-    ghost use Rattle.pp_grain.specs.Sight.{seen_with, number_in};
+    ghost use Rattle.pp_grain.specs.Sight.{seen_with, key_number_in};
 
     /// No keys.
     pub fn new(alloc: Global) -> Result<Names, Memory>
@@ -36,7 +36,7 @@ impl Names {
 
     /// The key's number. A key that is new gets the next one. On want of memory nothing changes.
     pub fn number(&mut self, key: Key) -> Result<u64, Memory>
-        ensures number { IfOk result (λ n. n ≡ number_in self.old key) }
+        ensures number { IfOk result (λ n. n ≡ key_number_in self.old key) }
         ensures key { IfOk result (λ n. slice_get self.new n ≡ Some key) }
         ensures seen { OnOk result (self.new ≡ seen_with self.old key) }
         ensures err { OnErr result (self.new ≡ self.old) }

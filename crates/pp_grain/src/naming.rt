@@ -1,16 +1,17 @@
 //! The name of a key.
-ghost use Rattle.std.specs.Prelude.{◌≡◌, ◌++◌, ◌<◌, take, length, OnOk, OnErr};
+ghost use Rattle.std.specs.Prelude.{◌≡◌, ◌++◌, ◌<◌, OnOk, OnErr};
 ghost use Rattle.std.specs.Char.{digit_char};
-ghost use Rattle.std.specs.List.{after_last, join_with_byte};
+ghost use Rattle.std.specs.List.{join_with_byte};
 ghost use Rattle.std.specs.Str.Parse.{digits_value};
+ghost use Rattle.pp_base.specs.Grew.{Grew};
 ghost use Rattle.pp_grain.specs.Keys.{key_written, IsKeyOf};
-ghost use Rattle.pp_grain.specs.Told.{told};
-ghost use Rattle.pp_grain.specs.Naming.{name_text, code_words, place_or_object, place_text, colon_number, object_text, is_slash, hex16};
+ghost use Rattle.pp_grain.specs.Told.{written_texts};
+ghost use Rattle.pp_grain.specs.Naming.{name_text, code_words, place_or_object, place_text, colon_number, object_text, hex16};
 
 use crate::key::Key;
 use crate::texts::{KeyTexts, texts_of};
 use itoa::Buffer;
-use pp_base::{Memory, Text};
+use pp_base::{Memory, Text, last_name, whole_or_nothing};
 use pp_model::Loaded;
 
 /// Adds the key's name at the end of `out`. On want of memory `out` is as it was.
@@ -28,21 +29,18 @@ pub fn write_name(l: &Loaded, key: &Key, out: &mut Text) -> Result<(), Memory>
 
 /// The same of a key whose texts are at hand.
 pub fn write_texts_name(key: &KeyTexts, out: &mut Text) -> Result<(), Memory>
-    ensures ok { OnOk result (out.new ≡ out.old ++ name_text (told key.now)) }
+    ensures ok { OnOk result (out.new ≡ out.old ++ name_text (written_texts key.now)) }
     ensures err { OnErr result (out.new ≡ out.old) }
 {
     let start = out.len();
     let put = put_name(key, out);
-    if put.is_err() {
-        out.truncate(start);
-    }
-    put
+    whole_or_nothing(out, start, put)
 }
 
 // Without memory, `out` has gained some of the name.
 fn put_name(key: &KeyTexts, out: &mut Text) -> Result<(), Memory>
-    ensures ok { OnOk result (out.new ≡ out.old ++ name_text (told key.now)) }
-    ensures err { OnErr result (take (length out.old) out.new ≡ out.old) }
+    ensures ok { OnOk result (out.new ≡ out.old ++ name_text (written_texts key.now)) }
+    ensures err { OnErr result (Grew out.old out.new) }
 {
     if key.address == 0 {
         return put_code(key, out);
@@ -53,8 +51,8 @@ fn put_name(key: &KeyTexts, out: &mut Text) -> Result<(), Memory>
 }
 
 fn put_code(key: &KeyTexts, out: &mut Text) -> Result<(), Memory>
-    ensures ok { OnOk result (out.new ≡ out.old ++ join_with_byte 32 (code_words (told key.now))) }
-    ensures err { OnErr result (take (length out.old) out.new ≡ out.old) }
+    ensures ok { OnOk result (out.new ≡ out.old ++ join_with_byte 32 (code_words (written_texts key.now))) }
+    ensures err { OnErr result (Grew out.old out.new) }
 {
     if key.function.is_empty() {
         return put_place_or_object(key, out);
@@ -68,19 +66,19 @@ fn put_code(key: &KeyTexts, out: &mut Text) -> Result<(), Memory>
 }
 
 fn put_place_or_object(key: &KeyTexts, out: &mut Text) -> Result<(), Memory>
-    ensures ok { OnOk result (out.new ≡ out.old ++ place_or_object (told key.now)) }
-    ensures err { OnErr result (take (length out.old) out.new ≡ out.old) }
+    ensures ok { OnOk result (out.new ≡ out.old ++ place_or_object (written_texts key.now)) }
+    ensures err { OnErr result (Grew out.old out.new) }
 {
     if key.file.is_empty() && key.line == 0 {
-        put_object(last_part(key.object), out)
+        put_object(last_name(key.object), out)
     } else {
         put_place(key, out)
     }
 }
 
 fn put_place(key: &KeyTexts, out: &mut Text) -> Result<(), Memory>
-    ensures ok { OnOk result (out.new ≡ out.old ++ place_text (told key.now)) }
-    ensures err { OnErr result (take (length out.old) out.new ≡ out.old) }
+    ensures ok { OnOk result (out.new ≡ out.old ++ place_text (written_texts key.now)) }
+    ensures err { OnErr result (Grew out.old out.new) }
 {
     out.extend(key.file)?;
     if key.line == 0 {
@@ -93,7 +91,7 @@ fn put_place(key: &KeyTexts, out: &mut Text) -> Result<(), Memory>
 // Nothing where the number is 0.
 fn put_after_colon(n: i64, out: &mut Text) -> Result<(), Memory>
     ensures ok { OnOk result (out.new ≡ out.old ++ colon_number n) }
-    ensures err { OnErr result (take (length out.old) out.new ≡ out.old) }
+    ensures err { OnErr result (Grew out.old out.new) }
 {
     if n == 0 {
         return Ok(());
@@ -105,7 +103,7 @@ fn put_after_colon(n: i64, out: &mut Text) -> Result<(), Memory>
 
 fn put_object(base: &[u8], out: &mut Text) -> Result<(), Memory>
     ensures ok { OnOk result (out.new ≡ out.old ++ object_text base.now) }
-    ensures err { OnErr result (take (length out.old) out.new ≡ out.old) }
+    ensures err { OnErr result (Grew out.old out.new) }
 {
     if base.is_empty() {
         return out.extend(b"<unknown>");
@@ -113,17 +111,6 @@ fn put_object(base: &[u8], out: &mut Text) -> Result<(), Memory>
     out.extend(b"[")?;
     out.extend(base)?;
     out.extend(b"]")
-}
-
-// What stands after the last slash, or all where there is none.
-fn last_part(path: &[u8]) -> &[u8]
-    ensures { result.now ≡ after_last is_slash path.now }
-{
-    let mut start = path.len();
-    while start > 0 && path[start - 1] != b'/' {
-        start -= 1;
-    }
-    path.split_at(start).1
 }
 
 // The number in sixteen hexadecimal digits, with zeros in front.

@@ -1,6 +1,6 @@
 //! The order of keys.
 ghost use Rattle.std.specs.Prelude.{◌≡◌};
-ghost use Rattle.pp_grain.specs.Told.{told};
+ghost use Rattle.pp_grain.specs.Told.{written_texts};
 ghost use Rattle.pp_grain.specs.Keys.{key_cmp, key_written, IsKeyOf};
 
 use crate::key::Key;
@@ -20,7 +20,7 @@ pub fn key_order(l: &Loaded, a: &Key, b: &Key) -> Ordering
 
 /// The same of keys whose texts are at hand.
 pub fn texts_order(a: &KeyTexts, b: &KeyTexts) -> Ordering
-    ensures { result ≡ key_cmp (told a.now) (told b.now) }
+    ensures { result ≡ key_cmp (written_texts a.now) (written_texts b.now) }
 {
     a.function
         .cmp(&b.function)

@@ -1,7 +1,7 @@
 //! The texts that a key's indices stand for.
 ghost use Rattle.std.specs.Prelude.{◌≡◌, ◌<◌, length};
 ghost use Rattle.pp_model.specs.Frames.{text_at};
-ghost use Rattle.pp_grain.specs.Told.{told};
+ghost use Rattle.pp_grain.specs.Told.{written_texts};
 ghost use Rattle.pp_grain.specs.Keys.{key_written, IsKeyOf};
 
 use crate::key::Key;
@@ -27,7 +27,7 @@ pub struct KeyTexts<'a> {
 /// The key's texts.
 pub fn texts_of<'a>(p: &'a Profile, key: &Key) -> KeyTexts<'a>
     requires { IsKeyOf p.now key.now }
-    ensures { told result ≡ key_written p.now key.now }
+    ensures { written_texts result ≡ key_written p.now key.now }
 {
     KeyTexts {
         function: text(p, key.function),

@@ -60,3 +60,7 @@ find_by_place f xs id d numbered = elim (cases_eq id 0) [
         ∙ sym (find_none f xs id d (λ k below e. let own : f (get_or xs k d) ≡ k + 1 = id_at f xs k d numbered below in omega (arith, own, e, past, below)))
   ]
 ]
+
+-- the id of a place is one of the list
+pub contains_id : (ids : List ℕ) (k : ℕ) → AreNumbered ids → k < length ids → Contains ids (k + 1)
+contains_id ids k numbered within = (k, within, get_or_default ids k (k + 1) 0 within ∙ numbered k within)

@@ -82,7 +82,7 @@ written_rows p place location (line ∷ lines) is =
     told = written_line p (location_at p location)
 
 -- the rows of a location are frames of the profile
-rows_of_profile :
+pub rows_of_profile :
     (p : Profile) (place location : ℕ) (lines : List Line) → location < length p.location → (location_at p location).line ≡ lines →
     All (IsFrameOf p) (rows place location lines)
 rows_of_profile p place location [] within is =
@@ -103,7 +103,7 @@ frames_of_profile p place (id ∷ ids) numbered inside =
     (frames_of_profile p (place + 1) ids numbered (All-tail (Contains (location_ids p)) id ids inside))
 
 -- the frames of a location that is found by its id
-written_found :
+pub written_found :
     (p : Profile) (place id : ℕ) → AreNumbered (location_ids p) → Contains (location_ids p) id →
     map (written p) (rows place (id - 1) (location_at p (id - 1)).line) ≡ written_at p id
 written_found p place id numbered inside =

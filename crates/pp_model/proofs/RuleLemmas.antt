@@ -1,6 +1,6 @@
 -- What follows where no table rule fails. For crates above.
-use Rattle.std.proofs.Common.{◌≡◌, ℕ, ◌<◌, ◌≤◌, List, length, get_or, Bool, true, false, cond, inl, inr, refl, sym, subst, ◌∙◌, arith, ap}
-use Rattle.std.specs.Prelude.{◌==◌, not, ℤ, pos, negsuc, Some, None, Contains}
+use Rattle.std.proofs.Common.{◌≡◌, ℕ, ◌<◌, ◌≤◌, List, [], ◌∷◌, length, get_or, Bool, true, false, cond, inl, inr, refl, sym, subst, ◌∙◌, arith, ap}
+use Rattle.std.specs.Prelude.{◌==◌, not, ℤ, pos, negsuc, Option, Some, None, Contains}
 use Rattle.std.specs.List.{AllPass, list_all, position_or_len}
 use Rattle.std.proofs.lemmas.Bool.{ltb-true, ltb-false, eqb-true, or_cases, not-false, true≢false}
 use Rattle.std.proofs.lemmas.List.{get_or_default}
@@ -9,7 +9,7 @@ use Rattle.std.proofs.lemmas.List.Folds.{Any-from_list_any}
 use Rattle.pp_model.specs.declared.profile.Sample.{Sample}
 use Rattle.pp_model.specs.declared.profile.Profile.{Profile}
 use Rattle.pp_model.specs.Conditions.{RefersTo, IsSampleOf}
-use Rattle.pp_model.specs.Rules.{NoRuleFails, is_text_of, stands_in, is_zero_or_in, first_failing, location_ids}
+use Rattle.pp_model.specs.Rules.{NoRuleFails, is_text_of, stands_in, is_zero_or_in, first_failing, location_ids, text_zero_fault, header_text_fault, comment_text_fault, type_text_fault, sample_text_fault, mapping_text_fault, function_text_fault, untyped_fault, mapping_zero_fault, mapping_repeat_fault, function_zero_fault, function_repeat_fault, location_zero_fault, location_repeat_fault, location_fault, sample_fault, value_fault}
 use Rattle.pp_model.specs.Frames.{text_number}
 
 -- a choice that gives nothing was not made
@@ -66,3 +66,60 @@ pub item_refers :
 item_refers p q items k s same are is within valid =
     subst (λ r. RefersTo r s) same
     (refers_from_valid q s valid (k, omega (arith, within, ap length are), ap (λ ss. get_or ss k s) (sym are) ∙ sym is))
+
+-- the faults of all rules, each on each of its tables
+abbrev rule_faults : Profile → List (Option ℕ)
+rule_faults p =
+    text_zero_fault p ∷ header_text_fault p ∷ comment_text_fault p ∷ type_text_fault p ∷ sample_text_fault p ∷ mapping_text_fault p ∷ function_text_fault p ∷ untyped_fault p
+    ∷ mapping_zero_fault p ∷ mapping_repeat_fault p ∷ function_zero_fault p ∷ function_repeat_fault p ∷ location_zero_fault p ∷ location_repeat_fault p
+    ∷ location_fault p ∷ sample_fault p ∷ value_fault p ∷ []
+
+-- each is none
+abbrev are_none : List (Option ℕ) → Bool
+are_none [] = true
+are_none (None ∷ faults) = are_none faults
+are_none (Some index ∷ faults) = false
+
+none_here : (o : Option ℕ) (os : List (Option ℕ)) → are_none (o ∷ os) ≡ true → (o ≡ None) × (are_none os ≡ true)
+none_here None os all = (refl, all)
+none_here (Some index) os all = absurd (true≢false (sym all))
+
+-- A profile of which all tables are known is asked by computing: the second argument is then `refl`.
+pub no_rule_fails : (p : Profile) → are_none (rule_faults p) ≡ true → NoRuleFails p
+no_rule_fails p all =
+    let h1 = none_here _ _ all in
+    let h2 = none_here _ _ h1.1 in
+    let h3 = none_here _ _ h2.1 in
+    let h4 = none_here _ _ h3.1 in
+    let h5 = none_here _ _ h4.1 in
+    let h6 = none_here _ _ h5.1 in
+    let h7 = none_here _ _ h6.1 in
+    let h8 = none_here _ _ h7.1 in
+    let h9 = none_here _ _ h8.1 in
+    let h10 = none_here _ _ h9.1 in
+    let h11 = none_here _ _ h10.1 in
+    let h12 = none_here _ _ h11.1 in
+    let h13 = none_here _ _ h12.1 in
+    let h14 = none_here _ _ h13.1 in
+    let h15 = none_here _ _ h14.1 in
+    let h16 = none_here _ _ h15.1 in
+    let h17 = none_here _ _ h16.1 in
+    record {
+      text_zero = h1.0;
+      header_text = h2.0;
+      comment_text = h3.0;
+      type_text = h4.0;
+      sample_text = h5.0;
+      mapping_text = h6.0;
+      function_text = h7.0;
+      untyped = h8.0;
+      mapping_zero = h9.0;
+      mapping_repeat = h10.0;
+      function_zero = h11.0;
+      function_repeat = h12.0;
+      location_zero = h13.0;
+      location_repeat = h14.0;
+      location_reference = h15.0;
+      sample_reference = h16.0;
+      values = h17.0;
+    }

@@ -4,6 +4,7 @@ use Rattle.std.proofs.Common.{lit≤, lit<}
 use Rattle.pp_model.specs.declared.config.Sort.TheVariants.{Flat}
 use Rattle.pp_model.specs.declared.config.Grain.TheVariants.{Functions}
 use Rattle.pp_model.specs.declared.config.Config.{Config}
+use Rattle.pp_model.specs.declared.config.TheConstants.{NODE_FRACTION, EDGE_FRACTION, WORKERS}
 
 -- Each variable at its default.
 abbrev pub defaults : Config
@@ -14,8 +15,8 @@ defaults = record {
   showcolumns = false;
   path_tree = false;
   nodecount = negsuc 0;
-  nodefraction = record { billionths = 5000000; at_most_one = lit≤ tt };
-  edgefraction = record { billionths = 1000000; at_most_one = lit≤ tt };
+  nodefraction = record { billionths = NODE_FRACTION; at_most_one = lit≤ tt };
+  edgefraction = record { billionths = EDGE_FRACTION; at_most_one = lit≤ tt };
   focus = [];
   ignore = [];
   show = [];
@@ -34,7 +35,7 @@ defaults = record {
   divide_by = 1;
   source_path = [];
   trim_path = [];
-  workers = 4;
+  workers = WORKERS;
   nodecount_from = record { le = tt };
   divisor_from = lit≤ tt;
   divisor_below = lit< tt;

@@ -20,6 +20,10 @@ text_number (negsuc _) = 0
 abbrev pub text_at : Profile → ℕ → List ℕ
 text_at p i = slice_index_or p.text i []
 
+-- the text of an index, which is text 0 where the index is negative
+abbrev pub text_of : Profile → ℤ → List ℕ
+text_of p index = text_at p (text_number index)
+
 -- the first mapping with the id
 abbrev pub mapping_with : Profile → ℕ → Option Mapping
 mapping_with p id = find (λ m. m.id == id) p.mapping

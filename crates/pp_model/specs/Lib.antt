@@ -1,6 +1,7 @@
 pub mod Changes
 pub mod Conditions
 pub mod Defaults
+pub mod Finders
 pub mod Frames
 pub mod Judged
 pub mod Rules

@@ -4,6 +4,15 @@ ghost use Rattle.std.specs.Prelude.{◌≡◌, ◌<◌, ◌≤◌, ◌≤ℤ◌,
 use pp_base::{Fraction, Memory, Text};
 use std::alloc::Global;
 
+/// The default of `nodefraction`, in billionths: one part in 200.
+pub const NODE_FRACTION: u32 = 5_000_000;
+
+/// The default of `edgefraction`, in billionths: one part in 1,000.
+pub const EDGE_FRACTION: u32 = 1_000_000;
+
+/// The default of `workers`.
+pub const WORKERS: u32 = 4;
+
 /// What rows are sorted by.
 #[derive(Clone, Copy, Debug, PartialEq, Eq)]
 pub enum Sort {
@@ -26,8 +35,11 @@ pub enum Grain {
 pub struct Config {
     pub sort: Sort,
     pub grain: Grain,
+    /// Whether inlined calls count for the function that they were inlined into.
     pub noinlines: bool,
+    /// Whether rows of lines tell columns.
     pub showcolumns: bool,
+    /// Whether the tree report tells functions apart by their path from the root.
     pub path_tree: bool,
     /// The most rows of a report, 0 for no limit, and -1 for the report's own number.
     pub nodecount: i32,
@@ -35,24 +47,41 @@ pub struct Config {
     pub nodefraction: Fraction,
     /// The least part of the total that an edge has, by absolute values.
     pub edgefraction: Fraction,
+    /// The pattern of which a stack must have a frame.
     pub focus: Text,
+    /// The pattern of which a stack may have no frame.
     pub ignore: Text,
+    /// The pattern of the only frames that stay.
     pub show: Text,
+    /// The pattern of frames that are left out.
     pub hide: Text,
+    /// The pattern of the frame nearest to the root that stays: what lies above is left out.
     pub show_from: Text,
+    /// The pattern of frames below which all is left out.
     pub prune_from: Text,
+    /// The filter of labels of which a sample must have one.
     pub tagfocus: Text,
+    /// The filter of labels of which a sample may have none.
     pub tagignore: Text,
+    /// The pattern of the only label names that stay.
     pub tagshow: Text,
+    /// The pattern of label names that are left out.
     pub taghide: Text,
+    /// The label names whose values become frames at the root, joined by commas.
     pub tagroot: Text,
+    /// The label names whose values become frames at the leaf, joined by commas.
     pub tagleaf: Text,
+    /// The name of the sample type that reports show, or its place.
     pub sample_index: Text,
+    /// The unit that values are printed in.
     pub unit: Text,
+    /// Whether percentages are of what the filters left, and not of the whole profile.
     pub relative_percentages: bool,
     /// What each value is divided by, from 1 to 2^63-1.
     pub divide_by: u64,
+    /// Where source files are looked for, joined by colons.
     pub source_path: Text,
+    /// What is taken off the front of source paths, joined by colons.
     pub trim_path: Text,
     /// How many threads may work, from 1 to 64.
     pub workers: u32,
@@ -78,10 +107,10 @@ impl Config {
             path_tree: false,
             nodecount: -1,
             nodefraction: Fraction {
-                billionths: 5_000_000,
+                billionths: NODE_FRACTION,
             },
             edgefraction: Fraction {
-                billionths: 1_000_000,
+                billionths: EDGE_FRACTION,
             },
             focus: Text::new(alloc),
             ignore: Text::new(alloc),
@@ -101,7 +130,7 @@ impl Config {
             divide_by: 1,
             source_path: Text::new(alloc),
             trim_path: Text::new(alloc),
-            workers: 4,
+            workers: WORKERS,
         })
     }
 

@@ -1,8 +1,8 @@
 //! The frames of a sample's stack.
-ghost use Rattle.std.specs.Prelude.{◌≡◌, ◌++◌, ◌<◌, length, IfOk};
+ghost use Rattle.std.specs.Prelude.{◌≡◌, ◌++◌, ◌+◌, ◌<◌, length, map, IfOk};
 ghost use Rattle.pp_model.specs.Rules.{IsCompact};
 ghost use Rattle.pp_model.specs.Conditions.{RefersTo, IsStackOf};
-ghost use Rattle.pp_model.specs.Frames.{stack_of, StandsFor, rows, lines_at};
+ghost use Rattle.pp_model.specs.Frames.{stack_of, StandsFor, rows, lines_at, written, written_at};
 
 use crate::loaded::Loaded;
 use crate::profile::{Profile, Sample};
@@ -34,7 +34,32 @@ pub fn frames(alloc: Global, l: &Loaded, s: &Sample) -> Result<Stack, Memory>
     stack_in(alloc, l.profile.get(), s)
 }
 
+/// The frames of one location, as a sample has them whose leaf is the location. `Err` is want of memory.
+pub fn frames_at(alloc: Global, l: &Loaded, location: u64) -> Result<Stack, Memory>
+    requires { location < length l.now.profile.location }
+    ensures places { IfOk result
+        (λ stack. stack ≡ rows 0 location (lines_at l.now.profile location)) }
+    ensures texts { IfOk result (λ stack.
+        map (written l.now.profile) stack ≡ written_at l.now.profile (location + 1)) }
+    ensures of_profile { IfOk result (λ stack. IsStackOf l.now.profile stack) }
+{
+    rows_at(alloc, l.profile.get(), location)
+}
+
 // The same, of the profile's tables.
+fn rows_at(alloc: Global, p: &Profile, location: u64) -> Result<Stack, Memory>
+    requires compact { IsCompact p.now }
+    requires within { location < length p.now.location }
+    ensures places { IfOk result (λ stack. stack ≡ rows 0 location (lines_at p.now location)) }
+    ensures texts { IfOk result (λ stack. map (written p.now) stack ≡ written_at p.now (location + 1)) }
+    ensures of_profile { IfOk result (λ stack. IsStackOf p.now stack) }
+{
+    let mut stack = List::new(alloc);
+    push_rows(p, 0, location, &mut stack)?;
+    Ok(stack)
+}
+
+// The stack of a sample, of the profile's tables.
 fn stack_in(alloc: Global, p: &Profile, s: &Sample) -> Result<Stack, Memory>
     requires compact { IsCompact p.now }
     requires refers { RefersTo p.now s.now }

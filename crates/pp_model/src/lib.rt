@@ -3,6 +3,7 @@
 
 mod config;
 mod frame;
+mod ids;
 mod loaded;
 mod lookup;
 mod profile;
@@ -10,10 +11,13 @@ mod report;
 mod valid;
 mod verdicts;
 
-pub use config::{Config, Grain, Sort};
-pub use frame::{Frame, Stack, frames};
+pub use config::{Config, EDGE_FRACTION, Grain, NODE_FRACTION, Sort, WORKERS};
+pub use frame::{Frame, Stack, frames, frames_at};
+pub use ids::HasId;
 pub use loaded::Loaded;
-pub use lookup::{address_of, column_in, file_of, function_of, line_of, object_of};
+pub use lookup::{
+    address_of, column_in, file_of, function_of, line_of, object_of, text_of, value_in,
+};
 pub use profile::{Function, Label, Line, Location, Mapping, Profile, Sample, ValueType};
 pub use report::{BaseKind, Report};
 pub use valid::{Compact, Valid};

@@ -3,11 +3,12 @@ ghost use Rattle.std.specs.Prelude.{◌≡◌, ◌<◌, pos, length, IfSome, tru
 ghost use Rattle.std.specs.Option.{option_copied};
 ghost use Rattle.pp_model.specs.Rules.{NoRuleFails, IsCompact, function_has_texts, mapping_has_texts};
 ghost use Rattle.pp_model.specs.Conditions.{IsFrameOf, location_at};
-ghost use Rattle.pp_model.specs.Frames.{written, text_at, text_number, line_at, function_at, mapping_at, place_read, function_index, file_index, object_index, line_number, column_number, address_number};
+ghost use Rattle.pp_model.specs.Sizes.{value_in};
+ghost use Rattle.pp_model.specs.Frames.{written, text_at, text_number, text_of, line_at, function_at, mapping_at, place_read, function_index, file_index, object_index, line_number, column_number, address_number};
 
 use crate::frame::Frame;
 use crate::loaded::Loaded;
-use crate::profile::{Function, Line, Location, Mapping, Profile};
+use crate::profile::{Function, Line, Location, Mapping, Profile, Sample};
 
 /// The text index of the function's name, 0 where it isn't known.
 pub fn function_of(l: &Loaded, f: &Frame) -> u64
@@ -129,6 +130,27 @@ fn with_id<T>(items: &[T], id: u64) -> Option<&T>
         return None;
     }
     items.get((id - 1) as usize)
+}
+
+/// The text of an index (profile.proto, `string_table`), and the empty text where there is none.
+pub fn text_of(p: &Profile, index: i64) -> &[u8]
+    ensures { result.now ≡ text_of p.now index }
+{
+    let place = if index < 0 { 0 } else { index as usize };
+    match p.text.as_slice().get(place) {
+        None => &[],
+        Some(text) => text.as_slice(),
+    }
+}
+
+/// The sample's value of the column, and 0 where it has none.
+pub fn value_in(sample: &Sample, column: usize) -> i64
+    ensures { result ≡ value_in sample.now column }
+{
+    match sample.value.as_slice().get(column) {
+        None => 0,
+        Some(value) => *value,
+    }
 }
 
 // A text index that is in range, as a place.

@@ -14,7 +14,7 @@ use Rattle.pp_steal.specs.declared.view.OnceEach.{OnceEach}
 use Rattle.pp_steal.specs.declared.deal.Deal.{Deal}
 use Rattle.pp_steal.specs.declared.deal.Deal.TheVariants.{Round, First}
 use Rattle.pp_steal.specs.declared.chair.Chair.{Chair}
-use Rattle.pp_steal.specs.Pool.{times, took, Takes, TookDealt, IsLive}
+use Rattle.pp_steal.specs.Pool.{times, took, TakesPieces, TookDealt, IsLive}
 use Rattle.pp_steal.specs.Dealing.{is_of, lane_of, upto, dealt_to}
 use Rattle.pp_steal.specs.Lanes.{AllSit, Deques}
 use Rattle.pp_steal.specs.Closing.{times_in, chair_taken, times_at, EndsAt, AllEndAt, AreParts, AreGivenOnce, IsLearned}
@@ -26,7 +26,7 @@ pub live_at : (r : Role) → r ≡ Marked → IsLive r
 live_at r e = subst IsLive (sym e) tt
 
 -- a view that took some more: what it took before was no more
-pub took_dealt : (v w : View) (xs : List ℕ) → Takes v xs w → TookDealt v
+pub took_dealt : (v w : View) (xs : List ℕ) → TakesPieces v xs w → TookDealt v
 took_dealt v w xs step x = let a = subst (λ (u : View). times x u.taken ≤ times x u.dealt) step.0 (step.1 x) in omega (arith, times-append x v.taken xs)
 
 chair_taken_at : (lane : ℕ) (chairs : List Chair) (c : Chair) → lane < length chairs → chair_taken lane chairs ≡ (view (get_or chairs lane c).pass).taken
@@ -52,7 +52,7 @@ times_at_snoc x lane (r ∷ rows) row = omega (arith, times_at_snoc x lane rows 
 pub times_at_more : (x lane k : ℕ) (rows : List (Vec Chair Global)) (row : Vec Chair Global) → k < length rows → times_at x lane (take (k + 1) rows) ≡ times_at x lane (take k rows) + times x (chair_taken lane (get_or rows k row).items)
 times_at_more x lane k rows row lt = ap (times_at x lane) (rw add-one (take-suc rows k row lt)) ∙ times_at_snoc x lane (take k rows) (get_or rows k row)
 
-pub learned : (v w : View) (r : Option ℕ) → MatchOption r ((w ≡ v) × TookDealt v) (λ x. Takes v (x ∷ []) w) → TookDealt v
+pub learned : (v w : View) (r : Option ℕ) → MatchOption r ((w ≡ v) × TookDealt v) (λ x. TakesPieces v (x ∷ []) w) → TookDealt v
 learned v w None h = h.1
 learned v w (Some x) h = took_dealt v w (x ∷ []) h
 

@@ -7,7 +7,7 @@ use Rattle.crossbeam_deque.proofs.Lists.{at_set, set_here}
 use Rattle.pp_steal.specs.declared.view.Role.{Role}
 use Rattle.pp_steal.specs.declared.view.Role.TheVariants.{Owner, Marked, Guest, Spent}
 use Rattle.pp_steal.specs.declared.view.View.{View}
-use Rattle.pp_steal.specs.Pool.{a_view, times, times_taken, AllUnder, AllOver, Rises, IsPartOf, IsLive, FitsAs, Fits, Sound, took, TookDealt, Takes, Deals, marked, mark, newcomer, joined, spent}
+use Rattle.pp_steal.specs.Pool.{a_view, times, times_taken, AllUnder, AllOver, Rises, IsSublistOf, IsLive, FitsAs, FitsRole, Sound, took, TookDealt, TakesPieces, Deals, marked, mark, newcomer, joined_view, spent}
 
 pub times-append : (x : ℕ) (xs ys : List ℕ) → times x (xs ++ ys) ≡ times x xs + times x ys
 times-append x [] ys = omega arith
@@ -47,31 +47,31 @@ pub rises_push : (p : ℕ) (xs : List ℕ) → Rises xs → AllUnder p xs → Ri
 rises_push p [] h under = (tt, tt)
 rises_push p (x ∷ xs) h under = (over_push x p xs h.0 under.0, rises_push p xs h.1 under.1)
 
-part_more : (xs : List ℕ) (y : ℕ) (ys : List ℕ) → IsPartOf xs ys → IsPartOf xs (y ∷ ys)
+part_more : (xs : List ℕ) (y : ℕ) (ys : List ℕ) → IsSublistOf xs ys → IsSublistOf xs (y ∷ ys)
 part_more [] y ys h = tt
 part_more (x ∷ xs) y ys h = inr h
 
-part_last : (p : ℕ) (ys : List ℕ) → IsPartOf (p ∷ []) (ys ++ p ∷ [])
+part_last : (p : ℕ) (ys : List ℕ) → IsSublistOf (p ∷ []) (ys ++ p ∷ [])
 part_last p [] = inl (refl, tt)
 part_last p (y ∷ ys) = inr (part_last p ys)
 
-part_push : (p : ℕ) (xs ys : List ℕ) → IsPartOf xs ys → IsPartOf (xs ++ p ∷ []) (ys ++ p ∷ [])
+part_push : (p : ℕ) (xs ys : List ℕ) → IsSublistOf xs ys → IsSublistOf (xs ++ p ∷ []) (ys ++ p ∷ [])
 part_push p [] ys h = part_last p ys
 part_push p (x ∷ xs) [] h = absurd h
-part_push p (x ∷ xs) (y ∷ ys) h = ⊎_elim (λ (a : (x ≡ y) × IsPartOf xs ys). inl (a.0, part_push p xs ys a.1)) (λ a. inr (part_push p (x ∷ xs) ys a)) h
+part_push p (x ∷ xs) (y ∷ ys) h = ⊎_elim (λ (a : (x ≡ y) × IsSublistOf xs ys). inl (a.0, part_push p xs ys a.1)) (λ a. inr (part_push p (x ∷ xs) ys a)) h
 
-part_tail : (x : ℕ) (xs ys : List ℕ) → IsPartOf (x ∷ xs) ys → IsPartOf xs ys
+part_tail : (x : ℕ) (xs ys : List ℕ) → IsSublistOf (x ∷ xs) ys → IsSublistOf xs ys
 part_tail x xs [] h = absurd h
-part_tail x xs (y ∷ ys) h = ⊎_elim (λ (a : (x ≡ y) × IsPartOf xs ys). part_more xs y ys a.1) (λ a. part_more xs y ys (part_tail x xs ys a)) h
+part_tail x xs (y ∷ ys) h = ⊎_elim (λ (a : (x ≡ y) × IsSublistOf xs ys). part_more xs y ys a.1) (λ a. part_more xs y ys (part_tail x xs ys a)) h
 
-part_rest : (xs items ys : List ℕ) → IsPartOf (xs ++ items) ys → IsPartOf items ys
+part_rest : (xs items ys : List ℕ) → IsSublistOf (xs ++ items) ys → IsSublistOf items ys
 part_rest [] items ys h = h
 part_rest (x ∷ xs) items ys h = part_rest xs items ys (part_tail x (xs ++ items) ys h)
 
-part_front : (items : List ℕ) (x : ℕ) (ys : List ℕ) → IsPartOf (items ++ x ∷ []) ys → IsPartOf items ys
+part_front : (items : List ℕ) (x : ℕ) (ys : List ℕ) → IsSublistOf (items ++ x ∷ []) ys → IsSublistOf items ys
 part_front [] x ys h = tt
 part_front (z ∷ items) x [] h = absurd h
-part_front (z ∷ items) x (y ∷ ys) h = ⊎_elim (λ (a : (z ≡ y) × IsPartOf (items ++ x ∷ []) ys). inl (a.0, part_front items x ys a.1)) (λ a. inr (part_front (z ∷ items) x ys a)) h
+part_front (z ∷ items) x (y ∷ ys) h = ⊎_elim (λ (a : (z ≡ y) × IsSublistOf (items ++ x ∷ []) ys). inl (a.0, part_front items x ys a.1)) (λ a. inr (part_front (z ∷ items) x ys a)) h
 
 dealt_live : (r : Role) (dealt : List ℕ) (count port : ℕ) (v : View) → IsLive r → FitsAs r dealt count port v → v.dealt ≡ dealt
 dealt_live Owner dealt count port v live f = f.0
@@ -93,16 +93,16 @@ fit_set F views port w mine others j u e = ⊎_elim (λ (x : (j ≡ port) × (w 
     (λ (x : (j ≢ port) × (get_elem? views j ≡ some u)). others j u x.0 x.1) (at_set views port j w u e)
 
 -- one live view takes another list; the deque's items change too
-change : (dealt items items' : List ℕ) (views : List View) (port : ℕ) (v : View) (taken : List ℕ) → IsLive v.role → get_elem? views port ≡ some v → Rises dealt → IsPartOf items' dealt
+change : (dealt items items' : List ℕ) (views : List View) (port : ℕ) (v : View) (taken : List ℕ) → IsLive v.role → get_elem? views port ≡ some v → Rises dealt → IsSublistOf items' dealt
     → ((x : ℕ) → times x items + times_taken x views ≡ times x dealt) → ((x : ℕ) → times x items' + times x taken ≡ times x items + times x v.taken)
-    → AllFit (Fits dealt (length views)) views → Sound items' (set views port (a_view v.role v.dealt taken))
+    → AllFit (FitsRole dealt (length views)) views → Sound items' (set views port (a_view v.role v.dealt taken))
 change dealt items items' views port v taken live at rises part count moved fits = let w : View = a_view v.role v.dealt taken in record {
   dealt = dealt;
   rises = rises;
   part = part;
   once = λ x. let a = taken_set x views port v w at in let b = count x in let c = moved x in omega arith;
-  fits = subst (λ n. AllFit (Fits dealt n) (set views port w)) (sym (length-set views port w))
-      (fit_set (Fits dealt (length views)) views port w (fits_live v.role dealt (length views) port v w refl live (fits port v at)) (λ j u other e. fits j u e));
+  fits = subst (λ n. AllFit (FitsRole dealt n) (set views port w)) (sym (length-set views port w))
+      (fit_set (FitsRole dealt (length views)) views port w (fits_live v.role dealt (length views) port v w refl live (fits port v at)) (λ j u other e. fits j u e));
 }
 
 -- what a live pass knows, whatever the deque holds
@@ -110,12 +110,12 @@ pub finds : (port : ℕ) (v : View) (items : List ℕ) (views : List View) → I
 finds port v items views live h at x = let e : times x v.dealt ≡ times x h.dealt = ap (times x) (dealt_live v.role h.dealt (length views) port v live (h.fits port v at)) in
     let a = taken_one x views port v at in let b = h.once x in omega arith
 
-pub takes : (port : ℕ) (v : View) → IsLive v.role → tasks.Takes Sound port v 1 (Takes v)
+pub takes : (port : ℕ) (v : View) → IsLive v.role → tasks.Takes Sound port v 1 (TakesPieces v)
 takes port v live xs items views some_ one h at = let w : View = took v xs in
     let next : Sound items (set views port w) = change h.dealt (xs ++ items) items views port v (v.taken ++ xs) live at h.rises (part_rest xs items h.dealt h.part) h.once (λ x. omega (arith, times-append x xs items, times-append x v.taken xs)) h.fits in
     (w, next, (refl, finds port w items (set views port w) live next (set_here views port w (at_below views port v at))))
 
-pub pops : (port : ℕ) (v : View) → IsLive v.role → tasks.Pops Sound port v (Takes v)
+pub pops : (port : ℕ) (v : View) → IsLive v.role → tasks.Pops Sound port v (TakesPieces v)
 pops port v live x items views h at = let w : View = took v (x ∷ []) in
     let next : Sound items (set views port w) = change h.dealt (items ++ x ∷ []) items views port v (v.taken ++ x ∷ []) live at h.rises (part_front items x h.dealt h.part) h.once (λ y. omega (arith, times-append y items (x ∷ []), times-append y v.taken (x ∷ []))) h.fits in
     (w, next, (refl, finds port w items (set views port w) live next (set_here views port w (at_below views port v at))))
@@ -132,8 +132,8 @@ pushes port v p own under items views h at =
         rises = rises_push p h.dealt h.rises (subst (AllUnder p) f.0 under);
         part = part_push p items h.dealt h.part;
         once = λ x. let a = taken_set x views port v w at in let b = h.once x in omega (arith, times-append x items (p ∷ []), times-append x h.dealt (p ∷ []));
-        fits = subst (λ n. AllFit (Fits dealt n) (set views port w)) (sym (length-set views port w))
-            (fit_set (Fits dealt (length views)) views port w (subst (λ (r : Role). FitsAs r dealt (length views) port w) (sym own) mine)
+        fits = subst (λ n. AllFit (FitsRole dealt n) (set views port w)) (sym (length-set views port w))
+            (fit_set (FitsRole dealt (length views)) views port w (subst (λ (r : Role). FitsAs r dealt (length views) port w) (sym own) mine)
             (λ j u other e. let b = at_below views j u e in let c = f.1 in let d = f.2 in absurd (other (omega arith))));
       },
       refl,
@@ -161,25 +161,25 @@ forks port v live items views h at =
     let lt : port < count = at_below views port v at in
     let same : length vs ≡ count = length-set views port w in
     let mine : FitsAs v.role h.dealt count port v = h.fits port v at in
-    let now : AllFit (Fits h.dealt (count + 1)) vs = fit_set (Fits h.dealt (count + 1)) views port w (marks v.role h.dealt count port v v.taken live mine) (λ j u other e. stays u.role h.dealt count port j u other lt (h.fits j u e)) in
+    let now : AllFit (FitsRole h.dealt (count + 1)) vs = fit_set (FitsRole h.dealt (count + 1)) views port w (marks v.role h.dealt count port v v.taken live mine) (λ j u other e. stays u.role h.dealt count port j u other lt (h.fits j u e)) in
     let new : FitsAs Guest h.dealt (count + 1) count n = (dealt_live v.role h.dealt count port v live mine, (λ z. omega arith)) in
-    let all : AllFit (Fits h.dealt (count + 1)) (vs ++ n ∷ []) = λ j u e. ⊎_elim (λ a. now j u a) (λ (a : (n ≡ u) × (j ≡ length vs)). subst (λ (y : ℕ × View). Fits h.dealt (count + 1) y.0 y.1) (λ i. ((sym same ∙ sym a.1) i, a.0 i)) new) (at_end vs n u j e) in
+    let all : AllFit (FitsRole h.dealt (count + 1)) (vs ++ n ∷ []) = λ j u e. ⊎_elim (λ a. now j u a) (λ (a : (n ≡ u) × (j ≡ length vs)). subst (λ (y : ℕ × View). FitsRole h.dealt (count + 1) y.0 y.1) (λ i. ((sym same ∙ sym a.1) i, a.0 i)) new) (at_end vs n u j e) in
     let length_is : length (vs ++ n ∷ []) ≡ count + 1 = omega (arith, length-append vs (n ∷ [])) in record {
       dealt = h.dealt;
       rises = h.rises;
       part = h.part;
       once = λ x. let a = taken_set x views port v w at in let b = h.once x in let c = taken_snoc x vs n in omega arith;
-      fits = subst (λ k. AllFit (Fits h.dealt k) (vs ++ n ∷ [])) (sym length_is) all;
+      fits = subst (λ k. AllFit (FitsRole h.dealt k) (vs ++ n ∷ [])) (sym length_is) all;
     }
 
-pub merges : (port : ℕ) (v : View) (other : ℕ) (u : View) → IsLive v.role → u.role ≡ Guest → tasks.Merges Sound port v other u (joined v u) spent
+pub merges : (port : ℕ) (v : View) (other : ℕ) (u : View) → IsLive v.role → u.role ≡ Guest → tasks.Merges Sound port v other u (joined_view v u) spent
 merges port v other u live guest items views h at two at' =
-    let w : View = joined v u in
+    let w : View = joined_view v u in
     let vs : List View = set views port w in
     let last : List View = set vs other spent in
     let was : get_elem? views other ≡ some u = ⊎_elim (λ (x : (other ≡ port) × (w ≡ u)). absurd (two x.0)) (λ x. x.1) (at_set views port other w u at') in
     let theirs : FitsAs Guest h.dealt (length views) other u = subst (λ (r : Role). FitsAs r h.dealt (length views) other u) guest (h.fits other u was) in
-    let F : ℕ → View → Type 0 = Fits h.dealt (length views) in
+    let F : ℕ → View → Type 0 = FitsRole h.dealt (length views) in
     let now : AllFit F vs = fit_set F views port w (fits_live v.role h.dealt (length views) port v w refl live (h.fits port v at)) (λ j y _ e. h.fits j y e) in
     let all : AllFit F last = fit_set F vs other spent (refl, theirs.1) (λ j y _ e. now j y e) in
     let length_is : length last ≡ length views = length-set vs other spent ∙ length-set views port w in record {
@@ -187,12 +187,12 @@ merges port v other u live guest items views h at two at' =
       rises = h.rises;
       part = h.part;
       once = λ x. let a = taken_set x views port v w at in let b = h.once x in let c = taken_set x vs other u spent at' in omega (arith, times-append x v.taken u.taken);
-      fits = subst (λ k. AllFit (Fits h.dealt k) last) (sym length_is) all;
+      fits = subst (λ k. AllFit (FitsRole h.dealt k) last) (sym length_is) all;
     }
 
 pub begins : Sound [] (a_view Owner [] [] ∷ [])
 begins = record { dealt = []; rises = tt; part = tt; once = λ x. omega arith; fits = one }
   where
-    one : AllFit (Fits [] 1) (a_view Owner [] [] ∷ [])
-    one zero u e = subst (λ (y : View). Fits [] 1 0 y) (some-injective (a_view Owner [] []) u e) (refl, refl, refl)
+    one : AllFit (FitsRole [] 1) (a_view Owner [] [] ∷ [])
+    one zero u e = subst (λ (y : View). FitsRole [] 1 0 y) (some-injective (a_view Owner [] []) u e) (refl, refl, refl)
     one (suc j) u e = absurd (some-ne-none u (sym e))

@@ -4,7 +4,7 @@ use Rattle.crossbeam_deque.proofs.Lists.{set_else}
 use Rattle.pp_steal.specs.declared.view.Role.{Role}
 use Rattle.pp_steal.specs.declared.view.Role.TheVariants.{Owner, Marked, Guest, Spent}
 use Rattle.pp_steal.specs.declared.view.View.{View}
-use Rattle.pp_steal.specs.Pool.{times, times_taken, IsLive, FitsAs, Sound, took, joined}
+use Rattle.pp_steal.specs.Pool.{times, times_taken, IsLive, FitsAs, Sound, took, joined_view}
 use Rattle.pp_steal.specs.Dealing.{is_of, lane_of, dealt_to, upto}
 use Rattle.pp_steal.specs.Core.{Deque, empty_deque, End, Front, Back, Step, Push, Pop, PopNothing, Steal, StealNothing, SplitOff, JoinIn, IsAt, LeavesAt, Steps, Runs, IsOfPool, pool_times, pool_taken, AllEmpty, EachStateIsSound, EachPieceOnce, EachTakenOnce}
 use Rattle.pp_steal.proofs.Keeps.{begins, pushes, takes, pops, forks, merges}
@@ -39,7 +39,7 @@ step_sound (Steal thief) d e h s = subst SoundD (sym h.next) (takes_first d thie
 step_sound (StealNothing thief) d e h s = subst SoundD (sym h) s
 step_sound (SplitOff splitter) d e h s = subst SoundD (sym h.next) (forks splitter h.view h.live d.items d.views s h.at)
 step_sound (JoinIn pass other) d e h s =
-    subst SoundD (sym h.next) (merges pass h.view other h.guest h.live h.role d.items d.views s h.at h.two (set_else d.views pass other (joined h.view h.guest) h.two ∙ h.other_at))
+    subst SoundD (sym h.next) (merges pass h.view other h.guest h.live h.role d.items d.views s h.at h.two (set_else d.views pass other (joined_view h.view h.guest) h.two ∙ h.other_at))
 
 pub runs_sound : (steps : List Step) (d e : Deque) → Runs steps d e → SoundD d → SoundD e
 runs_sound [] d e h s = subst SoundD (sym h) s

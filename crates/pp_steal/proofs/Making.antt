@@ -15,7 +15,7 @@ use Rattle.pp_steal.specs.declared.view.OnceEach.{OnceEach}
 use Rattle.pp_steal.specs.declared.deal.Deal.{Deal}
 use Rattle.pp_steal.specs.declared.chair.Chair.{Chair}
 use Rattle.pp_steal.specs.Dealing.{dealt_to, is_of, lane_of}
-use Rattle.pp_steal.specs.Lanes.{Make, Standing, HasItsPieces, AreNewRows, IsNewRow, IsNewLane, AreNewLanes, IsNewMake, IsDealt, AreDealt, IsReady, AreReady, AreMarked, Deques, deque_of, homes_of, homes_at, IsFresh, AreFresh, make_of, the_make}
+use Rattle.pp_steal.specs.Lanes.{Make, Standing, HasItsPieces, AreNewRows, IsNewRow, IsNewLane, AreNewLanes, IsNewMake, IsDealt, AreDealt, IsReadyView, AreReady, AreMarked, Deques, deque_of, homes_of, homes_at, IsFresh, AreFresh, make_of, the_make}
 use Rattle.pp_steal.proofs.Dealt.{filter-append}
 use Rattle.pp_steal.proofs.Each.{each_set, each_push, each_split}
 
@@ -98,9 +98,9 @@ deal_more deal lanes pieces piece lane workers w w' lt at is all room used step 
 pub seat_keeps : (deal : Deal) (lanes pieces lane : ℕ) (workers : Deques) (w w' : Deque) → lane < length workers → w ≡ get_or workers lane w → worker_view w' ≡ mark (worker_view w) → AreReady deal lanes pieces workers → AreMarked lane workers
     → AreReady deal lanes pieces (set workers lane w') × AreMarked (lane + 1) (set workers lane w')
 seat_keeps deal lanes pieces lane workers w w' lt is step ready marks =
-    let mine : IsReady deal lanes pieces lane (worker_view w) = subst (λ (u : Deque). IsReady deal lanes pieces lane (worker_view u)) (sym is) (ready lane w lt) in
+    let mine : IsReadyView deal lanes pieces lane (worker_view w) = subst (λ (u : Deque). IsReadyView deal lanes pieces lane (worker_view u)) (sym is) (ready lane w lt) in
     let role : (worker_view w').role ≡ Marked = ap (λ (v : View). v.role) step ∙ mine.0 in (
-      each_set (λ (j : ℕ) (u : Deque). IsReady deal lanes pieces j (worker_view u)) workers lane w' lt (ap marked role, ap (λ (v : View). v.dealt) step ∙ mine.1, ap (λ (v : View). v.taken) step ∙ mine.2) (λ j d below n. ready j d below),
+      each_set (λ (j : ℕ) (u : Deque). IsReadyView deal lanes pieces j (worker_view u)) workers lane w' lt (ap marked role, ap (λ (v : View). v.dealt) step ∙ mine.1, ap (λ (v : View). v.taken) step ∙ mine.2) (λ j d below n. ready j d below),
       each_set (λ (j : ℕ) (u : Deque). j < lane + 1 → (worker_view u).role ≡ Marked) workers lane w' lt (λ _. role) (λ j d below n m. marks j d below (omega arith)),
     )
 
@@ -115,7 +115,7 @@ chairs_more deal lanes pieces workers chairs w c lt ready is fresh homes all =
     let homing' : Deque → (ℕ × ℕ) × Global = λ (u : Deque). worker_deque u in
     let last : worker_deque w ≡ get_or (homes_of workers) (length chairs) (worker_deque w) = ap homing' is ∙ sym (get_or-map homing' workers (length chairs) w (worker_deque w) lt) in
     let more : take (length chairs + 1) (homes_of workers) ≡ take (length chairs) (homes_of workers) ++ get_or (homes_of workers) (length chairs) (worker_deque w) ∷ [] = rw add-one (take-suc (homes_of workers) (length chairs) (worker_deque w) (omega (arith, length-map workers homing'))) in
-    let mine : IsReady deal lanes pieces (length chairs) (worker_view w) = subst (λ (u : Deque). IsReady deal lanes pieces (length chairs) (worker_view u)) (sym is) (ready (length chairs) w lt) in (
+    let mine : IsReadyView deal lanes pieces (length chairs) (worker_view w) = subst (λ (u : Deque). IsReadyView deal lanes pieces (length chairs) (worker_view u)) (sym is) (ready (length chairs) w lt) in (
       map-append homing chairs (c ∷ []) ∙ ap (λ l. l ++ homing c ∷ []) homes ∙ ap (λ x. take (length chairs) (homes_of workers) ++ x ∷ []) (fresh.0 ∙ last) ∙ sym more,
       each_push (λ (j : ℕ) (u : Chair). IsFresh (dealt_to deal lanes pieces j) u) chairs c (subst (λ (l : List ℕ). IsFresh l c) mine.1 fresh.1) all,
     )
@@ -155,9 +155,9 @@ pub its_pieces : (deal : Deal) (pieces own : ℕ) (chairs : List Chair) (dealt :
 its_pieces deal pieces own chairs dealt e = e ∙ ap (λ (n : ℕ). dealt_to deal n pieces own) (sym (length-map chairs deque_of))
 
 pub ready_at : (deal : Deal) (lanes pieces : ℕ) (workers : Deques) (own : ℕ) (w : Deque) → own < length workers → w ≡ get_or workers own w → AreReady deal lanes pieces workers → AreMarked (length workers) workers
-    → IsReady deal lanes pieces own (worker_view w) × ((worker_view {T = ℕ} {A = Global} {V = View} {P = OnceEach} w).role ≡ Marked)
+    → IsReadyView deal lanes pieces own (worker_view w) × ((worker_view {T = ℕ} {A = Global} {V = View} {P = OnceEach} w).role ≡ Marked)
 ready_at deal lanes pieces workers own w lt is ready marks = (
-  subst (λ (u : Deque). IsReady deal lanes pieces own (worker_view u)) (sym is) (ready own w lt),
+  subst (λ (u : Deque). IsReadyView deal lanes pieces own (worker_view u)) (sym is) (ready own w lt),
   subst (λ (u : Deque). (worker_view {T = ℕ} {A = Global} {V = View} {P = OnceEach} u).role ≡ Marked) (sym is) (marks own w lt lt),
 )
 

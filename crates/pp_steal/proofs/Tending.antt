@@ -9,7 +9,7 @@ use Rattle.std.specs.declared.alloc.Global.{Global}
 use Rattle.pp_steal.specs.declared.deal.Deal.{Deal}
 use Rattle.pp_steal.specs.declared.view.View.{View}
 use Rattle.pp_steal.specs.declared.chair.Chair.{Chair}
-use Rattle.pp_steal.specs.Pool.{times, Takes}
+use Rattle.pp_steal.specs.Pool.{times, TakesPieces}
 use Rattle.pp_steal.specs.Dealing.{is_of, lane_of, upto, AreDistinctPieces}
 use Rattle.pp_steal.specs.Lanes.{Sits, AllSit, Tends, deque_of}
 use Rattle.pp_steal.proofs.Keeps.{times-append}
@@ -66,7 +66,7 @@ sits_still deal lanes pieces own lane x taken j c of which s = record {
       (λ (n : j ≢ lane). s.took ∙ ap (λ (l : List ℕ). cond (eqb j own) [] l) (sym (filter_no (is_of deal lanes j) x taken (apart deal lanes lane j x of n)))) which;
 }
 
-pub after_pop : (deal : Deal) (pieces own : ℕ) (taken : List ℕ) (mine mine' : View) (chairs : List Chair) (x : ℕ) → Tends deal pieces own taken mine chairs → Takes mine (x ∷ []) mine'
+pub after_pop : (deal : Deal) (pieces own : ℕ) (taken : List ℕ) (mine mine' : View) (chairs : List Chair) (x : ℕ) → Tends deal pieces own taken mine chairs → TakesPieces mine (x ∷ []) mine'
     → IsNew (is_of deal (length chairs) own) pieces taken x × Tends deal pieces own (taken ++ x ∷ []) mine' chairs
 after_pop deal pieces own taken mine mine' chairs x t step =
     let p = is_of deal (length chairs) own in
@@ -101,7 +101,7 @@ away : (j own : ℕ) (l : List ℕ) → j ≢ own → cond (eqb j own) [] l ≡ 
 away j own l n = ap (λ (b : Bool). cond b [] l) (ne_eqb j own n)
 
 pub after_steal : (deal : Deal) (pieces own : ℕ) (taken : List ℕ) (mine : View) (chairs : List Chair) (from : ℕ) (c c' : Chair) (x : ℕ) → Tends deal pieces own taken mine chairs
-    → from < length chairs → from ≢ own → c ≡ get_or chairs from c → (c'.thief ≡ c.thief) × SamePass c.pass c'.pass → Takes (view c.pass) (x ∷ []) (view c'.pass)
+    → from < length chairs → from ≢ own → c ≡ get_or chairs from c → (c'.thief ≡ c.thief) × SamePass c.pass c'.pass → TakesPieces (view c.pass) (x ∷ []) (view c'.pass)
     → IsNew (is_of deal (length chairs) from) pieces taken x × Tends deal pieces own (taken ++ x ∷ []) mine (set chairs from c')
 after_steal deal pieces own taken mine chairs from c c' x t lt other is same step =
     let lanes : ℕ = length chairs in

@@ -1,5 +1,5 @@
--- What `close` gives, and what it learns on the way. Of these words the clauses of public calls cite `HoldEachOnce`,
--- `IsWholeMake`, `first_make`, and what those are made of.
+-- What `close` gives, and what it learns on the way. Of these words the clauses of public calls
+-- cite `HoldEachOnce`, `IsWholeMake`, `first_make`, and what those are made of.
 use Rattle.std.specs.Prelude.{◌≡◌, ℕ, zero, suc, ◌+◌, ◌<◌, ◌≤◌, Bool, false, ◌||◌, not, ltb, List, [], ◌∷◌, length, map, take, slice_index_or, filter}
 use Rattle.std.specs.declared.alloc.Global.{Global}
 use Rattle.std.specs.declared.vec.Vec.{Vec}
@@ -97,8 +97,8 @@ MarksMore list before after = (x : ℕ) → x < length before
 abbrev pub unmarked_of : List Bool → ℕ → List ℕ
 unmarked_of marks pieces = filter (λ x. not (slice_index_or marks x false)) (upto pieces)
 
--- Over all lanes, of the pieces that were dealt to this lane's deque none was taken twice. No clause cites it: the loop of
--- `settle_all` does
+-- Over all lanes, of the pieces that were dealt to this lane's deque none was taken twice. No
+-- clause cites it: the loop of `settle_all` does
 abbrev pub IsLearned : Deal → ℕ → ℕ → List (List ℕ) → ℕ → Type 0
 IsLearned deal lanes pieces taken lane =
     (x : ℕ) → times_in x (map (filter (is_of deal lanes lane)) taken)

@@ -1,11 +1,12 @@
--- The core of the pool as a machine, without threads: a deque, the kinds of step that change it, and runs of such steps.
+-- The core of the pool as a machine, without threads: a deque, the kinds of step that change it,
+-- and runs of such steps.
 use Rattle.std.specs.Prelude.{◌≡◌, ◌≢◌, ℕ, ◌+◌, ◌<◌, List, [], ◌∷◌, ◌++◌, length, slice_set, slice_index_or}
 use mathlib.Core.Option.{some}
 use lib.ListN.{get_elem?}
 use Rattle.pp_steal.specs.declared.deal.Deal.{Deal}
 use Rattle.pp_steal.specs.declared.view.Role.TheVariants.{Owner, Guest}
 use Rattle.pp_steal.specs.declared.view.View.{View}
-use Rattle.pp_steal.specs.Pool.{a_view, times, times_taken, AllUnder, IsLive, Sound, took, with_dealt, mark, newcomer, joined, spent}
+use Rattle.pp_steal.specs.Pool.{a_view, times, times_taken, AllUnder, IsLive, Sound, took, with_dealt, mark, newcomer, joined_view, spent}
 use Rattle.pp_steal.specs.Dealing.{dealt_to, upto}
 
 -- a deque: what it holds, and what each pass knows. The owner's pass is the first one
@@ -99,7 +100,7 @@ pub record Joins (pass other : ℕ) (d e : Deque) : Type 0 where
   pub live : IsLive view.role
   pub role : guest.role ≡ Guest
   pub next : e
-      ≡ a_deque d.items (slice_set (slice_set d.views pass (joined view guest)) other spent)
+      ≡ a_deque d.items (slice_set (slice_set d.views pass (joined_view view guest)) other spent)
 
 -- the step may come at the first deque, and leaves the second
 abbrev pub Steps : Step → Deque → Deque → Type 0
@@ -116,7 +117,8 @@ abbrev pub Runs : List Step → Deque → Deque → Type 0
 Runs [] d e = e ≡ d
 Runs (s ∷ steps) d e = (m : Deque) × Steps s d m × Runs steps m e
 
--- a deque of the pool: it comes from an empty one by some steps, and its owner was dealt these pieces
+-- a deque of the pool: it comes from an empty one by some steps, and its owner was dealt these
+-- pieces
 pub record IsOfPool (dealt : List ℕ) (d : Deque) : Type 0 where
   pub steps : List Step
   pub run : Runs steps empty_deque d

@@ -23,8 +23,9 @@ pub record Make : Type 0 where
   pub deal : Deal
   pub pieces : ℕ
 
--- A lane as callers see it: the make that it is of, its own number, the pieces that its deque was dealt, those that it took,
--- how often its own deque gave nothing, and how often that of each lane did
+-- A lane as callers see it: the make that it is of, its own number, the pieces that its deque was
+-- dealt, those that it took, how often its own deque gave nothing, and how often that of each lane
+-- did
 pub record Standing : Type 0 where
   pub make : Make
   pub own : ℕ
@@ -45,7 +46,8 @@ taken_of s = s.taken
 abbrev pub deque_of : Chair → DequeId
 deque_of c = (stealer_deque c.thief).0
 
--- a chair at the deque of `lane`: its pass knows what this lane took there, and at its own deque it takes nothing
+-- a chair at the deque of `lane`: its pass knows what this lane took there, and at its own deque it
+-- takes nothing
 pub record Sits (deal : Deal) (lanes pieces own : ℕ) (taken : List ℕ) (lane : ℕ)
     (c : Chair) : Type 0 where
   pub pass : IsPassOf (stealer_deque c.thief) c.pass
@@ -58,8 +60,8 @@ abbrev pub AllSit : Deal → ℕ → ℕ → ℕ → List ℕ → List Chair →
 AllSit deal lanes pieces own taken chairs = (lane : ℕ) (c : Chair) → lane < length chairs
     → Sits deal lanes pieces own taken lane (slice_index_or chairs lane c)
 
--- What a lane knows. What it took are pieces, none of them twice. Of these, each pass knows those that were dealt to its
--- deque; at its own deque that is the owner's pass
+-- What a lane knows. What it took are pieces, none of them twice. Of these, each pass knows those
+-- that were dealt to its deque; at its own deque that is the owner's pass
 pub record Tends (deal : Deal) (pieces own : ℕ) (taken : List ℕ) (mine : View)
     (chairs : List Chair) : Type 0 where
   pub below : own < length chairs
@@ -88,15 +90,15 @@ AreDealt deal lanes pieces dealt workers =
     → IsDealt deal lanes pieces dealt lane (slice_index_or workers lane w)
 
 -- the owner of a deque that was dealt the lane's pieces, of which it took none
-abbrev pub IsReady : Deal → ℕ → ℕ → ℕ → View → Type 0
-IsReady deal lanes pieces lane v =
+abbrev pub IsReadyView : Deal → ℕ → ℕ → ℕ → View → Type 0
+IsReadyView deal lanes pieces lane v =
     (marked v.role ≡ Marked) × (v.dealt ≡ dealt_to deal lanes pieces lane) × (v.taken ≡ [])
 
 -- each owner is ready
 abbrev pub AreReady : Deal → ℕ → ℕ → Deques → Type 0
 AreReady deal lanes pieces workers =
     (lane : ℕ) (w : Worker ℕ Global View OnceEach) → lane < length workers
-    → IsReady deal lanes pieces lane (worker_view (slice_index_or workers lane w))
+    → IsReadyView deal lanes pieces lane (worker_view (slice_index_or workers lane w))
 
 -- the first owners are marked as split
 abbrev pub AreMarked : ℕ → Deques → Type 0
@@ -155,8 +157,8 @@ pub record IsSameTable (before after : Table) : Type 0 where
   pub homes : homes_of after.workers.items ≡ homes_of before.workers.items
 
 -- a new chair at each deque of the table
-abbrev pub IsRowOf : Table → Vec Chair Global → Type 0
-IsRowOf t row = IsNewRow t.deal (length t.workers.items) t.pieces (homes_of t.workers.items) row
+abbrev pub IsChairRow : Table → Vec Chair Global → Type 0
+IsChairRow t row = IsNewRow t.deal (length t.workers.items) t.pieces (homes_of t.workers.items) row
 
 -- rows of such chairs
 abbrev pub AreRowsOf : Table → List (Vec Chair Global) → Type 0
@@ -191,7 +193,8 @@ AreNewLanes make lanes =
     (lane : ℕ) (s : Standing) → lane < length lanes
     → IsNewLane make lane (slice_index_or lanes lane s)
 
--- n lanes of one make, to which the pieces below `pieces` were dealt in this way, and which have taken nothing
+-- n lanes of one make, to which the pieces below `pieces` were dealt in this way, and which have
+-- taken nothing
 pub record IsNewMake (deal : Deal) (pieces n : ℕ) (lanes : List Standing) : Type 0 where
   pub make : Make
   pub by : make.deal ≡ deal

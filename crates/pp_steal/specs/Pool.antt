@@ -1,5 +1,5 @@
--- One deque of the pool: the pieces that it was dealt, those that it holds, and what each pass of it knows. `Sound` is the
--- deque's rule.
+-- One deque of the pool: the pieces that it was dealt, those that it holds, and what each pass of
+-- it knows. `Sound` is the deque's rule.
 use Rattle.std.specs.Prelude.{◌≡◌, ◌≢◌, ℕ, ◌+◌, ◌<◌, ◌≤◌, ◌⊎◌, eqb, cond, List, [], ◌∷◌, ◌++◌, length}
 use mathlib.Core.Option.{some}
 use lib.ListN.{get_elem?}
@@ -37,18 +37,18 @@ Rises [] = Unit {0}
 Rises (x ∷ xs) = AllOver x xs × Rises xs
 
 -- the first list is the second with some pieces left out
-abbrev pub IsPartOf : List ℕ → List ℕ → Type 0
-IsPartOf [] ys = Unit {0}
-IsPartOf (x ∷ xs) [] = ⊥
-IsPartOf (x ∷ xs) (y ∷ ys) = ((x ≡ y) × IsPartOf xs ys) ⊎ IsPartOf (x ∷ xs) ys
+abbrev pub IsSublistOf : List ℕ → List ℕ → Type 0
+IsSublistOf [] ys = Unit {0}
+IsSublistOf (x ∷ xs) [] = ⊥
+IsSublistOf (x ∷ xs) (y ∷ ys) = ((x ≡ y) × IsSublistOf xs ys) ⊎ IsSublistOf (x ∷ xs) ys
 
 -- the pass still takes part: its view was not joined into another
 abbrev pub IsLive : Role → Type 0
 IsLive Spent = ⊥
 IsLive _ = Unit {0}
 
--- A view, by its role, among `count` views. The owner's is the first one, and is marked where there is any other view. Each
--- live view knows the pieces that were dealt. A spent one has nothing
+-- A view, by its role, among `count` views. The owner's is the first one, and is marked where there
+-- is any other view. Each live view knows the pieces that were dealt. A spent one has nothing
 abbrev pub FitsAs : Role → List ℕ → ℕ → ℕ → View → Type 0
 FitsAs Owner dealt count port v = (v.dealt ≡ dealt) × (port ≡ 0) × (count ≡ 1)
 FitsAs Marked dealt count port v = (v.dealt ≡ dealt) × (port ≡ 0)
@@ -56,18 +56,19 @@ FitsAs Guest dealt count port v = (v.dealt ≡ dealt) × (port ≢ 0)
 FitsAs Spent dealt count port v = (v.taken ≡ []) × (port ≢ 0)
 
 -- the view fits its own role
-abbrev pub Fits : List ℕ → ℕ → ℕ → View → Type 0
-Fits dealt count port v = FitsAs v.role dealt count port v
+abbrev pub FitsRole : List ℕ → ℕ → ℕ → View → Type 0
+FitsRole dealt count port v = FitsAs v.role dealt count port v
 
--- The pieces dealt rise. The deque holds a part of them, in order. Each other piece of them stands once in what one pass
--- took, and no other piece stands in any: since no piece was dealt twice, this is an equation of counts. Each view fits
+-- The pieces dealt rise. The deque holds a part of them, in order. Each other piece of them stands
+-- once in what one pass took, and no other piece stands in any: since no piece was dealt twice,
+-- this is an equation of counts. Each view fits
 pub record Sound (items : List ℕ) (views : List View) : Type 0 where
   pub dealt : List ℕ
   pub rises : Rises dealt
-  pub part : IsPartOf items dealt
+  pub part : IsSublistOf items dealt
   pub once : (x : ℕ) → times x items + times_taken x views ≡ times x dealt
   pub fits : (port : ℕ) (v : View) → get_elem? views port ≡ some v
-      → Fits dealt (length views) port v
+      → FitsRole dealt (length views) port v
 
 -- the view after the pass took these pieces
 abbrev pub took : View → List ℕ → View
@@ -78,8 +79,8 @@ abbrev pub TookDealt : View → Type 0
 TookDealt v = (x : ℕ) → times x v.taken ≤ times x v.dealt
 
 -- a pass takes pieces that were dealt and that it hadn't taken
-abbrev pub Takes : View → List ℕ → View → Type 0
-Takes v xs w = (w ≡ took v xs) × TookDealt w
+abbrev pub TakesPieces : View → List ℕ → View → Type 0
+TakesPieces v xs w = (w ≡ took v xs) × TookDealt w
 
 -- the owner's view after it dealt these pieces
 abbrev pub with_dealt : View → List ℕ → View
@@ -103,8 +104,8 @@ abbrev pub newcomer : View → View
 newcomer v = a_view Guest v.dealt []
 
 -- the first view after the second was joined into it
-abbrev pub joined : View → View → View
-joined v w = took v w.taken
+abbrev pub joined_view : View → View → View
+joined_view v w = took v w.taken
 
 -- the view of a pass that was joined into another
 abbrev pub spent : View

@@ -1,5 +1,5 @@
--- What a lane at work has done, and outcomes at their places. The clause of `run_pieces` cites `AreOutcomes` alone; the other
--- words are for what it calls.
+-- What a lane at work has done, and outcomes at their places. The clause of `run_pieces` cites
+-- `AreOutcomes` alone; the other words are for what it calls.
 use Rattle.std.specs.Prelude.{◌≡◌, ℕ, ◌<◌, false, List, [], length, slice_index_or, Option, Some, None}
 use Rattle.std.specs.declared.alloc.Global.{Global}
 use Rattle.std.specs.declared.vec.Vec.{Vec}
@@ -18,7 +18,8 @@ pub record IsIdle {T : Type 0} (s : Station T) : Type 0 where
   pub taken : s.lane.taken ≡ []
   pub outcomes : s.outcomes.items ≡ []
 
--- the lane has done its work, and has the outcome of each piece that it took, or stopped for want of memory
+-- the lane has done its work, and has the outcome of each piece that it took, or stopped for want
+-- of memory
 pub record IsServed {T : Type 0} (right : ℕ → T → Type 0) (before after : Station T) : Type 0 where
   pub make : after.lane.make ≡ before.lane.make
   pub own : after.lane.own ≡ before.lane.own
@@ -68,7 +69,8 @@ pub record AllHaveOutcomes {T : Type 0} (right : ℕ → T → Type 0)
   pub each : (k : ℕ) (d : Vec T Global) → k < length taken
       → HasOutcomes right (slice_index_or taken k []) (slice_index_or outcomes k d).items
 
--- at the place of each piece there is an outcome that is right for it, and there are as many places as pieces
+-- at the place of each piece there is an outcome that is right for it, and there are as many places
+-- as pieces
 pub record AreOutcomes {T : Type 0} (right : ℕ → T → Type 0)
     (pieces : ℕ) (outcomes : List T) : Type 0 where
   pub many : length outcomes ≡ pieces

@@ -3,7 +3,7 @@ ghost use Rattle.std.specs.Prelude.{◌≡◌, ◌≤◌, [], ◌∷◌, IfSome,
 ghost use Rattle.crossbeam_deque.specs.Handles.{view, IsPassOf, SamePass, stealer_deque};
 ghost use Rattle.pp_base.specs.Fault.{Rose};
 ghost use Rattle.pp_steal.specs.declared.view.Role.TheVariants.{Guest};
-ghost use Rattle.pp_steal.specs.Pool.{Takes};
+ghost use Rattle.pp_steal.specs.Pool.{TakesPieces};
 
 use crate::view::{OnceEach, Take, View};
 use crossbeam_deque::{Pass, Steal, Stealer, Worker};
@@ -32,7 +32,7 @@ impl Chair {
         ensures pass { SamePass self.old.pass self.new.pass }
         ensures later { self.old.misses ≤ self.new.misses }
         ensures some { IfSome result (λ piece.
-            Takes (view self.old.pass) (piece ∷ []) (view self.new.pass)) }
+            TakesPieces (view self.old.pass) (piece ∷ []) (view self.new.pass)) }
         ensures hit { IfSome result (λ _. self.new.misses ≡ self.old.misses) }
         ensures none { IfNone result (view self.new.pass ≡ view self.old.pass) }
         ensures miss { IfNone result (Rose self.old.misses self.new.misses) }

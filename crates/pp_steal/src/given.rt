@@ -32,7 +32,7 @@ pub fn close(lanes: List<Lane>) -> Given
     ensures left { Rises result.left }
     ensures once { HoldEachOnce (first_make lanes).pieces result.taken result.left }
 {
-    let Tally {
+    let Settled {
         pieces,
         taken,
         left,
@@ -111,7 +111,7 @@ fn gather(mut lanes: Vec<Lane>) -> Whole
 }
 
 // What the lanes took, and the room for the rest.
-struct Tally {
+struct Settled {
     pieces: u32,
     taken: Vec<List<u32>>,
     left: Vec<u32>,
@@ -119,7 +119,7 @@ struct Tally {
 }
 
 // Joins all passes of each deque into its owner's, and learns from each deque's rule, from the last deque to the first.
-fn settle_all(whole: Whole) -> Tally
+fn settle_all(whole: Whole) -> Settled
     requires { AreParts whole.deal whole.pieces
         whole.workers.items whole.rows.items whole.taken.items }
     ensures pieces { result.pieces ≡ whole.pieces }
@@ -141,7 +141,7 @@ fn settle_all(whole: Whole) -> Tally
         let lane = workers.len();
         settle(worker, lane, &mut rows);
     }
-    Tally {
+    Settled {
         pieces,
         taken,
         left,

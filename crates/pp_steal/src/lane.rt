@@ -5,8 +5,8 @@ ghost use Rattle.pp_steal.specs.declared.chair.Chair.{Chair};
 ghost use Rattle.pp_steal.specs.declared.view.Role.TheVariants.{Marked};
 ghost use Rattle.pp_steal.specs.Dealing.{AreDistinctPieces};
 ghost use Rattle.pp_steal.specs.Room.{RoomFor};
-ghost use Rattle.pp_steal.specs.Lanes.{IsReady, AreFresh, HasItsPieces, make_of, homes_at, deque_of, Tends};
-ghost use Rattle.pp_steal.specs.Reaching.{Gave, NoneFell, AllRose};
+ghost use Rattle.pp_steal.specs.Lanes.{IsReadyView, AreFresh, HasItsPieces, make_of, homes_at, deque_of, Tends};
+ghost use Rattle.pp_steal.specs.Reaching.{Gave, NoneFell, AllRose, CameInTurn};
 
 use crate::chair::{Chair, Owner};
 use crate::deal::Deal;
@@ -58,7 +58,8 @@ impl Model for Lane {
 
 impl Lane {
     /// The next piece for this lane: of its own deque, or else of another lane's, from its right neighbour round. With `None`
-    /// the count of its own deque rose, and that of each other lane. No memory.
+    /// the count of its own deque rose, and that of each other lane. With `Some` the counts rose of the deques that were asked
+    /// before, and no others. No memory.
     pub fn next(&mut self) -> Option<u32>
         ensures same_make { self.new.make ≡ self.old.make }
         ensures same_own { self.new.own ≡ self.old.own }
@@ -67,6 +68,9 @@ impl Lane {
         ensures counts { NoneFell self.old.empties (slice_index self.old.misses)
             self.new.empties (slice_index self.new.misses) }
         ensures some { IfSome result (Gave self.old.taken self.new.taken) }
+        ensures round { IfSome result (λ _. CameInTurn (length self.old.make.deques) self.old.own
+            self.old.empties (slice_index self.old.misses)
+            self.new.empties (slice_index self.new.misses)) }
         ensures none { IfNone result (self.new.taken ≡ self.old.taken) }
         ensures tried { IfNone result (AllRose (length self.old.make.deques) self.old.own
             self.old.empties (slice_index self.old.misses)
@@ -148,7 +152,7 @@ impl Lane {
     // The lane with this number, which has taken nothing.
     pub(crate) fn new(own: u32, parts: Parts) -> Lane
         requires few { (own < length parts.chairs.items) × (length parts.chairs.items ≤ 64) }
-        requires ready { IsReady parts.deal (length parts.chairs.items) parts.pieces own
+        requires ready { IsReadyView parts.deal (length parts.chairs.items) parts.pieces own
             (worker_view parts.worker) }
         requires marked { (worker_view parts.worker).role ≡ Marked }
         requires home { (c : Chair) → worker_deque parts.worker

@@ -6,7 +6,7 @@ ghost use Rattle.pp_steal.specs.declared.view.Role.TheVariants.{Owner as own_rol
 ghost use Rattle.pp_steal.specs.Pool.{AllUnder, Deals, marked, mark};
 ghost use Rattle.pp_steal.specs.Dealing.{lane_of};
 ghost use Rattle.pp_steal.specs.Closing.{IsWholeMake};
-ghost use Rattle.pp_steal.specs.Lanes.{AreDealt, IsFresh, IsReadyTable, IsMarkedTable, IsSameTable, IsRowOf, AreRowsOf, AreNewLanes, IsNewMake, make_of_table};
+ghost use Rattle.pp_steal.specs.Lanes.{AreDealt, IsFresh, IsReadyTable, IsMarkedTable, IsSameTable, IsChairRow, AreRowsOf, AreNewLanes, IsNewMake, make_of_table};
 
 use crate::chair::{Chair, Owner};
 use crate::deal::Deal;
@@ -104,7 +104,7 @@ impl Table {
         ensures same { OnOk result (IsSameTable self.old self.new) }
         ensures ready { OnOk result (IsReadyTable self.new) }
         ensures marked { OnOk result (IsMarkedTable self.new) }
-        ensures chairs { IfOk result (IsRowOf self.old) }
+        ensures chairs { IfOk result (IsChairRow self.old) }
     {
         let lanes = self.workers.len();
         let mut chairs = Vec::with_capacity(alloc, lanes)?;

@@ -1,7 +1,7 @@
 //! How a lane comes by its next piece.
 ghost use Rattle.std.specs.Prelude.{◌≡◌, ◌≢◌, ℕ, ◌<◌, ◌≤◌, List, IfSome, IfNone};
 ghost use Rattle.pp_steal.specs.Lanes.{Make};
-ghost use Rattle.pp_steal.specs.Reaching.{Answers, Gave, NoneFell, AllRose};
+ghost use Rattle.pp_steal.specs.Reaching.{GaveOrRose, Gave, NoneFell, AllRose, CameInTurn};
 
 /// A lane that can take pieces of its own deque and of the other lanes' deques. Lanes are numbered from 0. A count that is at
 /// its last value, 2^64 - 1, is said to rise though it stays. No call takes memory.
@@ -39,7 +39,7 @@ pub trait Reach {
         ensures same_own { own self.new ≡ own self.old }
         ensures same_make { make self.new ≡ make self.old }
         ensures misses { (lane : ℕ) → misses self.new lane ≡ misses self.old lane }
-        ensures answer { Answers (taken self.old) (taken self.new)
+        ensures answer { GaveOrRose (taken self.old) (taken self.new)
             (empties self.old) (empties self.new) result };
 
     /// A piece of the deque of another lane. With `None` the count of that lane rose.
@@ -51,12 +51,13 @@ pub trait Reach {
         ensures same_make { make self.new ≡ make self.old }
         ensures empties { empties self.new ≡ empties self.old }
         ensures others { (lane : ℕ) → lane ≢ from → misses self.new lane ≡ misses self.old lane }
-        ensures answer { Answers (taken self.old) (taken self.new)
+        ensures answer { GaveOrRose (taken self.old) (taken self.new)
             (misses self.old from) (misses self.new from) result };
 }
 
 /// A piece of its own deque, or else of the first other lane that gives one, from its right neighbour round. With `None` the
-/// count of its own deque rose, and that of each other lane. No memory.
+/// count of its own deque rose, and that of each other lane. With `Some` the counts rose of the deques that were asked before,
+/// and no others. No memory.
 pub fn sweep<R: Reach>(reach: &mut R) -> Option<u32>
     ensures same_lanes { R.lanes reach.new ≡ R.lanes reach.old }
     ensures same_own { R.own reach.new ≡ R.own reach.old }
@@ -64,6 +65,8 @@ pub fn sweep<R: Reach>(reach: &mut R) -> Option<u32>
     ensures counts { NoneFell (R.empties reach.old) (R.misses reach.old)
         (R.empties reach.new) (R.misses reach.new) }
     ensures some { IfSome result (Gave (R.taken reach.old) (R.taken reach.new)) }
+    ensures round { IfSome result (λ _. CameInTurn (R.lanes reach.old) (R.own reach.old)
+        (R.empties reach.old) (R.misses reach.old) (R.empties reach.new) (R.misses reach.new)) }
     ensures none { IfNone result (R.taken reach.new ≡ R.taken reach.old) }
     ensures tried { IfNone result (AllRose (R.lanes reach.old) (R.own reach.old)
         (R.empties reach.old) (R.misses reach.old) (R.empties reach.new) (R.misses reach.new)) }

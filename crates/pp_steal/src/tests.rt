@@ -237,12 +237,21 @@ fn a_lane_enters_and_leaves_around_its_piece(rt: HostRuntime) -> Result<(), Fail
     assert_eq!(rt; outcomes.as_slice(), [0].as_slice());
     assert_eq!(rt; noted.calls(), 10_20_30);
 
-    // It leaves a piece whose job wants memory too.
-    let noted = Noted::new(0);
-    let outcomes = run_pieces(&rt, rt.alloc(), &noted, 1, 1, Deal::Round, &noted);
-    assert!(rt; outcomes.is_err());
-    assert_eq!(rt; noted.calls(), 10_20_30);
+    // Where there is no piece, nothing is entered and nothing run.
+    let noted = Noted::new(9);
+    let outcomes = run_pieces(&rt, rt.alloc(), &noted, 0, 1, Deal::Round, &noted)?;
+    assert_eq!(rt; outcomes.len(), 0);
+    assert_eq!(rt; noted.calls(), 0);
     Ok(())
+}
+
+#[test]
+fn a_lane_whose_job_wants_memory_stops(rt: HostRuntime) {
+    // It leaves that piece, and runs neither of the two that are left.
+    let noted = Noted::new(1);
+    let outcomes = run_pieces(&rt, rt.alloc(), &noted, 3, 1, Deal::Round, &noted);
+    assert!(rt; outcomes.is_err());
+    assert_eq!(rt; noted.calls(), 10_20_30_11_21_31);
 }
 
 // The slots of four pieces after the pieces 1 and 3, which no lane took, were run.

@@ -49,9 +49,9 @@ impl Outcome<u32, View> for Dealt {
 pub struct Take;
 
 impl Outcome<u32, View> for Take {
-    ghost use Rattle.pp_steal.specs.Pool.{Takes, TookDealt};
+    ghost use Rattle.pp_steal.specs.Pool.{TakesPieces, TookDealt};
 
-    ghost then = { Takes };
+    ghost then = { TakesPieces };
 
     ghost empty = { TookDealt };
 }
@@ -68,9 +68,9 @@ impl Split<View> for Hand {
 }
 
 impl Join<View> for Hand {
-    ghost use Rattle.pp_steal.specs.Pool.{joined, spent};
+    ghost use Rattle.pp_steal.specs.Pool.{joined_view, spent};
 
-    ghost both = { joined };
+    ghost both = { joined_view };
 
     ghost spent = { spent };
 }

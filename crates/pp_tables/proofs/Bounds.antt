@@ -10,7 +10,7 @@ use Rattle.pp_model.specs.declared.profile.Profile.{Profile}
 use Rattle.pp_tables.specs.declared.refusal.ReadRefusal.{ReadRefusal}
 use Rattle.pp_tables.specs.Message.{fault_in}
 use Rattle.pp_tables.specs.Select.{all, listed, int_list_in, of_payload, texts_in, messages_in}
-use Rattle.pp_tables.specs.Tables.{profile_rules, value_type_with, no_value_type, sample_with, no_sample, mapping_with, no_mapping, location_with, no_location, function_with, no_function}
+use Rattle.pp_tables.specs.Tables.{profile_rules, value_type_after, no_value_type, sample_after, no_sample, mapping_after, no_mapping, location_after, no_location, function_after, no_function}
 use Rattle.pp_tables.specs.Read.{Answers, unless, read_message, profile_of, or_one_empty, HasAtMost}
 
 case_few : {A : Type 0} (b : Bool) (read : Item → List A) (i : Item) (rest : List Item) (n : ℕ) → length (read i) ≤ size_of i → length (flat_map read rest) ≤ n → length (flat_map read (cond b (i ∷ rest) rest)) ≤ size_of i + n
@@ -55,11 +55,11 @@ profile_few bytes some =
     let items = (fields bytes 0).items in
     let most = total-fields bytes 0 in
     record {
-      sample_types = omega (arith, table_few (value_type_with no_value_type) 1 items, most);
-      samples = omega (arith, table_few (sample_with no_sample) 2 items, most);
-      mappings = omega (arith, table_few (mapping_with no_mapping) 3 items, most);
-      locations = omega (arith, table_few (location_with no_location) 4 items, most);
-      functions = omega (arith, table_few (function_with no_function) 5 items, most);
+      sample_types = omega (arith, table_few (value_type_after no_value_type) 1 items, most);
+      samples = omega (arith, table_few (sample_after no_sample) 2 items, most);
+      mappings = omega (arith, table_few (mapping_after no_mapping) 3 items, most);
+      locations = omega (arith, table_few (location_after no_location) 4 items, most);
+      functions = omega (arith, table_few (function_after no_function) 5 items, most);
       texts = one_empty_few (all texts_in 6 items) (length bytes) some (omega (arith, all_few texts_in 6 texts_few items, most));
       comments = omega (arith, all_few int_list_in 13 ints_few items, most);
     }

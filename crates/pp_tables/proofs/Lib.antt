@@ -5,3 +5,4 @@ pub mod Messages
 pub mod Written
 pub mod Followed
 pub mod Payloads
+pub mod Ranges

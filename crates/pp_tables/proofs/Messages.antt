@@ -14,7 +14,7 @@ use Rattle.pp_model.specs.declared.profile.Line.{Line}
 use Rattle.pp_model.specs.declared.profile.Location.{Location}
 use Rattle.pp_model.specs.declared.profile.Function.{Function}
 use Rattle.pp_tables.specs.Select.{signed, flag}
-use Rattle.pp_tables.specs.Tables.{value_type_rules, no_value_type, value_type_with, label_rules, no_label, label_with, sample_rules, no_sample, sample_with, mapping_rules, no_mapping, mapping_with, line_rules, no_line, line_with, location_rules, no_location, location_with, function_rules, no_function, function_with}
+use Rattle.pp_tables.specs.Tables.{value_type_rules, no_value_type, value_type_after, label_rules, no_label, label_after, sample_rules, no_sample, sample_after, mapping_rules, no_mapping, mapping_after, line_rules, no_line, line_after, location_rules, no_location, location_after, function_rules, no_function, function_after}
 use Rattle.pp_tables.specs.Takes.{value_type_put, label_put, sample_put, mapping_put, line_put, location_put, function_put}
 use Rattle.pp_tables.specs.Filling.{value_type_more, label_more, sample_none, sample_more, mapping_more, line_more, location_none, location_more, function_more}
 use Rattle.pp_tables.specs.Encode.{unsigned, bit, bool_field, message_fields, value_type_bytes, label_bytes, sample_bytes, mapping_bytes, line_bytes, location_bytes, function_bytes}
@@ -63,7 +63,7 @@ bool_back false = refl
 -- ---- messages
 
 abbrev pub value_type_message : Message ValueType
-value_type_message = record { rules = value_type_rules; put = value_type_put; filled = value_type_with; none = λ m. refl; more = value_type_more }
+value_type_message = record { rules = value_type_rules; put = value_type_put; filled = value_type_after; none = λ m. refl; more = value_type_more }
 
 abbrev pub value_type_change : ValueType → ValueType → ValueType
 value_type_change v old = record {
@@ -84,7 +84,7 @@ pub value_type_back : (v : ValueType) → ValueTypeFits v → value_type_change 
 value_type_back v fits = rw (int_back v.kind fits.kind, int_back v.unit fits.unit) refl
 
 abbrev pub label_message : Message Label
-label_message = record { rules = label_rules; put = label_put; filled = label_with; none = λ m. refl; more = label_more }
+label_message = record { rules = label_rules; put = label_put; filled = label_after; none = λ m. refl; more = label_more }
 
 abbrev pub label_change : Label → Label → Label
 label_change l old = record {
@@ -111,7 +111,7 @@ pub label_back : (l : Label) → LabelFits l → label_change l no_label ≡ l
 label_back l fits = rw (int_back l.key fits.key, int_back l.text fits.text, int_back l.num fits.num, int_back l.num_unit fits.num_unit) refl
 
 abbrev pub mapping_message : Message Mapping
-mapping_message = record { rules = mapping_rules; put = mapping_put; filled = mapping_with; none = λ m. refl; more = mapping_more }
+mapping_message = record { rules = mapping_rules; put = mapping_put; filled = mapping_after; none = λ m. refl; more = mapping_more }
 
 abbrev pub mapping_change : Mapping → Mapping → Mapping
 mapping_change m old = record {
@@ -156,7 +156,7 @@ pub mapping_back : (m : Mapping) → MappingFits m → mapping_change m no_mappi
 mapping_back m fits = rw (uint_back m.id, uint_back m.start, uint_back m.limit, uint_back m.offset, int_back m.file fits.file, int_back m.build_id fits.build_id, bool_back m.has_functions, bool_back m.has_filenames, bool_back m.has_line_numbers, bool_back m.has_inline_frames) refl
 
 abbrev pub line_message : Message Line
-line_message = record { rules = line_rules; put = line_put; filled = line_with; none = λ m. refl; more = line_more }
+line_message = record { rules = line_rules; put = line_put; filled = line_after; none = λ m. refl; more = line_more }
 
 abbrev pub line_change : Line → Line → Line
 line_change l old = record {
@@ -180,7 +180,7 @@ pub line_back : (l : Line) → LineFits l → line_change l no_line ≡ l
 line_back l fits = rw (uint_back l.function_id, int_back l.line fits.line, int_back l.column fits.column) refl
 
 abbrev pub function_message : Message Function
-function_message = record { rules = function_rules; put = function_put; filled = function_with; none = λ m. refl; more = function_more }
+function_message = record { rules = function_rules; put = function_put; filled = function_after; none = λ m. refl; more = function_more }
 
 abbrev pub function_change : Function → Function → Function
 function_change f old = record {
@@ -210,7 +210,7 @@ pub function_back : (f : Function) → FunctionFits f → function_change f no_f
 function_back f fits = rw (uint_back f.id, int_back f.name fits.name, int_back f.system_name fits.system_name, int_back f.filename fits.filename, int_back f.start_line fits.start_line) refl
 
 abbrev pub sample_message : Message Sample
-sample_message = record { rules = sample_rules; put = sample_put; filled = sample_with; none = sample_none; more = sample_more }
+sample_message = record { rules = sample_rules; put = sample_put; filled = sample_after; none = sample_none; more = sample_more }
 
 abbrev pub sample_change : Sample → Sample → Sample
 sample_change s old = record {
@@ -234,7 +234,7 @@ pub sample_back : (s : Sample) → SampleFits s → sample_change s no_sample �
 sample_back s fits = rw (ints_back s.value fits.value) refl
 
 abbrev pub location_message : Message Location
-location_message = record { rules = location_rules; put = location_put; filled = location_with; none = location_none; more = location_more }
+location_message = record { rules = location_rules; put = location_put; filled = location_after; none = location_none; more = location_more }
 
 abbrev pub location_change : Location → Location → Location
 location_change l old = record {

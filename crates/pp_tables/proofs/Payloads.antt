@@ -12,12 +12,12 @@ use Rattle.pp_wire.proofs.Shrinking.{field_shrinks}
 use Rattle.pp_model.specs.declared.profile.Profile.{Profile}
 use Rattle.pp_tables.specs.declared.refusal.ReadRefusal.{ReadRefusal}
 use Rattle.pp_tables.specs.declared.refusal.ReadRefusal.TheVariants as refusal
-use Rattle.pp_tables.specs.Message.{Unknown, Scalar, Nested, fault_by, fault_of, or_else, first_fault, walk_fault, fault_in}
+use Rattle.pp_tables.specs.Message.{Unknown, Scalar, Nested, fault_by, fault_of, or_else, first_item_fault, walk_fault, fault_in}
 use Rattle.pp_tables.specs.Select.{all, scalar, signed, ints_in, fields_in}
-use Rattle.pp_tables.specs.Tables.{value_type_rules, no_value_type, value_type_with, profile_rules}
+use Rattle.pp_tables.specs.Tables.{value_type_rules, no_value_type, value_type_after, profile_rules}
 use Rattle.pp_tables.specs.Filling.{value_type_joined}
 use Rattle.pp_tables.specs.Read.{is_gzip, unless, profile_of, read_message, read}
-use Rattle.pp_tables.specs.Joined.{PayloadAt, payloads_in, joined, fields_at, IsFaultless, Makes}
+use Rattle.pp_tables.specs.Joined.{PayloadAt, payloads_in, joined_payload, fields_at, IsFaultless, Makes}
 use Rattle.pp_tables.proofs.Adds.{Message, Adds, adds_same, adds_none, adds_then, whole, nothing}
 use Rattle.pp_tables.proofs.Messages.{value_type_message}
 use Rattle.pp_tables.proofs.Followed.{bare, SameField, Follows, field_followed}
@@ -149,20 +149,20 @@ value_type_placeless = record {
 }
 
 -- payloads without a fault make the changes of their fields, one after another
-payloads_add : (payloads : List PayloadAt) → AllByRecursion IsFaultless payloads → Adds value_type_message (joined payloads) (λ old. value_type_with old (flat_map fields_at payloads))
-payloads_add [] sound = adds_same value_type_message [] (λ old. old) (λ old. value_type_with old []) (λ old. refl) (adds_none value_type_message)
+payloads_add : (payloads : List PayloadAt) → AllByRecursion IsFaultless payloads → Adds value_type_message (joined_payload payloads) (λ old. value_type_after old (flat_map fields_at payloads))
+payloads_add [] sound = adds_same value_type_message [] (λ old. old) (λ old. value_type_after old []) (λ old. refl) (adds_none value_type_message)
 payloads_add (payload ∷ payloads) sound =
     let fields = fields_at payload in
     let others = flat_map fields_at payloads in
-    adds_same value_type_message (payload.bytes ++ joined payloads) (λ old. value_type_with (value_type_with old fields) others) (λ old. value_type_with old (fields ++ others))
+    adds_same value_type_message (payload.bytes ++ joined_payload payloads) (λ old. value_type_after (value_type_after old fields) others) (λ old. value_type_after old (fields ++ others))
     (λ old. value_type_joined old fields others)
-    (adds_then value_type_message payload.bytes (joined payloads) (λ old. value_type_with old fields) (λ old. value_type_with old others)
+    (adds_then value_type_message payload.bytes (joined_payload payloads) (λ old. value_type_after old fields) (λ old. value_type_after old others)
     (fields_add value_type_message value_type_placeless (length payload.bytes) payload.bytes payload.at (omega arith) sound.0) (payloads_add payloads sound.1))
 
 -- so their bytes joined are the message of all their fields
-pub payloads_joined : (payloads : List PayloadAt) (at : ℕ) → AllByRecursion IsFaultless payloads → Makes (joined payloads) at (value_type_with no_value_type (flat_map fields_at payloads))
+pub payloads_joined : (payloads : List PayloadAt) (at : ℕ) → AllByRecursion IsFaultless payloads → Makes (joined_payload payloads) at (value_type_after no_value_type (flat_map fields_at payloads))
 payloads_joined payloads at sound =
-    let w = whole value_type_message (joined payloads) (λ old. value_type_with old (flat_map fields_at payloads)) (payloads_add payloads sound) in
+    let w = whole value_type_message (joined_payload payloads) (λ old. value_type_after old (flat_map fields_at payloads)) (payloads_add payloads sound) in
     record { sound = w.fault at; made = w.value no_value_type at }
 
 -- ---- the period type of a profile
@@ -190,10 +190,10 @@ case_sound true i rest is none sound =
     content_sound i.content i.at (flat_map payloads_in rest) (flat_map fields_in rest) i.number nested sound
 
 -- fields of a profile without a fault have period types without a fault
-items_sound : (items : List Item) (end : Option WireFault) → first_fault profile_rules items end ≡ None → AreSound (all payloads_in 11 items) (all fields_in 11 items)
+items_sound : (items : List Item) (end : Option WireFault) → first_item_fault profile_rules items end ≡ None → AreSound (all payloads_in 11 items) (all fields_in 11 items)
 items_sound [] end none = record { sound = tt; fields = refl }
 items_sound (i ∷ items) end none =
-    let faults = both_none (fault_of profile_rules i) (first_fault profile_rules items end) none in
+    let faults = both_none (fault_of profile_rules i) (first_item_fault profile_rules items end) none in
     case_sound (eqb i.number 11) i (filter (λ item. eqb item.number 11) items) refl faults.0 (items_sound items end faults.1)
 
 -- bytes that are a profile: no fault, and what the fields make
@@ -218,10 +218,10 @@ read_is (b ∷ bytes) p e =
     record { sound = parts.0; is = parts.1 }
 
 -- a profile's period type is the message of all its payloads joined
-pub period_type_joined : (bytes : List ℕ) (p : Profile) (at : ℕ) → read bytes ≡ Ok p → Makes (joined (all payloads_in 11 (fields bytes 0).items)) at p.period_type
+pub period_type_joined : (bytes : List ℕ) (p : Profile) (at : ℕ) → read bytes ≡ Ok p → Makes (joined_payload (all payloads_in 11 (fields bytes 0).items)) at p.period_type
 period_type_joined bytes p at e =
     let r = read_is bytes p e in
     let items = (fields bytes 0).items in
     let s = items_sound items (fields bytes 0).fault r.sound in
     let m = payloads_joined (all payloads_in 11 items) at s.sound in
-    record { sound = m.sound; made = m.made ∙ ap (value_type_with no_value_type) s.fields ∙ ap (λ (q : Profile). q.period_type) r.is }
+    record { sound = m.sound; made = m.made ∙ ap (value_type_after no_value_type) s.fields ∙ ap (λ (q : Profile). q.period_type) r.is }

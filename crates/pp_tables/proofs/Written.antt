@@ -14,7 +14,7 @@ use Rattle.pp_model.specs.Rules.{begins_empty, zero_unless, NoRuleFails}
 use Rattle.pp_tables.specs.declared.refusal.ReadRefusal.TheVariants as refusal
 use Rattle.pp_tables.specs.Message.{fault_in, walk_fault}
 use Rattle.pp_tables.specs.Select.{signed}
-use Rattle.pp_tables.specs.Tables.{no_value_type, no_sample, no_mapping, no_location, no_function, profile_rules, no_profile, profile_with}
+use Rattle.pp_tables.specs.Tables.{no_value_type, no_sample, no_mapping, no_location, no_function, profile_rules, no_profile, profile_after}
 use Rattle.pp_tables.specs.Takes.{profile_put}
 use Rattle.pp_tables.specs.Filling.{profile_none, profile_more}
 use Rattle.pp_tables.specs.Read.{is_gzip, or_one_empty, profile_of, unless, read_message, read}
@@ -24,7 +24,7 @@ use Rattle.pp_tables.proofs.Adds.{Message, Adds, Whole, adds_same, adds_none, ad
 use Rattle.pp_tables.proofs.Messages.{front, back, unsigned_below, ints_below, int_back, ints_back, value_type_message, value_type_change, value_type_whole, value_type_back, sample_message, sample_change, sample_whole, sample_back, mapping_message, mapping_change, mapping_whole, mapping_back, location_message, location_change, location_whole, location_back, function_message, function_change, function_whole, function_back}
 
 abbrev profile_message : Message Profile
-profile_message = record { rules = profile_rules; put = profile_put; filled = profile_with; none = profile_none; more = profile_more }
+profile_message = record { rules = profile_rules; put = profile_put; filled = profile_after; none = profile_none; more = profile_more }
 
 -- nothing is asked of a text
 abbrev IsAny : List ℕ → Type 0
@@ -175,10 +175,10 @@ not_true : (b : Bool) → (b ≡ true → ⊥) → b ≡ false
 not_true true h = absurd (h refl)
 not_true false h = refl
 
-nothing_read : (p : Profile) (bytes : List ℕ) → bytes ≡ [] → profile_with no_profile (fields bytes 0).items ≡ p → zero_unless (begins_empty p.text) ≡ None → ⊥
+nothing_read : (p : Profile) (bytes : List ℕ) → bytes ≡ [] → profile_after no_profile (fields bytes 0).items ≡ p → zero_unless (begins_empty p.text) ≡ None → ⊥
 unfolding walk_in
 nothing_read p bytes none filled sound =
-    let empty : profile_with no_profile (fields [] 0).items ≡ p = subst (λ (b : List ℕ). profile_with no_profile (fields b 0).items ≡ p) none filled in
+    let empty : profile_after no_profile (fields [] 0).items ≡ p = subst (λ (b : List ℕ). profile_after no_profile (fields b 0).items ≡ p) none filled in
     some_text p.text sound (sym (ap (λ (q : Profile). q.text) empty))
 
 read_whole : (bytes : List ℕ) (p : Profile) → (bytes ≡ [] → ⊥) → fault_in profile_rules bytes 0 ≡ None → profile_of (fields bytes 0).items ≡ p → read bytes ≡ Ok p
@@ -191,6 +191,6 @@ read_whole (b ∷ bytes) p some sound is =
 pub written_again : (p : Profile) → NoRuleFails p → ProfileFits p → length (encode p) < 2 ^ 64 → read (encode p) ≡ Ok p
 written_again p valid fits short =
     let w = profile_whole p fits short in
-    let filled : profile_with no_profile (fields (encode p) 0).items ≡ p = w.value no_profile 0 ∙ profile_back p fits in
+    let filled : profile_after no_profile (fields (encode p) 0).items ≡ p = w.value no_profile 0 ∙ profile_back p fits in
     let is : profile_of (fields (encode p) 0).items ≡ p = ap (λ (q : Profile). record q { text = or_one_empty q.text }) filled ∙ kept p valid.text_zero in
     read_whole (encode p) p (λ e. nothing_read p (encode p) e filled valid.text_zero) (w.fault 0) is

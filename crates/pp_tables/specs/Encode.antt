@@ -1,4 +1,5 @@
--- The canonical bytes of a profile: fields in the order of their numbers, without scalars that are 0 or false.
+-- The canonical bytes of a profile: fields in the order of their numbers, without scalars that are
+-- 0 or false.
 use Rattle.std.specs.Prelude.{ℕ, ℤ, Bool, ◌&&◌, ◌==◌, List, [], ◌++◌, map, if◌then◌else◌}
 use Rattle.std.specs.List.{flat_map}
 use Rattle.std.specs.Int.{w64, cast_unsigned}

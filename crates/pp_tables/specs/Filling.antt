@@ -14,7 +14,7 @@ use Rattle.pp_model.specs.declared.profile.Location.{Location}
 use Rattle.pp_model.specs.declared.profile.Function.{Function}
 use Rattle.pp_model.specs.declared.profile.Profile.{Profile}
 use Rattle.pp_tables.specs.Select.{all, last_or, uints_in, ints_in, bools_in, uint_list_in, int_list_in, texts_in, messages_in, fields_in}
-use Rattle.pp_tables.specs.Tables.{value_type_with, no_value_type, label_with, no_label, sample_with, no_sample, mapping_with, no_mapping, line_with, no_line, location_with, no_location, function_with, no_function, profile_with}
+use Rattle.pp_tables.specs.Tables.{value_type_after, no_value_type, label_after, no_label, sample_after, no_sample, mapping_after, no_mapping, line_after, no_line, location_after, no_location, function_after, no_function, profile_after}
 use Rattle.pp_tables.specs.Takes.{set_by, add_by, value_type_put, label_put, sample_put, mapping_put, line_put, location_put, function_put, profile_put}
 
 last_or-append : {A : Type 0} (x : A) (ys zs : List A) → last_or (last_or x ys) zs
@@ -46,8 +46,8 @@ add_more read n i items xs =
     add_case (eqb i.number n) read i (filter (λ item. eqb item.number n) items) xs
 
 -- the same of a Label
-pub label_more : (m : Label) (i : Item) (items : List Item) → label_with (label_put m i) items
-    ≡ label_with m (i ∷ items)
+pub label_more : (m : Label) (i : Item) (items : List Item) → label_after (label_put m i) items
+    ≡ label_after m (i ∷ items)
 label_more m i items =
     cc (
       set_more ints_in 1 i items m.key,
@@ -57,22 +57,22 @@ label_more m i items =
     )
 
 -- no field changes no Sample
-pub sample_none : (m : Sample) → sample_with m [] ≡ m
+pub sample_none : (m : Sample) → sample_after m [] ≡ m
 sample_none m = rw (append-nil m.location_id, append-nil m.value, append-nil m.label) refl
 
 -- the same of a Sample
-pub sample_more : (m : Sample) (i : Item) (items : List Item) → sample_with (sample_put m i) items
-    ≡ sample_with m (i ∷ items)
+pub sample_more : (m : Sample) (i : Item) (items : List Item) → sample_after (sample_put m i) items
+    ≡ sample_after m (i ∷ items)
 sample_more m i items =
     cc (
       add_more uint_list_in 1 i items m.location_id,
       add_more int_list_in 2 i items m.value,
-      add_more (messages_in (label_with no_label)) 3 i items m.label,
+      add_more (messages_in (label_after no_label)) 3 i items m.label,
     )
 
 -- the same of a Mapping
 pub mapping_more : (m : Mapping) (i : Item) (items : List Item)
-    → mapping_with (mapping_put m i) items ≡ mapping_with m (i ∷ items)
+    → mapping_after (mapping_put m i) items ≡ mapping_after m (i ∷ items)
 mapping_more m i items =
     cc (
       set_more uints_in 1 i items m.id,
@@ -88,8 +88,8 @@ mapping_more m i items =
     )
 
 -- the same of a Line
-pub line_more : (m : Line) (i : Item) (items : List Item) → line_with (line_put m i) items
-    ≡ line_with m (i ∷ items)
+pub line_more : (m : Line) (i : Item) (items : List Item) → line_after (line_put m i) items
+    ≡ line_after m (i ∷ items)
 line_more m i items =
     cc (
       set_more uints_in 1 i items m.function_id,
@@ -98,24 +98,24 @@ line_more m i items =
     )
 
 -- no field changes no Location
-pub location_none : (m : Location) → location_with m [] ≡ m
+pub location_none : (m : Location) → location_after m [] ≡ m
 location_none m = rw (append-nil m.line) refl
 
 -- the same of a Location
 pub location_more : (m : Location) (i : Item) (items : List Item)
-    → location_with (location_put m i) items ≡ location_with m (i ∷ items)
+    → location_after (location_put m i) items ≡ location_after m (i ∷ items)
 location_more m i items =
     cc (
       set_more uints_in 1 i items m.id,
       set_more uints_in 2 i items m.mapping_id,
       set_more uints_in 3 i items m.address,
-      add_more (messages_in (line_with no_line)) 4 i items m.line,
+      add_more (messages_in (line_after no_line)) 4 i items m.line,
       set_more bools_in 5 i items m.folded,
     )
 
 -- the same of a Function
 pub function_more : (m : Function) (i : Item) (items : List Item)
-    → function_with (function_put m i) items ≡ function_with m (i ∷ items)
+    → function_after (function_put m i) items ≡ function_after m (i ∷ items)
 function_more m i items =
     cc (
       set_more uints_in 1 i items m.id,
@@ -127,7 +127,7 @@ function_more m i items =
 
 -- the same of a ValueType
 pub value_type_more : (m : ValueType) (i : Item) (items : List Item)
-    → value_type_with (value_type_put m i) items ≡ value_type_with m (i ∷ items)
+    → value_type_after (value_type_put m i) items ≡ value_type_after m (i ∷ items)
 value_type_more m i items =
     cc (set_more ints_in 1 i items m.kind, set_more ints_in 2 i items m.unit)
 
@@ -140,7 +140,7 @@ all-append read n xs ys =
 
 -- payloads one after another are the fields one after another
 pub value_type_joined : (m : ValueType) (xs ys : List Item)
-    → value_type_with (value_type_with m xs) ys ≡ value_type_with m (xs ++ ys)
+    → value_type_after (value_type_after m xs) ys ≡ value_type_after m (xs ++ ys)
 value_type_joined m xs ys =
     cc (
       last_or-append m.kind (all ints_in 1 xs) (all ints_in 1 ys),
@@ -150,19 +150,19 @@ value_type_joined m xs ys =
     )
 
 period_case : (b : Bool) (i : Item) (rest : List Item) (m : ValueType)
-    → value_type_with (cond b (value_type_with m (fields_in i)) m) (flat_map fields_in rest)
-    ≡ value_type_with m (flat_map fields_in (cond b (i ∷ rest) rest))
+    → value_type_after (cond b (value_type_after m (fields_in i)) m) (flat_map fields_in rest)
+    ≡ value_type_after m (flat_map fields_in (cond b (i ∷ rest) rest))
 period_case true i rest m = value_type_joined m (fields_in i) (flat_map fields_in rest)
 period_case false i rest m = refl
 
 period_more : (i : Item) (items : List Item) (m : ValueType)
-    → value_type_with (cond (eqb i.number 11) (value_type_with m (fields_in i)) m)
-    (all fields_in 11 items) ≡ value_type_with m (all fields_in 11 (i ∷ items))
+    → value_type_after (cond (eqb i.number 11) (value_type_after m (fields_in i)) m)
+    (all fields_in 11 items) ≡ value_type_after m (all fields_in 11 (i ∷ items))
 period_more i items m =
     period_case (eqb i.number 11) i (filter (λ item. eqb item.number 11) items) m
 
 -- no field changes no Profile
-pub profile_none : (m : Profile) → profile_with m [] ≡ m
+pub profile_none : (m : Profile) → profile_after m [] ≡ m
 profile_none m =
     rw (
       append-nil m.sample_type,
@@ -176,14 +176,14 @@ profile_none m =
 
 -- the same of a Profile
 pub profile_more : (m : Profile) (i : Item) (items : List Item)
-    → profile_with (profile_put m i) items ≡ profile_with m (i ∷ items)
+    → profile_after (profile_put m i) items ≡ profile_after m (i ∷ items)
 profile_more m i items =
     cc (
-      add_more (messages_in (value_type_with no_value_type)) 1 i items m.sample_type,
-      add_more (messages_in (sample_with no_sample)) 2 i items m.sample,
-      add_more (messages_in (mapping_with no_mapping)) 3 i items m.mapping,
-      add_more (messages_in (location_with no_location)) 4 i items m.location,
-      add_more (messages_in (function_with no_function)) 5 i items m.function,
+      add_more (messages_in (value_type_after no_value_type)) 1 i items m.sample_type,
+      add_more (messages_in (sample_after no_sample)) 2 i items m.sample,
+      add_more (messages_in (mapping_after no_mapping)) 3 i items m.mapping,
+      add_more (messages_in (location_after no_location)) 4 i items m.location,
+      add_more (messages_in (function_after no_function)) 5 i items m.function,
       add_more texts_in 6 i items m.text,
       set_more ints_in 7 i items m.drop_frames,
       set_more ints_in 8 i items m.keep_frames,

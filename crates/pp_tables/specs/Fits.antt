@@ -1,4 +1,5 @@
--- Profiles whose numbers lie in their types: 64 bits, signed or not. A profile in memory is such a one.
+-- Profiles whose numbers lie in their types: 64 bits, signed or not. A profile in memory is such a
+-- one.
 use Rattle.std.specs.Prelude.{ℕ, ◌^◌, ◌<◌, ℤ, FitsSigned}
 use Rattle.std.specs.List.{AllByRecursion}
 use Rattle.std.specs.Int.{w64}

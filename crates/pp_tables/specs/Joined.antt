@@ -5,7 +5,7 @@ use Rattle.pp_wire.specs.Fields.{Item, fields}
 use Rattle.pp_model.specs.declared.profile.ValueType.{ValueType}
 use Rattle.pp_tables.specs.Message.{fault_in}
 use Rattle.pp_tables.specs.Select.{of_payload}
-use Rattle.pp_tables.specs.Tables.{value_type_rules, no_value_type, value_type_with}
+use Rattle.pp_tables.specs.Tables.{value_type_rules, no_value_type, value_type_after}
 
 -- the payload of a field, and the place of its first byte
 pub record PayloadAt : Type 0 where
@@ -18,8 +18,8 @@ payloads_in item =
     of_payload (λ bytes place. record { bytes = bytes; at = place } ∷ []) item.content
 
 -- all bytes, one payload after another
-abbrev pub joined : List PayloadAt → List ℕ
-joined payloads = flat_map (λ payload. payload.bytes) payloads
+abbrev pub joined_payload : List PayloadAt → List ℕ
+joined_payload payloads = flat_map (λ payload. payload.bytes) payloads
 
 -- the fields of a payload, by itself and at its own place
 abbrev pub fields_at : PayloadAt → List Item
@@ -32,4 +32,4 @@ IsFaultless payload = fault_in value_type_rules payload.bytes payload.at ≡ Non
 -- bytes at a place, read as one message, have no fault and make that value type
 pub record Makes (bytes : List ℕ) (at : ℕ) (v : ValueType) : Type 0 where
   pub sound : fault_in value_type_rules bytes at ≡ None
-  pub made : value_type_with no_value_type (fields bytes at).items ≡ v
+  pub made : value_type_after no_value_type (fields bytes at).items ≡ v

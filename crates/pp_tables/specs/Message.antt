@@ -5,8 +5,8 @@ use Rattle.pp_wire.specs.declared.fault.WireFault.{WireFault}
 use Rattle.pp_wire.specs.Walk.{Walk}
 use Rattle.pp_wire.specs.Fields.{Content, Varint, Eight, Four, Bytes, Item, fields, numbers}
 
--- What a field of a message is: unknown and skipped, one number, numbers packed or one by one, a run of bytes, or a
--- message, which has faults of its own in a payload at a place.
+-- What a field of a message is: unknown and skipped, one number, numbers packed or one by one, a
+-- run of bytes, or a message, which has faults of its own in a payload at a place.
 pub data Rule : Type 0 where
   Unknown : Rule
   Scalar : Rule
@@ -47,12 +47,12 @@ or_else (Some fault) other = Some fault
 or_else None other = other
 
 -- the first fault of the items in order, or else the one behind them
-abbrev pub first_fault : (ℕ → Rule) → List Item → Option WireFault → Option WireFault
-first_fault rules [] end = end
-first_fault rules (item ∷ items) end = or_else (fault_of rules item) (first_fault rules items end)
+abbrev pub first_item_fault : (ℕ → Rule) → List Item → Option WireFault → Option WireFault
+first_item_fault rules [] end = end
+first_item_fault rules (item ∷ items) end = or_else (fault_of rules item) (first_item_fault rules items end)
 
 abbrev pub walk_fault : (ℕ → Rule) → Walk Item → Option WireFault
-walk_fault rules walk = first_fault rules walk.items walk.fault
+walk_fault rules walk = first_item_fault rules walk.items walk.fault
 
 -- the first fault of a message in bytes of which the first is at the place `base`
 abbrev pub fault_in : (ℕ → Rule) → List ℕ → ℕ → Option WireFault

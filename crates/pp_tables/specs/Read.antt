@@ -6,7 +6,7 @@ use Rattle.pp_model.specs.declared.profile.Profile.{Profile}
 use Rattle.pp_tables.specs.declared.refusal.ReadRefusal.{ReadRefusal}
 use Rattle.pp_tables.specs.declared.refusal.ReadRefusal.TheVariants as refusal
 use Rattle.pp_tables.specs.Message.{fault_in}
-use Rattle.pp_tables.specs.Tables.{profile_rules, no_profile, profile_with}
+use Rattle.pp_tables.specs.Tables.{profile_rules, no_profile, profile_after}
 
 -- the bytes of a gzip file: they begin with 1f 8b
 abbrev pub is_gzip : List ℕ → Bool
@@ -21,7 +21,7 @@ or_one_empty (text ∷ texts) = text ∷ texts
 
 -- the profile that the fields of its message make
 abbrev pub profile_of : List Item → Profile
-profile_of items = let p = profile_with no_profile items in record p { text = or_one_empty p.text }
+profile_of items = let p = profile_after no_profile items in record p { text = or_one_empty p.text }
 
 -- that profile, unless there is a fault
 abbrev pub unless : Option WireFault → Profile → Result Profile ReadRefusal

@@ -13,15 +13,15 @@ use Rattle.pp_model.specs.declared.profile.Profile.{Profile}
 use Rattle.pp_tables.specs.declared.refusal.ReadRefusal.{ReadRefusal}
 use Rattle.pp_tables.specs.declared.refusal.ReadRefusal.TheVariants as refusal
 use Rattle.pp_tables.specs.Select.{last_or, uints_in, ints_in, bools_in, uint_list_in, int_list_in, texts_in, messages_in, fields_in}
-use Rattle.pp_tables.specs.Tables.{no_value_type, value_type_with, no_label, label_with, no_sample, sample_with, no_mapping, mapping_with, no_line, line_with, no_location, location_with, no_function, function_with}
+use Rattle.pp_tables.specs.Tables.{no_value_type, value_type_after, no_label, label_after, no_sample, sample_after, no_mapping, mapping_after, no_line, line_after, no_location, location_after, no_function, function_after}
 
 -- a success comes without a fault and with the fact, a fault is that one, and memory may run out
-abbrev pub Takes : {X : Type 0} → Result X ReadRefusal → Option WireFault → Type 0 → Type 0
-Takes (Ok x) fault P = (fault ≡ None) × P
-Takes (Err refusal.Memory) fault P = ⊤
-Takes (Err (refusal.Wire f)) fault P = fault ≡ Some f
-Takes (Err refusal.Empty) fault P = ⊥
-Takes (Err refusal.Compressed) fault P = ⊥
+abbrev pub TakesField : {X : Type 0} → Result X ReadRefusal → Option WireFault → Type 0 → Type 0
+TakesField (Ok x) fault P = (fault ≡ None) × P
+TakesField (Err refusal.Memory) fault P = ⊤
+TakesField (Err (refusal.Wire f)) fault P = fault ≡ Some f
+TakesField (Err refusal.Empty) fault P = ⊥
+TakesField (Err refusal.Compressed) fault P = ⊥
 
 -- a scalar after one field more
 abbrev pub set_by : {A : Type 0} → (Item → List A) → ℕ → Item → A → A
@@ -50,7 +50,7 @@ abbrev pub sample_put : Sample → Item → Sample
 sample_put old item = record {
   location_id = add_by uint_list_in 1 item old.location_id;
   value = add_by int_list_in 2 item old.value;
-  label = add_by (messages_in (label_with no_label)) 3 item old.label;
+  label = add_by (messages_in (label_after no_label)) 3 item old.label;
 }
 
 -- a Mapping after one field more
@@ -82,7 +82,7 @@ location_put old item = record {
   id = set_by uints_in 1 item old.id;
   mapping_id = set_by uints_in 2 item old.mapping_id;
   address = set_by uints_in 3 item old.address;
-  line = add_by (messages_in (line_with no_line)) 4 item old.line;
+  line = add_by (messages_in (line_after no_line)) 4 item old.line;
   folded = set_by bools_in 5 item old.folded;
 }
 
@@ -99,18 +99,18 @@ function_put old item = record {
 -- a Profile after one field more
 abbrev pub profile_put : Profile → Item → Profile
 profile_put old item = record {
-  sample_type = add_by (messages_in (value_type_with no_value_type)) 1 item old.sample_type;
-  sample = add_by (messages_in (sample_with no_sample)) 2 item old.sample;
-  mapping = add_by (messages_in (mapping_with no_mapping)) 3 item old.mapping;
-  location = add_by (messages_in (location_with no_location)) 4 item old.location;
-  function = add_by (messages_in (function_with no_function)) 5 item old.function;
+  sample_type = add_by (messages_in (value_type_after no_value_type)) 1 item old.sample_type;
+  sample = add_by (messages_in (sample_after no_sample)) 2 item old.sample;
+  mapping = add_by (messages_in (mapping_after no_mapping)) 3 item old.mapping;
+  location = add_by (messages_in (location_after no_location)) 4 item old.location;
+  function = add_by (messages_in (function_after no_function)) 5 item old.function;
   text = add_by texts_in 6 item old.text;
   drop_frames = set_by ints_in 7 item old.drop_frames;
   keep_frames = set_by ints_in 8 item old.keep_frames;
   time_nanos = set_by ints_in 9 item old.time_nanos;
   duration_nanos = set_by ints_in 10 item old.duration_nanos;
   period_type =
-      if item.number == 11 then value_type_with old.period_type (fields_in item)
+      if item.number == 11 then value_type_after old.period_type (fields_in item)
       else old.period_type;
   period = set_by ints_in 12 item old.period;
   comment = add_by int_list_in 13 item old.comment;

@@ -10,7 +10,7 @@ use std::alloc::Global;
 
 impl Message for Mapping {
     ghost use Rattle.std.specs.Prelude.{refl};
-    ghost use Rattle.pp_tables.specs.Tables.{mapping_rules, no_mapping, mapping_with};
+    ghost use Rattle.pp_tables.specs.Tables.{mapping_rules, no_mapping, mapping_after};
     ghost use Rattle.pp_tables.specs.Takes.{mapping_put};
     ghost use Rattle.pp_tables.specs.Filling.{mapping_more};
 
@@ -20,7 +20,7 @@ impl Message for Mapping {
 
     ghost put = { mapping_put };
 
-    ghost filled = { mapping_with };
+    ghost filled = { mapping_after };
 
     fn none(_: Global) -> Self {
         Mapping {
@@ -70,7 +70,7 @@ impl Message for Mapping {
 
 impl Message for Function {
     ghost use Rattle.std.specs.Prelude.{refl};
-    ghost use Rattle.pp_tables.specs.Tables.{function_rules, no_function, function_with};
+    ghost use Rattle.pp_tables.specs.Tables.{function_rules, no_function, function_after};
     ghost use Rattle.pp_tables.specs.Takes.{function_put};
     ghost use Rattle.pp_tables.specs.Filling.{function_more};
 
@@ -80,7 +80,7 @@ impl Message for Function {
 
     ghost put = { function_put };
 
-    ghost filled = { function_with };
+    ghost filled = { function_after };
 
     fn none(_: Global) -> Self {
         Function {
@@ -115,7 +115,7 @@ impl Message for Function {
 
 impl Message for Line {
     ghost use Rattle.std.specs.Prelude.{refl};
-    ghost use Rattle.pp_tables.specs.Tables.{line_rules, no_line, line_with};
+    ghost use Rattle.pp_tables.specs.Tables.{line_rules, no_line, line_after};
     ghost use Rattle.pp_tables.specs.Takes.{line_put};
     ghost use Rattle.pp_tables.specs.Filling.{line_more};
 
@@ -125,7 +125,7 @@ impl Message for Line {
 
     ghost put = { line_put };
 
-    ghost filled = { line_with };
+    ghost filled = { line_after };
 
     fn none(_: Global) -> Self {
         Line {
@@ -153,7 +153,7 @@ impl Message for Line {
 }
 
 impl Message for Location {
-    ghost use Rattle.pp_tables.specs.Tables.{location_rules, no_location, location_with};
+    ghost use Rattle.pp_tables.specs.Tables.{location_rules, no_location, location_after};
     ghost use Rattle.pp_tables.specs.Takes.{location_put};
     ghost use Rattle.pp_tables.specs.Filling.{location_none, location_more};
 
@@ -163,7 +163,7 @@ impl Message for Location {
 
     ghost put = { location_put };
 
-    ghost filled = { location_with };
+    ghost filled = { location_after };
 
     fn none(alloc: Global) -> Self {
         Location {

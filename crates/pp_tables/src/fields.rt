@@ -3,7 +3,7 @@ ghost use Rattle.std.specs.Prelude.{◌≡◌, ◌+◌, ◌<◌, ◌^◌, ◌++�
 ghost use Rattle.pp_wire.specs.Fields.{Varint, Bytes, item, content_of, numbers};
 ghost use Rattle.pp_tables.specs.Message.{Scalar, Numbers, Run, Nested, fault_by, fault_in};
 ghost use Rattle.pp_tables.specs.Select.{last_or, uints_in, ints_in, bools_in, uint_list_in, int_list_in, texts_in, messages_in, fields_in, signed};
-ghost use Rattle.pp_tables.specs.Takes.{Takes};
+ghost use Rattle.pp_tables.specs.Takes.{TakesField};
 
 use crate::ReadRefusal;
 use crate::message::{Message, fill};
@@ -32,7 +32,7 @@ fn scalar_of(field: &Field<'_>) -> Result<u64, WireFault>
 }
 
 pub(crate) fn set_uint(number: &mut u64, field: &Field<'_>) -> Result<(), ReadRefusal>
-    ensures { Takes result (fault_by Scalar (content_of field.now.payload) field.now.at)
+    ensures { TakesField result (fault_by Scalar (content_of field.now.payload) field.now.at)
         (number.new ≡ last_or number.old (uints_in (item field.now))) }
 {
     *number = scalar_of(field)?;
@@ -40,7 +40,7 @@ pub(crate) fn set_uint(number: &mut u64, field: &Field<'_>) -> Result<(), ReadRe
 }
 
 pub(crate) fn set_int(number: &mut i64, field: &Field<'_>) -> Result<(), ReadRefusal>
-    ensures { Takes result (fault_by Scalar (content_of field.now.payload) field.now.at)
+    ensures { TakesField result (fault_by Scalar (content_of field.now.payload) field.now.at)
         (number.new ≡ last_or number.old (ints_in (item field.now))) }
 {
     *number = scalar_of(field)?.cast_signed();
@@ -48,7 +48,7 @@ pub(crate) fn set_int(number: &mut i64, field: &Field<'_>) -> Result<(), ReadRef
 }
 
 pub(crate) fn set_bool(flag: &mut bool, field: &Field<'_>) -> Result<(), ReadRefusal>
-    ensures { Takes result (fault_by Scalar (content_of field.now.payload) field.now.at)
+    ensures { TakesField result (fault_by Scalar (content_of field.now.payload) field.now.at)
         (flag.new ≡ last_or flag.old (bools_in (item field.now))) }
 {
     *flag = scalar_of(field)? != 0;
@@ -72,7 +72,7 @@ pub(crate) fn push_text(
     list: &mut List<Text>,
     field: &Field<'_>,
 ) -> Result<(), ReadRefusal>
-    ensures { Takes result (fault_by Run (content_of field.now.payload) field.now.at)
+    ensures { TakesField result (fault_by Run (content_of field.now.payload) field.now.at)
         (list.new ≡ list.old ++ texts_in (item field.now)) }
 {
     let (bytes, _) = run_of(field)?;
@@ -85,7 +85,7 @@ pub(crate) fn fill_from<M: Message>(
     message: &mut M,
     field: &Field<'_>,
 ) -> Result<(), ReadRefusal>
-    ensures { Takes result
+    ensures { TakesField result
         (fault_by (Nested (fault_in M.rules)) (content_of field.now.payload) field.now.at)
         (message.new ≡ M.filled message.old (fields_in (item field.now))) }
 {
@@ -98,7 +98,7 @@ pub(crate) fn push_message<M: Message>(
     list: &mut List<M>,
     field: &Field<'_>,
 ) -> Result<(), ReadRefusal>
-    ensures { Takes result
+    ensures { TakesField result
         (fault_by (Nested (fault_in M.rules)) (content_of field.now.payload) field.now.at)
         (list.new ≡ list.old ++ messages_in (M.filled M.empty) (item field.now)) }
 {
@@ -110,7 +110,7 @@ pub(crate) fn push_message<M: Message>(
 }
 
 pub(crate) fn push_uints(list: &mut List<u64>, field: &Field<'_>) -> Result<(), ReadRefusal>
-    ensures { Takes result (fault_by Numbers (content_of field.now.payload) field.now.at)
+    ensures { TakesField result (fault_by Numbers (content_of field.now.payload) field.now.at)
         (list.new ≡ list.old ++ uint_list_in (item field.now)) }
 {
     match field.payload {
@@ -121,7 +121,7 @@ pub(crate) fn push_uints(list: &mut List<u64>, field: &Field<'_>) -> Result<(), 
 }
 
 fn push_packed_uints(list: &mut List<u64>, bytes: &[u8], at: u64) -> Result<(), ReadRefusal>
-    ensures { Takes result (numbers bytes.now at).fault
+    ensures { TakesField result (numbers bytes.now at).fault
         (list.new ≡ list.old ++ (numbers bytes.now at).items) }
 {
     let mut packed = Packed::new(bytes, at);
@@ -132,7 +132,7 @@ fn push_packed_uints(list: &mut List<u64>, bytes: &[u8], at: u64) -> Result<(), 
 }
 
 pub(crate) fn push_ints(list: &mut List<i64>, field: &Field<'_>) -> Result<(), ReadRefusal>
-    ensures { Takes result (fault_by Numbers (content_of field.now.payload) field.now.at)
+    ensures { TakesField result (fault_by Numbers (content_of field.now.payload) field.now.at)
         (list.new ≡ list.old ++ int_list_in (item field.now)) }
 {
     match field.payload {
@@ -143,7 +143,7 @@ pub(crate) fn push_ints(list: &mut List<i64>, field: &Field<'_>) -> Result<(), R
 }
 
 fn push_packed_ints(list: &mut List<i64>, bytes: &[u8], at: u64) -> Result<(), ReadRefusal>
-    ensures { Takes result (numbers bytes.now at).fault
+    ensures { TakesField result (numbers bytes.now at).fault
         (list.new ≡ list.old ++ map signed (numbers bytes.now at).items) }
 {
     let mut packed = Packed::new(bytes, at);

@@ -12,12 +12,7 @@ mod sample;
 mod spelled;
 mod writing;
 
-pub use laws::{payloads_are_joined, written_is_read};
+pub use laws::{payloads_are_joined, read_fits, written_is_read};
 pub use reading::read_profile;
 pub use refusal::ReadRefusal;
 pub use writing::write_profile;
-
-#[cfg(test)]
-mod fixtures;
-#[cfg(test)]
-mod tests;

@@ -2,7 +2,7 @@
 ghost use Rattle.std.specs.Prelude.{◌≡◌, ◌+◌, ◌<◌, ◌^◌, length};
 ghost use Rattle.pp_wire.specs.Fields.{item, fields};
 ghost use Rattle.pp_tables.specs.Message.{fault_of, fault_in};
-ghost use Rattle.pp_tables.specs.Takes.{Takes};
+ghost use Rattle.pp_tables.specs.Takes.{TakesField};
 
 use crate::ReadRefusal;
 use pp_wire::{Field, Walker};
@@ -12,7 +12,7 @@ pub(crate) trait Message: Drop {
     ghost use Rattle.std.specs.Prelude.{◌≡◌, ℕ, List, [], ◌∷◌};
     ghost use Rattle.pp_wire.specs.Fields.{Item, item};
     ghost use Rattle.pp_tables.specs.Message.{Rule, fault_of};
-    ghost use Rattle.pp_tables.specs.Takes.{Takes};
+    ghost use Rattle.pp_tables.specs.Takes.{TakesField};
 
     /// Of which rule the fields of each number are.
     ghost rules: { ℕ → Rule };
@@ -30,7 +30,7 @@ pub(crate) trait Message: Drop {
 
     /// Takes the next field.
     fn take(&mut self, alloc: Global, field: &Field<'_>) -> Result<(), ReadRefusal>
-        ensures { Takes result (fault_of rules (item field.now))
+        ensures { TakesField result (fault_of rules (item field.now))
             (self.new ≡ put self.old (item field.now)) };
 
     ghost filled_none: { (m : Self) → filled m [] ≡ m };
@@ -47,7 +47,7 @@ pub(crate) fn fill<M: Message>(
     at: u64,
 ) -> Result<(), ReadRefusal>
     requires { at + length bytes.now < 2 ^ 64 }
-    ensures { Takes result (fault_in M.rules bytes.now at)
+    ensures { TakesField result (fault_in M.rules bytes.now at)
         (message.new ≡ M.filled message.old (fields bytes.now at).items) }
 {
     let mut walker = Walker::new(bytes, at);

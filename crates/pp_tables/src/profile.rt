@@ -10,7 +10,7 @@ use std::alloc::Global;
 
 impl Message for ValueType {
     ghost use Rattle.std.specs.Prelude.{refl};
-    ghost use Rattle.pp_tables.specs.Tables.{value_type_rules, no_value_type, value_type_with};
+    ghost use Rattle.pp_tables.specs.Tables.{value_type_rules, no_value_type, value_type_after};
     ghost use Rattle.pp_tables.specs.Takes.{value_type_put};
     ghost use Rattle.pp_tables.specs.Filling.{value_type_more};
 
@@ -20,7 +20,7 @@ impl Message for ValueType {
 
     ghost put = { value_type_put };
 
-    ghost filled = { value_type_with };
+    ghost filled = { value_type_after };
 
     fn none(_: Global) -> Self {
         ValueType { kind: 0, unit: 0 }
@@ -42,7 +42,7 @@ impl Message for ValueType {
 }
 
 impl Message for Profile {
-    ghost use Rattle.pp_tables.specs.Tables.{profile_rules, no_profile, profile_with};
+    ghost use Rattle.pp_tables.specs.Tables.{profile_rules, no_profile, profile_after};
     ghost use Rattle.pp_tables.specs.Takes.{profile_put};
     ghost use Rattle.pp_tables.specs.Filling.{profile_none, profile_more};
 
@@ -52,7 +52,7 @@ impl Message for Profile {
 
     ghost put = { profile_put };
 
-    ghost filled = { profile_with };
+    ghost filled = { profile_after };
 
     fn none(alloc: Global) -> Self {
         Profile {

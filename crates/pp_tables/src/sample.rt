@@ -11,7 +11,7 @@ use std::alloc::Global;
 impl Message for Label {
     ghost use Rattle.std.specs.Prelude.{refl};
     ghost use Rattle.pp_tables.specs.Filling.{label_more};
-    ghost use Rattle.pp_tables.specs.Tables.{label_rules, no_label, label_with};
+    ghost use Rattle.pp_tables.specs.Tables.{label_rules, no_label, label_after};
     ghost use Rattle.pp_tables.specs.Takes.{label_put};
 
     ghost rules = { label_rules };
@@ -20,7 +20,7 @@ impl Message for Label {
 
     ghost put = { label_put };
 
-    ghost filled = { label_with };
+    ghost filled = { label_after };
 
     fn none(_: Global) -> Self {
         Label {
@@ -52,7 +52,7 @@ impl Message for Label {
 
 impl Message for Sample {
     ghost use Rattle.pp_tables.specs.Filling.{sample_none, sample_more};
-    ghost use Rattle.pp_tables.specs.Tables.{sample_rules, no_sample, sample_with};
+    ghost use Rattle.pp_tables.specs.Tables.{sample_rules, no_sample, sample_after};
     ghost use Rattle.pp_tables.specs.Takes.{sample_put};
 
     ghost rules = { sample_rules };
@@ -61,7 +61,7 @@ impl Message for Sample {
 
     ghost put = { sample_put };
 
-    ghost filled = { sample_with };
+    ghost filled = { sample_after };
 
     fn none(alloc: Global) -> Self {
         Sample {

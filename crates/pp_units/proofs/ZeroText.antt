@@ -8,7 +8,7 @@ use Rattle.std.proofs.Math.Nat.{div-le_self}
 use Rattle.std.proofs.lemmas.Nat.{mul-le}
 use Rattle.pp_units.specs.Rounded.{nearest, rounded}
 use Rattle.pp_units.specs.Shown.{Shown}
-use Rattle.pp_units.specs.Numbers.{decimals, shortened, signed, number_text}
+use Rattle.pp_units.specs.Numbers.{decimals, shortened, signed_text, number_text}
 
 -- the whole part is 0
 whole_zero : (whole : ℕ) → whole < 10 ^ 64 → decimal whole ≡ codes "0" → whole ≡ 0
@@ -28,13 +28,13 @@ by_tail n false t small e =
 minus_first : (xs ys : List ℕ) → 45 ∷ xs ≡ 48 ∷ ys → ⊥
 minus_first xs ys e = absurd (omega (arith, ap (λ (text : List ℕ). get_or text 0 0) e))
 
-zero_from_text : (z : ℤ) → unsigned_abs z / 100 < 10 ^ 64 → signed shortened z ≡ codes "0" → z ≡ pos 0
+zero_from_text : (z : ℤ) → unsigned_abs z / 100 < 10 ^ 64 → signed_text shortened z ≡ codes "0" → z ≡ pos 0
 zero_from_text (pos n) small e = ap pos (by_tail n (n % 100 == 0) refl small e)
 zero_from_text (negsuc n) small e = absurd (minus_first (shortened (suc n)) [] e)
 
-zero_text : (z : ℤ) → z ≡ pos 0 → signed shortened z ≡ codes "0"
+zero_text : (z : ℤ) → z ≡ pos 0 → signed_text shortened z ≡ codes "0"
 unfolding digits
-zero_text z e = ap (signed shortened) e
+zero_text z e = ap (signed_text shortened) e
 
 -- a rounded number is no greater than this
 size_le : (h : ℕ) → unsigned_abs (neg_ℤ (pos h)) ≡ h

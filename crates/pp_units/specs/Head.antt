@@ -1,13 +1,9 @@
 -- The first three lines of a report's head.
-use Rattle.std.specs.Prelude.{ℕ, ℤ, pos, unsigned_abs, int_lt, Bool, List, [], ◌∷◌, ◌++◌, ◌==◌, codes, if◌then◌else◌}
-use Rattle.std.specs.List.{after_last}
+use Rattle.std.specs.Prelude.{ℕ, ℤ, pos, unsigned_abs, int_lt, List, [], ◌∷◌, ◌++◌, codes, if◌then◌else◌}
+use Rattle.pp_base.specs.Paths.{last_name}
 use Rattle.pp_units.specs.declared.head.Head.{Head}
 use Rattle.pp_units.specs.Shown.{Shown, shown, picked}
 use Rattle.pp_units.specs.Numbers.{value_text}
-
--- a slash parts the names of a path
-abbrev pub is_slash : ℕ → Bool
-is_slash b = b == 47
 
 -- a line of a label and a text, where the text is not empty
 abbrev pub labelled : List ℕ → List ℕ → List ℕ
@@ -28,9 +24,14 @@ abbrev pub duration_line : ℤ → ℕ → Shown → List ℕ
 duration_line duration total unit =
     if int_lt (pos 0) duration then known_duration (unsigned_abs duration) total unit else []
 
--- the lines of the file, the type and the duration, as they apply
-unfoldable pub head_text : Head → List ℕ
-head_text head =
-    labelled (codes "File: ") (after_last is_slash head.file)
-    ++ labelled (codes "Type: ") head.kind
-    ++ duration_line head.duration head.total (shown head.unit)
+-- The lines of the path of a file, of the name of a type, and of a duration in nanoseconds with the
+-- total, which is printed in the unit. Each stands as it applies.
+unfoldable pub head_lines : List ℕ → List ℕ → ℤ → ℕ → Shown → List ℕ
+head_lines file kind duration total unit =
+    labelled (codes "File: ") (last_name file)
+    ++ labelled (codes "Type: ") kind
+    ++ duration_line duration total unit
+
+-- the lines of a head
+abbrev pub head_text : Head → List ℕ
+head_text head = head_lines head.file head.kind head.duration head.total (shown head.unit)

@@ -17,9 +17,9 @@ shortened hundredths =
     decimal (hundredths / 100) ++ (if hundredths % 100 == 0 then [] else decimals hundredths)
 
 -- a minus before the text of a number below 0
-abbrev pub signed : (ℕ → List ℕ) → ℤ → List ℕ
-signed text (pos n) = text n
-signed text (negsuc n) = codes "-" ++ text (suc n)
+abbrev pub signed_text : (ℕ → List ℕ) → ℤ → List ℕ
+signed_text text (pos n) = text n
+signed_text text (negsuc n) = codes "-" ++ text (suc n)
 
 -- a minus, where so many are below 0; no public clause cites it
 abbrev pub sign_text : Bool → ℕ → List ℕ
@@ -27,7 +27,7 @@ sign_text negative n = if negative && nat_lt 0 n then codes "-" else []
 
 -- a value's number in the printed unit, in hundredths, without what stands after it
 unfoldable pub number_text : ℤ → Shown → List ℕ
-number_text value unit = signed shortened (rounded value (100 * unit.from) unit.to)
+number_text value unit = signed_text shortened (rounded value (100 * unit.from) unit.to)
 
 -- what stands after a number: nothing after 0
 abbrev pub suffix_after : List ℕ → List ℕ → List ℕ
@@ -40,7 +40,7 @@ value_text value unit = number_text value unit ++ suffix_after (number_text valu
 -- how much of the total a value is, in hundredths of a percent
 unfoldable pub percent_text : ℤ → ℕ → List ℕ
 percent_text value total =
-    if total == 0 then codes "0%" else signed full (rounded value 10000 total) ++ codes "%"
+    if total == 0 then codes "0%" else signed_text full (rounded value 10000 total) ++ codes "%"
 
 -- a text that ends at the right of so many places; a longer one stands whole
 abbrev pub right_text : ℕ → List ℕ → List ℕ

@@ -2,8 +2,7 @@
 ghost use Rattle.std.specs.Prelude.{◌≡◌, ◌^◌, ◌≤◌, IfSome, option_map};
 ghost use Rattle.pp_units.specs.Fractions.{fraction_of, at_most_one};
 
-use crate::cut::cut_at;
-use crate::digits::number_within;
+use crate::scan::{cut_at, number_within};
 use pp_base::Fraction;
 
 const BILLION: u64 = 1_000_000_000;

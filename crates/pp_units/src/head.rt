@@ -1,14 +1,13 @@
 //! The first lines of a report.
 ghost use Rattle.std.specs.Prelude.{◌≡◌, ◌++◌, pos, OnOk, OnErr};
-ghost use Rattle.std.specs.List.{after_last};
 ghost use Rattle.pp_units.specs.Shown.{shown};
 ghost use Rattle.pp_units.specs.Numbers.{value_text};
-ghost use Rattle.pp_units.specs.Head.{head_text, labelled, known_duration, duration_line, is_slash};
+ghost use Rattle.pp_units.specs.Head.{head_text, labelled, known_duration, duration_line};
 
 use crate::number::write_number;
 use crate::right::put_both;
 use crate::{Small, Unit, pick_unit, suffix_after};
-use pp_base::{Memory, Text};
+use pp_base::{Memory, Text, last_name};
 use std::alloc::Global;
 
 /// What the first lines of a report say.
@@ -27,13 +26,13 @@ pub struct Head {
 }
 
 /// Appends the lines of the file, the type and the duration, each where there is one.
-#[tactic(auto, unfolding(crate::specs::Head::head_text))]
+#[tactic(auto, unfolding(crate::specs::Head::head_lines))]
 pub fn write_head(alloc: Global, head: &Head, out: &mut Text) -> Result<(), Memory>
     ensures ok { OnOk result (out.new ≡ out.old ++ head_text head.now) }
     ensures err { OnErr result (out.new ≡ out.old) }
 {
     let mut lines = Text::new(alloc);
-    put_labelled(b"File: ", name_of(head.file.as_slice()), &mut lines)?;
+    put_labelled(b"File: ", last_name(head.file.as_slice()), &mut lines)?;
     put_labelled(b"Type: ", head.kind.as_slice(), &mut lines)?;
     put_duration(alloc, head, &mut lines)?;
     out.extend(lines.as_slice())
@@ -94,15 +93,4 @@ fn put_size(size: u64, unit: &Unit, lines: &mut Text) -> Result<(), Memory>
     write_number(false, size, unit, &mut number);
     let suffix = suffix_after(number.bytes(), unit);
     put_both(number.bytes(), suffix, lines)
-}
-
-// What stands after the last slash.
-fn name_of(path: &[u8]) -> &[u8]
-    ensures { result.now ≡ after_last is_slash path.now }
-{
-    let mut start = path.len();
-    while start > 0 && path[start - 1] != b'/' {
-        start -= 1;
-    }
-    path.split_at(start).1
 }

@@ -2,7 +2,7 @@
 ghost use Rattle.std.specs.Prelude.{◌≡◌, ◌++◌, take, length, replicate, OnOk, OnErr};
 ghost use Rattle.pp_units.specs.Numbers.{right_text};
 
-use pp_base::{Memory, Text};
+use pp_base::{Memory, Text, whole_or_nothing};
 
 /// Appends the text, after as many spaces as bring it to `width` bytes; a longer text stands whole.
 pub fn put_right(width: usize, text: &[u8], out: &mut Text) -> Result<(), Memory>
@@ -11,7 +11,7 @@ pub fn put_right(width: usize, text: &[u8], out: &mut Text) -> Result<(), Memory
 {
     let start = out.len();
     let put = put_column(width.saturating_sub(text.len()), text, out);
-    or_undone(put, start, out)
+    whole_or_nothing(out, start, put)
 }
 
 /// Appends one text and then another.
@@ -22,7 +22,7 @@ pub fn put_both(first: &[u8], second: &[u8], out: &mut Text) -> Result<(), Memor
     let start = out.len();
     out.extend(first)?;
     let put = out.extend(second);
-    or_undone(put, start, out)
+    whole_or_nothing(out, start, put)
 }
 
 // Without memory the text has gained some of it.
@@ -34,16 +34,4 @@ fn put_column(spaces: usize, text: &[u8], out: &mut Text) -> Result<(), Memory>
         out.extend(b" ")?;
     }
     out.extend(text)
-}
-
-// What was put, or where there was no memory for it the text as it was at its start.
-fn or_undone(put: Result<(), Memory>, start: usize, out: &mut Text) -> Result<(), Memory>
-    ensures same { result ≡ put }
-    ensures ok { OnOk put (out.new ≡ out.old) }
-    ensures err { OnErr put (out.new ≡ take start out.old) }
-{
-    if put.is_err() {
-        out.truncate(start);
-    }
-    put
 }

@@ -4,5 +4,7 @@ pub mod Shrinking
 pub mod Turns
 pub mod Steps
 pub mod Shortest
+pub mod Briefest
 pub mod Again
 pub mod CallerLemmas
+pub mod Ranges

@@ -34,10 +34,10 @@ abbrev pub item : Field → Item
 item field = record { number = field.number; content = content_of field.payload; at = field.at }
 
 -- what a call of a walker gave
-abbrev pub seen : Option (Result Field WireFault) → Option (Result Item WireFault)
-seen None = None
-seen (Some (Ok field)) = Some (Ok (item field))
-seen (Some (Err fault)) = Some (Err fault)
+abbrev pub item_or_fault : Option (Result Field WireFault) → Option (Result Item WireFault)
+item_or_fault None = None
+item_or_fault (Some (Ok field)) = Some (Ok (item field))
+item_or_fault (Some (Err fault)) = Some (Err fault)
 
 -- a tag is `(number << 3) | kind`, and a number is at least 1 and below 2^29
 unfoldable pub number_in : ℕ → Result ℕ WireKind

@@ -4,4 +4,3 @@ pub mod Walk
 pub mod Place
 pub mod Fields
 pub mod Spelling
-pub mod Appends

@@ -10,13 +10,13 @@ pub record Walk (A : Type 0) : Type 0 where
   pub fault : Option WireFault
 
 -- what a call gives of what is left: the next item, the fault, or nothing at the end
-abbrev pub first_of : {A : Type 0} → List A → Option WireFault → Option (Result A WireFault)
-first_of (x ∷ items) fault = Some (Ok x)
-first_of [] (Some fault) = Some (Err fault)
-first_of [] None = None
+abbrev pub next_of : {A : Type 0} → List A → Option WireFault → Option (Result A WireFault)
+next_of (x ∷ items) fault = Some (Ok x)
+next_of [] (Some fault) = Some (Err fault)
+next_of [] None = None
 
 abbrev pub first : {A : Type 0} → Walk A → Option (Result A WireFault)
-first walk = first_of walk.items walk.fault
+first walk = next_of walk.items walk.fault
 
 -- what is left behind the next item
 abbrev pub after : {A : Type 0} → Walk A → Walk A

@@ -76,3 +76,9 @@ pub fn packed_is_read()
     ensures { (list : List ℕ) (at : ℕ) → AllByRecursion (λ n. n < 2 ^ 64) list
         → numbers (flat_map varint_bytes list) at ≡ record { items = list; fault = None } }
 {}
+
+/// No bytes that are read as a number, from the front of some bytes, are fewer than its shortest varint.
+pub fn no_varint_is_shorter()
+    ensures { (bytes rest : List ℕ) (n : ℕ) → AllByRecursion (λ b. b < 256) bytes
+        → varint bytes ≡ Ok (n, rest) → length (varint_bytes n) + length rest ≤ length bytes }
+{}

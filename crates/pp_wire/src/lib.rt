@@ -13,8 +13,8 @@ mod writing;
 pub use fault::{WireFault, WireKind};
 pub use field::{Field, Payload};
 pub use laws::{
-    bytes_are_read, fields_are_read_in_turn, number_is_read, numbers_are_read_in_turn,
-    packed_is_read,
+    bytes_are_read, fields_are_read_in_turn, no_varint_is_shorter, number_is_read,
+    numbers_are_read_in_turn, packed_is_read,
 };
 pub use packed::Packed;
 pub use varint::varint_len;

@@ -2,7 +2,7 @@
 
 ghost use Rattle.std.specs.Prelude.{◌≡◌, ◌+◌, ◌≤◌, ◌<◌, ◌^◌, length};
 ghost use Rattle.pp_wire.specs.Walk.{first, after};
-ghost use Rattle.pp_wire.specs.Fields.{fields, seen};
+ghost use Rattle.pp_wire.specs.Fields.{fields, item_or_fault};
 
 use crate::reading::field_of;
 use crate::{Field, WireFault};
@@ -47,7 +47,7 @@ impl<'a> Walker<'a> {
     /// front of it and answers with its fault from then on. It never answers `WrongKind`, since it does not know which
     /// fields the message may have (`fields_are_read_in_turn`, `no_wrong_kind`).
     pub fn next(&mut self) -> Option<Result<Field<'a>, WireFault>>
-        ensures given { seen result ≡ first self.old }
+        ensures given { item_or_fault result ≡ first self.old }
         ensures left { self.new ≡ after self.old }
     {
         if let Some(fault) = self.fault {

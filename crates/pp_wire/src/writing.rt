@@ -3,10 +3,10 @@
 ghost use Rattle.std.specs.Prelude.{◌≡◌, ◌≤◌, ◌<◌, ◌^◌, ◌++◌, length, take, OnOk, OnErr};
 ghost use Rattle.std.specs.List.{flat_map};
 ghost use Rattle.pp_wire.specs.Spelling.{varint_bytes, tag_bytes, number_field, bytes_field, packed_field};
-ghost use Rattle.pp_wire.specs.Appends.{Grew};
+ghost use Rattle.pp_base.specs.Grew.{Grew};
 
 use crate::varint::{varint_into, varint_len};
-use pp_base::{Memory, Text};
+use pp_base::{Memory, Text, whole_or_nothing};
 
 /// Appends the shortest varint of a number.
 pub fn put_varint(out: &mut Text, n: u64) -> Result<(), Memory>
@@ -58,18 +58,6 @@ pub fn put_packed(out: &mut Text, number: u32, list: &[u64]) -> Result<(), Memor
     let start = out.len();
     let done = append_packed(out, number, list);
     whole_or_nothing(out, start, done)
-}
-
-// On want of memory the text loses what was appended from `start` on.
-fn whole_or_nothing(out: &mut Text, start: usize, done: Result<(), Memory>) -> Result<(), Memory>
-    ensures same { result ≡ done }
-    ensures ok { OnOk result (out.new ≡ out.old) }
-    ensures err { OnErr result (out.new ≡ take start out.old) }
-{
-    if done.is_err() {
-        out.truncate(start);
-    }
-    done
 }
 
 fn append_number(out: &mut Text, number: u32, n: u64) -> Result<(), Memory>

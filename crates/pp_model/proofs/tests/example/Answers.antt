@@ -1,4 +1,5 @@
 use Rattle.std.proofs.Common.{refl}
+use Rattle.pp_model.proofs.RuleLemmas.{no_rule_fails}
 use Rattle.pp_model.proofs.tests.example.Goals as goal
 
 -- no rule fails, as each computes
@@ -19,22 +20,4 @@ claim-requires c =
       c.new-2.ensures,
       c.new.ensures,
     )
-    record {
-      text_zero = refl;
-      header_text = refl;
-      comment_text = refl;
-      type_text = refl;
-      sample_text = refl;
-      mapping_text = refl;
-      function_text = refl;
-      untyped = refl;
-      mapping_zero = refl;
-      mapping_repeat = refl;
-      function_zero = refl;
-      function_repeat = refl;
-      location_zero = refl;
-      location_repeat = refl;
-      location_reference = refl;
-      sample_reference = refl;
-      values = refl;
-    }
+    (no_rule_fails _ refl)

@@ -1,5 +1,5 @@
 use Rattle.std.proofs.Common.{◌≡◌, ℕ, ◌≤◌}
-use Rattle.pp_steal.specs.Reaching.{Rose, InTurn}
+use Rattle.pp_steal.specs.Reaching.{Rose, RoseInTurn}
 use Rattle.pp_steal.proofs.reach.sweep.Given as goal
 
 abbrev pub invariant-loop-step : goal.invariant-loop-step
@@ -10,5 +10,5 @@ invariant-loop-step g l = let start = l.fn.reach in let now = l.reach in record 
   taken : g.R.Reach.taken now ≡ g.R.Reach.taken start;
   empties : (g.R.Reach.empties start ≤ g.R.Reach.empties now) × Rose (g.R.Reach.empties start) (g.R.Reach.empties now);
   misses : (lane : ℕ) → g.R.Reach.misses start lane ≤ g.R.Reach.misses now lane;
-  tried : (lane : ℕ) → InTurn l.lanes l.own l.step lane → Rose (g.R.Reach.misses start lane) (g.R.Reach.misses now lane);
+  round : RoseInTurn l.lanes l.own l.step (g.R.Reach.misses start) (g.R.Reach.misses now);
 }
