@@ -1,0 +1,12 @@
+pub mod Going
+pub mod Looping
+pub mod Turning
+pub mod Leaves
+pub mod Coursing
+pub mod Parting
+pub mod Windows
+pub mod Coming
+pub mod Giving
+pub mod Quiet
+pub mod Closing
+pub mod Rows

@@ -1,0 +1,11 @@
+pub mod Lines
+pub mod Window
+pub mod Reader
+pub mod Finding
+pub mod World
+pub mod Script
+pub mod Went
+pub mod Effects
+pub mod Course
+pub mod Taking
+pub mod Closes

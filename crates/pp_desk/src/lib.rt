@@ -1,0 +1,24 @@
+//! The outside in one hand, and what stages do with it: scripts of steps, how a stage went by its script, the desk that
+//! holds files, input, both outputs and a matcher, and the lines of an input.
+//!
+//! A stage is a function over a desk. Its one clause says that it went as its script, `Went old new script result`. A
+//! script is a definition, of the same name and with the same cases as the stage: it gives a value, or makes a step at
+//! the outside and goes on by the reply.
+#![tactic(auto)]
+
+mod desk;
+mod file_content;
+mod input_line;
+mod line_reader;
+mod objects;
+mod stop;
+#[cfg(test)]
+mod tests;
+mod window;
+
+pub use desk::Desk;
+pub use file_content::FileContent;
+pub use input_line::InputLine;
+pub use line_reader::{INPUT_LIMIT, LINE_LIMIT, LineRead, LineReader};
+pub use objects::Objects;
+pub use stop::Stop;
