@@ -13,7 +13,7 @@ use Rattle.pp_engine.specs.declared.tally.Tally.{Tally}
 use Rattle.pp_engine.proofs.Tallies.{or-true, or-false}
 use Rattle.pp_engine.specs.Sums.{Counted, weighed, sum_where, has, leads, cum, flat}
 use Rattle.pp_engine.specs.Column.{selected}
-use Rattle.pp_engine.specs.Tally.{tally_at, numbers_at, numbered, numbered_all, with_counted, AreNumbersBelow, occurs, IsTallyOf, AreTallies, with_cum, with_sample, absolute}
+use Rattle.pp_engine.specs.Tally.{tally_at, numbers_at, numbered, numbered_all, with_counted, AreNumbersBelow, key_occurs, IsTallyOf, AreTallies, with_cum, with_sample, absolute}
 
 -- the value of a sample that passes, and 0 of another
 abbrev pub part : {K : Type 0} → (List K → Bool) → Counted K → ℤ
@@ -66,12 +66,12 @@ pushed : (p : List ℕ → Bool) (ss : List (Counted ℕ)) (s : Counted ℕ) (b 
     → sum_where p ss +ℤ cond b s.value (pos 0) ≡ sum_where p (ss ++ s ∷ [])
 pushed p ss s b is = ap (λ q. sum_where p ss +ℤ cond q s.value (pos 0)) (sym is) ∙ sym (sum_where_push p ss s)
 
-occurs_push_or : (ss : List (Counted ℕ)) (s : Counted ℕ) (k : ℕ) (b : Bool) → has nat_cmp k s.keys ≡ b → (occurs ss k || b) ≡ occurs (ss ++ s ∷ []) k
+occurs_push_or : (ss : List (Counted ℕ)) (s : Counted ℕ) (k : ℕ) (b : Bool) → has nat_cmp k s.keys ≡ b → (key_occurs ss k || b) ≡ key_occurs (ss ++ s ∷ []) k
 occurs_push_or ss s k b is =
-    ap (λ q. occurs ss k || q) (sym is ∙ sym (or-false (has nat_cmp k s.keys))) ∙ sym (list_any-append (λ (t : Counted ℕ). has nat_cmp k t.keys) ss (s ∷ []))
+    ap (λ q. key_occurs ss k || q) (sym is ∙ sym (or-false (has nat_cmp k s.keys))) ∙ sym (list_any-append (λ (t : Counted ℕ). has nat_cmp k t.keys) ss (s ∷ []))
 
-occurs_push : (ss : List (Counted ℕ)) (s : Counted ℕ) (k : ℕ) → has nat_cmp k s.keys ≡ true → true ≡ occurs (ss ++ s ∷ []) k
-occurs_push ss s k is = sym (or-true (occurs ss k)) ∙ occurs_push_or ss s k true is
+occurs_push : (ss : List (Counted ℕ)) (s : Counted ℕ) (k : ℕ) → has nat_cmp k s.keys ≡ true → true ≡ key_occurs (ss ++ s ∷ []) k
+occurs_push ss s k is = sym (or-true (key_occurs ss k)) ∙ occurs_push_or ss s k true is
 
 cum_last_bound : (v : ℤ) (number : ℕ) (keys : List ℕ) (k : ℕ) (t : Tally) → t.last ≤ number → (with_cum v number keys k t).last ≤ number
 cum_last_bound v number keys k t below =
@@ -108,12 +108,12 @@ tally_after ss s k number t true false has_it leads_it some is = record {
 tally_after ss s k number t false true has_it leads_it some is = record {
   flat = ap (λ z. z +ℤ s.value) is.flat ∙ pushed (leads nat_cmp k) ss s true leads_it;
   cum = is.cum ∙ sym (+ℤ_idr (cum nat_cmp ss k)) ∙ pushed (has nat_cmp k) ss s false has_it;
-  occurs = is.occurs ∙ sym (or-false (occurs ss k)) ∙ occurs_push_or ss s k false has_it;
+  occurs = is.occurs ∙ sym (or-false (key_occurs ss k)) ∙ occurs_push_or ss s k false has_it;
 }
 tally_after ss s k number t false false has_it leads_it some is = record {
   flat = is.flat ∙ sym (+ℤ_idr (flat nat_cmp ss k)) ∙ pushed (leads nat_cmp k) ss s false leads_it;
   cum = is.cum ∙ sym (+ℤ_idr (cum nat_cmp ss k)) ∙ pushed (has nat_cmp k) ss s false has_it;
-  occurs = is.occurs ∙ sym (or-false (occurs ss k)) ∙ occurs_push_or ss s k false has_it;
+  occurs = is.occurs ∙ sym (or-false (key_occurs ss k)) ∙ occurs_push_or ss s k false has_it;
 }
 
 -- a sample of another value adds it to the tallies of its keys

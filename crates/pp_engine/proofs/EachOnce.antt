@@ -11,7 +11,7 @@ use Rattle.std.specs.declared.cmp.Ordering.TheVariants.{Less}
 use Rattle.std.proofs.lemmas.List.Kept.{IsStrictlySortedBy-dedup}
 use Rattle.std.specs.FinMap as finite
 use Rattle.std.specs.FinMap.Entries.{below_all, is_sorted, is_some-find}
-use Rattle.pp_engine.specs.Trim.{each_once, item}
+use Rattle.pp_engine.specs.Trim.{each_once, set_entry}
 
 module _ {K : Type 0} (R : K → K → Ordering) where
   -- no item ties with the one before it
@@ -33,19 +33,19 @@ module _ {K : Type 0} (R : K → K → Ordering) where
   dedup-all (k ∷ ks) a = dedup-apart k ks a
 
   -- what rises strictly is in order as entries of a set
-  below_items : (k : K) (ks : List K) → AllByRecursion (λ y. R k y ≡ Less) ks → below_all R k (map item ks) ≡ true
+  below_items : (k : K) (ks : List K) → AllByRecursion (λ y. R k y ≡ Less) ks → below_all R k (map set_entry ks) ≡ true
   below_items k [] a = refl
-  below_items k (x ∷ xs) a = ap (λ o. is_lt o && below_all R k (map item xs)) a.0 ∙ below_items k xs a.1
+  below_items k (x ∷ xs) a = ap (λ o. is_lt o && below_all R k (map set_entry xs)) a.0 ∙ below_items k xs a.1
 
-  sorted_items : (ks : List K) → IsStrictlySortedBy R ks → is_sorted R (map item ks) ≡ true
+  sorted_items : (ks : List K) → IsStrictlySortedBy R ks → is_sorted R (map set_entry ks) ≡ true
   unfolding IsStrictlySortedBy
   sorted_items [] s = refl
-  sorted_items (k ∷ ks) s = ap (λ b. b && is_sorted R (map item ks)) (below_items k ks s.0) ∙ sorted_items ks s.1
+  sorted_items (k ∷ ks) s = ap (λ b. b && is_sorted R (map set_entry ks)) (below_items k ks s.0) ∙ sorted_items ks s.1
 
   true_holds : (b : Bool) → b ≡ true → T b
   true_holds b e = subst T (sym e) tt
 
-  keys-items : (ks : List K) → map (λ e. e.0) (map item ks) ≡ ks
+  keys-items : (ks : List K) → map (λ e. e.0) (map set_entry ks) ≡ ks
   keys-items [] = refl
   keys-items (k ∷ ks) = ap (λ r. k ∷ r) (keys-items ks)
 
@@ -63,10 +63,10 @@ module _ {K : Type 0} {R : K → K → Ordering} (o : IsTotalOrder R) (same : fi
       → each_once R xs ≡ ks
   ranked xs ks sorted apart members =
       let strict : IsStrictlySortedBy R ks = subst (λ (l : List K). IsStrictlySortedBy R l) (dedup-all R ks apart) (IsStrictlySortedBy-dedup o (λ x y. refl) ks sorted) in
-      let in_order : T (is_sorted R (map item ks)) = true_holds R _ (sorted_items R ks strict) in
-      let set = finite.from_sorted {R = R} (map item ks) in
-      let listed : finite.keys set ≡ ks = ap (map (λ e. e.0)) (finite.entries-from_sorted R (map item ks) in_order) ∙ keys-items R ks in
-      let equal : finite.from_entries {R = R} (map item xs) ≡ set = finite.same_map o same _ _ (λ q. marked R _ _
-      (ap is_some (finite.get-from_entries o (map item xs) q) ∙ is_some-find R q (map item xs) ∙ ap (list_any (eq_by_cmp R q)) (keys-items R xs)
-      ∙ members q ∙ sym (ap (list_any (eq_by_cmp R q)) (keys-items R ks)) ∙ sym (is_some-find R q (map item ks)) ∙ sym (ap is_some (finite.get-from_sorted R (map item ks) q in_order)))) in
+      let in_order : T (is_sorted R (map set_entry ks)) = true_holds R _ (sorted_items R ks strict) in
+      let set = finite.from_sorted {R = R} (map set_entry ks) in
+      let listed : finite.keys set ≡ ks = ap (map (λ e. e.0)) (finite.entries-from_sorted R (map set_entry ks) in_order) ∙ keys-items R ks in
+      let equal : finite.from_entries {R = R} (map set_entry xs) ≡ set = finite.same_map o same _ _ (λ q. marked R _ _
+      (ap is_some (finite.get-from_entries o (map set_entry xs) q) ∙ is_some-find R q (map set_entry xs) ∙ ap (list_any (eq_by_cmp R q)) (keys-items R xs)
+      ∙ members q ∙ sym (ap (list_any (eq_by_cmp R q)) (keys-items R ks)) ∙ sym (is_some-find R q (map set_entry ks)) ∙ sym (ap is_some (finite.get-from_sorted R (map set_entry ks) q in_order)))) in
       ap finite.keys equal ∙ listed

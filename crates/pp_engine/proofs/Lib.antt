@@ -1,6 +1,7 @@
 pub mod Tallies
 pub mod Adding
-pub mod Steps
+pub mod Runs
+pub mod Quiet
 pub mod Joined
 pub mod EachOnce
 pub mod Numbering

@@ -12,7 +12,7 @@ use Rattle.std.proofs.lemmas.List.FromFn.{length-range_with_len, get_or-range_wi
 use Rattle.std.proofs.lemmas.Map.Views.{any-filter_same, list_any-from_Contains}
 use Rattle.std.proofs.lemmas.Cmp.{eq_by_cmp_equiv}
 use Rattle.pp_engine.specs.Sums.{Counted, weighed, all_keys, has, leads, cum, flat}
-use Rattle.pp_engine.specs.Tally.{occurs}
+use Rattle.pp_engine.specs.Tally.{key_occurs}
 
 -- a Bool is known by when it is true
 pub same_bool : (a b : Bool) → (a ≡ true → b ≡ true) → (b ≡ true → a ≡ true) → a ≡ b
@@ -59,7 +59,7 @@ list_any-renamed f p [] = refl
 list_any-renamed f p (x ∷ xs) = ap (λ b. p (f x) || b) (list_any-renamed f p xs)
 
 -- a number stands among all keys where it occurs
-all_keys_occur : (ss : List (Counted ℕ)) (m : ℕ) → list_any (eq_by_cmp nat_cmp m) (all_keys ss) ≡ occurs ss m
+all_keys_occur : (ss : List (Counted ℕ)) (m : ℕ) → list_any (eq_by_cmp nat_cmp m) (all_keys ss) ≡ key_occurs ss m
 all_keys_occur [] m = refl
 all_keys_occur (s ∷ ss) m = list_any-append (eq_by_cmp nat_cmp m) s.keys (all_keys ss) ∙ ap (λ b. has nat_cmp m s.keys || b) (all_keys_occur ss m)
 
@@ -75,10 +75,10 @@ below_n n m (k ∷ ks) below found =
       | false ↦ λ _ later. below_n n m ks (All-tail (λ j. j < n) k ks below) later
     ] refl found
 
-pub occurs_below : (n m : ℕ) (ss : List (Counted ℕ)) → AllBelow n ss → occurs ss m ≡ true → m < n
+pub occurs_below : (n m : ℕ) (ss : List (Counted ℕ)) → AllBelow n ss → key_occurs ss m ≡ true → m < n
 occurs_below n m [] below found = absurd (false≢true found)
 occurs_below n m (s ∷ ss) below found =
-    elim (has nat_cmp m s.keys) as (λ b. has nat_cmp m s.keys ≡ b → (b || occurs ss m) ≡ true → m < n) [
+    elim (has nat_cmp m s.keys) as (λ b. has nat_cmp m s.keys ≡ b → (b || key_occurs ss m) ≡ true → m < n) [
       | true ↦ λ e _. below_n n m s.keys (All-head (λ (t : Counted ℕ). All (λ j. j < n) t.keys) s ss below) e
       | false ↦ λ _ later. occurs_below n m ss (All-tail (λ (t : Counted ℕ). All (λ j. j < n) t.keys) s ss below) later
     ] refl found
@@ -88,7 +88,7 @@ in_range n m below = list_any-from_Contains (eq_by_cmp_equiv nat_cmp_total) m (r
     (m, omega (arith, length-range_with_len 0 n), get_or-range_with_len 0 n m m below ∙ omega arith)
 
 -- the numbers below n that occur
-pub occurring_members : (n m : ℕ) (ss : List (Counted ℕ)) (p : ℕ → Bool) → AllBelow n ss → ((k : ℕ) → p k ≡ occurs ss k)
+pub occurring_members : (n m : ℕ) (ss : List (Counted ℕ)) (p : ℕ → Bool) → AllBelow n ss → ((k : ℕ) → p k ≡ key_occurs ss k)
     → list_any (eq_by_cmp nat_cmp m) (filter p (range_with_len 0 n)) ≡ list_any (eq_by_cmp nat_cmp m) (all_keys ss)
 occurring_members n m ss p below is =
     any-filter_same (eq_by_cmp nat_cmp m) p (p m) (λ k e. ap p (sym (tied_is m k e))) (range_with_len 0 n)

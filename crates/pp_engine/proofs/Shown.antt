@@ -6,7 +6,7 @@ use Rattle.std.specs.Ordering.{nat_cmp, eq_by_cmp, is_lt, is_eq, ordering_then}
 use Rattle.std.specs.Cmp.{IsTotalOrder, nat_cmp_total, tied_itself}
 use Rattle.std.specs.declared.cmp.Ordering.{Ordering}
 use Rattle.std.specs.declared.cmp.Ordering.TheVariants.{Less, Equal, Greater}
-use Rattle.std.specs.FinMap.{IsAntisymmetric, nat_cmp-IsAntisymmetric, int_cmp-IsAntisymmetric, slice_cmp-IsAntisymmetric}
+use Rattle.std.specs.FinMap.{IsAntisymmetric}
 use Rattle.std.proofs.lemmas.Bool.{false≢true, lt-ltb}
 use Rattle.std.proofs.lemmas.Cmp.{on_total, then_total, back_total, eq_by_cmp_equiv}
 use Rattle.std.proofs.lemmas.List.{length-map}
@@ -18,9 +18,9 @@ use Rattle.std.proofs.lemmas.List.Kept.{IsStrictlySortedBy-filter}
 use Rattle.std.proofs.lemmas.List.FromFn.{length-range_with_len, get_or-range_with_len}
 use Rattle.pp_model.specs.Frames.{Written}
 use Rattle.pp_grain.specs.Keys.{key_cmp}
-use Rattle.pp_grain.proofs.CallerLemmas.{key_cmp_total}
+use Rattle.pp_grain.proofs.CallerLemmas.{key_cmp_total, both_equal, key_cmp_ties}
 use Rattle.pp_engine.specs.Sums.{Counted, all_keys, cum, flat}
-use Rattle.pp_engine.specs.Tally.{occurs}
+use Rattle.pp_engine.specs.Tally.{key_occurs}
 use Rattle.pp_engine.specs.Trim.{least_fraction, is_heavy, is_heavy_key, heavy_keys, report_order, light_count}
 use Rattle.pp_model.specs.declared.config.Sort.TheVariants as sorts
 use Rattle.pp_engine.specs.declared.rank.Row.{Row}
@@ -28,41 +28,20 @@ use Rattle.pp_engine.specs.Ranks.{Entry, row_entry, row_key, row_cmp, size_cmp}
 use Rattle.pp_engine.proofs.EachOnce.{Apart, AllApart, ranked}
 use Rattle.pp_engine.proofs.Renaming.{same_bool, renamed, AllBelow, all_keys-renamed, list_any-renamed, same_found, occurring_members, cum-renamed}
 
--- the first of two orders decides, or else both tie
-then_equal : (a b : Ordering) → ordering_then a b ≡ Equal → (a ≡ Equal) × (b ≡ Equal)
-then_equal Less b e = absurd (cc)
-then_equal Equal b e = (refl, e)
-then_equal Greater b e = absurd (cc)
-
 then_assoc : (a b c : Ordering) → ordering_then a (ordering_then b c) ≡ ordering_then (ordering_then a b) c
 then_assoc Less b c = refl
 then_assoc Equal b c = refl
 then_assoc Greater b c = refl
 
--- keys that tie are the same
-pub key_cmp_same : IsAntisymmetric key_cmp
-key_cmp_same x y e =
-    let a = then_equal _ _ e in
-    let b = then_equal _ _ a.0 in
-    let c = then_equal _ _ b.0 in
-    let d = then_equal _ _ c.0 in
-    let f = then_equal _ _ d.0 in
-    λ i. record {
-      function = slice_cmp-IsAntisymmetric nat_cmp-IsAntisymmetric x.function y.function f.0 i;
-      file = slice_cmp-IsAntisymmetric nat_cmp-IsAntisymmetric x.file y.file f.1 i;
-      line = int_cmp-IsAntisymmetric x.line y.line d.1 i;
-      column = int_cmp-IsAntisymmetric x.column y.column c.1 i;
-      address = nat_cmp-IsAntisymmetric x.address y.address b.1 i;
-      object = slice_cmp-IsAntisymmetric nat_cmp-IsAntisymmetric x.object y.object a.1 i;
-    }
+-- what an order says where it says that two tie
+ties : (o : Ordering) → is_eq o ≡ true → o ≡ Equal
+ties Less h = absurd (false≢true h)
+ties Equal h = refl
+ties Greater h = absurd (false≢true h)
 
 -- keys that tie
 pub tied : (x y : Written) → eq_by_cmp key_cmp x y ≡ true → x ≡ y
-tied x y e = key_cmp_same x y (equal _ e) where
-  equal : (o : Ordering) → is_eq o ≡ true → o ≡ Equal
-  equal Less h = absurd (false≢true h)
-  equal Equal h = refl
-  equal Greater h = absurd (false≢true h)
+tied x y e = key_cmp_ties x y (ties _ e)
 
 pub tied_self : (x : Written) → eq_by_cmp key_cmp x x ≡ true
 tied_self x = ap is_eq (tied_itself key_cmp_total x)
@@ -119,7 +98,7 @@ module _ (f : ℕ → Written) (n : ℕ) (apart : (a b : ℕ) → a < n → b < 
   renamed_distinct (x ∷ xs) below d =
       (renamed_apart x xs (All-head (λ m. m < n) x xs below) (All-tail (λ m. m < n) x xs below) d.0, renamed_distinct xs (All-tail (λ m. m < n) x xs below) d.1)
 
-  module _ (N : List (Counted ℕ)) (below : AllBelow n N) (occ : ℕ → Bool) (occ_is : (k : ℕ) → occ k ≡ occurs N k) where
+  module _ (N : List (Counted ℕ)) (below : AllBelow n N) (occ : ℕ → Bool) (occ_is : (k : ℕ) → occ k ≡ key_occurs N k) where
     -- the samples with their keys
     abbrev pub S : List (Counted Written)
     S = map (renamed key_cmp f) N
@@ -155,12 +134,6 @@ module _ (f : ℕ → Written) (n : ℕ) (apart : (a b : ℕ) → a < n → b < 
         (renamed_distinct picked (picked_below lt) (picked_distinct lt occ n))
         (λ q. sym (members (λ z. not (is_heavy total least_fraction z)) lt lt_is q))
 
--- what an order says where it says that two tie
-ties : (o : Ordering) → is_eq o ≡ true → o ≡ Equal
-ties Less h = absurd (false≢true h)
-ties Equal h = refl
-ties Greater h = absurd (false≢true h)
-
 module _ (S : List (Counted Written)) where
   -- report order by flat
   R : Written → Written → Ordering
@@ -172,7 +145,7 @@ module _ (S : List (Counted Written)) where
       (then_total (back_total (on_total (λ k. nat_abs (cum key_cmp S k)) nat_cmp_total)) key_cmp_total)
 
   report_same : IsAntisymmetric (report_order key_cmp sorts.Flat S)
-  report_same x y e = key_cmp_same x y (then_equal _ _ (then_equal _ _ e).1).1
+  report_same x y e = key_cmp_ties x y (both_equal _ _ (both_equal _ _ e).1).1
 
   -- it ties exactly what the order of keys ties
   report_ties : (x y : Written) → eq_by_cmp (report_order key_cmp sorts.Flat S) x y ≡ eq_by_cmp key_cmp x y

@@ -27,7 +27,7 @@ use Rattle.pp_engine.specs.declared.rank.Row.{Row}
 use Rattle.pp_engine.specs.declared.tally.Tally.{Tally}
 use Rattle.pp_engine.specs.Sums.{Counted, weighed}
 use Rattle.pp_engine.specs.Column.{selected}
-use Rattle.pp_engine.specs.Tally.{numbers_at, numbered, numbered_all, occurs, AreTallies, AreNumbersBelow}
+use Rattle.pp_engine.specs.Tally.{numbers_at, numbered, numbered_all, key_occurs, AreTallies, AreNumbersBelow}
 use Rattle.pp_engine.specs.Trim.{least_fraction, is_heavy, heavy_keys, light_count}
 use Rattle.pp_engine.specs.Rows.{no_key, key_at, written_key, IsRow, AreRows}
 use Rattle.pp_engine.specs.Ranks.{Entry, row_entry, row_key, row_line, entry_of, has_tally, is_heavy_tally, heavy_numbers, light_numbers, IsRanked}
@@ -138,7 +138,7 @@ module _ (p : Profile) (compact : IsCompact p) (valid : NoRuleFails p) (names : 
           let n : ℕ = length names in
           let M : List (Counted ℕ) = weighed (numbered_all column rows p.sample) in
           let S : List (Counted Written) = map (renamed key_cmp f) M in
-          let occ_is : (k : ℕ) → has_tally ts k ≡ occurs M k = λ k. (tallied.each k).occurs in
+          let occ_is : (k : ℕ) → has_tally ts k ≡ key_occurs M k = λ k. (tallied.each k).occurs in
           let heavy : List ℕ = heavy_numbers total ts n in
           let entries : IsPermutation (map (entry_of p names ts) heavy) (map row_entry rws) =
           subst (λ (m : ℕ). IsPermutation (map (entry_of p names ts) (heavy_numbers total ts m)) (map row_entry rws)) tallied.count is.entries in

@@ -5,7 +5,7 @@ use Rattle.std.specs.Str.{bytes_eq}
 use Rattle.pp_model.specs.declared.profile.Profile.{Profile}
 use Rattle.pp_model.specs.Rules.{mapping_ids, function_ids, location_ids}
 use Rattle.pp_model.specs.Sizes.{absolute_sum}
-use Rattle.pp_engine.specs.Column.{text_of}
+use Rattle.pp_model.specs.Frames.{text_of}
 
 -- neither pattern of the profile's own is there
 abbrev pub has_no_patterns : Profile → Bool

@@ -4,12 +4,8 @@ use Rattle.std.specs.List.{list_any, filter, sum_by}
 use Rattle.pp_model.specs.declared.profile.Label.{Label}
 use Rattle.pp_model.specs.declared.profile.Sample.{Sample}
 use Rattle.pp_model.specs.declared.profile.Profile.{Profile}
-use Rattle.pp_model.specs.Frames.{text_at, text_number}
+use Rattle.pp_model.specs.Frames.{text_of}
 use Rattle.pp_model.specs.Sizes.{value_in}
-
--- the text of the index
-abbrev pub text_of : Profile → ℤ → List ℕ
-text_of p index = text_at p (text_number index)
 
 -- the place of the last of so many
 abbrev pub last_of : ℕ → Option ℕ

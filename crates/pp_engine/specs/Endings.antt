@@ -1,9 +1,11 @@
 -- Causes, statuses, and the lines that are told of faults.
-use Rattle.std.specs.Prelude.{ℕ, List, [], Option, Some, None, ⊤, codes}
+use Rattle.std.specs.Prelude.{ℕ, List, [], Option, Some, None, Result, Ok, Err, codes}
 use Rattle.pp_engine.specs.declared.ending.Cause.{Cause}
 use Rattle.pp_engine.specs.declared.ending.Cause.TheVariants as causes
-use Rattle.pp_engine.specs.declared.ending.Stop.{Stop}
-use Rattle.pp_engine.specs.declared.ending.Stop.TheVariants as stops
+use Rattle.pp_engine.specs.declared.ending.Outcome.{Outcome}
+use Rattle.pp_engine.specs.declared.ending.Outcome.TheVariants as outcomes
+use Rattle.pp_desk.specs.declared.stop.Stop.{Stop}
+use Rattle.pp_desk.specs.declared.stop.Stop.TheVariants as stops
 
 -- the exit status of a cause
 abbrev pub status_of : Cause → ℕ
@@ -16,7 +18,8 @@ status_of causes.OutFault = 3
 status_of causes.ErrFault = 3
 status_of causes.Memory = 4
 
--- the line that is told of a fault or of want of memory, and none of another cause; of standard error's own fault nothing is told
+-- the line that is told of a fault or of want of memory, and none of another cause; of standard
+-- error's own fault nothing is told
 abbrev pub fault_line : Cause → Option (List ℕ)
 fault_line causes.Done = None
 fault_line (causes.Refused r) = None
@@ -27,18 +30,34 @@ fault_line causes.OutFault = Some (codes "pprof: output fault\n")
 fault_line causes.ErrFault = Some []
 fault_line causes.Memory = Some (codes "pprof: out of memory\n")
 
--- the cause that a stop becomes
-abbrev pub cause_of : Stop → Cause
-cause_of stops.File = causes.FileFault
-cause_of stops.Input = causes.InputFault
-cause_of stops.Out = causes.OutFault
-cause_of stops.Err = causes.ErrFault
-cause_of stops.Memory = causes.Memory
+-- the line that is told of a stop
+abbrev pub stop_line : Stop → List ℕ
+stop_line stops.File = codes "pprof: file fault\n"
+stop_line stops.Input = codes "pprof: input fault\n"
+stop_line stops.Out = codes "pprof: output fault\n"
+stop_line stops.Err = []
+stop_line stops.Memory = codes "pprof: out of memory\n"
 
--- what holds of the object that stopped a run; nothing is said where memory ran out
-abbrev pub StopsAt : Stop → Type 0 → Type 0 → Type 0 → Type 0 → Type 0
-StopsAt stops.File file input out err = file
-StopsAt stops.Input file input out err = input
-StopsAt stops.Out file input out err = out
-StopsAt stops.Err file input out err = err
-StopsAt stops.Memory file input out err = ⊤
+-- the cause that an outcome is
+abbrev pub cause_of_outcome : Outcome → Cause
+cause_of_outcome outcomes.Done = causes.Done
+cause_of_outcome (outcomes.Refused refusal) = causes.Refused refusal
+cause_of_outcome outcomes.NotBuilt = causes.NotBuilt
+
+-- the cause that a stop becomes
+abbrev pub cause_of_stop : Stop → Cause
+cause_of_stop stops.File = causes.FileFault
+cause_of_stop stops.Input = causes.InputFault
+cause_of_stop stops.Out = causes.OutFault
+cause_of_stop stops.Err = causes.ErrFault
+cause_of_stop stops.Memory = causes.Memory
+
+-- the cause of a session's end
+abbrev pub cause_of : Result Outcome Stop → Cause
+cause_of (Ok outcome) = cause_of_outcome outcome
+cause_of (Err stop) = cause_of_stop stop
+
+-- the line that is told after a session: none but of a stop
+abbrev pub end_line : Result Outcome Stop → List ℕ
+end_line (Ok outcome) = []
+end_line (Err stop) = stop_line stop

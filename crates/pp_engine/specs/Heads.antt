@@ -3,7 +3,8 @@ use Rattle.std.specs.Prelude.{◌≡◌, ℕ, Option}
 use Rattle.pp_model.specs.declared.profile.Profile.{Profile}
 use Rattle.pp_units.specs.declared.head.Head.{Head}
 use Rattle.pp_units.specs.Shown.{shown, picked}
-use Rattle.pp_engine.specs.Column.{text_of, total_of}
+use Rattle.pp_model.specs.Frames.{text_of}
+use Rattle.pp_engine.specs.Column.{total_of}
 use Rattle.pp_engine.specs.Report.{type_of, first_file}
 
 -- it says what the profile says of the column

@@ -1,7 +1,6 @@
 pub mod Built
 pub mod Column
 pub mod Counted
-pub mod Effects
 pub mod Endings
 pub mod Heads
 pub mod Load
@@ -11,6 +10,7 @@ pub mod Ready
 pub mod Report
 pub mod Rows
 pub mod Session
+pub mod Run
 pub mod Sums
 pub mod Words
 pub mod Tally

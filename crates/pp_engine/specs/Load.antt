@@ -1,5 +1,5 @@
 -- How a file is loaded: from its content to a profile, or why there is none.
-use Rattle.std.specs.Prelude.{ℕ, nat_lt, List, length, Option, Some, None, Result, Ok, Err, if◌then◌else◌}
+use Rattle.std.specs.Prelude.{ℕ, List, Option, Some, None, Result, Ok, Err, if◌then◌else◌}
 use Rattle.pp_model.specs.declared.profile.Profile.{Profile}
 use Rattle.pp_model.specs.Judged.{loaded_of}
 use Rattle.pp_tables.specs.declared.refusal.ReadRefusal.{ReadRefusal}
@@ -7,6 +7,9 @@ use Rattle.pp_tables.specs.declared.refusal.ReadRefusal.TheVariants as reading
 use Rattle.pp_tables.specs.Read.{read}
 use Rattle.pp_check.specs.declared.fault.TableFault.{TableFault}
 use Rattle.pp_check.specs.FirstFault.{first_fault}
+use Rattle.pp_desk.specs.declared.file_content.FileContent.{FileContent}
+use Rattle.pp_desk.specs.declared.file_content.FileContent.TheVariants as contents
+use Rattle.pp_desk.specs.Script.{Script, Give, ◌>>=◌, read_file}
 use Rattle.pp_engine.specs.declared.refusal.LoadRefusal.TheVariants as refusals
 use Rattle.pp_engine.specs.declared.load.Loading.{Loading}
 use Rattle.pp_engine.specs.declared.load.Loading.TheVariants.{Ready, Refused, NotBuilt}
@@ -33,8 +36,14 @@ of_read (Err reading.Compressed) = Refused (refusals.Compressed 0)
 of_read (Err (reading.Wire fault)) = Refused (refusals.Wire 0 fault)
 of_read (Err reading.Memory) = NotBuilt
 
--- the content of the path, where it is there
-abbrev pub of_content : Option (List ℕ) → Loading
-of_content None = Refused (refusals.Missing 0)
-of_content (Some bytes) =
-    if nat_lt file_limit (length bytes) then Refused (refusals.TooLong 0) else of_read (read bytes)
+-- what was read of the path
+abbrev pub of_content : FileContent → Loading
+of_content (contents.Whole bytes) = of_read (read bytes)
+of_content contents.Missing = Refused (refusals.Missing 0)
+of_content contents.TooLong = Refused (refusals.TooLong 0)
+
+-- the profile of the path
+unfoldable pub load : List ℕ → Script Loading
+load path = do
+  content ← read_file path file_limit
+  Give (of_content content)

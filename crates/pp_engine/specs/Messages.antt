@@ -17,15 +17,15 @@ kind_text kinds.BadKind = codes "bad kind"
 kind_text kinds.WrongKind = codes "wrong kind"
 
 -- what an entry of a table is called
-abbrev pub table_text : Table → List ℕ
-table_text tables.Texts = codes "text"
-table_text tables.Header = codes "header"
-table_text tables.Comments = codes "comment"
-table_text tables.SampleTypes = codes "sample type"
-table_text tables.Samples = codes "sample"
-table_text tables.Mappings = codes "mapping"
-table_text tables.Functions = codes "function"
-table_text tables.Locations = codes "location"
+abbrev pub table_noun : Table → List ℕ
+table_noun tables.Texts = codes "text"
+table_noun tables.Header = codes "header"
+table_noun tables.Comments = codes "comment"
+table_noun tables.SampleTypes = codes "sample type"
+table_noun tables.Samples = codes "sample"
+table_noun tables.Mappings = codes "mapping"
+table_noun tables.Functions = codes "function"
+table_noun tables.Locations = codes "location"
 
 -- why a file is not loaded
 abbrev pub reason_text : LoadRefusal → List ℕ
@@ -37,13 +37,13 @@ reason_text (refusals.Wire source fault) =
     kind_text fault.kind ++ counted_text (codes " at ") fault.at
 reason_text (refusals.Table source fault) =
     counted_text (codes "rule ") fault.rule ++ codes " fails at "
-    ++ counted_text (table_text fault.table ++ codes " ") fault.index
+    ++ counted_text (table_noun fault.table ++ codes " ") fault.index
 
--- the line on a path
-abbrev pub refusal_line : List ℕ → LoadRefusal → List ℕ
+-- the line on a path, opaque, so that no goal shows its bytes
+unfoldable pub refusal_line : List ℕ → LoadRefusal → List ℕ
 refusal_line path refusal =
     (codes "pprof: " ++ path ++ codes ": ") ++ reason_text refusal ++ codes "\n"
 
--- the line on what is not there yet
-abbrev pub not_built_line : List ℕ
-not_built_line = codes "pprof: not built\n"
+-- the line on what is not there yet, opaque likewise
+unfoldable pub not_supported_line : List ℕ
+not_supported_line = codes "pprof: not supported yet\n"

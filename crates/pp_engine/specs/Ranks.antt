@@ -6,7 +6,7 @@ use Rattle.std.specs.List.Sorted.{IsPermutation, IsSortedBy}
 use Rattle.std.specs.declared.cmp.Ordering.{Ordering}
 use Rattle.pp_model.specs.Frames.{Written}
 use Rattle.pp_grain.specs.Keys.{key_cmp}
-use Rattle.pp_grain.specs.Told.{told}
+use Rattle.pp_grain.specs.Told.{written_texts}
 use Rattle.pp_model.specs.declared.profile.Profile.{Profile}
 use Rattle.pp_grain.specs.declared.key.Key.{Key}
 use Rattle.pp_engine.specs.declared.rank.Row.{Row}
@@ -19,7 +19,7 @@ use Rattle.pp_grain.specs.Naming.{name_text}
 
 -- what the row's key stands for
 abbrev pub row_key : Row → Written
-row_key row = told row.texts
+row_key row = written_texts row.texts
 
 -- the greater of two absolute values first
 abbrev pub size_cmp : ℤ → ℤ → Ordering

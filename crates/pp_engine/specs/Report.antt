@@ -1,5 +1,5 @@
 -- The top report of a loaded profile, where no option is given.
-use Rattle.std.specs.Prelude.{ℕ, pos, List, [], ◌∷◌, ◌++◌, map, length, Option, Some, None, slice_index_or, codes, Bool, false}
+use Rattle.std.specs.Prelude.{ℕ, pos, List, [], ◌∷◌, ◌++◌, map, length, Option, Some, None, slice_index_or, Bool, false}
 use Rattle.pp_model.specs.declared.config.Grain.{Grain}
 use Rattle.pp_model.specs.declared.config.Grain.TheVariants as grains
 use Rattle.pp_model.specs.declared.config.Sort.TheVariants as sorts
@@ -7,13 +7,12 @@ use Rattle.pp_model.specs.declared.profile.Mapping.{Mapping}
 use Rattle.pp_model.specs.declared.profile.Sample.{Sample}
 use Rattle.pp_model.specs.declared.profile.ValueType.{ValueType}
 use Rattle.pp_model.specs.declared.profile.Profile.{Profile}
-use Rattle.pp_model.specs.Frames.{Written, written_stack}
+use Rattle.pp_model.specs.Frames.{Written, written_stack, text_of}
 use Rattle.pp_units.specs.Shown.{Shown, picked}
-use Rattle.pp_units.specs.Head.{labelled, duration_line, is_slash}
-use Rattle.std.specs.List.{after_last}
+use Rattle.pp_units.specs.Head.{head_lines}
 use Rattle.pp_grain.specs.Keys.{key_texts, key_cmp}
 use Rattle.pp_grain.specs.Naming.{name_text}
-use Rattle.pp_engine.specs.Column.{text_of, selected, total_of}
+use Rattle.pp_engine.specs.Column.{selected, total_of}
 use Rattle.pp_engine.specs.Sums.{Counted, weighed, cum, flat}
 use Rattle.pp_engine.specs.Trim.{least_fraction, heavy_keys, light_count, shown_keys}
 use Rattle.pp_engine.specs.Top.{Line, top_text}
@@ -51,13 +50,6 @@ abbrev pub first_file : Profile → List Mapping → List ℕ
 first_file p [] = []
 first_file p (m ∷ ms) = text_of p m.file
 
--- the first three lines, as they apply
-abbrev pub head_lines : Profile → ValueType → ℕ → Shown → List ℕ
-head_lines p kind total unit =
-    labelled (codes "File: ") (after_last is_slash (first_file p p.mapping))
-    ++ labelled (codes "Type: ") (text_of p kind.kind)
-    ++ duration_line p.duration_nanos total unit
-
 -- what stands below them, for these samples
 abbrev pub table_text : Shown → ℕ → List (Counted Written) → List ℕ
 table_text unit total samples =
@@ -68,7 +60,8 @@ table_text unit total samples =
 -- the report of the column
 abbrev pub column_text : Profile → Option ℕ → List ℕ
 column_text p column =
+    let kind = type_of p column in
     let total = total_of p column in
-    let unit = picked total (text_of p (type_of p column).unit) in
-    head_lines p (type_of p column) total unit
+    let unit = picked total (text_of p kind.unit) in
+    head_lines (first_file p p.mapping) (text_of p kind.kind) p.duration_nanos total unit
     ++ table_text unit total (counted_samples grains.Functions false p column)

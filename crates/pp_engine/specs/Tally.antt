@@ -1,5 +1,5 @@
 -- What is kept for each key number while samples are added up. No public clause of the session cites it.
-use Rattle.std.specs.Prelude.{◌≡◌, ℕ, ◌-◌, ◌<◌, ◌≤◌, nat_lt, ◌==◌, ℤ, pos, ◌+ℤ◌, Bool, List, [], length, map, slice_index_or, Option, None, Some, if◌then◌else◌, flat_map, nat_abs, All}
+use Rattle.std.specs.Prelude.{◌≡◌, ℕ, ◌-◌, ◌<◌, ◌≤◌, nat_lt, ◌==◌, ℤ, pos, ◌+ℤ◌, Bool, List, [], length, map, slice_index_or, Option, if◌then◌else◌, flat_map, nat_abs, All}
 use Rattle.std.specs.List.{list_any, sum_by}
 use Rattle.std.specs.Ordering.{nat_cmp, int_eq}
 use Rattle.pp_model.specs.declared.profile.Sample.{Sample}
@@ -25,14 +25,14 @@ abbrev pub tally_at : List Tally → ℕ → Tally
 tally_at tallies k = slice_index_or tallies k no_tally
 
 -- one of the samples has the key
-abbrev pub occurs : List (Counted ℕ) → ℕ → Bool
-occurs samples k = list_any (λ s. has nat_cmp k s.keys) samples
+abbrev pub key_occurs : List (Counted ℕ) → ℕ → Bool
+key_occurs samples k = list_any (λ s. has nat_cmp k s.keys) samples
 
 -- The tally is that of the key over these samples.
 pub record IsTallyOf (samples : List (Counted ℕ)) (k : ℕ) (t : Tally) : Type 0 where
   pub flat : t.flat ≡ flat nat_cmp samples k
   pub cum : t.cum ≡ cum nat_cmp samples k
-  pub occurs : nat_lt 0 t.last ≡ occurs samples k
+  pub occurs : nat_lt 0 t.last ≡ key_occurs samples k
 
 -- There are n tallies, and each is that of its key number; past them no key number occurs.
 pub record AreTallies (samples : List (Counted ℕ)) (n : ℕ) (tallies : List Tally) : Type 0 where

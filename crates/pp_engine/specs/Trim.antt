@@ -23,12 +23,12 @@ abbrev pub by_size : {K : Type 0} → (K → ℤ) → K → K → Ordering
 by_size value = flip_args (on (λ k. nat_abs (value k)) nat_cmp)
 
 -- an item of a set, with nothing beside it
-abbrev pub item : {K : Type 0} → K → K × Unit {0}
-item k = (k, tt)
+abbrev pub set_entry : {K : Type 0} → K → K × Unit {0}
+set_entry k = (k, tt)
 
 -- the keys as a set, each once, in an order
 abbrev pub each_once : {K : Type 0} → (K → K → Ordering) → List K → List K
-each_once order keys = finite.keys (finite.from_entries {R = order} (map item keys))
+each_once order keys = finite.keys (finite.from_entries {R = order} (map set_entry keys))
 
 module _ {K : Type 0} (order : K → K → Ordering) where
   -- report order: by the one sum, then by the other, then by the keys themselves

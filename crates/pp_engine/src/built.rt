@@ -4,9 +4,8 @@ ghost use Rattle.std.specs.List.{sum_by, list_all};
 ghost use Rattle.pp_model.specs.Sizes.{value_in};
 ghost use Rattle.pp_engine.specs.Built.{has_no_patterns, has_no_negative, has_sums, are_numbered, has_numbers, are_distinct, is_built};
 
-use crate::column::{text_of, value_in};
 use pp_base::{Memory, Text};
-use pp_model::{Function, Location, Mapping, Profile, Sample};
+use pp_model::{HasId, Profile, Sample, text_of, value_in};
 use std::alloc::Global;
 use std::collections::HashSet;
 
@@ -79,38 +78,6 @@ fn size_in(sample: &Sample, column: usize) -> u64
     value_in(sample, column).unsigned_abs()
 }
 
-// An entry of a table with ids.
-trait Entry {
-    ghost id_of: { Self → ℕ };
-
-    fn id(&self) -> u64
-        ensures { result ≡ id_of self.now };
-}
-
-impl Entry for Mapping {
-    ghost id_of = { λ m. m.id };
-
-    fn id(&self) -> u64 {
-        self.id
-    }
-}
-
-impl Entry for Function {
-    ghost id_of = { λ f. f.id };
-
-    fn id(&self) -> u64 {
-        self.id
-    }
-}
-
-impl Entry for Location {
-    ghost id_of = { λ l. l.id };
-
-    fn id(&self) -> u64 {
-        self.id
-    }
-}
-
 fn has_numbers(p: &Profile) -> bool
     ensures { result ≡ has_numbers p.now }
 {
@@ -120,7 +87,7 @@ fn has_numbers(p: &Profile) -> bool
 }
 
 // Whether each id is its place plus 1.
-fn are_numbered<T: Entry>(entries: &[T]) -> bool
+fn are_numbered<T: HasId>(entries: &[T]) -> bool
     requires { length entries.now < 2 ^ 63 }
     ensures { result ≡ are_numbered (map T.id_of entries.now) }
 {

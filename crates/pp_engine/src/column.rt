@@ -2,21 +2,10 @@
 ghost use Rattle.std.specs.Prelude.{◌≡◌, ◌<◌, ◌^◌, length, position, bytes_eq, IfSome};
 ghost use Rattle.std.specs.List.{filter};
 ghost use Rattle.pp_model.specs.Conditions.{IsColumnOf};
-ghost use Rattle.pp_model.specs.Sizes.{value_in};
-ghost use Rattle.pp_engine.specs.Column.{text_of, default_column, type_named, selected, is_base_label, is_base, total_of, absolute_of};
+ghost use Rattle.pp_model.specs.Frames.{text_of};
+ghost use Rattle.pp_engine.specs.Column.{default_column, type_named, selected, is_base_label, is_base, total_of, absolute_of};
 
-use pp_model::{Label, Profile, Sample};
-
-/// The text of the index, and the empty text where there is none.
-pub fn text_of(p: &Profile, index: i64) -> &[u8]
-    ensures { result.now ≡ text_of p.now index }
-{
-    let place = if index < 0 { 0 } else { index as usize };
-    match p.text.as_slice().get(place) {
-        None => &[],
-        Some(text) => text.as_slice(),
-    }
-}
+use pp_model::{Label, Profile, Sample, text_of, value_in};
 
 /// The column where none is asked for: the first of the profile's default name, else the last.
 pub fn default_column(p: &Profile) -> Option<u32>
@@ -55,16 +44,6 @@ fn place_named(p: &Profile, name: &[u8]) -> Option<usize>
         .as_slice()
         .iter()
         .position(|kind| text_of(p, kind.kind) == name)
-}
-
-/// The sample's value of the column, and 0 where it has none.
-pub fn value_in(sample: &Sample, column: usize) -> i64
-    ensures { result ≡ value_in sample.now column }
-{
-    match sample.value.as_slice().get(column) {
-        None => 0,
-        Some(value) => *value,
-    }
 }
 
 /// The value that a report selects, which is 0 where there is no column.

@@ -1,9 +1,9 @@
 // How a run ends.
 ghost use Rattle.std.specs.Prelude.{◌≡◌};
-ghost use Rattle.pp_engine.specs.Endings.{cause_of, status_of};
+ghost use Rattle.pp_engine.specs.Endings.{cause_of_outcome, cause_of_stop, status_of};
 
 use crate::refusal::LoadRefusal;
-use pp_base::Memory;
+use pp_desk::Stop;
 
 /// Why a run ended.
 #[derive(Clone, Copy, Debug, PartialEq, Eq)]
@@ -51,42 +51,37 @@ impl Ending {
     }
 }
 
-/// What stops a run on its way: the object that failed, or want of memory.
+/// How a session ends where nothing stops it.
 #[derive(Clone, Copy, Debug, PartialEq, Eq)]
-pub enum Stop {
-    /// A file failed.
-    File,
-    /// Standard input failed.
-    Input,
-    /// Standard output failed.
-    Out,
-    /// Standard error failed.
-    Err,
-    /// Want of memory.
-    Memory,
+pub enum Outcome {
+    /// All was done.
+    Done,
+    /// A profile could not be loaded.
+    Refused(LoadRefusal),
+    /// The words or the profile ask for a part of the program that is not there yet.
+    NotBuilt,
 }
 
-impl From<Memory> for Stop {
-    ghost use Rattle.pp_engine.specs.declared.ending.Stop.TheVariants as stops;
-
-    ghost from_gives = { λ _ e. e ≡ stops.Memory };
-
-    fn from(_: Memory) -> Self {
-        Stop::Memory
+/// The cause that an outcome is.
+pub fn cause_of_outcome(outcome: Outcome) -> Cause
+    ensures { result ≡ cause_of_outcome outcome }
+{
+    match outcome {
+        Outcome::Done => Cause::Done,
+        Outcome::Refused(refusal) => Cause::Refused(refusal),
+        Outcome::NotBuilt => Cause::NotBuilt,
     }
 }
 
-impl Stop {
-    /// The cause that a run ends with.
-    pub fn cause(self) -> Cause
-        ensures { result ≡ cause_of self }
-    {
-        match self {
-            Stop::File => Cause::FileFault,
-            Stop::Input => Cause::InputFault,
-            Stop::Out => Cause::OutFault,
-            Stop::Err => Cause::ErrFault,
-            Stop::Memory => Cause::Memory,
-        }
+/// The cause that a stop becomes.
+pub fn cause_of_stop(stop: Stop) -> Cause
+    ensures { result ≡ cause_of_stop stop }
+{
+    match stop {
+        Stop::File => Cause::FileFault,
+        Stop::Input => Cause::InputFault,
+        Stop::Out => Cause::OutFault,
+        Stop::Err => Cause::ErrFault,
+        Stop::Memory => Cause::Memory,
     }
 }

@@ -9,20 +9,15 @@ mod ending;
 mod lines;
 mod load;
 mod message;
-mod outputs;
 mod rank;
 mod refusal;
 mod report;
 mod rows;
+mod running;
 mod session;
 mod tally;
 mod words;
 
 pub use ending::{Cause, Ending};
 pub use refusal::LoadRefusal;
-pub use session::run;
-
-#[cfg(test)]
-mod fixtures;
-#[cfg(test)]
-mod tests;
+pub use running::run;

@@ -3,7 +3,7 @@ ghost use Rattle.std.specs.Prelude.{◌≡◌, ◌++◌, ◌<◌, ◌^◌, pos, 
 ghost use Rattle.std.specs.List.{sum_by};
 ghost use Rattle.pp_units.specs.Shown.{shown};
 ghost use Rattle.pp_grain.specs.Naming.{name_text};
-ghost use Rattle.pp_grain.specs.Told.{told};
+ghost use Rattle.pp_grain.specs.Told.{written_texts};
 ghost use Rattle.pp_engine.specs.Ranks.{row_line};
 ghost use Rattle.pp_engine.specs.Top.{name_end, line_text, lines_text, shown_flat, summary_text, top_text};
 
@@ -88,7 +88,7 @@ fn put_row(
 }
 
 fn put_name(row: &Row, out: &mut Text) -> Result<(), Memory>
-    ensures { IfOk result (λ _. out.new ≡ out.old ++ name_end (name_text (told row.now.texts))) }
+    ensures { IfOk result (λ _. out.new ≡ out.old ++ name_end (name_text (written_texts row.now.texts))) }
 {
     out.extend(b"  ")?;
     write_texts_name(&row.texts, out)?;

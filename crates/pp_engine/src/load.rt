@@ -1,18 +1,16 @@
 // From a path to a profile that a report can be made of.
-ghost use Rattle.std.specs.Prelude.{◌≡◌, ◌≤◌, Some, length, IfOk, IfErr};
-ghost use Rattle.pp_base.specs.Fault.{Rose};
-ghost use Rattle.pp_base.specs.FileMap.{content_at};
+ghost use Rattle.std.specs.Prelude.{◌≡◌, ◌≤◌, length, IfOk};
 ghost use Rattle.pp_tables.specs.Read.{read};
 ghost use Rattle.pp_check.specs.FirstFault.{first_fault, IsIndexed};
-ghost use Rattle.pp_engine.specs.Endings.{StopsAt};
-ghost use Rattle.pp_engine.specs.Load.{of_valid, of_fault, of_read, of_content};
+ghost use Rattle.pp_desk.specs.Went.{Went, FitsWithin};
+ghost use Rattle.pp_engine.specs.Load.{of_valid, of_fault, of_read, of_content, load};
 ghost use Rattle.pp_engine.specs.Ready.{IsReady};
 
 use crate::built::is_built;
-use crate::ending::Stop;
 use crate::refusal::LoadRefusal;
-use pp_base::{FileRead, Files, Memory, Text};
+use pp_base::{Memory, Text};
 use pp_check::{CheckRefusal, check};
+use pp_desk::{Desk, FileContent, Stop};
 use pp_model::{Compact, Loaded, Profile, Valid};
 use pp_tables::{ReadRefusal, read_profile};
 use std::alloc::Global;
@@ -31,23 +29,25 @@ pub enum Loading {
     NotBuilt,
 }
 
-/// Loads the profile of the path. No file changes.
-pub fn load<F: Files>(alloc: Global, path: &Text, files: &mut F) -> Result<Loading, Stop>
-    ensures is { (m : _) → F.content files.old ≡ Some m →
-        IfOk result (λ loading. loading ≡ of_content (content_at m path.now)) }
+/// Loads the profile of the path.
+#[tactic(auto, using(pp_desk::proofs::Going::going), unfolding(crate::specs::Load::load))]
+pub fn load<D: Desk>(alloc: Global, path: &Text, desk: &mut D) -> Result<Loading, Stop>
+    ensures went { Went (D.world desk.old) (D.world desk.new) (load path.now) result }
     ensures ready { IfOk result IsReady }
-    ensures same { F.content files.new ≡ F.content files.old }
-    ensures later { F.faults files.old ≤ F.faults files.new }
-    ensures stop { IfErr result
-        (λ s. StopsAt s (Rose (F.faults files.old) (F.faults files.new)) ⊥ ⊥ ⊥) }
 {
-    let mut content = Text::new(alloc);
-    match files.read(path, &mut content, FILE_LIMIT) {
-        FileRead::Read => Ok(load_bytes(alloc, content.as_slice())?),
-        FileRead::Missing => Ok(Loading::Refused(LoadRefusal::Missing { source: 0 })),
-        FileRead::TooLong => Ok(Loading::Refused(LoadRefusal::TooLong { source: 0 })),
-        FileRead::Failed => Err(Stop::File),
-        FileRead::Memory => Err(Stop::Memory),
+    let content = desk.read_file(path, FILE_LIMIT)?;
+    Ok(load_content(alloc, &content)?)
+}
+
+fn load_content(alloc: Global, content: &FileContent) -> Result<Loading, Memory>
+    requires { FitsWithin 268435456 content.now }
+    ensures is { IfOk result (λ loading. loading ≡ of_content content.now) }
+    ensures ready { IfOk result IsReady }
+{
+    match content {
+        FileContent::Whole(bytes) => load_bytes(alloc, bytes.as_slice()),
+        FileContent::Missing => Ok(Loading::Refused(LoadRefusal::Missing { source: 0 })),
+        FileContent::TooLong => Ok(Loading::Refused(LoadRefusal::TooLong { source: 0 })),
     }
 }
 

@@ -1,7 +1,7 @@
 // The lines that tell why a profile is not loaded.
 ghost use Rattle.std.specs.Prelude.{◌≡◌, ◌++◌, codes, IfOk};
 ghost use Rattle.pp_engine.specs.Counted.{counted_text};
-ghost use Rattle.pp_engine.specs.Messages.{kind_text, table_text, reason_text, refusal_line};
+ghost use Rattle.pp_engine.specs.Messages.{kind_text, table_noun, reason_text, refusal_line, not_supported_line};
 
 use crate::counted::put_counted;
 use crate::refusal::LoadRefusal;
@@ -10,7 +10,16 @@ use pp_check::{Table, TableFault};
 use pp_wire::{WireFault, WireKind};
 use std::alloc::Global;
 
+/// The line on what is not there yet.
+#[tactic(auto, unfolding(crate::specs::Messages::not_supported_line))]
+pub fn not_supported_line() -> &'static [u8]
+    ensures { result.now ≡ not_supported_line }
+{
+    b"pprof: not supported yet\n"
+}
+
 /// The line on a path whose profile is not loaded.
+#[tactic(auto, unfolding(crate::specs::Messages::refusal_line))]
 pub fn refusal_line(alloc: Global, path: &Text, refusal: LoadRefusal) -> Result<Text, Memory>
     ensures { IfOk result (λ line. line ≡ refusal_line path.now refusal) }
 {
@@ -66,7 +75,7 @@ fn kind_text(kind: WireKind) -> &'static [u8]
 fn put_table_fault(fault: TableFault, line: &mut Text) -> Result<(), Memory>
     ensures { IfOk result (λ _. line.new ≡ line.old
         ++ (counted_text (codes "rule ") fault.rule ++ codes " fails at "
-        ++ counted_text (table_text fault.table ++ codes " ") fault.index)) }
+        ++ counted_text (table_noun fault.table ++ codes " ") fault.index)) }
 {
     put_counted(b"rule ", u64::from(fault.rule), line)?;
     line.extend(b" fails at ")?;
@@ -75,14 +84,14 @@ fn put_table_fault(fault: TableFault, line: &mut Text) -> Result<(), Memory>
 
 fn put_entry(table: Table, index: u64, line: &mut Text) -> Result<(), Memory>
     ensures { IfOk result (λ _.
-        line.new ≡ line.old ++ counted_text (table_text table ++ codes " ") index) }
+        line.new ≡ line.old ++ counted_text (table_noun table ++ codes " ") index) }
 {
-    line.extend(table_text(table))?;
+    line.extend(table_noun(table))?;
     put_counted(b" ", index, line)
 }
 
-fn table_text(table: Table) -> &'static [u8]
-    ensures { result.now ≡ table_text table }
+fn table_noun(table: Table) -> &'static [u8]
+    ensures { result.now ≡ table_noun table }
 {
     match table {
         Table::Texts => b"text",

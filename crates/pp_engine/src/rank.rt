@@ -8,12 +8,9 @@ ghost use Rattle.pp_engine.specs.Ranks.{row_cmp, row_entry, Collected, IsRanked}
 use crate::tally::Tally;
 use pp_base::Memory;
 use pp_grain::{Key, KeyTexts, Names, texts_of, texts_order};
-use pp_model::{Loaded, Profile};
+use pp_model::{Loaded, NODE_FRACTION, Profile};
 use std::alloc::Global;
 use std::cmp::Ordering;
-
-/// The least fraction of the total that a shown key has, in billionths.
-const LEAST_FRACTION: u128 = 5_000_000;
 
 const BILLION: u128 = 1_000_000_000;
 
@@ -100,7 +97,7 @@ fn is_heavy(total: u64, tally: &Tally) -> bool
     requires { total < 2 ^ 63 }
     ensures { result ≡ is_heavy total least_fraction tally.now.cum }
 {
-    u128::from(total) * LEAST_FRACTION <= u128::from(tally.cum.unsigned_abs()) * BILLION
+    u128::from(total) * u128::from(NODE_FRACTION) <= u128::from(tally.cum.unsigned_abs()) * BILLION
 }
 
 // Report order: by |flat| falling, then |cum| falling, then the keys' texts and numbers.

@@ -9,7 +9,7 @@ ghost use Rattle.pp_engine.specs.Report.{type_of, first_file, counted_samples, t
 ghost use Rattle.pp_engine.specs.Heads.{IsHeadOf};
 ghost use Rattle.pp_engine.specs.TopReport.{top_report};
 
-use crate::column::{default_column, text_of, total_of};
+use crate::column::{default_column, total_of};
 use crate::columns::Measure;
 use crate::lines::put_ranking;
 use crate::rank::rank;
@@ -17,7 +17,7 @@ use crate::rows::number_rows;
 use crate::tally::add_up;
 use pp_base::{Memory, Text};
 use pp_grain::Names;
-use pp_model::{Loaded, Profile, ValueType};
+use pp_model::{Loaded, Profile, ValueType, text_of};
 use pp_units::{Head, pick_unit, write_head};
 use std::alloc::Global;
 
@@ -25,7 +25,7 @@ const NO_TYPE: ValueType = ValueType { kind: 0, unit: 0 };
 
 /// What a report tells: its notes, each a line, and its text.
 #[derive(Debug, Drop)]
-pub struct Told {
+pub struct Reported {
     /// For standard error.
     pub notes: Text,
     /// For standard output.
@@ -33,13 +33,14 @@ pub struct Told {
 }
 
 /// The top report of the profile's default column. It has no notes.
-pub fn top_report(alloc: Global, l: &Loaded) -> Result<Told, Memory>
+#[tactic(auto, unfolding(crate::specs::TopReport::top_report))]
+pub fn top_report(alloc: Global, l: &Loaded) -> Result<Reported, Memory>
     requires { IsReportable l.now.profile }
     ensures { IfOk result (λ told. told ≡ top_report l.now.profile) }
 {
     let column = default_column(l.profile.get());
     let text = column_report(alloc, l, column)?;
-    Ok(Told {
+    Ok(Reported {
         notes: Text::new(alloc),
         text,
     })

@@ -1,13 +1,12 @@
 // The key numbers of each location's frames.
-ghost use Rattle.std.specs.Prelude.{◌≡◌, [], map, Contains, IfOk};
-ghost use Rattle.pp_model.specs.Rules.{location_ids};
+ghost use Rattle.std.specs.Prelude.{◌≡◌, ◌+◌, ◌<◌, [], length, map, IfOk};
 ghost use Rattle.pp_model.specs.Conditions.{IsStackOf};
 ghost use Rattle.pp_model.specs.Frames.{written};
 ghost use Rattle.pp_engine.specs.Rows.{Grown, IsNumbered, IsRow, AreRows};
 
 use pp_base::{List, Memory};
 use pp_grain::{Names, key_of};
-use pp_model::{Frame, Grain, Loaded, Sample, frames};
+use pp_model::{Frame, Grain, Loaded, frames_at};
 use std::alloc::Global;
 
 /// Numbers the keys of all frames: for each location, in the order of the table, those of its frames, leaf first.
@@ -17,7 +16,7 @@ pub fn number_rows(alloc: Global, l: &Loaded, names: &mut Names) -> Result<Vec<L
 {
     let mut rows = Vec::new(alloc);
     for place in 0..l.profile.get().location.len() {
-        let row = number_location(alloc, l, place as u64 + 1, names)?;
+        let row = number_location(alloc, l, place as u64, names)?;
         rows.push(row)?;
     }
     Ok(rows)
@@ -27,20 +26,14 @@ pub fn number_rows(alloc: Global, l: &Loaded, names: &mut Names) -> Result<Vec<L
 fn number_location(
     alloc: Global,
     l: &Loaded,
-    id: u64,
+    location: u64,
     names: &mut Names,
 ) -> Result<List<u64>, Memory>
-    requires { Contains (location_ids l.now.profile) id }
+    requires { location < length l.now.profile.location }
     ensures grown { IfOk result (λ _. Grown l.now.profile names.old names.new) }
-    ensures row { IfOk result (λ row. IsRow l.now.profile names.new id row) }
+    ensures row { IfOk result (λ row. IsRow l.now.profile names.new (location + 1) row) }
 {
-    let ids = vec![in alloc; id]?;
-    let sample = Sample {
-        location_id: List::from_vec(ids),
-        value: List::new(alloc),
-        label: List::new(alloc),
-    };
-    let stack = frames(alloc, l, &sample)?;
+    let stack = frames_at(alloc, l, location)?;
     number_frames(alloc, l, stack.as_slice(), names)
 }
 

@@ -4,6 +4,6 @@ use Rattle.pprof.specs.declared.files.Content.{Content}
 use Rattle.pprof.specs.declared.files.Content.TheVariants.{All}
 
 -- all that was read is within the limit
-abbrev pub Fits : ℕ → List ℕ → Content → Type 0
-Fits limit bytes All = length bytes ≤ limit
-Fits limit bytes content = ⊤
+abbrev pub FitsLimit : ℕ → List ℕ → Content → Type 0
+FitsLimit limit bytes All = length bytes ≤ limit
+FitsLimit limit bytes content = ⊤

@@ -1,6 +1,6 @@
 // Real files. What they hold is not told, and their failures are counted.
 ghost use Rattle.std.specs.Prelude.{◌≤◌, length, None};
-ghost use Rattle.pprof.specs.Fits.{Fits};
+ghost use Rattle.pprof.specs.Fits.{FitsLimit};
 
 use pp_base::{FileRead, FileWrite, Files, Text};
 use std::io::{self, ErrorKind, Read, Write};
@@ -34,7 +34,7 @@ enum Content {
 // Reads the file of the name, up to its end or past the limit.
 fn read_content(rt: &HostRuntime, name: &str, into: &mut Text, limit: u64) -> Content
     requires { length into.old ≤ limit }
-    ensures { Fits limit into.new result }
+    ensures { FitsLimit limit into.new result }
 {
     match fs::open(rt, name) {
         Ok(mut file) => read_to_end(&mut file, into, limit),
@@ -45,7 +45,7 @@ fn read_content(rt: &HostRuntime, name: &str, into: &mut Text, limit: u64) -> Co
 
 fn read_to_end<R: Read>(reader: &mut R, into: &mut Text, limit: u64) -> Content
     requires { length into.old ≤ limit }
-    ensures { Fits limit into.new result }
+    ensures { FitsLimit limit into.new result }
 {
     let mut piece = [0u8; PIECE];
     for _ in 0..u64::MAX {

@@ -1,34 +1,34 @@
 // The worked rows of the top report: what goes out, what is told, and the status.
 ghost use Rattle.std.specs.Prelude.{None};
 
-use crate::fixtures::{P0, P1, P5};
-use crate::{Cause, Ending, run};
+use crate::fixtures::{COLUMNS, DOCUMENT, INLINED, ONE_SAMPLE, TWO_TYPES};
 use pp_base::{
     CalmFiles, CalmSink, CalmSource, FileRead, FileWrite, Files, List, Literal, MemFiles, MemSink,
     Memory, OpenGate, Sink, Text,
 };
+use pp_engine::{Cause, Ending, run};
 use std::alloc::Global;
 use std::process::Abort;
 use std::test::Fail;
 use std::thread::Threads;
 
-const P0_TOP: &[u8] =
+const ONE_SAMPLE_TOP: &[u8] =
     b"Type: samples\nShowing nodes accounting for 1, 100.00% of 1 total\n      flat    flat%     sum%        cum     cum%\n         1  100.00%  100.00%          1  100.00%  main\n";
 
-const P1_TOP: &[u8] =
+const TWO_TYPES_TOP: &[u8] =
     b"Type: cpu\nShowing nodes accounting for 60ms, 100.00% of 60ms total\n      flat    flat%     sum%        cum     cum%\n      40ms   66.67%   66.67%       40ms   66.67%  leaf\n      20ms   33.33%  100.00%       50ms   83.33%  work\n         0    0.00%  100.00%       60ms  100.00%  main\n";
 
-const REPORTS: [(&[u8], &[u8]); 13] = [
-    (P0, P0_TOP),
-    (P1, P1_TOP),
+const REPORTS: [(&[u8], &[u8]); 14] = [
+    (ONE_SAMPLE, ONE_SAMPLE_TOP),
+    (TWO_TYPES, TWO_TYPES_TOP),
     (
-        P5,
+        INLINED,
         b"File: app\nType: cpu\nDuration: 300ms, Total samples = 250ms\nShowing nodes accounting for 250ms, 100.00% of 250ms total\n      flat    flat%     sum%        cum     cum%\n     140ms   56.00%   56.00%      140ms   56.00%  main.mix\n      60ms   24.00%   80.00%      200ms   80.00%  main.hash\n      50ms   20.00%  100.00%       50ms   20.00%  runtime.mallocgc\n         0    0.00%  100.00%      250ms  100.00%  main.main\n         0    0.00%  100.00%      250ms  100.00%  main.work\n         0    0.00%  100.00%      250ms  100.00%  runtime.main\n",
     ),
     // a duration of 0
     (
         b"\x0a\x04\x08\x01\x10\x02\x12\x06\x0a\x01\x01\x12\x01\x01\x22\x06\x08\x01\x22\x02\x08\x01\x2a\x04\x08\x01\x10\x03\x32\x00\x32\x07\x73\x61\x6d\x70\x6c\x65\x73\x32\x05\x63\x6f\x75\x6e\x74\x32\x04\x6d\x61\x69\x6e\x50\x00",
-        P0_TOP,
+        ONE_SAMPLE_TOP,
     ),
     // no samples
     (
@@ -61,9 +61,11 @@ const REPORTS: [(&[u8], &[u8]); 13] = [
         b"Type: samples\nShowing nodes accounting for 100, 250.00% of 40 total\n      flat    flat%     sum%        cum     cum%\n        60  150.00%  150.00%         60  150.00%  g\n        40  100.00%  250.00%         40  100.00%  f\n",
     ),
     // a document address
+    (DOCUMENT, ONE_SAMPLE_TOP),
+    // columns, which functions do not tell apart
     (
-        b"\x0a\x04\x08\x01\x10\x02\x12\x06\x0a\x01\x01\x12\x01\x01\x22\x06\x08\x01\x22\x02\x08\x01\x2a\x04\x08\x01\x10\x03\x32\x00\x32\x07\x73\x61\x6d\x70\x6c\x65\x73\x32\x05\x63\x6f\x75\x6e\x74\x32\x04\x6d\x61\x69\x6e\x78\x03",
-        P0_TOP,
+        COLUMNS,
+        b"Type: samples\nShowing nodes accounting for 3, 100.00% of 3 total\n      flat    flat%     sum%        cum     cum%\n         3  100.00%  100.00%          3  100.00%  f\n",
     ),
     // a default sample type
     (
@@ -239,7 +241,7 @@ fn reports(rt: HostRuntime) -> Result<(), Fail> {
     Ok(())
 }
 
-// P0 with its sample's location written so many times: these bytes, the locations, the rest.
+// `ONE_SAMPLE` with its sample's location written so many times: these bytes, the locations, the rest.
 const DEEP_FRONT: &[u8] = b"\x0a\x04\x08\x01\x10\x02\x12\xa7\x8d\x06\x0a\xa0\x8d\x06";
 
 const DEEP: usize = 100_000;
@@ -266,7 +268,7 @@ fn a_deep_stack(rt: HostRuntime) -> Result<(), Fail> {
         &[b"-top", b"d"],
         b"d",
         bytes.as_slice(),
-        (P0_TOP, b"", 0),
+        (ONE_SAMPLE_TOP, b"", 0),
     )
 }
 
@@ -295,8 +297,8 @@ fn refusals(rt: HostRuntime) -> Result<(), Fail> {
         rt.alloc(),
         &[b"-tree", b"d"],
         b"d",
-        P0,
-        (b"", b"pprof: not built\n", 1),
+        ONE_SAMPLE,
+        (b"", b"pprof: not supported yet\n", 1),
     )?;
     runs(
         &rt,
@@ -304,24 +306,30 @@ fn refusals(rt: HostRuntime) -> Result<(), Fail> {
         &[b"-top", b"d"],
         b"d",
         b"\x0a\x04\x08\x01\x10\x02\x12\x0f\x0a\x01\x01\x12\x0a\xff\xff\xff\xff\xff\xff\xff\xff\xff\x01\x22\x06\x08\x01\x22\x02\x08\x01\x2a\x04\x08\x01\x10\x03\x32\x00\x32\x07\x73\x61\x6d\x70\x6c\x65\x73\x32\x05\x63\x6f\x75\x6e\x74\x32\x04\x6d\x61\x69\x6e",
-        (b"", b"pprof: not built\n", 1),
+        (b"", b"pprof: not supported yet\n", 1),
     )
 }
 
-// Files that are all too long.
+// A file of so many bytes, which is given to no reader: it is too long for the limit, or missing.
 #[derive(Drop)]
-struct LongFiles;
+struct LongFile {
+    length: u64,
+}
 
-impl Files for LongFiles {
+impl Files for LongFile {
     ghost content = { λ _. None };
 
     ghost locked = { λ _. None };
 
     ghost faults = { λ _. 0 };
 
-    fn read(&mut self, _path: &Text, into: &mut Text, _limit: u64) -> FileRead {
+    fn read(&mut self, _path: &Text, into: &mut Text, limit: u64) -> FileRead {
         into.clear();
-        FileRead::TooLong
+        if self.length > limit {
+            FileRead::TooLong
+        } else {
+            FileRead::Missing
+        }
     }
 
     fn write(&mut self, _path: &Text, _bytes: &[u8]) -> FileWrite {
@@ -329,18 +337,27 @@ impl Files for LongFiles {
     }
 }
 
+// The longest file that is read, and one byte more.
+const LONG_FILES: [(u64, &[u8]); 2] = [
+    (268_435_456, b"pprof: d: no such file\n"),
+    (268_435_457, b"pprof: d: longer than 268435456 bytes\n"),
+];
+
 #[test]
 fn a_file_is_too_long(rt: HostRuntime) -> Result<(), Fail> {
-    runs_over(
-        &rt,
-        rt.alloc(),
-        &[b"-top", b"d"],
-        &mut LongFiles,
-        (b"", b"pprof: d: longer than 268435456 bytes\n", 1),
-    )
+    for (length, line) in LONG_FILES {
+        runs_over(
+            &rt,
+            rt.alloc(),
+            &[b"-top", b"d"],
+            &mut LongFile { length },
+            (b"", line, 1),
+        )?;
+    }
+    Ok(())
 }
 
-// Runs over P1, where the calls of these numbers fail.
+// Runs over `TWO_TYPES`, where the calls of these numbers fail.
 fn fails<R: Threads + Sync + Abort>(
     rt: &R,
     alloc: Global,
@@ -351,14 +368,14 @@ fn fails<R: Threads + Sync + Abort>(
     let words = words_of(alloc, &[b"-top", b"p"])?;
     let mut files = MemFiles::new(
         alloc,
-        entries_of(alloc, b"p", P1)?,
+        entries_of(alloc, b"p", TWO_TYPES)?,
         List::new(alloc),
         numbers_of(alloc, reads)?,
     );
     let mut out = MemSink::new(alloc, 16, numbers_of(alloc, writes)?);
     let mut err = CalmSink::new(alloc, 16);
     let ending = run_over(rt, alloc, &words, &mut files, &mut out, &mut err);
-    assert!(rt; P1_TOP.starts_with(out.bytes().as_slice()));
+    assert!(rt; TWO_TYPES_TOP.starts_with(out.bytes().as_slice()));
     assert_eq!(rt; out.bytes().len(), wanted.0);
     assert_eq!(rt; err.bytes().as_slice(), wanted.1);
     assert_eq!(rt; ending.cause, wanted.2);
@@ -417,6 +434,34 @@ fn standard_error_fails_at<R: Threads + Sync + Abort>(
 fn standard_error_fails(rt: HostRuntime) -> Result<(), Fail> {
     for number in 0u32..3 {
         standard_error_fails_at(&rt, rt.alloc(), number)?;
+    }
+    Ok(())
+}
+
+// Where standard output fails, and standard error fails while that is told, the ending stays the first fault's. Each write
+// to standard error takes 8 bytes.
+fn both_outputs_fail_at<R: Threads + Sync + Abort>(
+    rt: &R,
+    alloc: Global,
+    number: u32,
+) -> Result<(), Fail> {
+    let words = words_of(alloc, &[b"-top", b"p"])?;
+    let mut files = CalmFiles::new(alloc, entries_of(alloc, b"p", TWO_TYPES)?, List::new(alloc));
+    let mut out = MemSink::new(alloc, 16, numbers_of(alloc, &[2])?);
+    let mut err = MemSink::new(alloc, 8, numbers_of(alloc, &[number])?);
+    let ending = run_over(rt, alloc, &words, &mut files, &mut out, &mut err);
+    assert_eq!(rt; ending.cause, Cause::OutFault);
+    assert_eq!(rt; ending.status, 3);
+    assert_eq!(rt; out.bytes().len(), 32);
+    assert!(rt; b"pprof: output fault\n".starts_with(err.bytes().as_slice()));
+    assert_eq!(rt; err.bytes().len(), number as usize * 8);
+    Ok(())
+}
+
+#[test]
+fn both_outputs_fail(rt: HostRuntime) -> Result<(), Fail> {
+    for number in 0u32..3 {
+        both_outputs_fail_at(&rt, rt.alloc(), number)?;
     }
     Ok(())
 }

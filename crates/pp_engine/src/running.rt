@@ -1,0 +1,170 @@
+// The top call: what a run does, from its words to its ending.
+ghost use Rattle.std.specs.Prelude.{◌≡◌, ◌⊎◌, true, None, IfNone, IfSome, IsNone};
+ghost use Rattle.pp_base.specs.Fault.{Rose};
+ghost use Rattle.pp_desk.specs.Closes.{Closes};
+ghost use Rattle.pp_desk.specs.Course.{outside_of};
+ghost use Rattle.pp_desk.specs.Effects.{outside};
+ghost use Rattle.pp_engine.specs.Endings.{fault_line, status_of, stop_line};
+ghost use Rattle.pp_engine.specs.Run.{Ran, told_at, faults};
+ghost use Rattle.pp_engine.specs.Session.{session, is_valid, told_run, RanWhole, RanFront};
+ghost use Rattle.pp_engine.specs.Words.{path_of};
+
+use crate::ending::{Cause, Ending, cause_of_outcome, cause_of_stop};
+use crate::session::session;
+use pp_base::{Files, Gate, Matcher, Sink, Source, Text};
+use pp_desk::{Desk, Objects, Stop};
+use std::alloc::Global;
+use std::thread::Threads;
+
+/// The whole program: what it does for the words after its name, over files, standard input, both outputs, a matcher of patterns and
+/// a gate. A report's text is whole before its first byte goes out, and the line of an ending is written last.
+pub fn run<R: Threads + Sync, F: Files, I: Source, O: Sink, E: Sink, M: Matcher, G: Gate>(
+    _rt: &R,
+    alloc: Global,
+    words: &[Text],
+    files: &mut F,
+    input: &mut I,
+    out: &mut O,
+    err: &mut E,
+    matcher: &mut M,
+    _gate: &G,
+) -> Ending
+    ensures status { result.status ≡ status_of result.cause }
+
+    // Where nothing stopped it, it did all that the session does, and nothing else, and ended as the session.
+    ensures whole { IfNone (fault_line result.cause)
+        (IfSome (told_run words.now (F.content files.old) (F.locked files.old) (I.left input.old)
+        (M.answers matcher.old) (M.answers matcher.new)) (λ told.
+        RanWhole told (outside (O.written out.old) (E.written err.old) (F.content files.old))
+        (outside (O.written out.new) (E.written err.new) (F.content files.new)) result.cause)) }
+
+    // Else it did a front of what the session does, and then told of the fault, as far as it could.
+    ensures front { IfSome (fault_line result.cause) (λ line.
+        IfSome (told_run words.now (F.content files.old) (F.locked files.old) (I.left input.old)
+        (M.answers matcher.old) (M.answers matcher.new)) (λ told.
+        RanFront told (outside (O.written out.old) (E.written err.old) (F.content files.old))
+        (outside (O.written out.new) (E.written err.new) (F.content files.new)) line)) }
+
+    // The session alone decides how the run ends: while the line of a stop is told, the ending stays what it was.
+    ensures ending { Ran (session words.now)
+        (told_at (outside (O.written out.old) (E.written err.old) (F.content files.old))
+        (F.locked files.old) (I.left input.old) (M.answers matcher.old))
+        (outside (O.written out.new) (E.written err.new) (F.content files.new))
+        (M.answers matcher.new)
+        (faults (F.faults files.old) (I.faults input.old) (O.faults out.old) (E.faults err.old))
+        (faults (F.faults files.new) (I.faults input.new) (O.faults out.new) (E.faults err.new))
+        result.cause }
+
+    // A fault is answered only where that object has failed in this call.
+    ensures file_fault { result.cause ≡ Cause.FileFault
+        → Rose (F.faults files.old) (F.faults files.new) }
+    ensures input_fault { result.cause ≡ Cause.InputFault
+        → Rose (I.faults input.old) (I.faults input.new) }
+    ensures out_fault { result.cause ≡ Cause.OutFault
+        → Rose (O.faults out.old) (O.faults out.new) }
+    ensures err_fault { result.cause ≡ Cause.ErrFault
+        → Rose (E.faults err.old) (E.faults err.new) }
+
+    // Where none has failed, only want of memory stops it.
+    ensures complete { ¬ (Rose (F.faults files.old) (F.faults files.new))
+        → ¬ (Rose (I.faults input.old) (I.faults input.new))
+        → ¬ (Rose (O.faults out.old) (O.faults out.new))
+        → ¬ (Rose (E.faults err.old) (E.faults err.new))
+        → IsNone (fault_line result.cause) ⊎ (result.cause ≡ Cause.Memory) }
+
+    // A run whose words name a profile that is loaded then ends done, if memory suffices.
+    ensures valid { IfSome (F.content files.old) (λ m. is_valid m (path_of words.now) ≡ true
+        → ¬ (Rose (F.faults files.old) (F.faults files.new))
+        → ¬ (Rose (I.faults input.old) (I.faults input.new))
+        → ¬ (Rose (O.faults out.old) (O.faults out.new))
+        → ¬ (Rose (E.faults err.old) (E.faults err.new))
+        → (result.cause ≡ Cause.Done) ⊎ (result.cause ≡ Cause.Memory)) }
+
+    // Words that name no path are not supported yet, whatever the objects tell.
+    ensures words { path_of words.now ≡ None → IsNone (fault_line result.cause)
+        → result.cause ≡ Cause.NotBuilt }
+
+    // These words read no input and ask no pattern.
+    ensures unread { I.left input.new ≡ I.left input.old }
+    ensures unasked { M.answers matcher.new ≡ M.answers matcher.old }
+{
+    run_objects(alloc, words, files, input, out, err, matcher)
+}
+
+// The same over the objects, by the two clauses of which all else follows.
+fn run_objects<F: Files, I: Source, O: Sink, E: Sink, M: Matcher>(
+    alloc: Global,
+    words: &[Text],
+    files: &mut F,
+    input: &mut I,
+    out: &mut O,
+    err: &mut E,
+    matcher: &mut M,
+) -> Ending
+    ensures status { result.status ≡ status_of result.cause }
+    ensures ending { Ran (session words.now)
+        (told_at (outside (O.written out.old) (E.written err.old) (F.content files.old))
+        (F.locked files.old) (I.left input.old) (M.answers matcher.old))
+        (outside (O.written out.new) (E.written err.new) (F.content files.new))
+        (M.answers matcher.new)
+        (faults (F.faults files.old) (I.faults input.old) (O.faults out.old) (E.faults err.old))
+        (faults (F.faults files.new) (I.faults input.new) (O.faults out.new) (E.faults err.new))
+        result.cause }
+    ensures unread { I.left input.new ≡ I.left input.old }
+{
+    let mut reader = None;
+    let mut objects = Objects {
+        alloc,
+        files: &mut *files,
+        input: &mut *input,
+        out: &mut *out,
+        err: &mut *err,
+        matcher: &mut *matcher,
+        reader: &mut reader,
+    };
+    run_session(alloc, words, &mut objects)
+}
+
+// The session, and the line of its stop.
+#[tactic(auto, using(crate::proofs::Runs::running))]
+fn run_session<D: Desk>(alloc: Global, words: &[Text], desk: &mut D) -> Ending
+    ensures status { result.status ≡ status_of result.cause }
+    ensures ending { Ran (session words.now) (D.world desk.old).told
+        (outside_of (D.world desk.new).told) (D.world desk.new).told.answers
+        (D.world desk.old).faults (D.world desk.new).faults result.cause }
+    ensures lines { (D.world desk.new).told.lines ≡ (D.world desk.old).told.lines }
+    ensures unread { (D.world desk.new).told.unread ≡ (D.world desk.old).told.unread }
+    ensures same { (D.world desk.new).names ≡ (D.world desk.old).names }
+{
+    match session(alloc, words, desk) {
+        Ok(outcome) => Ending::of(cause_of_outcome(outcome)),
+        Err(stop) => {
+            tell_stop(stop, desk);
+            Ending::of(cause_of_stop(stop))
+        }
+    }
+}
+
+// Tells of what stopped a run, as far as standard error takes it. Of its own fault nothing is told.
+fn tell_stop<D: Desk>(stop: Stop, desk: &mut D)
+    ensures { Closes (D.world desk.old) (D.world desk.new) (stop_line stop) }
+{
+    match stop {
+        Stop::File => tell_front(b"pprof: file fault\n", desk),
+        Stop::Input => tell_front(b"pprof: input fault\n", desk),
+        Stop::Out => tell_front(b"pprof: output fault\n", desk),
+        Stop::Err => tell_front(b"", desk),
+        Stop::Memory => tell_front(b"pprof: out of memory\n", desk),
+    }
+}
+
+// A front of the line, whatever standard error answers.
+#[tactic(auto, using(pp_desk::proofs::Closing::closes))]
+fn tell_front<D: Desk>(line: &[u8], desk: &mut D)
+    ensures { Closes (D.world desk.old) (D.world desk.new) line.now }
+{
+    match desk.write_err(line) {
+        Ok(()) => (),
+        Err(_) => (),
+    }
+}
