@@ -1,0 +1,5 @@
+pub mod ForceLemmas
+mod Rows
+pub mod RunLemmas
+pub mod StageLemmas
+pub mod ToldLemmas

@@ -1,0 +1,87 @@
+-- What a stack filter leaves of frames stands for what it leaves of the frames' texts.
+use Rattle.std.proofs.Common.{◌≡◌, Bool, true, false, not, ◌&&◌, cond, List, [], ◌∷◌, map, refl, ap, ap₂, ◌∙◌}
+use Rattle.std.specs.Prelude.{Option, Some, None, option_map}
+use Rattle.std.specs.List.{list_any}
+use Rattle.std.specs.Option.{option_map_or}
+use Rattle.pp_model.specs.Finders.{Finder, Finders}
+use Rattle.pp_model.specs.Frames.{Written}
+use Rattle.pp_stack.specs.Filters.{finds_frame, finds_function, is_prunable, load_pruned, is_kept, not_hidden, shown, cut, shown_from, pruned_from, is_empty, shortened, passed, filtered}
+use Rattle.pp_stack.proofs.ToldLemmas.{list_any-map, filter-map, up_to_last-map, from_first-map, pruned-map}
+
+module _ {X : Type 0} (told : X → Written) where
+  -- where a pattern is in force, its filter stands for the same of the texts; else nothing changes
+  in_force : {A B : Type 0} (of : A → B) (pattern : Option Finder) (texts : Finder → B) (frames : Finder → A) (other : B) (same : A) →
+      ((find : Finder) → texts find ≡ of (frames find)) → other ≡ of same →
+      option_map_or texts pattern other ≡ of (option_map_or frames pattern same)
+  in_force of None texts frames other same each is = is
+  in_force of (Some find) texts frames other same each is = each find
+
+  pub load_pruned-map : (f : Finders) (xs : List X) → load_pruned (λ w. w) f (map told xs) ≡ map told (load_pruned told f xs)
+  load_pruned-map f xs =
+      in_force (map told) f.drop _ _ _ _ (λ drop. pruned-map told (is_prunable drop f.keep) xs) refl
+
+  -- whether a pattern finds a frame
+  finds-map : (pattern : Option Finder) (other : Bool) (xs : List X) →
+      option_map_or (λ find. list_any (finds_frame find) (map told xs)) pattern other
+      ≡ option_map_or (λ find. list_any (λ x. finds_frame find (told x)) xs) pattern other
+  finds-map pattern other xs =
+      in_force (λ b. b) pattern _ _ _ _ (λ find. list_any-map told (finds_frame find) xs) refl
+
+  pub is_kept-map : (f : Finders) (xs : List X) → is_kept (λ w. w) f (map told xs) ≡ is_kept told f xs
+  is_kept-map f xs = ap₂ (λ a b. not a && b) (finds-map f.ignore false xs) (finds-map f.focus true xs)
+
+  not_hidden-map : (f : Finders) (xs : List X) → not_hidden (λ w. w) f (map told xs) ≡ map told (not_hidden told f xs)
+  not_hidden-map f xs =
+      in_force (map told) f.hide _ _ _ _ (λ find. filter-map told (λ w. not (finds_frame find w)) xs) refl
+
+  shown-map : (f : Finders) (xs : List X) → shown (λ w. w) f (map told xs) ≡ map told (shown told f xs)
+  shown-map f xs = in_force (map told) f.show _ _ _ _ (λ find. filter-map told (finds_frame find) xs) refl
+
+  pub cut-map : (f : Finders) (xs : List X) → cut (λ w. w) f (map told xs) ≡ map told (cut told f xs)
+  cut-map f xs = ap (shown (λ w. w) f) (not_hidden-map f xs) ∙ shown-map f _
+
+  pub shown_from-map : (f : Finders) (xs : List X) → shown_from (λ w. w) f (map told xs) ≡ option_map (map told) (shown_from told f xs)
+  shown_from-map f xs =
+      in_force (option_map (map told)) f.show_from _ _ _ _ (λ find. up_to_last-map told (finds_frame find) xs) refl
+
+  pub pruned_from-map : (f : Finders) (xs : List X) → pruned_from (λ w. w) f (map told xs) ≡ map told (pruned_from told f xs)
+  pruned_from-map f xs =
+      in_force (map told) f.prune_from _ _ _ _ (λ find. from_first-map told (finds_function find) xs) refl
+
+  -- an empty stack stands for an empty one
+  is_empty-map : (xs : List X) → is_empty (map told xs) ≡ is_empty xs
+  is_empty-map [] = refl
+  is_empty-map (x ∷ xs) = refl
+
+  -- prune_from after show_from
+  ends-map : (f : Finders) (xs : Option (List X)) →
+      option_map (pruned_from (λ w. w) f) (option_map (map told) xs) ≡ option_map (map told) (option_map (pruned_from told f) xs)
+  ends-map f None = refl
+  ends-map f (Some xs) = ap Some (pruned_from-map f xs)
+
+  -- what is left, unless it is dropped
+  unless : (dropped : Bool) (texts : Option (List Written)) (frames : Option (List X)) → texts ≡ option_map (map told) frames →
+      cond dropped None texts ≡ option_map (map told) (cond dropped None frames)
+  unless true texts frames is = refl
+  unless false texts frames is = is
+
+  shortened-map : (f : Finders) (xs : List X) → shortened (λ w. w) f (map told xs) ≡ option_map (map told) (shortened told f xs)
+  shortened-map f xs =
+      ap₂ (λ dropped rest. cond dropped None rest)
+      (ap₂ (λ a b. not a && b) (is_empty-map xs) (ap is_empty (cut-map f xs) ∙ is_empty-map (cut told f xs)))
+      (ap (λ ys. option_map (pruned_from (λ w. w) f) (shown_from (λ w. w) f ys)) (cut-map f xs)
+      ∙ ap (option_map (pruned_from (λ w. w) f)) (shown_from-map f (cut told f xs)) ∙ ends-map f _)
+      ∙ unless _ _ _ refl
+
+  -- the same of what stays, where it stays
+  where_kept : (kept : Bool) (texts : Option (List Written)) (frames : Option (List X)) → texts ≡ option_map (map told) frames →
+      cond kept texts None ≡ option_map (map told) (cond kept frames None)
+  where_kept true texts frames is = is
+  where_kept false texts frames is = refl
+
+  passed-map : (f : Finders) (xs : List X) → passed (λ w. w) f (map told xs) ≡ option_map (map told) (passed told f xs)
+  passed-map f xs =
+      ap (λ b. cond b (shortened (λ w. w) f (map told xs)) None) (is_kept-map f xs) ∙ where_kept _ _ _ (shortened-map f xs)
+
+  pub filtered-map : (f : Finders) (xs : List X) → filtered (λ w. w) f (map told xs) ≡ option_map (map told) (filtered told f xs)
+  filtered-map f xs = ap (passed (λ w. w) f) (load_pruned-map f xs) ∙ passed-map f _

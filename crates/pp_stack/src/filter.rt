@@ -1,0 +1,85 @@
+//! All stack filters in their order.
+
+ghost use Rattle.std.specs.Prelude.{◌≡◌, map, option_map, IfOk, IfSome};
+ghost use Rattle.pp_model.specs.Conditions.{IsStackOf, HasVerdicts, RefersTo};
+ghost use Rattle.pp_model.specs.Finders.{Finders, HoldsFinders};
+ghost use Rattle.pp_model.specs.Frames.{written};
+ghost use Rattle.pp_stack.specs.Runs.{kept_if};
+ghost use Rattle.pp_stack.specs.Filters.{filtered, passed, shortened, frames_of_sample, stack_of_sample};
+
+use crate::stages::{cut, kept, load_prune, prune_from, show_from};
+use pp_base::Memory;
+use pp_model::{Loaded, Sample, Stack, Verdicts, frames};
+use std::alloc::Global;
+
+/// What all stack filters leave of the sample's stack, leaf first. None says that the sample is dropped, `Err` is want of
+/// memory.
+pub fn filter_stack(
+    alloc: Global,
+    l: &Loaded,
+    v: &Verdicts,
+    s: &Sample,
+) -> Result<Option<Stack>, Memory>
+    requires sample { RefersTo l.now.profile s.now }
+    requires verdicts { HasVerdicts l.now.profile v.now }
+    ensures places { (f : Finders) → HoldsFinders l.now v.now f →
+        IfOk result (λ stack. stack ≡ frames_of_sample l.now.profile f s.now) }
+    ensures texts { (f : Finders) → HoldsFinders l.now v.now f →
+        IfOk result (λ stack. option_map (map (written l.now.profile)) stack
+        ≡ stack_of_sample l.now.profile f s.now) }
+    ensures of_profile { IfOk result (λ stack. IfSome stack (IsStackOf l.now.profile)) }
+{
+    let mut stack = frames(alloc, l, s)?;
+    if filter_frames(l, v, &mut stack) {
+        Ok(Some(stack))
+    } else {
+        Ok(None)
+    }
+}
+
+/// The same of frames that are there already, cut in place: load pruning, ignore and focus, hide, show, show_from,
+/// prune_from. False says that the sample is dropped.
+pub fn filter_frames(l: &Loaded, v: &Verdicts, stack: &mut Stack) -> bool
+    requires frames { IsStackOf l.now.profile stack.old }
+    requires verdicts { HasVerdicts l.now.profile v.now }
+    ensures places { (f : Finders) → HoldsFinders l.now v.now f →
+        kept_if result stack.new ≡ filtered (written l.now.profile) f stack.old }
+    ensures texts { (f : Finders) → HoldsFinders l.now v.now f →
+        option_map (map (written l.now.profile)) (kept_if result stack.new)
+        ≡ filtered (λ w. w) f (map (written l.now.profile) stack.old) }
+    ensures of_profile { IsStackOf l.now.profile stack.new }
+{
+    load_prune(l, stack);
+    pass(l, v, stack)
+}
+
+// The filters of the report, after load pruning.
+fn pass(l: &Loaded, v: &Verdicts, stack: &mut Stack) -> bool
+    requires frames { IsStackOf l.now.profile stack.old }
+    requires verdicts { HasVerdicts l.now.profile v.now }
+    ensures places { (f : Finders) → HoldsFinders l.now v.now f →
+        kept_if result stack.new ≡ passed (written l.now.profile) f stack.old }
+    ensures of_profile { IsStackOf l.now.profile stack.new }
+{
+    kept(l, v, stack) && shorten(l, v, stack)
+}
+
+// The filters that take frames off a stack that stays, unless they leave nothing of it.
+fn shorten(l: &Loaded, v: &Verdicts, stack: &mut Stack) -> bool
+    requires frames { IsStackOf l.now.profile stack.old }
+    requires verdicts { HasVerdicts l.now.profile v.now }
+    ensures places { (f : Finders) → HoldsFinders l.now v.now f →
+        kept_if result stack.new ≡ shortened (written l.now.profile) f stack.old }
+    ensures of_profile { IsStackOf l.now.profile stack.new }
+{
+    let was_empty = stack.len() == 0;
+    cut(l, v, stack);
+    if !was_empty && stack.len() == 0 {
+        return false;
+    }
+    if !show_from(l, v, stack) {
+        return false;
+    }
+    prune_from(l, v, stack);
+    true
+}

@@ -1,0 +1,12 @@
+//! The stack filters: what stays of a sample's frames after load pruning, ignore and focus, hide and show, show_from and
+//! prune_from. A filter reads the verdict of a text by its index, and never searches a text.
+#![tactic(auto)]
+
+mod filter;
+mod finding;
+mod retain;
+mod runs;
+mod stages;
+
+pub use filter::{filter_frames, filter_stack};
+pub use stages::{cut, kept, load_prune, prune_from, show_from};
