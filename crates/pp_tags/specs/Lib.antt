@@ -1,0 +1,5 @@
+pub mod Labels
+pub mod Pairs
+pub mod TagFilters
+pub mod TagPairs
+pub mod Verdicts

@@ -1,0 +1,15 @@
+//! Labels: the tags of a profile, tag filters with the samples that they select, and the labels that are shown. A filter
+//! reads verdicts by the index of a text or of a tag, and never searches a text.
+#![tactic(auto)]
+
+mod labels;
+mod selecting;
+mod showing;
+mod tag_filter;
+mod tag_pairs;
+
+pub use labels::{has_text, number_unit};
+pub use selecting::{selects, tag_kept};
+pub use showing::show_tags;
+pub use tag_filter::TagFilter;
+pub use tag_pairs::tags_of;
