@@ -1,0 +1,6 @@
+pub mod AskedLemmas
+pub mod AskingLemmas
+pub mod FoundLemmas
+pub mod MaskLemmas
+pub mod PartLemmas
+mod Rows

@@ -1,0 +1,5 @@
+pub mod Asking
+pub mod Load
+pub mod Masks
+pub mod Patterns
+pub mod Report

@@ -1,0 +1,273 @@
+//! The patterns of a report.
+
+ghost use Rattle.std.specs.Prelude.{◌≡◌, [], IfOk, unwrap_or};
+ghost use Rattle.std.specs.Option.{option_copied};
+ghost use Rattle.pp_model.specs.declared.verdicts.Slot.TheVariants.{Own};
+ghost use Rattle.pp_desk.specs.Went.{Went};
+ghost use Rattle.pp_pattern.specs.Asking.{settled};
+ghost use Rattle.pp_pattern.specs.Patterns.{judge_option};
+ghost use Rattle.pp_pattern.specs.Report.{AreVerdictsOf, at, found_in, all_verdicts, judge, judge_with, verdicts_with, judge_frames, judge_tags, judge_filter, judge_names, verdicts_of, frames_found, tags_found, parts_found, names_found, tags_for};
+
+use crate::asking::judge_option;
+use crate::halt::{Halt, settle};
+use crate::parts::judge_parts;
+use crate::subjects::tag_texts;
+use pp_base::{List, Memory, Text};
+use pp_desk::{Desk, Stop};
+use pp_model::{Config, Loaded, Profile, Slot, Tag, Verdicts};
+use pp_tags::{TagFilter, tags_of};
+use std::alloc::Global;
+
+/// The matcher refused the pattern of this option.
+#[derive(Clone, Copy, Debug, PartialEq, Eq)]
+pub struct PatternRefused {
+    /// The option whose pattern it is, or `Own` for the pattern of a peek or list report.
+    pub option: Slot,
+}
+
+// What the patterns of frames find, by text.
+#[derive(Debug, Drop)]
+pub struct FrameVerdicts {
+    pub focus: Option<List<bool>>,
+    pub ignore: Option<List<bool>>,
+    pub hide: Option<List<bool>>,
+    pub show: Option<List<bool>>,
+    pub show_from: Option<List<bool>>,
+}
+
+// The tags of the profile, where a tag filter is in force, and what the parts of the filters find.
+#[derive(Debug, Drop)]
+pub struct TagVerdicts {
+    pub tag: List<Tag>,
+    pub tagfocus: List<List<bool>>,
+    pub tagignore: List<List<bool>>,
+}
+
+// What the other patterns find, by text.
+#[derive(Debug, Drop)]
+pub struct NameVerdicts {
+    pub prune_from: Option<List<bool>>,
+    pub tagshow: Option<List<bool>>,
+    pub taghide: Option<List<bool>>,
+    pub own: Option<List<bool>>,
+}
+
+/// Asks for the patterns of a report that aren't empty: focus, ignore, hide, show, show_from, the parts of tagfocus, those of
+/// tagignore, prune_from, tagshow, taghide, and `own`, the pattern of a peek or list report. No pattern is asked after one
+/// that is refused.
+pub fn judge<D: Desk>(
+    alloc: Global,
+    desk: &mut D,
+    config: &Config,
+    own: Option<&Text>,
+    l: &Loaded,
+) -> Result<Result<Verdicts, PatternRefused>, Stop>
+    ensures went { Went (D.world desk.old) (D.world desk.new)
+        (judge D.finds config.now (option_copied own.entry) l.now.profile) result }
+    ensures found { IfOk result (λ judged. IfOk judged
+        (λ v. v ≡ verdicts_of D.finds config.now (option_copied own.entry) l.now.profile)) }
+    ensures law { AreVerdictsOf D.finds config.now (option_copied own.entry) l.now
+        (verdicts_of D.finds config.now (option_copied own.entry) l.now.profile) }
+{
+    settle(judge_all(alloc, desk, config, own, l))
+}
+
+// Asks for all patterns.
+#[tactic(auto, using(crate::proofs::AskingLemmas::asking))]
+fn judge_all<D: Desk>(
+    alloc: Global,
+    desk: &mut D,
+    config: &Config,
+    own: Option<&Text>,
+    l: &Loaded,
+) -> Result<Verdicts, Halt<PatternRefused>>
+    ensures went { Went (D.world desk.old) (D.world desk.new)
+        (judge D.finds config.now (option_copied own.entry) l.now.profile) (settled result) }
+    ensures found { IfOk result
+        (λ v. v ≡ verdicts_of D.finds config.now (option_copied own.entry) l.now.profile) }
+{
+    let focus = TagFilter::in_force(alloc, config.tagfocus.as_slice())?;
+    let ignore = TagFilter::in_force(alloc, config.tagignore.as_slice())?;
+    judge_with(alloc, desk, config, own, l, &focus, &ignore)
+}
+
+// Asks for all patterns, with these tag filters.
+#[tactic(auto, using(crate::proofs::AskingLemmas::asking), unfolding(crate::specs::Report::judge_with))]
+fn judge_with<D: Desk>(
+    alloc: Global,
+    desk: &mut D,
+    config: &Config,
+    own: Option<&Text>,
+    l: &Loaded,
+    focus: &Option<TagFilter>,
+    ignore: &Option<TagFilter>,
+) -> Result<Verdicts, Halt<PatternRefused>>
+    ensures went { Went (D.world desk.old) (D.world desk.new)
+        (judge_with D.finds config.now (option_copied own.entry) l.now.profile focus.now ignore.now)
+        (settled result) }
+    ensures found { IfOk result (λ v. v ≡ verdicts_with D.finds config.now (option_copied own.entry)
+        l.now.profile focus.now ignore.now) }
+{
+    let texts = &l.profile.get().text;
+    let frames = judge_frames(desk, config, texts)?;
+    let tags = judge_tags(alloc, desk, l, focus, ignore)?;
+    let names = judge_names(desk, config, own, texts)?;
+    Ok(all_verdicts(frames, tags, names))
+}
+
+// The verdicts of the patterns of frames.
+#[tactic(auto, using(crate::proofs::AskingLemmas::asking), unfolding(crate::specs::Report::judge_frames))]
+fn judge_frames<D: Desk>(
+    desk: &mut D,
+    config: &Config,
+    texts: &List<Text>,
+) -> Result<FrameVerdicts, Halt<PatternRefused>>
+    ensures went { Went (D.world desk.old) (D.world desk.new)
+        (judge_frames D.finds config.now texts.now) (settled result) }
+    ensures found { IfOk result (λ v. v ≡ frames_found D.finds config.now texts.now) }
+{
+    let focus = judge_option(desk, at(Slot::Focus), &config.focus, texts)?;
+    let ignore = judge_option(desk, at(Slot::Ignore), &config.ignore, texts)?;
+    let hide = judge_option(desk, at(Slot::Hide), &config.hide, texts)?;
+    let show = judge_option(desk, at(Slot::Show), &config.show, texts)?;
+    let show_from = judge_option(desk, at(Slot::ShowFrom), &config.show_from, texts)?;
+    Ok(FrameVerdicts {
+        focus,
+        ignore,
+        hide,
+        show,
+        show_from,
+    })
+}
+
+// The refusal of an option's pattern.
+fn at(option: Slot) -> PatternRefused
+    ensures { result ≡ at option }
+{
+    PatternRefused { option }
+}
+
+// The tags where a filter is in force, and the verdicts of the filters' parts.
+#[tactic(auto, using(crate::proofs::AskingLemmas::asking), unfolding(crate::specs::Report::judge_tags))]
+fn judge_tags<D: Desk>(
+    alloc: Global,
+    desk: &mut D,
+    l: &Loaded,
+    focus: &Option<TagFilter>,
+    ignore: &Option<TagFilter>,
+) -> Result<TagVerdicts, Halt<PatternRefused>>
+    ensures went { Went (D.world desk.old) (D.world desk.new)
+        (judge_tags D.finds l.now.profile focus.now ignore.now) (settled result) }
+    ensures found { IfOk result (λ v. v ≡ tags_found D.finds l.now.profile focus.now ignore.now) }
+{
+    let tag = tags_for(alloc, l, focus, ignore)?;
+    let tagfocus = judge_filter(alloc, desk, Slot::TagFocus, l.profile.get(), &tag, focus)?;
+    let tagignore = judge_filter(alloc, desk, Slot::TagIgnore, l.profile.get(), &tag, ignore)?;
+    Ok(TagVerdicts {
+        tag,
+        tagfocus,
+        tagignore,
+    })
+}
+
+// The profile's tags, where a filter is in force.
+fn tags_for(
+    alloc: Global,
+    l: &Loaded,
+    focus: &Option<TagFilter>,
+    ignore: &Option<TagFilter>,
+) -> Result<List<Tag>, Memory>
+    ensures { IfOk result (λ tags. tags ≡ tags_for l.now.profile focus.now ignore.now) }
+{
+    match (focus, ignore) {
+        (None, None) => Ok(List::new(alloc)),
+        _ => tags_of(alloc, l),
+    }
+}
+
+// The verdicts of a filter's parts, where it is in force.
+#[tactic(auto, using(crate::proofs::AskingLemmas::asking), unfolding(crate::specs::Report::judge_filter))]
+fn judge_filter<D: Desk>(
+    alloc: Global,
+    desk: &mut D,
+    slot: Slot,
+    p: &Profile,
+    tags: &List<Tag>,
+    filter: &Option<TagFilter>,
+) -> Result<List<List<bool>>, Halt<PatternRefused>>
+    ensures went { Went (D.world desk.old) (D.world desk.new)
+        (judge_filter D.finds slot p.now tags.now filter.now) (settled result) }
+    ensures found { IfOk result (λ found. found ≡ parts_found D.finds p.now tags.now filter.now) }
+{
+    let Some(filter) = filter else {
+        return Ok(List::new(alloc));
+    };
+    if filter.name.len() > 0 {
+        return judge_parts(alloc, desk, at(slot), &filter.parts, &p.text);
+    }
+    let texts = tag_texts(alloc, p, tags.as_slice())?;
+    judge_parts(alloc, desk, at(slot), &filter.parts, &texts)
+}
+
+// The verdicts of the other patterns.
+#[tactic(auto, using(crate::proofs::AskingLemmas::asking), unfolding(crate::specs::Report::judge_names))]
+fn judge_names<D: Desk>(
+    desk: &mut D,
+    config: &Config,
+    own: Option<&Text>,
+    texts: &List<Text>,
+) -> Result<NameVerdicts, Halt<PatternRefused>>
+    ensures went { Went (D.world desk.old) (D.world desk.new)
+        (judge_names D.finds config.now (option_copied own.entry) texts.now) (settled result) }
+    ensures found { IfOk result
+        (λ v. v ≡ names_found D.finds config.now (option_copied own.entry) texts.now) }
+{
+    let prune_from = judge_option(desk, at(Slot::PruneFrom), &config.prune_from, texts)?;
+    let tagshow = judge_option(desk, at(Slot::TagShow), &config.tagshow, texts)?;
+    let taghide = judge_option(desk, at(Slot::TagHide), &config.taghide, texts)?;
+    let own = judge_own(desk, own, texts)?;
+    Ok(NameVerdicts {
+        prune_from,
+        tagshow,
+        taghide,
+        own,
+    })
+}
+
+// The verdicts of the report's own pattern, if it has one.
+#[tactic(auto, using(crate::proofs::AskingLemmas::asking), unfolding(crate::specs::Patterns::judge_option))]
+fn judge_own<D: Desk>(
+    desk: &mut D,
+    own: Option<&Text>,
+    texts: &List<Text>,
+) -> Result<Option<List<bool>>, Halt<PatternRefused>>
+    ensures went { Went (D.world desk.old) (D.world desk.new)
+        (judge_option D.finds (at Own) texts.now (unwrap_or (option_copied own.entry) []))
+        (settled result) }
+    ensures found { IfOk result (λ found. found
+        ≡ found_in D.finds texts.now (unwrap_or (option_copied own.entry) [])) }
+{
+    match own {
+        None => Ok(None),
+        Some(pattern) => judge_option(desk, at(Slot::Own), pattern, texts),
+    }
+}
+
+fn all_verdicts(frames: FrameVerdicts, tags: TagVerdicts, names: NameVerdicts) -> Verdicts
+    ensures { result ≡ all_verdicts frames tags names }
+{
+    Verdicts {
+        focus: frames.focus,
+        ignore: frames.ignore,
+        hide: frames.hide,
+        show: frames.show,
+        show_from: frames.show_from,
+        prune_from: names.prune_from,
+        tagshow: names.tagshow,
+        taghide: names.taghide,
+        own: names.own,
+        tag: tags.tag,
+        tagfocus: tags.tagfocus,
+        tagignore: tags.tagignore,
+    }
+}
