@@ -1,0 +1,31 @@
+-- A list of which a front has been changed, item by item.
+use Rattle.std.proofs.Common.{◌≡◌, ℕ, zero, suc, ◌+◌, ◌≤◌, List, [], ◌∷◌, ◌++◌, length, map, take, drop, set, slice_get, Some, sym, ap, ◌∙◌, arith, length-append, length-drop}
+use Rattle.std.proofs.lemmas.List.{length-map, length-take, append-nil, take_all, drop_all}
+use Rattle.std.proofs.lemmas.Option.{none-some, same_Some}
+
+module _ {A : Type 0} (f : A → A) where
+  -- the list with its first k items changed
+  abbrev pub changed_front : List A → ℕ → List A
+  changed_front xs k = map f (take k xs) ++ drop k xs
+
+  pub length-changed_front : (xs : List A) (k : ℕ) → k ≤ length xs → length (changed_front xs k) ≡ length xs
+  length-changed_front xs k within =
+      omega (arith, length-append (map f (take k xs)) (drop k xs), length-map (take k xs) f, length-take k xs, length-drop k xs)
+
+  step : (xs : List A) (k : ℕ) (x : A) → slice_get (changed_front xs k) k ≡ Some x → set (changed_front xs k) k (f x) ≡ changed_front xs (suc k)
+  step [] zero x at = absurd (none-some x at)
+  step [] (suc k) x at = absurd (none-some x at)
+  step (y ∷ ys) zero x at = (λ j. f (sym (same_Some _ _ at) j) ∷ ys)
+  step (y ∷ ys) (suc k) x at = (λ j. f y ∷ step ys k x at j)
+
+  -- the item at the end of the front is changed
+  pub change_next : (xs items now : List A) (k : ℕ) (x y : A) → items ≡ changed_front xs k → slice_get items k ≡ Some x → y ≡ f x → now ≡ set items k y
+      → now ≡ changed_front xs (k + 1)
+  change_next xs items now k x y so_far at is now_is =
+      let next : suc k ≡ k + 1 = omega arith in
+      now_is ∙ (λ j. set (so_far j) k (is j)) ∙ step xs k x (ap (λ l. slice_get l k) (sym so_far) ∙ at) ∙ ap (changed_front xs) next
+
+  -- the whole list is changed
+  pub changed_all : (xs items : List A) (k : ℕ) → items ≡ changed_front xs k → length items ≤ k → length xs ≤ k → items ≡ map f xs
+  changed_all xs items k so_far past end =
+      so_far ∙ (λ j. map f (take_all k xs end j) ++ drop_all k xs end j) ∙ append-nil (map f xs)

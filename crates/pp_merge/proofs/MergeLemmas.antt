@@ -1,0 +1,354 @@
+-- What follows where profiles can be merged: they can be joined, and what is left of them is what merging gives.
+use Rattle.std.proofs.Common.{◌≡◌, ◌≢◌, ℕ, ◌+◌, ◌<◌, ◌≤◌, Bool, true, false, true≢false, cond, not, ◌||◌, ◌&&◌, nat_lt, ℤ, pos, nat_abs, List, [], ◌∷◌, map, filter, length, length-append, get_or, sum_by, Option, None, Some, refl, sym, ap, subst, ◌∙◌, inl, inr, if◌then◌else◌, arith}
+use Rattle.std.specs.Prelude.{◌==◌, position, Ok, Err}
+use Rattle.std.specs.List.{All, AllByRecursion, flat_map, position_or_len, list_any, list_all, range_with_len}
+use Rattle.std.specs.Option.{option_map, option_or}
+use Rattle.std.specs.Cmp.Lexicographic.{pointwise}
+use Rattle.std.proofs.lemmas.Bool.{eq-eqb, eqb-true, ne_eqb, cases_eq, cond-false, ltb-true, ltb-false}
+use Rattle.std.proofs.lemmas.List.{length-map}
+use Rattle.std.proofs.lemmas.List.Elements.{All-from_recursion}
+use Rattle.std.proofs.lemmas.List.FromFn.{get_or-range_with_len, length-range_with_len}
+use Rattle.std.proofs.lemmas.List.Sums.{sum_by-append, sum_by-cons, fails_before_first}
+use Rattle.std.proofs.lemmas.Option.{none-some, same_Some}
+use Rattle.pp_model.specs.declared.profile.Mapping.{Mapping}
+use Rattle.pp_model.specs.declared.profile.Location.{Location}
+use Rattle.pp_model.specs.declared.profile.Function.{Function}
+use Rattle.pp_model.specs.declared.profile.Sample.{Sample}
+use Rattle.pp_model.specs.declared.profile.Profile.{Profile}
+use Rattle.pp_model.specs.Rules.{NoRuleFails, IsCompact, first_failing, begins_empty, zero_unless, stands_in, location_ids}
+use Rattle.pp_model.specs.Sizes.{absolute_sum, value_in}
+use Rattle.pp_model.proofs.RuleLemmas.{passes}
+use Rattle.pp_merge.specs.declared.refusal.What.{What}
+use Rattle.pp_merge.specs.declared.refusal.What.TheVariants.{SampleTypes, PeriodType}
+use Rattle.pp_merge.specs.declared.refusal.MergeRefusal.{MergeRefusal}
+use Rattle.pp_merge.specs.declared.refusal.MergeRefusal.TheVariants.{Incompatible, TotalTooLarge, Memory}
+use Rattle.pp_merge.specs.declared.join.Sizes.{Sizes}
+use Rattle.pp_merge.specs.Behind.{behind_id}
+use Rattle.pp_merge.specs.Ids.{place_id}
+use Rattle.pp_merge.specs.Header.{type_text}
+use Rattle.pp_merge.specs.Alike.{same_sample}
+use Rattle.pp_merge.specs.Sums.{counts, keys_of, sum_of, rows_of, summed}
+use Rattle.pp_merge.specs.FirstSight.{distinct}
+use Rattle.pp_merge.specs.Described.{SampleText}
+use Rattle.pp_merge.specs.Merge.{same_type, has_types_of, has_period_type_of, difference, disagreeing, too_large, all_samples, contents, merged, Merges}
+use Rattle.pp_merge.specs.Written.{FitsTypes, written}
+use Rattle.pp_merge.specs.Placed.{gist, totalled}
+use Rattle.pp_merge.specs.Renumbered.{renumbered_sample, renumbered_location}
+use Rattle.pp_merge.specs.Share.{NamesLocations, IsJoined}
+use Rattle.pp_merge.specs.Joined.{behind_ids, moved_behind, sizes_of, no_sizes, chained, joined, IsFew}
+use Rattle.pp_merge.specs.Merging.{CanMerge, Admits, join_from, IsWhole, IsMerged}
+use Rattle.pp_merge.proofs.Prefix.{by_recursion, all_tt}
+use Rattle.pp_merge.proofs.IdLemmas.{place_missed}
+use Rattle.pp_merge.proofs.Lists.{all_mapped, all_both, all_filter}
+use Rattle.pp_merge.proofs.SumLemmas.{length-total_of}
+use Rattle.pp_merge.proofs.SampleKeyLemmas.{all_of_map, sum_by-map}
+use Rattle.pp_merge.proofs.JoinLemmas.{behind_in}
+use Rattle.pp_merge.proofs.JoinedTables.{HasIds, Holds}
+use Rattle.pp_merge.proofs.JoinedAll.{joined_is, AllHaveIds, holds_next, holds_first, whole, whole_some, whole_empty, whole_gist, whole_duration, whole_rows, whole_types}
+use Rattle.pp_merge.proofs.ShareLemmas.{rows}
+use Rattle.pp_merge.proofs.SettledLemmas.{no_column}
+use Rattle.pp_merge.proofs.WrittenValid.{valid_written}
+use Rattle.pp_merge.proofs.WrittenCompact.{compact_written}
+
+nonzero_from : {A : Type 0} (f : A → ℕ) (xs : List A) → first_failing (λ id. nat_lt 0 id) (map f xs) ≡ None → AllByRecursion (λ x. f x ≢ 0) xs
+nonzero_from f xs nowhere =
+    by_recursion (λ x. f x ≢ 0) xs
+    (λ k d within e.
+    let above = ltb-true 0 (f (get_or xs k d)) (all_of_map (λ id. nat_lt 0 id ≡ true) f xs (passes (λ id. nat_lt 0 id) (map f xs) nowhere) k d within) in
+    let none : f (get_or xs k d) ≡ 0 = e in omega (arith, above, none))
+
+pub has_ids : (q : Profile) → NoRuleFails q → HasIds q
+has_ids q valid = record {
+  mappings = nonzero_from (λ (m : Mapping). m.id) q.mapping valid.mapping_zero;
+  functions = nonzero_from (λ (f : Function). f.id) q.function valid.function_zero;
+  locations = nonzero_from (λ (l : Location). l.id) q.location valid.location_zero;
+}
+
+all_have_ids : (qs : List Profile) → AllByRecursion NoRuleFails qs → AllHaveIds qs
+all_have_ids [] valid = tt
+all_have_ids (q ∷ qs) valid = (has_ids q valid.0, all_have_ids qs valid.1)
+
+text_start : (ts : List (List ℕ)) → zero_unless (begins_empty ts) ≡ None → (1 ≤ length ts) × (get_or ts 0 [] ≡ [])
+text_start [] is = absurd (none-some 0 (sym is))
+text_start ([] ∷ ts) is = (omega arith, refl)
+text_start ((b ∷ bs) ∷ ts) is = absurd (none-some 0 (sym is))
+
+-- Columns.
+pointwise_long : {A : Type 0} (same : A → A → Bool) (xs ys : List A) → pointwise same xs ys ≡ true → length xs ≡ length ys
+pointwise_long same [] [] is = refl
+pointwise_long same [] (y ∷ ys) is = absurd (true≢false (sym is))
+pointwise_long same (x ∷ xs) [] is = absurd (true≢false (sym is))
+pointwise_long same (x ∷ xs) (y ∷ ys) is = by (same x y) (pointwise_long same xs ys) is
+  where
+    by : (b : Bool) → (pointwise same xs ys ≡ true → length xs ≡ length ys) → (b && pointwise same xs ys) ≡ true → length (x ∷ xs) ≡ length (y ∷ ys)
+    by true rest h = let long = rest h in omega (arith, long)
+    by false rest h = absurd (true≢false (sym h))
+
+same_long : (p q : Profile) → difference p q ≡ None → length q.sample_type ≡ length p.sample_type
+same_long p q is = by (has_types_of p q) refl is
+  where
+    by : (b : Bool) → has_types_of p q ≡ b → (if b then if has_period_type_of p q then None else Some PeriodType else Some SampleTypes) ≡ None → length q.sample_type ≡ length p.sample_type
+    by true types h =
+        let long = pointwise_long same_type (map (type_text p) p.sample_type) (map (type_text q) q.sample_type) types in
+        omega (arith, long, length-map p.sample_type (type_text p), length-map q.sample_type (type_text q))
+    by false types h = absurd (none-some SampleTypes (sym h))
+
+-- no profile disagrees, where none is found that does
+pub none_differs : (p : Profile) (n : ℕ) (qs : List Profile) → disagreeing p n qs ≡ None → AllByRecursion (λ q. difference p q ≡ None) qs
+none_differs p n [] is = tt
+none_differs p n (q ∷ qs) is = by (difference p q) refl (none_differs p (n + 1) qs) is
+  where
+    by : (o : Option What) → difference p q ≡ o → (disagreeing p (n + 1) qs ≡ None → AllByRecursion (λ q. difference p q ≡ None) qs)
+        → option_or (option_map (λ what. (n, what)) o) (disagreeing p (n + 1) qs) ≡ None → AllByRecursion (λ q. difference p q ≡ None) (q ∷ qs)
+    by None e rest h = (e, rest h)
+    by (Some what) e rest h = absurd (none-some _ (sym h))
+
+-- Values.
+row_long : (q : Profile) (n : ℕ) → NoRuleFails q → length q.sample_type ≡ n → AllByRecursion (λ (row : List ℤ). length row ≡ n) (rows q)
+row_long q n valid long =
+    all_mapped (λ (row : List ℤ). length row ≡ n) (λ (s : Sample). s.value) (λ (s : Sample). length s.value ≡ n) (λ s is. is) q.sample
+    (by_recursion (λ (s : Sample). length s.value ≡ n) q.sample
+    (λ k d within. eqb-true _ _ (passes (λ (s : Sample). length s.value == length q.sample_type) q.sample valid.values k d within) ∙ long))
+
+sum_by-flat : {A B : Type 0} (weight : B → ℕ) (g : A → List B) (xs : List A) → sum_by weight (flat_map g xs) ≡ sum_by (λ x. sum_by weight (g x)) xs
+sum_by-flat weight g [] = refl
+sum_by-flat weight g (x ∷ xs) =
+    sum_by-append weight (g x) (flat_map g xs) ∙ ap (λ n. sum_by weight (g x) + n) (sum_by-flat weight g xs)
+    ∙ sym (sum_by-cons (λ y. sum_by weight (g y)) x xs)
+
+-- what is found nowhere fails everywhere
+none_passes : (test : ℕ → Bool) (n k : ℕ) → position test (range_with_len 0 n) ≡ None → k < n → test k ≡ false
+none_passes test n k is within =
+    let past = place_missed test (range_with_len 0 n) is in
+    let fails = fails_before_first test (range_with_len 0 n) k 0 (omega (arith, past, within, length-range_with_len 0 n)) in
+    let here : 0 + k ≡ k = omega arith in
+    ap test (sym (get_or-range_with_len 0 n k 0 within ∙ here)) ∙ fails
+
+-- References of samples.
+any_place : (ids : List ℕ) (id : ℕ) → list_any (λ other. other == id) ids ≡ true → position_or_len (λ other. id == other) ids < length ids
+any_place [] id is = absurd (true≢false (sym is))
+any_place (x ∷ xs) id is = elim (cases_eq x id) as (λ _. cond (not (id == x)) (1 + position_or_len (λ other. id == other) xs) 0 < length (x ∷ xs)) [
+  | inl same ↦ subst (λ b. cond (not b) (1 + position_or_len (λ other. id == other) xs) 0 < length (x ∷ xs)) (sym (eq-eqb id x (sym same))) (omega arith)
+  | inr other ↦
+      let rest = any_place xs id (ap (λ b. b || list_any (λ other. other == id) xs) (sym (ne_eqb x id other)) ∙ is) in
+      subst (λ b. cond (not b) (1 + position_or_len (λ other. id == other) xs) 0 < length (x ∷ xs)) (sym (ne_eqb id x (λ e. other (sym e)))) (omega (arith, rest))
+]
+
+any_nonzero : (ids : List ℕ) (id : ℕ) → AllByRecursion (λ x. x ≢ 0) ids → list_any (λ other. other == id) ids ≡ true → id ≢ 0
+any_nonzero [] id none is = absurd (true≢false (sym is))
+any_nonzero (x ∷ xs) id none is = elim (cases_eq x id) as (λ _. id ≢ 0) [
+  | inl same ↦ λ e. none.0 (same ∙ e)
+  | inr other ↦ any_nonzero xs id none.1 (ap (λ b. b || list_any (λ other. other == id) xs) (sym (ne_eqb x id other)) ∙ is)
+]
+
+all_listed : {A : Type 0} (test : A → Bool) (xs : List A) → list_all test xs ≡ true → AllByRecursion (λ x. test x ≡ true) xs
+all_listed test [] is = tt
+all_listed test (x ∷ xs) is = by (test x) refl (all_listed test xs) is
+  where
+    by : (b : Bool) → test x ≡ b → (list_all test xs ≡ true → AllByRecursion (λ x. test x ≡ true) xs) → (b && list_all test xs) ≡ true → AllByRecursion (λ x. test x ≡ true) (x ∷ xs)
+    by true e rest h = (e, rest h)
+    by false e rest h = absurd (true≢false (sym h))
+
+module _ (final : Profile) where
+  -- the samples of a profile that is joined name locations that are there
+  own_refs : (after : Sizes) (q : Profile) → Holds after q final → NoRuleFails q
+      → AllByRecursion (NamesLocations (length final.location)) (map (renumbered_sample (behind_ids after q)) q.sample)
+  own_refs after q holds valid =
+      all_mapped (NamesLocations (length final.location)) (renumbered_sample (behind_ids after q)) (λ (s : Sample). list_all (stands_in (location_ids q)) s.location_id ≡ true)
+      (λ s is. all_mapped (λ id. (1 ≤ id) × (id ≤ length final.location)) (behind_ids after q).location (λ id. stands_in (location_ids q) id ≡ true) here s.location_id
+      (all_listed (stands_in (location_ids q)) s.location_id is))
+      q.sample (by_recursion (λ (s : Sample). list_all (stands_in (location_ids q)) s.location_id ≡ true) q.sample
+      (passes (λ (s : Sample). list_all (stands_in (location_ids q)) s.location_id) q.sample valid.sample_reference))
+    where
+      long : length final.location ≡ after.location + (length q.location + length holds.locations_after)
+      long =
+          ap length holds.locations ∙ length-append holds.locations_before _
+          ∙ (λ j. holds.locations_long j + length-append (map (renumbered_location (behind_ids after q)) q.location) holds.locations_after j)
+          ∙ ap (λ n. after.location + (n + length holds.locations_after)) (length-map q.location (renumbered_location (behind_ids after q)))
+
+      none_zero : AllByRecursion (λ x. x ≢ 0) (location_ids q)
+      none_zero = all_mapped (λ x. x ≢ 0) (λ (l : Location). l.id) (λ (l : Location). l.id ≢ 0) (λ l is. is) q.location (has_ids q valid).locations
+
+      here : (id : ℕ) → stands_in (location_ids q) id ≡ true → (1 ≤ (behind_ids after q).location id) × ((behind_ids after q).location id ≤ length final.location)
+      here id is =
+          let other = any_nonzero (location_ids q) id none_zero is in
+          let below = any_place (location_ids q) id is in
+          let many = length-map q.location (λ (l : Location). l.id) in
+          let place : place_id (location_ids q) id ≡ position_or_len (λ o. id == o) (location_ids q) + 1 = cond-false _ _ _ (ne_eqb id 0 other) in
+          let at : (behind_ids after q).location id ≡ after.location + (position_or_len (λ o. id == o) (location_ids q) + 1) =
+          ap (behind_id after.location (length (location_ids q))) place
+          ∙ behind_in after.location (length (location_ids q)) (position_or_len (λ o. id == o) (location_ids q) + 1)
+          (λ e. let none : position_or_len (λ o. id == o) (location_ids q) + 1 ≡ 0 = e in omega (arith, none)) (omega (arith, below)) in
+          (omega (arith, at), omega (arith, at, below, many, long))
+
+  refs_from : (a : Profile) (qs : List Profile) → join_from a qs ≡ final → AllByRecursion NoRuleFails qs
+      → AllByRecursion (NamesLocations (length final.location)) a.sample → AllByRecursion (NamesLocations (length final.location)) (join_from a qs).sample
+  refs_from a [] is valid all = all
+  refs_from a (q ∷ qs) is valid all =
+      refs_from (chained a (moved_behind (sizes_of a) q)) qs is valid.1
+      (all_both (NamesLocations (length final.location)) a.sample _ all
+      (own_refs (sizes_of a) q (subst (Holds (sizes_of a) q) is (holds_next a q qs)) valid.0))
+
+  pub refs_all : (p : Profile) (ps : List Profile) → join_from (moved_behind no_sizes p) ps ≡ final → AllByRecursion NoRuleFails (p ∷ ps)
+      → AllByRecursion (NamesLocations (length final.location)) (join_from (moved_behind no_sizes p) ps).sample
+  refs_all p ps is valid =
+      refs_from (moved_behind no_sizes p) ps is valid.1 (own_refs no_sizes p (subst (Holds no_sizes p) is (holds_first p ps)) valid.0)
+
+-- What merging gives has a value per type.
+pub fits_contents : (p : Profile) (ps : List Profile) → FitsTypes (contents p ps)
+fits_contents p ps = record { rows = long; typed = λ none. no_column (contents p ps).samples (zero_long none) counted }
+  where
+    items : List (SampleText × List ℤ)
+    items = summed same_sample (length p.sample_type) (all_samples (p ∷ ps))
+
+    types_long : length (contents p ps).header.types ≡ length p.sample_type
+    types_long = length-map p.sample_type (type_text p)
+
+    long : AllByRecursion (λ s. length s.1 ≡ length (contents p ps).header.types) (contents p ps).samples
+    long =
+        all_filter (λ (s : SampleText × List ℤ). length s.1 ≡ length (contents p ps).header.types) counts items
+        (all_mapped (λ (s : SampleText × List ℤ). length s.1 ≡ length (contents p ps).header.types) (λ key. (key, sum_of same_sample (length p.sample_type) (all_samples (p ∷ ps)) key))
+        (λ _. Unit {0}) (λ key _. length-total_of (length p.sample_type) (rows_of same_sample (all_samples (p ∷ ps)) key) ∙ sym types_long)
+        (distinct same_sample (keys_of same_sample (all_samples (p ∷ ps)))) (all_tt (distinct same_sample (keys_of same_sample (all_samples (p ∷ ps))))))
+
+    zero_long : length (contents p ps).header.types ≡ 0 → AllByRecursion (λ s. length s.1 ≡ 0) (contents p ps).samples
+    zero_long none = subst (λ n. AllByRecursion (λ s. length s.1 ≡ n) (contents p ps).samples) none long
+
+    counted : AllByRecursion (λ s. counts s ≡ true) (contents p ps).samples
+    counted = passing items
+      where
+        passing : (xs : List (SampleText × List ℤ)) → AllByRecursion (λ s. counts s ≡ true) (filter counts xs)
+        passing [] = tt
+        passing (x ∷ xs) = by (counts x) refl (passing xs)
+          where
+            by : (b : Bool) → counts x ≡ b → AllByRecursion (λ s. counts s ≡ true) (filter counts xs) → AllByRecursion (λ s. counts s ≡ true) (if b then x ∷ filter counts xs else filter counts xs)
+            by true e rest = (e, rest)
+            by false e rest = rest
+
+-- Profiles that can be merged.
+module _ (p : Profile) (ps : List Profile) (valid : AllByRecursion NoRuleFails (p ∷ ps)) (agree : disagreeing p 1 ps ≡ None)
+    (small : too_large (length p.sample_type) (p ∷ ps) ≡ None) (few : length (join_from (moved_behind no_sizes p) ps).text < 4611686018427387904) where
+  pub ids : AllHaveIds (p ∷ ps)
+  ids = all_have_ids (p ∷ ps) valid
+
+  pub start : (1 ≤ length p.text) × (get_or p.text 0 [] ≡ [])
+  start = text_start p.text valid.0.text_zero
+
+  abbrev pub one : Profile
+  one = whole p ps ids start.0 start.1 few
+
+  pub one_joined : IsJoined one
+  one_joined = record {
+    some = whole_some p ps ids start.0 start.1 few;
+    empty = whole_empty p ps ids start.0 start.1 few;
+    few = few;
+    samples = refs_all (join_from (moved_behind no_sizes p) ps) p ps refl valid;
+    duration = whole_duration p ps ids start.0 start.1 few;
+  }
+
+  types_long : length one.sample_type ≡ length p.sample_type
+  types_long = whole_types p ps ids start.0 start.1 few
+
+  rows_are : rows one ≡ flat_map rows (p ∷ ps)
+  rows_are = whole_rows p ps ids start.0 start.1 few
+
+  rows_long : AllByRecursion (λ (row : List ℤ). length row ≡ length one.sample_type) (flat_map rows (p ∷ ps))
+  rows_long = (all_both _ (rows p) (flat_map rows ps) (row_long p (length one.sample_type) valid.0 (sym types_long)) (others ps valid.1 (none_differs p 1 ps agree)))
+    where
+      others : (qs : List Profile) → AllByRecursion NoRuleFails qs → AllByRecursion (λ q. difference p q ≡ None) qs
+          → AllByRecursion (λ (row : List ℤ). length row ≡ length one.sample_type) (flat_map rows qs)
+      others [] v d = tt
+      others (q ∷ qs) v d = all_both _ (rows q) (flat_map rows qs) (row_long q (length one.sample_type) v.0 (same_long p q d.0 ∙ sym types_long)) (others qs v.1 d.1)
+
+  pub one_wide : All (λ (s : Sample). length s.value ≡ length one.sample_type) one.sample
+  one_wide =
+      all_of_map (λ (row : List ℤ). length row ≡ length one.sample_type) (λ (s : Sample). s.value) one.sample
+      (All-from_recursion (λ (row : List ℤ). length row ≡ length one.sample_type) (rows one)
+      (subst (AllByRecursion (λ (row : List ℤ). length row ≡ length one.sample_type)) (sym rows_are) rows_long))
+
+  pub one_fits : (column : ℕ) → column < length one.sample_type → sum_by (λ (s : Sample). nat_abs (value_in s column)) one.sample ≤ 9223372036854775807
+  one_fits column lower =
+      let weight : List ℤ → ℕ = λ row. nat_abs (get_or row column (pos 0)) in
+      let fails = none_passes (λ c. nat_lt 9223372036854775807 (sum_by (λ q. absolute_sum q c) (p ∷ ps))) (length p.sample_type) column small (omega (arith, lower, types_long)) in
+      let within = ltb-false 9223372036854775807 (sum_by (λ q. absolute_sum q column) (p ∷ ps)) fails in
+      let is : sum_by (λ (s : Sample). nat_abs (value_in s column)) one.sample ≡ sum_by (λ q. sum_by weight (rows q)) (p ∷ ps) =
+      sym (sum_by-map weight (λ (s : Sample). s.value) one.sample) ∙ ap (sum_by weight) rows_are ∙ sum_by-flat weight rows (p ∷ ps) in
+      let each : sum_by (λ q. sum_by weight (rows q)) (p ∷ ps) ≡ sum_by (λ q. absolute_sum q column) (p ∷ ps) = columns weight (p ∷ ps) in
+      omega (arith, within, is, each)
+    where
+      columns : (weight : List ℤ → ℕ) (qs : List Profile) → sum_by (λ q. sum_by weight (rows q)) qs ≡ sum_by (λ (q : Profile). sum_by (λ (s : Sample). weight s.value) q.sample) qs
+      columns weight [] = refl
+      columns weight (q ∷ qs) =
+          sum_by-cons (λ r. sum_by weight (rows r)) q qs
+          ∙ (λ j. sum_by-map weight (λ (s : Sample). s.value) q.sample j + columns weight qs j)
+          ∙ sym (sum_by-cons (λ (r : Profile). sum_by (λ (s : Sample). weight s.value) r.sample) q qs)
+
+  -- what is left of the profiles, written anew, is what merging gives
+  pub one_merged : written (totalled (length one.sample_type) (gist one)) ≡ merged p ps
+  one_merged = (λ j. written (totalled (types_long j) (whole_gist p ps ids start.0 start.1 few j)))
+
+  pub merged_valid : NoRuleFails (merged p ps)
+  merged_valid = valid_written (contents p ps) (fits_contents p ps)
+
+  pub merged_compact : IsCompact (merged p ps)
+  merged_compact = compact_written (contents p ps)
+
+-- What a joined profile keeps to that is to be shared.
+pub record IsShareable (whole : Profile) : Type 0 where
+  pub joined : IsJoined whole
+  pub wide : All (λ (s : Sample). length s.value ≡ length whole.sample_type) whole.sample
+  pub fits : (column : ℕ) → column < length whole.sample_type → sum_by (λ (s : Sample). nat_abs (value_in s column)) whole.sample ≤ 9223372036854775807
+
+-- what is left of the profiles is what merging gives of them, in order
+pub record IsLeft (list : List Profile) (r : Profile) : Type 0 where
+  pub merged_is : IsMerged list r
+  pub valid : NoRuleFails r
+  pub compact : IsCompact r
+
+pub whole_shareable : (list : List Profile) (duration : ℤ) (r : Profile) → CanMerge list duration → IsWhole list r → IsShareable r
+whole_shareable [] duration r can is = absurd is
+whole_shareable (p ∷ ps) duration r can is =
+    let few = subst (λ (q : Profile). length q.text < 4611686018427387904) is.0 is.1.0 in
+    subst IsShareable (sym is.0)
+    (record {
+      joined = one_joined p ps is.1.1 can.0 can.1.0 few;
+      wide = one_wide p ps is.1.1 can.0 can.1.0 few;
+      fits = one_fits p ps is.1.1 can.0 can.1.0 few;
+    })
+
+pub whole_left : (list : List Profile) (duration : ℤ) (r m : Profile) → CanMerge list duration → IsWhole list r
+    → m ≡ written (totalled (length r.sample_type) (gist r)) → IsLeft list m
+whole_left [] duration r m can is done = absurd is
+whole_left (p ∷ ps) duration r m can is done =
+    let few = subst (λ (q : Profile). length q.text < 4611686018427387904) is.0 is.1.0 in
+    let same : m ≡ merged p ps =
+    done ∙ ap (λ (q : Profile). written (totalled (length q.sample_type) (gist q))) is.0 ∙ one_merged p ps is.1.1 can.0 can.1.0 few in
+    record {
+      merged_is = same;
+      valid = subst NoRuleFails (sym same) (valid_written (contents p ps) (fits_contents p ps));
+      compact = subst IsCompact (sym same) (compact_written (contents p ps));
+    }
+
+-- the joined profile with the duration of all
+pub whole_is : (list : List Profile) (duration : ℤ) (o : Option Profile) (found r : Profile) → CanMerge list duration → o ≡ Some found → o ≡ joined list → IsFew o
+    → AllByRecursion NoRuleFails list → r ≡ record found { duration_nanos = duration } → IsWhole list r
+whole_is [] duration o found r can some is few valid done = absurd can
+whole_is (p ∷ ps) duration o found r can some is few valid done =
+    let same : found ≡ join_from (moved_behind no_sizes p) ps = same_Some _ _ (sym some ∙ is ∙ joined_is (moved_behind no_sizes p) ps) in
+    let short = subst IsFew some few in
+    (done ∙ (λ j. record (same j) { duration_nanos = can.1.1 j }), (subst (λ (q : Profile). length q.text < 4611686018427387904) (sym done) short, valid))
+
+-- What the stages answer is what merging answers.
+pub merges_merged : (list : List Profile) (duration : ℤ) (r : Profile) → CanMerge list duration → IsMerged list r → Merges list (Ok r)
+merges_merged [] duration r can is = tt
+merges_merged (p ∷ ps) duration r can is = (can.0, (can.1.0, is))
+
+pub merges_refused : (list : List Profile) (e : MergeRefusal) → Admits list (Err e) → Merges list (Err e)
+merges_refused [] e is = tt
+merges_refused (p ∷ ps) (Incompatible source what) is = is
+merges_refused (p ∷ ps) (TotalTooLarge column) is = is
+merges_refused (p ∷ ps) Memory is = tt
+
+pub merges_memory : (list : List Profile) → Merges list (Err Memory)
+merges_memory [] = tt
+merges_memory (p ∷ ps) = tt

@@ -1,0 +1,79 @@
+-- Profiles one behind the other, as one whose references are by place.
+use Rattle.std.specs.Prelude.{◌+◌, ◌<◌, ◌^◌, ⊤, ℤ, List, [], ◌++◌, fold, length, Option, Some, None, if◌then◌else◌}
+use Rattle.std.specs.Str.{bytes_eq}
+use Rattle.pp_model.specs.declared.profile.Profile.{Profile}
+use Rattle.pp_model.specs.Frames.{text_of, text_number}
+use Rattle.pp_model.specs.Rules.{mapping_ids, function_ids, location_ids}
+use Rattle.pp_merge.specs.declared.join.Sizes.{Sizes}
+use Rattle.pp_merge.specs.Behind.{behind_id}
+use Rattle.pp_merge.specs.Ids.{place_id, index_of_id}
+use Rattle.pp_merge.specs.Renumbered.{NewIds, renumbered}
+use Rattle.pp_merge.specs.Header.{greater, earlier}
+
+-- What ids become where the profile's tables stand behind others of these sizes: places there plus 1.
+abbrev pub behind_ids : Sizes → Profile → NewIds
+behind_ids after p = record {
+  text = λ index. index_of_id (behind_id after.text (length p.text) (text_number index + 1));
+  mapping = λ id. behind_id after.mapping (length (mapping_ids p)) (place_id (mapping_ids p) id);
+  function = λ id. behind_id after.function (length (function_ids p)) (place_id (function_ids p) id);
+  location = λ id. behind_id after.location (length (location_ids p)) (place_id (location_ids p) id);
+}
+
+-- the profile with its references by place, as its tables stand behind others of these sizes
+abbrev pub moved_behind : Sizes → Profile → Profile
+moved_behind after p = renumbered (behind_ids after p) p
+
+-- the sizes of the profile's tables
+abbrev pub sizes_of : Profile → Sizes
+sizes_of p = record {
+  text = length p.text;
+  mapping = length p.mapping;
+  function = length p.function;
+  location = length p.location;
+}
+
+-- no tables
+abbrev pub no_sizes : Sizes
+no_sizes = record { text = 0; mapping = 0; function = 0; location = 0 }
+
+-- the index of the text in the profile where that isn't empty, and else the other index
+abbrev pub first_text : Profile → ℤ → ℤ → ℤ
+first_text p index other = if bytes_eq (text_of p index) [] then other else index
+
+-- the first profile's header, with the greatest period, the first time and the first texts that aren't
+-- empty of both
+abbrev pub with_header_of : Profile → Profile → Profile
+with_header_of a b =
+    record a {
+      time_nanos = earlier a.time_nanos b.time_nanos;
+      period = greater a.period b.period;
+      default_sample_type = first_text a a.default_sample_type b.default_sample_type;
+      doc_url = first_text a a.doc_url b.doc_url;
+    }
+
+-- The tables of both, the first one's types and patterns, and what the header of both says. The
+-- duration stays the first one's.
+abbrev pub chained : Profile → Profile → Profile
+chained a b =
+    record (with_header_of a b) {
+      sample = a.sample ++ b.sample;
+      mapping = a.mapping ++ b.mapping;
+      location = a.location ++ b.location;
+      function = a.function ++ b.function;
+      text = a.text ++ b.text;
+      comment = a.comment ++ b.comment;
+    }
+
+-- the profile behind those that are joined
+abbrev pub joined_next : Option Profile → Profile → Profile
+joined_next None p = moved_behind no_sizes p
+joined_next (Some joined) p = chained joined (moved_behind (sizes_of joined) p)
+
+-- The profiles as one, each behind those before it.
+abbrev pub joined : List Profile → Option Profile
+joined list = fold (λ joined p. Some (joined_next joined p)) None list
+
+-- the texts of the joined profile can be counted
+abbrev pub IsFew : Option Profile → Type 0
+IsFew None = ⊤
+IsFew (Some joined) = length joined.text < 2 ^ 62

@@ -1,0 +1,236 @@
+//! Profiles one behind the other, as one.
+ghost use Rattle.std.specs.Prelude.{◌≡◌, ℕ, ◌+◌, ◌<◌, ◌^◌, ◌++◌, None, length, IfOk, OnOk};
+ghost use Rattle.std.specs.List.{AllByRecursion};
+ghost use Rattle.pp_model.specs.Rules.{NoRuleFails, first_repeated, mapping_ids, function_ids, location_ids};
+ghost use Rattle.pp_merge.specs.Behind.{behind_id};
+ghost use Rattle.pp_merge.specs.Ids.{place_id, new_id};
+ghost use Rattle.pp_merge.specs.Renumbered.{new_ids};
+ghost use Rattle.pp_merge.specs.Joined.{behind_ids, moved_behind, chained, with_header_of, first_text, no_sizes, sizes_of, joined_next, joined, IsFew};
+ghost use Rattle.pp_merge.specs.Header.{greater, earlier};
+
+use crate::behind::Behind;
+use crate::ids::{Ids, Known};
+use crate::known::known_ids;
+use crate::renumber::{Renumbering, renumber};
+use pp_base::{List, Memory};
+use pp_model::{Profile, Valid, text_of};
+use std::alloc::Global;
+use std::mem;
+
+/// The profiles as one, each behind those before it: their tables and comments one after the other, and the header by the
+/// rules of merging, but for the duration, which stays the first one's. References are by place. `None` for no profiles.
+pub fn join(alloc: Global, list: List<Valid>) -> Result<Option<Profile>, Memory>
+    ensures same { IfOk result (λ r. r ≡ joined list) }
+    ensures few { IfOk result IsFew }
+    ensures valid { IfOk result (λ r. AllByRecursion NoRuleFails list) }
+{
+    let mut joined = None;
+    for valid in list.into_vec() {
+        let p = valid.into_profile();
+        let next = join_next(alloc, joined, p)?;
+        joined = Some(next);
+    }
+    Ok(joined)
+}
+
+// The profile behind those that are joined.
+fn join_next(alloc: Global, joined: Option<Profile>, p: Profile) -> Result<Profile, Memory>
+    requires { NoRuleFails p }
+    ensures same { IfOk result (λ r. r ≡ joined_next joined p) }
+    ensures few { IfOk result (λ r. length r.text < 2 ^ 62) }
+{
+    match joined {
+        None => first_joined(alloc, p),
+        Some(joined) => joined_behind(alloc, joined, p),
+    }
+}
+
+// The profile as the first one.
+fn first_joined(alloc: Global, p: Profile) -> Result<Profile, Memory>
+    requires { NoRuleFails p }
+    ensures same { IfOk result (λ r. r ≡ moved_behind no_sizes p) }
+    ensures few { IfOk result (λ r. length r.text < 2 ^ 62) }
+{
+    let sizes = no_sizes();
+    let moved = moved_behind(alloc, &sizes, p)?;
+    Ok(moved)
+}
+
+// The profile behind others.
+fn joined_behind(alloc: Global, joined: Profile, p: Profile) -> Result<Profile, Memory>
+    requires { NoRuleFails p }
+    ensures same { IfOk result (λ r. r ≡ chained joined (moved_behind (sizes_of joined) p)) }
+    ensures few { IfOk result (λ r. length r.text < 2 ^ 62) }
+{
+    let sizes = sizes_of(&joined);
+    let moved = moved_behind(alloc, &sizes, p)?;
+    let both = chain(alloc, joined, moved)?;
+    Ok(both)
+}
+
+// How many entries the tables have.
+#[derive(Clone, Copy, Debug)]
+struct Sizes {
+    text: usize,
+    mapping: usize,
+    function: usize,
+    location: usize,
+}
+
+fn no_sizes() -> Sizes
+    ensures { result ≡ no_sizes }
+{
+    Sizes {
+        text: 0,
+        mapping: 0,
+        function: 0,
+        location: 0,
+    }
+}
+
+fn sizes_of(p: &Profile) -> Sizes
+    ensures { result ≡ sizes_of p.now }
+{
+    Sizes {
+        text: p.text.len(),
+        mapping: p.mapping.len(),
+        function: p.function.len(),
+        location: p.location.len(),
+    }
+}
+
+// The profile with its references by place, as its tables stand behind tables of these sizes.
+fn moved_behind(alloc: Global, after: &Sizes, mut p: Profile) -> Result<Profile, Memory>
+    requires { NoRuleFails p }
+    ensures same { IfOk result (λ r. r ≡ moved_behind after.now p) }
+    ensures few { IfOk result (λ r. after.now.text + length p.text < 2 ^ 62) }
+{
+    let by = behind(alloc, after, &p)?;
+    renumber(&mut p, &by);
+    Ok(p)
+}
+
+// What the profile's references become.
+fn behind(alloc: Global, after: &Sizes, p: &Profile) -> Result<Renumbering, Memory>
+    requires { NoRuleFails p.now }
+    ensures same { IfOk result (λ by. new_ids by ≡ behind_ids after.now p.now) }
+    ensures few { IfOk result (λ by. after.now.text + length p.now.text < 2 ^ 62) }
+{
+    let texts = Behind::new(after.text, p.text.len())?;
+    let mappings = mapping_ids(alloc, p)?;
+    let mapping = ids_behind(alloc, after.mapping, mappings.as_slice())?;
+    let functions = function_ids(alloc, p)?;
+    let function = ids_behind(alloc, after.function, functions.as_slice())?;
+    let locations = location_ids(alloc, p)?;
+    let location = ids_behind(alloc, after.location, locations.as_slice())?;
+    Ok(Renumbering {
+        text: Ids::Moved(Known::InOrder, texts),
+        mapping,
+        function,
+        location,
+    })
+}
+
+// What ids become where their table goes behind others.
+fn ids_behind(alloc: Global, after: usize, ids: &[u64]) -> Result<Ids, Memory>
+    requires { first_repeated ids.now ≡ None }
+    ensures { IfOk result (λ r. (id : ℕ) → new_id r id ≡ behind_id after (length ids.now) (place_id ids.now id)) }
+{
+    let known = known_ids(alloc, ids)?;
+    let behind = Behind::new(after, ids.len())?;
+    Ok(Ids::Moved(known, behind))
+}
+
+fn mapping_ids(alloc: Global, p: &Profile) -> Result<Vec<u64>, Memory>
+    ensures { IfOk result (λ ids. ids.items ≡ mapping_ids p.now) }
+{
+    let ids = p.mapping.as_slice().iter().map(|m| m.id).collect(alloc)?;
+    Ok(ids)
+}
+
+fn function_ids(alloc: Global, p: &Profile) -> Result<Vec<u64>, Memory>
+    ensures { IfOk result (λ ids. ids.items ≡ function_ids p.now) }
+{
+    let ids = p.function.as_slice().iter().map(|f| f.id).collect(alloc)?;
+    Ok(ids)
+}
+
+fn location_ids(alloc: Global, p: &Profile) -> Result<Vec<u64>, Memory>
+    ensures { IfOk result (λ ids. ids.items ≡ location_ids p.now) }
+{
+    let ids = p.location.as_slice().iter().map(|l| l.id).collect(alloc)?;
+    Ok(ids)
+}
+
+// The tables of both, and the header of both.
+fn chain(alloc: Global, mut joined: Profile, p: Profile) -> Result<Profile, Memory>
+    ensures { IfOk result (λ r. r ≡ chained joined p) }
+{
+    chain_header(&mut joined, &p);
+    append(alloc, &mut joined.sample, p.sample)?;
+    append(alloc, &mut joined.mapping, p.mapping)?;
+    append(alloc, &mut joined.location, p.location)?;
+    append(alloc, &mut joined.function, p.function)?;
+    append(alloc, &mut joined.text, p.text)?;
+    append(alloc, &mut joined.comment, p.comment)?;
+    Ok(joined)
+}
+
+// The header of both.
+fn chain_header(joined: &mut Profile, p: &Profile)
+    ensures { joined.new ≡ with_header_of joined.old p.now }
+{
+    let default_sample_type = first_text(joined, joined.default_sample_type, p.default_sample_type);
+    let doc_url = first_text(joined, joined.doc_url, p.doc_url);
+    set(&mut joined.default_sample_type, default_sample_type);
+    set(&mut joined.doc_url, doc_url);
+    keep_earlier(&mut joined.time_nanos, p.time_nanos);
+    keep_greater(&mut joined.period, p.period);
+}
+
+// The index of the text in the profile where that isn't empty, and else the other index.
+fn first_text(p: &Profile, index: i64, other: i64) -> i64
+    ensures { result ≡ first_text p.now index other }
+{
+    if text_of(p, index).is_empty() {
+        other
+    } else {
+        index
+    }
+}
+
+/// Sets the number.
+pub fn set(number: &mut i64, value: i64)
+    ensures { number.new ≡ value }
+{
+    *number = value;
+}
+
+// Keeps the greater number.
+fn keep_greater(number: &mut i64, other: i64)
+    ensures { number.new ≡ greater number.old other }
+{
+    if *number < other {
+        *number = other;
+    }
+}
+
+// Keeps the lesser number, where 0 stands for none.
+fn keep_earlier(number: &mut i64, other: i64)
+    ensures { number.new ≡ earlier number.old other }
+{
+    if *number == 0 || other != 0 && other < *number {
+        *number = other;
+    }
+}
+
+// Puts the items behind those that are there.
+fn append<T: Drop>(alloc: Global, items: &mut List<T>, more: List<T>) -> Result<(), Memory>
+    ensures { OnOk result (items.new ≡ items.old ++ more) }
+{
+    let mut all = mem::replace(items, List::new(alloc)).into_vec();
+    let mut more = more.into_vec();
+    all.append(&mut more)?;
+    *items = List::from_vec(all);
+    Ok(())
+}

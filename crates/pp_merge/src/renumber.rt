@@ -1,0 +1,126 @@
+//! Tables whose ids and references are given new numbers, in place.
+ghost use Rattle.pp_merge.specs.Renumbered.{renumbered_label, renumbered_line, renumbered_type, renumbered_function, renumbered_mapping, renumbered_location, renumbered_sample, renumbered, with_header, new_ids};
+ghost use Rattle.pp_merge.specs.Ids.{new_id, new_text};
+ghost use Rattle.std.specs.Prelude.{◌≡◌};
+
+use crate::change::{Change, change_each};
+use crate::ids::Ids;
+use pp_model::{Function, Label, Line, Location, Mapping, Profile, Sample, ValueType};
+
+/// What the ids of each table and the references to it become.
+#[derive(Drop)]
+pub struct Renumbering {
+    pub text: Ids,
+    pub mapping: Ids,
+    pub function: Ids,
+    pub location: Ids,
+}
+
+/// The index of a text.
+impl Change<i64> for Renumbering {
+    ghost changed = { λ by index. new_text by.text index };
+
+    fn change(&self, index: &mut i64) {
+        *index = self.text.text(*index);
+    }
+}
+
+/// The id of a location.
+impl Change<u64> for Renumbering {
+    ghost changed = { λ by id. new_id by.location id };
+
+    fn change(&self, id: &mut u64) {
+        *id = self.location.id(*id);
+    }
+}
+
+impl Change<ValueType> for Renumbering {
+    ghost changed = { λ by. renumbered_type (new_ids by) };
+
+    fn change(&self, item: &mut ValueType) {
+        self.change(&mut item.kind);
+        self.change(&mut item.unit);
+    }
+}
+
+impl Change<Label> for Renumbering {
+    ghost changed = { λ by. renumbered_label (new_ids by) };
+
+    fn change(&self, label: &mut Label) {
+        self.change(&mut label.key);
+        self.change(&mut label.text);
+        self.change(&mut label.num_unit);
+    }
+}
+
+impl Change<Line> for Renumbering {
+    ghost changed = { λ by. renumbered_line (new_ids by) };
+
+    fn change(&self, line: &mut Line) {
+        line.function_id = self.function.id(line.function_id);
+    }
+}
+
+impl Change<Function> for Renumbering {
+    ghost changed = { λ by. renumbered_function (new_ids by) };
+
+    fn change(&self, function: &mut Function) {
+        function.id = self.function.id(function.id);
+        self.change(&mut function.name);
+        self.change(&mut function.system_name);
+        self.change(&mut function.filename);
+    }
+}
+
+impl Change<Mapping> for Renumbering {
+    ghost changed = { λ by. renumbered_mapping (new_ids by) };
+
+    fn change(&self, mapping: &mut Mapping) {
+        mapping.id = self.mapping.id(mapping.id);
+        self.change(&mut mapping.file);
+        self.change(&mut mapping.build_id);
+    }
+}
+
+impl Change<Location> for Renumbering {
+    ghost changed = { λ by. renumbered_location (new_ids by) };
+
+    fn change(&self, location: &mut Location) {
+        location.id = self.location.id(location.id);
+        location.mapping_id = self.mapping.id(location.mapping_id);
+        change_each(&mut location.line, self);
+    }
+}
+
+impl Change<Sample> for Renumbering {
+    ghost changed = { λ by. renumbered_sample (new_ids by) };
+
+    fn change(&self, sample: &mut Sample) {
+        change_each(&mut sample.location_id, self);
+        change_each(&mut sample.label, self);
+    }
+}
+
+/// Gives all ids and references of the profile their new numbers. It takes no memory.
+pub fn renumber(p: &mut Profile, by: &Renumbering)
+    ensures { p.new ≡ renumbered (new_ids by.now) p.old }
+{
+    change_each(&mut p.sample_type, by);
+    change_each(&mut p.sample, by);
+    change_each(&mut p.mapping, by);
+    change_each(&mut p.location, by);
+    change_each(&mut p.function, by);
+    change_each(&mut p.comment, by);
+    renumber_header(p, by);
+}
+
+// The text indices that stand once.
+fn renumber_header(p: &mut Profile, by: &Renumbering)
+    ensures { p.new ≡ with_header (new_ids by.now) p.old }
+{
+    by.change(&mut p.drop_frames);
+    by.change(&mut p.keep_frames);
+    by.change(&mut p.period_type);
+    by.change(&mut p.default_sample_type);
+    by.change(&mut p.doc_url);
+}

@@ -1,0 +1,116 @@
+//! A base taken off a profile.
+ghost use Rattle.std.specs.Prelude.{◌≡◌, ◌+◌, ◌<◌, ◌^◌, None, [], ◌∷◌, ◌++◌, length, map, IfOk, OnOk};
+ghost use Rattle.pp_model.specs.Rules.{NoRuleFails};
+ghost use Rattle.pp_model.specs.Sizes.{IsCountable};
+ghost use Rattle.pp_merge.specs.Merge.{Merges, difference};
+ghost use Rattle.pp_merge.specs.Scale.{base_label, base_texts, labelled_sample, negated};
+
+use crate::change::{Change, change_each};
+use crate::merging::merge;
+use crate::refusal::MergeRefusal;
+use pp_base::{List, Memory, Text};
+use pp_model::{BaseKind, Compact, Label, Profile, Sample, Valid};
+use std::alloc::Global;
+
+/// The source merged with the base, whose values are negated. For `DiffBase` each sample of the base has the label
+/// `pprof::base` of the text `true` after its own. It is never `Incompatible`.
+pub fn subtract(
+    alloc: Global,
+    source: Compact,
+    base: Compact,
+    kind: BaseKind,
+) -> Result<Compact, MergeRefusal>
+    requires source { IsCountable source }
+    requires base { IsCountable base }
+    requires agree { difference source base ≡ None }
+    requires few { length source.sample + length base.sample < 2 ^ 32 }
+    ensures merges { Merges (source ∷ negated kind base ∷ []) result }
+    ensures agree { difference source (negated kind base) ≡ None }
+{
+    // In a valid base the types name texts, so that more texts change nothing of what it has to agree in.
+    let _valid = base.get();
+    let base = negate(alloc, base, kind)?;
+    let mut list = List::new(alloc);
+    list.push(source.into_valid())?;
+    list.push(base)?;
+    merge(alloc, list)
+}
+
+// The base as it is merged into a source.
+fn negate(alloc: Global, base: Compact, kind: BaseKind) -> Result<Valid, Memory>
+    requires { IsCountable base }
+    ensures { IfOk result (λ p. p ≡ negated kind base) }
+{
+    let p = negated_profile(alloc, base.into_valid().into_profile(), kind)?;
+    Ok(Valid::claim(p))
+}
+
+fn negated_profile(alloc: Global, mut p: Profile, kind: BaseKind) -> Result<Profile, Memory>
+    requires valid { NoRuleFails p }
+    requires countable { IsCountable p }
+    ensures { IfOk result (λ negative. negative ≡ negated kind p) }
+{
+    change_each(&mut p.sample, &Negating);
+    match kind {
+        BaseKind::Base => (),
+        BaseKind::DiffBase => {
+            let label = add_base_texts(alloc, &mut p.text)?;
+            label_samples(&mut p.sample, label)?;
+        }
+    }
+    Ok(p)
+}
+
+// Negates the values of a sample.
+struct Negating;
+
+impl Change<Sample> for Negating {
+    ghost use Rattle.pp_merge.specs.Scale.{negated_nearest};
+
+    ghost changed = { λ _ s. negated_nearest s };
+
+    fn change(&self, s: &mut Sample) {
+        change_each(&mut s.value, &NegatingValue);
+    }
+}
+
+struct NegatingValue;
+
+impl Change<i64> for NegatingValue {
+    ghost use Rattle.pp_merge.specs.Scale.{nearest_negative};
+
+    ghost changed = { λ _ value. nearest_negative value };
+
+    fn change(&self, value: &mut i64) {
+        *value = 0i64.saturating_sub(*value);
+    }
+}
+
+// Appends the texts of the base's label, and gives the label.
+fn add_base_texts(alloc: Global, texts: &mut List<Text>) -> Result<Label, Memory>
+    ensures label { IfOk result (λ label. label ≡ base_label (length texts.old)) }
+    ensures texts { OnOk result (texts.new ≡ texts.old ++ base_texts) }
+{
+    let first = texts.len();
+    if first >= i64::MAX as usize {
+        return Err(Memory);
+    }
+    texts.push(Text::from_slice(alloc, b"pprof::base")?)?;
+    texts.push(Text::from_slice(alloc, b"true")?)?;
+    Ok(Label {
+        key: first as i64,
+        text: first as i64 + 1,
+        num: 0,
+        num_unit: 0,
+    })
+}
+
+// Appends the label to those of each sample.
+fn label_samples(samples: &mut List<Sample>, label: Label) -> Result<(), Memory>
+    ensures { OnOk result (samples.new ≡ map (labelled_sample (label ∷ [])) samples.old) }
+{
+    for place in 0..samples.len() {
+        samples.item_mut(place).label.push(label)?;
+    }
+    Ok(())
+}
