@@ -1,0 +1,4 @@
+mod RequestLemmas
+mod ReadingLemmas
+pub mod EndLemmas
+pub mod SettingLemmas

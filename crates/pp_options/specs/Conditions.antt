@@ -1,0 +1,26 @@
+-- What holds of each plan.
+use Rattle.std.specs.Prelude.{ℕ, Bool, true, ◌&&◌, length, Option, Some, None, nat_le, nat_lt}
+use Rattle.pp_model.specs.declared.report.Report.{Report}
+use Rattle.pp_model.specs.declared.report.Report.TheVariants as reports
+use Rattle.pp_options.specs.declared.origin.Origin.{Origin}
+use Rattle.pp_options.specs.declared.origin.Origin.TheVariants.{Path, Gen}
+
+-- a profile can be made of so many samples
+abbrev pub is_fair_number : ℕ → Bool
+is_fair_number samples = nat_le 1 samples && nat_le samples 1000000
+
+-- where samples are made, they are as many as can be
+abbrev pub is_fair : Origin → Bool
+is_fair (Path path) = true
+is_fair (Gen samples) = is_fair_number samples
+
+-- where the report has a pattern, the pattern isn't empty
+abbrev pub is_patterned : Report → Bool
+is_patterned (reports.Peek pattern) = nat_lt 0 (length pattern)
+is_patterned (reports.List pattern) = nat_lt 0 (length pattern)
+is_patterned report = true
+
+-- the same, where there is a report
+abbrev pub has_pattern : Option Report → Bool
+has_pattern None = true
+has_pattern (Some report) = is_patterned report

@@ -1,0 +1,16 @@
+pub mod Tables
+pub mod Variables
+pub mod Values
+pub mod Settings
+pub mod Assigning
+pub mod Ends
+pub mod Listing
+pub mod Formats
+pub mod Names
+pub mod Spelling
+pub mod Conditions
+pub mod Items
+pub mod Words
+pub mod Plans
+pub mod Drafts
+pub mod Help

@@ -1,0 +1,102 @@
+//! The formats of reports.
+ghost use Rattle.std.specs.Prelude.{◌≡◌};
+ghost use Rattle.pp_options.specs.Formats.{format_named, takes_pattern, report_of};
+
+use crate::table::{Named, value_named};
+use pp_base::Text;
+use pp_model::Report;
+
+/// A format, without the pattern that two of them have.
+#[derive(Clone, Copy, Debug, PartialEq, Eq)]
+pub enum Format {
+    Top,
+    Tree,
+    Peek,
+    Traces,
+    Tags,
+    Raw,
+    Comments,
+    Proto,
+    List,
+}
+
+/// The formats by name. `text` and `top` are one.
+pub static FORMATS: [Named<Format>; 10] = [
+    Named {
+        name: b"text",
+        value: Format::Top,
+    },
+    Named {
+        name: b"top",
+        value: Format::Top,
+    },
+    Named {
+        name: b"tree",
+        value: Format::Tree,
+    },
+    Named {
+        name: b"traces",
+        value: Format::Traces,
+    },
+    Named {
+        name: b"tags",
+        value: Format::Tags,
+    },
+    Named {
+        name: b"raw",
+        value: Format::Raw,
+    },
+    Named {
+        name: b"comments",
+        value: Format::Comments,
+    },
+    Named {
+        name: b"proto",
+        value: Format::Proto,
+    },
+    Named {
+        name: b"peek",
+        value: Format::Peek,
+    },
+    Named {
+        name: b"list",
+        value: Format::List,
+    },
+];
+
+/// The format of the name.
+#[tactic(auto, unfolding(crate::specs::Formats::format_named))]
+pub fn format_named(name: &[u8]) -> Option<Format>
+    ensures { result ≡ format_named name.now }
+{
+    value_named(&FORMATS, name)
+}
+
+impl Format {
+    /// Whether a pattern belongs to it.
+    pub fn takes_pattern(self) -> bool
+        ensures { result ≡ takes_pattern self }
+    {
+        match self {
+            Format::Peek | Format::List => true,
+            _ => false,
+        }
+    }
+
+    /// The report, of the pattern where one belongs to it.
+    pub fn report(self, pattern: Text) -> Report
+        ensures { result ≡ report_of self pattern }
+    {
+        match self {
+            Format::Top => Report::Top,
+            Format::Tree => Report::Tree,
+            Format::Peek => Report::Peek(pattern),
+            Format::Traces => Report::Traces,
+            Format::Tags => Report::Tags,
+            Format::Raw => Report::Raw,
+            Format::Comments => Report::Comments,
+            Format::Proto => Report::Proto,
+            Format::List => Report::List(pattern),
+        }
+    }
+}

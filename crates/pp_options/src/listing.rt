@@ -1,0 +1,197 @@
+//! The list of variables with their values.
+ghost use Rattle.std.specs.Prelude.{◌≡◌, ◌++◌, ◌<◌, map, OnOk, OnErr, decimal};
+ghost use Rattle.std.specs.Fmt.{signed_decimal};
+ghost use Rattle.std.specs.List.{flat_map};
+ghost use Rattle.pp_base.specs.Grew.{Grew};
+ghost use Rattle.pp_options.specs.Tables.{row_of};
+ghost use Rattle.pp_options.specs.Listing.{options_text, line_text, value_text, sort_text, grain_text, truth_text, flag_in, fraction_in, text_in, fraction_text, decimals_text, without_zeros};
+
+use crate::table::Named;
+use crate::{FlagVariable, FractionVariable, TextVariable, VARIABLES, Variable};
+use itoa::Buffer;
+use pp_base::{Fraction, Memory, Text, whole_or_nothing};
+use pp_model::{Config, Grain, Sort};
+
+/// Appends a line of the form `NAME=VALUE` for each variable, in the order of `VARIABLES`.
+#[tactic(auto, unfolding(crate::specs::Listing::options_text))]
+pub fn write_options(config: &Config, out: &mut Text) -> Result<(), Memory>
+    ensures ok { OnOk result (out.new ≡ out.old ++ options_text config.now) }
+    ensures err { OnErr result (out.new ≡ out.old) }
+{
+    let start = out.len();
+    let put = put_lines(config, &VARIABLES, out);
+    whole_or_nothing(out, start, put)
+}
+
+// Without memory the text has gained some of it.
+fn put_lines(config: &Config, variables: &[Named<Variable>], out: &mut Text) -> Result<(), Memory>
+    ensures ok { OnOk result
+        (out.new ≡ out.old ++ flat_map (line_text config.now) (map row_of variables.now)) }
+    ensures err { OnErr result (Grew out.old out.new) }
+{
+    for variable in variables {
+        put_line(config, variable, out)?;
+    }
+    Ok(())
+}
+
+// Without memory the text has gained some of it.
+fn put_line(config: &Config, variable: &Named<Variable>, out: &mut Text) -> Result<(), Memory>
+    ensures ok { OnOk result (out.new ≡ out.old ++ line_text config.now (row_of variable.now)) }
+    ensures err { OnErr result (Grew out.old out.new) }
+{
+    out.extend(variable.name)?;
+    out.extend(b"=")?;
+    put_value(config, variable.value, out)?;
+    out.extend(b"\n")
+}
+
+fn put_value(config: &Config, variable: Variable, out: &mut Text) -> Result<(), Memory>
+    ensures ok { OnOk result (out.new ≡ out.old ++ value_text config.now variable) }
+    ensures err { OnErr result (out.new ≡ out.old) }
+{
+    match variable {
+        Variable::Sort => out.extend(sort_text(config.sort)),
+        Variable::Granularity => out.extend(grain_text(config.grain)),
+        Variable::Flag(which) => out.extend(truth_text(flag_in(config, which))),
+        Variable::Nodecount => put_rows(config.nodecount, out),
+        Variable::Fraction(which) => put_fraction(fraction_in(config, which), out),
+        Variable::Text(which) => out.extend(text_in(config, which).as_slice()),
+        Variable::DivideBy => put_number(config.divide_by, out),
+        Variable::Workers => put_number(u64::from(config.workers), out),
+    }
+}
+
+fn put_number(number: u64, out: &mut Text) -> Result<(), Memory>
+    ensures ok { OnOk result (out.new ≡ out.old ++ decimal number) }
+    ensures err { OnErr result (out.new ≡ out.old) }
+{
+    out.extend(Buffer::new().format(number).as_bytes())
+}
+
+fn put_rows(rows: i32, out: &mut Text) -> Result<(), Memory>
+    ensures ok { OnOk result (out.new ≡ out.old ++ signed_decimal rows) }
+    ensures err { OnErr result (out.new ≡ out.old) }
+{
+    out.extend(Buffer::new().format(rows).as_bytes())
+}
+
+// The nine decimals are those of the billionths and a billion together, without its first digit.
+fn put_fraction(part: Fraction, out: &mut Text) -> Result<(), Memory>
+    ensures ok { OnOk result (out.new ≡ out.old ++ fraction_text part) }
+    ensures err { OnErr result (out.new ≡ out.old) }
+{
+    match part.billionths {
+        0 => out.extend(b"0"),
+        1_000_000_000 => out.extend(b"1"),
+        billionths => put_decimals(billionths, out),
+    }
+}
+
+#[tactic(auto, using(std::proofs::lemmas::Fmt::decimal_nonempty))]
+fn put_decimals(billionths: u32, out: &mut Text) -> Result<(), Memory>
+    requires { billionths < 1_000_000_000 }
+    ensures ok { OnOk result (out.new ≡ out.old ++ decimals_text billionths) }
+    ensures err { OnErr result (out.new ≡ out.old) }
+{
+    let mut buffer = Buffer::new();
+    let digits = buffer.format(1_000_000_000 + billionths).as_bytes();
+    let start = out.len();
+    let put = put_both(b"0.", without_zeros(&digits[1..]), out);
+    whole_or_nothing(out, start, put)
+}
+
+// Without memory the text has gained some of it.
+fn put_both(first: &[u8], second: &[u8], out: &mut Text) -> Result<(), Memory>
+    ensures ok { OnOk result (out.new ≡ out.old ++ (first.now ++ second.now)) }
+    ensures err { OnErr result (Grew out.old out.new) }
+{
+    out.extend(first)?;
+    out.extend(second)
+}
+
+// The digits up to the last that isn't 0.
+fn without_zeros(digits: &[u8]) -> &[u8]
+    ensures { result.now ≡ without_zeros digits.now }
+{
+    let mut kept = digits;
+    while let Some((last, before)) = kept.split_last() {
+        if *last != b'0' {
+            return kept;
+        }
+        kept = before;
+    }
+    kept
+}
+
+// How the order is spelled.
+fn sort_text(sort: Sort) -> &'static [u8]
+    ensures { result.now ≡ sort_text sort }
+{
+    match sort {
+        Sort::Flat => b"flat",
+        Sort::Cum => b"cum",
+    }
+}
+
+// How the granularity is spelled.
+fn grain_text(grain: Grain) -> &'static [u8]
+    ensures { result.now ≡ grain_text grain }
+{
+    match grain {
+        Grain::Functions => b"functions",
+        Grain::FileFunctions => b"filefunctions",
+        Grain::Files => b"files",
+        Grain::Lines => b"lines",
+        Grain::Addresses => b"addresses",
+    }
+}
+
+fn truth_text(on: bool) -> &'static [u8]
+    ensures { result.now ≡ truth_text on }
+{
+    if on { b"true" } else { b"false" }
+}
+
+fn flag_in(config: &Config, which: FlagVariable) -> bool
+    ensures { result ≡ flag_in config.now which }
+{
+    match which {
+        FlagVariable::Noinlines => config.noinlines,
+        FlagVariable::Showcolumns => config.showcolumns,
+        FlagVariable::PathTree => config.path_tree,
+        FlagVariable::RelativePercentages => config.relative_percentages,
+    }
+}
+
+fn fraction_in(config: &Config, which: FractionVariable) -> Fraction
+    ensures { result ≡ fraction_in config.now which }
+{
+    match which {
+        FractionVariable::Nodefraction => config.nodefraction,
+        FractionVariable::Edgefraction => config.edgefraction,
+    }
+}
+
+fn text_in(config: &Config, which: TextVariable) -> &Text
+    ensures { result.now ≡ text_in config.now which }
+{
+    match which {
+        TextVariable::Focus => &config.focus,
+        TextVariable::Ignore => &config.ignore,
+        TextVariable::Show => &config.show,
+        TextVariable::Hide => &config.hide,
+        TextVariable::ShowFrom => &config.show_from,
+        TextVariable::PruneFrom => &config.prune_from,
+        TextVariable::Tagfocus => &config.tagfocus,
+        TextVariable::Tagignore => &config.tagignore,
+        TextVariable::Tagshow => &config.tagshow,
+        TextVariable::Taghide => &config.taghide,
+        TextVariable::Tagroot => &config.tagroot,
+        TextVariable::Tagleaf => &config.tagleaf,
+        TextVariable::SampleIndex => &config.sample_index,
+        TextVariable::Unit => &config.unit,
+        TextVariable::SourcePath => &config.source_path,
+        TextVariable::TrimPath => &config.trim_path,
+    }
+}

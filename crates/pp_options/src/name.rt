@@ -1,0 +1,90 @@
+//! The names of options.
+ghost use Rattle.std.specs.Prelude.{◌≡◌};
+ghost use Rattle.pp_options.specs.Names.{choice_named, option_named, needs_value};
+
+use crate::table::{Named, value_named};
+use crate::value::{grain_named, sort_named};
+use crate::{Format, Variable, format_named, variable_named};
+use pp_model::{BaseKind, Grain, Sort};
+
+/// A value that is a name by itself, and gives its variable that value.
+#[derive(Clone, Copy, Debug, PartialEq, Eq)]
+pub enum Choice {
+    Sort(Sort),
+    Granularity(Grain),
+}
+
+/// What the name of an option stands for.
+#[derive(Clone, Copy, Debug, PartialEq, Eq)]
+pub enum OptionName {
+    Variable(Variable),
+    Choice(Choice),
+    Format(Format),
+    Base(BaseKind),
+    Gen,
+    Normalize,
+}
+
+// The names of what is neither a variable nor a choice nor a format.
+static OTHERS: [Named<OptionName>; 4] = [
+    Named {
+        name: b"base",
+        value: OptionName::Base(BaseKind::Base),
+    },
+    Named {
+        name: b"diff_base",
+        value: OptionName::Base(BaseKind::DiffBase),
+    },
+    Named {
+        name: b"gen",
+        value: OptionName::Gen,
+    },
+    Named {
+        name: b"normalize",
+        value: OptionName::Normalize,
+    },
+];
+
+/// The choice of the name: an order or a granularity.
+#[tactic(auto, unfolding(crate::specs::Names::choice_named))]
+pub fn choice_named(name: &[u8]) -> Option<Choice>
+    ensures { result ≡ choice_named name.now }
+{
+    if let Some(sort) = sort_named(name) {
+        return Some(Choice::Sort(sort));
+    }
+    grain_named(name).map(Choice::Granularity)
+}
+
+/// What the name of an option stands for.
+#[tactic(auto, unfolding(crate::specs::Names::option_named))]
+pub fn option_named(name: &[u8]) -> Option<OptionName>
+    ensures { result ≡ option_named name.now }
+{
+    if let Some(variable) = variable_named(name) {
+        return Some(OptionName::Variable(variable));
+    }
+    if let Some(choice) = choice_named(name) {
+        return Some(OptionName::Choice(choice));
+    }
+    if let Some(format) = format_named(name) {
+        return Some(OptionName::Format(format));
+    }
+    value_named(&OTHERS, name)
+}
+
+impl OptionName {
+    /// Whether the option has a value even where none stands after `=`. The others are flags.
+    pub fn needs_value(self) -> bool
+        ensures { result ≡ needs_value self }
+    {
+        match self {
+            OptionName::Variable(Variable::Flag(_)) => false,
+            OptionName::Variable(_) => true,
+            OptionName::Choice(_) => false,
+            OptionName::Format(format) => format.takes_pattern(),
+            OptionName::Base(_) | OptionName::Gen => true,
+            OptionName::Normalize => false,
+        }
+    }
+}

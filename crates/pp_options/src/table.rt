@@ -1,0 +1,24 @@
+//! Tables of names.
+ghost use Rattle.std.specs.Prelude.{◌≡◌, map};
+ghost use Rattle.pp_options.specs.Tables.{row_of, value_named};
+
+use crate::text::is;
+
+/// A name and what it stands for.
+#[derive(Clone, Copy, Debug)]
+pub struct Named<T> {
+    pub name: &'static [u8],
+    pub value: T,
+}
+
+/// The value that the table has for the name, the first where it has several.
+pub fn value_named<T: Copy>(table: &[Named<T>], name: &[u8]) -> Option<T>
+    ensures { result ≡ value_named (map row_of table.now) name.now }
+{
+    for named in table {
+        if is(named.name, name) {
+            return Some(named.value);
+        }
+    }
+    None
+}

@@ -1,0 +1,134 @@
+//! The words of a command line.
+ghost use Rattle.std.specs.Prelude.{◌≡◌, ◌+◌, ◌<◌, ◌^◌, ◌&&◌, List, length, None, option_map, IfOk, if◌then◌else◌};
+ghost use Rattle.pp_options.specs.Items.{is_fair_item};
+ghost use Rattle.pp_options.specs.Words.{Entry, entry, entries, sources, is_empty};
+ghost use Rattle.pp_options.specs.Plans.{Reads};
+ghost use Rattle.pp_options.specs.Drafts.{IsReading, ReadsAll, TakesEntry, next_of, left_after, Finishes};
+
+use crate::draft::Draft;
+use crate::item::{Item, item_of, refuse};
+use crate::spelling::takes_next;
+use crate::text::is;
+use crate::{Plan, UsageKind, UsageRefusal};
+use pp_base::Text;
+use std::alloc::Global;
+
+/// What the words after the program's name ask for, or their first fault.
+///
+/// A word that begins with a dash and is longer is an option, with one or two dashes. Its value
+/// stands after `=`, or is the next word; a flag takes no next word. After `--` all words are
+/// sources.
+#[tactic(auto, unfolding(crate::specs::Words::words))]
+pub fn read_words(alloc: Global, words: &[Text]) -> Result<Plan, UsageRefusal>
+    ensures { Reads words.now result }
+{
+    let mut draft = Draft::new(alloc)?;
+    draft.take_words(alloc, words)?;
+    draft.finish(words.len() as u64)
+}
+
+impl Draft {
+    fn take_words(&mut self, alloc: Global, words: &[Text]) -> Result<(), UsageRefusal>
+        ensures { (whole : List Entry) → IsReading self.old whole (entries 1 words.now)
+            → ReadsAll whole self.new result }
+    {
+        let mut rest = words;
+        while let Some((word, after)) = rest.split_first() {
+            let at = (words.len() - after.len()) as u64;
+            if is(word.as_slice(), b"--") {
+                return self.take_sources(alloc, at + 1, after);
+            }
+            rest = self.take_entry(alloc, at, word.as_slice(), after)?;
+        }
+        Ok(())
+    }
+
+    // Takes all words as sources, of which the first has the number.
+    fn take_sources(
+        &mut self,
+        alloc: Global,
+        first: u64,
+        words: &[Text],
+    ) -> Result<(), UsageRefusal>
+        requires { first + length words.now < 2 ^ 64 }
+        ensures { (whole : List Entry) → IsReading self.old whole (sources first words.now)
+            → ReadsAll whole self.new result }
+    {
+        for (i, word) in words.iter().enumerate() {
+            let path = Text::from_slice(alloc, word.as_slice())?;
+            self.take(first + i as u64, Item::Source(path))?;
+        }
+        Ok(())
+    }
+
+    // Takes the word, and the one after it where that is its value. Gives the words that are left.
+    fn take_entry<'a>(
+        &mut self,
+        alloc: Global,
+        at: u64,
+        word: &[u8],
+        after: &'a [Text],
+    ) -> Result<&'a [Text], UsageRefusal>
+        ensures taken { TakesEntry self.old self.new
+            (entry at word.now (next_of word.now after.now)) result }
+        ensures left { IfOk result (λ left. left.now ≡ left_after word.now after.now) }
+    {
+        match after {
+            [next, left @ ..] if takes_next(word) => {
+                self.take_word(alloc, at, word, Some(next.as_slice()))?;
+                Ok(left)
+            }
+            _ => {
+                self.take_word(alloc, at, word, None)?;
+                Ok(after)
+            }
+        }
+    }
+
+    fn take_word(
+        &mut self,
+        alloc: Global,
+        at: u64,
+        word: &[u8],
+        next: Option<&[u8]>,
+    ) -> Result<(), UsageRefusal>
+        ensures { TakesEntry self.old self.new
+            (entry at word.now (option_map (λ x. x.now) next.entry)) result }
+    {
+        let item = item_of(alloc, at, word, next)?;
+        self.take(at, item)
+    }
+
+    // The plan, where nothing is missing after so many words.
+    fn finish(self, count: u64) -> Result<Plan, UsageRefusal>
+        requires { count + 1 < 2 ^ 64 }
+        ensures { Finishes count self result }
+    {
+        if self.origins.len() == 0 {
+            return refuse(UsageKind::NoSource, count + 1);
+        }
+        if let Some(at) = self.normalized_alone() {
+            return refuse(UsageKind::NormalizeAlone, at);
+        }
+        Ok(Plan {
+            origins: self.origins,
+            bases: self.bases,
+            base_kind: self.base_kind,
+            normalize: self.normalize,
+            report: self.report,
+            config: self.config,
+        })
+    }
+
+    // The word that asks to normalize, where there is nothing to normalize by.
+    fn normalized_alone(&self) -> Option<u64>
+        ensures { result ≡ (if self.now.normalize && is_empty self.now.bases
+            then self.now.normalized_at else None) }
+    {
+        if self.normalize && self.bases.len() == 0 {
+            self.normalized_at
+        } else {
+            None
+        }
+    }
+}
