@@ -1,0 +1,12 @@
+-- What the calls answer: what a definition gives, unless memory ran out.
+use Rattle.std.specs.Prelude.{◌≡◌, ⊤, List, Result, Ok, Err}
+use Rattle.pp_shell.specs.declared.command.Command.{Command}
+use Rattle.pp_shell.specs.declared.fault.LineFault.{LineFault}
+use Rattle.pp_shell.specs.declared.fault.LineRefusal.{LineRefusal}
+use Rattle.pp_shell.specs.declared.fault.LineRefusal.TheVariants.{Fault, Memory}
+
+-- the answer is that, unless memory ran out
+abbrev pub Answers : {A : Type 0} → Result A LineFault → Result A LineRefusal → Type 0
+Answers wanted (Ok given) = wanted ≡ Ok given
+Answers wanted (Err (Fault fault)) = wanted ≡ Err fault
+Answers wanted (Err Memory) = ⊤

@@ -1,0 +1,148 @@
+-- Commands: the words of a line that is no assignment.
+use Rattle.std.specs.Prelude.{ℕ, ℤ, pos, negsuc, Bool, true, false, ◌&&◌, List, [], ◌∷◌, drop, length, Option, Some, None, Result, Ok, Err, codes, if◌then◌else◌}
+use Rattle.std.specs.Char.{is_ascii_digit}
+use Rattle.std.specs.Option.{option_or}
+use Rattle.pp_model.specs.declared.config.Sort.TheVariants.{Cum}
+use Rattle.pp_model.specs.declared.config.Config.{Config}
+use Rattle.pp_options.specs.declared.format.Format.{Format}
+use Rattle.pp_options.specs.declared.format.Format.TheVariants.{Top, Tags}
+use Rattle.pp_options.specs.declared.setting.Setting.TheVariants as settings
+use Rattle.pp_options.specs.declared.variable.TextVariable.{TextVariable}
+use Rattle.pp_options.specs.declared.variable.TextVariable.TheVariants as texts
+use Rattle.pp_options.specs.Ends.{without_end}
+use Rattle.pp_options.specs.Formats.{format_named, takes_pattern, report_of}
+use Rattle.pp_options.specs.Settings.{assigned}
+use Rattle.pp_options.specs.Tables.{Row, row, value_named}
+use Rattle.pp_shell.specs.declared.command.Command.{Command}
+use Rattle.pp_shell.specs.declared.command.Command.TheVariants as commands
+use Rattle.pp_shell.specs.declared.fault.LineFault.{LineFault}
+use Rattle.pp_shell.specs.declared.fault.LineFault.TheVariants.{UnknownCommand, MissingArgument}
+use Rattle.pp_shell.specs.declared.name.Plain.{Plain}
+use Rattle.pp_shell.specs.declared.name.Plain.TheVariants.{Quit, Options, Help}
+use Rattle.pp_shell.specs.declared.narrowing.Narrowing.{Narrowing}
+use Rattle.pp_shell.specs.Arguments.{arguments, together}
+
+-- the commands that take no words
+abbrev pub plains : List (Row Plain)
+plains =
+    row (codes "q") Quit
+    ∷ row (codes "quit") Quit
+    ∷ row (codes "exit") Quit
+    ∷ row (codes "o") Options
+    ∷ row (codes "options") Options
+    ∷ row (codes "help") Help
+    ∷ []
+
+-- the command of the name, where it takes no words
+unfoldable pub plain_named : List ℕ → Option Plain
+plain_named name = value_named plains name
+
+-- such a command
+abbrev pub plain_command : Plain → Command
+plain_command Quit = commands.Quit
+plain_command Options = commands.Options
+plain_command Help = commands.Help
+
+-- the number of rows is the given one
+abbrev pub with_rows : Option ℕ → Config → Config
+with_rows None c = c
+with_rows (Some rows) c = assigned c (settings.Nodecount (pos rows))
+
+-- the order is by cum, where that is asked for
+abbrev pub with_order : Bool → Config → Config
+with_order false c = c
+with_order true c = assigned c (settings.Sort Cum)
+
+-- the pattern takes the place of the variable's own, where one is given
+abbrev pub with_pattern : TextVariable → List ℕ → Config → Config
+with_pattern which [] c = c
+with_pattern which (byte ∷ bytes) c = assigned c (settings.Text which (byte ∷ bytes))
+
+-- the format is top
+abbrev pub is_top : Format → Bool
+is_top Top = true
+is_top format = false
+
+-- the number of rows is the report's own
+abbrev pub is_own : ℤ → Bool
+is_own (negsuc n) = true
+is_own (pos n) = false
+
+-- in the shell top's own number of rows is 10
+abbrev pub with_top_rows : Format → Config → Config
+with_top_rows format c =
+    if is_top format && is_own c.nodecount then assigned c (settings.Nodecount (pos 10)) else c
+
+-- the variable whose place added patterns take; tags has a filter of its own
+abbrev pub focus_variable : Format → TextVariable
+focus_variable Tags = texts.Tagfocus
+focus_variable format = texts.Focus
+
+-- the same for patterns after a dash
+abbrev pub ignore_variable : Format → TextVariable
+ignore_variable Tags = texts.Tagignore
+ignore_variable format = texts.Ignore
+
+-- the configuration of one report, as the words after its command want it
+abbrev pub narrowed : Format → Narrowing → Config → Config
+narrowed format n c =
+    with_top_rows format
+    (with_pattern (ignore_variable format) n.ignore
+    (with_pattern (focus_variable format) n.focus (with_order n.by_cum (with_rows n.rows c))))
+
+-- a report with what the words after it ask for, or their first fault
+abbrev pub run_with : Format → List ℕ → Config → Result Narrowing LineFault
+    → Result Command LineFault
+run_with format pattern c (Err fault) = Err fault
+run_with format pattern c (Ok n) =
+    Ok (commands.Run (report_of format pattern) (narrowed format n c) n.output)
+
+-- a report with the words after it
+abbrev pub run : Format → List ℕ → List (List ℕ) → Config → Result Command LineFault
+run format pattern words c = run_with format pattern c (together (arguments words))
+
+-- a report whose pattern is the first of the words
+abbrev pub pattern_command : Format → List ℕ → List (List ℕ) → Config → Result Command LineFault
+pattern_command format name [] c = Err (MissingArgument name)
+pattern_command format name (pattern ∷ words) c = run format pattern words c
+
+-- a report with its words
+abbrev pub report : Format → List ℕ → List (List ℕ) → Config → Result Command LineFault
+report format name words c =
+    if takes_pattern format then pattern_command format name words c else run format [] words c
+
+-- a report, where the name is a format's; `first` is the whole first word
+abbrev pub format_command : List ℕ → List ℕ → Option Format → List (List ℕ) → Config
+    → Result Command LineFault
+format_command first name None words c = Err (UnknownCommand first)
+format_command first name (Some format) words c = report format name words c
+
+-- the first word without the digits at its end
+abbrev pub report_name : List ℕ → List ℕ
+report_name word = without_end is_ascii_digit word
+
+-- the digits at the end of the first word
+abbrev pub report_digits : List ℕ → List ℕ
+report_digits word = drop (length (report_name word)) word
+
+-- digits right after the name are the first of the words
+abbrev pub with_digits : List ℕ → List (List ℕ) → List (List ℕ)
+with_digits [] words = words
+with_digits (digit ∷ digits) words = (digit ∷ digits) ∷ words
+
+-- a report by its first word and the others
+abbrev pub report_command : List ℕ → List (List ℕ) → Config → Result Command LineFault
+report_command first words c =
+    let name = report_name first in
+    format_command first name (format_named name) (with_digits (report_digits first) words) c
+
+-- a command that takes no words, or a report
+abbrev pub plain_or_report : Option Plain → List ℕ → List (List ℕ) → Config
+    → Result Command LineFault
+plain_or_report (Some plain) first words c = Ok (plain_command plain)
+plain_or_report None first words c = report_command first words c
+
+-- What the words of a line ask for.
+unfoldable pub command : List (List ℕ) → Config → Result Command LineFault
+command [] c = Ok commands.Nothing
+command (first ∷ words) c = plain_or_report (plain_named first) first words c

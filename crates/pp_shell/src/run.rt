@@ -1,0 +1,108 @@
+//! Reports with the settings of one command.
+ghost use Rattle.std.specs.Prelude.{◌≡◌, map, IsTrue};
+ghost use Rattle.pp_shell.specs.Commands.{run, narrowed, with_rows, with_order, with_pattern, with_top_rows, is_top, focus_variable, ignore_variable};
+ghost use Rattle.pp_shell.specs.Answers.{Answers};
+ghost use Rattle.pp_shell.specs.Taking.{are_fair_rows};
+
+use crate::narrowing::{Narrowing, narrowing_of};
+use crate::{Command, LineRefusal};
+use pp_base::Text;
+use pp_model::{Config, Sort};
+use pp_options::{Format, Setting, TextVariable};
+use std::alloc::Global;
+
+// How many rows top has, where nothing else is said.
+const TOP_ROWS: i32 = 10;
+
+// The report of the format and the pattern, as the words after them want it.
+pub fn run(
+    alloc: Global,
+    format: Format,
+    pattern: Text,
+    words: &[&[u8]],
+    config: &Config,
+) -> Result<Command, LineRefusal>
+    ensures { Answers (run format pattern (map (λ word. word.now) words.now) config.now) result }
+{
+    let narrowing = narrowing_of(alloc, words)?;
+    let mut config = config.copy(alloc)?;
+    let to = narrow(format, narrowing, &mut config);
+    Ok(Command::Run {
+        report: format.report(pattern),
+        config,
+        to,
+    })
+}
+
+// Makes the settings of one command, and gives its file.
+fn narrow(format: Format, narrowing: Narrowing, config: &mut Config) -> Option<Text>
+    requires { IsTrue (are_fair_rows narrowing.rows) }
+    ensures config { config.new ≡ narrowed format narrowing config.old }
+    ensures output { result ≡ narrowing.output }
+{
+    put_rows(narrowing.rows, config);
+    put_order(narrowing.by_cum, config);
+    put_pattern(focus_variable(format), narrowing.focus, config);
+    put_pattern(ignore_variable(format), narrowing.ignore, config);
+    put_top_rows(format, config);
+    narrowing.output
+}
+
+fn put_rows(rows: Option<u32>, config: &mut Config)
+    requires { IsTrue (are_fair_rows rows) }
+    ensures { config.new ≡ with_rows rows config.old }
+{
+    if let Some(rows) = rows {
+        Setting::Nodecount(rows as i32).assign(config);
+    }
+}
+
+fn put_order(by_cum: bool, config: &mut Config)
+    ensures { config.new ≡ with_order by_cum config.old }
+{
+    if by_cum {
+        Setting::Sort(Sort::Cum).assign(config);
+    }
+}
+
+// A pattern takes the place of the variable's own.
+fn put_pattern(which: TextVariable, pattern: Text, config: &mut Config)
+    ensures { config.new ≡ with_pattern which pattern config.old }
+{
+    if pattern.len() > 0 {
+        Setting::Text(which, pattern).assign(config);
+    }
+}
+
+fn put_top_rows(format: Format, config: &mut Config)
+    ensures { config.new ≡ with_top_rows format config.old }
+{
+    if is_top(format) && config.nodecount == -1 {
+        Setting::Nodecount(TOP_ROWS).assign(config);
+    }
+}
+
+fn is_top(format: Format) -> bool
+    ensures { result ≡ is_top format }
+{
+    matches!(format, Format::Top)
+}
+
+// The variable that patterns replace: tags has filters of its own.
+fn focus_variable(format: Format) -> TextVariable
+    ensures { result ≡ focus_variable format }
+{
+    match format {
+        Format::Tags => TextVariable::Tagfocus,
+        _ => TextVariable::Focus,
+    }
+}
+
+fn ignore_variable(format: Format) -> TextVariable
+    ensures { result ≡ ignore_variable format }
+{
+    match format {
+        Format::Tags => TextVariable::Tagignore,
+        _ => TextVariable::Ignore,
+    }
+}
