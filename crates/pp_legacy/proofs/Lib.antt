@@ -1,0 +1,12 @@
+mod Rows
+pub mod Refusals
+pub mod WordsLemmas
+pub mod RecordLemmas
+pub mod HexLemmas
+pub mod Numbered
+pub mod FirstSightLemmas
+pub mod SampleLemmas
+pub mod HolderLemmas
+pub mod TableRules
+pub mod LegacyLemmas
+pub mod Turns

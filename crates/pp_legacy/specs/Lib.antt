@@ -1,0 +1,11 @@
+pub mod Steps
+pub mod Words
+pub mod Header
+pub mod Records
+pub mod Regions
+pub mod FirstSight
+pub mod Tables
+pub mod Sizes
+pub mod Seen
+pub mod Free
+pub mod Legacy

@@ -1,0 +1,23 @@
+//! CPU profiles as gperftools writes them (gperftools, "CPU Profile format"), read as the tables of a profile.
+//!
+//! A file is words of 64 bits, the lowest byte first: a header, records of a count, a depth and so many addresses, and a
+//! trailer. Behind it stands the text of the process's mapped regions. A file is read in one pass, whatever its words say.
+#![tactic(auto)]
+
+mod fault;
+mod header;
+mod holders;
+mod laws;
+mod line;
+mod reading;
+mod records;
+mod regions;
+mod samples;
+mod words;
+
+pub use fault::{LegacyFault, LegacyKind, LegacyRefusal};
+pub use laws::records_are_read_in_turn;
+pub use reading::{is_legacy, read_legacy};
+
+#[cfg(test)]
+mod tests;
