@@ -1,0 +1,122 @@
+-- Tallies with the entries of the samples that follow.
+use Rattle.std.proofs.Common.{◌≡◌, ℕ, ◌+◌, ◌<◌, ◌≤◌, Bool, true, false, cond, ◌||◌, ◌==◌, pos, ◌+ℤ◌, nat_abs, List, [], ◌∷◌, ◌++◌, length, take, drop, get_or, ◌≢◌, sum_by, refl, sym, ap, ◌∙◌, subst, ⊎_elim, arith}
+use Rattle.std.specs.Ordering.{nat_cmp}
+use Rattle.std.proofs.Math.IntN.{+ℤ_assoc, +ℤ_idl, +ℤ_idr}
+use Rattle.std.proofs.lemmas.Bool.{cases_eq, eq-eqb, ne_eqb}
+use Rattle.std.proofs.lemmas.List.{take_more, take-append-drop, append-nil}
+use Rattle.std.proofs.lemmas.List.Elements.{filter-append}
+use Rattle.std.proofs.lemmas.List.Sums.{sum_by-cons, sum_by-append}
+use Rattle.std.proofs.lemmas.List.Folds.{list_any-append}
+use Rattle.pp_count.specs.declared.tally.Tally.{Tally}
+use Rattle.pp_count.specs.declared.part.KeySum.{KeySum}
+use Rattle.pp_count.specs.Sums.{Seen, sum_where, has, leads, cum, flat, occurs}
+use Rattle.pp_count.specs.Tally.{plus, added, IsTallyOf}
+use Rattle.pp_count.specs.Parts.{sums_of, key_sum, AreSums, flat_size, cum_size}
+use Rattle.pp_count.proofs.Adding.{triangle, or-true, or-false}
+
+added-push : (t : Tally) (es : List KeySum) (e : KeySum) → added t (es ++ e ∷ []) ≡ plus (added t es) e
+added-push t [] e = refl
+added-push t (x ∷ es) e = added-push (plus t x) es e
+
+-- the entries of a key among one more
+pub more_of : (k : ℕ) (sums : List KeySum) (i : ℕ) (d : KeySum) → i < length sums
+    → sums_of k (take (i + 1) sums) ≡ sums_of k (take i sums) ++ cond ((get_or sums i d).key == k) (get_or sums i d ∷ []) []
+more_of k sums i d here =
+    ap (sums_of k) (take_more sums i d here) ∙ filter-append (λ (e : KeySum). e.key == k) (take i sums) (get_or sums i d ∷ [])
+
+-- one more entry is added
+pub joined_more : (at at0 new : ℕ → Tally) (sums : List KeySum) (i : ℕ) (d : KeySum)
+    → i < length sums
+    → ((k : ℕ) → at k ≡ added (at0 k) (sums_of k (take i sums)))
+    → new (get_or sums i d).key ≡ plus (at (get_or sums i d).key) (get_or sums i d)
+    → ((k : ℕ) → k ≢ (get_or sums i d).key → new k ≡ at k)
+    → (k : ℕ) → new k ≡ added (at0 k) (sums_of k (take (i + 1) sums))
+joined_more at at0 new sums i d here so_far is others k =
+    let e : KeySum = get_or sums i d in
+    ⊎_elim
+    (λ same.
+    ap new (sym same) ∙ is
+    ∙ ap (λ j. plus (at j) e) same ∙ ap (λ t. plus t e) (so_far k)
+    ∙ sym (added-push (at0 k) (sums_of k (take i sums)) e)
+    ∙ ap (λ b. added (at0 k) (sums_of k (take i sums) ++ cond b (e ∷ []) [])) (sym (eq-eqb e.key k same))
+    ∙ ap (added (at0 k)) (sym (more_of k sums i d here)))
+    (λ other.
+    others k (λ back. other (sym back)) ∙ so_far k
+    ∙ ap (added (at0 k)) (sym (append-nil (sums_of k (take i sums))))
+    ∙ ap (λ b. added (at0 k) (sums_of k (take i sums) ++ cond b (e ∷ []) [])) (sym (ne_eqb e.key k other))
+    ∙ ap (added (at0 k)) (sym (more_of k sums i d here)))
+    (cases_eq e.key k)
+
+-- the entries so far and the next one are within all entries of its key
+pub size_room : (f : KeySum → ℕ) (sums : List KeySum) (i : ℕ) (d : KeySum) → i < length sums
+    → sum_by f (sums_of (get_or sums i d).key (take i sums)) + f (get_or sums i d) ≤ sum_by f (sums_of (get_or sums i d).key sums)
+size_room f sums i d here =
+    let e : KeySum = get_or sums i d in
+    let front : sums_of e.key (take (i + 1) sums) ≡ sums_of e.key (take i sums) ++ e ∷ [] =
+    more_of e.key sums i d here ∙ ap (λ b. sums_of e.key (take i sums) ++ cond b (e ∷ []) []) (eq-eqb e.key e.key refl) in
+    let all : sums_of e.key sums ≡ sums_of e.key (take (i + 1) sums) ++ sums_of e.key (drop (i + 1) sums) =
+    ap (sums_of e.key) (sym (take-append-drop (i + 1) sums)) ∙ filter-append (λ (x : KeySum). x.key == e.key) (take (i + 1) sums) (drop (i + 1) sums) in
+    omega (
+      arith,
+      ap (sum_by f) all ∙ sum_by-append f (sums_of e.key (take (i + 1) sums)) (sums_of e.key (drop (i + 1) sums)),
+      ap (sum_by f) front ∙ sum_by-append f (sums_of e.key (take i sums)) (e ∷ []),
+      sum_by-cons f e [],
+    )
+
+-- what was added is within its size
+pub flat_bound : (t : Tally) (es : List KeySum) → nat_abs (added t es).flat ≤ nat_abs t.flat + flat_size es
+flat_bound t [] = omega arith
+flat_bound t (e ∷ es) = omega (arith, flat_bound (plus t e) es, triangle t.flat e.flat, sum_by-cons (λ (x : KeySum). nat_abs x.flat) e es)
+
+pub cum_bound : (t : Tally) (es : List KeySum) → nat_abs (added t es).cum ≤ nat_abs t.cum + cum_size es
+cum_bound t [] = omega arith
+cum_bound t (e ∷ es) = omega (arith, cum_bound (plus t e) es, triangle t.cum e.cum, sum_by-cons (λ (x : KeySum). nat_abs x.cum) e es)
+
+-- sums over two ranges
+pub sum_where-append : {K : Type 0} (p : List K → Bool) (a b : List (Seen K)) → sum_where p (a ++ b) ≡ sum_where p a +ℤ sum_where p b
+sum_where-append p [] b = sym (+ℤ_idl (sum_where p b))
+sum_where-append p (s ∷ a) b =
+    ap (λ z. cond (p s.keys) s.value (pos 0) +ℤ z) (sum_where-append p a b) ∙ sym (+ℤ_assoc (cond (p s.keys) s.value (pos 0)) (sum_where p a) (sum_where p b))
+
+either_false : (a b : Bool) → (a || b) ≡ false → (a ≡ false) × (b ≡ false)
+either_false true b e = cc
+either_false false b e = (refl, e)
+
+leads_has : (k : ℕ) (keys : List ℕ) → has nat_cmp k keys ≡ false → leads nat_cmp k keys ≡ false
+leads_has k [] none = refl
+leads_has k (q ∷ keys) none = (either_false _ _ none).0
+
+-- a key that does not occur has no sums
+pub cum_none : (b : List (Seen ℕ)) (k : ℕ) → occurs nat_cmp b k ≡ false → cum nat_cmp b k ≡ pos 0
+cum_none [] k none = refl
+cum_none (s ∷ b) k none =
+    let parts = either_false (has nat_cmp k s.keys) (occurs nat_cmp b k) none in
+    ap (λ w. cond w s.value (pos 0) +ℤ cum nat_cmp b k) parts.0 ∙ +ℤ_idl (cum nat_cmp b k) ∙ cum_none b k parts.1
+
+flat_none : (b : List (Seen ℕ)) (k : ℕ) → occurs nat_cmp b k ≡ false → flat nat_cmp b k ≡ pos 0
+flat_none [] k none = refl
+flat_none (s ∷ b) k none =
+    let parts = either_false (has nat_cmp k s.keys) (occurs nat_cmp b k) none in
+    ap (λ w. cond w s.value (pos 0) +ℤ flat nat_cmp b k) (leads_has k s.keys parts.0) ∙ +ℤ_idl (flat nat_cmp b k) ∙ flat_none b k parts.1
+
+-- the tally of a key over two ranges
+tally_joined : (a b : List (Seen ℕ)) (k : ℕ) (t : Tally) (w : Bool) → occurs nat_cmp b k ≡ w → IsTallyOf a k t
+    → IsTallyOf (a ++ b) k (added t (cond w (key_sum b k ∷ []) []))
+tally_joined a b k t true some is = record {
+  flat = ap (λ z. z +ℤ flat nat_cmp b k) is.flat ∙ sym (sum_where-append (leads nat_cmp k) a b);
+  cum = ap (λ z. z +ℤ cum nat_cmp b k) is.cum ∙ sym (sum_where-append (has nat_cmp k) a b);
+  occurs = sym (or-true (occurs nat_cmp a k)) ∙ ap (λ x. occurs nat_cmp a k || x) (sym some) ∙ sym (list_any-append (λ (s : Seen ℕ). has nat_cmp k s.keys) a b);
+}
+tally_joined a b k t false none is = record {
+  flat = is.flat ∙ sym (+ℤ_idr (flat nat_cmp a k)) ∙ ap (λ z. flat nat_cmp a k +ℤ z) (sym (flat_none b k none)) ∙ sym (sum_where-append (leads nat_cmp k) a b);
+  cum = is.cum ∙ sym (+ℤ_idr (cum nat_cmp a k)) ∙ ap (λ z. cum nat_cmp a k +ℤ z) (sym (cum_none b k none)) ∙ sym (sum_where-append (has nat_cmp k) a b);
+  occurs = is.occurs ∙ sym (or-false (occurs nat_cmp a k)) ∙ ap (λ x. occurs nat_cmp a k || x) (sym none) ∙ sym (list_any-append (λ (s : Seen ℕ). has nat_cmp k s.keys) a b);
+}
+
+-- the tallies over two ranges
+pub tallies_joined : (a b : List (Seen ℕ)) (at new : ℕ → Tally) (sums : List KeySum) → ((k : ℕ) → IsTallyOf a k (at k)) → AreSums b sums
+    → ((k : ℕ) → new k ≡ added (at k) (sums_of k sums))
+    → (k : ℕ) → IsTallyOf (a ++ b) k (new k)
+tallies_joined a b at new sums before part each k =
+    subst (λ (t : Tally). IsTallyOf (a ++ b) k t) (sym (each k ∙ ap (added (at k)) (part k)))
+    (tally_joined a b k (at k) (occurs nat_cmp b k) refl (before k))

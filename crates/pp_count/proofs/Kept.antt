@@ -1,0 +1,68 @@
+-- The samples that the filters leave, by their numbers.
+use Rattle.std.proofs.Common.{◌≡◌, ℕ, zero, suc, ◌+◌, ◌<◌, ◌≤◌, ◌^◌, Bool, true, false, cond, nat_abs, ℤ, pos, negsuc, neg_ℤ, ◌/◌, List, [], ◌∷◌, ◌++◌, length, Option, Some, None, refl, sym, ap, ◌∙◌, append_assoc, arith, length-append}
+use Rattle.std.specs.Prelude.{int_div}
+use Rattle.std.specs.List.{filter, filter_map, slice_get, sum_by, cons_option}
+use Rattle.std.specs.Option.{is_some}
+use Rattle.std.proofs.Math.Nat.{div-le_self}
+use Rattle.std.proofs.lemmas.List.Sums.{sum_by-cons, sum_by-le-sum_by}
+use Rattle.pp_model.specs.Conditions.{IsColumnOf}
+use Rattle.pp_model.specs.Sizes.{value_in, IsCountable}
+use Rattle.std.proofs.lemmas.Option.{slice_get-get_or}
+use Rattle.std.proofs.Math.Seq.{get_or-append_seam}
+use Rattle.pp_model.specs.declared.config.Config.{Config}
+use Rattle.pp_model.specs.declared.profile.Sample.{Sample}
+use Rattle.pp_model.specs.declared.profile.Profile.{Profile}
+use Rattle.pp_model.specs.Finders.{Finders}
+use Rattle.pp_count.specs.Column.{selected}
+use Rattle.pp_count.specs.Seeing.{filtered_stack, filtered_from, numbers_from, absolute_all}
+use Rattle.pp_count.specs.Counts.{samples_at, filtered_samples}
+use Rattle.pp_count.proofs.Totals.{filter_size}
+
+-- the item between two lists
+at_seam : (before rest : List Sample) (s : Sample) → slice_get (before ++ s ∷ rest) (length before) ≡ Some s
+at_seam before rest s =
+    slice_get-get_or (before ++ s ∷ rest) (length before) s (omega (arith, length-append before (s ∷ rest))) ∙ ap Some (get_or-append_seam before s rest s)
+
+-- the samples whose numbers are listed are those that pass
+listed : (test : Sample → Bool) (before rest : List Sample) → filter_map (slice_get (before ++ rest)) (numbers_from test (length before) rest) ≡ filter test rest
+listed test before [] = refl
+listed test before (s ∷ rest) =
+    let one : length before + 1 ≡ length (before ++ s ∷ []) = omega (arith, length-append before (s ∷ [])) in
+    let next : filter_map (slice_get (before ++ s ∷ rest)) (numbers_from test (length before + 1) rest) ≡ filter test rest =
+    ap (λ (xs : List Sample). filter_map (slice_get xs) (numbers_from test (length before + 1) rest)) (sym (append_assoc before (s ∷ []) rest))
+    ∙ ap (λ (n : ℕ). filter_map (slice_get ((before ++ s ∷ []) ++ rest)) (numbers_from test n rest)) one
+    ∙ listed test (before ++ s ∷ []) rest in
+    elim (test s) as (λ b. filter_map (slice_get (before ++ s ∷ rest)) (cond b (length before ∷ numbers_from test (length before + 1) rest) (numbers_from test (length before + 1) rest)) ≡ cond b (s ∷ filter test rest) (filter test rest)) [
+      | true ↦ λ i. cons_option (at_seam before rest s i) (next i)
+      | false ↦ next
+    ]
+
+-- the samples of the numbers that the filters leave
+pub kept_samples : (p : Profile) (f : Finders) (config : Config) (kept : List ℕ) → kept ≡ filtered_from p f config 0 p.sample
+    → samples_at p kept ≡ filtered_samples p f config p.sample
+kept_samples p f config kept is = ap (samples_at p) is ∙ listed (λ s. is_some (filtered_stack p f config s)) [] p.sample
+
+-- their values are within those of all samples
+pub kept_fits : (p : Profile) (f : Finders) (config : Config) (column : Option ℕ) (kept : List ℕ) → kept ≡ filtered_from p f config 0 p.sample
+    → absolute_all column config.divide_by p.sample < 2 ^ 63 → absolute_all column config.divide_by (samples_at p kept) < 2 ^ 63
+kept_fits p f config column kept is fits =
+    let size : Sample → ℕ = λ x. nat_abs (selected column config.divide_by x) in
+    omega (arith, fits, ap (sum_by size) (kept_samples p f config kept is), filter_size size (λ s. is_some (filtered_stack p f config s)) p.sample)
+
+negated : (n : ℕ) → nat_abs (neg_ℤ (pos n)) ≤ n
+negated zero = omega arith
+negated (suc n) = omega arith
+
+-- a quotient is within what is divided
+quotient_within : (z : ℤ) (d : ℕ) → nat_abs (int_div z (pos d)) ≤ nat_abs z
+quotient_within (pos n) d = div-le_self n d
+quotient_within (negsuc n) d = omega (arith, negated (suc n / d), div-le_self (suc n) d)
+
+-- the selected values of a countable profile can be added up
+pub values_fit : (p : Profile) (column : Option ℕ) (d : ℕ) → IsCountable p → IsColumnOf p column → absolute_all column d p.sample < 2 ^ 63
+values_fit p None d countable is = omega (arith, none_size p.sample) where
+  none_size : (ss : List Sample) → absolute_all None d ss ≡ 0
+  none_size [] = omega arith
+  none_size (s ∷ ss) = omega (arith, none_size ss, sum_by-cons (λ (x : Sample). nat_abs (selected None d x)) s ss)
+values_fit p (Some c) d countable is =
+    omega (arith, countable.sums c is, sum_by-le-sum_by (λ (s : Sample). nat_abs (selected (Some c) d s)) (λ (s : Sample). nat_abs (value_in s c)) p.sample (λ s. quotient_within (value_in s c) d))

@@ -1,0 +1,15 @@
+pub mod Numbering
+pub mod Adding
+pub mod Entries
+pub mod Joining
+pub mod Sights
+pub mod Ranges
+pub mod Pieces
+pub mod Tags
+pub mod Totals
+pub mod Finals
+pub mod Renaming
+pub mod Keyed
+pub mod Kept
+pub mod Pairing
+pub mod Edged

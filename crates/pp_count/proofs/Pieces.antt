@@ -1,0 +1,189 @@
+-- The samples of the pieces so far, and what they come to with one more piece.
+use Rattle.std.proofs.Common.{◌≡◌, ℕ, ◌+◌, ◌-◌, ◌*◌, ◌<◌, ◌≤◌, ◌^◌, Bool, true, false, cond, min, nat_abs, List, [], ◌∷◌, ◌++◌, length, take, drop, get_or, map, All, sym, ap, ◌∙◌, subst, arith, length-drop}
+use Rattle.std.specs.List.{sum_by}
+use Rattle.std.specs.Option.{is_some}
+use Rattle.std.specs.Ordering.{nat_cmp}
+use Rattle.std.proofs.Math.Seq.{take-add}
+use Rattle.std.proofs.lemmas.List.{map-append, take_min, length-take, length-take-le}
+use Rattle.std.proofs.lemmas.List.Elements.{filter-append, filter_map-append, All-append, All-take, All-drop, All-from_get_or}
+use Rattle.std.proofs.lemmas.List.Sums.{sum_by-cons, sum_by-append, sum_by-take-le, sum_by-take-drop}
+use Rattle.pp_model.specs.declared.profile.Sample.{Sample}
+use Rattle.pp_model.specs.Conditions.{RefersTo, IsSampleOf}
+use Rattle.pp_model.specs.declared.profile.Profile.{Profile}
+use Rattle.pp_model.specs.Rules.{NoRuleFails}
+use Rattle.pp_model.specs.Values.{no_sample}
+use Rattle.pp_model.proofs.RuleLemmas.{refers_from_valid, sample_at}
+use Rattle.pp_steal.specs.Running.{AreOutcomes}
+use Rattle.pp_count.specs.declared.scope.Scope.{Scope}
+use Rattle.pp_count.specs.declared.tally.Tally.{Tally}
+use Rattle.pp_count.specs.declared.part.KeySum.{KeySum}
+use Rattle.pp_count.specs.declared.part.Part.{Part}
+use Rattle.pp_count.specs.declared.counting.Counting.{Counting}
+use Rattle.pp_count.specs.Column.{selected}
+use Rattle.pp_count.specs.Sums.{Seen, weighed, renamed, has, leads, occurs}
+use Rattle.pp_count.specs.Seeing.{filtered_stack, seen}
+use Rattle.pp_count.specs.Tally.{added, plus, no_tally, IsTallyOf}
+use Rattle.pp_count.specs.Parts.{piece_samples, sums_of, key_sum, flat_size, cum_size, HasBelow}
+use Rattle.pp_count.specs.Scope.{profile_of, config_of, size_of, counted_as, AreSeen, IsCountable, IsPartOf, CountedTo}
+use Rattle.pp_count.proofs.Adding.{sum_bound}
+use Rattle.pp_count.proofs.Joining.{tallies_joined}
+use Rattle.pp_count.proofs.Ranges.{name_of, numbers-append, counted_size, counted_none}
+
+-- the slice of the samples that is the piece
+pub range_is : (samples : List Sample) (piece end : ℕ) → end ≡ min (piece * 1024 + 1024) (length samples)
+    → take (end - piece * 1024) (drop (piece * 1024) samples) ≡ piece_samples samples piece
+range_is samples piece end e =
+    ap (λ n. take n (drop (piece * 1024) samples)) (omega (arith, length-drop (piece * 1024) samples))
+    ∙ take_min 1024 (drop (piece * 1024) samples)
+    ∙ ap (λ n. take 1024 (drop n samples)) (omega arith)
+
+-- what can be counted can be counted in pieces
+pub countable_piece : (scope : Scope) (samples : List Sample) (piece : ℕ) → IsCountable scope samples → IsCountable scope (piece_samples samples piece)
+countable_piece scope samples piece is =
+    let size : Sample → ℕ = λ x. nat_abs (selected scope.column (config_of scope).divide_by x) in
+    record {
+      fits = omega (arith, is.fits, sum_by-take-le size (drop (1024 * piece) samples) 1024, sum_by-take-drop size samples (1024 * piece));
+      few = omega (arith, is.few, length-take 1024 (drop (1024 * piece) samples), length-drop (1024 * piece) samples);
+    }
+
+-- the samples refer to locations of their profile
+pub all_refer : (p q : Profile) → q ≡ p → NoRuleFails q → All (RefersTo p) q.sample
+all_refer p q same valid =
+    subst (λ (r : Profile). All (RefersTo r) q.sample) same
+    (All-from_get_or (RefersTo q) q.sample no_sample (λ k h. refers_from_valid q (get_or q.sample k no_sample) valid (sample_at q k no_sample h)))
+
+-- the samples of a piece do
+pub piece_refers : (p q : Profile) (piece : ℕ) → q ≡ p → NoRuleFails q → All (RefersTo p) (piece_samples q.sample piece)
+piece_refers p q piece same valid =
+    All-take (RefersTo p) 1024 (drop (1024 * piece) q.sample) (All-drop (RefersTo p) (1024 * piece) q.sample (all_refer p q same valid))
+
+-- the samples of a piece are samples of their profile
+pub piece_members : (p q : Profile) (piece : ℕ) → q ≡ p → All (IsSampleOf p) (piece_samples q.sample piece)
+piece_members p q piece same =
+    let all : All (IsSampleOf q) q.sample = All-from_get_or (IsSampleOf q) q.sample no_sample (λ k h. sample_at q k no_sample h) in
+    subst (λ (r : Profile). All (IsSampleOf r) (piece_samples q.sample piece)) same
+    (All-take (IsSampleOf q) 1024 (drop (1024 * piece) q.sample) (All-drop (IsSampleOf q) (1024 * piece) q.sample all))
+
+-- what is seen of two ranges
+seen-append : (scope : Scope) (a b : List Sample) (s t : List (Seen ℕ)) → AreSeen scope a s → AreSeen scope b t → AreSeen scope (a ++ b) (s ++ t)
+seen-append scope a b s t first second =
+    let size : Seen ℕ → ℕ = λ x. nat_abs x.value in
+    let all : Sample → ℕ = λ x. nat_abs (selected scope.column (config_of scope).divide_by x) in
+    record {
+      below = All-append (HasBelow (length scope.table.now.names)) s t first.below second.below;
+      within = omega (arith, first.within, second.within, sum_by-append size s t, sum_by-append all a b);
+      are = λ f holds.
+          map-append (renamed (name_of scope)) s t ∙ (λ i. first.are f holds i ++ second.are f holds i)
+          ∙ sym (filter_map-append (seen (profile_of scope) f (config_of scope) scope.column) a b);
+    }
+
+counted-append : (scope : Scope) (s t : List (Seen ℕ)) → weighed (map (counted_as scope) (s ++ t)) ≡ weighed (map (counted_as scope) s) ++ weighed (map (counted_as scope) t)
+counted-append scope s t = ap weighed (map-append (counted_as scope) s t) ∙ filter-append _ (map (counted_as scope) s) (map (counted_as scope) t)
+
+last_added : (t : Tally) (es : List KeySum) → t.last ≤ 1 → (added t es).last ≤ 1
+last_added t [] below = below
+last_added t (e ∷ es) below = last_added (plus t e) es (omega arith)
+
+-- with the part of the samples that follow
+pub counted_more : (scope : Scope) (number m : ℕ) (a b : List Sample) (at new : ℕ → Tally) (old_kept new_kept : List ℕ) (part : Part)
+    → number + length a ≡ m → CountedTo scope number 1 a at old_kept → IsPartOf scope m b part
+    → new_kept ≡ old_kept ++ part.kept → ((k : ℕ) → new k ≡ added (at k) (sums_of k part.sums))
+    → CountedTo scope number 1 (a ++ b) new new_kept
+counted_more scope number m a b at new old_kept new_kept part next before is kept each = record {
+  seen = before.seen ++ is.seen;
+  are = seen-append scope a b before.seen is.seen before.are is.are;
+  tallies = λ k. subst (λ (r : List (Seen ℕ)). IsTallyOf r k (new k)) (sym (counted-append scope before.seen is.seen))
+      (tallies_joined _ _ at new part.sums before.tallies is.sums each k);
+  earlier = λ k. rw (each k) (last_added (at k) (sums_of k part.sums) (before.earlier k));
+  kept = λ f holds. kept ∙ (λ i. before.kept f holds i ++ is.kept f holds i)
+      ∙ sym (numbers-append (λ x. is_some (filtered_stack (profile_of scope) f (config_of scope) x)) number m a b next);
+}
+
+size_if : (f : KeySum → ℕ) (e : KeySum) (w : Bool) → sum_by f (cond w (e ∷ []) []) ≤ f e
+size_if f e true = omega (arith, sum_by-cons f e [])
+size_if f e false = omega arith
+
+-- The sums of the part can be added to the tallies.
+pub record HasRoom (at : ℕ → Tally) (sums : List KeySum) (k : ℕ) : Type 0 where
+  pub flat : nat_abs (at k).flat + flat_size (sums_of k sums) < 2 ^ 63
+  pub cum : nat_abs (at k).cum + cum_size (sums_of k sums) < 2 ^ 63
+
+pub part_room : (scope : Scope) (number m : ℕ) (a b : List Sample) (at : ℕ → Tally) (kept : List ℕ) (part : Part)
+    → size_of scope a + size_of scope b < 2 ^ 63 → CountedTo scope number 1 a at kept → IsPartOf scope m b part
+    → (k : ℕ) → HasRoom at part.sums k
+part_room scope number m a b at kept part fits before is k =
+    let s : List (Seen ℕ) = map (counted_as scope) before.seen in
+    let t : List (Seen ℕ) = map (counted_as scope) is.seen in
+    record {
+      flat = rw ((before.tallies k).flat, is.sums k)
+          (omega (
+            arith,
+            fits,
+            before.are.within,
+            is.are.within,
+            counted_size scope before.seen,
+            counted_size scope is.seen,
+            sum_bound (leads nat_cmp k) s,
+            sum_bound (leads nat_cmp k) t,
+            size_if (λ (e : KeySum). nat_abs e.flat) (key_sum (weighed t) k) (occurs nat_cmp (weighed t) k),
+          ));
+      cum = rw ((before.tallies k).cum, is.sums k)
+          (omega (
+            arith,
+            fits,
+            before.are.within,
+            is.are.within,
+            counted_size scope before.seen,
+            counted_size scope is.seen,
+            sum_bound (has nat_cmp k) s,
+            sum_bound (has nat_cmp k) t,
+            size_if (λ (e : KeySum). nat_abs e.cum) (key_sum (weighed t) k) (occurs nat_cmp (weighed t) k),
+          ));
+    }
+
+-- the samples of so many pieces
+abbrev pub front_of : List Sample → ℕ → List Sample
+front_of samples pieces = take (1024 * pieces) samples
+
+pub front_more : (samples : List Sample) (j : ℕ) → front_of samples (j + 1) ≡ front_of samples j ++ piece_samples samples j
+front_more samples j = ap (λ n. take n samples) (omega arith) ∙ take-add (1024 * j) 1024 samples
+
+-- the values of the pieces so far and of the next one are within those of all samples
+pub front_within : (scope : Scope) (samples : List Sample) (j : ℕ) → size_of scope (front_of samples j) + size_of scope (piece_samples samples j) ≤ size_of scope samples
+front_within scope samples j =
+    let f : Sample → ℕ = λ x. nat_abs (selected scope.column (config_of scope).divide_by x) in
+    omega (
+      arith,
+      sum_by-take-le f samples (1024 * (j + 1)),
+      ap (sum_by f) (front_more samples j) ∙ sum_by-append f (front_of samples j) (piece_samples samples j),
+    )
+
+-- with the part of the next piece
+pub piece_more : (scope : Scope) (samples : List Sample) (j : ℕ) (at new : ℕ → Tally) (old_kept new_kept : List ℕ) (part : Part)
+    → 1024 * j ≤ length samples → CountedTo scope 0 1 (front_of samples j) at old_kept → IsPartOf scope (j * 1024) (piece_samples samples j) part
+    → new_kept ≡ old_kept ++ part.kept → ((k : ℕ) → new k ≡ added (at k) (sums_of k part.sums))
+    → CountedTo scope 0 1 (front_of samples (j + 1)) new new_kept
+piece_more scope samples j at new old_kept new_kept part here before is kept each =
+    subst (λ (r : List Sample). CountedTo scope 0 1 r new new_kept) (sym (front_more samples j))
+    (counted_more scope 0 (j * 1024) (front_of samples j) (piece_samples samples j) at new old_kept new_kept part (omega (arith, length-take-le (1024 * j) samples here)) before is kept each)
+
+-- The outcome of a piece of the wave is the part of its samples.
+pub part_at : (job : Counting) (outcomes items : List Part) (i : ℕ) (part : Part)
+    → AreOutcomes (λ piece. IsPartOf job.scope ((job.first + piece) * 1024) (piece_samples job.scope.l.now.profile.sample (job.first + piece))) job.pieces outcomes
+    → items ≡ outcomes → i < length items → part ≡ get_or items i part
+    → IsPartOf job.scope ((job.first + i) * 1024) (piece_samples job.scope.l.now.profile.sample (job.first + i)) part
+part_at job outcomes items i part all same here is =
+    subst (λ (p : Part). IsPartOf job.scope ((job.first + i) * 1024) (piece_samples job.scope.l.now.profile.sample (job.first + i)) p)
+    (sym (is ∙ ap (λ ps. get_or ps i part) same)) (all.each i part (omega (arith, here, ap length same, all.many)))
+
+-- each piece of the wave has a sample
+pub piece_starts : (job : Counting) (i : ℕ) → i < job.pieces → 1024 * (job.first + i) ≤ length job.scope.l.now.profile.sample
+piece_starts job i here = omega (arith, job.within)
+
+-- before the first piece nothing is counted
+pub none_counted : (scope : Scope) (m : ℕ) (samples : List Sample) (at : ℕ → Tally) (kept : List ℕ) → m ≡ 0 → ((k : ℕ) → at k ≡ no_tally) → kept ≡ []
+    → CountedTo scope 0 1 (front_of samples m) at kept
+none_counted scope m samples at kept first none empty =
+    let start = counted_none scope 0 at kept none empty in
+    subst (λ (n : ℕ). CountedTo scope 0 1 (front_of samples n) at kept) (sym first)
+    (record { seen = start.seen; are = start.are; tallies = start.tallies; earlier = λ k. omega (arith, start.earlier k); kept = start.kept })

@@ -1,0 +1,150 @@
+-- The key numbers of frames.
+use Rattle.std.proofs.Common.{◌≡◌, ℕ, zero, suc, ◌+◌, ◌<◌, ◌≤◌, ◌==◌, append_assoc, Bool, true, false, cond, not, ◌||◌, List, [], ◌∷◌, ◌++◌, length, drop, get_or, map, All, Option, Some, None, refl, sym, ap, ◌∙◌, subst, arith}
+use Rattle.std.specs.Option.{unwrap_or, option_map_or}
+use Rattle.std.specs.List.{slice_get}
+use Rattle.std.proofs.lemmas.List.{get_or-map, get_or_default, length-map, map-append, append-nil}
+use Rattle.std.proofs.Math.ListN.{drop_of_length-le}
+use Rattle.std.proofs.lemmas.List.Elements.{All-push}
+use Rattle.std.proofs.lemmas.List.FromFn.{length-map-range_with_len, get_or-map-range_with_len}
+use Rattle.pp_model.specs.declared.config.Config.{Config}
+use Rattle.pp_model.specs.declared.frame.Frame.{Frame}
+use Rattle.pp_model.specs.declared.profile.Line.{Line}
+use Rattle.pp_model.specs.declared.profile.Profile.{Profile}
+use Rattle.pp_model.specs.Conditions.{IsFrameOf, IsRowOf}
+use Rattle.pp_model.specs.Frames.{Written, written, rows, row_frame, lines_at}
+use Rattle.pp_grain.specs.Keys.{counts, key_texts}
+use Rattle.pp_count.specs.declared.table.KeyTable.{KeyTable}
+use Rattle.pp_count.specs.Table.{written_key, IsKeyTable}
+use Rattle.pp_count.specs.Seeing.{counted_frames, key_of_frame, keys_of_stack}
+
+-- the frame of the row, which stands at that place of the location's rows
+frame_in : (location : ℕ) (lines : List Line) (row : Option ℕ) (d : Frame) → IsRowOf lines row
+    → (unwrap_or row 0 < length (rows 0 location lines))
+    × (get_or (rows 0 location lines) (unwrap_or row 0) d ≡ record { place = 0; location = location; row = row })
+frame_in location [] None d is = (omega arith, refl)
+frame_in location [] (Some r) d is = absurd (omega (arith, is))
+frame_in location (line ∷ lines) None d is = cc
+frame_in location (line ∷ lines) (Some r) d is = (
+  omega (arith, length-map-range_with_len (row_frame 0 location) 0 (length (line ∷ lines)), is),
+  get_or-map-range_with_len (row_frame 0 location) 0 (length (line ∷ lines)) r r d is (omega arith),
+)
+
+-- the number of a frame's key
+abbrev pub number_at : List (List ℕ) → Frame → ℕ
+number_at rows f = get_or (get_or rows f.location []) (unwrap_or f.row 0) 0
+
+-- The number stands in the table, and is that of the frame's key.
+pub record HasNumber (p : Profile) (config : Config) (table : KeyTable) (f : Frame) : Type 0 where
+  pub location : f.location < length table.location
+  pub row : unwrap_or f.row 0 < length (get_or table.location f.location [])
+  pub below : number_at table.location f < length table.names
+  pub named : written_key p table.names (number_at table.location f) ≡ key_of_frame p config f
+
+pub number_is : (p : Profile) (config : Config) (table : KeyTable) (f : Frame) → IsKeyTable p config table → IsFrameOf p f → HasNumber p config table f
+number_is p config table f t is =
+    let within : f.location < length table.location = omega (arith, t.count, is.location) in
+    let row : List ℕ = get_or table.location f.location [] in
+    let places : List Frame = rows 0 f.location (lines_at p f.location) in
+    let at : ℕ = unwrap_or f.row 0 in
+    let place = frame_in f.location (lines_at p f.location) f.row f is.row in
+    let numbered = t.each f.location within in
+    let key : Written → Written = key_texts config.grain config.showcolumns in
+    let long : length row ≡ length places =
+    sym (length-map row (written_key p table.names)) ∙ ap length numbered.keys ∙ length-map (map (written p) places) key ∙ length-map places (written p) in
+    let here : at < length row = omega (arith, long, place.0) in
+    record {
+      location = within;
+      row = here;
+      below = numbered.below at 0 here;
+      named = sym (get_or-map (written_key p table.names) row at 0 (written p f) here) ∙ ap (λ ws. get_or ws at (written p f)) numbered.keys
+          ∙ get_or-map key (map (written p) places) at (written p f) (written p f) (omega (arith, place.0, length-map places (written p)))
+          ∙ ap key (get_or-map (written p) places at f (written p f) place.0 ∙ ap (written p) place.1);
+    }
+
+-- The place of the row that was read has the number of the frame's key.
+pub record IsThere (p : Profile) (config : Config) (table : KeyTable) (f : Frame) (row : List ℕ) (at : ℕ) : Type 0 where
+  pub within : at < length row
+  pub below : get_or row at 0 < length table.names
+  pub named : written_key p table.names (get_or row at 0) ≡ key_of_frame p config f
+
+pub number_there : (p : Profile) (config : Config) (table : KeyTable) (f : Frame) (all : List (List ℕ)) (row : List ℕ) (at : ℕ)
+    → IsKeyTable p config table → IsFrameOf p f → all ≡ table.location → row ≡ get_or all f.location row → at ≡ unwrap_or f.row 0
+    → IsThere p config table f row at
+number_there p config table f all row at t is lent read place =
+    let has = number_is p config table f t is in
+    let same : row ≡ get_or table.location f.location [] =
+    read ∙ ap (λ xs. get_or xs f.location row) lent ∙ get_or_default table.location f.location row [] has.location in
+    subst (λ (r : List ℕ). IsThere p config table f r at) (sym same)
+    (subst (λ (n : ℕ). IsThere p config table f (get_or table.location f.location []) n) (sym place)
+    (record { within = has.row; below = has.below; named = has.named }))
+
+-- The key numbers so far, and the keys of the frames that are left.
+pub record NumberedTo (p : Profile) (config : Config) (table : KeyTable) (stack : List Frame) (i : ℕ) (keys : List ℕ) : Type 0 where
+  pub below : All (λ k. k < length table.names) keys
+  pub named : map (written_key p table.names) keys ++ keys_of_stack p config (drop i stack) ≡ keys_of_stack p config stack
+
+pub numbered_none : (p : Profile) (config : Config) (table : KeyTable) (stack : List Frame) (keys : List ℕ) → keys ≡ [] → NumberedTo p config table stack 0 keys
+numbered_none p config table stack keys none = rw none (record { below = λ k d below. absurd (omega (arith, below)); named = refl })
+
+-- the frames, with one in front of them that counts
+abbrev keep_frame : Bool → Frame → List Frame → List Frame
+keep_frame counts f fs = cond counts (f ∷ fs) fs
+
+-- a frame counts by what follows it
+counts_here : (stack : List Frame) (i : ℕ) (noinlines : Bool) (f : Frame) → i < length stack → f ≡ get_or stack i f
+    → keep_frame (counts stack i noinlines) f (counted_frames noinlines (drop (i + 1) stack)) ≡ counted_frames noinlines (drop i stack)
+counts_here [] i noinlines f here is = absurd (omega (arith, here))
+counts_here (x ∷ stack) zero noinlines f here is = ap (λ g. cond (counts (x ∷ stack) 0 noinlines) (g ∷ counted_frames noinlines stack) (counted_frames noinlines stack)) is
+counts_here (x ∷ stack) (suc i) noinlines f here is =
+    let next : suc i + 1 ≡ suc (i + 1) = omega arith in
+    let same : counts (x ∷ stack) (suc i) noinlines ≡ counts stack i noinlines =
+    ap (λ (m : ℕ). not noinlines || option_map_or (λ (g : Frame). not (g.place == (get_or stack i g).place)) (slice_get (x ∷ stack) m) true) next in
+    (λ j. keep_frame (same j) f (counted_frames noinlines (drop (next j) (x ∷ stack)))) ∙ counts_here stack i noinlines f (omega (arith, here)) is
+
+-- one more frame, which counts
+pub numbered_more : (p : Profile) (config : Config) (table : KeyTable) (stack : List Frame) (i : ℕ) (keys : List ℕ) (f : Frame) (n : ℕ)
+    → i < length stack → f ≡ get_or stack i f → counts stack i config.noinlines ≡ true
+    → n < length table.names → written_key p table.names n ≡ key_of_frame p config f
+    → NumberedTo p config table stack i keys → NumberedTo p config table stack (i + 1) (keys ++ n ∷ [])
+numbered_more p config table stack i keys f n here is counted below named so_far = record {
+  below = All-push (λ k. k < length table.names) keys n so_far.below below;
+  named =
+      ap (λ ks. ks ++ keys_of_stack p config (drop (i + 1) stack)) (map-append (written_key p table.names) keys (n ∷ []))
+      ∙ append_assoc (map (written_key p table.names) keys) (written_key p table.names n ∷ []) (keys_of_stack p config (drop (i + 1) stack))
+      ∙ ap (λ k. map (written_key p table.names) keys ++ k ∷ keys_of_stack p config (drop (i + 1) stack)) named
+      ∙ ap (λ fs. map (written_key p table.names) keys ++ map (key_of_frame p config) fs)
+      (ap (λ b. keep_frame b f (counted_frames config.noinlines (drop (i + 1) stack))) (sym counted) ∙ counts_here stack i config.noinlines f here is)
+      ∙ so_far.named;
+}
+
+-- the same of a frame that was read from the stack
+pub numbered_read : (p : Profile) (config : Config) (table : KeyTable) (stack read : List Frame) (i : ℕ) (keys : List ℕ) (d : Frame) (n : ℕ)
+    → read ≡ stack → i < length read → counts stack i config.noinlines ≡ true
+    → n < length table.names → written_key p table.names n ≡ key_of_frame p config (get_or read i d)
+    → NumberedTo p config table stack i keys → NumberedTo p config table stack (i + 1) (keys ++ n ∷ [])
+numbered_read p config table stack read i keys d n lent here counted below named so_far =
+    let within : i < length stack = omega (arith, here, ap length lent) in
+    numbered_more p config table stack i keys (get_or read i d) n within
+    (ap (λ fs. get_or fs i d) lent ∙ get_or_default stack i d (get_or read i d) within) counted below named so_far
+
+-- one more frame, which doesn't
+pub numbered_other : (p : Profile) (config : Config) (table : KeyTable) (stack : List Frame) (i : ℕ) (keys : List ℕ)
+    → i < length stack → counts stack i config.noinlines ≡ false
+    → NumberedTo p config table stack i keys → NumberedTo p config table stack (i + 1) keys
+numbered_other p config table stack i keys here other so_far =
+    let f : Frame = get_or stack i (record { place = 0; location = 0; row = None }) in
+    record {
+      below = so_far.below;
+      named =
+          ap (λ fs. map (written_key p table.names) keys ++ map (key_of_frame p config) fs)
+          (ap (λ b. keep_frame b f (counted_frames config.noinlines (drop (i + 1) stack))) (sym other)
+          ∙ counts_here stack i config.noinlines f here (get_or_default stack i (record { place = 0; location = 0; row = None }) f here))
+          ∙ so_far.named;
+    }
+
+-- past the last frame all are numbered
+pub numbered_all : (p : Profile) (config : Config) (table : KeyTable) (stack : List Frame) (i : ℕ) (keys : List ℕ) → length stack ≤ i
+    → NumberedTo p config table stack i keys → map (written_key p table.names) keys ≡ keys_of_stack p config stack
+numbered_all p config table stack i keys past so_far =
+    sym (append-nil (map (written_key p table.names) keys))
+    ∙ ap (λ fs. map (written_key p table.names) keys ++ keys_of_stack p config fs) (sym (drop_of_length-le stack past)) ∙ so_far.named

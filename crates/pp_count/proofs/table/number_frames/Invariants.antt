@@ -1,0 +1,8 @@
+use Rattle.std.proofs.Common.{map, take}
+use Rattle.pp_model.specs.Frames.{written}
+use Rattle.pp_count.proofs.Numbering.{Numbering}
+use Rattle.pp_count.proofs.table.number_frames.Given as goal
+
+-- the frames so far have their numbers
+abbrev pub invariant-loop-frame : goal.invariant-loop-frame
+invariant-loop-frame l = Numbering l.config.grain l.config.showcolumns l.l.profile l.initial.names l.names (map (written l.l.profile) (take l.frame-index l.stack)) l.row

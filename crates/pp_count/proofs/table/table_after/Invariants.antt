@@ -1,0 +1,6 @@
+use Rattle.pp_count.proofs.Numbering.{RowsTo}
+use Rattle.pp_count.proofs.table.table_after.Given as goal
+
+-- the locations so far have their rows
+abbrev pub invariant-loop-place : goal.invariant-loop-place
+invariant-loop-place l = RowsTo l.config.grain l.config.showcolumns l.l.profile l.initial.names l.names l.location l.place

@@ -1,0 +1,11 @@
+pub mod Column
+pub mod Sums
+pub mod Seeing
+pub mod Table
+pub mod Tally
+pub mod Parts
+pub mod Edges
+pub mod Scope
+pub mod Counts
+pub mod EdgeSums
+pub mod Matches

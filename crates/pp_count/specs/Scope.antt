@@ -1,0 +1,80 @@
+-- What a range of samples comes to, as its parts are made on the lanes.
+use Rattle.std.specs.Prelude.{◌≡◌, ℕ, ◌<◌, ◌≤◌, ◌^◌, Bool, List, length, map, All, Option, MatchOption, option_map, ⊤}
+use Rattle.pp_model.specs.declared.config.Config.{Config}
+use Rattle.pp_model.specs.declared.profile.Sample.{Sample}
+use Rattle.pp_model.specs.declared.profile.Profile.{Profile}
+use Rattle.pp_model.specs.Conditions.{HasVerdicts}
+use Rattle.pp_model.specs.Finders.{Finders}
+use Rattle.pp_tags.specs.TagFilters.{HasItsTags, filter_in_force}
+use Rattle.pp_count.specs.declared.scope.Scope.{Scope}
+use Rattle.pp_count.specs.declared.part.Part.{Part}
+use Rattle.pp_count.specs.declared.tally.Tally.{Tally}
+use Rattle.pp_count.specs.Tally.{IsTallyOf}
+use Rattle.pp_count.specs.Table.{written_key, IsKeyTable}
+use Rattle.pp_count.specs.Sums.{Seen, weighed, absolute, renamed}
+use Rattle.pp_count.specs.Seeing.{HoldsFilters, seen_samples, filtered_from, absolute_all}
+use Rattle.pp_count.specs.Parts.{AreSums, HasBelow}
+use Rattle.pp_count.specs.Edges.{counted_keys}
+
+-- the profile whose samples are counted
+abbrev pub profile_of : Scope → Profile
+profile_of scope = scope.l.now.profile
+
+-- the configuration
+abbrev pub config_of : Scope → Config
+config_of scope = scope.config.now
+
+-- for each key number, whether pairs are counted over its key; none where keys are counted
+abbrev pub keep_of : Scope → Option (List Bool)
+keep_of scope = option_map (λ keep. keep.now) scope.over
+
+-- The verdicts, the tag filters and the table are those of the profile and the configuration.
+pub record IsSound (scope : Scope) : Type 0 where
+  pub focus : scope.focus.now ≡ filter_in_force (config_of scope).tagfocus
+  pub ignore : scope.ignore.now ≡ filter_in_force (config_of scope).tagignore
+  pub focus_tags : HasItsTags (profile_of scope) scope.v.now.tag scope.focus.now
+  pub ignore_tags : HasItsTags (profile_of scope) scope.v.now.tag scope.ignore.now
+  pub verdicts : HasVerdicts (profile_of scope) scope.v.now
+  pub table : IsKeyTable (profile_of scope) (config_of scope) scope.table.now
+  pub few_kept : MatchOption (keep_of scope) ⊤ (λ keep. length keep < 2 ^ 32)
+
+-- the sum of the absolute selected values of the samples
+abbrev pub size_of : Scope → List Sample → ℕ
+size_of scope samples = absolute_all scope.column scope.config.now.divide_by samples
+
+-- The samples can be numbered, and their values added up.
+pub record IsCountable (scope : Scope) (samples : List Sample) : Type 0 where
+  pub fits : size_of scope samples < 2 ^ 63
+  pub few : length samples < 2 ^ 32
+
+-- The list is what the report sees of the samples, by key numbers.
+pub record AreSeen (scope : Scope) (samples : List Sample) (seen : List (Seen ℕ)) : Type 0 where
+  pub below : All (HasBelow (length scope.table.now.names)) seen
+  pub within : absolute seen ≤ size_of scope samples
+  pub are : (f : Finders) → HoldsFilters scope.l.now scope.v.now (config_of scope) f
+      → map (renamed (written_key (profile_of scope) scope.table.now.names)) seen
+      ≡ seen_samples (profile_of scope) f (config_of scope) scope.column samples
+
+-- the sample with what is counted of its keys
+abbrev pub counted_as : Scope → Seen ℕ → Seen ℕ
+counted_as scope s = record { value = s.value; keys = counted_keys (keep_of scope) s.keys }
+
+-- The part is that of these samples, of which the first has this number.
+pub record IsPartOf (scope : Scope) (number : ℕ) (samples : List Sample) (part : Part)
+    : Type 0 where
+  pub seen : List (Seen ℕ)
+  pub are : AreSeen scope samples seen
+  pub sums : AreSums (weighed (map (counted_as scope) seen)) part.sums
+  pub kept : (f : Finders) → HoldsFilters scope.l.now scope.v.now (config_of scope) f
+      → part.kept ≡ filtered_from (profile_of scope) f (config_of scope) number samples
+
+-- The samples so far are added to the tallies, none of them at a turn after this one, and the numbers of those that the
+-- filters leave are listed. No public clause cites it.
+pub record CountedTo (scope : Scope) (number turn : ℕ) (samples : List Sample) (at : ℕ → Tally)
+    (numbers : List ℕ) : Type 0 where
+  pub seen : List (Seen ℕ)
+  pub are : AreSeen scope samples seen
+  pub tallies : (k : ℕ) → IsTallyOf (weighed (map (counted_as scope) seen)) k (at k)
+  pub earlier : (k : ℕ) → (at k).last ≤ turn
+  pub kept : (f : Finders) → HoldsFilters scope.l.now scope.v.now (config_of scope) f
+      → numbers ≡ filtered_from (profile_of scope) f (config_of scope) number samples

@@ -1,0 +1,62 @@
+-- What is kept for each key number while samples are added up. No public clause cites it.
+use Rattle.std.specs.Prelude.{◌≡◌, ℕ, ◌==◌, nat_eq, nat_lt, ℤ, pos, ◌+ℤ◌, List, [], ◌∷◌, if◌then◌else◌}
+use Rattle.std.specs.Option.{unwrap_or}
+use Rattle.std.specs.Ordering.{nat_cmp, int_eq}
+use Rattle.indexmap.specs.IndexMap.{IndexMap, get}
+use Rattle.pp_count.specs.Sums.{Seen, cum, flat, has, leads, occurs}
+use Rattle.pp_count.specs.declared.tally.Tally.{Tally}
+use Rattle.pp_count.specs.declared.part.KeySum.{KeySum}
+
+-- no sample had the key
+abbrev pub no_tally : Tally
+no_tally = record { flat = pos 0; cum = pos 0; last = 0 }
+
+module _ {S : Type 0} where
+  -- what is kept of the key number
+  abbrev pub tally_at : IndexMap ℕ Tally S → ℕ → Tally
+  tally_at tallies k = unwrap_or (get nat_eq tallies k) no_tally
+
+-- The tally is that of the key over these samples.
+pub record IsTallyOf (samples : List (Seen ℕ)) (k : ℕ) (t : Tally) : Type 0 where
+  pub flat : t.flat ≡ flat nat_cmp samples k
+  pub cum : t.cum ≡ cum nat_cmp samples k
+  pub occurs : nat_lt 0 t.last ≡ occurs nat_cmp samples k
+
+-- the tally after one more frame of the sample of this value and turn: a sample counts once
+abbrev pub credited : ℤ → ℕ → Tally → Tally
+credited value turn t =
+    if t.last == turn then t else record { flat = t.flat; cum = t.cum +ℤ value; last = turn }
+
+-- the tally of the key number after a sample of this value and turn, which has these keys
+abbrev pub with_cum : ℤ → ℕ → List ℕ → ℕ → Tally → Tally
+with_cum value turn keys k t =
+    if has nat_cmp k keys then record { flat = t.flat; cum = t.cum +ℤ value; last = turn } else t
+
+-- the tally with the value in its flat, which only the leaf's key has
+abbrev pub with_flat : ℤ → List ℕ → ℕ → Tally → Tally
+with_flat value keys k t =
+    if leads nat_cmp k keys then record { flat = t.flat +ℤ value; cum = t.cum; last = t.last }
+    else t
+
+-- the tally after the whole sample
+abbrev pub with_sample : ℤ → ℕ → List ℕ → ℕ → Tally → Tally
+with_sample value turn keys k t = with_flat value keys k (with_cum value turn keys k t)
+
+-- the same of any sample: one of value 0 leaves the tally
+abbrev pub with_seen : ℤ → ℕ → List ℕ → ℕ → Tally → Tally
+with_seen value turn keys k t =
+    if int_eq value (pos 0) then t else with_sample value turn keys k t
+
+-- the entry of a key's tally, and none where no sample had the key
+abbrev pub entry_of : ℕ → Tally → List KeySum
+entry_of k t =
+    if nat_lt 0 t.last then record { key = k; flat = t.flat; cum = t.cum } ∷ [] else []
+
+-- the tally with the sums of another range that has the key
+abbrev pub plus : Tally → KeySum → Tally
+plus t e = record { flat = t.flat +ℤ e.flat; cum = t.cum +ℤ e.cum; last = 1 }
+
+-- the tally of a key with the entries of another range added
+abbrev pub added : Tally → List KeySum → Tally
+added t [] = t
+added t (e ∷ es) = added (plus t e) es

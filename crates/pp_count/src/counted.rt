@@ -1,0 +1,162 @@
+//! What a report's samples come to.
+ghost use Rattle.std.specs.Prelude.{◌≡◌, ◌<◌, ◌^◌, None, All, IfOk};
+ghost use Rattle.pp_model.specs.Conditions.{HasVerdicts, IsColumnOf};
+ghost use Rattle.pp_model.specs.Finders.{Finders};
+ghost use Rattle.pp_model.specs.Sizes.{IsCountable};
+ghost use Rattle.pp_grain.specs.Keys.{IsKeyOf};
+ghost use Rattle.pp_tags.specs.TagFilters.{HasItsTags, filter_in_force};
+ghost use Rattle.pp_count.specs.Sums.{weighed};
+ghost use Rattle.pp_count.specs.Seeing.{HoldsFilters, seen_samples, filtered_from, absolute_all};
+ghost use Rattle.pp_count.specs.Matches.{matches_of};
+ghost use Rattle.pp_count.specs.Counts.{AreSumsOf, total_of};
+ghost use Rattle.pp_count.specs.Table.{IsKeyTable};
+ghost use Rattle.pp_count.specs.Scope.{IsSound, CountedTo};
+ghost use Rattle.pp_count.specs.Tally.{tally_at};
+
+use crate::matched::{Matched, matches};
+use crate::scope::Scope;
+use crate::sofar::Sofar;
+use crate::sums::{Sums, sums_by_keys};
+use crate::table::{KeyTable, key_table};
+use crate::tallies::entries;
+use crate::total::{total_kept, total_over};
+use crate::waves::count_all;
+use pp_base::{Gate, List, Memory};
+use pp_model::{Config, Loaded, Verdicts};
+use pp_tags::TagFilter;
+use std::alloc::Global;
+use std::thread::Threads;
+
+/// What the samples of a profile come to in a report.
+#[derive(Drop)]
+pub struct Counted {
+    /// The numbers of the samples that the filters leave, rising.
+    pub kept: List<u32>,
+    /// The sums of each key that occurs.
+    pub sums: Sums,
+    /// Which options have a match.
+    pub matched: Matched,
+    /// What percentages are taken of.
+    pub total: u64,
+}
+
+/// Counts all samples, in pieces of 1,024 on as many lanes as the configuration has workers. `Err` is want of memory.
+///
+/// Samples that a filter drops and samples of value 0 put no key into the sums; the latter are kept. With
+/// `relative_percentages` the total is taken over the samples that the filters leave.
+pub fn count<R: Threads + Sync, G: Gate>(
+    rt: &R,
+    alloc: Global,
+    l: &Loaded,
+    v: &Verdicts,
+    config: &Config,
+    column: Option<u32>,
+    gate: &G,
+) -> Result<Counted, Memory>
+    requires countable { IsCountable l.now.profile }
+    requires column { IsColumnOf l.now.profile column }
+    requires verdicts { HasVerdicts l.now.profile v.now }
+    requires focus { HasItsTags l.now.profile v.now.tag (filter_in_force config.now.tagfocus) }
+    requires ignore { HasItsTags l.now.profile v.now.tag (filter_in_force config.now.tagignore) }
+    ensures kept { (f : Finders) → HoldsFilters l.now v.now config.now f →
+        IfOk result (λ c. c.kept ≡ filtered_from l.now.profile f config.now 0 l.now.profile.sample) }
+    ensures sums { (f : Finders) → HoldsFilters l.now v.now config.now f →
+        IfOk result (λ c. AreSumsOf l.now.profile
+        (weighed (seen_samples l.now.profile f config.now column l.now.profile.sample)) c.sums) }
+    ensures matched { (f : Finders) → HoldsFilters l.now v.now config.now f →
+        IfOk result (λ c. c.matched.slots ≡ matches_of l.now.profile f config.now) }
+    ensures total { (f : Finders) → HoldsFilters l.now v.now config.now f →
+        IfOk result (λ c. c.total ≡ total_of l.now.profile f config.now column) }
+    ensures of_profile { IfOk result (λ c. All (IsKeyOf l.now.profile) c.sums.names) }
+{
+    let table = key_table(alloc, l, config)?;
+    let focus = TagFilter::in_force(alloc, config.tagfocus.as_slice())?;
+    let ignore = TagFilter::in_force(alloc, config.tagignore.as_slice())?;
+    let (sofar, sums) = count_by(
+        rt, alloc, l, v, config, &focus, &ignore, column, &table, gate,
+    )?;
+    let matched = matches(alloc, l, v, config, &focus, &ignore)?;
+    let total = report_total(l, config, column, sofar.kept.as_slice());
+    Ok(Counted {
+        kept: sofar.kept,
+        sums,
+        matched,
+        total,
+    })
+}
+
+// What all samples come to, by this table of the profile's keys and these tag filters of the configuration.
+fn count_by<'x, R: Threads + Sync, G: Gate>(
+    rt: &R,
+    alloc: Global,
+    l: &'x Loaded,
+    v: &'x Verdicts,
+    config: &'x Config,
+    focus: &'x Option<TagFilter>,
+    ignore: &'x Option<TagFilter>,
+    column: Option<u32>,
+    table: &'x KeyTable,
+    gate: &G,
+) -> Result<(Sofar, Sums), Memory>
+    requires countable { IsCountable l.now.profile }
+    requires column { IsColumnOf l.now.profile column }
+    requires verdicts { HasVerdicts l.now.profile v.now }
+    requires focus { focus.now ≡ filter_in_force config.now.tagfocus }
+    requires ignore { ignore.now ≡ filter_in_force config.now.tagignore }
+    requires focus_tags { HasItsTags l.now.profile v.now.tag focus.now }
+    requires ignore_tags { HasItsTags l.now.profile v.now.tag ignore.now }
+    requires table { IsKeyTable l.now.profile config.now table.now }
+    ensures kept { (f : Finders) → HoldsFilters l.now v.now config.now f →
+        IfOk result (λ c. c.0.kept ≡ filtered_from l.now.profile f config.now 0 l.now.profile.sample) }
+    ensures sums { (f : Finders) → HoldsFilters l.now v.now config.now f →
+        IfOk result (λ c. AreSumsOf l.now.profile
+        (weighed (seen_samples l.now.profile f config.now column l.now.profile.sample)) c.1) }
+    ensures of_profile { IfOk result (λ c. All (IsKeyOf l.now.profile) c.1.names) }
+{
+    let scope = Scope {
+        l,
+        v,
+        config,
+        focus,
+        ignore,
+        column,
+        table,
+        over: None,
+    };
+    let sofar = count_all(rt, alloc, &scope, gate)?;
+    let sums = sums_so_far(alloc, &scope, &sofar)?;
+    Ok((sofar, sums))
+}
+
+// What percentages are taken of, where these are the numbers of the samples that the filters leave.
+fn report_total(l: &Loaded, config: &Config, column: Option<u32>, kept: &[u32]) -> u64
+    requires { absolute_all column config.now.divide_by l.now.profile.sample < 2 ^ 63 }
+    ensures { (f : Finders) →
+        kept.now ≡ filtered_from l.now.profile f config.now 0 l.now.profile.sample →
+        result ≡ total_of l.now.profile f config.now column }
+{
+    if config.relative_percentages {
+        total_kept(l, config, column, kept)
+    } else {
+        total_over(l, config, column, l.profile.get().sample.as_slice())
+    }
+}
+
+// The sums of all samples, by keys.
+fn sums_so_far(alloc: Global, scope: &Scope, sofar: &Sofar) -> Result<Sums, Memory>
+    requires sound { IsSound scope.now }
+    requires keys { scope.now.over ≡ None }
+    requires counted { CountedTo scope.now 0 1 scope.now.l.now.profile.sample
+        (tally_at sofar.now.tallies) sofar.now.kept }
+    ensures sums { (f : Finders) →
+        HoldsFilters scope.now.l.now scope.now.v.now scope.now.config.now f →
+        IfOk result (λ sums. AreSumsOf scope.now.l.now.profile (weighed (seen_samples
+        scope.now.l.now.profile f scope.now.config.now scope.now.column
+        scope.now.l.now.profile.sample)) sums) }
+    ensures of_profile { IfOk result (λ sums. All (IsKeyOf scope.now.l.now.profile) sums.names) }
+{
+    let _compact = scope.l.profile.get();
+    let entries = entries(alloc, &sofar.tallies)?;
+    let sums = sums_by_keys(alloc, &scope.table.names, entries.as_slice())?;
+    Ok(sums)
+}

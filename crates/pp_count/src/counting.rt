@@ -1,0 +1,59 @@
+//! Counting as a job in pieces.
+ghost use Rattle.std.specs.Prelude.{◌≡◌, ◌+◌, ◌*◌, ◌<◌, ◌^◌, length, IfOk};
+ghost use Rattle.std.proofs.Props.{props};
+ghost use Rattle.pp_count.specs.Parts.{piece_samples};
+ghost use Rattle.pp_count.specs.Scope.{IsSound, IsCountable, IsPartOf};
+
+use crate::part::{Part, count_range};
+use crate::scope::Scope;
+use pp_base::Memory;
+use pp_steal::Job;
+use std::alloc::Global;
+
+/// How many samples a piece has. The last piece may have fewer.
+pub const PIECE: usize = 1024;
+
+/// A wave of pieces, to be counted on any thread.
+#[derive(Drop)]
+pub struct Counting<'a> {
+    pub alloc: Global,
+    pub scope: Scope<'a>,
+    /// The first piece of the wave.
+    pub first: u32,
+    /// How many pieces the wave has.
+    pub pieces: u32,
+    pub ghost sound: { IsSound scope } by { Prim.hlevel props },
+    pub ghost countable: { IsCountable scope scope.l.now.profile.sample },
+    pub ghost within: { 1024 * (first + pieces) < length scope.l.now.profile.sample + 1024 },
+}
+
+impl Job for Counting<'_> {
+    type Out = Part;
+
+    ghost use Rattle.std.specs.Prelude.{◌+◌, ◌*◌};
+    ghost use Rattle.pp_count.specs.Parts.{piece_samples};
+    ghost use Rattle.pp_count.specs.Scope.{IsPartOf};
+
+    ghost pieces = { λ job. job.pieces };
+
+    ghost right = { λ job piece part. IsPartOf job.scope ((job.first + piece) * 1024)
+        (piece_samples job.scope.l.now.profile.sample (job.first + piece)) part };
+
+    fn run(&self, piece: u32) -> Result<Part, Memory> {
+        count_piece_of(self.alloc, &self.scope, self.first + piece)
+    }
+}
+
+/// The part of the piece's samples.
+pub fn count_piece_of(alloc: Global, scope: &Scope, piece: u32) -> Result<Part, Memory>
+    requires sound { IsSound scope.now }
+    requires countable { IsCountable scope.now scope.now.l.now.profile.sample }
+    requires starts { 1024 * piece < length scope.now.l.now.profile.sample }
+    ensures { IfOk result (IsPartOf scope.now (piece * 1024)
+        (piece_samples scope.now.l.now.profile.sample piece)) }
+{
+    let samples = scope.l.profile.get().sample.as_slice();
+    let start = piece as usize * PIECE;
+    let end = (start + PIECE).min(samples.len());
+    count_range(alloc, scope, &samples[start..end], start as u32)
+}

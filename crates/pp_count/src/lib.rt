@@ -1,0 +1,32 @@
+//! What a report counts: its column and total, its key numbers, and sums over the samples, in pieces on the lanes.
+#![tactic(auto)]
+
+mod column;
+mod counted;
+mod counting;
+mod edge;
+mod finding;
+mod matched;
+mod pairs;
+mod part;
+mod recounting;
+mod scope;
+mod seeing;
+mod sofar;
+mod sums;
+mod table;
+mod tallies;
+mod tally;
+mod total;
+mod value;
+mod waves;
+
+pub use column::{BadSampleIndex, column_of};
+pub use counted::{Counted, count};
+pub use edge::Edge;
+pub use matched::Matched;
+pub use part::{KeySum, Part};
+pub use recounting::recount;
+pub use sums::Sums;
+pub use table::{KeyTable, key_table};
+pub use value::selected;

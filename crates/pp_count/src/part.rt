@@ -1,0 +1,114 @@
+//! What a range of the samples comes to.
+ghost use Rattle.std.specs.Prelude.{◌≡◌, ℕ, ◌+◌, ◌<◌, ◌^◌, nat_abs, length, All, IfOk};
+ghost use Rattle.pp_model.specs.Conditions.{RefersTo, IsSampleOf};
+ghost use Rattle.pp_count.specs.Column.{selected};
+ghost use Rattle.pp_count.specs.Edges.{counted_keys};
+ghost use Rattle.pp_count.specs.Tally.{tally_at, no_tally, with_seen};
+ghost use Rattle.pp_count.specs.Scope.{keep_of, IsSound, IsCountable, IsPartOf, CountedTo};
+
+use crate::pairs::gather_pairs;
+use crate::scope::Scope;
+use crate::seeing::see;
+use crate::tallies::{Tallies, add_sample, entries};
+use crate::value::selected;
+use indexmap::IndexMap;
+use pp_base::{List, Memory};
+use pp_model::Sample;
+use std::alloc::Global;
+
+/// The sums of one key over a range of samples.
+#[derive(Clone, Copy, Debug, PartialEq, Eq)]
+pub struct KeySum {
+    /// The key's number.
+    pub key: u64,
+    /// The sum over the samples whose leaf has the key.
+    pub flat: i64,
+    /// The sum over the samples that have the key, each sample once.
+    pub cum: i64,
+}
+
+/// What a range of samples comes to.
+#[derive(Debug, Drop)]
+pub struct Part {
+    /// The numbers of the samples that the filters leave, rising.
+    pub kept: List<u32>,
+    /// The sums of each key that occurs, once.
+    pub sums: List<KeySum>,
+}
+
+/// Counts samples, of which the first has this number.
+pub fn count_range(
+    alloc: Global,
+    scope: &Scope,
+    samples: &[Sample],
+    number: u32,
+) -> Result<Part, Memory>
+    requires sound { IsSound scope.now }
+    requires countable { IsCountable scope.now samples.now }
+    requires members { All (IsSampleOf scope.now.l.now.profile) samples.now }
+    requires refers { All (RefersTo scope.now.l.now.profile) samples.now }
+    requires few { number + length samples.now < 2 ^ 32 }
+    ensures { IfOk result (IsPartOf scope.now number samples.now) }
+{
+    let mut tallies = IndexMap::new(alloc);
+    let kept = add_samples(alloc, scope, &mut tallies, samples, number)?;
+    let sums = entries(alloc, &tallies)?;
+    Ok(Part { kept, sums })
+}
+
+// Adds the samples that the filters leave to tallies that have none yet. The numbers of those samples.
+fn add_samples(
+    alloc: Global,
+    scope: &Scope,
+    tallies: &mut Tallies,
+    samples: &[Sample],
+    number: u32,
+) -> Result<List<u32>, Memory>
+    requires sound { IsSound scope.now }
+    requires countable { IsCountable scope.now samples.now }
+    requires members { All (IsSampleOf scope.now.l.now.profile) samples.now }
+    requires refers { All (RefersTo scope.now.l.now.profile) samples.now }
+    requires few { number + length samples.now < 2 ^ 32 }
+    requires none { (k : ℕ) → tally_at tallies.old k ≡ no_tally }
+    ensures { IfOk result (λ kept. CountedTo scope.now number (length samples.now) samples.now
+        (tally_at tallies.new) kept) }
+{
+    let mut keys = Vec::new(alloc);
+    let mut pairs = Vec::new(alloc);
+    let mut kept = List::new(alloc);
+    for (index, sample) in samples.iter().enumerate() {
+        if see(alloc, scope, sample, &mut keys)? {
+            let turn = index as u64 + 1;
+            add_seen(scope, tallies, sample, &keys, &mut pairs, turn)?;
+            kept.push(number + index as u32)?;
+        }
+    }
+    Ok(kept)
+}
+
+// Adds the keys of a sample, or its pairs. Its turn is after those of the samples before it.
+fn add_seen(
+    scope: &Scope,
+    tallies: &mut Tallies,
+    sample: &Sample,
+    keys: &[u64],
+    pairs: &mut Vec<u64>,
+    turn: u64,
+) -> Result<(), Memory>
+    requires sound { IsSound scope.now }
+    requires earlier { (k : ℕ) → (tally_at tallies.old k).last < turn }
+    requires cum_fits { (k : ℕ) → nat_abs (tally_at tallies.old k).cum
+        + nat_abs (selected scope.now.column scope.now.config.now.divide_by sample.now) < 2 ^ 63 }
+    requires flat_fits { (k : ℕ) → nat_abs (tally_at tallies.old k).flat
+        + nat_abs (selected scope.now.column scope.now.config.now.divide_by sample.now) < 2 ^ 63 }
+    ensures { IfOk result (λ _. (k : ℕ) → tally_at tallies.new k
+        ≡ with_seen (selected scope.now.column scope.now.config.now.divide_by sample.now) turn
+        (counted_keys (keep_of scope.now) keys.now) k (tally_at tallies.old k)) }
+{
+    let value = selected(scope.l, sample, scope.column, scope.config.divide_by);
+    let Some(keep) = scope.over else {
+        return add_sample(tallies, value, keys, turn);
+    };
+    gather_pairs(pairs, keys, keep)?;
+    add_sample(tallies, value, pairs, turn)
+}

@@ -1,0 +1,23 @@
+//! How the samples of a count are seen.
+
+use crate::table::KeyTable;
+use pp_model::{Config, Loaded, Verdicts};
+use pp_tags::TagFilter;
+
+/// What all pieces of a count share.
+#[derive(Clone, Copy)]
+pub struct Scope<'a> {
+    pub l: &'a Loaded,
+    pub v: &'a Verdicts,
+    pub config: &'a Config,
+    /// The tag filters of `config`.
+    pub focus: &'a Option<TagFilter>,
+    pub ignore: &'a Option<TagFilter>,
+    /// The column of values that is counted.
+    pub column: Option<u32>,
+    /// The table of key numbers of `l` and `config`.
+    pub table: &'a KeyTable,
+    /// None where keys are counted. Else pairs are, over the keys that are kept here, by key number; keys past the end are
+    /// not kept.
+    pub over: Option<&'a [bool]>,
+}

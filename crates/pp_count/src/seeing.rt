@@ -1,0 +1,82 @@
+//! A sample as a report sees it, by key numbers.
+ghost use Rattle.std.specs.Prelude.{◌≡◌, ◌<◌, [], length, map, slice_index_or, All, IfOk, option_map};
+ghost use Rattle.pp_model.specs.Conditions.{IsFrameOf, IsStackOf, IsSampleOf, RefersTo};
+ghost use Rattle.pp_model.specs.Finders.{Finders};
+ghost use Rattle.pp_stack.specs.Runs.{kept_if};
+ghost use Rattle.pp_count.specs.Table.{written_key, IsKeyTable};
+ghost use Rattle.pp_count.specs.Seeing.{HoldsFilters, key_of_frame, keys_of_stack, filtered_stack};
+ghost use Rattle.pp_count.specs.Scope.{IsSound};
+
+use crate::scope::Scope;
+use pp_base::{List, Memory};
+use pp_grain::counted;
+use pp_model::{Frame, Sample, Stack};
+use pp_stack::filter_stack;
+use pp_tags::tag_kept;
+use std::alloc::Global;
+
+/// The key numbers of the sample's counted frames, leaf first, in the place of what `keys` held. False says that the
+/// filters drop the sample.
+pub fn see(alloc: Global, scope: &Scope, s: &Sample, keys: &mut Vec<u64>) -> Result<bool, Memory>
+    requires sound { IsSound scope.now }
+    requires member { IsSampleOf scope.now.l.now.profile s.now }
+    requires refers { RefersTo scope.now.l.now.profile s.now }
+    ensures below { IfOk result (λ _.
+        All (λ k. k < length scope.now.table.now.names) keys.new.items) }
+    ensures seen { (f : Finders) →
+        HoldsFilters scope.now.l.now scope.now.v.now scope.now.config.now f →
+        IfOk result (λ kept. option_map (keys_of_stack scope.now.l.now.profile scope.now.config.now)
+        (filtered_stack scope.now.l.now.profile f scope.now.config.now s.now)
+        ≡ kept_if kept (map (written_key scope.now.l.now.profile scope.now.table.now.names)
+        keys.new.items)) }
+{
+    keys.clear();
+    if !tag_kept(scope.l, scope.v, scope.focus, scope.ignore, s) {
+        return Ok(false);
+    }
+    let Some(stack) = filter_stack(alloc, scope.l, scope.v, s)? else {
+        return Ok(false);
+    };
+    number_stack(scope, &stack, keys)?;
+    Ok(true)
+}
+
+// Adds the key numbers of the frames that count, leaf first.
+fn number_stack(scope: &Scope, stack: &Stack, keys: &mut Vec<u64>) -> Result<(), Memory>
+    requires frames { IsStackOf scope.now.l.now.profile stack.now }
+    requires table { IsKeyTable scope.now.l.now.profile scope.now.config.now scope.now.table.now }
+    requires none { keys.old.items ≡ [] }
+    ensures below { IfOk result (λ _.
+        All (λ k. k < length scope.now.table.now.names) keys.new.items) }
+    ensures named { IfOk result (λ _.
+        map (written_key scope.now.l.now.profile scope.now.table.now.names) keys.new.items
+        ≡ keys_of_stack scope.now.l.now.profile scope.now.config.now stack.now) }
+{
+    let frames = stack.as_slice();
+    for (place, frame) in frames.iter().enumerate() {
+        if counted(stack, place, scope.config.noinlines) {
+            let number = number_of(scope, frame);
+            keys.push(number)?;
+        }
+    }
+    Ok(())
+}
+
+// The number of the frame's key.
+fn number_of(scope: &Scope, frame: &Frame) -> u64
+    requires frame { IsFrameOf scope.now.l.now.profile frame.now }
+    requires table { IsKeyTable scope.now.l.now.profile scope.now.config.now scope.now.table.now }
+    ensures below { result < length scope.now.table.now.names }
+    ensures named { written_key scope.now.l.now.profile scope.now.table.now.names result
+        ≡ key_of_frame scope.now.l.now.profile scope.now.config.now frame.now }
+{
+    let row = &scope.table.location.as_slice()[frame.location as usize];
+    item(row, frame.row.unwrap_or(0))
+}
+
+fn item(row: &List<u64>, place: u64) -> u64
+    requires { place < length row.now }
+    ensures { result ≡ slice_index_or row.now place 0 }
+{
+    row.as_slice()[place as usize]
+}

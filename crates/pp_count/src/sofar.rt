@@ -1,0 +1,59 @@
+//! What the samples so far come to, to which the parts of those after them are added in order.
+ghost use Rattle.std.specs.Prelude.{◌≡◌, ◌++◌, ℕ, ◌+◌, ◌<◌, ◌^◌, nat_abs, [], IfOk};
+ghost use Rattle.pp_count.specs.Tally.{tally_at, no_tally, added, entry_of};
+ghost use Rattle.pp_count.specs.Parts.{sums_of, flat_size, cum_size};
+
+use crate::part::Part;
+use crate::tallies::{Tallies, add_sums, entries};
+use indexmap::IndexMap;
+use pp_base::{List, Memory};
+use std::alloc::Global;
+
+/// What the samples so far come to.
+#[derive(Drop)]
+pub struct Sofar {
+    /// The numbers of the samples that the filters leave, rising.
+    pub kept: List<u32>,
+    /// A tally for each key number that occurs.
+    pub tallies: Tallies,
+}
+
+impl Sofar {
+    /// Nothing.
+    pub fn new(alloc: Global) -> Self
+        ensures kept { result.kept ≡ [] }
+        ensures none { (k : ℕ) → tally_at result.tallies k ≡ no_tally }
+    {
+        Sofar {
+            kept: List::new(alloc),
+            tallies: IndexMap::new(alloc),
+        }
+    }
+
+    /// Adds the part of the samples that follow.
+    pub fn add(&mut self, part: &Part) -> Result<(), Memory>
+        requires flat_fits { (k : ℕ) → nat_abs (tally_at self.old.tallies k).flat
+            + flat_size (sums_of k part.now.sums) < 2 ^ 63 }
+        requires cum_fits { (k : ℕ) → nat_abs (tally_at self.old.tallies k).cum
+            + cum_size (sums_of k part.now.sums) < 2 ^ 63 }
+        ensures kept { IfOk result (λ _. self.new.kept ≡ self.old.kept ++ part.now.kept) }
+        ensures tallies { IfOk result (λ _. (k : ℕ) → tally_at self.new.tallies k
+            ≡ added (tally_at self.old.tallies k) (sums_of k part.now.sums)) }
+    {
+        self.kept.extend(part.kept.as_slice())?;
+        add_sums(&mut self.tallies, part.sums.as_slice())
+    }
+
+    /// The part of all samples so far.
+    pub fn into_part(self, alloc: Global) -> Result<Part, Memory>
+        ensures kept { IfOk result (λ part. part.kept ≡ self.kept) }
+        ensures sums { IfOk result (λ part. (k : ℕ) →
+            sums_of k part.sums ≡ entry_of k (tally_at self.tallies k)) }
+    {
+        let sums = entries(alloc, &self.tallies)?;
+        Ok(Part {
+            kept: self.kept,
+            sums,
+        })
+    }
+}

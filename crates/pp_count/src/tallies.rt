@@ -1,0 +1,139 @@
+//! Tallies by key number. A table has room for the key numbers that were seen alone, however many a report has.
+ghost use Rattle.std.specs.Prelude.{◌≡◌, ◌≢◌, ℕ, ◌+◌, ◌+ℤ◌, ◌<◌, ◌^◌, nat_abs, nat_eq, IfOk, if◌then◌else◌, [], ◌++◌};
+ghost use Rattle.pp_count.specs.Tally.{tally_at, credited, with_cum, with_flat, with_sample, with_seen, plus, added, entry_of};
+ghost use Rattle.pp_count.specs.Parts.{sums_of, flat_size, cum_size};
+
+use crate::part::KeySum;
+use crate::tally::Tally;
+use indexmap::IndexMap;
+use pp_base::{List, Memory};
+use std::alloc::Global;
+
+/// What each key number has so far.
+pub type Tallies = IndexMap<u64, Tally>;
+
+/// Adds one sample whose keys have these numbers, leaf first, unless its value is 0. Its turn is after those of the
+/// samples before it.
+pub fn add_sample(tallies: &mut Tallies, value: i64, keys: &[u64], turn: u64) -> Result<(), Memory>
+    requires earlier { (k : ℕ) → (tally_at tallies.old k).last < turn }
+    requires cum_fits { (k : ℕ) → nat_abs (tally_at tallies.old k).cum + nat_abs value < 2 ^ 63 }
+    requires flat_fits { (k : ℕ) → nat_abs (tally_at tallies.old k).flat + nat_abs value < 2 ^ 63 }
+    ensures { IfOk result (λ _. (k : ℕ) → tally_at tallies.new k
+        ≡ with_seen value turn keys.now k (tally_at tallies.old k)) }
+{
+    if value == 0 {
+        return Ok(());
+    }
+    add_cum(tallies, value, keys, turn)?;
+    add_flat(tallies, value, keys)
+}
+
+// Adds the value to the cum of each of the keys, once.
+fn add_cum(tallies: &mut Tallies, value: i64, keys: &[u64], turn: u64) -> Result<(), Memory>
+    requires earlier { (k : ℕ) → (tally_at tallies.old k).last < turn }
+    requires fits { (k : ℕ) → nat_abs (tally_at tallies.old k).cum + nat_abs value < 2 ^ 63 }
+    ensures { IfOk result (λ _. (k : ℕ) → tally_at tallies.new k
+        ≡ with_cum value turn keys.now k (tally_at tallies.old k)) }
+{
+    for key in keys {
+        credit_key(tallies, value, *key, turn)?;
+    }
+    Ok(())
+}
+
+// Adds the value to the cum of the key, where the sample of that turn was not yet added.
+fn credit_key(tallies: &mut Tallies, value: i64, key: u64, turn: u64) -> Result<(), Memory>
+    requires { (tally_at tallies.old key).last ≢ turn →
+        nat_abs (tally_at tallies.old key).cum + nat_abs value < 2 ^ 63 }
+    ensures key { IfOk result (λ _.
+        tally_at tallies.new key ≡ credited value turn (tally_at tallies.old key)) }
+    ensures others { IfOk result (λ _. (k : ℕ) → k ≢ key →
+        tally_at tallies.new k ≡ tally_at tallies.old k) }
+{
+    tallies
+        .entry(key)?
+        .or_insert(Tally::NONE)
+        .credit(value, turn);
+    Ok(())
+}
+
+// Adds the value to the flat of the leaf's key.
+fn add_flat(tallies: &mut Tallies, value: i64, keys: &[u64]) -> Result<(), Memory>
+    requires fits { (k : ℕ) → nat_abs (tally_at tallies.old k).flat + nat_abs value < 2 ^ 63 }
+    ensures { IfOk result (λ _. (k : ℕ) → tally_at tallies.new k
+        ≡ with_flat value keys.now k (tally_at tallies.old k)) }
+{
+    match keys {
+        [] => Ok(()),
+        [leaf, ..] => lead_key(tallies, value, *leaf),
+    }
+}
+
+// Adds the value to the flat of the key.
+fn lead_key(tallies: &mut Tallies, value: i64, key: u64) -> Result<(), Memory>
+    requires { nat_abs (tally_at tallies.old key).flat + nat_abs value < 2 ^ 63 }
+    ensures key { IfOk result (λ _. tally_at tallies.new key
+        ≡ record (tally_at tallies.old key) { flat = (tally_at tallies.old key).flat +ℤ value }) }
+    ensures others { IfOk result (λ _. (k : ℕ) → k ≢ key →
+        tally_at tallies.new k ≡ tally_at tallies.old k) }
+{
+    tallies.entry(key)?.or_insert(Tally::NONE).lead(value);
+    Ok(())
+}
+
+/// Adds each entry of another range to the tally of its key.
+pub fn add_sums(tallies: &mut Tallies, sums: &[KeySum]) -> Result<(), Memory>
+    requires flat_fits { (k : ℕ) →
+        nat_abs (tally_at tallies.old k).flat + flat_size (sums_of k sums.now) < 2 ^ 63 }
+    requires cum_fits { (k : ℕ) →
+        nat_abs (tally_at tallies.old k).cum + cum_size (sums_of k sums.now) < 2 ^ 63 }
+    ensures { IfOk result (λ _. (k : ℕ) → tally_at tallies.new k
+        ≡ added (tally_at tallies.old k) (sums_of k sums.now)) }
+{
+    for sum in sums {
+        join_key(tallies, sum)?;
+    }
+    Ok(())
+}
+
+// Adds the entry to the tally of its key.
+fn join_key(tallies: &mut Tallies, sum: &KeySum) -> Result<(), Memory>
+    requires flat_fits { nat_abs (tally_at tallies.old sum.now.key).flat + nat_abs sum.now.flat < 2 ^ 63 }
+    requires cum_fits { nat_abs (tally_at tallies.old sum.now.key).cum + nat_abs sum.now.cum < 2 ^ 63 }
+    ensures key { IfOk result (λ _. tally_at tallies.new sum.now.key
+        ≡ plus (tally_at tallies.old sum.now.key) sum.now) }
+    ensures others { IfOk result (λ _. (k : ℕ) → k ≢ sum.now.key →
+        tally_at tallies.new k ≡ tally_at tallies.old k) }
+{
+    tallies.entry(sum.key)?.or_insert(Tally::NONE).join(sum);
+    Ok(())
+}
+
+/// The entries of the keys that some sample had, in the order of first sight.
+pub fn entries(alloc: Global, tallies: &Tallies) -> Result<List<KeySum>, Memory>
+    ensures { IfOk result (λ sums. (k : ℕ) →
+        sums_of k sums ≡ entry_of k (tally_at tallies.now k)) }
+{
+    let mut sums = List::new(alloc);
+    for index in 0..tallies.len() {
+        if let Some((key, tally)) = tallies.get_index(index) {
+            push_entry(&mut sums, *key, tally)?;
+        }
+    }
+    Ok(sums)
+}
+
+// Adds the entry of the key, where some sample had it.
+fn push_entry(sums: &mut List<KeySum>, key: u64, tally: &Tally) -> Result<(), Memory>
+    ensures { IfOk result (λ _. (k : ℕ) → sums_of k sums.new
+        ≡ sums_of k sums.old ++ (if nat_eq key k then entry_of key tally.now else [])) }
+{
+    if tally.last == 0 {
+        return Ok(());
+    }
+    sums.push(KeySum {
+        key,
+        flat: tally.flat,
+        cum: tally.cum,
+    })
+}

@@ -1,0 +1,64 @@
+//! All samples, counted in waves of pieces on the lanes.
+ghost use Rattle.std.specs.Prelude.{◌≡◌, ◌+◌, ◌*◌, ◌<◌, take, IfOk};
+ghost use Rattle.pp_count.specs.Tally.{tally_at};
+ghost use Rattle.pp_count.specs.Scope.{IsSound, IsCountable, CountedTo};
+
+use crate::counting::{Counting, PIECE};
+use crate::scope::Scope;
+use crate::sofar::Sofar;
+use pp_base::{Gate, Memory};
+use pp_steal::{Deal, run_pieces};
+use std::alloc::Global;
+use std::thread::Threads;
+
+/// How many pieces are counted before their parts are added. So no more than their parts stand in memory.
+pub const WAVE: u32 = 512;
+
+/// What all samples come to, in pieces on as many lanes as the configuration has workers.
+pub fn count_all<'x, R: Threads + Sync, G: Gate>(
+    rt: &R,
+    alloc: Global,
+    scope: &Scope<'x>,
+    gate: &G,
+) -> Result<Sofar, Memory>
+    requires sound { IsSound scope.now }
+    requires countable { IsCountable scope.now scope.now.l.now.profile.sample }
+    ensures { IfOk result (λ sofar. CountedTo scope.now 0 1 scope.now.l.now.profile.sample
+        (tally_at sofar.tallies) sofar.kept) }
+{
+    let pieces = scope.l.profile.get().sample.len().div_ceil(PIECE) as u32;
+    let mut sofar = Sofar::new(alloc);
+    for wave in 0..pieces.div_ceil(WAVE) {
+        let first = wave * WAVE;
+        let job = Counting {
+            alloc,
+            scope: *scope,
+            first,
+            pieces: (pieces - first).min(WAVE),
+        };
+        count_wave(rt, &job, gate, &mut sofar)?;
+    }
+    Ok(sofar)
+}
+
+// Counts the pieces of a wave, and adds them to what the samples before it come to.
+fn count_wave<R: Threads + Sync, G: Gate>(
+    rt: &R,
+    job: &Counting,
+    gate: &G,
+    sofar: &mut Sofar,
+) -> Result<(), Memory>
+    requires { CountedTo job.now.scope 0 1
+        (take (1024 * job.now.first) job.now.scope.l.now.profile.sample)
+        (tally_at sofar.old.tallies) sofar.old.kept }
+    ensures { IfOk result (λ _. CountedTo job.now.scope 0 1
+        (take (1024 * (job.now.first + job.now.pieces)) job.now.scope.l.now.profile.sample)
+        (tally_at sofar.new.tallies) sofar.new.kept) }
+{
+    let workers = job.scope.config.workers;
+    let parts = run_pieces(rt, job.alloc, job, job.pieces, workers, Deal::Round, gate)?;
+    for part in parts.as_slice() {
+        sofar.add(part)?;
+    }
+    Ok(())
+}
