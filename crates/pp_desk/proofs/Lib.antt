@@ -1,4 +1,5 @@
 pub mod Going
+pub mod AskingLemmas
 pub mod Looping
 pub mod Turning
 pub mod Leaves

@@ -4,6 +4,7 @@ pub mod Reader
 pub mod Finding
 pub mod World
 pub mod Script
+pub mod Asking
 pub mod Went
 pub mod Effects
 pub mod Course

@@ -8,6 +8,7 @@
 
 mod desk;
 mod file_content;
+mod halt;
 mod input_line;
 mod line_reader;
 mod objects;
@@ -18,6 +19,7 @@ mod window;
 
 pub use desk::Desk;
 pub use file_content::FileContent;
+pub use halt::{Halt, settle};
 pub use input_line::InputLine;
 pub use line_reader::{INPUT_LIMIT, LINE_LIMIT, LineRead, LineReader};
 pub use objects::Objects;

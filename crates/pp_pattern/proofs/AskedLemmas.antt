@@ -8,7 +8,7 @@ use Rattle.pp_desk.specs.Script.{Script, Give, Make, Ask, ask, verdicts}
 use Rattle.pp_desk.specs.World.{World}
 use Rattle.pp_desk.specs.Went.{Went, Goes, Ways, parts}
 use Rattle.pp_desk.proofs.Going.{stops_first, goes_give, wants}
-use Rattle.pp_pattern.specs.Asking.{Asking}
+use Rattle.pp_desk.specs.Asking.{Asking}
 use Rattle.pp_pattern.specs.Masks.{masked}
 use Rattle.pp_pattern.specs.Patterns.{judge_pattern, finder}
 use Rattle.pp_pattern.proofs.MaskLemmas.{masked_finds}

@@ -1,5 +1,4 @@
 pub mod AskedLemmas
-pub mod AskingLemmas
 pub mod FoundLemmas
 pub mod MaskLemmas
 pub mod PartLemmas

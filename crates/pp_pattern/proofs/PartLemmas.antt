@@ -7,11 +7,11 @@ use Rattle.pp_desk.specs.World.{World}
 use Rattle.pp_desk.specs.Went.{Went, IsOnWay}
 use Rattle.pp_desk.proofs.Looping.{arrives, sets_out, moves_on}
 use Rattle.pp_desk.proofs.Going.{gives, wants}
-use Rattle.pp_pattern.specs.declared.halt.Halt.{Halt}
-use Rattle.pp_pattern.specs.declared.halt.Halt.TheVariants as halts
-use Rattle.pp_pattern.specs.Asking.{◌>>=◌, settled}
+use Rattle.pp_desk.specs.declared.halt.Halt.{Halt}
+use Rattle.pp_desk.specs.declared.halt.Halt.TheVariants as halts
+use Rattle.pp_desk.specs.Asking.{◌>>=◌, settled}
 use Rattle.pp_pattern.specs.Patterns.{judge_part, judge_parts}
-use Rattle.pp_pattern.proofs.AskingLemmas.{asking_stops, asking_refused}
+use Rattle.pp_desk.proofs.AskingLemmas.{asking_stops, asking_refused}
 
 module _ {R : Type 0} (finds : List ℕ → List ℕ → Bool) (refused : R) (subjects : List (List ℕ)) (ps : List (List ℕ)) (i : ℕ) (before : List (List Bool)) where
   -- the parts from the next one on

@@ -10,7 +10,7 @@ use Rattle.pp_model.specs.Defaults.{defaults}
 use Rattle.pp_tags.specs.declared.tag_filter.TagFilter.{TagFilter}
 use Rattle.pp_desk.specs.Course.{course}
 use Rattle.pp_desk.specs.Script as scripts
-use Rattle.pp_pattern.specs.Asking.{◌>>=◌}
+use Rattle.pp_desk.specs.Asking.{◌>>=◌}
 use Rattle.pp_pattern.specs.Patterns.{judge_pattern, judge_option, judge_part, judge_parts}
 use Rattle.pp_pattern.specs.Report.{judge_with, judge_frames, judge_tags, judge_filter, judge_names, at}
 use Rattle.pp_pattern.specs.Load.{judge_load}

@@ -1,4 +1,3 @@
-pub mod Asking
 pub mod Load
 pub mod Masks
 pub mod Patterns

@@ -7,7 +7,7 @@ use Rattle.pp_model.specs.Judged.{judged}
 use Rattle.pp_desk.specs.Script.{Give}
 use Rattle.pp_pattern.specs.declared.load.FramesRefused.{FramesRefused}
 use Rattle.pp_pattern.specs.declared.load.FramesRefused.TheVariants.{DropFrames, KeepFrames}
-use Rattle.pp_pattern.specs.Asking.{Asking, ◌>>=◌}
+use Rattle.pp_desk.specs.Asking.{Asking, ◌>>=◌}
 use Rattle.pp_pattern.specs.Patterns.{judge_option, finder_in_force}
 
 -- the text as a pattern of whole names; an empty text stays empty, and is no pattern

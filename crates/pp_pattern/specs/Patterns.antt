@@ -2,7 +2,7 @@
 use Rattle.std.specs.Prelude.{ℕ, Bool, true, false, not, ◌&&◌, List, [], ◌∷◌, ◌++◌, map, Option, None, Some, Ok, Err, if◌then◌else◌}
 use Rattle.pp_model.specs.Finders.{Finder}
 use Rattle.pp_desk.specs.Script.{Give, Make, Ask}
-use Rattle.pp_pattern.specs.Asking.{Asking, ◌>>=◌}
+use Rattle.pp_desk.specs.Asking.{Asking, ◌>>=◌}
 
 -- whether nothing stands in the text
 abbrev pub is_empty : List ℕ → Bool

@@ -19,7 +19,7 @@ use Rattle.pp_pattern.specs.declared.report.PatternRefused.{PatternRefused}
 use Rattle.pp_pattern.specs.declared.report.FrameVerdicts.{FrameVerdicts}
 use Rattle.pp_pattern.specs.declared.report.TagVerdicts.{TagVerdicts}
 use Rattle.pp_pattern.specs.declared.report.NameVerdicts.{NameVerdicts}
-use Rattle.pp_pattern.specs.Asking.{Asking, ◌>>=◌}
+use Rattle.pp_desk.specs.Asking.{Asking, ◌>>=◌}
 use Rattle.pp_pattern.specs.Patterns.{finder_in_force, part_finder, judge_option, judge_parts}
 
 -- what a matcher finds: a pattern in a subject

@@ -2,16 +2,15 @@
 
 ghost use Rattle.std.specs.Prelude.{◌≡◌, false, map, slice_set, IfOk, option_map};
 ghost use Rattle.pp_desk.specs.Went.{Went};
-ghost use Rattle.pp_pattern.specs.Asking.{settled};
+ghost use Rattle.pp_desk.specs.Asking.{settled};
 ghost use Rattle.pp_pattern.specs.Patterns.{judge_pattern, judge_option, finder, finder_in_force};
 ghost use Rattle.pp_pattern.specs.Masks.{masked};
 
-use crate::halt::Halt;
 use pp_base::{List, Text};
-use pp_desk::Desk;
+use pp_desk::{Desk, Halt};
 
 /// The verdicts of an option's pattern on the subjects, in order, and `None` where the option is empty.
-#[tactic(auto, using(crate::proofs::AskingLemmas::asking), unfolding(crate::specs::Patterns::judge_option))]
+#[tactic(auto, using(pp_desk::proofs::AskingLemmas::asking), unfolding(crate::specs::Patterns::judge_option))]
 pub fn judge_option<R: Copy, D: Desk>(
     desk: &mut D,
     refused: R,

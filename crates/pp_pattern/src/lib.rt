@@ -3,7 +3,6 @@
 #![tactic(auto)]
 
 mod asking;
-mod halt;
 mod load;
 mod parts;
 mod report;

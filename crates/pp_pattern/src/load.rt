@@ -2,13 +2,12 @@
 
 ghost use Rattle.std.specs.Prelude.{◌≡◌, IfOk};
 ghost use Rattle.pp_desk.specs.Went.{Went};
-ghost use Rattle.pp_pattern.specs.Asking.{settled};
+ghost use Rattle.pp_desk.specs.Asking.{settled};
 ghost use Rattle.pp_pattern.specs.Load.{judge_load, load_verdicts, whole_name};
 
 use crate::asking::judge_option;
-use crate::halt::{Halt, settle};
 use pp_base::{List, Memory, Text};
-use pp_desk::{Desk, Stop};
+use pp_desk::{Desk, Halt, Stop, settle};
 use pp_model::{Compact, Profile, text_of};
 use std::alloc::Global;
 
@@ -35,7 +34,7 @@ pub fn judge_load<D: Desk>(
 }
 
 // Asks for both patterns.
-#[tactic(auto, using(crate::proofs::AskingLemmas::asking, crate::proofs::FoundLemmas::found_is_judged), unfolding(crate::specs::Load::judge_load))]
+#[tactic(auto, using(pp_desk::proofs::AskingLemmas::asking, crate::proofs::FoundLemmas::found_is_judged), unfolding(crate::specs::Load::judge_load))]
 fn judge_both<D: Desk>(
     alloc: Global,
     desk: &mut D,

@@ -2,13 +2,12 @@
 
 ghost use Rattle.std.specs.Prelude.{◌≡◌, [], map, IfOk, option_map};
 ghost use Rattle.pp_desk.specs.Went.{Went};
-ghost use Rattle.pp_pattern.specs.Asking.{settled};
+ghost use Rattle.pp_desk.specs.Asking.{settled};
 ghost use Rattle.pp_pattern.specs.Patterns.{judge_part, judge_parts, part_finder, any_text};
 
 use crate::asking::judge_pattern;
-use crate::halt::Halt;
 use pp_base::{List, Memory, Text};
-use pp_desk::Desk;
+use pp_desk::{Desk, Halt};
 use std::alloc::Global;
 
 /// For each part of a tag filter, in order, its verdicts on the subjects. An empty part is not asked, and finds each
@@ -34,7 +33,7 @@ pub fn judge_parts<R: Copy, D: Desk>(
 }
 
 // The verdicts of one part.
-#[tactic(auto, using(crate::proofs::AskingLemmas::asking), unfolding(crate::specs::Patterns::judge_part))]
+#[tactic(auto, using(pp_desk::proofs::AskingLemmas::asking), unfolding(crate::specs::Patterns::judge_part))]
 fn judge_part<R: Copy, D: Desk>(
     alloc: Global,
     desk: &mut D,

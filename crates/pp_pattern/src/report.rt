@@ -4,16 +4,15 @@ ghost use Rattle.std.specs.Prelude.{◌≡◌, [], IfOk, unwrap_or};
 ghost use Rattle.std.specs.Option.{option_copied};
 ghost use Rattle.pp_model.specs.declared.verdicts.Slot.TheVariants.{Own};
 ghost use Rattle.pp_desk.specs.Went.{Went};
-ghost use Rattle.pp_pattern.specs.Asking.{settled};
+ghost use Rattle.pp_desk.specs.Asking.{settled};
 ghost use Rattle.pp_pattern.specs.Patterns.{judge_option};
 ghost use Rattle.pp_pattern.specs.Report.{AreVerdictsOf, at, found_in, all_verdicts, judge, judge_with, verdicts_with, judge_frames, judge_tags, judge_filter, judge_names, verdicts_of, frames_found, tags_found, parts_found, names_found, tags_for};
 
 use crate::asking::judge_option;
-use crate::halt::{Halt, settle};
 use crate::parts::judge_parts;
 use crate::subjects::tag_texts;
 use pp_base::{List, Memory, Text};
-use pp_desk::{Desk, Stop};
+use pp_desk::{Desk, Halt, Stop, settle};
 use pp_model::{Config, Loaded, Profile, Slot, Tag, Verdicts};
 use pp_tags::{TagFilter, tags_of};
 use std::alloc::Global;
@@ -73,7 +72,7 @@ pub fn judge<D: Desk>(
 }
 
 // Asks for all patterns.
-#[tactic(auto, using(crate::proofs::AskingLemmas::asking))]
+#[tactic(auto, using(pp_desk::proofs::AskingLemmas::asking))]
 fn judge_all<D: Desk>(
     alloc: Global,
     desk: &mut D,
@@ -92,7 +91,7 @@ fn judge_all<D: Desk>(
 }
 
 // Asks for all patterns, with these tag filters.
-#[tactic(auto, using(crate::proofs::AskingLemmas::asking), unfolding(crate::specs::Report::judge_with))]
+#[tactic(auto, using(pp_desk::proofs::AskingLemmas::asking), unfolding(crate::specs::Report::judge_with))]
 fn judge_with<D: Desk>(
     alloc: Global,
     desk: &mut D,
@@ -116,7 +115,7 @@ fn judge_with<D: Desk>(
 }
 
 // The verdicts of the patterns of frames.
-#[tactic(auto, using(crate::proofs::AskingLemmas::asking), unfolding(crate::specs::Report::judge_frames))]
+#[tactic(auto, using(pp_desk::proofs::AskingLemmas::asking), unfolding(crate::specs::Report::judge_frames))]
 fn judge_frames<D: Desk>(
     desk: &mut D,
     config: &Config,
@@ -148,7 +147,7 @@ fn at(option: Slot) -> PatternRefused
 }
 
 // The tags where a filter is in force, and the verdicts of the filters' parts.
-#[tactic(auto, using(crate::proofs::AskingLemmas::asking), unfolding(crate::specs::Report::judge_tags))]
+#[tactic(auto, using(pp_desk::proofs::AskingLemmas::asking), unfolding(crate::specs::Report::judge_tags))]
 fn judge_tags<D: Desk>(
     alloc: Global,
     desk: &mut D,
@@ -186,7 +185,7 @@ fn tags_for(
 }
 
 // The verdicts of a filter's parts, where it is in force.
-#[tactic(auto, using(crate::proofs::AskingLemmas::asking), unfolding(crate::specs::Report::judge_filter))]
+#[tactic(auto, using(pp_desk::proofs::AskingLemmas::asking), unfolding(crate::specs::Report::judge_filter))]
 fn judge_filter<D: Desk>(
     alloc: Global,
     desk: &mut D,
@@ -210,7 +209,7 @@ fn judge_filter<D: Desk>(
 }
 
 // The verdicts of the other patterns.
-#[tactic(auto, using(crate::proofs::AskingLemmas::asking), unfolding(crate::specs::Report::judge_names))]
+#[tactic(auto, using(pp_desk::proofs::AskingLemmas::asking), unfolding(crate::specs::Report::judge_names))]
 fn judge_names<D: Desk>(
     desk: &mut D,
     config: &Config,
@@ -235,7 +234,7 @@ fn judge_names<D: Desk>(
 }
 
 // The verdicts of the report's own pattern, if it has one.
-#[tactic(auto, using(crate::proofs::AskingLemmas::asking), unfolding(crate::specs::Patterns::judge_option))]
+#[tactic(auto, using(pp_desk::proofs::AskingLemmas::asking), unfolding(crate::specs::Patterns::judge_option))]
 fn judge_own<D: Desk>(
     desk: &mut D,
     own: Option<&Text>,

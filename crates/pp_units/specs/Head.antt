@@ -32,6 +32,33 @@ head_lines file kind duration total unit =
     ++ labelled (codes "Type: ") kind
     ++ duration_line duration total unit
 
+-- What the first lines of a report say, and how its values are printed.
+pub record Facts : Type 0 where
+  -- the path of the first mapping's file, or nothing
+  pub file : List ℕ
+  -- the name of the values' type, or nothing
+  pub kind : List ℕ
+  -- in nanoseconds
+  pub duration : ℤ
+  -- what percentages are taken of
+  pub total : ℕ
+  -- how values are printed
+  pub unit : Shown
+
+-- the facts of a `Head`
+abbrev pub facts : Head → Facts
+facts head = record {
+  file = head.file;
+  kind = head.kind;
+  duration = head.duration;
+  total = head.total;
+  unit = shown head.unit;
+}
+
+-- The lines of these facts.
+abbrev pub facts_text : Facts → List ℕ
+facts_text h = head_lines h.file h.kind h.duration h.total h.unit
+
 -- the lines of a head
 abbrev pub head_text : Head → List ℕ
 head_text head = head_lines head.file head.kind head.duration head.total (shown head.unit)

@@ -7,3 +7,4 @@ pub mod Ranges
 pub mod BoundIn
 pub mod Fractions
 pub mod Head
+pub mod Rows

@@ -85,8 +85,9 @@ fn put_known(
     lines.extend(b"\n")
 }
 
+/// Appends the size, which is in the unit's type, with the unit.
 #[tactic(auto, unfolding(crate::specs::Numbers::value_text, crate::specs::Numbers::number_text))]
-fn put_size(size: u64, unit: &Unit, lines: &mut Text) -> Result<(), Memory>
+pub(crate) fn put_size(size: u64, unit: &Unit, lines: &mut Text) -> Result<(), Memory>
     ensures { OnOk result (lines.new ≡ lines.old ++ value_text (pos size) (shown unit.now)) }
 {
     let mut number = Small::new();

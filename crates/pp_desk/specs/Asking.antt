@@ -1,16 +1,16 @@
--- Scripts that ask patterns: the first that is refused ends them.
+-- Scripts that may end in a refusal, after which nothing more is done.
 use Rattle.std.specs.Prelude.{Result, Ok, Err}
 use Rattle.pp_desk.specs.declared.stop.Stop.{Stop}
 use Rattle.pp_desk.specs.Script as scripts
 use Rattle.pp_desk.specs.Script.{Script, Give}
-use Rattle.pp_pattern.specs.declared.halt.Halt.{Halt}
-use Rattle.pp_pattern.specs.declared.halt.Halt.TheVariants as halts
+use Rattle.pp_desk.specs.declared.halt.Halt.{Halt}
+use Rattle.pp_desk.specs.declared.halt.Halt.TheVariants as halts
 
 -- a script that gives something, or a refusal
 abbrev pub Asking : Type 0 → Type 0 → Type 0
 Asking R T = Script (Result T R)
 
--- what is asked after something was given, and nothing after a refusal
+-- what is done after something was given, and nothing after a refusal
 abbrev pub go_on : {R A B : Type 0} → (A → Asking R B) → Result A R → Asking R B
 go_on next (Ok given) = next given
 go_on next (Err refused) = Give (Err refused)

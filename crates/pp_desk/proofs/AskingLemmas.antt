@@ -1,4 +1,4 @@
--- How scripts that ask patterns follow one another.
+-- How scripts that may end in a refusal follow one another.
 use Rattle.std.proofs.Common.{refl}
 use Rattle.std.specs.Prelude.{Result, Ok, Err}
 use Rattle.pp_desk.specs.declared.stop.Stop.{Stop}
@@ -6,9 +6,9 @@ use Rattle.pp_desk.specs.Script.{Give}
 use Rattle.pp_desk.specs.World.{World}
 use Rattle.pp_desk.specs.Went.{Went}
 use Rattle.pp_desk.proofs.Going.{gives, wants, stops_first, goes_second, goes_give}
-use Rattle.pp_pattern.specs.declared.halt.Halt.{Halt}
-use Rattle.pp_pattern.specs.declared.halt.Halt.TheVariants as halts
-use Rattle.pp_pattern.specs.Asking.{Asking, ◌>>=◌, go_on, settled}
+use Rattle.pp_desk.specs.declared.halt.Halt.{Halt}
+use Rattle.pp_desk.specs.declared.halt.Halt.TheVariants as halts
+use Rattle.pp_desk.specs.Asking.{Asking, ◌>>=◌, go_on, settled}
 
 module _ {R A B : Type 0} (a b : World) (p : Asking R A) (q : A → Asking R B) where
   -- The first was stopped, and so both are.

@@ -1,19 +1,19 @@
-//! What ends the asking of patterns early.
+//! What ends a stage early that may be refused.
 
 ghost use Rattle.std.specs.Prelude.{◌≡◌};
-ghost use Rattle.pp_pattern.specs.Asking.{settled};
-ghost use Rattle.pp_pattern.specs.declared.halt.Halt.TheVariants as halts;
+ghost use Rattle.pp_desk.specs.Asking.{settled};
+ghost use Rattle.pp_desk.specs.declared.halt.Halt.TheVariants as halts;
 ghost use Rattle.pp_desk.specs.declared.stop.Stop.TheVariants as stops;
 
+use crate::Stop;
 use pp_base::Memory;
-use pp_desk::Stop;
 
-/// What ends the asking of patterns early: what stopped the desk, or a refusal.
+/// What ends a stage early that may be refused: what stopped the desk, or a refusal. `?` passes both on.
 #[derive(Debug, Drop)]
 pub enum Halt<R> {
-    /// The matcher, or what is done with its answers, stopped.
+    /// An object failed, or memory was wanting.
     Stopped(Stop),
-    /// The matcher refused a pattern.
+    /// The stage was refused: a value that its script gives.
     Refused(R),
 }
 
