@@ -25,7 +25,8 @@ use Rattle.pp_count.specs.Parts.{sums_of, key_sum, HasBelow}
 use Rattle.pp_count.specs.Edges.{paired, edge_of_sum}
 use Rattle.pp_count.specs.EdgeSums.{edge_occurs, edge_sum, kept_numbers, is_kept_name, edges_between, AreEdgesOf, HasPairSums}
 use Rattle.pp_count.proofs.Numbering.{same_written}
-use Rattle.pp_count.proofs.Renaming.{same_bool, weighed-renamed}
+use Rattle.pp_count.proofs.Renaming.{same_bool}
+use Rattle.pp_count.proofs.CallerLemmas.{weighed-renamed}
 use Rattle.pp_count.proofs.Finals.{sums_below, has_root}
 use Rattle.pp_count.proofs.Keyed.{apart}
 use Rattle.pp_count.proofs.Pairing.{kept_all, occurs-paired, sum-paired, pairs_below, weighed-paired}
@@ -84,21 +85,26 @@ module _ (l : Loaded) (v : Verdicts) (config : Config) (column : Option ℕ) (co
   pair_numbers = sums_below (length keep * length keep) (weighed (map (paired keep) has.seen)) sums
       (All-filter (λ (s : Seen ℕ). not (int_eq s.value (pos 0))) (HasBelow (length keep * length keep)) (map (paired keep) has.seen) (pairs_below keep has.seen)) has.listed
 
+  -- both ends of each edge are names
+  pub ends_within : (edges : List Edge) → edges ≡ map (edge_of_sum (length keep)) sums → All (λ e. (e.from < length old) × (e.to < length old)) edges
+  ends_within edges is = λ i d here.
+      let n : ℕ = length keep in
+      let none : KeySum = record { key = 0; flat = pos 0; cum = pos 0 } in
+      let inside : i < length sums = omega (arith, here, ap length is, length-map sums (edge_of_sum n)) in
+      let below : (get_or sums i none).key < n * n = pair_numbers i none inside in
+      let some : 0 < n = has_root _ n below in
+      subst (λ (e : Edge). (e.from < length old) × (e.to < length old))
+      (sym (ap (λ es. get_or es i d) is ∙ get_or-map (edge_of_sum n) sums i none d inside))
+      (omega (arith, fits, (div-lt_iff_lt-mul some).1 below), omega (arith, fits, mod-lt (get_or sums i none).key some))
+
   pub edges_are : (f : Finders) → HoldsFilters l v config f → (edges : List Edge) → edges ≡ map (edge_of_sum (length keep)) sums
       → AreEdgesOf l.profile (weighed (seen_samples l.profile f config column l.profile.sample)) old keep edges
   edges_are f holds edges is =
       let n : ℕ = length keep in
       let S_below : All (HasBelow (length names)) S = All-filter (λ (s : Seen ℕ). not (int_eq s.value (pos 0))) (HasBelow (length names)) has.seen has.below in
-      let T : map (renamed name) S ≡ weighed (seen_samples l.profile f config column l.profile.sample) = sym (weighed-renamed key_cmp name has.seen) ∙ ap weighed (has.are f holds) in
+      let T : map (renamed name) S ≡ weighed (seen_samples l.profile f config column l.profile.sample) = sym (weighed-renamed name has.seen) ∙ ap weighed (has.are f holds) in
       record {
-        within = λ i d here.
-            let none : KeySum = record { key = 0; flat = pos 0; cum = pos 0 } in
-            let inside : i < length sums = omega (arith, here, ap length is, length-map sums (edge_of_sum n)) in
-            let below : (get_or sums i none).key < n * n = pair_numbers i none inside in
-            let some : 0 < n = has_root _ n below in
-            subst (λ (e : Edge). (e.from < length old) × (e.to < length old))
-            (sym (ap (λ es. get_or es i d) is ∙ get_or-map (edge_of_sum n) sums i none d inside))
-            (omega (arith, fits, (div-lt_iff_lt-mul some).1 below), omega (arith, fits, mod-lt (get_or sums i none).key some));
+        within = ends_within edges is;
         each = λ a b in_a in_b.
             let in_keep : b < n = omega (arith, fits, in_b) in
             let caller_in : a < n = omega (arith, fits, in_a) in

@@ -1,5 +1,5 @@
 -- The sums of a report, by keys.
-use Rattle.std.proofs.Common.{◌≡◌, ◌≢◌, ℕ, ◌+◌, ◌<◌, ◌≤◌, Bool, true, false, cond, not, ltb, ◌||◌, ◌==◌, pos, List, [], ◌∷◌, ◌++◌, length, take, drop, get_or, map, All, None, option_map, refl, sym, ap, ◌∙◌, subst, arith, inl, inr}
+use Rattle.std.proofs.Common.{◌≡◌, ◌≢◌, ℕ, ◌+◌, ◌<◌, ◌≤◌, Bool, true, false, cond, not, ltb, ◌||◌, ◌==◌, pos, nat_abs, List, [], ◌∷◌, ◌++◌, length, take, drop, get_or, map, All, None, option_map, refl, sym, ap, ◌∙◌, subst, arith, inl, inr}
 use Rattle.std.specs.Prelude.{AllPairs}
 use Rattle.std.specs.List.{list_any}
 use Rattle.std.specs.Ordering.{nat_cmp, int_eq, eq_by_cmp, is_eq}
@@ -21,16 +21,18 @@ use Rattle.pp_count.specs.declared.part.KeySum.{KeySum}
 use Rattle.pp_count.specs.declared.sums.Sums.{Sums}
 use Rattle.pp_count.specs.declared.tally.Tally.{Tally}
 use Rattle.pp_count.specs.Table.{no_key, written_key}
-use Rattle.pp_count.specs.Sums.{Seen, weighed, renamed, occurs, flat, cum}
+use Rattle.pp_count.specs.Sums.{Seen, weighed, absolute, renamed, occurs, flat, cum}
 use Rattle.pp_count.specs.Tally.{IsTallyOf, entry_of}
-use Rattle.pp_count.specs.Parts.{sums_of, key_at_sum, HasBelow}
+use Rattle.pp_count.specs.Parts.{sums_of, key_at_sum, flat_size, HasBelow}
 use Rattle.pp_count.specs.declared.scope.Scope.{Scope}
 use Rattle.pp_count.specs.Edges.{counted_keys}
 use Rattle.pp_count.specs.Scope.{profile_of, counted_as, CountedTo}
 use Rattle.pp_count.specs.Counts.{AreSumsOf, written_names}
+use Rattle.pp_count.proofs.CallerLemmas.{weighed-renamed}
+use Rattle.pp_count.proofs.Sizes.{same_sums, flats_bound, part_within}
 use Rattle.pp_count.proofs.Joining.{more_of}
 use Rattle.pp_count.proofs.Finals.{none_before}
-use Rattle.pp_count.proofs.Renaming.{all_keys, same_bool, same_found, list_any-renamed, all_keys_occur, occurs_below, weighed-renamed, cum-renamed, flat-renamed, tied_is}
+use Rattle.pp_count.proofs.Renaming.{all_keys, same_bool, same_found, list_any-renamed, all_keys_occur, occurs_below, cum-renamed, flat-renamed, tied_is}
 
 -- an entry list with an item is that of a key that some sample had
 head_is : (w : Bool) (x e : KeySum) (rest : List KeySum) → cond w (x ∷ []) [] ≡ e ∷ rest → (w ≡ true) × (x ≡ e)
@@ -136,6 +138,15 @@ module _ (p : Profile) (compact : IsCompact p) (names : List Key) (keys : All (I
     pub entries_below : All (λ e. e.key < length names) es
     entries_below i d here = (entry_is i d here).known
 
+    -- the flats of the entries are within the values of all samples
+    pub flats_within : flat_size es ≤ absolute seen
+    flats_within = omega (
+      arith,
+      same_sums (λ (e : KeySum). nat_abs e.flat) (λ (e : KeySum). nat_abs (flat nat_cmp S e.key)) es (λ i d here. ap nat_abs (entry_is i d here).flat_is),
+      flats_bound es entries_once S,
+      part_within (λ (s : Seen ℕ). nat_abs s.value) (λ (s : Seen ℕ). not (int_eq s.value (pos 0))) seen,
+    )
+
     members : (m : ℕ) → list_any (eq_by_cmp nat_cmp m) (map (λ (e : KeySum). e.key) es) ≡ list_any (eq_by_cmp nat_cmp m) (all_keys S)
     members m = any_entry m es (ltb 0 (at m).last) _ (entries m) ∙ (tallies m).occurs ∙ sym (all_keys_occur S m)
 
@@ -145,7 +156,7 @@ module _ (p : Profile) (compact : IsCompact p) (names : List Key) (keys : All (I
         → AreSumsOf p (weighed T) sums
     keyed T sums is keys_are flats_are cums_are once of_profile =
         let written : written_names p sums ≡ map (λ (e : KeySum). name e.key) es = ap (map (key_written p)) keys_are ∙ map_twice (key_written p) (key_at_sum names) es in
-        let T_is : map (renamed name) S ≡ weighed T = sym (weighed-renamed key_cmp name seen) ∙ ap weighed is in
+        let T_is : map (renamed name) S ≡ weighed T = sym (weighed-renamed name seen) ∙ ap weighed is in
         record {
           occur = λ k.
               ap (list_any (eq_by_cmp key_cmp k)) (written ∙ sym (map_twice name (λ (e : KeySum). e.key) es))

@@ -9,7 +9,10 @@ pub mod Tags
 pub mod Totals
 pub mod Finals
 pub mod Renaming
+pub mod CallerLemmas
+pub mod Sizes
 pub mod Keyed
 pub mod Kept
 pub mod Pairing
 pub mod Edged
+pub mod EachOnce

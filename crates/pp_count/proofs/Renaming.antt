@@ -1,14 +1,14 @@
 -- Sums by key numbers are the sums by the keys that the numbers stand for.
-use Rattle.std.proofs.Common.{◌≡◌, ℕ, ◌<◌, Bool, true, false, cond, not, ◌||◌, pos, ◌+ℤ◌, List, [], ◌∷◌, ◌++◌, flat_map, map, All, refl, sym, ap, ◌∙◌, arith}
+use Rattle.std.proofs.Common.{◌≡◌, ℕ, ◌<◌, Bool, true, false, cond, ◌||◌, pos, ◌+ℤ◌, List, [], ◌∷◌, ◌++◌, flat_map, map, All, refl, sym, ap, ◌∙◌, arith}
 use Rattle.std.specs.List.{list_any}
-use Rattle.std.specs.Ordering.{nat_cmp, eq_by_cmp, int_eq}
+use Rattle.std.specs.Ordering.{nat_cmp, eq_by_cmp}
 use Rattle.std.specs.Cmp.{unsigned_tied}
 use Rattle.std.specs.declared.cmp.Ordering.{Ordering}
 use Rattle.std.proofs.lemmas.Bool.{false≢true, eqb-true, eq-eqb}
 use Rattle.std.proofs.lemmas.List.{map-append}
 use Rattle.std.proofs.lemmas.List.Elements.{All-head, All-tail}
 use Rattle.std.proofs.lemmas.List.Folds.{list_any-append}
-use Rattle.pp_count.specs.Sums.{Seen, weighed, renamed, has, leads, occurs, cum, flat}
+use Rattle.pp_count.specs.Sums.{Seen, renamed, has, leads, occurs, cum, flat}
 
 -- the keys of all samples, sample by sample
 abbrev pub all_keys : {K : Type 0} → List (Seen K) → List K
@@ -84,14 +84,6 @@ occurs_below n m (s ∷ ss) below found =
     ] refl found
 
 module _ {K : Type 0} (order : K → K → Ordering) (f : ℕ → K) where
-  pub weighed-renamed : (ss : List (Seen ℕ)) → weighed (map (renamed f) ss) ≡ map (renamed f) (weighed ss)
-  weighed-renamed [] = refl
-  weighed-renamed (s ∷ ss) =
-      elim (not (int_eq s.value (pos 0))) as (λ b. cond b (renamed f s ∷ weighed (map (renamed f) ss)) (weighed (map (renamed f) ss)) ≡ map (renamed f) (cond b (s ∷ weighed ss) (weighed ss))) [
-        | true ↦ ap (λ r. renamed f s ∷ r) (weighed-renamed ss)
-        | false ↦ weighed-renamed ss
-      ]
-
   pub all_keys-renamed : (ss : List (Seen ℕ)) → all_keys (map (renamed f) ss) ≡ map f (all_keys ss)
   all_keys-renamed [] = refl
   all_keys-renamed (s ∷ ss) = ap (λ r. map f s.keys ++ r) (all_keys-renamed ss) ∙ sym (map-append f s.keys (all_keys ss))

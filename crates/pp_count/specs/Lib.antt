@@ -8,4 +8,6 @@ pub mod Edges
 pub mod Scope
 pub mod Counts
 pub mod EdgeSums
+pub mod Counted
 pub mod Matches
+pub mod Ranks

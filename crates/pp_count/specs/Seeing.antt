@@ -48,6 +48,18 @@ passes_tags p f config s =
 abbrev pub filtered_stack : Profile → Finders → Config → Sample → Option (List Frame)
 filtered_stack p f config s = if passes_tags p f config s then frames_of_sample p f s else None
 
+-- the sample with the frames of this stack that count, written out
+abbrev pub framed_with : Profile → Config → Option ℕ → Sample → List Frame → Seen Written
+framed_with p config column s stack = record {
+  value = selected column config.divide_by s;
+  keys = map (written p) (counted_frames config.noinlines stack);
+}
+
+-- The samples that the filters leave, in order, with their frames that count, written out, in the place of keys.
+abbrev pub framed_samples : Profile → Finders → Config → Option ℕ → List Sample → List (Seen Written)
+framed_samples p f config column samples =
+    filter_map (λ s. option_map (framed_with p config column s) (filtered_stack p f config s)) samples
+
 -- the sample with this stack
 abbrev pub seen_with : Profile → Config → Option ℕ → Sample → List Frame → Seen Written
 seen_with p config column s stack =

@@ -5,12 +5,12 @@ ghost use Rattle.pp_model.specs.Finders.{Finders};
 ghost use Rattle.pp_model.specs.Sizes.{IsCountable};
 ghost use Rattle.pp_grain.specs.Keys.{IsKeyOf};
 ghost use Rattle.pp_tags.specs.TagFilters.{HasItsTags, filter_in_force};
-ghost use Rattle.pp_count.specs.Sums.{weighed};
-ghost use Rattle.pp_count.specs.Seeing.{HoldsFilters, seen_samples, filtered_from, absolute_all};
+ghost use Rattle.pp_count.specs.Seeing.{HoldsFilters, filtered_from, absolute_all};
 ghost use Rattle.pp_count.specs.Matches.{matches_of};
 ghost use Rattle.pp_count.specs.Counts.{AreSumsOf, total_of};
+ghost use Rattle.pp_count.specs.Counted.{CanCount, FitSums, IsCountedOf, report_samples};
 ghost use Rattle.pp_count.specs.Table.{IsKeyTable};
-ghost use Rattle.pp_count.specs.Scope.{IsSound, CountedTo};
+ghost use Rattle.pp_count.specs.Scope.{IsSound, CountedTo, size_of};
 ghost use Rattle.pp_count.specs.Tally.{tally_at};
 
 use crate::matched::{Matched, matches};
@@ -53,21 +53,8 @@ pub fn count<R: Threads + Sync, G: Gate>(
     column: Option<u32>,
     gate: &G,
 ) -> Result<Counted, Memory>
-    requires countable { IsCountable l.now.profile }
-    requires column { IsColumnOf l.now.profile column }
-    requires verdicts { HasVerdicts l.now.profile v.now }
-    requires focus { HasItsTags l.now.profile v.now.tag (filter_in_force config.now.tagfocus) }
-    requires ignore { HasItsTags l.now.profile v.now.tag (filter_in_force config.now.tagignore) }
-    ensures kept { (f : Finders) → HoldsFilters l.now v.now config.now f →
-        IfOk result (λ c. c.kept ≡ filtered_from l.now.profile f config.now 0 l.now.profile.sample) }
-    ensures sums { (f : Finders) → HoldsFilters l.now v.now config.now f →
-        IfOk result (λ c. AreSumsOf l.now.profile
-        (weighed (seen_samples l.now.profile f config.now column l.now.profile.sample)) c.sums) }
-    ensures matched { (f : Finders) → HoldsFilters l.now v.now config.now f →
-        IfOk result (λ c. c.matched.slots ≡ matches_of l.now.profile f config.now) }
-    ensures total { (f : Finders) → HoldsFilters l.now v.now config.now f →
-        IfOk result (λ c. c.total ≡ total_of l.now.profile f config.now column) }
-    ensures of_profile { IfOk result (λ c. All (IsKeyOf l.now.profile) c.sums.names) }
+    requires { CanCount l.now.profile v.now config.now column }
+    ensures { IfOk result (IsCountedOf l.now v.now config.now column) }
 {
     let table = key_table(alloc, l, config)?;
     let focus = TagFilter::in_force(alloc, config.tagfocus.as_slice())?;
@@ -110,7 +97,8 @@ fn count_by<'x, R: Threads + Sync, G: Gate>(
         IfOk result (λ c. c.0.kept ≡ filtered_from l.now.profile f config.now 0 l.now.profile.sample) }
     ensures sums { (f : Finders) → HoldsFilters l.now v.now config.now f →
         IfOk result (λ c. AreSumsOf l.now.profile
-        (weighed (seen_samples l.now.profile f config.now column l.now.profile.sample)) c.1) }
+        (report_samples l.now.profile f config.now column) c.1) }
+    ensures fits { IfOk result (λ c. FitSums c.1) }
     ensures of_profile { IfOk result (λ c. All (IsKeyOf l.now.profile) c.1.names) }
 {
     let scope = Scope {
@@ -145,14 +133,15 @@ fn report_total(l: &Loaded, config: &Config, column: Option<u32>, kept: &[u32]) 
 // The sums of all samples, by keys.
 fn sums_so_far(alloc: Global, scope: &Scope, sofar: &Sofar) -> Result<Sums, Memory>
     requires sound { IsSound scope.now }
+    requires fits { size_of scope.now scope.now.l.now.profile.sample < 2 ^ 63 }
     requires keys { scope.now.over ≡ None }
     requires counted { CountedTo scope.now 0 1 scope.now.l.now.profile.sample
         (tally_at sofar.now.tallies) sofar.now.kept }
     ensures sums { (f : Finders) →
         HoldsFilters scope.now.l.now scope.now.v.now scope.now.config.now f →
-        IfOk result (λ sums. AreSumsOf scope.now.l.now.profile (weighed (seen_samples
-        scope.now.l.now.profile f scope.now.config.now scope.now.column
-        scope.now.l.now.profile.sample)) sums) }
+        IfOk result (λ sums. AreSumsOf scope.now.l.now.profile
+        (report_samples scope.now.l.now.profile f scope.now.config.now scope.now.column) sums) }
+    ensures fits { IfOk result FitSums }
     ensures of_profile { IfOk result (λ sums. All (IsKeyOf scope.now.l.now.profile) sums.names) }
 {
     let _compact = scope.l.profile.get();

@@ -27,6 +27,8 @@ pub use edge::Edge;
 pub use matched::Matched;
 pub use part::{KeySum, Part};
 pub use recounting::recount;
+pub use scope::Scope;
+pub use seeing::see;
 pub use sums::Sums;
 pub use table::{KeyTable, key_table};
 pub use value::selected;

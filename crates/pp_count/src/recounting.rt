@@ -5,8 +5,8 @@ ghost use Rattle.pp_model.specs.Finders.{Finders};
 ghost use Rattle.pp_model.specs.Sizes.{IsCountable};
 ghost use Rattle.pp_grain.specs.Keys.{IsKeyOf};
 ghost use Rattle.pp_tags.specs.TagFilters.{HasItsTags, filter_in_force};
-ghost use Rattle.pp_count.specs.Sums.{weighed};
-ghost use Rattle.pp_count.specs.Seeing.{HoldsFilters, seen_samples};
+ghost use Rattle.pp_count.specs.Seeing.{HoldsFilters};
+ghost use Rattle.pp_count.specs.Counted.{CanCount, report_samples};
 ghost use Rattle.pp_count.specs.Table.{IsKeyTable};
 ghost use Rattle.pp_count.specs.Edges.{edge_of_sum};
 ghost use Rattle.pp_count.specs.EdgeSums.{AreEdgesOf, HasPairSums};
@@ -40,17 +40,15 @@ pub fn recount<R: Threads + Sync, G: Gate>(
     column: Option<u32>,
     gate: &G,
 ) -> Result<List<Edge>, Memory>
-    requires countable { IsCountable l.now.profile }
-    requires column { IsColumnOf l.now.profile column }
-    requires verdicts { HasVerdicts l.now.profile v.now }
-    requires focus { HasItsTags l.now.profile v.now.tag (filter_in_force config.now.tagfocus) }
-    requires ignore { HasItsTags l.now.profile v.now.tag (filter_in_force config.now.tagignore) }
+    requires can { CanCount l.now.profile v.now config.now column }
     requires names { All (IsKeyOf l.now.profile) counted.now.sums.names }
     requires keep { length keep.now ≡ length counted.now.sums.names }
-    ensures { (f : Finders) → HoldsFilters l.now v.now config.now f →
+    ensures edges { (f : Finders) → HoldsFilters l.now v.now config.now f →
         IfOk result (λ edges. AreEdgesOf l.now.profile
-        (weighed (seen_samples l.now.profile f config.now column l.now.profile.sample))
+        (report_samples l.now.profile f config.now column)
         counted.now.sums.names keep.now edges) }
+    ensures within { IfOk result (All (λ e.
+        (e.from < length counted.now.sums.names) × (e.to < length counted.now.sums.names))) }
 {
     let _compact = l.profile.get();
     let keep = keep.as_slice();

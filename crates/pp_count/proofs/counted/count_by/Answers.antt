@@ -18,3 +18,6 @@ pub sums_so_far-requires-clause-sound : goal.sums_so_far-requires-clause-sound
 sums_so_far-requires-clause-sound g c =
     (is_sound (record { l = c.args.l; v = c.args.v; config = c.args.config; focus = c.args.focus; ignore = c.args.ignore; column = c.args.column; table = c.args.table; over = None })
     c.requires.focus c.requires.ignore c.requires.focus_tags c.requires.ignore_tags c.requires.verdicts c.requires.table tt)
+
+pub sums_so_far-requires-clause-fits : goal.sums_so_far-requires-clause-fits
+sums_so_far-requires-clause-fits g c = values_fit c.args.l.now.profile c.args.column c.args.config.now.divide_by c.requires.countable c.requires.column

@@ -1,8 +1,7 @@
-use Rattle.std.proofs.Common.{◌≡◌, Bool, true, false, ◌&&◌, All, get_or, ap, subst, sym, ◌∙◌, refl}
+use Rattle.std.proofs.Common.{◌≡◌, Bool, true, false, ◌&&◌, ap, subst, ◌∙◌, refl}
 use Rattle.std.specs.List.{list_any}
 use Rattle.std.proofs.lemmas.Bool.{false≢true}
 use Rattle.std.proofs.lemmas.List.Elements.{All-weaker}
-use Rattle.pp_model.specs.declared.profile.Label.{Label}
 use Rattle.pp_model.specs.Rules.{NoRuleFails, is_text, label_has_texts}
 use Rattle.pp_tags.specs.Labels.{key_text}
 use Rattle.pp_tags.specs.Verdicts.{verdict_on}

@@ -1,0 +1,53 @@
+-- For crates above: the keys of a report's samples are those of their frames.
+use Rattle.std.proofs.Common.{◌≡◌, true, false, cond, not, pos, ℕ, List, [], ◌∷◌, map, Option, Some, None, option_map, refl, sym, ap, ◌∙◌}
+use Rattle.std.specs.List.{cons_option}
+use Rattle.std.specs.Ordering.{int_eq}
+use Rattle.pp_model.specs.declared.config.Config.{Config}
+use Rattle.pp_model.specs.declared.frame.Frame.{Frame}
+use Rattle.pp_model.specs.declared.profile.Sample.{Sample}
+use Rattle.pp_model.specs.declared.profile.Profile.{Profile}
+use Rattle.pp_model.specs.Finders.{Finders}
+use Rattle.pp_model.specs.Frames.{Written, written}
+use Rattle.pp_grain.specs.Keys.{key_texts}
+use Rattle.pp_count.specs.Sums.{Seen, weighed, renamed}
+use Rattle.pp_count.specs.Seeing.{counted_frames, framed_with, framed_samples, filtered_stack, key_of_frame, seen_with, seen_samples}
+use Rattle.pp_count.specs.Counted.{report_samples, report_frames}
+
+-- what a frame that counts is in a report: its key
+abbrev pub key_of_written : Config → Written → Written
+key_of_written config = key_texts config.grain config.showcolumns
+
+-- samples of value 0 are left out alike by keys and by what the keys stand for
+pub weighed-renamed : {J K : Type 0} (f : J → K) (ss : List (Seen J)) → weighed (map (renamed f) ss) ≡ map (renamed f) (weighed ss)
+weighed-renamed f [] = refl
+weighed-renamed f (s ∷ ss) =
+    elim (not (int_eq s.value (pos 0))) as (λ b. cond b (renamed f s ∷ weighed (map (renamed f) ss)) (weighed (map (renamed f) ss)) ≡ map (renamed f) (cond b (s ∷ weighed ss) (weighed ss))) [
+      | true ↦ ap (λ r. renamed f s ∷ r) (weighed-renamed f ss)
+      | false ↦ weighed-renamed f ss
+    ]
+
+module _ (p : Profile) (f : Finders) (config : Config) (column : Option ℕ) where
+  keys_of_frames : (stack : List Frame) → map (key_of_written config) (map (written p) stack) ≡ map (key_of_frame p config) stack
+  keys_of_frames [] = refl
+  keys_of_frames (x ∷ stack) = ap (λ ks. key_of_frame p config x ∷ ks) (keys_of_frames stack)
+
+  keyed_stack : (s : Sample) (stack : List Frame) → renamed (key_of_written config) (framed_with p config column s stack) ≡ seen_with p config column s stack
+  keyed_stack s stack = ap (λ ks. record { value = (seen_with p config column s stack).value; keys = ks }) (keys_of_frames (counted_frames config.noinlines stack))
+
+  keyed_option : (s : Sample) (o : Option (List Frame)) (ss : List (Seen Written))
+      → map (renamed (key_of_written config)) (cons_option (option_map (framed_with p config column s) o) ss)
+      ≡ cons_option (option_map (seen_with p config column s) o) (map (renamed (key_of_written config)) ss)
+  keyed_option s None ss = refl
+  keyed_option s (Some stack) ss = ap (λ r. r ∷ map (renamed (key_of_written config)) ss) (keyed_stack s stack)
+
+  -- The samples by keys are the samples by frames, with each frame's key.
+  pub keyed_frames : (samples : List Sample) → map (renamed (key_of_written config)) (framed_samples p f config column samples) ≡ seen_samples p f config column samples
+  keyed_frames [] = refl
+  keyed_frames (s ∷ samples) =
+      keyed_option s (filtered_stack p f config s) (framed_samples p f config column samples)
+      ∙ ap (cons_option (option_map (seen_with p config column s) (filtered_stack p f config s))) (keyed_frames samples)
+
+  -- The same of those that put keys into the report.
+  pub keyed_report : map (renamed (key_of_written config)) (report_frames p f config column) ≡ report_samples p f config column
+  keyed_report =
+      sym (weighed-renamed (key_of_written config) (framed_samples p f config column p.sample)) ∙ ap weighed (keyed_frames p.sample)
