@@ -1,0 +1,9 @@
+pub mod Trim
+pub mod Neighbours
+pub mod Lists
+pub mod Links
+pub mod Chains
+pub mod Slots
+pub mod Trimmed
+pub mod Ranks
+pub mod Cuts

@@ -1,0 +1,116 @@
+-- Which keys and edges a report shows, and in which order.
+use Rattle.std.specs.Prelude.{ℕ, ◌*◌, ◌==◌, ℤ, pos, negsuc, nat_abs, Bool, not, ◌&&◌, List, length, map, take, flat_map, nat_le, if◌then◌else◌, Option}
+use Rattle.std.specs.List.{filter, sum_by}
+use Rattle.std.specs.Ordering.{nat_cmp, on, flip_args, then_cmp, eq_by_cmp}
+use Rattle.std.specs.Set.{distinct_count}
+use Rattle.std.specs.declared.cmp.Ordering.{Ordering}
+use Rattle.std.specs.FinMap as finite
+use Rattle.pp_model.specs.declared.config.Config.{Config}
+use Rattle.pp_model.specs.declared.config.Sort.{Sort}
+use Rattle.pp_model.specs.declared.config.Sort.TheVariants as sorts
+use Rattle.pp_model.specs.declared.profile.Profile.{Profile}
+use Rattle.pp_model.specs.Finders.{Finders}
+use Rattle.pp_model.specs.Frames.{Written}
+use Rattle.pp_grain.specs.Keys.{key_cmp}
+use Rattle.pp_count.specs.Sums.{Seen, has, cum, flat}
+use Rattle.pp_count.specs.EdgeSums.{edge_occurs, edge_sum}
+use Rattle.pp_count.specs.Counts.{total_of}
+use Rattle.pp_count.specs.Counted.{report_samples}
+
+-- The limit that `nodecount` sets, 0 for none: its own number, and for -1 the report's.
+abbrev pub node_limit : ℤ → ℕ → ℕ
+node_limit (pos count) own = count
+node_limit (negsuc _) own = own
+
+-- the sum's absolute value is at least this fraction, in billionths, of the total
+abbrev pub is_heavy : ℕ → ℕ → ℤ → Bool
+is_heavy total billionths sum = nat_le (total * billionths) (nat_abs sum * 1000000000)
+
+-- the greater absolute value first
+abbrev pub by_size : {K : Type 0} → (K → ℤ) → K → K → Ordering
+by_size value = flip_args (on (λ k. nat_abs (value k)) nat_cmp)
+
+-- the keys of all samples, sample by sample
+abbrev pub all_keys : {K : Type 0} → List (Seen K) → List K
+all_keys samples = flat_map (λ s. s.keys) samples
+
+-- an item of a set, with nothing beside it
+abbrev pub set_entry : {K : Type 0} → K → K × Unit {0}
+set_entry k = (k, tt)
+
+-- the keys as a set, each once, in an order
+abbrev pub each_once : {K : Type 0} → (K → K → Ordering) → List K → List K
+each_once order keys = finite.keys (finite.from_entries {R = order} (map set_entry keys))
+
+-- the first of them: as many as the limit says, and all where it is 0
+abbrev pub shown_keys : {K : Type 0} → ℕ → List K → List K
+shown_keys limit heavy = if limit == 0 then heavy else take limit heavy
+
+module _ {K : Type 0} (order : K → K → Ordering) where
+  -- report order: by the one sum, then by the other, then by the keys themselves
+  abbrev pub report_order : Sort → List (Seen K) → K → K → Ordering
+  report_order sorts.Flat samples =
+      then_cmp (by_size (flat order samples)) (then_cmp (by_size (cum order samples)) order)
+  report_order sorts.Cum samples =
+      then_cmp (by_size (cum order samples)) (then_cmp (by_size (flat order samples)) order)
+
+  -- the key is heavy by its cum
+  abbrev pub is_heavy_key : ℕ → ℕ → List (Seen K) → K → Bool
+  is_heavy_key total billionths samples k = is_heavy total billionths (cum order samples k)
+
+  -- the keys that occur and are heavy, in report order
+  abbrev pub heavy_keys : Sort → ℕ → ℕ → List (Seen K) → List K
+  heavy_keys sort total billionths samples =
+      each_once (report_order sort samples)
+      (filter (is_heavy_key total billionths samples) (all_keys samples))
+
+  -- how many keys occur and are not heavy
+  abbrev pub light_count : ℕ → ℕ → List (Seen K) → ℕ
+  light_count total billionths samples =
+      distinct_count (eq_by_cmp order)
+      (filter (λ k. not (is_heavy_key total billionths samples k)) (all_keys samples))
+
+  -- the pair occurs over the keys that are kept, and its edge is heavy
+  abbrev pub has_heavy_edge : (K → Bool) → List (Seen K) → ℕ → ℕ → K → K → Bool
+  has_heavy_edge kept samples total billionths caller callee =
+      edge_occurs order kept samples caller callee
+      && is_heavy total billionths (edge_sum order kept samples caller callee)
+
+  -- the pair occurs over the keys that are kept, and its edge is not heavy
+  abbrev pub has_light_edge : (K → Bool) → List (Seen K) → ℕ → ℕ → K → K → Bool
+  has_light_edge kept samples total billionths caller callee =
+      edge_occurs order kept samples caller callee
+      && not (is_heavy total billionths (edge_sum order kept samples caller callee))
+
+  -- how many pairs of these keys occur over them and have an edge that is not heavy
+  abbrev pub light_edge_count : List K → List (Seen K) → ℕ → ℕ → ℕ
+  light_edge_count keys samples total billionths =
+      sum_by (λ caller. length (filter
+      (has_light_edge (λ k. has order k keys) samples total billionths caller) keys)) keys
+
+-- The keys that a report may show: those that occur and are heavy, in report order.
+abbrev pub candidate_keys : Profile → Finders → Config → Option ℕ → List Written
+candidate_keys p f config column =
+    heavy_keys key_cmp config.sort (total_of p f config column) config.nodefraction.billionths
+    (report_samples p f config column)
+
+-- The keys that it shows, in report order: the first of these, where 0 is no limit.
+abbrev pub report_keys : Profile → Finders → Config → Option ℕ → ℕ → List Written
+report_keys p f config column limit = shown_keys limit (candidate_keys p f config column)
+
+-- whether it shows the key
+abbrev pub is_report_key : Profile → Finders → Config → Option ℕ → ℕ → Written → Bool
+is_report_key p f config column limit k = has key_cmp k (report_keys p f config column limit)
+
+-- how many keys occur and are too light to be shown
+abbrev pub dropped_nodes : Profile → Finders → Config → Option ℕ → ℕ
+dropped_nodes p f config column =
+    light_count key_cmp (total_of p f config column) config.nodefraction.billionths
+    (report_samples p f config column)
+
+-- how many pairs occur over the keys that are shown, and have an edge that is too light
+abbrev pub dropped_edges : Profile → Finders → Config → Option ℕ → ℕ → ℕ
+dropped_edges p f config column limit =
+    light_edge_count key_cmp (report_keys p f config column limit)
+    (report_samples p f config column) (total_of p f config column)
+    config.edgefraction.billionths
