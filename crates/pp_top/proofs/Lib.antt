@@ -1,0 +1,5 @@
+pub mod CallerLemmas
+pub mod Running
+pub mod NameLemmas
+mod Ranking
+mod Examples

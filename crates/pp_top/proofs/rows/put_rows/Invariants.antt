@@ -1,0 +1,12 @@
+use Rattle.std.proofs.Common.{pos, slice_index_or}
+use Rattle.pp_units.specs.Shown.{shown}
+use Rattle.pp_top.specs.Top.{row_at, row_text}
+use Rattle.pp_top.proofs.Running.{Summing, Putting}
+use Rattle.pp_top.proofs.rows.put_rows.Given as goal
+
+-- the rows so far have their lines, and the sum leaves room for the flats that are left
+abbrev pub invariant-loop-number : goal.invariant-loop-number
+invariant-loop-number l = record {
+  summing : Summing (λ n. slice_index_or l.sums.flat n (pos 0)) l.order l.number-index l.sum;
+  putting : Putting (λ row. row.flat) (row_text (shown l.head.unit) l.head.total) (row_at l.l.profile l.sums) l.order l.initial.out l.number-index l.sum l.out;
+}

@@ -1,0 +1,71 @@
+//! The rows of the table.
+ghost use Rattle.std.specs.Prelude.{◌≡◌, ◌++◌, ◌<◌, pos, length, map, All, IfOk};
+ghost use Rattle.pp_units.specs.Rows.{name_end};
+ghost use Rattle.pp_units.specs.Shown.{shown};
+ghost use Rattle.pp_grain.specs.Keys.{IsKeyOf, key_written};
+ghost use Rattle.pp_grain.specs.Naming.{name_text};
+ghost use Rattle.pp_count.specs.Counted.{FitSums};
+ghost use Rattle.pp_top.specs.Top.{row_text, rows_text, row_at, CanShow};
+
+use pp_base::{Memory, Text};
+use pp_count::Sums;
+use pp_grain::{Key, write_name};
+use pp_model::Loaded;
+use pp_units::Head;
+use std::alloc::Global;
+
+/// Appends a line for each of the names with these numbers, in their order.
+pub fn put_rows(
+    alloc: Global,
+    l: &Loaded,
+    sums: &Sums,
+    head: &Head,
+    order: &[u64],
+    out: &mut Text,
+) -> Result<(), Memory>
+    requires { CanShow l.now.profile sums.now order.now }
+    ensures { IfOk result (λ _. out.new ≡ out.old
+        ++ rows_text (shown head.now.unit) head.now.total (pos 0)
+        (map (row_at l.now.profile sums.now) order.now)) }
+{
+    let mut scratch = Text::new(alloc);
+    let mut sum = 0;
+    for number in order {
+        sum += sums.flat.as_slice()[*number as usize];
+        put_row(l, sums, head, *number, sum, &mut scratch, out)?;
+    }
+    Ok(())
+}
+
+// "%10s %8s %8s %10s %8s  %s": flat, flat%, sum%, cum, cum% and the name, where the flats up to it have this sum.
+fn put_row(
+    l: &Loaded,
+    sums: &Sums,
+    head: &Head,
+    number: u64,
+    sum: i64,
+    scratch: &mut Text,
+    out: &mut Text,
+) -> Result<(), Memory>
+    requires keys { All (IsKeyOf l.now.profile) sums.now.names }
+    requires fits { FitSums sums.now }
+    requires below { number < length sums.now.names }
+    ensures { IfOk result (λ _. out.new ≡ out.old
+        ++ row_text (shown head.now.unit) head.now.total sum
+        (row_at l.now.profile sums.now number)) }
+{
+    let flat = sums.flat.as_slice()[number as usize];
+    let cum = sums.cum.as_slice()[number as usize];
+    head.put_columns(flat, sum, cum, scratch, out)?;
+    put_name(l, &sums.names.key(number), out)
+}
+
+fn put_name(l: &Loaded, key: &Key, out: &mut Text) -> Result<(), Memory>
+    requires { IsKeyOf l.now.profile key.now }
+    ensures { IfOk result (λ _. out.new ≡ out.old
+        ++ name_end (name_text (key_written l.now.profile key.now))) }
+{
+    out.extend(b"  ")?;
+    write_name(l, key, out)?;
+    out.extend(b"\n")
+}

@@ -1,0 +1,12 @@
+pub mod CallerLemmas
+mod Walking
+mod Alike
+mod Ordered
+mod Sides
+mod Arranged
+mod Walks
+mod Shown
+mod Marking
+mod Owned
+mod Peeking
+mod Rows

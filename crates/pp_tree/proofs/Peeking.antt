@@ -1,0 +1,273 @@
+-- What is written of a graph in which nothing is trimmed is the peek report.
+use Rattle.std.proofs.Common.{◌≡◌, ℕ, zero, suc, ◌+◌, ◌*◌, ◌<◌, ◌≤◌, Bool, true, false, cond, not, ◌&&◌, ◌||◌, nat_abs, ℤ, pos, ◌+ℤ◌, List, [], ◌∷◌, ◌++◌, length, map, drop, get_or, replicate, All, Option, Some, Result, Ok, Err, IfOk, refl, sym, ap, subst, ◌∙◌, arith, append_assoc, length-append}
+use Rattle.std.proofs.Math.Seq.{get_or-append_seam}
+use Rattle.std.specs.List.{filter, filter_map, list_any, sum_by, range_with_len}
+use Rattle.std.specs.Ordering.{eq_by_cmp}
+use Rattle.std.proofs.lemmas.Bool.{le-leb}
+use Rattle.std.proofs.lemmas.List.{drop_more, drop_all, append-nil}
+use Rattle.std.proofs.lemmas.List.Elements.{All-head, All-tail, All-filter}
+use Rattle.std.proofs.lemmas.List.Sums.{sum_by-cons}
+use Rattle.pp_model.specs.declared.config.Config.{Config}
+use Rattle.pp_base.specs.declared.fraction.Fraction.{Fraction}
+use Rattle.pp_model.specs.declared.loaded.Loaded.{Loaded}
+use Rattle.pp_model.specs.declared.profile.Profile.{Profile}
+use Rattle.pp_model.specs.declared.verdicts.Verdicts.{Verdicts}
+use Rattle.pp_model.specs.Finders.{Finders}
+use Rattle.pp_model.specs.Frames.{Written}
+use Rattle.pp_units.specs.Head.{Facts, facts_text}
+use Rattle.pp_units.specs.Rows.{showing_line}
+use Rattle.pp_grain.specs.declared.key.Key.{Key}
+use Rattle.pp_grain.specs.Keys.{key_cmp, key_written}
+use Rattle.pp_count.specs.declared.counted.Counted.{Counted}
+use Rattle.pp_count.specs.declared.edge.Edge.{Edge}
+use Rattle.pp_count.specs.Counted.{IsCountedOf, report_samples}
+use Rattle.pp_count.specs.Counts.{total_of}
+use Rattle.pp_count.specs.EdgeSums.{has_edge, has_pair, edge_occurs, edge_sum, is_kept_name, AreEdgesOf, edges_between}
+use Rattle.pp_count.specs.Edges.{is_kept_key}
+use Rattle.pp_count.specs.Seeing.{HoldsFilters}
+use Rattle.pp_count.specs.Sums.{Seen, has, occurs, cum}
+use Rattle.pp_count.specs.Table.{no_key, written_key}
+use Rattle.pp_graph.specs.declared.ranking.Ranked.{Ranked}
+use Rattle.pp_graph.specs.Links.{Links, live_edges}
+use Rattle.pp_graph.specs.Trim.{all_keys, each_once, report_order, is_heavy, is_heavy_key}
+use Rattle.pp_graph.specs.Trimmed.{IsRankedOf}
+use Rattle.pp_top.specs.Top.{CanShow, flat_sum}
+use Rattle.pp_tree.specs.Nodes.{table_heading, nodes_text}
+use Rattle.pp_tree.specs.Peek.{all_report_keys, is_own_key, whole_node_of, peek_text}
+use Rattle.pp_tree.specs.Ends.{ShowsPairs, node_at, peeked_text, edge_if}
+use Rattle.pp_tree.specs.Whole.{any_key, all_pairs, IsWholeRanking}
+use Rattle.pp_tree.proofs.Ordered.{tied_self}
+use Rattle.pp_tree.proofs.Shown.{keys_of_names, nodes_are}
+
+-- a filter, item by item
+pub kept_more : (t : ℕ → Bool) (order : List ℕ) (i d : ℕ) (done : List ℕ) → i < length order → t (get_or order i d) ≡ true
+    → done ++ filter t (drop i order) ≡ filter t order → (done ++ get_or order i d ∷ []) ++ filter t (drop (i + 1) order) ≡ filter t order
+kept_more t order i d done here passes so_far =
+    append_assoc done (get_or order i d ∷ []) (filter t (drop (i + 1) order))
+    ∙ ap (λ b. done ++ cond b (get_or order i d ∷ filter t (drop (i + 1) order)) (filter t (drop (i + 1) order))) (sym passes)
+    ∙ ap (λ ns. done ++ filter t ns) (sym (drop_more order i d here)) ∙ so_far
+
+pub left_out : (t : ℕ → Bool) (order : List ℕ) (i d : ℕ) (done : List ℕ) → i < length order → t (get_or order i d) ≡ false
+    → done ++ filter t (drop i order) ≡ filter t order → done ++ filter t (drop (i + 1) order) ≡ filter t order
+left_out t order i d done here fails so_far =
+    ap (λ b. done ++ cond b (get_or order i d ∷ filter t (drop (i + 1) order)) (filter t (drop (i + 1) order))) (sym fails)
+    ∙ ap (λ ns. done ++ filter t ns) (sym (drop_more order i d here)) ∙ so_far
+
+pub all_looked : (t : ℕ → Bool) (order : List ℕ) (i : ℕ) (done : List ℕ) → length order ≤ i → done ++ filter t (drop i order) ≡ filter t order → done ≡ filter t order
+all_looked t order i done past so_far = sym (append-nil done) ∙ ap (λ ns. done ++ filter t ns) (sym (drop_all i order past)) ∙ so_far
+
+-- what an outcome is, in other words
+pub ok_as : {T E : Type 0} (r : Result T E) (P Q : T → Type 0) → ((x : T) → P x → Q x) → IfOk r P → IfOk r Q
+ok_as (Err e) P Q implies h = tt
+ok_as (Ok x) P Q implies h = implies x h
+
+filter-everything : {X : Type 0} (t : X → Bool) → ((x : X) → t x ≡ true) → (xs : List X) → filter t xs ≡ xs
+filter-everything t all [] = refl
+filter-everything t all (x ∷ xs) = (λ i. cond (all x i) (x ∷ filter t xs) (filter t xs)) ∙ ap (λ r. x ∷ r) (filter-everything t all xs)
+
+-- every sum is at least nothing of the total
+light-none : (total : ℕ) (sum : ℤ) → is_heavy total 0 sum ≡ true
+light-none total sum = le-leb (total * 0) (nat_abs sum * 1000000000) (omega arith)
+
+module _ (l : Loaded) (v : Verdicts) (config : Config) (column : Option ℕ) (c : Counted) (none : Fraction) (is_none : none.billionths ≡ 0) where
+  -- the count does not depend on the fraction
+  pub counted_whole : IsCountedOf l v config column c → IsCountedOf l v (record config { nodefraction = none }) column c
+  counted_whole is = record {
+    kept = λ f holds. is.kept f (back f holds);
+    sums_are = λ f holds. is.sums_are f (back f holds);
+    matches = λ f holds. is.matches f (back f holds);
+    total_is = λ f holds. is.total_is f (back f holds);
+    fits = is.fits;
+    of_profile = is.of_profile;
+  } where
+    back : (f : Finders) → HoldsFilters l v (record config { nodefraction = none }) f → HoldsFilters l v config f
+    back f holds = record { found = holds.found; tagfocus = holds.tagfocus; tagignore = holds.tagignore }
+
+  -- the ranking by no fraction and without a limit has all keys
+  pub ranked_whole : (t : Ranked) → IsRankedOf l v (record config { nodefraction = none }) column 0 c t → IsWholeRanking l v config column c t
+  ranked_whole t is = record {
+    below = is.below;
+    small = is.small;
+    keys = λ f holds. is.keys f (there f holds) ∙ whole f;
+    shown_flat = λ f holds. is.shown_flat f (there f holds) ∙ ap (flat_sum (report_samples l.profile f config column)) (whole f);
+  } where
+    there : (f : Finders) → HoldsFilters l v config f → HoldsFilters l v (record config { nodefraction = none }) f
+    there f holds = record { found = holds.found; tagfocus = holds.tagfocus; tagignore = holds.tagignore }
+
+    whole : (f : Finders)
+        → each_once (report_order key_cmp config.sort (report_samples l.profile f config column)) (filter (is_heavy_key key_cmp (total_of l.profile f config column) none.billionths (report_samples l.profile f config column)) (all_keys (report_samples l.profile f config column)))
+        ≡ all_report_keys l.profile f config column
+    whole f =
+        let samples : List (Seen Written) = report_samples l.profile f config column in
+        ap (each_once (report_order key_cmp config.sort samples))
+        (filter-everything (is_heavy_key key_cmp (total_of l.profile f config column) none.billionths samples)
+        (λ k. ap (λ n. is_heavy (total_of l.profile f config column) n (cum key_cmp samples k)) is_none ∙ light-none (total_of l.profile f config column) (cum key_cmp samples k)) (all_keys samples))
+
+-- Edges over keys of which all that occur are kept.
+module _ (kept : Written → Bool) where
+  all_of : (k : Written) (ks all : List Written) → ((q : Written) → has key_cmp q all ≡ true → kept q ≡ true) → ((q : Written) → has key_cmp q ks ≡ true → has key_cmp q all ≡ true) → filter kept ks ≡ filter any_key ks
+  all_of k [] all keeps within = refl
+  all_of k (x ∷ ks) all keeps within =
+      (λ i. cond (keeps x (within x (ap (λ b. b || has key_cmp x ks) (tied_self x))) i) (x ∷ filter kept ks) (filter kept ks))
+      ∙ ap (λ r. x ∷ r) (all_of k ks all keeps (λ q h. within q (ap (λ b. eq_by_cmp key_cmp q x || b) h ∙ or-true (eq_by_cmp key_cmp q x)))) where
+        or-true : (b : Bool) → (b || true) ≡ true
+        or-true true = refl
+        or-true false = refl
+
+  edge-alike : (a b : Written) (s : Seen Written) → ((q : Written) → has key_cmp q s.keys ≡ true → kept q ≡ true) → has_edge key_cmp kept a b s.keys ≡ has_edge key_cmp any_key a b s.keys
+  edge-alike a b s keeps = ap (λ ks. not (eq_by_cmp key_cmp a b) && has_pair key_cmp a b ks) (all_of a s.keys s.keys keeps (λ q h. h))
+
+  parts : (s : Seen Written) (S : List (Seen Written)) → ((q : Written) → occurs key_cmp (s ∷ S) q ≡ true → kept q ≡ true)
+      → ((q : Written) → has key_cmp q s.keys ≡ true → kept q ≡ true) × ((q : Written) → occurs key_cmp S q ≡ true → kept q ≡ true)
+  parts s S keeps = (
+    (λ q h. keeps q (ap (λ b. b || occurs key_cmp S q) h)),
+    (λ q h. keeps q (ap (λ b. has key_cmp q s.keys || b) h ∙ elim (has key_cmp q s.keys) as (λ b. (b || true) ≡ true) [ true ↦ refl | false ↦ refl ])),
+  )
+
+  pub occurs-alike : (a b : Written) (S : List (Seen Written)) → ((q : Written) → occurs key_cmp S q ≡ true → kept q ≡ true) → edge_occurs key_cmp kept S a b ≡ edge_occurs key_cmp any_key S a b
+  occurs-alike a b [] keeps = refl
+  occurs-alike a b (s ∷ S) keeps = λ i. edge-alike a b s (parts s S keeps).0 i || occurs-alike a b S (parts s S keeps).1 i
+
+  pub sum-alike : (a b : Written) (S : List (Seen Written)) → ((q : Written) → occurs key_cmp S q ≡ true → kept q ≡ true) → edge_sum key_cmp kept S a b ≡ edge_sum key_cmp any_key S a b
+  sum-alike a b [] keeps = refl
+  sum-alike a b (s ∷ S) keeps = λ i. cond (edge-alike a b s (parts s S keeps).0 i) s.value (pos 0) +ℤ sum-alike a b S (parts s S keeps).1 i
+
+-- Every name is kept.
+module _ (p : Profile) (names : List Key) where
+  at-replicated : (n k : ℕ) → k < n → is_kept_key (replicate n true) k ≡ true
+  at-replicated zero k within = absurd (omega (arith, within))
+  at-replicated (suc n) zero within = refl
+  at-replicated (suc n) (suc k) within = at-replicated n k (omega (arith, within))
+
+  numbers_all : (a n m : ℕ) → a + n ≤ m → filter (is_kept_key (replicate m true)) (range_with_len a n) ≡ range_with_len a n
+  numbers_all a zero m within = refl
+  numbers_all a (suc n) m within =
+      (λ i. cond (at-replicated m a (omega (arith, within)) i) (a ∷ filter (is_kept_key (replicate m true)) (range_with_len (a + 1) n)) (filter (is_kept_key (replicate m true)) (range_with_len (a + 1) n)))
+      ∙ ap (λ r. a ∷ r) (numbers_all (a + 1) n m (omega (arith, within)))
+
+  in_range : (q : Written) (before after : List Key) → names ≡ before ++ after → list_any (eq_by_cmp key_cmp q) (map (key_written p) after) ≡ true
+      → list_any (λ n. eq_by_cmp key_cmp q (written_key p names n)) (range_with_len (length before) (length after)) ≡ true
+  in_range q before [] is some = some
+  in_range q before (x ∷ after) is some =
+      let here : written_key p names (length before) ≡ key_written p x = ap (λ ks. written_key p ks (length before)) is ∙ ap (key_written p) (get_or-append_seam before x after no_key) in
+      let one : length (before ++ x ∷ []) ≡ length before + 1 = length-append before (x ∷ []) in
+      elim (eq_by_cmp key_cmp q (key_written p x)) as (λ b. eq_by_cmp key_cmp q (key_written p x) ≡ b → (b || list_any (eq_by_cmp key_cmp q) (map (key_written p) after)) ≡ true
+      → (eq_by_cmp key_cmp q (written_key p names (length before)) || list_any (λ n. eq_by_cmp key_cmp q (written_key p names n)) (range_with_len (length before + 1) (length after))) ≡ true) [
+        | true ↦ λ e s. ap (λ b. b || list_any (λ n. eq_by_cmp key_cmp q (written_key p names n)) (range_with_len (length before + 1) (length after))) (ap (eq_by_cmp key_cmp q) here ∙ e)
+        | false ↦ λ e s.
+            ap (λ b. eq_by_cmp key_cmp q (written_key p names (length before)) || b)
+            (ap (λ m. list_any (λ n. eq_by_cmp key_cmp q (written_key p names n)) (range_with_len m (length after))) (sym one)
+            ∙ in_range q (before ++ x ∷ []) after (is ∙ sym (append_assoc before (x ∷ []) after)) s)
+            ∙ elim (eq_by_cmp key_cmp q (written_key p names (length before))) as (λ b. (b || true) ≡ true) [ true ↦ refl | false ↦ refl ]
+      ] refl some
+
+  pub all_kept_names : (q : Written) → list_any (eq_by_cmp key_cmp q) (map (key_written p) names) ≡ true → is_kept_name p names (replicate (length names) true) q ≡ true
+  all_kept_names q some =
+      ap (list_any (λ n. eq_by_cmp key_cmp q (written_key p names n))) (numbers_all 0 (length names) (length names) (omega arith))
+      ∙ in_range q [] names refl some
+
+live-all : (g : Links) (edges : List Edge) → g.edges ≡ map Some edges → live_edges g ≡ edges
+live-all g edges is = ap (filter_map (λ edge. edge)) is ∙ each edges where
+  each : (es : List Edge) → filter_map (λ edge. edge) (map Some es) ≡ es
+  each [] = refl
+  each (e ∷ es) = ap (λ r. e ∷ r) (each es)
+
+module _ (l : Loaded) (v : Verdicts) (config : Config) (column : Option ℕ) (c : Counted) (f : Finders) (holds : HoldsFilters l v config f) (counted : IsCountedOf l v config column c) where
+  -- the graph of all edges shows all pairs
+  pub whole_shows : (g : Links) (keep : List Bool) (edges : List Edge) → keep ≡ replicate (length c.sums.names) true → g.edges ≡ map Some edges
+      → AreEdgesOf l.profile (report_samples l.profile f config column) c.sums.names keep edges
+      → ShowsPairs l.profile c.sums.names g (all_pairs l.profile f config column)
+  whole_shows g keep edges keeps made are = record {
+    keys = keys_of_names l.profile (report_samples l.profile f config column) c.sums (counted.sums_are f holds);
+    once = (counted.sums_are f holds).once;
+    edges = λ a b in_a in_b.
+        ap (edges_between a b) (live-all g edges made) ∙ are.each a b in_a in_b
+        ∙ same a b;
+  } where
+    S : List (Seen Written)
+    S = report_samples l.profile f config column
+
+    kept : Written → Bool
+    kept = is_kept_name l.profile c.sums.names keep
+
+    every : (q : Written) → occurs key_cmp (report_samples l.profile f config column) q ≡ true → is_kept_name l.profile c.sums.names keep q ≡ true
+    every q some =
+        ap (λ k. is_kept_name l.profile c.sums.names k q) keeps
+        ∙ all_kept_names l.profile c.sums.names q ((counted.sums_are f holds).occur q ∙ some)
+
+    same : (a b : ℕ)
+        → cond (edge_occurs key_cmp (is_kept_name l.profile c.sums.names keep) (report_samples l.profile f config column) (written_key l.profile c.sums.names a) (written_key l.profile c.sums.names b))
+        (record {
+          from = a;
+          to = b;
+          value = edge_sum key_cmp (is_kept_name l.profile c.sums.names keep) (report_samples l.profile f config column) (written_key l.profile c.sums.names a) (written_key l.profile c.sums.names b);
+        } ∷ []) []
+        ≡ edge_if l.profile c.sums.names (all_pairs l.profile f config column) a b
+    same a b =
+        let x : Written = written_key l.profile c.sums.names a in
+        let y : Written = written_key l.profile c.sums.names b in
+        let sums = edge_sum key_cmp any_key (report_samples l.profile f config column) x y in
+        λ i. cond
+        ((occurs-alike (is_kept_name l.profile c.sums.names keep) x y (report_samples l.profile f config column) every
+        ∙ sym (and-true (edge_occurs key_cmp any_key (report_samples l.profile f config column) x y))
+        ∙ ap (λ b. edge_occurs key_cmp any_key (report_samples l.profile f config column) x y && b) (sym (light-none (total_of l.profile f config column) sums))) i)
+        (record { from = a; to = b; value = sum-alike (is_kept_name l.profile c.sums.names keep) x y (report_samples l.profile f config column) every i } ∷ []) [] where
+          and-true : (b : Bool) → (b && true) ≡ b
+          and-true true = refl
+          and-true false = refl
+
+  -- what is written of those that are found is the peek report
+  pub peeked_is : (t : Ranked) (found : List Bool) (shown : List ℕ) (h : Facts) → IsWholeRanking l v config column c t
+      → found ≡ map (λ key. is_own_key l.profile f config column (key_written l.profile key)) c.sums.names
+      → shown ≡ filter (λ n. get_or found n false) t.order
+      → peeked_text l.profile c.sums t.shown_flat shown (all_pairs l.profile f config column) h ≡ peek_text l.profile f config column h
+  peeked_is t found shown h whole found_is shown_is =
+      let samples : List (Seen Written) = report_samples l.profile f config column in
+      let test : Written → Bool = is_own_key l.profile f config column in
+      let below : All (λ n. n < length c.sums.names) shown = subst (λ ns. All (λ n. n < length c.sums.names) ns) (sym shown_is) (All-filter (λ n. get_or found n false) (λ n. n < length c.sums.names) t.order whole.below) in
+      let keys : map (written_key l.profile c.sums.names) shown ≡ filter test (all_report_keys l.profile f config column) =
+      ap (map (written_key l.profile c.sums.names)) (shown_is ∙ ap (λ fs. filter (λ n. get_or fs n false) t.order) found_is)
+      ∙ filtered t.order whole.below ∙ ap (filter test) (whole.keys f holds) in
+      let nodes : map (node_at l.profile c.sums (all_pairs l.profile f config column)) shown ≡ map (whole_node_of l.profile f config column) (filter test (all_report_keys l.profile f config column)) =
+      nodes_are l.profile samples c.sums (all_pairs l.profile f config column) shown (counted.sums_are f holds) below ∙ ap (map (whole_node_of l.profile f config column)) keys in
+      λ i. facts_text h ++ showing_line h.unit h.total (whole.shown_flat f holds i) ++ table_heading ++ nodes_text h.unit h.total (pos 0) (nodes i) where
+        marked : (ks : List Key) (n : ℕ) → n < length ks → get_or (map (λ key. is_own_key l.profile f config column (key_written l.profile key)) ks) n false ≡ is_own_key l.profile f config column (written_key l.profile ks n)
+        marked [] n within = absurd (omega (arith, within))
+        marked (k ∷ ks) zero within = refl
+        marked (k ∷ ks) (suc n) within = marked ks n (omega (arith, within))
+
+        filtered : (order : List ℕ) → All (λ n. n < length c.sums.names) order
+            → map (written_key l.profile c.sums.names) (filter (λ n. get_or (map (λ key. is_own_key l.profile f config column (key_written l.profile key)) c.sums.names) n false) order)
+            ≡ filter (is_own_key l.profile f config column) (map (written_key l.profile c.sums.names) order)
+        filtered [] all = refl
+        filtered (n ∷ order) all =
+            let rest = filtered order (All-tail (λ m. m < length c.sums.names) n order all) in
+            (λ i. map (written_key l.profile c.sums.names) (cond (marked c.sums.names n (All-head (λ m. m < length c.sums.names) n order all) i)
+            (n ∷ filter (λ m. get_or (map (λ key. is_own_key l.profile f config column (key_written l.profile key)) c.sums.names) m false) order)
+            (filter (λ m. get_or (map (λ key. is_own_key l.profile f config column (key_written l.profile key)) c.sums.names) m false) order)))
+            ∙ elim (is_own_key l.profile f config column (written_key l.profile c.sums.names n)) as (λ b.
+            map (written_key l.profile c.sums.names) (cond b (n ∷ filter (λ m. get_or (map (λ key. is_own_key l.profile f config column (key_written l.profile key)) c.sums.names) m false) order)
+            (filter (λ m. get_or (map (λ key. is_own_key l.profile f config column (key_written l.profile key)) c.sums.names) m false) order))
+            ≡ cond b (written_key l.profile c.sums.names n ∷ filter (is_own_key l.profile f config column) (map (written_key l.profile c.sums.names) order)) (filter (is_own_key l.profile f config column) (map (written_key l.profile c.sums.names) order))) [
+              | true ↦ ap (λ r. written_key l.profile c.sums.names n ∷ r) rest
+              | false ↦ rest
+            ]
+
+-- fewer flats come to no more
+fewer : (t : ℕ → Bool) (size : ℕ → ℕ) (order : List ℕ) → sum_by size (filter t order) ≤ sum_by size order
+fewer t size [] = omega arith
+fewer t size (n ∷ order) =
+    elim (t n) as (λ b. sum_by size (cond b (n ∷ filter t order) (filter t order)) ≤ sum_by size (n ∷ order)) [
+      | true ↦ omega (arith, fewer t size order, sum_by-cons size n order, sum_by-cons size n (filter t order))
+      | false ↦ omega (arith, fewer t size order, sum_by-cons size n order)
+    ]
+
+-- those that are found can be shown
+pub found_fits : (l : Loaded) (v : Verdicts) (config : Config) (column : Option ℕ) (c : Counted) (t : Ranked) (test : ℕ → Bool) (shown : List ℕ)
+    → IsCountedOf l v config column c → IsWholeRanking l v config column c t → shown ≡ filter test t.order → CanShow l.profile c.sums shown
+found_fits l v config column c t test shown counted whole is = record {
+  keys = counted.of_profile;
+  fits = counted.fits;
+  below = subst (λ ns. All (λ n. n < length c.sums.names) ns) (sym is) (All-filter test (λ n. n < length c.sums.names) t.order whole.below);
+  small = omega (arith, whole.small, ap (sum_by (λ n. nat_abs (get_or c.sums.flat n (pos 0)))) is, fewer test (λ n. nat_abs (get_or c.sums.flat n (pos 0))) t.order);
+}

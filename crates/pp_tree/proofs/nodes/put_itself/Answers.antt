@@ -1,0 +1,29 @@
+use Rattle.std.proofs.Common.{pos, get_or, w64, FitsSigned, ap, rules}
+use Rattle.std.proofs.lemmas.Int.{to_z-of_z}
+use Rattle.pp_base.proofs.TextLemmas.{joined}
+use Rattle.pp_units.specs.Rows.{columns_text}
+use Rattle.pp_units.specs.Shown.{shown}
+use Rattle.pp_grain.specs.Keys.{key_written}
+use Rattle.pp_grain.specs.Naming.{name_text}
+use Rattle.pp_count.specs.Table.{written_key}
+use Rattle.pp_top.proofs.CallerLemmas.{put_is}
+use Rattle.pp_top.proofs.NameLemmas.{name_is_key, name_written}
+use Rattle.pp_tree.specs.Nodes.{node_gap, line_end}
+use Rattle.pp_tree.proofs.nodes.put_itself.Goals as goal
+
+pub put_name-requires : goal.put_name-requires
+put_name-requires c = name_is_key _ c.args.table.now.sums.now.names c.args.number c.key.result c.requires.walk.keys c.key.ensures
+
+pub returns : goal.returns
+returns c =
+    let flat : FitsSigned w64 (get_or c.as_slice.result.now c.args.number (pos 0)) = search rules in
+    let cum : FitsSigned w64 (get_or c.as_slice-2.result.now c.args.number (pos 0)) = search rules in
+    joined c.put_name.result c.args.out.now c.put_columns.new.out c.put_gap.new.out c.put_name.new.out
+    (columns_text (shown c.args.table.now.head.now.unit) c.args.table.now.head.now.total (get_or c.args.table.now.sums.now.flat c.args.number (pos 0)) c.args.sum (get_or c.args.table.now.sums.now.cum c.args.number (pos 0)))
+    node_gap (line_end (name_text (written_key c.args.table.now.p.now c.args.table.now.sums.now.names c.args.number)))
+    (rw (to_z-of_z w64 c.args.sum c.ranges.sum, to_z-of_z w64 (get_or c.as_slice.result.now c.args.number (pos 0)) flat, to_z-of_z w64 (get_or c.as_slice-2.result.now c.args.number (pos 0)) cum, c.as_slice.ensures, c.as_slice-2.ensures) at c.in_ok-put_columns.ensures)
+    c.in_ok-put_gap.ensures
+    (put_is c.put_name.result c.put_name.new.out c.put_gap.new.out
+    (line_end (name_text (key_written c.args.table.now.p.now c.key.result)))
+    (line_end (name_text (written_key c.args.table.now.p.now c.args.table.now.sums.now.names c.args.number)))
+    (ap (λ k. line_end (name_text k)) (name_written c.args.table.now.p.now c.args.table.now.sums.now.names c.args.number c.key.result c.key.ensures)) c.put_name.ensures)

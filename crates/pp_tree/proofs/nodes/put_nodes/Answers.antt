@@ -1,0 +1,29 @@
+use Rattle.std.proofs.Common.{◌≡◌, ℕ, ℤ, List, ◌+ℤ◌, pos, ap, ◌∙◌, w64, to_z, of_z, get_or}
+use Rattle.pp_units.specs.Shown.{shown}
+use Rattle.pp_top.proofs.Running.{next_fits, next_sum, summing_more, putting_more}
+use Rattle.pp_tree.specs.Nodes.{Node, node_text}
+use Rattle.pp_tree.specs.Ends.{node_at}
+use Rattle.pp_tree.proofs.nodes.put_nodes.Goals as goal
+
+pub overflow_add-sum : goal.overflow_add-sum
+overflow_add-sum c =
+    rw c.as_slice.ensures
+    (next_fits (λ n. get_or c.args.table.now.sums.now.flat n (pos 0)) c.args.order.now c.loop-number.number-index (to_z w64 c.loop-number.sum-bits) 0 c.loop-number-test.true
+    c.loop-number.invariant.summing c.requires.show.small)
+
+pub loop-number-preserved : goal.loop-number-preserved
+loop-number-preserved c =
+    let flats : List ℤ = c.args.table.now.sums.now.flat in
+    let order : List ℕ = c.args.order.now in
+    let i : ℕ = c.loop-number.number-index in
+    let sum : ℤ = to_z w64 c.loop-number.sum-bits in
+    let next : ℤ = to_z w64 (of_z w64 (sum +ℤ to_z w64 (of_z w64 (get_or c.as_slice.result.now (get_or order i 0) (pos 0))))) in
+    let is : next ≡ sum +ℤ get_or flats (get_or order i 0) (pos 0) =
+    ap (λ fs. to_z w64 (of_z w64 (sum +ℤ to_z w64 (of_z w64 (get_or fs (get_or order i 0) (pos 0)))))) c.as_slice.ensures
+    ∙ next_sum (λ n. get_or flats n (pos 0)) order i sum 0 c.loop-number-test.true c.loop-number.invariant.summing c.requires.show.small in
+    record {
+      summing = rw is (summing_more (λ n. get_or flats n (pos 0)) order i sum 0 c.loop-number-test.true c.loop-number.invariant.summing);
+      putting = λ pairs shows.
+          putting_more (λ (node : Node). node.row.flat) (node_text (shown c.args.table.now.head.now.unit) c.args.table.now.head.now.total) (node_at c.args.table.now.p.now c.args.table.now.sums.now pairs)
+          order c.args.out.now i sum next c.loop-number.out c.put_node.new.out 0 c.loop-number-test.true is (c.loop-number.invariant.putting pairs shows) (c.in_ok-put_node.ensures pairs shows);
+    }

@@ -1,0 +1,13 @@
+use Rattle.std.proofs.Common.{All}
+use Rattle.pp_model.specs.Finders.{Finder}
+use Rattle.pp_grain.specs.Keys.{IsKeyOf}
+use Rattle.pp_stack.specs.Filters.{AreVerdicts}
+use Rattle.pp_tree.proofs.Marking.{AddedTo}
+use Rattle.pp_tree.proofs.own.add_stack.Given as goal
+
+-- the keys of the frames so far are added
+abbrev pub invariant-loop-place : goal.invariant-loop-place
+invariant-loop-place l = record {
+  of_profile : All (IsKeyOf l.l.profile) l.initial.keys → All (IsKeyOf l.l.profile) l.keys;
+  found : (find : Finder) → AreVerdicts l.l.profile l.own find → AddedTo l.l.profile l.config find l.stack l.initial.keys l.place l.keys;
+}

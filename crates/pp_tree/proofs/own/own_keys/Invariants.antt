@@ -1,0 +1,15 @@
+use Rattle.std.proofs.Common.{All}
+use Rattle.pp_model.specs.Finders.{Finder, Finders, HoldsFinders}
+use Rattle.pp_grain.specs.Keys.{IsKeyOf}
+use Rattle.pp_stack.specs.Filters.{AreVerdicts}
+use Rattle.pp_tree.specs.Found.{has_own_number}
+use Rattle.pp_tree.proofs.Marking.{GatheredTo}
+use Rattle.pp_tree.proofs.own.own_keys.Given as goal
+
+-- the keys of the samples so far are gathered
+abbrev pub invariant-loop-number : goal.invariant-loop-number
+invariant-loop-number l = record {
+  of_profile : All (IsKeyOf l.l.profile) l.keys;
+  found : (f : Finders) (find : Finder) → HoldsFinders l.l l.v f → AreVerdicts l.l.profile l.own find
+      → GatheredTo (has_own_number l.l.profile f l.config l.column find) l.l.profile l.kept l.number-index l.keys;
+}
