@@ -1,0 +1,51 @@
+use Rattle.std.proofs.Common.{◌≡◌, ◌<◌, ◌^◌, ◌++◌, List, [], sym, ap, subst, ◌∙◌}
+use Rattle.std.specs.List.{AllByRecursion}
+use Rattle.pp_model.specs.declared.profile.Location.{Location}
+use Rattle.pp_model.specs.declared.profile.Mapping.{Mapping}
+use Rattle.pp_model.specs.declared.profile.Sample.{Sample}
+use Rattle.pp_model.specs.declared.profile.Profile.{Profile}
+use Rattle.pp_model.specs.Rules.{NoRuleFails}
+use Rattle.pp_count.specs.Counts.{samples_at}
+use Rattle.pp_dump.specs.Places.{ArePlaces, IsCutSample, AddsSamples, with_cut}
+use Rattle.pp_dump.proofs.CutValid.{own_places, cut_valid}
+use Rattle.pp_dump.proofs.saved.cut_profile.Goals as goal
+
+-- the locations of the profile are places of it
+pub cut_samples-requires-clause-places : goal.cut_samples-requires-clause-places
+cut_samples-requires-clause-places c =
+    subst (λ (locations : List Location). ArePlaces c.args.l.now.profile locations) (sym c.in_ok-places_of.ensures)
+    (subst (λ (p : Profile). ArePlaces p c.get-p.result.now.location) c.get-p.ensures.same
+    (own_places c.get-p.result.now c.get-p.ensures.valid c.get-p.ensures.compact))
+
+-- what is merged alone keeps the table rules
+pub claim-requires : goal.claim-requires
+claim-requires c =
+    let p = c.get-p.result.now in
+    let adds = c.in_ok-cut_samples.ensures in
+    let new = c.cut_samples.new.cut in
+    let same = c.get-p.ensures.same in
+    subst NoRuleFails (sym c.in_ok-q.ensures.same)
+    (cut_valid p new.samples new.places.locations c.get-p.ensures.valid
+    (subst (λ (q : Profile). ArePlaces q new.places.locations) (sym same) adds.places)
+    (subst (λ (q : Profile). AllByRecursion (IsCutSample q new.places.locations) new.samples) (sym same)
+    (subst (AllByRecursion (IsCutSample c.args.l.now.profile new.places.locations)) (sym (adds.is ∙ ap (λ (samples : List Sample). samples ++ adds.added) c.new.ensures)) adds.each)))
+
+pub returns : goal.returns
+returns c =
+    let new = c.cut_samples.new.cut in
+    let same = c.get-p.ensures.same in
+    let l = c.args.l.now in
+    let v = c.args.v.now in
+    let numbered = samples_at l.profile c.args.kept.now in
+    record {
+      samples = new.samples;
+      locations = new.places.locations;
+      is = c.claim.ensures ∙ c.in_ok-q.ensures.same ∙ ap (λ (p : Profile). with_cut p new.samples new.places.locations) same;
+      adds =
+          subst (λ (samples : List Sample). AddsSamples l v numbered samples l.profile.location new.samples new.places.locations) c.new.ensures
+          (subst (λ (locations : List Location). AddsSamples l v numbered c.new.result locations new.samples new.places.locations)
+          (c.in_ok-places_of.ensures ∙ ap (λ (p : Profile). p.location) same) c.in_ok-cut_samples.ensures);
+      valid = subst NoRuleFails same c.get-p.ensures.valid;
+      few = c.in_ok-q.ensures.few;
+      starts = subst (λ (p : Profile). AllByRecursion (λ (m : Mapping). m.start < 2 ^ 64) p.mapping) same c.in_ok-q.ensures.starts;
+    }

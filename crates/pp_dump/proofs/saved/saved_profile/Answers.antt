@@ -1,0 +1,31 @@
+use Rattle.std.proofs.Common.{◌≡◌, [], sym, ap, subst, ◌∙◌}
+use Rattle.pp_model.specs.declared.profile.Profile.{Profile}
+use Rattle.pp_model.specs.Rules.{NoRuleFails}
+use Rattle.pp_merge.specs.Merge.{contents, merged}
+use Rattle.pp_merge.specs.Written.{written}
+use Rattle.pp_merge.proofs.SettledLemmas.{settled_contents}
+use Rattle.pp_merge.proofs.WrittenAgain.{contents_again}
+use Rattle.pp_dump.specs.Places.{with_cut}
+use Rattle.pp_dump.proofs.CutContents.{contents_saved, starts_of}
+use Rattle.pp_dump.proofs.saved.saved_profile.Goals as goal
+
+-- what was cut is merged alone
+pub returns-clause-saved : goal.returns-clause-saved
+returns-clause-saved c f config holds kept =
+    let is = c.in_ok-cut.ensures in
+    c.in_ok-q.ensures ∙ ap (λ (p : Profile). merged p []) is.is
+    ∙ ap written
+    (contents_saved c.args.l.now c.args.v.now f config c.as_slice.result.now is.samples is.locations is.valid holds.found (c.as_slice.ensures ∙ kept) is.adds)
+
+-- and what is merged alone stays as it is
+pub returns-clause-again : goal.returns-clause-again
+returns-clause-again c =
+    let is = c.in_ok-cut.ensures in
+    let cut = with_cut c.args.l.now.profile is.samples is.locations in
+    let merge : c.in_ok-q.q ≡ merged cut [] = c.in_ok-q.ensures ∙ ap (λ (p : Profile). merged p []) is.is in
+    subst (λ (q : Profile). merged q [] ≡ q) (sym merge)
+    (ap written (contents_again (contents cut []) (settled_contents cut [] (starts_of c.args.l.now.profile is.samples is.locations is.starts))))
+
+-- what is compact keeps the table rules
+pub returns-clause-valid : goal.returns-clause-valid
+returns-clause-valid c = subst NoRuleFails c.get-valid.ensures.same c.get-valid.ensures.valid

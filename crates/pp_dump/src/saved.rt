@@ -1,0 +1,105 @@
+//! The profile that is saved.
+ghost use Rattle.std.specs.Prelude.{◌≡◌, ◌<◌, ◌^◌, [], length, IfOk};
+ghost use Rattle.std.specs.List.{AllByRecursion};
+ghost use Rattle.pp_model.specs.declared.config.Config.{Config};
+ghost use Rattle.pp_model.specs.Conditions.{HasVerdicts};
+ghost use Rattle.pp_model.specs.Finders.{Finders};
+ghost use Rattle.pp_model.specs.Rules.{NoRuleFails};
+ghost use Rattle.pp_merge.specs.Merge.{merged};
+ghost use Rattle.pp_count.specs.Counts.{samples_at};
+ghost use Rattle.pp_count.specs.Seeing.{HoldsFilters, filtered_from};
+ghost use Rattle.pp_dump.specs.Saved.{saved};
+ghost use Rattle.pp_dump.specs.Places.{with_cut, ArePlaces, IsCutOf};
+
+use crate::copying::{same_locations, with_cut};
+use crate::cutting::{Cut, cut_samples};
+use crate::places::Places;
+use pp_base::{List, Memory};
+use pp_count::Counted;
+use pp_merge::merge;
+use pp_model::{Compact, Loaded, Profile, Valid, Verdicts};
+use std::alloc::Global;
+
+/// What the filters leave of the profile, merged alone: the samples with the frames and labels that they leave and with all
+/// their values, and the locations with the lines that are left. It has no patterns of its own, and the rest of the header
+/// stays. Saved again without filters it stays as it is. `Err` is want of memory.
+pub fn saved_profile(
+    alloc: Global,
+    l: &Loaded,
+    v: &Verdicts,
+    c: &Counted,
+) -> Result<Compact, Memory>
+    requires { HasVerdicts l.now.profile v.now }
+    ensures saved { (f : Finders) → (config : Config) → HoldsFilters l.now v.now config f →
+        c.now.kept ≡ filtered_from l.now.profile f config 0 l.now.profile.sample →
+        IfOk result (λ q. q ≡ saved l.now.profile f config) }
+    ensures valid { IfOk result (λ q. NoRuleFails q) }
+    ensures again { IfOk result (λ q. merged q [] ≡ q) }
+{
+    let cut = cut_profile(alloc, l, v, c.kept.as_slice())?;
+    let q = merge_alone(alloc, cut)?;
+    // What is merged keeps the table rules.
+    let _valid = q.get();
+    Ok(q)
+}
+
+// The profile that is merged alone.
+fn cut_profile(alloc: Global, l: &Loaded, v: &Verdicts, kept: &[u32]) -> Result<Valid, Memory>
+    requires { HasVerdicts l.now.profile v.now }
+    ensures { IfOk result (λ q. IsCutOf l.now v.now kept.now q) }
+{
+    let p = l.profile.get();
+    let mut cut = Cut {
+        samples: List::new(alloc),
+        places: places_of(alloc, p)?,
+    };
+    cut_samples(alloc, l, v, kept, &mut cut)?;
+    let q = profile_with(alloc, p, cut)?;
+    Ok(Valid::claim(q))
+}
+
+// The profile with these samples and locations. No memory holds 2^32 samples.
+fn profile_with(alloc: Global, p: &Profile, cut: Cut) -> Result<Profile, Memory>
+    ensures same { IfOk result (λ q. q ≡ with_cut p.now cut.samples cut.places.locations) }
+    ensures few { IfOk result (λ q. length cut.samples < 2 ^ 32) }
+    ensures starts { IfOk result (λ q. AllByRecursion (λ m. m.start < 2 ^ 64) p.now.mapping) }
+{
+    let Cut { samples, places } = cut;
+    let Places {
+        locations,
+        hints: _hints,
+        lines: _lines,
+    } = places;
+    if samples.len() > u32::MAX as usize {
+        return Err(Memory);
+    }
+    with_cut(alloc, p, samples, locations)
+}
+
+// The locations of the profile, none of which is cut.
+fn places_of(alloc: Global, p: &Profile) -> Result<Places, Memory>
+    ensures { IfOk result (λ places. places.locations ≡ p.now.location) }
+{
+    let mut hints = List::new(alloc);
+    for _ in 0..p.location.len() {
+        hints.push(0)?;
+    }
+    Ok(Places {
+        locations: same_locations(alloc, p.location.as_slice())?,
+        hints,
+        lines: List::new(alloc),
+    })
+}
+
+// Nothing is refused but for want of memory: one profile agrees with itself, and no sum is above that of the loaded profile.
+fn merge_alone(alloc: Global, p: Valid) -> Result<Compact, Memory>
+    requires { length p.sample < 2 ^ 32 }
+    ensures { IfOk result (λ q. q ≡ merged p []) }
+{
+    let mut list = List::new(alloc);
+    list.push(p)?;
+    match merge(alloc, list) {
+        Ok(q) => Ok(q),
+        Err(_) => Err(Memory),
+    }
+}

@@ -1,0 +1,16 @@
+//! What a report over the samples of a profile is made of.
+
+use pp_model::{Config, Loaded, Verdicts};
+use pp_units::Head;
+
+/// A profile with what a report asks of it.
+#[derive(Clone, Copy)]
+pub struct Scope<'a> {
+    pub l: &'a Loaded,
+    pub v: &'a Verdicts,
+    pub config: &'a Config,
+    /// The column of values that is shown.
+    pub column: Option<u32>,
+    /// How values are printed.
+    pub head: &'a Head,
+}
