@@ -1,0 +1,7 @@
+pub mod Amounts
+pub mod Ledgers
+pub mod Listing
+pub mod Paths
+pub mod Routines
+pub mod SourceText
+pub mod Tally

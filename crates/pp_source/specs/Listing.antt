@@ -1,0 +1,90 @@
+-- A list report: which files it reads in which order, and its text.
+use Rattle.std.specs.Prelude.{ℕ, List, [], ◌∷◌, ◌++◌, Option, Some, None, Result, Ok, Err, if◌then◌else◌}
+use Rattle.pp_desk.specs.declared.file_content.FileContent.{FileContent}
+use Rattle.pp_desk.specs.declared.file_content.FileContent.TheVariants as contents
+use Rattle.pp_desk.specs.Script.{Script, Give, ◌>>=◌, read_file}
+use Rattle.pp_model.specs.declared.config.Config.{Config}
+use Rattle.pp_model.specs.declared.profile.Profile.{Profile}
+use Rattle.pp_model.specs.Finders.{Finders}
+use Rattle.pp_model.specs.Frames.{Written}
+use Rattle.pp_units.specs.Head.{Facts}
+use Rattle.pp_count.specs.Sums.{Seen}
+use Rattle.pp_count.specs.Counted.{has_own_match, report_frames}
+use Rattle.pp_source.specs.declared.refusal.ListRefusal.{ListRefusal}
+use Rattle.pp_source.specs.declared.refusal.ListRefusal.TheVariants as refusals
+use Rattle.pp_source.specs.declared.source.Source.{Source}
+use Rattle.pp_source.specs.declared.source.Source.TheVariants.{NoName, NotFound, TooLong, Whole}
+use Rattle.pp_source.specs.declared.source.TheConstants.{SOURCE_LIMIT}
+use Rattle.pp_source.specs.Paths.{paths_to_try}
+use Rattle.pp_source.specs.Routines.{found_lines, runs, is_same_file}
+use Rattle.pp_source.specs.SourceText.{total_line, file_text}
+
+-- the source that a read has found, if any
+abbrev pub source_in : FileContent → Option Source
+source_in contents.Missing = None
+source_in contents.TooLong = Some TooLong
+source_in (contents.Whole bytes) = Some (Whole bytes)
+
+-- what was found, and else what is done next
+abbrev pub or_next : Script Source → Option Source → Script Source
+or_next next (Some source) = Give source
+or_next next None = next
+
+-- Reads the first of these paths at which there is a file.
+unfoldable pub first_present : List (List ℕ) → Script Source
+first_present [] = Give NotFound
+first_present (path ∷ paths) = do
+  content ← read_file path SOURCE_LIMIT
+  or_next (first_present paths) (source_in content)
+
+-- Looks for the source of a file text; nothing is read for an empty one.
+unfoldable pub source_of : Config → List ℕ → Script Source
+source_of config [] = Give NoName
+source_of config (b ∷ file) =
+    first_present (paths_to_try config.source_path config.trim_path (b ∷ file))
+
+-- the file text of lines that have the same
+abbrev pub file_of : List Written → List ℕ
+file_of [] = []
+file_of (k ∷ lines) = k.file
+
+-- The text with that of these lines, file by file: each source is read before its part is written.
+unfoldable pub put_files : Config → List (Seen Written) → Facts → List ℕ → List (List Written)
+    → Script (List ℕ)
+put_files config samples h before [] = Give before
+put_files config samples h before (lines ∷ files) = do
+  source ← source_of config (file_of lines)
+  put_files config samples h (before ++ file_text samples h source lines) files
+
+-- The report of these lines.
+unfoldable pub list_lines : Config → List (Seen Written) → Facts → List Written → Script (List ℕ)
+list_lines config samples h lines =
+    put_files config samples h (total_line h) (runs is_same_file lines)
+
+-- the report, where a function is found
+unfoldable pub list_found : Config → List (Seen Written) → Facts → List Written
+    → Script (Option (List ℕ))
+list_found config samples h lines = do
+  text ← list_lines config samples h lines
+  Give (Some text)
+
+-- The list report: its text, after the sources of the lines that the own pattern finds were read. Where
+-- it finds no function nothing is read, and there is no text.
+abbrev pub list_report : Profile → Finders → Config → Option ℕ → Facts → Script (Option (List ℕ))
+list_report p f config column h =
+    if has_own_match p f config column
+    then list_found config (report_frames p f config column) h
+    (found_lines f (report_frames p f config column))
+    else Give None
+
+-- a text that a report is to be added to, after it, and how the report ended
+abbrev pub with_report : List ℕ → Option (List ℕ) → List ℕ × Result (Unit {0}) ListRefusal
+with_report before (Some text) = (before ++ text, Ok tt)
+with_report before None = (before, Err refusals.NoMatch)
+
+-- Adds a report to a text.
+unfoldable pub added_report : List ℕ → Script (Option (List ℕ))
+    → Script (List ℕ × Result (Unit {0}) ListRefusal)
+added_report before script = do
+  report ← script
+  Give (with_report before report)

@@ -1,0 +1,71 @@
+-- Where the source of a file text is looked for.
+use Rattle.std.specs.Prelude.{ℕ, Bool, true, false, ◌==◌, List, [], ◌∷◌, ◌++◌, codes, map, Option, Some, None, if◌then◌else◌}
+use Rattle.std.specs.List.{filter, slice_split}
+
+-- a colon parts the entries of a list of paths
+abbrev pub is_colon : ℕ → Bool
+is_colon b = b == 58
+
+-- a slash parts the names of a path
+abbrev pub is_slash : ℕ → Bool
+is_slash b = b == 47
+
+-- whether something stands in the text
+abbrev pub is_given : List ℕ → Bool
+is_given [] = false
+is_given (_ ∷ _) = true
+
+-- the entries of a list of paths, without those that are empty
+abbrev pub entries : List ℕ → List (List ℕ)
+entries text = filter is_given (slice_split is_colon text)
+
+-- what stands after the front, where the text begins with it
+abbrev pub after_front : List ℕ → List ℕ → Option (List ℕ)
+after_front [] text = Some text
+after_front (a ∷ front) [] = None
+after_front (a ∷ front) (b ∷ text) = if a == b then after_front front text else None
+
+-- the first, and where there is none the second
+abbrev pub first_else : Option (List ℕ) → Option (List ℕ) → Option (List ℕ)
+first_else (Some text) other = Some text
+first_else None other = other
+
+-- what the first of the folders that the file lies in leaves of the file's path, if it lies in one
+abbrev pub trimmed : List ℕ → List (List ℕ) → Option (List ℕ)
+trimmed file [] = None
+trimmed file (folder ∷ folders) =
+    first_else (after_front (folder ++ codes "/") file) (trimmed file folders)
+
+-- a path from the root begins with a slash
+abbrev pub is_absolute : List ℕ → Bool
+is_absolute [] = false
+is_absolute (b ∷ _) = is_slash b
+
+-- the path without the slashes at its front
+abbrev pub from_name : List ℕ → List ℕ
+from_name [] = []
+from_name (b ∷ path) = if is_slash b then from_name path else b ∷ path
+
+-- the path in a folder
+abbrev pub in_folder : List ℕ → List ℕ → List ℕ
+in_folder path folder = folder ++ codes "/" ++ path
+
+-- the path in each of the folders, in order, and this instead where there is none
+abbrev pub under : List (List ℕ) → List ℕ → List (List ℕ) → List (List ℕ)
+under [] path alone = alone
+under (folder ∷ folders) path alone = map (in_folder path) (folder ∷ folders)
+
+-- the paths of a file of which the front was taken off, or else of the whole file
+abbrev pub paths_of : List (List ℕ) → List ℕ → Option (List ℕ) → List (List ℕ)
+paths_of folders file (Some rest) = under folders (from_name rest) (from_name rest ∷ [])
+paths_of folders file None =
+    if is_absolute file then file ∷ under folders (from_name file) []
+    else under folders (from_name file) (from_name file ∷ [])
+
+-- The paths at which a file's source is looked for, in order. The first folder of trim_path that the file lies in is
+-- taken off. A file from the root that lies in none is looked for as it is. What is left, without the slashes at its
+-- front, is looked for in each folder of source_path; where source_path has no folder, alone, but for a file from the
+-- root of which nothing was taken off.
+abbrev pub paths_to_try : List ℕ → List ℕ → List ℕ → List (List ℕ)
+paths_to_try source_path trim_path file =
+    paths_of (entries source_path) file (trimmed file (entries trim_path))

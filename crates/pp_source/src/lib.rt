@@ -1,0 +1,20 @@
+//! The list report: the lines of source of the functions that a pattern finds, with what the samples come to in each.
+#![tactic(auto)]
+
+mod amounts;
+mod ledger;
+mod lines;
+mod listing;
+mod looking;
+mod paths;
+mod refusal;
+mod routine;
+mod rows;
+mod runs;
+mod source;
+mod tallies;
+mod tally;
+
+pub use listing::write_list;
+pub use refusal::ListRefusal;
+pub use source::SOURCE_LIMIT;

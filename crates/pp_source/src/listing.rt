@@ -1,0 +1,140 @@
+//! The list report.
+ghost use Rattle.std.specs.Prelude.{◌≡◌, ◌++◌, ◌<◌, ◌^◌, List as Seq, All, IfOk, OnErr};
+ghost use Rattle.pp_desk.specs.Went.{Went, beside};
+ghost use Rattle.pp_model.specs.Finders.{Finders};
+ghost use Rattle.pp_model.specs.Frames.{Written};
+ghost use Rattle.pp_units.specs.Head.{facts};
+ghost use Rattle.pp_count.specs.Counted.{CanCount, IsCountedOf};
+ghost use Rattle.pp_count.specs.Sums.{Seen};
+ghost use Rattle.pp_count.specs.Seeing.{HoldsFilters};
+ghost use Rattle.pp_source.specs.Ledgers.{IsLedgerOf, IsLineOf, lines_texts};
+ghost use Rattle.pp_source.specs.Listing.{added_report, file_of, list_lines, list_report};
+ghost use Rattle.pp_source.specs.SourceText.{total_line};
+
+use crate::ledger::ledger_of;
+use crate::lines::{FoundLine, found_lines};
+use crate::looking::source_of;
+use crate::refusal::ListRefusal;
+use crate::routine::write_file;
+use crate::rows::Listing;
+use crate::runs::cut_file;
+use pp_base::{Memory, Text};
+use pp_count::Counted;
+use pp_desk::{Desk, Stop};
+use pp_model::{Config, Loaded, Verdicts};
+use pp_units::{Head, put_value};
+use std::alloc::Global;
+
+/// Appends the list report: for each function and file that the report's own pattern finds, its sums and the lines of
+/// its source about those with frames. The sources are read on the way, one after the other. `c` is what `count` gives.
+///
+/// `NoMatch` says that the pattern finds no function; then nothing is read. After it and after a `Stop` `out` is as it
+/// was.
+#[tactic(auto, using(pp_desk::proofs::Going::going))]
+pub fn write_list<D: Desk>(
+    alloc: Global,
+    l: &Loaded,
+    v: &Verdicts,
+    c: &Counted,
+    config: &Config,
+    column: Option<u32>,
+    head: &Head,
+    desk: &mut D,
+    out: &mut Text,
+) -> Result<Result<(), ListRefusal>, Stop>
+    requires can { CanCount l.now.profile v.now config.now column }
+    requires counted { IsCountedOf l.now v.now config.now column c.now }
+    requires total { head.now.total < 2 ^ 63 }
+    ensures went { (f : Finders) → HoldsFilters l.now v.now config.now f →
+        Went (D.world desk.old) (D.world desk.new)
+        (added_report out.old (list_report l.now.profile f config.now column (facts head.now)))
+        (beside out.new result) }
+    ensures stopped { OnErr result (out.new ≡ out.old) }
+{
+    let Some(report) = list_report(alloc, l, v, c, config, column, head, desk)? else {
+        return Ok(Err(ListRefusal::NoMatch));
+    };
+    out.append(report)?;
+    Ok(Ok(()))
+}
+
+// The whole report, and `None` where the own pattern finds no function.
+#[tactic(auto, using(pp_desk::proofs::Going::going))]
+fn list_report<D: Desk>(
+    alloc: Global,
+    l: &Loaded,
+    v: &Verdicts,
+    c: &Counted,
+    config: &Config,
+    column: Option<u32>,
+    head: &Head,
+    desk: &mut D,
+) -> Result<Option<Text>, Stop>
+    requires can { CanCount l.now.profile v.now config.now column }
+    requires counted { IsCountedOf l.now v.now config.now column c.now }
+    requires total { head.now.total < 2 ^ 63 }
+    ensures { (f : Finders) → HoldsFilters l.now v.now config.now f →
+        Went (D.world desk.old) (D.world desk.new)
+        (list_report l.now.profile f config.now column (facts head.now)) result }
+{
+    let ledger = ledger_of(alloc, l, v, c, config, column)?;
+    let lines = found_lines(alloc, l, v, &ledger)?;
+    if lines.is_empty() {
+        return Ok(None);
+    }
+    let listing = Listing {
+        l,
+        head,
+        ledger: &ledger,
+    };
+    let text = list_lines(alloc, &listing, config, &lines, desk)?;
+    Ok(Some(text))
+}
+
+// The report of these lines.
+#[tactic(auto, using(pp_desk::proofs::Going::going))]
+fn list_lines<D: Desk>(
+    alloc: Global,
+    listing: &Listing<'_>,
+    config: &Config,
+    lines: &[FoundLine<'_>],
+    desk: &mut D,
+) -> Result<Text, Stop>
+    requires lines { All (IsLineOf listing.now.l.now.profile) lines.now }
+    requires total { listing.now.head.now.total < 2 ^ 63 }
+    ensures { (samples : Seq (Seen Written)) →
+        IsLedgerOf listing.now.l.now.profile samples listing.now.ledger.now →
+        Went (D.world desk.old) (D.world desk.new) (list_lines config.now samples
+        (facts listing.now.head.now) (lines_texts lines.now)) result }
+{
+    let mut text = Text::new(alloc);
+    write_total(listing.head, &mut text)?;
+    let mut start = 0;
+    while start < lines.len() {
+        let (file, _) = cut_file(lines.split_at(start).1);
+        let source = source_of(alloc, config, path_of(file), desk)?;
+        write_file(alloc, listing, &source, file, &mut text)?;
+        start += file.len();
+    }
+    Ok(text)
+}
+
+// The path of the file of these lines.
+fn path_of<'a>(lines: &[FoundLine<'a>]) -> &'a [u8]
+    ensures { result.now ≡ file_of (lines_texts lines.now) }
+{
+    match lines {
+        [] => &[],
+        [line, ..] => line.texts.file,
+    }
+}
+
+// `"Total: %s\n"`
+fn write_total(head: &Head, out: &mut Text) -> Result<(), Memory>
+    requires { head.now.total < 2 ^ 63 }
+    ensures { IfOk result (λ _. out.new ≡ out.old ++ total_line (facts head.now)) }
+{
+    out.extend(b"Total: ")?;
+    put_value(head.total as i64, &head.unit, out)?;
+    out.extend(b"\n")
+}
