@@ -1,0 +1,7 @@
+pub mod Giving
+pub mod KindLemmas
+pub mod StartLemmas
+pub mod CountLemmas
+pub mod JoiningLemmas
+pub mod MadeLemmas
+pub mod ReadLemmas

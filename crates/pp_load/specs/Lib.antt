@@ -1,0 +1,9 @@
+pub mod Steps
+pub mod Generator
+pub mod Decode
+pub mod Combine
+pub mod Reads
+pub mod Joining
+pub mod Sources
+pub mod Load
+pub mod Messages

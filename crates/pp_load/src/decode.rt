@@ -1,0 +1,83 @@
+//! From the bytes of a source to its profile.
+ghost use Rattle.std.specs.Prelude.{◌≡◌, ◌<◌, ◌≤◌, ◌^◌, length, IfOk, IsTrue};
+ghost use Rattle.pp_check.specs.FirstFault.{IsIndexed};
+ghost use Rattle.pp_legacy.specs.Legacy.{is_legacy, legacy};
+ghost use Rattle.pp_tables.specs.Read.{HasAtMost, read};
+ghost use Rattle.pp_load.specs.Steps.{Gives};
+ghost use Rattle.pp_load.specs.Decode.{legacy_given, tables_given, checked, tables_of, decoded};
+
+use crate::refusal::LoadRefusal;
+use pp_check::{CheckRefusal, check};
+use pp_desk::{Halt, Stop};
+use pp_legacy::{LegacyRefusal, is_legacy, read_legacy};
+use pp_model::{Profile, Valid};
+use pp_tables::{ReadRefusal, read_profile};
+use std::alloc::Global;
+
+/// The profile of the source of this number, by its bytes: a CPU profile of gperftools, or a message of profile.proto in which
+/// no table rule fails.
+#[tactic(auto, unfolding(crate::specs::Decode::decoded))]
+pub fn decode(alloc: Global, source: u32, bytes: &[u8]) -> Result<Valid, Halt<LoadRefusal>>
+    requires { length bytes.now < 2 ^ 32 }
+    ensures is { Gives (decoded source bytes.now) result }
+    ensures few { IfOk result (HasAtMost (length bytes.now)) }
+{
+    if is_legacy(bytes) {
+        return decode_legacy(alloc, source, bytes);
+    }
+    decode_tables(alloc, source, bytes)
+}
+
+#[tactic(auto, unfolding(crate::specs::Steps::Gives))]
+fn decode_legacy(alloc: Global, source: u32, bytes: &[u8]) -> Result<Valid, Halt<LoadRefusal>>
+    requires { IsTrue (is_legacy bytes.now) }
+    ensures is { Gives (legacy_given source (legacy bytes.now)) result }
+    ensures few { IfOk result (HasAtMost (length bytes.now)) }
+{
+    match read_legacy(alloc, bytes) {
+        Ok(valid) => Ok(valid),
+        Err(LegacyRefusal::Fault(fault)) => {
+            Err(Halt::Refused(LoadRefusal::Legacy { source, fault }))
+        }
+        Err(LegacyRefusal::Memory) => Err(Halt::Stopped(Stop::Memory)),
+    }
+}
+
+#[tactic(auto, using(crate::proofs::Giving::giving), unfolding(crate::specs::Decode::tables_of))]
+fn decode_tables(alloc: Global, source: u32, bytes: &[u8]) -> Result<Valid, Halt<LoadRefusal>>
+    requires { length bytes.now < 2 ^ 32 }
+    ensures is { Gives (tables_of source bytes.now) result }
+    ensures few { IfOk result (HasAtMost (length bytes.now)) }
+{
+    let profile = read_tables(alloc, source, bytes)?;
+    check_tables(alloc, source, profile)
+}
+
+#[tactic(auto, unfolding(crate::specs::Steps::Gives))]
+fn read_tables(alloc: Global, source: u32, bytes: &[u8]) -> Result<Profile, Halt<LoadRefusal>>
+    ensures is { Gives (tables_given source (read bytes.now)) result }
+    ensures few { IfOk result (HasAtMost (length bytes.now)) }
+{
+    match read_profile(alloc, bytes) {
+        Ok(profile) => Ok(profile),
+        Err(ReadRefusal::Empty) => Err(Halt::Refused(LoadRefusal::Empty { source })),
+        Err(ReadRefusal::Compressed) => Err(Halt::Refused(LoadRefusal::Compressed { source })),
+        Err(ReadRefusal::Wire(fault)) => Err(Halt::Refused(LoadRefusal::Wire { source, fault })),
+        Err(ReadRefusal::Memory) => Err(Halt::Stopped(Stop::Memory)),
+    }
+}
+
+#[tactic(auto, unfolding(crate::specs::Steps::Gives))]
+fn check_tables(alloc: Global, source: u32, profile: Profile) -> Result<Valid, Halt<LoadRefusal>>
+    requires { IsIndexed profile }
+    ensures is { Gives (checked source profile) result }
+    ensures same { IfOk result (λ valid. valid ≡ profile) }
+{
+    match check(alloc, profile) {
+        Ok(valid) => Ok(valid),
+        Err(CheckRefusal::Fault(fault)) => {
+            Err(Halt::Refused(LoadRefusal::Table { source, fault }))
+        }
+        Err(CheckRefusal::Memory) => Err(Halt::Stopped(Stop::Memory)),
+    }
+}

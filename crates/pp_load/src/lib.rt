@@ -1,0 +1,18 @@
+//! Sources and bases become one profile: read in the order of the words, decoded, checked, merged, and subtracted.
+//!
+//! Loading is one stage over a desk. Which files are read, and in which order, is its script; what the bytes come to is a
+//! plain definition beside it. The first refusal ends all, so that no later file is read.
+#![tactic(auto)]
+
+mod combine;
+mod decode;
+mod generator;
+mod loading;
+mod message;
+mod reading;
+mod refusal;
+
+pub use generator::gen_profile;
+pub use loading::load;
+pub use message::refusal_line;
+pub use refusal::LoadRefusal;
