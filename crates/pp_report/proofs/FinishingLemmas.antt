@@ -1,0 +1,158 @@
+-- What the writers of reports ask for, and what they leave.
+use Rattle.std.proofs.Common.{◌≡◌, ℕ, ◌<◌, ◌≤◌, ◌^◌, ◌==◌, Bool, true, false, cond, List, [], ◌++◌, nat_abs, refl, sym, ap, ◌∙◌, subst, arith}
+use Rattle.std.specs.Prelude.{Option, Some, None, Result, Ok, Err, IfOk, OnOk, if◌then◌else◌}
+use Rattle.std.specs.List.{filter, sum_by}
+use Rattle.std.specs.Option.{is_some}
+use Rattle.pp_desk.specs.declared.stop.Stop.{Stop}
+use Rattle.pp_desk.specs.Script.{Script, Give, Make, ◌>>=◌}
+use Rattle.pp_desk.specs.Went.{Went, beside}
+use Rattle.pp_desk.specs.World.{World}
+use Rattle.pp_desk.proofs.Going.{gives, goes_give, stops_first}
+use Rattle.pp_model.specs.declared.config.Config.{Config}
+use Rattle.pp_model.specs.declared.loaded.Loaded.{Loaded}
+use Rattle.pp_model.specs.declared.profile.Profile.{Profile}
+use Rattle.pp_model.specs.declared.profile.Sample.{Sample}
+use Rattle.pp_model.specs.declared.report.Report.{Report}
+use Rattle.pp_model.specs.declared.report.Report.TheVariants as reports
+use Rattle.pp_model.specs.declared.verdicts.Verdicts.{Verdicts}
+use Rattle.pp_model.specs.Conditions.{IsColumnOf}
+use Rattle.pp_model.specs.Finders.{Finders}
+use Rattle.pp_model.specs.Sizes.{IsCountable}
+use Rattle.pp_pattern.specs.Report.{Finds}
+use Rattle.pp_count.specs.declared.counted.Counted.{Counted}
+use Rattle.pp_count.specs.Column.{selected}
+use Rattle.pp_count.specs.Counted.{CanCount, IsCountedOf}
+use Rattle.pp_count.specs.Counts.{is_base, total_by, total_over, total_of, filtered_samples}
+use Rattle.pp_count.specs.Seeing.{HoldsFilters, absolute_all, filtered_stack}
+use Rattle.pp_count.proofs.Kept.{values_fit}
+use Rattle.pp_count.proofs.Totals.{filter_size}
+use Rattle.pp_graph.specs.declared.ranking.Ranked.{Ranked}
+use Rattle.pp_graph.specs.declared.trimming.Trimmed.{Trimmed}
+use Rattle.pp_graph.specs.Trimmed.{IsRankedOf, IsTrimmedOf}
+use Rattle.pp_source.specs.declared.refusal.ListRefusal.{ListRefusal}
+use Rattle.pp_source.specs.Listing.{with_report, added_report}
+use Rattle.pp_dump.specs.Comments.{comments_text}
+use Rattle.pp_top.specs.Top.{CanShow}
+use Rattle.pp_tree.specs.Ends.{CanWalk}
+use Rattle.pp_report.specs.declared.prepared.Counts.{Counts}
+use Rattle.pp_report.specs.declared.refusal.ReportRefusal.{ReportRefusal}
+use Rattle.pp_report.specs.declared.refusal.ReportRefusal.TheVariants.{NoMatch}
+use Rattle.pp_report.specs.Patterns.{report_finders}
+use Rattle.pp_report.specs.Prepared.{Showing, AreCounts, HasCounts}
+use Rattle.pp_report.specs.Reports.{of_found, finish, finish_by, text_by}
+
+-- what a ranking shows can be written
+pub can_show : (l : Loaded) (v : Verdicts) (config : Config) (column : Option ℕ) (limit : ℕ) (c : Counted) (t : Ranked)
+    → IsCountedOf l v config column c → IsRankedOf l v config column limit c t → CanShow l.profile c.sums t.order
+can_show l v config column limit c t counted ranked = record {
+  keys = counted.of_profile;
+  fits = counted.fits;
+  below = ranked.below;
+  small = ranked.small;
+}
+
+-- the graph of a trimmed report can be walked
+pub can_walk : (l : Loaded) (v : Verdicts) (config : Config) (column : Option ℕ) (limit : ℕ) (c : Counted) (t : Trimmed)
+    → IsCountedOf l v config column c → IsTrimmedOf l v config column limit c t → CanWalk l.profile c.sums t.graph
+can_walk l v config column limit c t counted trimmed = record {
+  keys = counted.of_profile;
+  linked = trimmed.linked;
+  nodes = trimmed.nodes;
+}
+
+-- one of two totals
+either_small : (base all : ℕ) → base < 2 ^ 63 → all < 2 ^ 63 → total_by base all < 2 ^ 63
+either_small base all a b = elim (base == 0) as (λ t. cond t all base < 2 ^ 63) [ true ↦ b | false ↦ a ]
+
+over_small : (p : Profile) (config : Config) (column : Option ℕ) (samples : List Sample)
+    → absolute_all column config.divide_by samples < 2 ^ 63 → total_over p config column samples < 2 ^ 63
+over_small p config column samples small =
+    let size : Sample → ℕ = λ s. nat_abs (selected column config.divide_by s) in
+    either_small (absolute_all column config.divide_by (filter (is_base p) samples)) (absolute_all column config.divide_by samples)
+    (omega (arith, small, filter_size size (is_base p) samples)) small
+
+-- a total is below 2^63
+pub total_small : (p : Profile) (f : Finders) (config : Config) (column : Option ℕ) → IsCountable p → IsColumnOf p column
+    → total_of p f config column < 2 ^ 63
+total_small p f config column countable below =
+    let size : Sample → ℕ = λ s. nat_abs (selected column config.divide_by s) in
+    let all = values_fit p column config.divide_by countable below in
+    over_small p config column (if config.relative_percentages then filtered_samples p f config p.sample else p.sample)
+    (elim config.relative_percentages as (λ relative. absolute_all column config.divide_by (cond relative (filtered_samples p f config p.sample) p.sample) < 2 ^ 63) [
+      | true ↦ omega (arith, all, filter_size size (λ s. is_some (filtered_stack p f config s)) p.sample)
+      | false ↦ all
+    ])
+
+pub same_small : (total counted : ℕ) → total ≡ counted → counted < 2 ^ 63 → total < 2 ^ 63
+same_small total counted same small = rw same small
+
+-- what was written into an empty text
+pub made_text : (new old text : List ℕ) → old ≡ [] → new ≡ old ++ text → new ≡ text
+made_text new old text empty is = is ∙ ap (λ front. front ++ text) empty
+
+-- the answer to a list report that was written
+abbrev pub of_ended : List ℕ → Result (Unit {0}) ListRefusal → Result (List ℕ) ReportRefusal
+of_ended out (Ok done) = Ok out
+of_ended out (Err refusal) = Err NoMatch
+
+-- scripts in a row, grouped either way
+scripts_grouped : {A B C : Type 0} (s : Script A) (f : A → Script B) (g : B → Script C) → ((s >>= f) >>= g) ≡ (s >>= (λ x. f x >>= g))
+unfolding ◌>>=◌
+scripts_grouped (Give x) f g = refl
+scripts_grouped (Make step script) f g = λ i. Make step (λ reply. scripts_grouped (script reply) f g i)
+
+-- what a list report comes to, by what was written
+abbrev outcome_by : List ℕ × Result (Unit {0}) ListRefusal → Result (List ℕ) ReportRefusal
+outcome_by written = of_ended written.0 written.1
+
+module _ (script : Script (Option (List ℕ))) where
+  by_report : (report : Option (List ℕ)) → ◌≡◌ {A = Script (Result (List ℕ) ReportRefusal)} (Give (with_report [] report) >>= (λ written. Give (outcome_by written))) (Give (of_found report))
+  unfolding ◌>>=◌
+  by_report None = refl
+  by_report (Some text) = refl
+
+  -- the outcome is that of what is added to an empty text
+  list_is : (added_report [] script >>= (λ written. Give (outcome_by written))) ≡ (script >>= (λ report. Give (of_found report)))
+  unfolding added_report
+  list_is =
+      scripts_grouped script (λ report. Give (with_report [] report)) (λ written. Give (outcome_by written))
+      ∙ ap (λ next. script >>= next) (λ i report. by_report report i)
+
+  module _ (a b : World) (before : List ℕ) (empty : before ≡ []) where
+    -- the list report was stopped
+    pub list_stopped : (s : Stop) → Went a b (added_report before script) (Err s) → Went a b (script >>= (λ report. Give (of_found report))) (Err s)
+    list_stopped s went =
+        subst (λ x. Went a b x (Err s)) list_is
+        (stops_first a b (added_report [] script) (λ written. Give (outcome_by written)) s (subst (λ front. Went a b (added_report front script) (Err s)) empty went))
+
+    -- it was written, or found nothing
+    pub list_written : (out : List ℕ) (ended : Result (Unit {0}) ListRefusal) → Went a b (added_report before script) (Ok (out, ended))
+        → Went a b (script >>= (λ report. Give (of_found report))) (Ok (of_ended out ended))
+    list_written out ended went =
+        subst (λ x. Went a b x (Ok (of_ended out ended))) list_is
+        (goes_give a b (added_report [] script) (λ written. Give (outcome_by written)) (out, ended) (of_ended out ended)
+        (subst (λ front. Went a b (added_report front script) (Ok (out, ended))) empty went) refl)
+
+module _ (finds : Finds) (l : Loaded) (report : Report) (config : Config) where
+  -- a comments report has counted nothing
+  pub finish_comments : (w : World) (s : Showing) (text : List ℕ) → report ≡ reports.Comments → text ≡ comments_text l.profile
+      → Went w w (finish finds l report config s) (Ok (Ok text))
+  unfolding finish text_by
+  finish_comments w s text comments is =
+      subst (λ r. Went {T = Result (List ℕ) ReportRefusal} w w (finish_by l.profile (report_finders finds l r config) config s r) (Ok (Ok text))) (sym comments)
+      (subst (λ t. Went {T = Result (List ℕ) ReportRefusal} w w (Give (Ok (comments_text l.profile))) (Ok (Ok t))) (sym is) (gives w (Ok (comments_text l.profile))))
+
+  -- the total that was counted is below 2^63
+  pub counts_small : (column : Option ℕ) (counts : Counts) → AreCounts finds l report config column counts → counts.counted.total < 2 ^ 63
+  counts_small column counts are =
+      rw (are.are.total_is (report_finders finds l report config) are.holds)
+      (total_small l.profile (report_finders finds l report config) config column are.can.countable are.can.column)
+
+  -- what was counted, where something was
+  pub counts_at : (column : Option ℕ) (all : Option Counts) (counts : Counts) → all ≡ Some counts → HasCounts finds l report config column all
+      → AreCounts finds l report config column counts
+  counts_at column all counts is has = subst (λ c. HasCounts finds l report config column c) is has
+
+  -- nothing is counted for comments alone
+  pub is_comments : (column : Option ℕ) (all : Option Counts) → all ≡ None → HasCounts finds l report config column all → report ≡ reports.Comments
+  is_comments column all is has = subst (λ c. HasCounts finds l report config column c) is has

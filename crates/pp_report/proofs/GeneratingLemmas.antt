@@ -1,0 +1,73 @@
+-- How a report went, by the stages that prepare and finish it.
+use Rattle.std.proofs.Common.{◌≡◌, ℕ, List, [], ◌++◌, length, drop, refl, sym, ap, ◌∙◌}
+use Rattle.std.specs.Prelude.{Result, Ok, Err, OnErr}
+use Rattle.std.proofs.Math.Seq.{drop-append_seam, drop-length}
+use Rattle.pp_base.specs.Front.{IsFront}
+use Rattle.pp_desk.specs.declared.stop.Stop.{Stop}
+use Rattle.pp_desk.specs.declared.stop.Stop.TheVariants as stops
+use Rattle.pp_desk.specs.Script.{Give}
+use Rattle.pp_desk.specs.Went.{Went}
+use Rattle.pp_desk.specs.World.{World}
+use Rattle.pp_desk.proofs.Going.{stops_first, goes_second, goes_give, wants}
+use Rattle.pp_model.specs.declared.config.Config.{Config}
+use Rattle.pp_model.specs.declared.loaded.Loaded.{Loaded}
+use Rattle.pp_model.specs.declared.report.Report.{Report}
+use Rattle.pp_pattern.specs.Report.{Finds}
+use Rattle.pp_report.specs.declared.refusal.ReportRefusal.{ReportRefusal}
+use Rattle.pp_report.specs.Prepared.{Settled, prepare}
+use Rattle.pp_report.specs.Reports.{finish, report_settled, report_of, reported, reported_with, added}
+
+-- nothing was appended
+pub added_none : (text : List ℕ) → added text text ≡ []
+added_none text = drop-length text
+
+-- something was
+pub added_some : (old new more : List ℕ) → new ≡ old ++ more → added old new ≡ more
+added_some old new more is = ap (drop (length old)) is ∙ drop-append_seam old more
+
+-- nothing is a front of everything
+pub none_front : (text whole : List ℕ) → IsFront (added text text) whole
+none_front text whole = (whole, ap (λ front. front ++ whole) (sym (added_none text)))
+
+-- what holds anyhow
+pub on_err : {T E P : Type 0} (r : Result T E) → P → OnErr r P
+on_err (Ok x) holds = tt
+on_err (Err e) holds = holds
+
+module _ (finds : Finds) (l : Loaded) (report : Report) (config : Config) (a b : World) where
+  -- it was stopped before the text
+  pub report_stopped : (s : Stop) → Went a b (prepare finds l report config) (Err s) → Went a b (report_of finds l report config) (Err s)
+  unfolding report_of
+  report_stopped s went = stops_first a b (prepare finds l report config) (report_settled finds l report config) s went
+
+  -- it was refused before the text
+  pub report_refused : (r : ReportRefusal) → Went a b (prepare finds l report config) (Ok (Err r))
+      → Went a b (report_of finds l report config) (Ok (reported_with [] (Err r)))
+  unfolding report_of report_settled
+  report_refused r went =
+      goes_give a b (prepare finds l report config) (report_settled finds l report config) (Err r) (reported_with [] (Err r)) went refl
+
+  module _ (settled : Settled) (went : Went a b (prepare finds l report config) (Ok (Ok settled))) where
+    -- memory was wanting for the notes
+    pub report_wants : Went a b (report_of finds l report config) (Err stops.Memory)
+    unfolding report_of
+    report_wants =
+        goes_second a b b (prepare finds l report config) (report_settled finds l report config) (Ok settled) (Err stops.Memory) went (wants b _)
+
+    module _ (c : World) where
+      -- how the text went is how all of it went
+      finish_reported : (r : Result (Result (List ℕ) ReportRefusal) Stop) → Went b c (finish finds l report config settled.showing) r
+          → Went b c (report_settled finds l report config (Ok settled)) (reported settled.notes r)
+      unfolding report_settled
+      finish_reported (Ok outcome) text =
+          goes_give b c (finish finds l report config settled.showing) (λ o. Give (reported_with settled.notes o)) outcome
+          (reported_with settled.notes outcome) text refl
+      finish_reported (Err s) text =
+          stops_first b c (finish finds l report config settled.showing) (λ o. Give (reported_with settled.notes o)) s text
+
+      pub report_finished : (r : Result (Result (List ℕ) ReportRefusal) Stop) → Went b c (finish finds l report config settled.showing) r
+          → Went a c (report_of finds l report config) (reported settled.notes r)
+      unfolding report_of
+      report_finished r text =
+          goes_second a b c (prepare finds l report config) (report_settled finds l report config) (Ok settled) (reported settled.notes r) went
+          (finish_reported r text)

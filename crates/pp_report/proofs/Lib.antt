@@ -1,0 +1,5 @@
+pub mod PatternLemmas
+pub mod PreparingLemmas
+pub mod FinishingLemmas
+pub mod GeneratingLemmas
+mod Rows

@@ -1,0 +1,146 @@
+-- How the stages went that settle what a report is made of.
+use Rattle.std.proofs.Common.{◌≡◌, ℕ, List, [], ◌++◌, append-nil, refl, sym, ap, ◌∙◌, subst}
+use Rattle.std.specs.Prelude.{Result, Ok, Err, None}
+use Rattle.pp_base.specs.Front.{IsFront}
+use Rattle.pp_desk.specs.declared.stop.Stop.{Stop}
+use Rattle.pp_desk.specs.declared.stop.Stop.TheVariants as stops
+use Rattle.pp_desk.specs.Asking.{go_on}
+use Rattle.pp_desk.specs.Script.{Give}
+use Rattle.pp_desk.specs.Went.{Went}
+use Rattle.pp_desk.specs.World.{World}
+use Rattle.pp_desk.proofs.AskingLemmas.{asking_stops, asking_refused, asking_second, asking_gives}
+use Rattle.pp_desk.proofs.Going.{gives, wants}
+use Rattle.pp_model.specs.declared.config.Config.{Config}
+use Rattle.pp_model.specs.declared.loaded.Loaded.{Loaded}
+use Rattle.pp_model.specs.declared.report.Report.{Report}
+use Rattle.pp_model.specs.declared.report.Report.TheVariants as reports
+use Rattle.pp_model.specs.declared.verdicts.Verdicts.{Verdicts}
+use Rattle.pp_model.specs.Conditions.{IsColumnOf}
+use Rattle.pp_model.specs.Rules.{IsCompact}
+use Rattle.pp_model.specs.Sizes.{IsCountable}
+use Rattle.pp_pattern.specs.Report.{Finds, AreVerdictsOf}
+use Rattle.pp_report.specs.declared.prepared.Prepared.{Prepared}
+use Rattle.pp_report.specs.declared.refusal.ReportRefusal.{ReportRefusal}
+use Rattle.pp_report.specs.declared.shows.Shows.{Shows}
+use Rattle.pp_report.specs.Notes.{notes_by, notes_text}
+use Rattle.pp_report.specs.Patterns.{own_pattern, report_finders, ask_patterns}
+use Rattle.pp_report.specs.Prepared.{Settled, Showing, showing, settled_by, settled_of, answered, prepare, prepare_counts, prepare_showing, IsCounted, IsCountedBy, HasCounts, IsPrepared, showing_for}
+use Rattle.pp_report.proofs.PatternLemmas.{report_holds, can_count}
+
+module _ (finds : Finds) (l : Loaded) (report : Report) (config : Config) (known : Shows) (a b : World) where
+  -- the patterns were stopped
+  pub counts_stop : (s : Stop) → Went a b (ask_patterns finds l report config) (Err s)
+      → Went a b (prepare_counts finds l report config (showing known)) (answered (Err s))
+  unfolding prepare_counts
+  counts_stop s went = asking_stops a b (ask_patterns finds l report config) _ s went
+
+  module _ (judged : Result Verdicts ReportRefusal) (went : Went a b (ask_patterns finds l report config) (Ok judged)) where
+    -- one was refused
+    pub counts_refused : (r : ReportRefusal) → judged ≡ Err r
+        → Went a b (prepare_counts finds l report config (showing known)) (answered (Ok (Err r)))
+    unfolding prepare_counts
+    counts_refused r is =
+        asking_refused a b (ask_patterns finds l report config) _ r (subst (λ j. Went a b (ask_patterns finds l report config) (Ok j)) is went)
+
+    module _ (v : Verdicts) (is : judged ≡ Ok v) where
+      asked : Went a b (ask_patterns finds l report config) (Ok (Ok v))
+      asked = subst (λ j. Went a b (ask_patterns finds l report config) (Ok j)) is went
+
+      -- memory was wanting after them
+      pub counts_want : Went a b (prepare_counts finds l report config (showing known)) (answered (Err stops.Memory))
+      unfolding prepare_counts
+      counts_want = asking_second a b (ask_patterns finds l report config) _ b v (Err stops.Memory) asked (wants b _)
+
+      module _ (are : AreVerdictsOf finds config (own_pattern report) l v) (compact : IsCompact l.profile)
+          (prepared : Prepared) (counted : IsCountedBy l config known v prepared) where
+        settles : settled_of finds l report config (showing known) ≡ settled_by prepared
+        settles =
+            ap (λ slots. record { showing = showing known; notes = notes_by config slots })
+            (sym (counted.counts_all.matches (report_finders finds l report config) (report_holds finds l report config v are compact)))
+            ∙ ap settled_by (sym counted.are)
+
+        -- all samples were counted
+        pub counts_all : Went a b (prepare_counts finds l report config (showing known)) (answered (Ok (Ok prepared)))
+        unfolding prepare_counts
+        counts_all =
+            asking_second a b (ask_patterns finds l report config) _ b v (Ok (Ok (settled_by prepared))) asked
+            (subst (λ s. Went {T = Result Settled ReportRefusal} b b (Give (Ok (settled_of finds l report config (showing known)))) (Ok (Ok s))) settles
+            (asking_gives b (settled_of finds l report config (showing known))))
+
+-- a list is a front of itself
+front_same : (a b : List ℕ) → a ≡ b → IsFront a b
+front_same a b same = ([], sym same ∙ sym (append-nil a))
+
+-- what was counted
+pub is_counted : (finds : Finds) (l : Loaded) (report : Report) (config : Config) (known : Shows) (v : Verdicts)
+    → AreVerdictsOf finds config (own_pattern report) l v → IsCompact l.profile → IsCountable l.profile → IsColumnOf l.profile known.column
+    → (prepared : Prepared) → IsCountedBy l config known v prepared → IsCounted finds l report config known prepared
+is_counted finds l report config known v are compact countable below prepared counted = record {
+  shows_that = ap (λ (p : Prepared). p.shows) counted.are;
+  has_counts = subst (λ counts. HasCounts finds l report config known.column counts) (sym (ap (λ (p : Prepared). p.counts) counted.are))
+      (record {
+        holds = report_holds finds l report config v are compact;
+        can = can_count finds l report config v are known.column countable below;
+        are = counted.counts_all;
+      });
+  notes_front = front_same prepared.notes (notes_text l.profile (report_finders finds l report config) config)
+      (ap (λ (p : Prepared). p.notes) counted.are
+      ∙ ap (notes_by config) (counted.counts_all.matches (report_finders finds l report config) (report_holds finds l report config v are compact)));
+}
+
+-- what was not counted
+pub is_uncounted : (finds : Finds) (l : Loaded) (report : Report) (config : Config) (known : Shows) (prepared : Prepared)
+    → report ≡ reports.Comments → prepared ≡ record { notes = []; shows = known; counts = None } → IsCounted finds l report config known prepared
+is_uncounted finds l report config known prepared comments is = record {
+  shows_that = ap (λ (p : Prepared). p.shows) is;
+  has_counts = subst (λ counts. HasCounts finds l report config known.column counts) (sym (ap (λ (p : Prepared). p.counts) is)) comments;
+  notes_front =
+      let all = notes_text l.profile (report_finders finds l report config) config in
+      (all, ap (λ (p : Prepared). p.notes ++ all) (sym is));
+}
+
+-- All is settled, where it is known what the report shows.
+pub is_prepared : (finds : Finds) (l : Loaded) (report : Report) (config : Config) (known : Shows) (prepared : Prepared)
+    → Ok (showing known) ≡ showing_for report l.profile config → IsCounted finds l report config known prepared → IsPrepared finds l report config prepared
+is_prepared finds l report config known prepared shows counted = record {
+  shows_what = sym shows ∙ ap (λ (s : Shows). Ok (showing s)) (sym counted.shows_that);
+  has_counts = subst (λ (s : Shows). HasCounts finds l report config s.column prepared.counts) (sym counted.shows_that) counted.has_counts;
+  notes_front = counted.notes_front;
+}
+
+module _ (finds : Finds) (l : Loaded) (config : Config) (known : Shows) (w : World) where
+  -- a comments report asks for nothing
+  pub showing_comments : (prepared : Prepared) → prepared ≡ record { notes = []; shows = known; counts = None }
+      → Went w w (prepare_showing finds l reports.Comments config (showing known)) (answered (Ok (Ok prepared)))
+  unfolding prepare_showing
+  showing_comments prepared is =
+      subst (λ p. Went {T = Result Settled ReportRefusal} w w (Give (Ok (record { showing = showing known; notes = [] }))) (answered (Ok (Ok p)))) (sym is)
+      (asking_gives w (record { showing = showing known; notes = [] }))
+
+-- each other report does
+pub showing_counts : (finds : Finds) (l : Loaded) (report : Report) (config : Config) (s : Showing)
+    → (report ≡ reports.Comments → ⊥) → prepare_showing finds l report config s ≡ prepare_counts finds l report config s
+unfolding prepare_showing
+showing_counts finds l reports.Top config s other = refl
+showing_counts finds l reports.Tree config s other = refl
+showing_counts finds l (reports.Peek pattern) config s other = refl
+showing_counts finds l reports.Traces config s other = refl
+showing_counts finds l reports.Tags config s other = refl
+showing_counts finds l reports.Raw config s other = refl
+showing_counts finds l reports.Comments config s other = absurd (other refl)
+showing_counts finds l reports.Proto config s other = refl
+showing_counts finds l (reports.List pattern) config s other = refl
+
+module _ (finds : Finds) (l : Loaded) (report : Report) (config : Config) where
+  -- it is known what the report shows
+  pub prepare_shown : (a b : World) (s : Showing) (answer : Result (Result Settled ReportRefusal) Stop) → Ok s ≡ showing_for report l.profile config
+      → Went a b (prepare_showing finds l report config s) answer → Went a b (prepare finds l report config) answer
+  unfolding prepare
+  prepare_shown a b s answer known went = subst (λ k. Went a b (go_on (prepare_showing finds l report config) k) answer) known went
+
+  -- it is refused at once
+  pub prepare_refused : (w : World) (r : ReportRefusal) → Err r ≡ showing_for report l.profile config
+      → Went w w (prepare finds l report config) (Ok (Err r))
+  unfolding prepare
+  prepare_refused w r known =
+      subst (λ k. Went {T = Result Settled ReportRefusal} w w (go_on (prepare_showing finds l report config) k) (Ok (Err r))) known (gives w (Err r))

@@ -1,0 +1,19 @@
+use Rattle.std.proofs.Common.{◌≡◌, ap, ◌∙◌}
+use Rattle.pp_units.specs.Head.{facts}
+use Rattle.pp_top.specs.Top.{top_text}
+use Rattle.pp_report.proofs.FinishingLemmas.{can_show, made_text}
+use Rattle.pp_report.proofs.texts.top.Goals as goal
+
+-- the ranking can be written
+pub write_top-requires : goal.write_top-requires
+write_top-requires c =
+    can_show c.args.l.now c.args.counts.now.verdicts c.args.config.now c.args.column c.limit_of-limit.result c.args.counts.now.counted
+    c.in_ok-ranked.ranked c.requires.counted (c.in_ok-ranked.ensures c.args.counts.now.verdicts c.args.column c.requires.counted)
+
+-- it is the whole text
+pub returns : goal.returns
+returns c = λ f holds.
+    made_text c.write_top.new.out c.new-text.result _ c.new-text.ensures
+    (c.in_ok-write_top.ensures.ok c.args.counts.now.verdicts c.args.config.now c.args.column c.limit_of-limit.result f c.requires.counted
+    (c.in_ok-ranked.ensures c.args.counts.now.verdicts c.args.column c.requires.counted) holds)
+    ∙ ap (λ limit. top_text c.args.l.now.profile f c.args.config.now c.args.column limit (facts c.args.head.now)) c.limit_of-limit.ensures

@@ -1,0 +1,7 @@
+pub mod Names
+pub mod Messages
+pub mod Notes
+pub mod Heads
+pub mod Patterns
+pub mod Prepared
+pub mod Reports

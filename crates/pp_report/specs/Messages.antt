@@ -1,0 +1,18 @@
+-- The lines that tell why a report is not made.
+use Rattle.std.specs.Prelude.{ℕ, List, ◌++◌, codes}
+use Rattle.pp_model.specs.declared.report.Report.{Report}
+use Rattle.pp_report.specs.declared.refusal.ReportRefusal.{ReportRefusal}
+use Rattle.pp_report.specs.declared.refusal.ReportRefusal.TheVariants as refusals
+use Rattle.pp_report.specs.Names.{option_name}
+
+-- why the report is not made
+abbrev pub reason_text : Report → ReportRefusal → List ℕ
+reason_text report refusals.BadSampleIndex = codes "sample_index: no such sample type"
+reason_text report refusals.UnitMismatch = codes "unit: other than the sample's kind"
+reason_text report (refusals.PatternRefused option) =
+    option_name report option ++ codes ": pattern refused"
+reason_text report refusals.NoMatch = codes "no function matches"
+
+-- The line on a report that is not made, opaque, so that no goal shows its bytes.
+unfoldable pub refusal_line : Report → ReportRefusal → List ℕ
+refusal_line report refusal = codes "pprof: " ++ reason_text report refusal ++ codes "\n"

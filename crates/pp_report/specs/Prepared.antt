@@ -1,0 +1,128 @@
+-- What is settled before the text of a report is made: what it shows, what it asks for, and its notes.
+use Rattle.std.specs.Prelude.{◌≡◌, ℕ, List, [], Option, Some, None, Result, Ok, Err, option_map}
+use Rattle.pp_base.specs.Front.{IsFront}
+use Rattle.pp_desk.specs.declared.stop.Stop.{Stop}
+use Rattle.pp_desk.specs.Asking.{Asking, ◌>>=◌, go_on}
+use Rattle.pp_desk.specs.Script.{Give}
+use Rattle.pp_model.specs.declared.config.Config.{Config}
+use Rattle.pp_model.specs.declared.loaded.Loaded.{Loaded}
+use Rattle.pp_model.specs.declared.profile.Profile.{Profile}
+use Rattle.pp_model.specs.declared.report.Report.{Report}
+use Rattle.pp_model.specs.declared.report.Report.TheVariants as reports
+use Rattle.pp_model.specs.declared.verdicts.Verdicts.{Verdicts}
+use Rattle.pp_pattern.specs.Report.{Finds}
+use Rattle.pp_units.specs.Shown.{Shown, shown}
+use Rattle.pp_count.specs.declared.counted.Counted.{Counted}
+use Rattle.pp_count.specs.Column.{column_of}
+use Rattle.pp_count.specs.Counted.{CanCount, IsCountedOf}
+use Rattle.pp_count.specs.Seeing.{HoldsFilters}
+use Rattle.pp_report.specs.declared.shows.Shows.{Shows}
+use Rattle.pp_report.specs.declared.prepared.Counts.{Counts}
+use Rattle.pp_report.specs.declared.prepared.Prepared.{Prepared}
+use Rattle.pp_report.specs.declared.refusal.ReportRefusal.{ReportRefusal}
+use Rattle.pp_report.specs.declared.refusal.ReportRefusal.TheVariants.{BadSampleIndex, UnitMismatch}
+use Rattle.pp_report.specs.Heads.{wanted_unit, unit_text}
+use Rattle.pp_report.specs.Notes.{notes_by, notes_text}
+use Rattle.pp_report.specs.Patterns.{report_finders, ask_patterns}
+
+-- The column of values that a report shows, and the unit that is asked for.
+pub record Showing : Type 0 where
+  pub column : Option ℕ
+  pub wanted : Option Shown
+
+-- the column with the unit, if it is of the values' kind
+abbrev pub in_unit : Option ℕ → Option (Option Shown) → Result Showing ReportRefusal
+in_unit column None = Err UnitMismatch
+in_unit column (Some wanted) = Ok (record { column = column; wanted = wanted })
+
+-- the same, if there is such a column
+abbrev pub in_column : Profile → Config → Option (Option ℕ) → Result Showing ReportRefusal
+in_column p config None = Err BadSampleIndex
+in_column p config (Some column) = in_unit column (wanted_unit config.unit (unit_text p column))
+
+-- What a report shows. Raw, comments and proto show no column, and are not refused for it.
+abbrev pub showing_for : Report → Profile → Config → Result Showing ReportRefusal
+showing_for reports.Raw p config = Ok (record { column = None; wanted = None })
+showing_for reports.Comments p config = Ok (record { column = None; wanted = None })
+showing_for reports.Proto p config = Ok (record { column = None; wanted = None })
+showing_for report p config = in_column p config (column_of p config.sample_index)
+
+-- What a report shows, and its notes.
+pub record Settled : Type 0 where
+  pub showing : Showing
+  pub notes : List ℕ
+
+-- what is settled of a report that shows this, once its patterns are known
+abbrev pub settled_of : Finds → Loaded → Report → Config → Showing → Settled
+settled_of finds l report config showing = record {
+  showing = showing;
+  notes = notes_text l.profile (report_finders finds l report config) config;
+}
+
+-- Asks for the patterns of a report that shows this.
+unfoldable pub prepare_counts : Finds → Loaded → Report → Config → Showing → Asking ReportRefusal Settled
+prepare_counts finds l report config showing = do
+  _ ← ask_patterns finds l report config
+  Give (Ok (settled_of finds l report config showing))
+
+-- The same of each report but comments, which asks for none and has no notes.
+unfoldable pub prepare_showing : Finds → Loaded → Report → Config → Showing → Asking ReportRefusal Settled
+prepare_showing finds l reports.Comments config showing =
+    Give (Ok (record { showing = showing; notes = [] }))
+prepare_showing finds l report config showing = prepare_counts finds l report config showing
+
+-- What is done before the text of a report is made. No pattern is asked of one that is refused for its column or its unit.
+unfoldable pub prepare : Finds → Loaded → Report → Config → Asking ReportRefusal Settled
+prepare finds l report config =
+    go_on (prepare_showing finds l report config) (showing_for report l.profile config)
+
+-- what `Shows` says
+abbrev pub showing : Shows → Showing
+showing shows = record { column = shows.column; wanted = option_map shown shows.unit }
+
+-- what `Prepared` says
+abbrev pub settled_by : Prepared → Settled
+settled_by prepared = record { showing = showing prepared.shows; notes = prepared.notes }
+
+-- the answer of `prepare` as its script has it
+abbrev pub answered : Result (Result Prepared ReportRefusal) Stop → Result (Result Settled ReportRefusal) Stop
+answered (Ok (Ok prepared)) = Ok (Ok (settled_by prepared))
+answered (Ok (Err refusal)) = Ok (Err refusal)
+answered (Err stop) = Err stop
+
+-- The verdicts are those of the report's patterns, and the samples are counted by them.
+pub record AreCounts (finds : Finds) (l : Loaded) (report : Report) (config : Config) (shown_column : Option ℕ)
+    (counts : Counts) : Type 0 where
+  pub holds : HoldsFilters l counts.verdicts config (report_finders finds l report config)
+  pub can : CanCount l.profile counts.verdicts config shown_column
+  pub are : IsCountedOf l counts.verdicts config shown_column counts.counted
+
+-- samples are counted for each report but comments
+abbrev pub HasCounts : Finds → Loaded → Report → Config → Option ℕ → Option Counts → Type 0
+HasCounts finds l report config column None = report ≡ reports.Comments
+HasCounts finds l report config column (Some counts) = AreCounts finds l report config column counts
+
+-- All is settled for the text of the report.
+pub record IsPrepared (finds : Finds) (l : Loaded) (report : Report) (config : Config) (prepared : Prepared)
+    : Type 0 where
+  pub shows_what : showing_for report l.profile config ≡ Ok (showing prepared.shows)
+  pub has_counts : HasCounts finds l report config prepared.shows.column prepared.counts
+  pub notes_front : IsFront prepared.notes (notes_text l.profile (report_finders finds l report config) config)
+
+-- The same, where it is known what the report shows. No public clause cites it.
+pub record IsCounted (finds : Finds) (l : Loaded) (report : Report) (config : Config) (known : Shows)
+    (prepared : Prepared) : Type 0 where
+  pub shows_that : prepared.shows ≡ known
+  pub has_counts : HasCounts finds l report config known.column prepared.counts
+  pub notes_front : IsFront prepared.notes (notes_text l.profile (report_finders finds l report config) config)
+
+-- The samples are counted by these verdicts, and the notes are those by their matches. No public clause cites it.
+pub record IsCountedBy (l : Loaded) (config : Config) (known : Shows) (v : Verdicts) (prepared : Prepared)
+    : Type 0 where
+  pub sums : Counted
+  pub are : prepared ≡ record {
+    notes = notes_by config sums.matched.slots;
+    shows = known;
+    counts = Some (record { verdicts = v; counted = sums });
+  }
+  pub counts_all : IsCountedOf l v config known.column sums

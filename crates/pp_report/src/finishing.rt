@@ -1,0 +1,108 @@
+//! The text of a report.
+ghost use Rattle.std.specs.Prelude.{◌≡◌, ◌<◌, ◌^◌};
+ghost use Rattle.pp_desk.specs.Went.{Went};
+ghost use Rattle.pp_model.specs.Finders.{Finders};
+ghost use Rattle.pp_units.specs.Head.{facts};
+ghost use Rattle.pp_count.specs.Counted.{CanCount, IsCountedOf};
+ghost use Rattle.pp_count.specs.Seeing.{HoldsFilters};
+ghost use Rattle.pp_report.specs.Prepared.{showing, IsPrepared};
+ghost use Rattle.pp_report.specs.Reports.{finish, text_by, list_text};
+
+use crate::ReportRefusal;
+use crate::heads::head_of;
+use crate::prepared::{Counts, Prepared};
+use crate::texts::{comments, peek, proto, raw, tags, top, traces, tree};
+use pp_base::{Gate, Text};
+use pp_desk::{Desk, Stop};
+use pp_model::{Config, Loaded, Report};
+use pp_source::write_list;
+use pp_units::Head;
+use std::alloc::Global;
+use std::thread::Threads;
+
+/// The text of a report that was prepared, or `NoMatch` where the pattern of a peek or list report finds nothing. Only a list
+/// report reads files.
+#[tactic(auto, using(pp_desk::proofs::Going::going), unfolding(crate::specs::Reports::finish))]
+pub fn finish<R: Threads + Sync, D: Desk, G: Gate>(
+    rt: &R,
+    alloc: Global,
+    l: &Loaded,
+    report: &Report,
+    config: &Config,
+    prepared: Prepared,
+    desk: &mut D,
+    gate: &G,
+) -> Result<Result<Text, ReportRefusal>, Stop>
+    requires { IsPrepared D.finds l.now report.now config.now prepared }
+    ensures { Went (D.world desk.old) (D.world desk.new)
+        (finish D.finds l.now report.now config.now (showing prepared.shows)) result }
+{
+    let Prepared { shows, counts, .. } = prepared;
+    let column = shows.column;
+    let Some(counts) = counts else {
+        return Ok(Ok(comments(alloc, l)?));
+    };
+    let head = head_of(alloc, l, shows, counts.counted.total)?;
+    text_by(
+        rt, alloc, l, report, config, column, &counts, &head, desk, gate,
+    )
+}
+
+// The text of a report with this head.
+#[tactic(auto, using(pp_desk::proofs::Going::going), unfolding(crate::specs::Reports::text_by))]
+fn text_by<R: Threads + Sync, D: Desk, G: Gate>(
+    rt: &R,
+    alloc: Global,
+    l: &Loaded,
+    report: &Report,
+    config: &Config,
+    column: Option<u32>,
+    counts: &Counts,
+    head: &Head,
+    desk: &mut D,
+    gate: &G,
+) -> Result<Result<Text, ReportRefusal>, Stop>
+    requires can { CanCount l.now.profile counts.now.verdicts config.now column }
+    requires counted { IsCountedOf l.now counts.now.verdicts config.now column counts.now.counted }
+    requires small { head.now.total < 2 ^ 63 }
+    ensures { (f : Finders) → HoldsFilters l.now counts.now.verdicts config.now f →
+        Went (D.world desk.old) (D.world desk.new)
+        (text_by l.now.profile f config.now column (facts head.now) report.now) result }
+{
+    match report {
+        Report::Top => Ok(Ok(top(alloc, l, config, column, counts, head)?)),
+        Report::Tree => Ok(Ok(tree(rt, alloc, l, config, column, counts, head, gate)?)),
+        Report::Peek(_) => Ok(peek(rt, alloc, l, config, column, counts, head, gate)?),
+        Report::Traces => Ok(Ok(traces(alloc, l, config, column, counts, head)?)),
+        Report::Tags => Ok(Ok(tags(alloc, l, config, column, counts, head)?)),
+        Report::Raw => Ok(Ok(raw(alloc, l, config, column, counts)?)),
+        Report::Comments => Ok(Ok(comments(alloc, l)?)),
+        Report::Proto => Ok(Ok(proto(alloc, l, config, column, counts)?)),
+        Report::List(_) => list(alloc, l, config, column, counts, head, desk),
+    }
+}
+
+#[tactic(auto, using(pp_desk::proofs::Going::going), unfolding(crate::specs::Reports::list_text))]
+fn list<D: Desk>(
+    alloc: Global,
+    l: &Loaded,
+    config: &Config,
+    column: Option<u32>,
+    counts: &Counts,
+    head: &Head,
+    desk: &mut D,
+) -> Result<Result<Text, ReportRefusal>, Stop>
+    requires can { CanCount l.now.profile counts.now.verdicts config.now column }
+    requires counted { IsCountedOf l.now counts.now.verdicts config.now column counts.now.counted }
+    requires small { head.now.total < 2 ^ 63 }
+    ensures { (f : Finders) → HoldsFilters l.now counts.now.verdicts config.now f →
+        Went (D.world desk.old) (D.world desk.new)
+        (list_text l.now.profile f config.now column (facts head.now)) result }
+{
+    let mut text = Text::new(alloc);
+    let (v, c) = (&counts.verdicts, &counts.counted);
+    match write_list(alloc, l, v, c, config, column, head, desk, &mut text)? {
+        Ok(()) => Ok(Ok(text)),
+        Err(_) => Ok(Err(ReportRefusal::NoMatch)),
+    }
+}

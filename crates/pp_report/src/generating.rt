@@ -1,0 +1,49 @@
+//! Reports.
+ghost use Rattle.std.specs.Prelude.{◌≡◌, ◌++◌, OnErr};
+ghost use Rattle.pp_base.specs.Front.{IsFront};
+ghost use Rattle.pp_desk.specs.Went.{Went};
+ghost use Rattle.pp_model.specs.Sizes.{IsCountable};
+ghost use Rattle.pp_report.specs.Notes.{notes_text};
+ghost use Rattle.pp_report.specs.Patterns.{report_finders};
+ghost use Rattle.pp_report.specs.Reports.{report_of, reported, added};
+
+use crate::ReportRefusal;
+use crate::finishing::finish;
+use crate::preparing::prepare;
+use pp_base::{Gate, Text};
+use pp_desk::{Desk, Stop};
+use pp_model::{Config, Loaded, Report};
+use std::alloc::Global;
+use std::thread::Threads;
+
+/// Makes a report: its text, or why there is none. Its notes are appended to `notes`, also where the answer is `NoMatch`.
+///
+/// It is refused for its column, then for its unit, both before any pattern is asked, then for the first pattern that the
+/// matcher refuses, and last where the pattern of a peek or list report finds no function that could be shown. `Err` is the
+/// failure of a file that a list report reads, or want of memory; a front of the notes is appended then.
+pub fn generate<R: Threads + Sync, D: Desk, G: Gate>(
+    rt: &R,
+    alloc: Global,
+    l: &Loaded,
+    report: &Report,
+    config: &Config,
+    desk: &mut D,
+    gate: &G,
+    notes: &mut Text,
+) -> Result<Result<Text, ReportRefusal>, Stop>
+    requires { IsCountable l.now.profile }
+    ensures went { Went (D.world desk.old) (D.world desk.new)
+        (report_of D.finds l.now report.now config.now)
+        (reported (added notes.old notes.new) result) }
+    ensures notes { notes.new ≡ notes.old ++ added notes.old notes.new }
+    ensures stopped { OnErr result (IsFront (added notes.old notes.new)
+        (notes_text l.now.profile (report_finders D.finds l.now report.now config.now) config.now)) }
+{
+    match prepare(rt, alloc, l, report, config, desk, gate)? {
+        Err(refusal) => Ok(Err(refusal)),
+        Ok(prepared) => {
+            notes.extend(prepared.notes.as_slice())?;
+            finish(rt, alloc, l, report, config, prepared, desk, gate)
+        }
+    }
+}

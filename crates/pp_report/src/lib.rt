@@ -1,0 +1,23 @@
+//! Reports of a loaded profile: which column and unit a report shows, the patterns that it asks for, its notes, and its
+//! text, or why it is not made.
+#![tactic(auto)]
+
+mod asking;
+mod finishing;
+mod generating;
+mod heads;
+mod message;
+mod notes;
+mod prepared;
+mod preparing;
+mod refusal;
+mod shows;
+mod texts;
+
+pub use finishing::finish;
+pub use generating::generate;
+pub use message::refusal_line;
+pub use prepared::{Counts, Prepared};
+pub use preparing::prepare;
+pub use refusal::ReportRefusal;
+pub use shows::Shows;

@@ -1,0 +1,69 @@
+//! The lines that tell why a report is not made.
+ghost use Rattle.std.specs.Prelude.{◌≡◌, ◌++◌, codes, IfOk};
+ghost use Rattle.pp_report.specs.Names.{own_name, option_name};
+ghost use Rattle.pp_report.specs.Messages.{reason_text, refusal_line};
+
+use crate::ReportRefusal;
+use pp_base::{Memory, Text};
+use pp_model::{Report, Slot};
+use std::alloc::Global;
+
+/// The line on a report that is not made, with its line end.
+#[tactic(auto, unfolding(crate::specs::Messages::refusal_line))]
+pub fn refusal_line(alloc: Global, report: &Report, refusal: ReportRefusal) -> Result<Text, Memory>
+    ensures { IfOk result (λ line. line ≡ refusal_line report.now refusal) }
+{
+    let mut line = Text::from_slice(alloc, b"pprof: ")?;
+    put_reason(report, refusal, &mut line)?;
+    line.extend(b"\n")?;
+    Ok(line)
+}
+
+fn put_reason(report: &Report, refusal: ReportRefusal, line: &mut Text) -> Result<(), Memory>
+    ensures { IfOk result (λ _. line.new ≡ line.old ++ reason_text report.now refusal) }
+{
+    match refusal {
+        ReportRefusal::BadSampleIndex => line.extend(b"sample_index: no such sample type"),
+        ReportRefusal::UnitMismatch => line.extend(b"unit: other than the sample's kind"),
+        ReportRefusal::PatternRefused { option } => put_refused(report, option, line),
+        ReportRefusal::NoMatch => line.extend(b"no function matches"),
+    }
+}
+
+fn put_refused(report: &Report, option: Slot, line: &mut Text) -> Result<(), Memory>
+    ensures { IfOk result (λ _.
+        line.new ≡ line.old ++ (option_name report.now option ++ codes ": pattern refused")) }
+{
+    line.extend(option_name(report, option))?;
+    line.extend(b": pattern refused")
+}
+
+// What an option is called.
+#[tactic(auto, unfolding(crate::specs::Names::option_name))]
+fn option_name(report: &Report, option: Slot) -> &'static [u8]
+    ensures { result.now ≡ option_name report.now option }
+{
+    match option {
+        Slot::Focus => b"focus",
+        Slot::Ignore => b"ignore",
+        Slot::Hide => b"hide",
+        Slot::Show => b"show",
+        Slot::ShowFrom => b"show_from",
+        Slot::TagFocus => b"tagfocus",
+        Slot::TagIgnore => b"tagignore",
+        Slot::PruneFrom => b"prune_from",
+        Slot::TagShow => b"tagshow",
+        Slot::TagHide => b"taghide",
+        Slot::Own => own_name(report),
+    }
+}
+
+// What a report's own pattern is called.
+fn own_name(report: &Report) -> &'static [u8]
+    ensures { result.now ≡ own_name report.now }
+{
+    match report {
+        Report::Peek(_) => b"peek",
+        _ => b"list",
+    }
+}

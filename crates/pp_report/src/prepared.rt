@@ -1,0 +1,23 @@
+//! What is settled before the text of a report is made.
+
+use crate::shows::Shows;
+use pp_base::Text;
+use pp_count::Counted;
+use pp_model::Verdicts;
+
+/// What the patterns of a report find, and what its samples come to.
+#[derive(Drop)]
+pub struct Counts {
+    pub verdicts: Verdicts,
+    pub counted: Counted,
+}
+
+/// What is settled before the text of a report is made.
+#[derive(Drop)]
+pub struct Prepared {
+    /// A line for each option that is in force and matches nothing.
+    pub notes: Text,
+    pub shows: Shows,
+    /// None for a comments report, which counts nothing.
+    pub counts: Option<Counts>,
+}

@@ -1,0 +1,127 @@
+//! What is settled before the text of a report is made.
+ghost use Rattle.std.specs.Prelude.{◌≡◌, [], None, IfOk};
+ghost use Rattle.pp_desk.specs.Went.{Went};
+ghost use Rattle.pp_model.specs.Conditions.{IsColumnOf};
+ghost use Rattle.pp_model.specs.Sizes.{IsCountable};
+ghost use Rattle.pp_count.specs.Counted.{CanCount};
+ghost use Rattle.pp_report.specs.Prepared.{prepare, prepare_showing, prepare_counts, showing, answered, IsPrepared, IsCounted, IsCountedBy};
+
+use crate::ReportRefusal;
+use crate::asking::ask_patterns;
+use crate::notes::notes_by;
+use crate::prepared::{Counts, Prepared};
+use crate::shows::{Shows, shows_for};
+use pp_base::{Gate, Memory, Text};
+use pp_count::count;
+use pp_desk::{Desk, Stop};
+use pp_model::{Config, Loaded, Report, Verdicts};
+use std::alloc::Global;
+use std::thread::Threads;
+
+/// What is done before the text of a report is made: its column and unit are looked up, its patterns asked, its samples
+/// counted and its notes taken down. No pattern is asked of a report that is refused for its column or its unit.
+///
+/// For callers that hand on the notes before the text is made, since a list report reads files for it: `prepare`, the
+/// notes, and `finish` come to what `generate` does.
+pub fn prepare<R: Threads + Sync, D: Desk, G: Gate>(
+    rt: &R,
+    alloc: Global,
+    l: &Loaded,
+    report: &Report,
+    config: &Config,
+    desk: &mut D,
+    gate: &G,
+) -> Result<Result<Prepared, ReportRefusal>, Stop>
+    requires { IsCountable l.now.profile }
+    ensures went { Went (D.world desk.old) (D.world desk.new)
+        (prepare D.finds l.now report.now config.now) (answered result) }
+    ensures prepared { IfOk result
+        (λ answer. IfOk answer (IsPrepared D.finds l.now report.now config.now)) }
+{
+    match shows_for(alloc, l, report, config)? {
+        Ok(shows) => prepare_showing(rt, alloc, l, report, config, shows, desk, gate),
+        Err(refusal) => Ok(Err(refusal)),
+    }
+}
+
+// The same for a report that shows this.
+fn prepare_showing<R: Threads + Sync, D: Desk, G: Gate>(
+    rt: &R,
+    alloc: Global,
+    l: &Loaded,
+    report: &Report,
+    config: &Config,
+    shows: Shows,
+    desk: &mut D,
+    gate: &G,
+) -> Result<Result<Prepared, ReportRefusal>, Stop>
+    requires countable { IsCountable l.now.profile }
+    requires column { IsColumnOf l.now.profile shows.column }
+    ensures went { Went (D.world desk.old) (D.world desk.new)
+        (prepare_showing D.finds l.now report.now config.now (showing shows)) (answered result) }
+    ensures counted { IfOk result
+        (λ answer. IfOk answer (IsCounted D.finds l.now report.now config.now shows)) }
+{
+    match report {
+        Report::Comments => Ok(Ok(uncounted(alloc, shows))),
+        _ => prepare_counts(rt, alloc, l, report, config, shows, desk, gate),
+    }
+}
+
+fn uncounted(alloc: Global, shows: Shows) -> Prepared
+    ensures { result ≡ record { notes = []; shows = shows; counts = None } }
+{
+    Prepared {
+        notes: Text::new(alloc),
+        shows,
+        counts: None,
+    }
+}
+
+// Asks for the patterns, and counts the samples by what they find.
+fn prepare_counts<R: Threads + Sync, D: Desk, G: Gate>(
+    rt: &R,
+    alloc: Global,
+    l: &Loaded,
+    report: &Report,
+    config: &Config,
+    shows: Shows,
+    desk: &mut D,
+    gate: &G,
+) -> Result<Result<Prepared, ReportRefusal>, Stop>
+    requires countable { IsCountable l.now.profile }
+    requires column { IsColumnOf l.now.profile shows.column }
+    ensures went { Went (D.world desk.old) (D.world desk.new)
+        (prepare_counts D.finds l.now report.now config.now (showing shows)) (answered result) }
+    ensures counted { IfOk result
+        (λ answer. IfOk answer (IsCounted D.finds l.now report.now config.now shows)) }
+{
+    // A profile's texts are distinct, so that verdicts on them tell what is found.
+    let _profile = l.profile.get();
+    match ask_patterns(alloc, l, report, config, desk)? {
+        Ok(verdicts) => Ok(Ok(counted(rt, alloc, l, config, shows, verdicts, gate)?)),
+        Err(refusal) => Ok(Err(refusal)),
+    }
+}
+
+// What the samples come to by these verdicts, and the notes.
+fn counted<R: Threads + Sync, G: Gate>(
+    rt: &R,
+    alloc: Global,
+    l: &Loaded,
+    config: &Config,
+    shows: Shows,
+    verdicts: Verdicts,
+    gate: &G,
+) -> Result<Prepared, Memory>
+    requires { CanCount l.now.profile verdicts config.now shows.column }
+    ensures { IfOk result (IsCountedBy l.now config.now shows verdicts) }
+{
+    let counted = count(rt, alloc, l, &verdicts, config, shows.column, gate)?;
+    let notes = notes_by(alloc, config, counted.matched.slots.as_slice())?;
+    Ok(Prepared {
+        notes,
+        shows,
+        counts: Some(Counts { verdicts, counted }),
+    })
+}
