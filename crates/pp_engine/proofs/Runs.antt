@@ -1,8 +1,9 @@
 -- From how the session went to how the run did.
-use Rattle.std.proofs.Common.{◌≡◌, ◌⊎◌, inl, inr, ℕ, true, List, [], ◌∷◌, Option, Some, None, refl, sym, ap, ◌∙◌, arith}
+use Rattle.std.proofs.Common.{◌≡◌, ◌⊎◌, inl, inr, ℕ, true, false, List, [], ◌∷◌, Option, Some, None, refl, sym, ap, ◌∙◌, arith}
 use Rattle.std.specs.Prelude.{Result, Ok, Err, IfErr, IfSome, IfNone, IsNone, option_map}
 use Rattle.std.proofs.lemmas.Bool.{false≢true}
 use Rattle.std.proofs.lemmas.List.{append-nil}
+use Rattle.std.proofs.lemmas.Option.{MatchOption-at_none}
 use Rattle.pp_base.specs.Fault.{Rose}
 use Rattle.pp_base.specs.FileMap.{FileMap}
 use Rattle.pp_base.specs.Front.{IsFront}
@@ -11,7 +12,7 @@ use Rattle.pp_base.specs.Told.{extended, extended-nil}
 use Rattle.pp_desk.specs.declared.stop.Stop.{Stop}
 use Rattle.pp_desk.specs.declared.stop.Stop.TheVariants as stops
 use Rattle.pp_desk.specs.Closes.{Closes}
-use Rattle.pp_desk.specs.Course.{outside_of}
+use Rattle.pp_desk.specs.Course.{outside_of, given}
 use Rattle.pp_desk.specs.Effects.{ToErr, Outside, outside, Did}
 use Rattle.pp_desk.specs.Lines.{lines_of}
 use Rattle.pp_desk.specs.Went.{Went, parts, Ways, Goes, Halts, HasFailed}
@@ -19,20 +20,25 @@ use Rattle.pp_desk.specs.World.{Told, Faults, Later, World}
 use Rattle.pp_desk.proofs.Closing.{did_more, given_is}
 use Rattle.pp_desk.proofs.Coursing.{whole_course, front_course}
 use Rattle.pp_desk.proofs.Going.{later_same}
-use Rattle.pp_desk.proofs.Quiet.{input_of, input_alone, answers_alone}
+use Rattle.pp_desk.proofs.Quiet.{input_of, input_alone}
 use Rattle.pp_engine.specs.declared.ending.Cause.{Cause}
 use Rattle.pp_engine.specs.declared.ending.Cause.TheVariants as causes
 use Rattle.pp_engine.specs.declared.ending.Outcome.{Outcome}
 use Rattle.pp_engine.specs.declared.ending.Outcome.TheVariants as outcomes
 use Rattle.pp_engine.specs.Endings.{cause_of, cause_of_outcome, cause_of_stop, fault_line, stop_line, end_line}
 use Rattle.pp_engine.specs.Run.{Ran, told_at}
-use Rattle.pp_engine.specs.Session.{session, is_valid, told_run, RanWhole, RanFront}
-use Rattle.pp_engine.specs.Words.{path_of}
-use Rattle.pp_engine.proofs.Quiet.{session_reads_no_line, session_asks_nothing, words_ends, valid_ends}
+use Rattle.pp_engine.specs.Reporting.{Finds}
+use Rattle.pp_engine.specs.Session.{session, told_run, RanWhole, RanFront}
+use Rattle.pp_engine.specs.Validity.{is_valid}
+use Rattle.pp_engine.specs.Words.{Ends, starts_shell}
+use Rattle.pp_engine.proofs.Gives.{goes_gives}
+use Rattle.pp_engine.proofs.Outcomes.{session_gives}
+use Rattle.pp_engine.proofs.Quiet.{session_reads_no_line}
+use Rattle.pp_engine.proofs.ValidEnds.{valid_done}
 
 -- The run of a session that came to its end.
-pub ran_whole : (words : List (List ℕ)) (a b : World) (x : Outcome) → Went a b (session words) (Ok x) → Ran (session words) a.told (outside_of b.told) b.told.answers a.faults b.faults (cause_of_outcome x)
-ran_whole words a b x w =
+pub ran_whole : (finds : Finds) (words : List (List ℕ)) (a b : World) (x : Outcome) → Went a b (session finds words) (Ok x) → Ran (session finds words) a.told (outside_of b.told) b.told.answers a.faults b.faults (cause_of_outcome x)
+ran_whole finds words a b x w =
     let w = parts w in
     record {
       result = Ok x;
@@ -50,8 +56,8 @@ ran_whole words a b x w =
     }
 
 -- The run of a session that was stopped.
-pub ran_front : (words : List (List ℕ)) (a b c : World) (s : Stop) → Went a b (session words) (Err s) → Closes b c (stop_line s) → Ran (session words) a.told (outside_of c.told) c.told.answers a.faults c.faults (cause_of_stop s)
-ran_front words a b c s w t =
+pub ran_front : (finds : Finds) (words : List (List ℕ)) (a b c : World) (s : Stop) → Went a b (session finds words) (Err s) → Closes b c (stop_line s) → Ran (session finds words) a.told (outside_of c.told) c.told.answers a.faults c.faults (cause_of_stop s)
+ran_front finds words a b c s w t =
     let w = parts w in
     record {
       result = Err s;
@@ -68,28 +74,28 @@ ran_front words a b c s w t =
       later = t.later;
     }
 
--- the input of a session is left alone
-input_left : (words : List (List ℕ)) (a b : World) (r : Result Outcome Stop) → Went a b (session words) r → input_of b.told ≡ input_of a.told
-input_left words a b r w = input_alone (session words) a.told b.told r (session_reads_no_line words) (parts w).ways
+-- the input of a session is left alone, where the words do not ask for the shell
+input_left : (finds : Finds) (words : List (List ℕ)) (a b : World) (r : Result Outcome Stop) → starts_shell words ≡ false → Went a b (session finds words) r → input_of b.told ≡ input_of a.told
+input_left finds words a b r none w = input_alone (session finds words) a.told b.told r (session_reads_no_line finds words none) (parts w).ways
 
-pub lines_whole : (words : List (List ℕ)) (a b : World) (x : Outcome) → Went a b (session words) (Ok x) → b.told.lines ≡ a.told.lines
-lines_whole words a b x w = ap (λ i. i.lines) (input_left words a b (Ok x) w)
+pub lines_whole : (finds : Finds) (words : List (List ℕ)) (a b : World) (x : Outcome) → Went a b (session finds words) (Ok x) → starts_shell words ≡ false → b.told.lines ≡ a.told.lines
+lines_whole finds words a b x w none = ap (λ i. i.lines) (input_left finds words a b (Ok x) none w)
 
-pub unread_whole : (words : List (List ℕ)) (a b : World) (x : Outcome) → Went a b (session words) (Ok x) → b.told.unread ≡ a.told.unread
-unread_whole words a b x w = ap (λ i. i.unread) (input_left words a b (Ok x) w)
+pub unread_whole : (finds : Finds) (words : List (List ℕ)) (a b : World) (x : Outcome) → Went a b (session finds words) (Ok x) → starts_shell words ≡ false → b.told.unread ≡ a.told.unread
+unread_whole finds words a b x w none = ap (λ i. i.unread) (input_left finds words a b (Ok x) none w)
 
-pub lines_front : (words : List (List ℕ)) (a b c : World) (line : List ℕ) (s : Stop) → Went a b (session words) (Err s) → Closes b c line → c.told.lines ≡ a.told.lines
-lines_front words a b c line s w t = ap (λ (t : Told). t.lines) t.tells ∙ ap (λ i. i.lines) (input_left words a b (Err s) w)
+pub lines_front : (finds : Finds) (words : List (List ℕ)) (a b c : World) (line : List ℕ) (s : Stop) → Went a b (session finds words) (Err s) → Closes b c line → starts_shell words ≡ false → c.told.lines ≡ a.told.lines
+lines_front finds words a b c line s w t none = ap (λ (t : Told). t.lines) t.tells ∙ ap (λ i. i.lines) (input_left finds words a b (Err s) none w)
 
-pub unread_front : (words : List (List ℕ)) (a b c : World) (line : List ℕ) (s : Stop) → Went a b (session words) (Err s) → Closes b c line → c.told.unread ≡ a.told.unread
-unread_front words a b c line s w t = ap (λ (t : Told). t.unread) t.tells ∙ ap (λ i. i.unread) (input_left words a b (Err s) w)
+pub unread_front : (finds : Finds) (words : List (List ℕ)) (a b c : World) (line : List ℕ) (s : Stop) → Went a b (session finds words) (Err s) → Closes b c line → starts_shell words ≡ false → c.told.unread ≡ a.told.unread
+unread_front finds words a b c line s w t none = ap (λ (t : Told). t.unread) t.tells ∙ ap (λ i. i.unread) (input_left finds words a b (Err s) none w)
 
 -- the objects are the same ones at the end
-pub same_whole : (words : List (List ℕ)) (a b : World) (x : Outcome) → Went a b (session words) (Ok x) → b.names ≡ a.names
-same_whole words a b x w = (parts w).same
+pub same_whole : (finds : Finds) (words : List (List ℕ)) (a b : World) (x : Outcome) → Went a b (session finds words) (Ok x) → b.names ≡ a.names
+same_whole finds words a b x w = (parts w).same
 
-pub same_front : (words : List (List ℕ)) (a b c : World) (line : List ℕ) (s : Stop) → Went a b (session words) (Err s) → Closes b c line → c.names ≡ a.names
-same_front words a b c line s w t = t.same ∙ (parts w).same
+pub same_front : (finds : Finds) (words : List (List ℕ)) (a b c : World) (line : List ℕ) (s : Stop) → Went a b (session finds words) (Err s) → Closes b c line → c.names ≡ a.names
+same_front finds words a b c line s w t = t.same ∙ (parts w).same
 
 -- what the end of a run needs
 pub ruleset running = (ran_whole, ran_front, lines_whole, unread_whole, lines_front, unread_front, same_whole, same_front)
@@ -105,8 +111,10 @@ Blames cause old new = Unit {0}
 blamed_of : (r : Result Outcome Stop) (a b c : Faults) → IfErr r (HasFailed a b) → Later b c → Blames (cause_of r) a c
 unfolding HasFailed
 blamed_of (Ok outcomes.Done) a b c f l = tt
+blamed_of (Ok (outcomes.Usage fault)) a b c f l = tt
 blamed_of (Ok (outcomes.Refused refusal)) a b c f l = tt
-blamed_of (Ok outcomes.NotBuilt) a b c f l = tt
+blamed_of (Ok (outcomes.Report refusal)) a b c f l = tt
+blamed_of (Ok outcomes.InputTooLong) a b c f l = tt
 blamed_of (Err stops.File) a b c f l = omega arith
 blamed_of (Err stops.Input) a b c f l = omega arith
 blamed_of (Err stops.Out) a b c f l = omega arith
@@ -117,8 +125,10 @@ blamed_of (Err stops.Memory) a b c f l = tt
 no_blame : (cause : Cause) (a b : Faults) → Blames cause a b → ¬ (Rose a.file b.file) → ¬ (Rose a.input b.input) → ¬ (Rose a.out b.out) → ¬ (Rose a.err b.err)
     → IsNone (fault_line cause) ⊎ (cause ≡ causes.Memory)
 no_blame causes.Done a b w f i o e = inl refl
+no_blame (causes.Usage fault) a b w f i o e = inl refl
 no_blame (causes.Refused refusal) a b w f i o e = inl refl
-no_blame causes.NotBuilt a b w f i o e = inl refl
+no_blame (causes.Report refusal) a b w f i o e = inl refl
+no_blame causes.InputTooLong a b w f i o e = inl refl
 no_blame causes.FileFault a b w f i o e = absurd (f w)
 no_blame causes.InputFault a b w f i o e = absurd (i w)
 no_blame causes.OutFault a b w f i o e = absurd (o w)
@@ -135,35 +145,41 @@ stop_has_line stops.Memory = refl
 
 outcome_has_none : (x : Outcome) → fault_line (cause_of_outcome x) ≡ None
 outcome_has_none outcomes.Done = refl
+outcome_has_none (outcomes.Usage fault) = refl
 outcome_has_none (outcomes.Refused refusal) = refl
-outcome_has_none outcomes.NotBuilt = refl
+outcome_has_none (outcomes.Report refusal) = refl
+outcome_has_none outcomes.InputTooLong = refl
+
+is_none : {A : Type 0} (x : Option A) → IsNone x → x ≡ None
+is_none None n = refl
+is_none (Some x) n = absurd (false≢true (sym n))
 
 -- nothing is told where there is no line
 no_part : (mid : Told) (new : Outside) (part : List ℕ) → IsFront part [] → new ≡ outside mid.out (extended mid.err part) mid.files → new ≡ outside_of mid
 no_part mid new [] f e = e ∙ (λ i. outside mid.out (extended-nil mid.err i) mid.files)
 no_part mid new (x ∷ part) f e = absurd (cc f.1)
 
-module _ (words : List (List ℕ)) (o : Outside) (locked : Option (List (List ℕ))) (input : Option (List ℕ)) (old now : Option (List Answer)) where
+module _ (finds : Finds) (words : List (List ℕ)) (o : Outside) (locked : Option (List (List ℕ))) (input : Option (List ℕ)) (old now : Option (List Answer)) where
   abbrev start : Told
   start = told_at o locked input old
 
   module _ (new : Outside) (mid : Told) (kept : now ≡ mid.answers) where
     -- a session that was done as a whole
     whole_told : (x : Outcome) (cause : Cause) (f : Option FileMap) (l : Option (List (List ℕ))) (i : Option (List ℕ)) (a b : Option (List Answer))
-        → o.files ≡ f → locked ≡ l → input ≡ i → old ≡ a → now ≡ b → Goes start mid (session words) x → new ≡ outside_of mid → cause ≡ cause_of_outcome x
-        → IfSome (told_run words f l i a b) (λ told. RanWhole told o new cause)
+        → o.files ≡ f → locked ≡ l → input ≡ i → old ≡ a → now ≡ b → Goes start mid (session finds words) x → new ≡ outside_of mid → cause ≡ cause_of_outcome x
+        → IfSome (told_run finds words f l i a b) (λ told. RanWhole told o new cause)
     whole_told x cause (Some m) (Some ps) (Some i) (Some a) (Some b) ef el ei ea eb g n e =
-        let w = whole_course (session words) start mid m ps (lines_of i) x ef el (ap (option_map lines_of) ei) g in
+        let w = whole_course (session finds words) start mid m ps (lines_of i) x ef el (ap (option_map lines_of) ei) g in
         let same = given_is a b w.given old ea (sym eb ∙ kept ∙ w.kept) in
         rw (same, n) (record { ending = e ∙ ap cause_of_outcome w.gave; did = w.did; asked = w.asked })
     whole_told x cause f l i a b ef el ei ea eb g n e = tt
 
     -- a session that was stopped
     front_told : (s : Stop) (part : List ℕ) (f : Option FileMap) (l : Option (List (List ℕ))) (i : Option (List ℕ)) (a b : Option (List Answer))
-        → o.files ≡ f → locked ≡ l → input ≡ i → old ≡ a → now ≡ b → Halts start mid (session words) s → IsFront part (stop_line s) → new ≡ outside mid.out (extended mid.err part) mid.files
-        → IfSome (told_run words f l i a b) (λ told. RanFront told o new (stop_line s))
+        → o.files ≡ f → locked ≡ l → input ≡ i → old ≡ a → now ≡ b → Halts start mid (session finds words) s → IsFront part (stop_line s) → new ≡ outside mid.out (extended mid.err part) mid.files
+        → IfSome (told_run finds words f l i a b) (λ told. RanFront told o new (stop_line s))
     front_told s part (Some m) (Some ps) (Some i) (Some a) (Some b) ef el ei ea eb h front n =
-        let w = front_course (session words) start mid m ps (lines_of i) s ef el (ap (option_map lines_of) ei) h in
+        let w = front_course (session finds words) start mid m ps (lines_of i) s ef el (ap (option_map lines_of) ei) h in
         let same = given_is a b w.given old ea (sym eb ∙ kept ∙ w.kept) in
         let line : Did (outside_of mid) new (ToErr part ∷ []) = record {
           out = ap (λ (t : Outside). t.out) n ∙ sym (extended-nil mid.out);
@@ -180,30 +196,29 @@ module _ (words : List (List ℕ)) (o : Outside) (locked : Option (List (List �
         })
     front_told s part f l i a b ef el ei ea eb h front n = tt
 
-    whole_of : (r : Result Outcome Stop) (part : List ℕ) (cause : Cause) → Ways start mid (session words) r → cause ≡ cause_of r → IsFront part (end_line r) → new ≡ outside mid.out (extended mid.err part) mid.files
-        → IfNone (fault_line cause) (IfSome (told_run words o.files locked input old now) (λ told. RanWhole told o new cause))
+    whole_of : (r : Result Outcome Stop) (part : List ℕ) (cause : Cause) → Ways start mid (session finds words) r → cause ≡ cause_of r → IsFront part (end_line r) → new ≡ outside mid.out (extended mid.err part) mid.files
+        → IfNone (fault_line cause) (IfSome (told_run finds words o.files locked input old now) (λ told. RanWhole told o new cause))
     unfolding Ways
     whole_of (Ok x) part cause w e front t =
         rw (e, outcome_has_none x) (whole_told x (cause_of_outcome x) o.files locked input old now refl refl refl refl refl w (no_part mid new part front t) refl)
     whole_of (Err s) part cause w e front t = rw (e, stop_has_line s) tt
 
-    front_of : (r : Result Outcome Stop) (part : List ℕ) (cause : Cause) → Ways start mid (session words) r → cause ≡ cause_of r → IsFront part (end_line r) → new ≡ outside mid.out (extended mid.err part) mid.files
-        → IfSome (fault_line cause) (λ line. IfSome (told_run words o.files locked input old now) (λ told. RanFront told o new line))
+    front_of : (r : Result Outcome Stop) (part : List ℕ) (cause : Cause) → Ways start mid (session finds words) r → cause ≡ cause_of r → IsFront part (end_line r) → new ≡ outside mid.out (extended mid.err part) mid.files
+        → IfSome (fault_line cause) (λ line. IfSome (told_run finds words o.files locked input old now) (λ told. RanFront told o new line))
     unfolding Ways
     front_of (Ok x) part cause w e front t = rw (e, outcome_has_none x) tt
     front_of (Err s) part cause w e front t = rw (e, stop_has_line s) (front_told s part o.files locked input old now refl refl refl refl refl w front t)
 
-    valid_of : (r : Result Outcome Stop) (cause : Cause) (f : Option FileMap) → o.files ≡ f → Ways start mid (session words) r → cause ≡ cause_of r → IsNone (fault_line cause) → IfSome f (λ m. is_valid m (path_of words) ≡ true → cause ≡ causes.Done)
+    ends_of : (r : Result Outcome Stop) (cause : Cause) → Ways start mid (session finds words) r → cause ≡ cause_of r → IsNone (fault_line cause) → Ends words cause
     unfolding Ways
-    valid_of r cause None ef w e n = tt
-    valid_of (Ok x) cause (Some m) ef w e n = λ valid. e ∙ ap cause_of_outcome (valid_ends start mid m words x ef valid w)
-    valid_of (Err s) cause (Some m) ef w e n = λ valid. absurd (false≢true (sym (rw (e, stop_has_line s) at n)))
+    ends_of (Ok x) cause w e n = rw e (goes_gives (λ x. Ends words (cause_of_outcome x)) (session finds words) start mid x (session_gives finds words) w)
+    ends_of (Err s) cause w e n = absurd (false≢true (sym (rw (e, stop_has_line s) at n)))
 
-  module _ {new : Outside} {before after : Faults} {cause : Cause} (r : Ran (session words) start new now before after cause) where
-    pub went_whole : IfNone (fault_line cause) (IfSome (told_run words o.files locked input old now) (λ told. RanWhole told o new cause))
+  module _ {new : Outside} {before after : Faults} {cause : Cause} (r : Ran (session finds words) start new now before after cause) where
+    pub went_whole : IfNone (fault_line cause) (IfSome (told_run finds words o.files locked input old now) (λ told. RanWhole told o new cause))
     went_whole = whole_of new r.mid r.kept r.result r.part cause r.ways r.ending r.line r.tells
 
-    pub went_front : IfSome (fault_line cause) (λ line. IfSome (told_run words o.files locked input old now) (λ told. RanFront told o new line))
+    pub went_front : IfSome (fault_line cause) (λ line. IfSome (told_run finds words o.files locked input old now) (λ told. RanFront told o new line))
     went_front = front_of new r.mid r.kept r.result r.part cause r.ways r.ending r.line r.tells
 
     blamed : Blames cause before after
@@ -225,22 +240,21 @@ module _ (words : List (List ℕ)) (o : Outside) (locked : Option (List (List �
         → IsNone (fault_line cause) ⊎ (cause ≡ causes.Memory)
     completes f i o e = no_blame cause before after blamed f i o e
 
-    pub goes_valid : IfSome o.files (λ m. is_valid m (path_of words) ≡ true
+    -- a run that was not stopped ended as its session
+    ended : (f : Option FileMap) (l : Option (List (List ℕ))) (i : Option (List ℕ)) (a b : Option (List Answer)) → IsNone (fault_line cause)
+        → IfNone (fault_line cause) (IfSome (told_run finds words f l i a b) (λ told. RanWhole told o new cause)) → is_valid finds words f l i a b ≡ true → cause ≡ causes.Done
+    ended (Some m) (Some ps) (Some i) (Some a) (Some b) none whole valid =
+        let whole : RanWhole _ o new cause = MatchOption-at_none _ _ (is_none _ none) whole in
+        whole.ending ∙ ap cause_of_outcome (valid_done finds m ps (lines_of i) words (given a b) valid)
+    ended f l i a b none whole valid = absurd (false≢true valid)
+
+    pub goes_valid : is_valid finds words o.files locked input old now ≡ true
         → ¬ (Rose before.file after.file) → ¬ (Rose before.input after.input) → ¬ (Rose before.out after.out) → ¬ (Rose before.err after.err)
-        → (cause ≡ causes.Done) ⊎ (cause ≡ causes.Memory))
-    goes_valid = valid_at o.files refl
-      where
-        valid_at : (f : Option FileMap) → o.files ≡ f → IfSome f (λ m. is_valid m (path_of words) ≡ true
-            → ¬ (Rose before.file after.file) → ¬ (Rose before.input after.input) → ¬ (Rose before.out after.out) → ¬ (Rose before.err after.err)
-            → (cause ≡ causes.Done) ⊎ (cause ≡ causes.Memory))
-        valid_at None ef = tt
-        valid_at (Some m) ef = λ valid f i o e. elim (completes f i o e) [
-          | inl none ↦ inl (valid_of new r.mid r.kept r.result cause (Some m) ef r.ways r.ending none valid)
-          | inr memory ↦ inr memory
-        ]
+        → (cause ≡ causes.Done) ⊎ (cause ≡ causes.Memory)
+    goes_valid valid f i o' e = elim (completes f i o' e) [
+      | inl none ↦ inl (ended o.files locked input old now none went_whole valid)
+      | inr memory ↦ inr memory
+    ]
 
-    pub ends_not_built : path_of words ≡ None → IsNone (fault_line cause) → cause ≡ causes.NotBuilt
-    ends_not_built e n = r.ending ∙ words_ends start r.mid words r.result e r.ways (rw r.ending at n)
-
-    pub asks_none : now ≡ old
-    asks_none = r.kept ∙ answers_alone (session words) start r.mid r.result (session_asks_nothing words) r.ways
+    pub ends_by_words : IsNone (fault_line cause) → Ends words cause
+    ends_by_words none = ends_of new r.mid r.kept r.result cause r.ways r.ending none

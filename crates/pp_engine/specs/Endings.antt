@@ -10,8 +10,10 @@ use Rattle.pp_desk.specs.declared.stop.Stop.TheVariants as stops
 -- the exit status of a cause
 abbrev pub status_of : Cause → ℕ
 status_of causes.Done = 0
-status_of (causes.Refused r) = 1
-status_of causes.NotBuilt = 1
+status_of (causes.Usage fault) = 2
+status_of (causes.Refused refusal) = 1
+status_of (causes.Report refusal) = 1
+status_of causes.InputTooLong = 1
 status_of causes.FileFault = 3
 status_of causes.InputFault = 3
 status_of causes.OutFault = 3
@@ -22,8 +24,10 @@ status_of causes.Memory = 4
 -- error's own fault nothing is told
 abbrev pub fault_line : Cause → Option (List ℕ)
 fault_line causes.Done = None
-fault_line (causes.Refused r) = None
-fault_line causes.NotBuilt = None
+fault_line (causes.Usage fault) = None
+fault_line (causes.Refused refusal) = None
+fault_line (causes.Report refusal) = None
+fault_line causes.InputTooLong = None
 fault_line causes.FileFault = Some (codes "pprof: file fault\n")
 fault_line causes.InputFault = Some (codes "pprof: input fault\n")
 fault_line causes.OutFault = Some (codes "pprof: output fault\n")
@@ -41,8 +45,10 @@ stop_line stops.Memory = codes "pprof: out of memory\n"
 -- the cause that an outcome is
 abbrev pub cause_of_outcome : Outcome → Cause
 cause_of_outcome outcomes.Done = causes.Done
+cause_of_outcome (outcomes.Usage fault) = causes.Usage fault
 cause_of_outcome (outcomes.Refused refusal) = causes.Refused refusal
-cause_of_outcome outcomes.NotBuilt = causes.NotBuilt
+cause_of_outcome (outcomes.Report refusal) = causes.Report refusal
+cause_of_outcome outcomes.InputTooLong = causes.InputTooLong
 
 -- the cause that a stop becomes
 abbrev pub cause_of_stop : Stop → Cause

@@ -1,49 +1,40 @@
--- The lines that tell why a profile is not loaded.
-use Rattle.std.specs.Prelude.{ℕ, List, ◌++◌, codes}
-use Rattle.pp_wire.specs.declared.fault.WireKind.{WireKind}
-use Rattle.pp_wire.specs.declared.fault.WireKind.TheVariants as kinds
-use Rattle.pp_check.specs.declared.fault.Table.{Table}
-use Rattle.pp_check.specs.declared.fault.Table.TheVariants as tables
-use Rattle.pp_engine.specs.Counted.{counted_text}
-use Rattle.pp_engine.specs.declared.refusal.LoadRefusal.{LoadRefusal}
-use Rattle.pp_engine.specs.declared.refusal.LoadRefusal.TheVariants as refusals
+-- The lines that the session itself tells on standard error.
+use Rattle.std.specs.Prelude.{ℕ, List, ◌++◌, codes, decimal}
+use Rattle.pp_options.specs.declared.usage.UsageKind.{UsageKind}
+use Rattle.pp_options.specs.declared.usage.UsageKind.TheVariants.{UnknownOption, BadValue, MissingValue, TwoFormats, NoSource, TooMany, BaseTwice, NormalizeAlone}
+use Rattle.pp_options.specs.declared.usage.UsageFault.{UsageFault}
+use Rattle.pp_shell.specs.declared.fault.LineFault.{LineFault}
+use Rattle.pp_shell.specs.declared.fault.LineFault.TheVariants.{UnknownCommand, BadAssignment, MissingArgument, EmptyRedirect, PipeNotServed, LineTooLong}
 
--- what is wrong with a field
-abbrev pub kind_text : WireKind → List ℕ
-kind_text kinds.Truncated = codes "truncated"
-kind_text kinds.LongVarint = codes "varint too long"
-kind_text kinds.BadTag = codes "bad field number"
-kind_text kinds.BadKind = codes "bad kind"
-kind_text kinds.WrongKind = codes "wrong kind"
+-- what is wrong with a word
+unfoldable pub kind_text : UsageKind → List ℕ
+kind_text UnknownOption = codes "unknown option\n"
+kind_text BadValue = codes "bad value\n"
+kind_text MissingValue = codes "missing value\n"
+kind_text TwoFormats = codes "two formats\n"
+kind_text NoSource = codes "no source\n"
+kind_text TooMany = codes "too many sources\n"
+kind_text BaseTwice = codes "both -base and -diff_base\n"
+kind_text NormalizeAlone = codes "-normalize without a base\n"
 
--- what an entry of a table is called
-abbrev pub table_noun : Table → List ℕ
-table_noun tables.Texts = codes "text"
-table_noun tables.Header = codes "header"
-table_noun tables.Comments = codes "comment"
-table_noun tables.SampleTypes = codes "sample type"
-table_noun tables.Samples = codes "sample"
-table_noun tables.Mappings = codes "mapping"
-table_noun tables.Functions = codes "function"
-table_noun tables.Locations = codes "location"
+-- the line on the first word that is wrong
+unfoldable pub usage_line : UsageFault → List ℕ
+usage_line fault =
+    (codes "pprof: word " ++ decimal fault.word) ++ (codes ": " ++ kind_text fault.kind)
 
--- why a file is not loaded
-abbrev pub reason_text : LoadRefusal → List ℕ
-reason_text (refusals.Missing source) = codes "no such file"
-reason_text (refusals.TooLong source) = codes "longer than 268435456 bytes"
-reason_text (refusals.Empty source) = codes "empty"
-reason_text (refusals.Compressed source) = codes "compressed"
-reason_text (refusals.Wire source fault) =
-    kind_text fault.kind ++ counted_text (codes " at ") fault.at
-reason_text (refusals.Table source fault) =
-    counted_text (codes "rule ") fault.rule ++ codes " fails at "
-    ++ counted_text (table_noun fault.table ++ codes " ") fault.index
+-- the line on a line of the shell
+unfoldable pub line_fault_line : LineFault → List ℕ
+line_fault_line (UnknownCommand word) = (codes "pprof: unknown command: " ++ word) ++ codes "\n"
+line_fault_line (BadAssignment name) = (codes "pprof: bad assignment: " ++ name) ++ codes "\n"
+line_fault_line (MissingArgument name) = (codes "pprof: " ++ name) ++ codes " needs an argument\n"
+line_fault_line EmptyRedirect = codes "pprof: no file after >\n"
+line_fault_line PipeNotServed = codes "pprof: pipes are not served\n"
+line_fault_line LineTooLong = codes "pprof: line too long\n"
 
--- the line on a path, opaque, so that no goal shows its bytes
-unfoldable pub refusal_line : List ℕ → LoadRefusal → List ℕ
-refusal_line path refusal =
-    (codes "pprof: " ++ path ++ codes ": ") ++ reason_text refusal ++ codes "\n"
+-- the line on a path that can't be written
+unfoldable pub locked_line : List ℕ → List ℕ
+locked_line path = (codes "pprof: " ++ path) ++ codes ": cannot be written\n"
 
--- the line on what is not there yet, opaque likewise
-unfoldable pub not_supported_line : List ℕ
-not_supported_line = codes "pprof: not supported yet\n"
+-- the line on an input that is too long
+unfoldable pub input_too_long_line : List ℕ
+input_too_long_line = codes "pprof: standard input is longer than 16777216 bytes\n"

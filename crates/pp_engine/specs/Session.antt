@@ -1,71 +1,74 @@
 -- The session: from the words to all that is done for them, and how it ends.
-use Rattle.std.specs.Prelude.{◌≡◌, ◌++◌, [], ◌∷◌, List, ℕ, Bool, true, false, Option, Some, None}
-use Rattle.pp_base.specs.FileMap.{FileMap, content_at}
+use Rattle.std.specs.Prelude.{◌≡◌, ◌++◌, [], ◌∷◌, List, ℕ, Bool, true, false, Option, Some, None, Result, Ok, Err}
+use Rattle.pp_base.specs.FileMap.{FileMap}
 use Rattle.pp_base.specs.Front.{IsFront}
 use Rattle.pp_base.specs.Judges.{Answer}
 use Rattle.pp_desk.specs.Course.{Course, course, given, patterns}
 use Rattle.pp_desk.specs.Effects.{Effect, ToErr, IsFrontOf, Outside, Did}
 use Rattle.pp_desk.specs.Lines.{lines_of}
-use Rattle.pp_desk.specs.Script.{Script, Give, ◌>>=◌, write_out, write_err}
-use Rattle.pp_desk.specs.Went.{content_within}
-use Rattle.pp_model.specs.declared.profile.Profile.{Profile}
+use Rattle.pp_desk.specs.Script.{Script, Give, ◌>>=◌, write_out}
+use Rattle.pp_model.specs.declared.config.Config.{Config}
+use Rattle.pp_model.specs.declared.loaded.Loaded.{Loaded}
+use Rattle.pp_model.specs.declared.report.Report.{Report}
+use Rattle.pp_load.specs.declared.refusal.LoadRefusal.{LoadRefusal}
+use Rattle.pp_load.specs.Load.{load}
+use Rattle.pp_load.specs.Messages.{refusal_line}
+use Rattle.pp_options.specs.declared.help.Topic.{Topic}
+use Rattle.pp_options.specs.declared.plan.Plan.{Plan}
+use Rattle.pp_options.specs.declared.usage.UsageFault.{UsageFault}
+use Rattle.pp_options.specs.Help.{topic_asked, topic_text}
+use Rattle.pp_options.specs.Words.{Request}
+use Rattle.pp_options.specs.Words as options
 use Rattle.pp_engine.specs.declared.ending.Cause.{Cause}
 use Rattle.pp_engine.specs.declared.ending.Outcome.{Outcome}
 use Rattle.pp_engine.specs.declared.ending.Outcome.TheVariants as outcomes
-use Rattle.pp_engine.specs.declared.load.Loading.{Loading}
-use Rattle.pp_engine.specs.declared.load.Loading.TheVariants.{Ready, Refused, NotBuilt}
 use Rattle.pp_engine.specs.Endings.{cause_of_outcome}
-use Rattle.pp_engine.specs.Words.{path_of}
-use Rattle.pp_engine.specs.Load.{of_content, load, file_limit}
-use Rattle.pp_engine.specs.Messages.{refusal_line, not_supported_line}
-use Rattle.pp_engine.specs.TopReport.{top_report}
+use Rattle.pp_engine.specs.Messages.{usage_line}
+use Rattle.pp_engine.specs.Plans.{plan_of}
+use Rattle.pp_engine.specs.Reporting.{Finds, end_with, report_once}
+use Rattle.pp_engine.specs.Shell.{shell}
 
--- one line on standard error, and the end
-unfoldable pub end_with : List ℕ → Outcome → Script Outcome
-end_with line outcome = do
-  _ ← write_err line
-  Give outcome
+-- the report that the words name, and the shell where they name none
+unfoldable pub serve : Finds → Config → Option Report → Loaded → Script Outcome
+serve finds config (Some report) l = report_once finds l report config
+serve finds config None l = shell finds l config
 
--- the report of a profile: the notes, then the text
-unfoldable pub report : Profile → Script Outcome
-report p = do
-  _ ← write_err (top_report p).notes
-  _ ← write_out (top_report p).text
+-- what comes of the profile that was loaded, or of its refusal
+unfoldable pub serve_loaded : Finds → Plan → Result Loaded LoadRefusal → Script Outcome
+serve_loaded finds plan (Ok l) = serve finds plan.config plan.report l
+serve_loaded finds plan (Err refusal) =
+    end_with (refusal_line plan refusal) (outcomes.Refused refusal)
+
+-- what a plan asks for
+unfoldable pub perform : Finds → Plan → Script Outcome
+perform finds plan = do
+  loaded ← load finds plan
+  serve_loaded finds plan loaded
+
+-- the same, where there is one
+unfoldable pub perform_some : Finds → Option Plan → Script Outcome
+perform_some finds (Some plan) = perform finds plan
+perform_some finds None = Give outcomes.Done
+
+-- what the words ask for, or their first fault
+unfoldable pub perform_words : Finds → Result Request UsageFault → Script Outcome
+perform_words finds (Ok request) = perform_some finds (plan_of request)
+perform_words finds (Err fault) = end_with (usage_line fault) (outcomes.Usage fault)
+
+-- what the program tells of itself, and the end
+unfoldable pub tell_topic : Topic → Script Outcome
+tell_topic topic = do
+  _ ← write_out (topic_text topic)
   Give outcomes.Done
 
--- what comes of a path that was loaded
-unfoldable pub report_loading : List ℕ → Loading → Script Outcome
-report_loading path (Ready l) = report l.profile
-report_loading path (Refused refusal) =
-    end_with (refusal_line path refusal) (outcomes.Refused refusal)
-report_loading path NotBuilt = end_with not_supported_line outcomes.NotBuilt
-
--- the report on a path
-unfoldable pub report_on : List ℕ → Script Outcome
-report_on path = do
-  loading ← load path
-  report_loading path loading
-
--- the session, where the words name a path and where they don't
-unfoldable pub session_on : Option (List ℕ) → Script Outcome
-session_on None = end_with not_supported_line outcomes.NotBuilt
-session_on (Some path) = report_on path
+-- what the program tells of itself, where the words ask for that, and else all that they ask for
+unfoldable pub begin : Finds → List (List ℕ) → Option Topic → Script Outcome
+begin finds words (Some topic) = tell_topic topic
+begin finds words None = perform_words finds (options.words words)
 
 -- The session of these words.
-unfoldable pub session : List (List ℕ) → Script Outcome
-session words = session_on (path_of words)
-
--- a profile was loaded
-abbrev pub is_loaded : Loading → Bool
-is_loaded (Ready l) = true
-is_loaded (Refused refusal) = false
-is_loaded NotBuilt = false
-
--- The words name a path, and the profile there is loaded.
-abbrev pub is_valid : FileMap → Option (List ℕ) → Bool
-is_valid files None = false
-is_valid files (Some path) =
-    is_loaded (of_content (content_within file_limit (content_at files path)))
+unfoldable pub session : Finds → List (List ℕ) → Script Outcome
+session finds words = begin finds words (topic_asked words)
 
 -- What a run is to do, how it is to end, and which patterns it is to ask.
 pub record Session : Type 0 where
@@ -85,14 +88,15 @@ pub record ToldRun : Type 0 where
 
 -- The run of these words over files, locked paths, standard input and the matcher's answers before
 -- and after it. It is told where the files, the input and the matcher tell what they hold.
-abbrev pub told_run : List (List ℕ) → Option FileMap → Option (List (List ℕ)) → Option (List ℕ)
-    → Option (List Answer) → Option (List Answer) → Option ToldRun
-told_run words (Some files) (Some locked) (Some input) (Some old) (Some new) =
+abbrev pub told_run : Finds → List (List ℕ) → Option FileMap → Option (List (List ℕ))
+    → Option (List ℕ) → Option (List Answer) → Option (List Answer) → Option ToldRun
+told_run finds words (Some files) (Some locked) (Some input) (Some old) (Some new) =
     Some (record {
-      session = session_of (course (session words) files locked (lines_of input) (given old new));
+      session = session_of
+          (course (session finds words) files locked (lines_of input) (given old new));
       asked = patterns (given old new);
     })
-told_run words files locked input old new = None
+told_run finds words files locked input old new = None
 
 -- The run went as its session: all effects were done, and nothing else.
 pub record RanWhole (t : ToldRun) (old new : Outside) (cause : Cause) : Type 0 where

@@ -2,18 +2,24 @@
 ghost use Rattle.std.specs.Prelude.{◌≡◌};
 ghost use Rattle.pp_engine.specs.Endings.{cause_of_outcome, cause_of_stop, status_of};
 
-use crate::refusal::LoadRefusal;
 use pp_desk::Stop;
+use pp_load::LoadRefusal;
+use pp_options::UsageFault;
+use pp_report::ReportRefusal;
 
 /// Why a run ended.
 #[derive(Clone, Copy, Debug, PartialEq, Eq)]
 pub enum Cause {
     /// All was done.
     Done,
-    /// A profile could not be loaded.
+    /// A word is wrong.
+    Usage(UsageFault),
+    /// The profile could not be loaded.
     Refused(LoadRefusal),
-    /// The words or the profile ask for a part of the program that is not there yet.
-    NotBuilt,
+    /// The report that the words ask for could not be made.
+    Report(ReportRefusal),
+    /// In the shell: 16,777,216 bytes of standard input were read, and no line ends in what is left of them.
+    InputTooLong,
     /// A file failed while it was read or written.
     FileFault,
     /// Standard input failed.
@@ -29,7 +35,7 @@ pub enum Cause {
 /// The end of a run: its cause, and the exit status that tells it.
 #[derive(Clone, Copy, Debug, PartialEq, Eq)]
 pub struct Ending {
-    /// 0 where all was done, 1 for a refusal, 3 for a fault of the outside, 4 for want of memory.
+    /// 0 where all was done, 1 for a refusal, 2 for a wrong word, 3 for a fault of the outside, 4 for want of memory.
     pub status: u8,
     /// Why the run ended.
     pub cause: Cause,
@@ -43,7 +49,8 @@ impl Ending {
     {
         let status = match cause {
             Cause::Done => 0,
-            Cause::Refused(_) | Cause::NotBuilt => 1,
+            Cause::Refused(_) | Cause::Report(_) | Cause::InputTooLong => 1,
+            Cause::Usage(_) => 2,
             Cause::FileFault | Cause::InputFault | Cause::OutFault | Cause::ErrFault => 3,
             Cause::Memory => 4,
         };
@@ -56,10 +63,14 @@ impl Ending {
 pub enum Outcome {
     /// All was done.
     Done,
-    /// A profile could not be loaded.
+    /// A word is wrong.
+    Usage(UsageFault),
+    /// The profile could not be loaded.
     Refused(LoadRefusal),
-    /// The words or the profile ask for a part of the program that is not there yet.
-    NotBuilt,
+    /// The report that the words ask for could not be made.
+    Report(ReportRefusal),
+    /// In the shell: standard input is longer than its limit.
+    InputTooLong,
 }
 
 /// The cause that an outcome is.
@@ -68,8 +79,10 @@ pub fn cause_of_outcome(outcome: Outcome) -> Cause
 {
     match outcome {
         Outcome::Done => Cause::Done,
+        Outcome::Usage(fault) => Cause::Usage(fault),
         Outcome::Refused(refusal) => Cause::Refused(refusal),
-        Outcome::NotBuilt => Cause::NotBuilt,
+        Outcome::Report(refusal) => Cause::Report(refusal),
+        Outcome::InputTooLong => Cause::InputTooLong,
     }
 }
 

@@ -1,23 +1,17 @@
-//! The session: words and files to effects and an ending.
+//! The session: all that is done for the words after the program's name, by one report or in the shell, and how it
+//! ends.
 #![tactic(auto)]
 
-mod built;
-mod column;
-mod columns;
-mod counted;
 mod ending;
-mod lines;
-mod load;
 mod message;
-mod rank;
-mod refusal;
-mod report;
-mod rows;
+mod reporting;
 mod running;
 mod session;
-mod tally;
-mod words;
+mod shell;
 
 pub use ending::{Cause, Ending};
-pub use refusal::LoadRefusal;
+pub use pp_load::{LoadRefusal, gen_profile, load};
+pub use pp_report::{ReportRefusal, generate};
+pub use reporting::reports_are_told;
 pub use running::run;
+pub use shell::turns_suffice;

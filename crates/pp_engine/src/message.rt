@@ -1,106 +1,86 @@
-// The lines that tell why a profile is not loaded.
-ghost use Rattle.std.specs.Prelude.{◌≡◌, ◌++◌, codes, IfOk};
-ghost use Rattle.pp_engine.specs.Counted.{counted_text};
-ghost use Rattle.pp_engine.specs.Messages.{kind_text, table_noun, reason_text, refusal_line, not_supported_line};
+// The lines that the session itself tells on standard error.
+ghost use Rattle.std.specs.Prelude.{◌≡◌, ◌++◌, IfOk};
+ghost use Rattle.pp_engine.specs.Messages.{kind_text, usage_line, line_fault_line, locked_line, input_too_long_line};
 
-use crate::counted::put_counted;
-use crate::refusal::LoadRefusal;
+use itoa::Buffer;
 use pp_base::{Memory, Text};
-use pp_check::{Table, TableFault};
-use pp_wire::{WireFault, WireKind};
+use pp_options::{UsageFault, UsageKind};
+use pp_shell::LineFault;
 use std::alloc::Global;
 
-/// The line on what is not there yet.
-#[tactic(auto, unfolding(crate::specs::Messages::not_supported_line))]
-pub fn not_supported_line() -> &'static [u8]
-    ensures { result.now ≡ not_supported_line }
+/// The line on the first word that is wrong.
+#[tactic(auto, unfolding(crate::specs::Messages::usage_line))]
+pub fn usage_line(alloc: Global, fault: UsageFault) -> Result<Text, Memory>
+    ensures { IfOk result (λ line. line ≡ usage_line fault) }
 {
-    b"pprof: not supported yet\n"
-}
-
-/// The line on a path whose profile is not loaded.
-#[tactic(auto, unfolding(crate::specs::Messages::refusal_line))]
-pub fn refusal_line(alloc: Global, path: &Text, refusal: LoadRefusal) -> Result<Text, Memory>
-    ensures { IfOk result (λ line. line ≡ refusal_line path.now refusal) }
-{
+    let mut digits = Buffer::new();
     let mut line = Text::new(alloc);
-    put_path(path, &mut line)?;
-    put_reason(refusal, &mut line)?;
-    line.extend(b"\n")?;
+    line.extend(b"pprof: word ")?;
+    line.extend(digits.format(fault.word).as_bytes())?;
+    line.extend(b": ")?;
+    line.extend(kind_text(fault.kind))?;
     Ok(line)
 }
 
-fn put_path(path: &Text, line: &mut Text) -> Result<(), Memory>
-    ensures { IfOk result (λ _.
-        line.new ≡ line.old ++ (codes "pprof: " ++ path.now ++ codes ": ")) }
-{
-    line.extend(b"pprof: ")?;
-    line.extend(path.as_slice())?;
-    line.extend(b": ")
-}
-
-fn put_reason(refusal: LoadRefusal, line: &mut Text) -> Result<(), Memory>
-    ensures { IfOk result (λ _. line.new ≡ line.old ++ reason_text refusal) }
-{
-    match refusal {
-        LoadRefusal::Missing { .. } => line.extend(b"no such file"),
-        LoadRefusal::TooLong { .. } => line.extend(b"longer than 268435456 bytes"),
-        LoadRefusal::Empty { .. } => line.extend(b"empty"),
-        LoadRefusal::Compressed { .. } => line.extend(b"compressed"),
-        LoadRefusal::Wire { fault, .. } => put_wire_fault(fault, line),
-        LoadRefusal::Table { fault, .. } => put_table_fault(fault, line),
-    }
-}
-
-fn put_wire_fault(fault: WireFault, line: &mut Text) -> Result<(), Memory>
-    ensures { IfOk result (λ _.
-        line.new ≡ line.old ++ (kind_text fault.kind ++ counted_text (codes " at ") fault.at)) }
-{
-    line.extend(kind_text(fault.kind))?;
-    put_counted(b" at ", fault.at, line)
-}
-
-fn kind_text(kind: WireKind) -> &'static [u8]
+#[tactic(auto, unfolding(crate::specs::Messages::kind_text))]
+fn kind_text(kind: UsageKind) -> &'static [u8]
     ensures { result.now ≡ kind_text kind }
 {
     match kind {
-        WireKind::Truncated => b"truncated",
-        WireKind::LongVarint => b"varint too long",
-        WireKind::BadTag => b"bad field number",
-        WireKind::BadKind => b"bad kind",
-        WireKind::WrongKind => b"wrong kind",
+        UsageKind::UnknownOption => b"unknown option\n",
+        UsageKind::BadValue => b"bad value\n",
+        UsageKind::MissingValue => b"missing value\n",
+        UsageKind::TwoFormats => b"two formats\n",
+        UsageKind::NoSource => b"no source\n",
+        UsageKind::TooMany => b"too many sources\n",
+        UsageKind::BaseTwice => b"both -base and -diff_base\n",
+        UsageKind::NormalizeAlone => b"-normalize without a base\n",
     }
 }
 
-fn put_table_fault(fault: TableFault, line: &mut Text) -> Result<(), Memory>
-    ensures { IfOk result (λ _. line.new ≡ line.old
-        ++ (counted_text (codes "rule ") fault.rule ++ codes " fails at "
-        ++ counted_text (table_noun fault.table ++ codes " ") fault.index)) }
+/// The line on a line of the shell.
+#[tactic(auto, unfolding(crate::specs::Messages::line_fault_line))]
+pub fn line_fault_line(alloc: Global, fault: &LineFault) -> Result<Text, Memory>
+    ensures { IfOk result (λ line. line ≡ line_fault_line fault.now) }
 {
-    put_counted(b"rule ", u64::from(fault.rule), line)?;
-    line.extend(b" fails at ")?;
-    put_entry(fault.table, u64::from(fault.index), line)
-}
-
-fn put_entry(table: Table, index: u64, line: &mut Text) -> Result<(), Memory>
-    ensures { IfOk result (λ _.
-        line.new ≡ line.old ++ counted_text (table_noun table ++ codes " ") index) }
-{
-    line.extend(table_noun(table))?;
-    put_counted(b" ", index, line)
-}
-
-fn table_noun(table: Table) -> &'static [u8]
-    ensures { result.now ≡ table_noun table }
-{
-    match table {
-        Table::Texts => b"text",
-        Table::Header => b"header",
-        Table::Comments => b"comment",
-        Table::SampleTypes => b"sample type",
-        Table::Samples => b"sample",
-        Table::Mappings => b"mapping",
-        Table::Functions => b"function",
-        Table::Locations => b"location",
+    match fault {
+        LineFault::UnknownCommand(word) => framed(alloc, b"pprof: unknown command: ", word, b"\n"),
+        LineFault::BadAssignment(name) => framed(alloc, b"pprof: bad assignment: ", name, b"\n"),
+        LineFault::MissingArgument(name) => framed(
+            alloc,
+            b"pprof: ",
+            name,
+            b" needs an argument\n",
+        ),
+        LineFault::EmptyRedirect => Text::from_slice(alloc, b"pprof: no file after >\n"),
+        LineFault::PipeNotServed => Text::from_slice(alloc, b"pprof: pipes are not served\n"),
+        LineFault::LineTooLong => Text::from_slice(alloc, b"pprof: line too long\n"),
     }
+}
+
+// The text between two others.
+fn framed(alloc: Global, front: &[u8], text: &Text, back: &[u8]) -> Result<Text, Memory>
+    ensures { IfOk result (λ line. line ≡ (front.now ++ text.now) ++ back.now) }
+{
+    let mut line = Text::new(alloc);
+    line.extend(front)?;
+    line.extend(text.as_slice())?;
+    line.extend(back)?;
+    Ok(line)
+}
+
+/// The line on a path that can't be written.
+#[tactic(auto, unfolding(crate::specs::Messages::locked_line))]
+pub fn locked_line(alloc: Global, path: &Text) -> Result<Text, Memory>
+    ensures { IfOk result (λ line. line ≡ locked_line path.now) }
+{
+    framed(alloc, b"pprof: ", path, b": cannot be written\n")
+}
+
+/// The line on an input that is too long.
+#[tactic(auto, unfolding(crate::specs::Messages::input_too_long_line))]
+pub fn input_too_long_line() -> &'static [u8]
+    ensures { result.now ≡ input_too_long_line }
+{
+    b"pprof: standard input is longer than 16777216 bytes\n"
 }

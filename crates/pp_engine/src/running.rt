@@ -1,13 +1,14 @@
 // The top call: what a run does, from its words to its ending.
-ghost use Rattle.std.specs.Prelude.{◌≡◌, ◌⊎◌, true, None, IfNone, IfSome, IsNone};
+ghost use Rattle.std.specs.Prelude.{◌≡◌, ◌⊎◌, true, false, IfNone, IfSome, IsNone};
 ghost use Rattle.pp_base.specs.Fault.{Rose};
 ghost use Rattle.pp_desk.specs.Closes.{Closes};
 ghost use Rattle.pp_desk.specs.Course.{outside_of};
 ghost use Rattle.pp_desk.specs.Effects.{outside};
 ghost use Rattle.pp_engine.specs.Endings.{fault_line, status_of, stop_line};
 ghost use Rattle.pp_engine.specs.Run.{Ran, told_at, faults};
-ghost use Rattle.pp_engine.specs.Session.{session, is_valid, told_run, RanWhole, RanFront};
-ghost use Rattle.pp_engine.specs.Words.{path_of};
+ghost use Rattle.pp_engine.specs.Session.{session, told_run, RanWhole, RanFront};
+ghost use Rattle.pp_engine.specs.Validity.{is_valid};
+ghost use Rattle.pp_engine.specs.Words.{Ends, starts_shell};
 
 use crate::ending::{Cause, Ending, cause_of_outcome, cause_of_stop};
 use crate::session::session;
@@ -19,7 +20,7 @@ use std::thread::Threads;
 /// The whole program: what it does for the words after its name, over files, standard input, both outputs, a matcher of patterns and
 /// a gate. A report's text is whole before its first byte goes out, and the line of an ending is written last.
 pub fn run<R: Threads + Sync, F: Files, I: Source, O: Sink, E: Sink, M: Matcher, G: Gate>(
-    _rt: &R,
+    rt: &R,
     alloc: Global,
     words: &[Text],
     files: &mut F,
@@ -27,26 +28,26 @@ pub fn run<R: Threads + Sync, F: Files, I: Source, O: Sink, E: Sink, M: Matcher,
     out: &mut O,
     err: &mut E,
     matcher: &mut M,
-    _gate: &G,
+    gate: &G,
 ) -> Ending
     ensures status { result.status ≡ status_of result.cause }
 
     // Where nothing stopped it, it did all that the session does, and nothing else, and ended as the session.
     ensures whole { IfNone (fault_line result.cause)
-        (IfSome (told_run words.now (F.content files.old) (F.locked files.old) (I.left input.old)
+        (IfSome (told_run M.finds words.now (F.content files.old) (F.locked files.old) (I.left input.old)
         (M.answers matcher.old) (M.answers matcher.new)) (λ told.
         RanWhole told (outside (O.written out.old) (E.written err.old) (F.content files.old))
         (outside (O.written out.new) (E.written err.new) (F.content files.new)) result.cause)) }
 
     // Else it did a front of what the session does, and then told of the fault, as far as it could.
     ensures front { IfSome (fault_line result.cause) (λ line.
-        IfSome (told_run words.now (F.content files.old) (F.locked files.old) (I.left input.old)
+        IfSome (told_run M.finds words.now (F.content files.old) (F.locked files.old) (I.left input.old)
         (M.answers matcher.old) (M.answers matcher.new)) (λ told.
         RanFront told (outside (O.written out.old) (E.written err.old) (F.content files.old))
         (outside (O.written out.new) (E.written err.new) (F.content files.new)) line)) }
 
     // The session alone decides how the run ends: while the line of a stop is told, the ending stays what it was.
-    ensures ending { Ran (session words.now)
+    ensures ending { Ran (session M.finds words.now)
         (told_at (outside (O.written out.old) (E.written err.old) (F.content files.old))
         (F.locked files.old) (I.left input.old) (M.answers matcher.old))
         (outside (O.written out.new) (E.written err.new) (F.content files.new))
@@ -72,27 +73,27 @@ pub fn run<R: Threads + Sync, F: Files, I: Source, O: Sink, E: Sink, M: Matcher,
         → ¬ (Rose (E.faults err.old) (E.faults err.new))
         → IsNone (fault_line result.cause) ⊎ (result.cause ≡ Cause.Memory) }
 
-    // A run whose words name a profile that is loaded then ends done, if memory suffices.
-    ensures valid { IfSome (F.content files.old) (λ m. is_valid m (path_of words.now) ≡ true
+    // A valid run then ends done, if memory suffices.
+    ensures valid { is_valid M.finds words.now (F.content files.old) (F.locked files.old)
+        (I.left input.old) (M.answers matcher.old) (M.answers matcher.new) ≡ true
         → ¬ (Rose (F.faults files.old) (F.faults files.new))
         → ¬ (Rose (I.faults input.old) (I.faults input.new))
         → ¬ (Rose (O.faults out.old) (O.faults out.new))
         → ¬ (Rose (E.faults err.old) (E.faults err.new))
-        → (result.cause ≡ Cause.Done) ⊎ (result.cause ≡ Cause.Memory)) }
+        → (result.cause ≡ Cause.Done) ⊎ (result.cause ≡ Cause.Memory) }
 
-    // Words that name no path are not supported yet, whatever the objects tell.
-    ensures words { path_of words.now ≡ None → IsNone (fault_line result.cause)
-        → result.cause ≡ Cause.NotBuilt }
+    // Wrong words alone decide how a run ends, and others by which causes it may, whatever the objects tell.
+    ensures words { IsNone (fault_line result.cause) → Ends words.now result.cause }
 
-    // These words read no input and ask no pattern.
-    ensures unread { I.left input.new ≡ I.left input.old }
-    ensures unasked { M.answers matcher.new ≡ M.answers matcher.old }
+    // Words that do not ask for the shell read no input.
+    ensures unread { starts_shell words.now ≡ false → I.left input.new ≡ I.left input.old }
 {
-    run_objects(alloc, words, files, input, out, err, matcher)
+    run_objects(rt, alloc, words, files, input, out, err, matcher, gate)
 }
 
 // The same over the objects, by the two clauses of which all else follows.
-fn run_objects<F: Files, I: Source, O: Sink, E: Sink, M: Matcher>(
+fn run_objects<R: Threads + Sync, F: Files, I: Source, O: Sink, E: Sink, M: Matcher, G: Gate>(
+    rt: &R,
     alloc: Global,
     words: &[Text],
     files: &mut F,
@@ -100,9 +101,10 @@ fn run_objects<F: Files, I: Source, O: Sink, E: Sink, M: Matcher>(
     out: &mut O,
     err: &mut E,
     matcher: &mut M,
+    gate: &G,
 ) -> Ending
     ensures status { result.status ≡ status_of result.cause }
-    ensures ending { Ran (session words.now)
+    ensures ending { Ran (session M.finds words.now)
         (told_at (outside (O.written out.old) (E.written err.old) (F.content files.old))
         (F.locked files.old) (I.left input.old) (M.answers matcher.old))
         (outside (O.written out.new) (E.written err.new) (F.content files.new))
@@ -110,7 +112,7 @@ fn run_objects<F: Files, I: Source, O: Sink, E: Sink, M: Matcher>(
         (faults (F.faults files.old) (I.faults input.old) (O.faults out.old) (E.faults err.old))
         (faults (F.faults files.new) (I.faults input.new) (O.faults out.new) (E.faults err.new))
         result.cause }
-    ensures unread { I.left input.new ≡ I.left input.old }
+    ensures unread { starts_shell words.now ≡ false → I.left input.new ≡ I.left input.old }
 {
     let mut reader = None;
     let mut objects = Objects {
@@ -122,21 +124,29 @@ fn run_objects<F: Files, I: Source, O: Sink, E: Sink, M: Matcher>(
         matcher: &mut *matcher,
         reader: &mut reader,
     };
-    run_session(alloc, words, &mut objects)
+    run_session(rt, alloc, words, &mut objects, gate)
 }
 
 // The session, and the line of its stop.
 #[tactic(auto, using(crate::proofs::Runs::running))]
-fn run_session<D: Desk>(alloc: Global, words: &[Text], desk: &mut D) -> Ending
+fn run_session<R: Threads + Sync, D: Desk, G: Gate>(
+    rt: &R,
+    alloc: Global,
+    words: &[Text],
+    desk: &mut D,
+    gate: &G,
+) -> Ending
     ensures status { result.status ≡ status_of result.cause }
-    ensures ending { Ran (session words.now) (D.world desk.old).told
+    ensures ending { Ran (session D.finds words.now) (D.world desk.old).told
         (outside_of (D.world desk.new).told) (D.world desk.new).told.answers
         (D.world desk.old).faults (D.world desk.new).faults result.cause }
-    ensures lines { (D.world desk.new).told.lines ≡ (D.world desk.old).told.lines }
-    ensures unread { (D.world desk.new).told.unread ≡ (D.world desk.old).told.unread }
+    ensures lines { starts_shell words.now ≡ false
+        → (D.world desk.new).told.lines ≡ (D.world desk.old).told.lines }
+    ensures unread { starts_shell words.now ≡ false
+        → (D.world desk.new).told.unread ≡ (D.world desk.old).told.unread }
     ensures same { (D.world desk.new).names ≡ (D.world desk.old).names }
 {
-    match session(alloc, words, desk) {
+    match session(rt, alloc, words, desk, gate) {
         Ok(outcome) => Ending::of(cause_of_outcome(outcome)),
         Err(stop) => {
             tell_stop(stop, desk);

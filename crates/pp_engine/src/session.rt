@@ -1,91 +1,149 @@
-// The session of the words: what is loaded, reported or refused, step by step.
+// The session: from the words to all that is done for them, and how it ends.
+ghost use Rattle.std.specs.Prelude.{◌≡◌, IfOk};
 ghost use Rattle.pp_desk.specs.Went.{Went};
-ghost use Rattle.pp_engine.specs.Messages.{refusal_line};
-ghost use Rattle.pp_engine.specs.Ready.{IsReady, IsReportable};
-ghost use Rattle.pp_engine.specs.Session.{end_with, report, report_loading, report_on, session};
+ghost use Rattle.pp_load.specs.Messages.{refusal_line};
+ghost use Rattle.pp_model.specs.Sizes.{IsCountable};
+ghost use Rattle.pp_options.specs.Words as options;
+ghost use Rattle.pp_engine.specs.Messages.{usage_line};
+ghost use Rattle.pp_engine.specs.Reporting.{end_with};
+ghost use Rattle.pp_engine.specs.Session.{session, begin, perform_words, perform, serve_loaded, serve, tell_topic};
+ghost use Rattle.pp_engine.specs.declared.ending.Outcome.TheVariants as outcomes;
 
 use crate::ending::Outcome;
-use crate::load::{Loading, load};
-use crate::message::{not_supported_line, refusal_line};
-use crate::refusal::LoadRefusal;
-use crate::report::top_report;
-use crate::words::read_words;
-use pp_base::Text;
+use crate::message::usage_line;
+use crate::reporting::{end_with, report_once};
+use crate::shell::shell;
+use pp_base::{Gate, Text};
 use pp_desk::{Desk, Stop};
-use pp_model::Loaded;
+use pp_load::{LoadRefusal, load, refusal_line};
+use pp_model::{Config, Loaded, Report};
+use pp_options::{Plan, Topic, UsageFault, UsageRefusal, read_words, topic_asked, write_topic};
 use std::alloc::Global;
+use std::thread::Threads;
 
 /// The session of these words.
-#[tactic(auto, using(pp_desk::proofs::Going::going), unfolding(crate::specs::Session::session, crate::specs::Session::session_on))]
-pub fn session<D: Desk>(alloc: Global, words: &[Text], desk: &mut D) -> Result<Outcome, Stop>
-    ensures { Went (D.world desk.old) (D.world desk.new) (session words.now) result }
-{
-    match read_words(words) {
-        None => end_with(not_supported_line(), Outcome::NotBuilt, desk),
-        Some(path) => report_on(alloc, path, desk),
-    }
-}
-
-// The report on a path.
-#[tactic(auto, using(pp_desk::proofs::Going::going), unfolding(crate::specs::Session::report_on))]
-fn report_on<D: Desk>(alloc: Global, path: &Text, desk: &mut D) -> Result<Outcome, Stop>
-    ensures { Went (D.world desk.old) (D.world desk.new) (report_on path.now) result }
-{
-    let loading = load(alloc, path, desk)?;
-    report_loading(alloc, path, &loading, desk)
-}
-
-// What comes of a path that was loaded.
-#[tactic(auto, using(pp_desk::proofs::Going::going), unfolding(crate::specs::Session::report_loading))]
-fn report_loading<D: Desk>(
+#[tactic(auto, using(pp_desk::proofs::Going::going), unfolding(crate::specs::Session::session, crate::specs::Session::begin))]
+pub fn session<R: Threads + Sync, D: Desk, G: Gate>(
+    rt: &R,
     alloc: Global,
-    path: &Text,
-    loading: &Loading,
+    words: &[Text],
     desk: &mut D,
+    gate: &G,
 ) -> Result<Outcome, Stop>
-    requires { IsReady loading.now }
-    ensures { Went (D.world desk.old) (D.world desk.new)
-        (report_loading path.now loading.now) result }
+    ensures { Went (D.world desk.old) (D.world desk.new) (session D.finds words.now) result }
 {
-    match loading {
-        Loading::Ready(l) => report(alloc, l, desk),
-        Loading::Refused(refusal) => refuse(alloc, path, *refusal, desk),
-        Loading::NotBuilt => end_with(not_supported_line(), Outcome::NotBuilt, desk),
+    match topic_asked(words) {
+        Some(topic) => tell_topic(alloc, topic, desk),
+        None => perform_words(rt, alloc, words, desk, gate),
     }
 }
 
-// The report of a profile: its notes, then its text, which is whole before its first byte goes out.
-#[tactic(auto, using(pp_desk::proofs::Going::going), unfolding(crate::specs::Session::report))]
-fn report<D: Desk>(alloc: Global, l: &Loaded, desk: &mut D) -> Result<Outcome, Stop>
-    requires { IsReportable l.now.profile }
-    ensures { Went (D.world desk.old) (D.world desk.new) (report l.now.profile) result }
+// What the program tells of itself, and the end.
+#[tactic(auto, using(pp_desk::proofs::Going::going), unfolding(crate::specs::Session::tell_topic))]
+fn tell_topic<D: Desk>(alloc: Global, topic: Topic, desk: &mut D) -> Result<Outcome, Stop>
+    ensures { Went (D.world desk.old) (D.world desk.new) (tell_topic topic) result }
 {
-    let reported = top_report(alloc, l)?;
-    desk.write_err(reported.notes.as_slice())?;
-    desk.write_out(reported.text.as_slice())?;
+    let mut text = Text::new(alloc);
+    write_topic(topic, &mut text)?;
+    desk.write_out(text.as_slice())?;
     Ok(Outcome::Done)
 }
 
-// Why a profile is not loaded, and the end.
+// All that the words ask for.
 #[tactic(auto, using(pp_desk::proofs::Going::going))]
-fn refuse<D: Desk>(
+fn perform_words<R: Threads + Sync, D: Desk, G: Gate>(
+    rt: &R,
     alloc: Global,
-    path: &Text,
+    words: &[Text],
+    desk: &mut D,
+    gate: &G,
+) -> Result<Outcome, Stop>
+    ensures { Went (D.world desk.old) (D.world desk.new)
+        (perform_words D.finds (options.words words.now)) result }
+{
+    match read_words(alloc, words) {
+        Ok(plan) => perform(rt, alloc, &plan, desk, gate),
+        Err(UsageRefusal::Fault(fault)) => refuse_words(alloc, fault, desk),
+        Err(UsageRefusal::Memory) => Err(Stop::Memory),
+    }
+}
+
+// What is wrong with the words, and the end.
+#[tactic(auto, using(pp_desk::proofs::Going::going))]
+fn refuse_words<D: Desk>(alloc: Global, fault: UsageFault, desk: &mut D) -> Result<Outcome, Stop>
+    ensures { Went (D.world desk.old) (D.world desk.new)
+        (end_with (usage_line fault) (outcomes.Usage fault)) result }
+{
+    let line = usage_line(alloc, fault)?;
+    end_with(line.as_slice(), Outcome::Usage(fault), desk)
+}
+
+// What a plan asks for: its profile is loaded, and then the report is made or the shell begins.
+#[tactic(auto, using(pp_desk::proofs::Going::going), unfolding(crate::specs::Session::perform))]
+fn perform<R: Threads + Sync, D: Desk, G: Gate>(
+    rt: &R,
+    alloc: Global,
+    plan: &Plan,
+    desk: &mut D,
+    gate: &G,
+) -> Result<Outcome, Stop>
+    ensures { Went (D.world desk.old) (D.world desk.new) (perform D.finds plan.now) result }
+{
+    let loaded = load(alloc, plan, desk)?;
+    serve_loaded(rt, alloc, plan, &loaded, desk, gate)
+}
+
+#[tactic(auto, using(pp_desk::proofs::Going::going), unfolding(crate::specs::Session::serve_loaded))]
+fn serve_loaded<R: Threads + Sync, D: Desk, G: Gate>(
+    rt: &R,
+    alloc: Global,
+    plan: &Plan,
+    loaded: &Result<Loaded, LoadRefusal>,
+    desk: &mut D,
+    gate: &G,
+) -> Result<Outcome, Stop>
+    requires { IfOk loaded.now (λ l. IsCountable l.profile) }
+    ensures { Went (D.world desk.old) (D.world desk.new)
+        (serve_loaded D.finds plan.now loaded.now) result }
+{
+    match loaded {
+        Ok(l) => serve(rt, alloc, &plan.config, &plan.report, l, desk, gate),
+        Err(refusal) => refuse_profile(alloc, plan, *refusal, desk),
+    }
+}
+
+// Why no profile is loaded, and the end.
+#[tactic(auto, using(pp_desk::proofs::Going::going))]
+fn refuse_profile<D: Desk>(
+    alloc: Global,
+    plan: &Plan,
     refusal: LoadRefusal,
     desk: &mut D,
 ) -> Result<Outcome, Stop>
     ensures { Went (D.world desk.old) (D.world desk.new)
-        (end_with (refusal_line path.now refusal) (Outcome.Refused refusal)) result }
+        (end_with (refusal_line plan.now refusal) (outcomes.Refused refusal)) result }
 {
-    let line = refusal_line(alloc, path, refusal)?;
+    let line = refusal_line(alloc, plan, refusal)?;
     end_with(line.as_slice(), Outcome::Refused(refusal), desk)
 }
 
-// One line on standard error, and the end.
-#[tactic(auto, using(pp_desk::proofs::Going::going), unfolding(crate::specs::Session::end_with))]
-fn end_with<D: Desk>(line: &[u8], outcome: Outcome, desk: &mut D) -> Result<Outcome, Stop>
-    ensures { Went (D.world desk.old) (D.world desk.new) (end_with line.now outcome) result }
+// The report that the words name, and the shell where they name none.
+#[tactic(auto, using(pp_desk::proofs::Going::going), unfolding(crate::specs::Session::serve))]
+fn serve<R: Threads + Sync, D: Desk, G: Gate>(
+    rt: &R,
+    alloc: Global,
+    config: &Config,
+    report: &Option<Report>,
+    l: &Loaded,
+    desk: &mut D,
+    gate: &G,
+) -> Result<Outcome, Stop>
+    requires { IsCountable l.now.profile }
+    ensures { Went (D.world desk.old) (D.world desk.new)
+        (serve D.finds config.now report.now l.now) result }
 {
-    desk.write_err(line)?;
-    Ok(outcome)
+    match report {
+        Some(report) => report_once(rt, alloc, l, report, config, desk, gate),
+        None => shell(rt, alloc, l, config, desk, gate),
+    }
 }

@@ -2,14 +2,17 @@
 #![tactic(auto)]
 
 mod files;
+mod input;
 mod streams;
 #[cfg(test)]
 mod tests;
 mod words;
 
 use files::RealFiles;
-use pp_base::{CalmSource, List, Literal, OpenGate, Text, write_all};
+use input::Input;
+use pp_base::{OpenGate, write_all};
 use pp_engine::run;
+use pp_regex::RegexMatcher;
 use std::alloc::Global;
 use std::process::ExitCode;
 use streams::Output;
@@ -29,8 +32,8 @@ fn main(rt: HostRuntime) -> ExitCode {
         return ExitCode::from(MEMORY_STATUS);
     };
     let mut files = RealFiles::new(&rt);
-    let mut input = CalmSource::new(Text::new(alloc), 1);
-    let mut matcher = Literal::new(alloc, List::new(alloc));
+    let mut input = Input::new(rt.stdin());
+    let mut matcher = RegexMatcher::new(alloc);
     let ending = run(
         &rt,
         alloc,

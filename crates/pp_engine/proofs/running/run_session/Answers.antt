@@ -1,8 +1,12 @@
-use Rattle.pp_engine.proofs.Runs.{lines_front, unread_front}
+use Rattle.pp_engine.proofs.Runs.{ran_whole, lines_front, unread_front}
 use Rattle.pp_engine.proofs.running.run_session.Goals as goal
 
+pub returns-in-Ok-clause-ending : goal.returns-in-Ok-clause-ending
+returns-in-Ok-clause-ending g c =
+    rw (c.of.ensures.cause, c.cause_of_outcome.ensures) (ran_whole g.D.Desk.finds c.args.words.now _ _ c.in-Ok.outcome c.in-Ok.ensures)
+
 pub returns-in-Err-clause-lines : goal.returns-in-Err-clause-lines
-returns-in-Err-clause-lines g c = lines_front c.args.words.now _ _ _ _ _ c.in-Err.ensures c.tell_stop.ensures
+returns-in-Err-clause-lines g c = lines_front g.D.Desk.finds c.args.words.now _ _ _ _ _ c.in-Err.ensures c.tell_stop.ensures
 
 pub returns-in-Err-clause-unread : goal.returns-in-Err-clause-unread
-returns-in-Err-clause-unread g c = unread_front c.args.words.now _ _ _ _ _ c.in-Err.ensures c.tell_stop.ensures
+returns-in-Err-clause-unread g c = unread_front g.D.Desk.finds c.args.words.now _ _ _ _ _ c.in-Err.ensures c.tell_stop.ensures

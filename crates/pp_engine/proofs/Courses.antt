@@ -1,0 +1,71 @@
+-- The course of one script and then another, where the first writes no file and reads no line.
+use Rattle.std.proofs.Common.{◌≡◌, ℕ, Bool, true, false, List, [], ◌∷◌, ◌++◌, drop, length, refl, sym, ◌∙◌, ap}
+use Rattle.std.proofs.Math.Seq.{drop-nil}
+use Rattle.std.proofs.lemmas.Bool.{false≢true}
+use Rattle.pp_base.specs.FileMap.{FileMap, content_at}
+use Rattle.pp_base.specs.Judges.{Answer}
+use Rattle.pp_desk.specs.declared.input_line.InputLine.{InputLine}
+use Rattle.pp_desk.specs.Course.{Course, course, does, asks}
+use Rattle.pp_desk.specs.Effects.{ToOut, ToErr}
+use Rattle.pp_desk.specs.Script.{Script, Give, Make, Step, WriteOut, WriteErr, ReadFile, WriteFile, Ask, NextLine, ◌>>=◌}
+use Rattle.pp_desk.specs.Went.{content_within}
+use Rattle.pp_desk.proofs.Quiet.{Only}
+
+-- a step that writes no file and reads no line
+abbrev pub only_looks : Step → Bool
+only_looks (WriteOut bytes) = true
+only_looks (WriteErr bytes) = true
+only_looks (ReadFile path limit) = true
+only_looks (WriteFile path bytes) = false
+only_looks (Ask pattern) = true
+only_looks NextLine = false
+
+-- one course and then another
+abbrev pub joined : {A B : Type 0} → Course A → Course B → Course B
+joined c d = record { effects = c.effects ++ d.effects; value = d.value; asked = c.asked ++ d.asked }
+
+-- the course of the other, with the answers that the one has left
+abbrev pub rest_of : {A B : Type 0} → (A → Script B) → FileMap → List (List ℕ) → List InputLine → List Answer → Course A → Course B
+rest_of q files locked lines answers c = course (q c.value) files locked lines (drop (length c.asked) answers)
+
+-- the course of both, where the other goes on with the answers that are left
+pub course_both : {A B : Type 0} (p : Script A) (q : A → Script B) (files : FileMap) (locked : List (List ℕ)) (lines : List InputLine) (answers : List Answer) → Only only_looks p
+    → course (p >>= q) files locked lines answers ≡ joined (course p files locked lines answers) (rest_of q files locked lines answers (course p files locked lines answers))
+unfolding ◌>>=◌
+course_both (Give x) q files locked lines answers o = refl
+course_both (Make (WriteOut bytes) p) q files locked lines answers o = ap (does (ToOut bytes)) (course_both (p tt) q files locked lines answers (o.1 tt))
+course_both (Make (WriteErr bytes) p) q files locked lines answers o = ap (does (ToErr bytes)) (course_both (p tt) q files locked lines answers (o.1 tt))
+course_both (Make (ReadFile path limit) p) q files locked lines answers o = course_both (p _) q files locked lines answers (o.1 (content_within limit (content_at files path)))
+course_both (Make (WriteFile path bytes) p) q files locked lines answers o = absurd (false≢true o.0)
+course_both (Make (Ask pattern) p) q files locked lines [] o =
+    let c = course (p true) files locked lines [] in
+    ap (asks pattern)
+    (course_both (p true) q files locked lines [] (o.1 true)
+    ∙ ap (λ answers. joined c (course (q c.value) files locked lines answers)) (drop-nil (length c.asked) ∙ sym (drop-nil (length (pattern ∷ c.asked)))))
+course_both (Make (Ask pattern) p) q files locked lines (answer ∷ answers) o = ap (asks pattern) (course_both (p answer.1) q files locked lines answers (o.1 answer.1))
+course_both (Make NextLine p) q files locked lines answers o = absurd (false≢true o.0)
+
+-- its value
+pub course_then : {A B : Type 0} (p : Script A) (q : A → Script B) (files : FileMap) (locked : List (List ℕ)) (lines : List InputLine) (answers : List Answer) → Only only_looks p
+    → (course (p >>= q) files locked lines answers).value ≡ (rest_of q files locked lines answers (course p files locked lines answers)).value
+course_then p q files locked lines answers o = ap (λ c. c.value) (course_both p q files locked lines answers o)
+
+-- a step that writes nothing and reads no line
+abbrev pub writes_nothing : Step → Bool
+writes_nothing (WriteOut bytes) = false
+writes_nothing (WriteErr bytes) = false
+writes_nothing (ReadFile path limit) = true
+writes_nothing (WriteFile path bytes) = false
+writes_nothing (Ask pattern) = true
+writes_nothing NextLine = false
+
+-- such steps have no effect
+pub no_effects : {A : Type 0} (p : Script A) (files : FileMap) (locked : List (List ℕ)) (lines : List InputLine) (answers : List Answer) → Only writes_nothing p → (course p files locked lines answers).effects ≡ []
+no_effects (Give x) files locked lines answers o = refl
+no_effects (Make (WriteOut bytes) p) files locked lines answers o = absurd (false≢true o.0)
+no_effects (Make (WriteErr bytes) p) files locked lines answers o = absurd (false≢true o.0)
+no_effects (Make (ReadFile path limit) p) files locked lines answers o = no_effects (p _) files locked lines answers (o.1 (content_within limit (content_at files path)))
+no_effects (Make (WriteFile path bytes) p) files locked lines answers o = absurd (false≢true o.0)
+no_effects (Make (Ask pattern) p) files locked lines [] o = no_effects (p true) files locked lines [] (o.1 true)
+no_effects (Make (Ask pattern) p) files locked lines (answer ∷ answers) o = no_effects (p answer.1) files locked lines answers (o.1 answer.1)
+no_effects (Make NextLine p) files locked lines answers o = absurd (false≢true o.0)

@@ -1,0 +1,56 @@
+-- What the session tells of a report is what the report comes to.
+use Rattle.std.proofs.Common.{◌≡◌, ◌++◌, ℕ, List, [], ◌∷◌, length, drop, refl, sym, ap, ◌∙◌}
+use Rattle.std.specs.Prelude.{Result, Ok, Err}
+use Rattle.std.proofs.lemmas.List.{append-nil}
+use Rattle.pp_base.specs.FileMap.{FileMap}
+use Rattle.pp_base.specs.Judges.{Answer}
+use Rattle.pp_desk.specs.declared.input_line.InputLine.{InputLine}
+use Rattle.pp_desk.specs.Course.{Course, course}
+use Rattle.pp_desk.specs.Effects.{Effect, outs, errs}
+use Rattle.pp_desk.specs.Script.{Give, ◌>>=◌}
+use Rattle.pp_model.specs.declared.config.Config.{Config}
+use Rattle.pp_model.specs.declared.loaded.Loaded.{Loaded}
+use Rattle.pp_model.specs.declared.report.Report.{Report}
+use Rattle.pp_report.specs.declared.refusal.ReportRefusal.{ReportRefusal}
+use Rattle.pp_report.specs.Prepared.{Settled, prepare}
+use Rattle.pp_report.specs.Reports.{Reported, reported_with, finish, report_settled, report_of}
+use Rattle.pp_engine.specs.Reporting.{Finds, Tells, note_and_finish, noted_report}
+use Rattle.pp_engine.proofs.Courses.{joined, rest_of, course_both, no_effects}
+use Rattle.pp_engine.proofs.ReportQuiet.{prepare_looks, prepare_writes_nothing, finish_looks, finish_writes_nothing}
+
+-- a course without effects before both
+tells_after : {A : Type 0} (before : Course A) (told : Course (Result (List ℕ) ReportRefusal)) (made : Course Reported) → before.effects ≡ [] → Tells told made → Tells (joined before told) (joined before made)
+tells_after before told made none t = record {
+  notes = ap (λ (es : List Effect). errs (es ++ told.effects)) none ∙ t.notes;
+  no_text = ap (λ (es : List Effect). outs (es ++ told.effects)) none ∙ t.no_text;
+  outcome = t.outcome;
+  asked = ap (λ more. before.asked ++ more) t.asked;
+}
+
+module _ (finds : Finds) (l : Loaded) (report : Report) (config : Config) (files : FileMap) (locked : List (List ℕ)) (lines : List InputLine) where
+  tells_settled : (settled : Result Settled ReportRefusal) (answers : List Answer)
+      → Tells (course (note_and_finish finds l report config settled) files locked lines answers) (course (report_settled finds l report config settled) files locked lines answers)
+  unfolding note_and_finish report_settled ◌>>=◌
+  tells_settled (Err refusal) answers = record { notes = refl; no_text = refl; outcome = refl; asked = refl }
+  tells_settled (Ok settled) answers =
+      let text = course (finish finds l report config settled.showing) files locked lines answers in
+      let none : text.effects ≡ [] = no_effects (finish finds l report config settled.showing) files locked lines answers (finish_writes_nothing finds l report config settled.showing) in
+      let both = course_both (finish finds l report config settled.showing) (λ outcome. Give (reported_with settled.notes outcome)) files locked lines answers (finish_looks finds l report config settled.showing) in
+      rw both (record {
+        notes = ap (λ (es : List Effect). settled.notes ++ errs es) none ∙ append-nil settled.notes;
+        no_text = ap outs none;
+        outcome = refl;
+        asked = sym (append-nil text.asked);
+      })
+
+  -- What the session tells of a report is what the report comes to.
+  pub tells_report : (answers : List Answer) → Tells (course (noted_report finds l report config) files locked lines answers) (course (report_of finds l report config) files locked lines answers)
+  unfolding noted_report report_of
+  tells_report answers =
+      let before = course (prepare finds l report config) files locked lines answers in
+      let none : before.effects ≡ [] = no_effects (prepare finds l report config) files locked lines answers (prepare_writes_nothing finds l report config) in
+      rw (
+        course_both (prepare finds l report config) (note_and_finish finds l report config) files locked lines answers (prepare_looks finds l report config),
+        course_both (prepare finds l report config) (report_settled finds l report config) files locked lines answers (prepare_looks finds l report config),
+      )
+      (tells_after before _ _ none (tells_settled before.value (drop (length before.asked) answers)))

@@ -1,0 +1,101 @@
+-- The shell: lines that are read one by one, each obeyed before the next is read.
+use Rattle.std.specs.Prelude.{ℕ, ◌==◌, List, [], ◌∷◌, Result, Ok, Err, Option, Some, None, codes, if◌then◌else◌}
+use Rattle.pp_desk.specs.Script.{Script, Give, ◌>>=◌, write_out, write_err, next_line}
+use Rattle.pp_desk.specs.declared.input_line.InputLine.{InputLine}
+use Rattle.pp_desk.specs.declared.input_line.InputLine.TheVariants.{Line, TooLong, End, InputTooLong}
+use Rattle.pp_model.specs.declared.config.Config.{Config}
+use Rattle.pp_model.specs.declared.loaded.Loaded.{Loaded}
+use Rattle.pp_options.specs.declared.help.TheConstants.{SHELL_HELP}
+use Rattle.pp_options.specs.Listing.{options_text}
+use Rattle.pp_shell.specs.declared.command.Command.{Command}
+use Rattle.pp_shell.specs.declared.command.Command.TheVariants.{Nothing, Quit, Options, Help, Set, Run}
+use Rattle.pp_shell.specs.declared.fault.LineFault.{LineFault}
+use Rattle.pp_shell.specs.declared.fault.LineFault.TheVariants.{LineTooLong}
+use Rattle.pp_shell.specs.Lines.{line_command}
+use Rattle.pp_engine.specs.declared.ending.Outcome.{Outcome}
+use Rattle.pp_engine.specs.declared.ending.Outcome.TheVariants as outcomes
+use Rattle.pp_engine.specs.declared.shell.TheConstants.{MOST_LINES}
+use Rattle.pp_engine.specs.Messages.{line_fault_line, input_too_long_line}
+use Rattle.pp_engine.specs.Reporting.{Finds, report_on}
+use Rattle.pp_engine.specs.Turns.{turns}
+
+-- what stands before each line that is read
+unfoldable pub prompt : List ℕ
+prompt = codes "(pprof) "
+
+-- what stands behind the last prompt
+unfoldable pub line_end : List ℕ
+line_end = codes "\n"
+
+-- the two lines of help
+unfoldable pub help : List ℕ
+help = SHELL_HELP.now
+
+-- What a turn gives: the configuration of the next line, and how the session ends where it does.
+abbrev pub Turn : Type 0
+Turn = Config × Option Outcome
+
+-- the session goes on with the configuration
+abbrev pub going_on : Config → Turn
+going_on config = (config, None)
+
+-- the session ends
+abbrev pub ending : Config → Outcome → Turn
+ending config outcome = (config, Some outcome)
+
+-- what is wrong with a line
+unfoldable pub complain : LineFault → Script (Unit {0})
+complain fault = write_err (line_fault_line fault)
+
+-- What a line asks for. An assignment alone changes the configuration of the next line.
+unfoldable pub obey : Finds → Loaded → Config → Command → Script Turn
+obey finds l config Nothing = Give (going_on config)
+obey finds l config Quit = Give (ending config outcomes.Done)
+obey finds l config Options = do
+  _ ← write_out (options_text config)
+  Give (going_on config)
+obey finds l config Help = do
+  _ ← write_out help
+  Give (going_on config)
+obey finds l config (Set changed) = Give (going_on changed)
+obey finds l config (Run report own to) = do
+  _ ← report_on finds l report own to
+  Give (going_on config)
+
+-- what a line asks for, or what is wrong with it
+unfoldable pub obey_or_complain : Finds → Loaded → Config → Result Command LineFault → Script Turn
+obey_or_complain finds l config (Ok command) = obey finds l config command
+obey_or_complain finds l config (Err fault) = do
+  _ ← complain fault
+  Give (going_on config)
+
+-- a line without the carriage return at its end, if there is one
+abbrev pub without_return : List ℕ → List ℕ
+without_return [] = []
+without_return (byte ∷ []) = if byte == 13 then [] else byte ∷ []
+without_return (byte ∷ next ∷ bytes) = byte ∷ without_return (next ∷ bytes)
+
+-- What comes of the line that was read. The input's end is answered by a line end.
+unfoldable pub follow : Finds → Loaded → Config → InputLine → Script Turn
+follow finds l config (Line bytes) =
+    obey_or_complain finds l config (line_command (without_return bytes) config)
+follow finds l config TooLong = do
+  _ ← complain LineTooLong
+  Give (going_on config)
+follow finds l config End = do
+  _ ← write_out line_end
+  Give (ending config outcomes.Done)
+follow finds l config InputTooLong = do
+  _ ← write_err input_too_long_line
+  Give (ending config outcomes.InputTooLong)
+
+-- one turn: the prompt, the line, and what it asks for
+unfoldable pub turn : Finds → Loaded → Config → Script Turn
+turn finds l config = do
+  _ ← write_out prompt
+  line ← next_line
+  follow finds l config line
+
+-- The shell over a profile, from this configuration on. No input has more lines than `MOST_LINES`.
+unfoldable pub shell : Finds → Loaded → Config → Script Outcome
+shell finds l config = turns (turn finds l) outcomes.Done MOST_LINES config

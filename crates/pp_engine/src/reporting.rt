@@ -1,0 +1,198 @@
+// Reports: the notes, then the text or why there is none.
+ghost use Rattle.std.specs.Prelude.{◌≡◌, ℕ, List, Ok, option_map};
+ghost use Rattle.pp_base.specs.FileMap.{FileMap};
+ghost use Rattle.pp_base.specs.Judges.{Answer};
+ghost use Rattle.pp_desk.specs.Course.{course};
+ghost use Rattle.pp_desk.specs.Went.{Went};
+ghost use Rattle.pp_desk.specs.declared.input_line.InputLine.{InputLine};
+ghost use Rattle.pp_model.specs.declared.config.Config.{Config};
+ghost use Rattle.pp_model.specs.declared.loaded.Loaded.{Loaded};
+ghost use Rattle.pp_model.specs.declared.report.Report.{Report};
+ghost use Rattle.pp_model.specs.Sizes.{IsCountable};
+ghost use Rattle.pp_report.specs.Prepared.{IsPrepared, settled_by};
+ghost use Rattle.pp_report.specs.Reports.{report_of};
+ghost use Rattle.pp_engine.specs.Reporting.{Finds, Tells, noted_report, note_and_finish, report_once, report_on, end_report, end_with, hand_out_made, hand_out, save, tell_locked};
+
+use crate::ending::Outcome;
+use crate::message::locked_line;
+use pp_base::{Gate, Text};
+use pp_desk::{Desk, Stop};
+use pp_model::{Config, Loaded, Report};
+use pp_report::{Prepared, ReportRefusal, finish, prepare, refusal_line};
+use std::alloc::Global;
+use std::thread::Threads;
+
+/// The report that the words ask for. Its text is whole before its first byte goes out.
+#[tactic(auto, using(pp_desk::proofs::Going::going), unfolding(crate::specs::Reporting::report_once))]
+pub fn report_once<R: Threads + Sync, D: Desk, G: Gate>(
+    rt: &R,
+    alloc: Global,
+    l: &Loaded,
+    report: &Report,
+    config: &Config,
+    desk: &mut D,
+    gate: &G,
+) -> Result<Outcome, Stop>
+    requires { IsCountable l.now.profile }
+    ensures { Went (D.world desk.old) (D.world desk.new)
+        (report_once D.finds l.now report.now config.now) result }
+{
+    let made = noted_report(rt, alloc, l, report, config, desk, gate)?;
+    end_report(alloc, report, &made, desk)
+}
+
+/// A report of the shell, to standard output or to the file that is named. A refusal is told.
+#[tactic(auto, using(pp_desk::proofs::Going::going), unfolding(crate::specs::Reporting::report_on))]
+pub fn report_on<R: Threads + Sync, D: Desk, G: Gate>(
+    rt: &R,
+    alloc: Global,
+    l: &Loaded,
+    report: &Report,
+    config: &Config,
+    to: Option<&Text>,
+    desk: &mut D,
+    gate: &G,
+) -> Result<(), Stop>
+    requires { IsCountable l.now.profile }
+    ensures { Went (D.world desk.old) (D.world desk.new)
+        (report_on D.finds l.now report.now config.now (option_map (λ t. t.now) to.entry)) result }
+{
+    let made = noted_report(rt, alloc, l, report, config, desk, gate)?;
+    hand_out_made(alloc, report, to, &made, desk)
+}
+
+// A report with its notes told: what it is, or why it is refused.
+#[tactic(auto, using(pp_desk::proofs::Going::going), unfolding(crate::specs::Reporting::noted_report))]
+fn noted_report<R: Threads + Sync, D: Desk, G: Gate>(
+    rt: &R,
+    alloc: Global,
+    l: &Loaded,
+    report: &Report,
+    config: &Config,
+    desk: &mut D,
+    gate: &G,
+) -> Result<Result<Text, ReportRefusal>, Stop>
+    requires { IsCountable l.now.profile }
+    ensures { Went (D.world desk.old) (D.world desk.new)
+        (noted_report D.finds l.now report.now config.now) result }
+{
+    match prepare(rt, alloc, l, report, config, desk, gate)? {
+        Err(refusal) => Ok(Err(refusal)),
+        Ok(prepared) => note_and_finish(rt, alloc, l, report, config, prepared, desk, gate),
+    }
+}
+
+/// The law of a report: what the session tells of it before its text goes out is what the report comes to.
+pub fn reports_are_told()
+    ensures { (finds : Finds) (l : Loaded) (report : Report) (config : Config) (files : FileMap)
+        (locked : List (List ℕ)) (lines : List InputLine) (answers : List Answer)
+        → Tells (course (noted_report finds l report config) files locked lines answers)
+        (course (report_of finds l report config) files locked lines answers) }
+{}
+
+// The notes, and then the text: a list report reads files for it, and notes are told also where one of them fails.
+#[tactic(auto, using(pp_desk::proofs::Going::going), unfolding(crate::specs::Reporting::note_and_finish))]
+fn note_and_finish<R: Threads + Sync, D: Desk, G: Gate>(
+    rt: &R,
+    alloc: Global,
+    l: &Loaded,
+    report: &Report,
+    config: &Config,
+    prepared: Prepared,
+    desk: &mut D,
+    gate: &G,
+) -> Result<Result<Text, ReportRefusal>, Stop>
+    requires { IsPrepared D.finds l.now report.now config.now prepared }
+    ensures { Went (D.world desk.old) (D.world desk.new)
+        (note_and_finish D.finds l.now report.now config.now (Ok (settled_by prepared))) result }
+{
+    desk.write_err(prepared.notes.as_slice())?;
+    finish(rt, alloc, l, report, config, prepared, desk, gate)
+}
+
+#[tactic(auto, using(pp_desk::proofs::Going::going), unfolding(crate::specs::Reporting::end_report))]
+fn end_report<D: Desk>(
+    alloc: Global,
+    report: &Report,
+    made: &Result<Text, ReportRefusal>,
+    desk: &mut D,
+) -> Result<Outcome, Stop>
+    ensures { Went (D.world desk.old) (D.world desk.new) (end_report report.now made.now) result }
+{
+    match made {
+        Ok(text) => {
+            desk.write_out(text.as_slice())?;
+            Ok(Outcome::Done)
+        }
+        Err(refusal) => {
+            let line = refusal_line(alloc, report, *refusal)?;
+            end_with(line.as_slice(), Outcome::Report(*refusal), desk)
+        }
+    }
+}
+
+/// One line on standard error, and the end.
+#[tactic(auto, using(pp_desk::proofs::Going::going), unfolding(crate::specs::Reporting::end_with))]
+pub fn end_with<D: Desk>(line: &[u8], outcome: Outcome, desk: &mut D) -> Result<Outcome, Stop>
+    ensures { Went (D.world desk.old) (D.world desk.new) (end_with line.now outcome) result }
+{
+    desk.write_err(line)?;
+    Ok(outcome)
+}
+
+#[tactic(auto, using(pp_desk::proofs::Going::going), unfolding(crate::specs::Reporting::hand_out_made))]
+fn hand_out_made<D: Desk>(
+    alloc: Global,
+    report: &Report,
+    to: Option<&Text>,
+    made: &Result<Text, ReportRefusal>,
+    desk: &mut D,
+) -> Result<(), Stop>
+    ensures { Went (D.world desk.old) (D.world desk.new)
+        (hand_out_made report.now (option_map (λ t. t.now) to.entry) made.now) result }
+{
+    match made {
+        Ok(text) => hand_out(alloc, to, text, desk),
+        Err(refusal) => {
+            let line = refusal_line(alloc, report, *refusal)?;
+            desk.write_err(line.as_slice())
+        }
+    }
+}
+
+// The text of a report, to standard output or to the file that is named.
+#[tactic(auto, using(pp_desk::proofs::Going::going), unfolding(crate::specs::Reporting::hand_out))]
+fn hand_out<D: Desk>(
+    alloc: Global,
+    to: Option<&Text>,
+    text: &Text,
+    desk: &mut D,
+) -> Result<(), Stop>
+    ensures { Went (D.world desk.old) (D.world desk.new)
+        (hand_out (option_map (λ t. t.now) to.entry) text.now) result }
+{
+    match to {
+        None => desk.write_out(text.as_slice()),
+        Some(path) => save(alloc, path, text, desk),
+    }
+}
+
+#[tactic(auto, using(pp_desk::proofs::Going::going), unfolding(crate::specs::Reporting::save))]
+fn save<D: Desk>(alloc: Global, path: &Text, text: &Text, desk: &mut D) -> Result<(), Stop>
+    ensures { Went (D.world desk.old) (D.world desk.new) (save path.now text.now) result }
+{
+    let written = desk.write_file(path, text.as_slice())?;
+    tell_locked(alloc, path, written, desk)
+}
+
+// The message on a path that isn't written, since it is locked.
+#[tactic(auto, using(pp_desk::proofs::Going::going), unfolding(crate::specs::Reporting::tell_locked))]
+fn tell_locked<D: Desk>(alloc: Global, path: &Text, written: bool, desk: &mut D) -> Result<(), Stop>
+    ensures { Went (D.world desk.old) (D.world desk.new) (tell_locked path.now written) result }
+{
+    if written {
+        return Ok(());
+    }
+    let line = locked_line(alloc, path)?;
+    desk.write_err(line.as_slice())
+}

@@ -1,0 +1,263 @@
+// The shell: lines that are read one by one, each obeyed before the next is read.
+ghost use Rattle.std.specs.Prelude.{◌≡◌, ◌+◌, ℕ, List, IfOk};
+ghost use Rattle.pp_desk.specs.Lines.{lines_of};
+ghost use Rattle.pp_desk.specs.Script.{write_out};
+ghost use Rattle.pp_desk.specs.Went.{Goes, Went, beside};
+ghost use Rattle.pp_desk.specs.World.{Told};
+ghost use Rattle.pp_model.specs.declared.config.Config.{Config};
+ghost use Rattle.pp_model.specs.declared.loaded.Loaded.{Loaded};
+ghost use Rattle.pp_model.specs.Sizes.{IsCountable};
+ghost use Rattle.pp_options.specs.Listing.{options_text};
+ghost use Rattle.pp_shell.specs.Lines.{line_command};
+ghost use Rattle.pp_engine.specs.Reporting.{Finds};
+ghost use Rattle.pp_engine.specs.declared.ending.Outcome.{Outcome};
+ghost use Rattle.pp_engine.specs.Shell.{shell, turn, follow, obey, obey_or_complain, complain, without_return, prompt, line_end, help};
+ghost use Rattle.pp_engine.specs.Turns.{turns};
+ghost use Rattle.pp_engine.specs.declared.ending.Outcome.TheVariants as outcomes;
+
+use crate::ending::Outcome;
+use crate::message::{input_too_long_line, line_fault_line};
+use crate::reporting::report_on;
+use pp_base::{Gate, Memory, Text};
+use pp_desk::{Desk, InputLine, Stop};
+use pp_model::{Config, Loaded};
+use pp_options::{SHELL_HELP, write_options};
+use pp_shell::{Command, LineFault, LineRefusal, read_line};
+use std::alloc::Global;
+use std::thread::Threads;
+
+/// The most lines of an input, with the answer that it has ended: each line takes a byte of at most 16,777,216.
+pub const MOST_LINES: u32 = 16_777_217;
+
+/// The shell over a profile, from this configuration on: each line of standard input is obeyed before the next is read.
+#[tactic(auto, using(pp_desk::proofs::Going::going), unfolding(crate::specs::Shell::shell))]
+pub fn shell<R: Threads + Sync, D: Desk, G: Gate>(
+    rt: &R,
+    alloc: Global,
+    l: &Loaded,
+    config: &Config,
+    desk: &mut D,
+    gate: &G,
+) -> Result<Outcome, Stop>
+    requires { IsCountable l.now.profile }
+    ensures { Went (D.world desk.old) (D.world desk.new) (shell D.finds l.now config.now) result }
+{
+    let mut config = config.copy(alloc)?;
+    take_turns(rt, alloc, l, &mut config, desk, gate)
+}
+
+#[tactic(auto, using(crate::proofs::Turning::turning))]
+fn take_turns<R: Threads + Sync, D: Desk, G: Gate>(
+    rt: &R,
+    alloc: Global,
+    l: &Loaded,
+    config: &mut Config,
+    desk: &mut D,
+    gate: &G,
+) -> Result<Outcome, Stop>
+    requires { IsCountable l.now.profile }
+    ensures { Went (D.world desk.old) (D.world desk.new)
+        (turns (turn D.finds l.now) outcomes.Done MOST_LINES config.old) result }
+{
+    'turns: for _turn in 0..MOST_LINES {
+        if let Some(outcome) = turn(rt, alloc, l, config, desk, gate)? {
+            return Ok(outcome);
+        }
+    }
+    Ok(Outcome::Done)
+}
+
+// One turn: the prompt, the line, and what it asks for. It gives how the session ends, where it does.
+#[tactic(auto, using(pp_desk::proofs::Going::going), unfolding(crate::specs::Shell::turn))]
+fn turn<R: Threads + Sync, D: Desk, G: Gate>(
+    rt: &R,
+    alloc: Global,
+    l: &Loaded,
+    config: &mut Config,
+    desk: &mut D,
+    gate: &G,
+) -> Result<Option<Outcome>, Stop>
+    requires { IsCountable l.now.profile }
+    ensures { Went (D.world desk.old) (D.world desk.new) (turn D.finds l.now config.old)
+        (beside config.new result) }
+{
+    desk.write_out(prompt())?;
+    let line = desk.next_line()?;
+    follow(rt, alloc, l, &line, config, desk, gate)
+}
+
+#[tactic(auto, unfolding(crate::specs::Shell::prompt))]
+fn prompt() -> &'static [u8]
+    ensures { result.now ≡ prompt }
+{
+    b"(pprof) "
+}
+
+#[tactic(auto, using(pp_desk::proofs::Going::going), unfolding(crate::specs::Shell::follow))]
+fn follow<R: Threads + Sync, D: Desk, G: Gate>(
+    rt: &R,
+    alloc: Global,
+    l: &Loaded,
+    line: &InputLine,
+    config: &mut Config,
+    desk: &mut D,
+    gate: &G,
+) -> Result<Option<Outcome>, Stop>
+    requires { IsCountable l.now.profile }
+    ensures { Went (D.world desk.old) (D.world desk.new)
+        (follow D.finds l.now config.old line.now) (beside config.new result) }
+{
+    match line {
+        InputLine::Line(bytes) => {
+            let said = command_of(alloc, without_return(bytes.as_slice()), config)?;
+            obey_or_complain(rt, alloc, l, &said, config, desk, gate)
+        }
+        InputLine::TooLong => {
+            complain(alloc, &LineFault::LineTooLong, desk)?;
+            Ok(None)
+        }
+        InputLine::End => {
+            desk.write_out(line_end())?;
+            Ok(Some(Outcome::Done))
+        }
+        InputLine::InputTooLong => {
+            desk.write_err(input_too_long_line())?;
+            Ok(Some(Outcome::InputTooLong))
+        }
+    }
+}
+
+#[tactic(auto, unfolding(crate::specs::Shell::line_end))]
+fn line_end() -> &'static [u8]
+    ensures { result.now ≡ line_end }
+{
+    b"\n"
+}
+
+// The line without the carriage return at its end, if there is one.
+#[tactic(auto, using(crate::proofs::Returns::without_return_push))]
+fn without_return(line: &[u8]) -> &[u8]
+    ensures { result.now ≡ without_return line.now }
+{
+    let Some((last, before)) = line.split_last() else {
+        return line;
+    };
+    if *last == b'\r' { before } else { line }
+}
+
+// What the line asks for, or what is wrong with it.
+fn command_of(
+    alloc: Global,
+    line: &[u8],
+    config: &Config,
+) -> Result<Result<Command, LineFault>, Memory>
+    ensures { IfOk result (λ said. said ≡ line_command line.now config.now) }
+{
+    match read_line(alloc, line, config) {
+        Ok(command) => Ok(Ok(command)),
+        Err(LineRefusal::Fault(fault)) => Ok(Err(fault)),
+        Err(LineRefusal::Memory) => Err(Memory),
+    }
+}
+
+#[tactic(auto, using(pp_desk::proofs::Going::going), unfolding(crate::specs::Shell::obey_or_complain))]
+fn obey_or_complain<R: Threads + Sync, D: Desk, G: Gate>(
+    rt: &R,
+    alloc: Global,
+    l: &Loaded,
+    said: &Result<Command, LineFault>,
+    config: &mut Config,
+    desk: &mut D,
+    gate: &G,
+) -> Result<Option<Outcome>, Stop>
+    requires { IsCountable l.now.profile }
+    ensures { Went (D.world desk.old) (D.world desk.new)
+        (obey_or_complain D.finds l.now config.old said.now) (beside config.new result) }
+{
+    match said {
+        Ok(command) => obey(rt, alloc, l, command, config, desk, gate),
+        Err(fault) => {
+            complain(alloc, fault, desk)?;
+            Ok(None)
+        }
+    }
+}
+
+// What a line asks for. An assignment alone changes the configuration of the next line.
+#[tactic(auto, using(pp_desk::proofs::Going::going), unfolding(crate::specs::Shell::obey))]
+fn obey<R: Threads + Sync, D: Desk, G: Gate>(
+    rt: &R,
+    alloc: Global,
+    l: &Loaded,
+    command: &Command,
+    config: &mut Config,
+    desk: &mut D,
+    gate: &G,
+) -> Result<Option<Outcome>, Stop>
+    requires { IsCountable l.now.profile }
+    ensures { Went (D.world desk.old) (D.world desk.new)
+        (obey D.finds l.now config.old command.now) (beside config.new result) }
+{
+    match command {
+        Command::Nothing => Ok(None),
+        Command::Quit => Ok(Some(Outcome::Done)),
+        Command::Options => {
+            list_options(alloc, config, desk)?;
+            Ok(None)
+        }
+        Command::Help => {
+            desk.write_out(help())?;
+            Ok(None)
+        }
+        Command::Set(changed) => {
+            *config = changed.copy(alloc)?;
+            Ok(None)
+        }
+        Command::Run {
+            report,
+            config: own,
+            to,
+        } => {
+            report_on(rt, alloc, l, report, own, to.as_ref(), desk, gate)?;
+            Ok(None)
+        }
+    }
+}
+
+// The variables and their values, on standard output.
+#[tactic(auto, using(pp_desk::proofs::Going::going))]
+fn list_options<D: Desk>(alloc: Global, config: &Config, desk: &mut D) -> Result<(), Stop>
+    ensures { Went (D.world desk.old) (D.world desk.new)
+        (write_out (options_text config.now)) result }
+{
+    let mut list = Text::new(alloc);
+    write_options(config, &mut list)?;
+    desk.write_out(list.as_slice())
+}
+
+// The two lines of help.
+#[tactic(auto, unfolding(crate::specs::Shell::help))]
+fn help() -> &'static [u8]
+    ensures { result.now ≡ help }
+{
+    SHELL_HELP
+}
+
+// What is wrong with a line, on standard error.
+#[tactic(auto, using(pp_desk::proofs::Going::going), unfolding(crate::specs::Shell::complain))]
+fn complain<D: Desk>(alloc: Global, fault: &LineFault, desk: &mut D) -> Result<(), Stop>
+    ensures { Went (D.world desk.old) (D.world desk.new) (complain fault.now) result }
+{
+    let line = line_fault_line(alloc, fault)?;
+    desk.write_err(line.as_slice())
+}
+
+/// The law of the shell's turns: over an input that tells its bytes they never run out. With more of them the same is
+/// done, whatever were given after the last.
+#[tactic(auto, using(crate::proofs::Lasting::shell_lasts))]
+pub fn turns_suffice()
+    ensures { (finds : Finds) (l : Loaded) (config : Config) (old new : Told)
+        (input : List ℕ) (x other : Outcome) (more : ℕ) → old.lines ≡ Some (lines_of input)
+        → Goes old new (shell finds l config) x
+        → Goes old new (turns (turn finds l) other (MOST_LINES + more) config) x }
+{}
