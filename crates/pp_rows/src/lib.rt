@@ -11,4 +11,6 @@ mod reports;
 #[cfg(test)]
 mod rules;
 #[cfg(test)]
+mod sessions;
+#[cfg(test)]
 mod shared;

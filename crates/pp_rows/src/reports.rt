@@ -79,7 +79,7 @@ const REPORTS: [(&[u8], &[u8]); 14] = [
     ),
 ];
 
-const REFUSALS: [(&[u8], &[u8]); 27] = [
+const REFUSALS: [(&[u8], &[u8]); 28] = [
     (b"", b"pprof: d: empty\n"),
     (b"\x1f\x8b\x08", b"pprof: d: compressed\n"),
     (b"\x0a\x05\x08\x01", b"pprof: d: truncated at 0\n"),
@@ -137,6 +137,11 @@ const REFUSALS: [(&[u8], &[u8]); 27] = [
         b"pprof: d: rule 2 fails at function 0\n",
     ),
     (b"\x0d\x00\x00\x00\x00", b"pprof: d: wrong kind at 0\n"),
+    // the least value alone
+    (
+        b"\x0a\x00\x12\x0c\x12\x0a\x80\x80\x80\x80\x80\x80\x80\x80\x80\x01",
+        b"pprof: column 0: total too large\n",
+    ),
     (
         b"\x0a\x04\x08\x01\x10\x02\x12\x06\x0a\x01\x01\x12\x01\x01\x22\x06\x08\x01\x22\x02\x08\x01\x2a\x04\x08\x01\x10\x03\x32\x00\x32\x07\x73\x61\x6d\x70\x6c\x65\x73\x32\x05\x63\x6f\x75\x6e\x74\x32\x04\x6d\x61\x69",
         b"pprof: d: truncated at 46\n",
@@ -291,22 +296,6 @@ fn refusals(rt: HostRuntime) -> Result<(), Fail> {
         b"d",
         b"",
         (b"", b"pprof: n: no such file\n", 1),
-    )?;
-    runs(
-        &rt,
-        rt.alloc(),
-        &[b"-tree", b"d"],
-        b"d",
-        ONE_SAMPLE,
-        (b"", b"pprof: not supported yet\n", 1),
-    )?;
-    runs(
-        &rt,
-        rt.alloc(),
-        &[b"-top", b"d"],
-        b"d",
-        b"\x0a\x04\x08\x01\x10\x02\x12\x0f\x0a\x01\x01\x12\x0a\xff\xff\xff\xff\xff\xff\xff\xff\xff\x01\x22\x06\x08\x01\x22\x02\x08\x01\x2a\x04\x08\x01\x10\x03\x32\x00\x32\x07\x73\x61\x6d\x70\x6c\x65\x73\x32\x05\x63\x6f\x75\x6e\x74\x32\x04\x6d\x61\x69\x6e",
-        (b"", b"pprof: not supported yet\n", 1),
     )
 }
 
