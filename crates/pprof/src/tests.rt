@@ -1,10 +1,9 @@
-// The adapters over the machine's own files, and over readers and writers that fail.
+// The adapters over the machine's own files, and over a writer that fails.
 
 use crate::files::RealFiles;
-use crate::input::Input;
 use crate::streams::Output;
-use pp_base::{FileRead, FileWrite, Files, Sink, SinkWrite, Source, SourceRead, Text};
-use std::io::{self, ErrorKind, Read, Write};
+use pp_base::{FileRead, FileWrite, Files, Sink, SinkWrite, Text};
+use std::io::{self, ErrorKind, Write};
 use std::test::Fail;
 use std::{env, fs, process};
 
@@ -120,44 +119,5 @@ fn a_narrow_writer(rt: HostRuntime) -> Result<(), Fail> {
 fn a_broken_pipe(rt: HostRuntime) -> Result<(), Fail> {
     let mut out = Output::new(BrokenPipe);
     assert_eq!(rt; out.write(b"report"), SinkWrite::Failed);
-    Ok(())
-}
-
-// A reader of these bytes, three at a time, that fails once.
-#[derive(Drop)]
-struct Faltering {
-    bytes: &'static [u8],
-    fails_at: usize,
-}
-
-impl Read for Faltering {
-    fn read(&mut self, buf: &mut [u8]) -> io::Result<usize> {
-        if self.bytes.len() == self.fails_at {
-            self.fails_at = usize::MAX;
-            return Err(ErrorKind::Other.into());
-        }
-        let count = self.bytes.len().min(3).min(buf.len());
-        let (front, back) = self.bytes.split_at(count);
-        buf[..count].copy_from_slice(front);
-        self.bytes = back;
-        Ok(count)
-    }
-}
-
-// A failed read takes nothing, and the end is told again.
-#[test]
-fn a_faltering_reader(rt: HostRuntime) -> Result<(), Fail> {
-    let mut input = Input::new(Faltering {
-        bytes: b"top\nq",
-        fails_at: 2,
-    });
-    let mut buf = [0u8; 4];
-    assert_eq!(rt; input.read(&mut buf), SourceRead::Got(3));
-    assert_eq!(rt; buf[..3], *b"top");
-    assert_eq!(rt; input.read(&mut buf), SourceRead::Failed);
-    assert_eq!(rt; input.read(&mut buf), SourceRead::Got(2));
-    assert_eq!(rt; buf[..2], *b"\nq");
-    assert_eq!(rt; input.read(&mut buf), SourceRead::End);
-    assert_eq!(rt; input.read(&mut buf), SourceRead::End);
     Ok(())
 }
