@@ -11,6 +11,4 @@ mod reports;
 #[cfg(test)]
 mod rules;
 #[cfg(test)]
-mod sessions;
-#[cfg(test)]
 mod shared;
