@@ -1,0 +1,10 @@
+pub mod IntSums
+pub mod Sampling
+pub mod Listed
+pub mod AddingUp
+pub mod Within
+pub mod Parting
+pub mod Reordering
+pub mod Hiding
+pub mod Spelling
+pub mod Multiplying

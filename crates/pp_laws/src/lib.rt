@@ -1,0 +1,21 @@
+//! Laws of the figures: what may be relied on when a report is read, whatever the profile.
+//!
+//! Each law is the contract of a call that does nothing. It is stated over the definitions that the reports are proved
+//! against, so it holds of every figure that they print. `specs/` has the statements, a file for each module.
+#![tactic(auto)]
+
+mod bounds;
+mod flats;
+mod order;
+mod parts;
+mod rows;
+mod scales;
+mod units;
+
+pub use bounds::{edges_are_within, figures_are_within, percentages_are_within, shared_keys_are_whole};
+pub use flats::nothing_is_lost;
+pub use order::order_of_samples_is_free;
+pub use parts::focus_and_ignore_part;
+pub use rows::trimming_only_hides;
+pub use scales::{bases_count_against, scaling_scales};
+pub use units::units_only_spell;
