@@ -8,3 +8,7 @@ pub mod Reordering
 pub mod Hiding
 pub mod Spelling
 pub mod Multiplying
+pub mod Grouped
+pub mod Stages
+pub mod Telling
+pub mod Shards

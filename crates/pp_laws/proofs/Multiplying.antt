@@ -96,7 +96,7 @@ figures_scale p f config column num den even = record {
   edge = λ kept a b. sums_scale p f config column num den (has_edge key_cmp kept a b) even;
 }
 
-by_one : (v : ℤ) → int_div v (pos 1) ≡ v
+pub by_one : (v : ℤ) → int_div v (pos 1) ≡ v
 by_one (pos n) = ap pos (div-one n)
 by_one (negsuc n) = ap (λ m. neg_ℤ (pos m)) (div-one (suc n))
 

@@ -6,6 +6,7 @@
 
 mod bounds;
 mod flats;
+mod merged;
 mod order;
 mod parts;
 mod rows;
@@ -14,6 +15,7 @@ mod units;
 
 pub use bounds::{edges_are_within, figures_are_within, percentages_are_within, shared_keys_are_whole};
 pub use flats::nothing_is_lost;
+pub use merged::merged_reports_are_sums;
 pub use order::order_of_samples_is_free;
 pub use parts::focus_and_ignore_part;
 pub use rows::trimming_only_hides;

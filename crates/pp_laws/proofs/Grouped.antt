@@ -1,0 +1,148 @@
+-- The values of merged samples, added up by what the samples are.
+use Rattle.std.proofs.Common.{◌≡◌, ℕ, zero, suc, ◌<◌, Bool, true, false, cond, not, ◌&&◌, ℤ, pos, neg_ℤ, ◌+ℤ◌, List, [], ◌∷◌, ◌++◌, length, map, replicate, get_or, refl, sym, ap, ◌∙◌, subst, arith}
+use Rattle.std.specs.Prelude.{filter, fold}
+use Rattle.std.specs.List.{AllByRecursion, list_all}
+use Rattle.std.specs.Ordering.{int_eq}
+use Rattle.std.proofs.Math.IntN.{+ℤ_idl, +ℤ_idr, +ℤ_assoc, +ℤ_invr}
+use Rattle.std.proofs.lemmas.Bool.{not-false, and_parts}
+use Rattle.std.proofs.lemmas.Bool.Decides.{Decides-int_eq}
+use Rattle.std.proofs.lemmas.List.{length-replicate}
+use Rattle.pp_model.specs.declared.profile.Profile.{Profile}
+use Rattle.pp_model.specs.declared.profile.Sample.{Sample}
+use Rattle.pp_model.specs.Frames.{text_of}
+use Rattle.pp_model.specs.Sizes.{value_in}
+use Rattle.pp_merge.specs.FirstSight.{distinct}
+use Rattle.pp_merge.specs.Described.{SampleText, location_found, sample_text, samples_found}
+use Rattle.pp_merge.specs.Alike.{same_sample, first_alike}
+use Rattle.pp_merge.specs.Merge.{all_mappings, all_samples, contents}
+use Rattle.pp_merge.specs.Sums.{added, counts, keys_of, rows_of, summed, sum_of, total_of}
+use Rattle.pp_merge.proofs.Deciding.{sample_decides}
+use Rattle.pp_merge.proofs.DistinctLemmas.{deciding_laws}
+use Rattle.pp_merge.proofs.FirstSightLemmas.{IsSeen, all_seen, distinct_apart}
+use Rattle.pp_merge.proofs.NumberedLemmas.{all_by, all_mapped}
+use Rattle.pp_merge.proofs.SettledLemmas.{all_flat, all_filtered, all_unmapped, all_any}
+use Rattle.pp_merge.proofs.SumLemmas.{length-added, get_or-added, length-total_of}
+use Rattle.pp_merge.proofs.TotalLemmas.{total, total-append, total-flat_map, total-map, total-filter, total_same, parted, adding_ℤ}
+use Rattle.pp_laws.specs.Bases.{HasValues}
+
+-- a value of a row of zeros
+zero_at : (row : List ℤ) (k : ℕ) → list_all (int_eq (pos 0)) row ≡ true → get_or row k (pos 0) ≡ pos 0
+zero_at [] k all = refl
+zero_at (v ∷ row) zero all = sym ((Decides-int_eq (pos 0) v).0 (and_parts _ _ all).0)
+zero_at (v ∷ row) (suc k) all = zero_at row k (and_parts _ _ all).1
+
+-- the value of a column, of rows that are added up
+at_added : (rows : List (List ℤ)) (sum : List ℤ) (column : ℕ) → column < length sum → AllByRecursion (λ row. length row ≡ length sum) rows
+    → get_or (fold added sum rows) column (pos 0) ≡ get_or sum column (pos 0) +ℤ total adding_ℤ (λ row. get_or row column (pos 0)) rows
+at_added [] sum column within wide = sym (+ℤ_idr (get_or sum column (pos 0)))
+at_added (row ∷ rows) sum column within wide =
+    at_added rows (added sum row) column (omega (arith, within, length-added sum row)) (subst (λ n. AllByRecursion (λ r. length r ≡ n) rows) (sym (length-added sum row)) wide.1)
+    ∙ ap (λ v. v +ℤ total adding_ℤ (λ r. get_or r column (pos 0)) rows) (get_or-added sum row column within wide.0)
+    ∙ +ℤ_assoc (get_or sum column (pos 0)) (get_or row column (pos 0)) (total adding_ℤ (λ r. get_or r column (pos 0)) rows)
+
+zeros_at : (n column : ℕ) → get_or (replicate n (pos 0)) column (pos 0) ≡ pos 0
+zeros_at zero column = refl
+zeros_at (suc n) zero = refl
+zeros_at (suc n) (suc column) = zeros_at n column
+
+pub at_total : (n column : ℕ) (rows : List (List ℤ)) → column < n → AllByRecursion (λ row. length row ≡ n) rows
+    → get_or (total_of n rows) column (pos 0) ≡ total adding_ℤ (λ row. get_or row column (pos 0)) rows
+at_total n column rows within wide =
+    let long = length-replicate n (pos 0) in
+    at_added rows (replicate n (pos 0)) column (omega (arith, within, long)) (subst (λ m. AllByRecursion (λ r. length r ≡ m) rows) (sym long) wide)
+    ∙ ap (λ v. v +ℤ total adding_ℤ (λ row. get_or row column (pos 0)) rows) (zeros_at n column)
+    ∙ +ℤ_idl (total adding_ℤ (λ row. get_or row column (pos 0)) rows)
+
+none_of : (b : Bool) (v : ℤ) → v ≡ pos 0 → cond b v (pos 0) ≡ pos 0
+none_of true v is = is
+none_of false v is = refl
+
+-- the sum over items that pass, as one over all
+total_passing : {X : Type 0} (f : X → ℤ) (test : X → Bool) (xs : List X)
+    → total adding_ℤ f (filter test xs) ≡ total adding_ℤ (λ x. cond (test x) (f x) (pos 0)) xs
+total_passing f test [] = refl
+total_passing f test (x ∷ xs) =
+    elim (test x) as (λ b. total adding_ℤ f (cond b (x ∷ filter test xs) (filter test xs)) ≡ cond b (f x) (pos 0) +ℤ total adding_ℤ (λ y. cond (test y) (f y) (pos 0)) xs) [
+      | true ↦ ap (λ v. f x +ℤ v) (total_passing f test xs)
+      | false ↦ total_passing f test xs ∙ sym (+ℤ_idl _)
+    ]
+
+total_if : (b : Bool) (f : List ℤ → ℤ) (rows : List (List ℤ)) → cond b (total adding_ℤ f rows) (pos 0) ≡ total adding_ℤ f (cond b rows [])
+total_if true f rows = refl
+total_if false f rows = refl
+
+same_if : (b : Bool) (rows : List (List ℤ)) → rows ≡ cond b rows rows
+same_if true rows = refl
+same_if false rows = refl
+
+module _ (test : SampleText → Bool) where
+  -- the rows of a key, of the items that pass: all where the key passes, and else none
+  rows_passing : (items : List (SampleText × List ℤ)) (key : SampleText)
+      → rows_of same_sample (filter (λ item. test item.0) items) key ≡ cond (test key) (rows_of same_sample items key) []
+  rows_passing [] key = same_if (test key) []
+  rows_passing (item ∷ items) key =
+      let kept : List (SampleText × List ℤ) = filter (λ (x : SampleText × List ℤ). test x.0) items in
+      let mine : List (SampleText × List ℤ) → List (SampleText × List ℤ) = filter (λ (x : SampleText × List ℤ). same_sample key x.0) in
+      let row : SampleText × List ℤ → List ℤ = λ x. x.1 in
+      let rest : map row (mine kept) ≡ cond (test key) (map row (mine items)) [] = rows_passing items key in
+      elim (test item.0) as (λ t. test item.0 ≡ t → map row (mine (cond t (item ∷ kept) kept)) ≡ cond (test key) (map row (mine (item ∷ items))) []) [
+        | true ↦ λ passes. elim (same_sample key item.0) as (λ b. same_sample key item.0 ≡ b
+            → map row (cond b (item ∷ mine kept) (mine kept)) ≡ cond (test key) (map row (cond b (item ∷ mine items) (mine items))) []) [
+              | true ↦ λ one.
+                let is : test key ≡ true = ap test ((sample_decides key item.0).0 one) ∙ passes in
+                ap (λ r. item.1 ∷ r) (rest ∙ ap (λ t. cond t (map row (mine items)) []) is) ∙ ap (λ t. cond t (item.1 ∷ map row (mine items)) []) (sym is)
+              | false ↦ λ one. rest
+            ] refl
+        | false ↦ λ passes. elim (same_sample key item.0) as (λ b. same_sample key item.0 ≡ b
+            → map row (mine kept) ≡ cond (test key) (map row (cond b (item ∷ mine items) (mine items))) []) [
+              | true ↦ λ one.
+                let is : test key ≡ false = ap test ((sample_decides key item.0).0 one) ∙ passes in
+                rest ∙ ap (λ t. cond t (map row (mine items)) []) is ∙ ap (λ t. cond t (item.1 ∷ map row (mine items)) []) (sym is)
+              | false ↦ λ one. rest
+            ] refl
+      ] refl
+
+-- what a source's sample says among these sources
+abbrev pub told_in : Profile → List Profile → Profile → Sample → SampleText
+told_in p ps q s = (sample_text (location_found (first_alike (all_mappings (p ∷ ps))) q) (text_of q) s).0
+
+module _ (p : Profile) (ps : List Profile) (wide : AllByRecursion (HasValues (length p.sample_type)) (p ∷ ps)) where
+  abbrev items : List (SampleText × List ℤ)
+  items = all_samples (p ∷ ps)
+
+  abbrev keys : List SampleText
+  keys = distinct same_sample (keys_of same_sample items)
+
+  items_wide : AllByRecursion (λ item. length item.1 ≡ length p.sample_type) items
+  items_wide =
+      all_flat (λ item. length item.1 ≡ length p.sample_type) (samples_found (first_alike (all_mappings (p ∷ ps)))) (p ∷ ps)
+      (all_by _ _ (λ q own. all_mapped (λ item. length item.1 ≡ length p.sample_type)
+      (sample_text (location_found (first_alike (all_mappings (p ∷ ps))) q) (text_of q)) q.sample own) (p ∷ ps) wide)
+
+  pub rows_wide : (key : SampleText) → AllByRecursion (λ row. length row ≡ length p.sample_type) (rows_of same_sample items key)
+  rows_wide key = all_mapped (λ row. length row ≡ length p.sample_type) (λ (item : SampleText × List ℤ). item.1) _ (all_filtered _ (λ item. same_sample key item.0) items items_wide)
+
+  all_keyed : AllByRecursion (λ item. IsSeen same_sample keys item.0) items
+  all_keyed = all_unmapped (IsSeen same_sample keys) (λ (item : SampleText × List ℤ). item.0) items (all_seen same_sample (deciding_laws same_sample sample_decides).refl [] (keys_of same_sample items))
+
+  -- The values of a column, over the merged samples that pass, are those over the sources' samples that pass.
+  pub grouped : (test : SampleText → Bool) (column : ℕ) → column < length p.sample_type
+      → total adding_ℤ (λ item. cond (test item.0) (get_or item.1 column (pos 0)) (pos 0)) (contents p ps).samples
+      ≡ total adding_ℤ (λ q. total adding_ℤ (λ s. cond (test (told_in p ps q s)) (value_in s column) (pos 0)) q.sample) (p ∷ ps)
+  grouped test column within =
+      let at : List ℤ → ℤ = λ row. get_or row column (pos 0) in
+      let value : SampleText × List ℤ → ℤ = λ item. cond (test item.0) (get_or item.1 column (pos 0)) (pos 0) in
+      let kept : List (SampleText × List ℤ) = filter (λ (item : SampleText × List ℤ). test item.0) items in
+      let each : (key : SampleText) → value (key, sum_of same_sample (length p.sample_type) items key) ≡ total adding_ℤ at (rows_of same_sample kept key) = λ key.
+      ap (λ v. cond (test key) v (pos 0)) (at_total (length p.sample_type) column (rows_of same_sample items key) within (rows_wide key))
+      ∙ total_if (test key) at (rows_of same_sample items key) ∙ ap (total adding_ℤ at) (sym (rows_passing test items key)) in
+      total-filter adding_ℤ value counts (summed same_sample (length p.sample_type) items)
+      (all_any _ (λ item no_value. none_of (test item.0) (get_or item.1 column (pos 0)) (zero_at item.1 column (not-false _ no_value))) (summed same_sample (length p.sample_type) items))
+      ∙ total-map adding_ℤ value (λ key. (key, sum_of same_sample (length p.sample_type) items key)) keys
+      ∙ total_same adding_ℤ (λ key. value (key, sum_of same_sample (length p.sample_type) items key)) (λ key. total adding_ℤ at (rows_of same_sample kept key)) keys (all_any _ each keys)
+      ∙ parted adding_ℤ same_sample sample_decides at keys (distinct_apart same_sample (deciding_laws same_sample sample_decides) (keys_of same_sample items)) kept
+      (all_filtered _ (λ item. test item.0) items all_keyed)
+      ∙ total_passing (λ (item : SampleText × List ℤ). at item.1) (λ item. test item.0) items
+      ∙ total-flat_map adding_ℤ value (samples_found (first_alike (all_mappings (p ∷ ps)))) (p ∷ ps)
+      ∙ total_same adding_ℤ (λ q. total adding_ℤ value (samples_found (first_alike (all_mappings (p ∷ ps))) q)) (λ q. total adding_ℤ (λ s. cond (test (told_in p ps q s)) (value_in s column) (pos 0)) q.sample) (p ∷ ps)
+      (all_any _ (λ q. total-map adding_ℤ value (sample_text (location_found (first_alike (all_mappings (p ∷ ps))) q) (text_of q)) q.sample) (p ∷ ps))

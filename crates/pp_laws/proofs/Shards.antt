@@ -1,0 +1,263 @@
+-- Merged reports are sums.
+use Rattle.std.proofs.Common.{◌≡◌, ℕ, ◌<◌, ◌^◌, ◌%◌, ◌+◌, Bool, true, false, cond, not, ◌&&◌, ℤ, pos, ◌+ℤ◌, List, [], ◌∷◌, ◌++◌, length, map, get_or, ◌==◌, All, Option, Some, None, option_map, refl, sym, ap, ◌∙◌, subst, arith, append-nil, inl, inr}
+use Rattle.std.specs.Prelude.{int_div, find, unwrap_or}
+use Rattle.std.specs.List.{AllByRecursion, IsDistinct}
+use Rattle.std.specs.Option.{option_map_or}
+use Rattle.std.proofs.Math.IntN.{+ℤ_idr}
+use Rattle.std.proofs.lemmas.Bool.{false≢true}
+use Rattle.std.proofs.lemmas.List.{length-map}
+use Rattle.std.proofs.lemmas.List.Elements.{All-head, All-tail, recursion_from_All}
+use Rattle.std.proofs.lemmas.Map.Keys.{IsDistinct-head, IsDistinct-tail}
+use Rattle.pp_model.specs.declared.config.Config.{Config}
+use Rattle.pp_model.specs.declared.frame.Frame.{Frame}
+use Rattle.pp_model.specs.declared.profile.Mapping.{Mapping}
+use Rattle.pp_model.specs.declared.profile.Location.{Location}
+use Rattle.pp_model.specs.declared.profile.Profile.{Profile}
+use Rattle.pp_model.specs.declared.profile.Sample.{Sample}
+use Rattle.pp_model.specs.Conditions.{RefersTo}
+use Rattle.pp_model.specs.Finders.{Finders}
+use Rattle.pp_model.specs.Frames.{Written, written, text_at, text_of, stack_of, mapping_with}
+use Rattle.pp_model.specs.Rules.{NoRuleFails, IsCompact, begins_empty, zero_unless}
+use Rattle.pp_model.specs.Sizes.{value_in}
+use Rattle.pp_stack.specs.Filters.{filtered, frames_of_sample}
+use Rattle.pp_tags.specs.TagFilters.{filter_in_force, selects_or}
+use Rattle.pp_grain.specs.Keys.{key_cmp, key_texts}
+use Rattle.pp_merge.specs.Described.{MappingText, SampleText, mapping_text, mapping_found, location_found, start_of}
+use Rattle.pp_merge.specs.Alike.{same_mapping, first_alike}
+use Rattle.pp_merge.specs.Merge.{all_mappings, contents, merged}
+use Rattle.pp_merge.specs.Settled.{IsSettled}
+use Rattle.pp_merge.specs.Written.{Contents, written_mapping, written_location, written_sample, written_type, mappings, locations}
+use Rattle.pp_merge.specs.Written as writing
+use Rattle.pp_merge.proofs.MergedMapping.{mapping_laws}
+use Rattle.pp_merge.proofs.NumberedLemmas.{all_by, all_both, all_mapped}
+use Rattle.pp_merge.proofs.RoundTrip.{IsText, text_again}
+use Rattle.pp_merge.proofs.SettledLemmas.{all_any, all_flat, all_unmapped, found_holds, settled_contents}
+use Rattle.pp_merge.proofs.TotalLemmas.{total, total_same, adding_ℤ}
+use Rattle.pp_merge.proofs.WrittenAgain.{map_back, contents_again}
+use Rattle.pp_merge.proofs.WrittenCompact.{compact_written}
+use Rattle.pp_merge.proofs.WrittenValid.{valid_written, texts_of_mappings}
+use Rattle.pp_count.specs.Column.{selected}
+use Rattle.pp_count.specs.Sums.{Seen, sum_where, has, leads}
+use Rattle.pp_count.specs.EdgeSums.{has_edge}
+use Rattle.pp_count.specs.Seeing.{passes_tags, filtered_stack, counted_frames, key_of_frame, keys_of_stack, seen_with, seen}
+use Rattle.pp_count.specs.Counted.{report_samples}
+use Rattle.pp_count.proofs.Pieces.{all_refer}
+use Rattle.pp_laws.specs.Bases.{HasValues}
+use Rattle.pp_laws.specs.Merged.{KeepsMappings, AddUp, over_sources, MergedAreSums}
+use Rattle.pp_laws.proofs.IntSums.{sum_over, sum_each}
+use Rattle.pp_laws.proofs.Sampling.{part, sum_seen}
+use Rattle.pp_laws.proofs.Multiplying.{by_one}
+use Rattle.pp_laws.proofs.Grouped.{grouped, told_in}
+use Rattle.pp_laws.proofs.Stages.{filtered-map}
+use Rattle.pp_laws.proofs.Telling.{told_from, told_counted, file_of, placed, counted_told, frames_told, same_told}
+
+pub sum_total : {X : Type 0} (f : X → ℤ) (xs : List X) → sum_over f xs ≡ total adding_ℤ f xs
+sum_total f [] = refl
+sum_total f (x ∷ xs) = ap (λ v. f x +ℤ v) (sum_total f xs)
+
+-- the text of index 0 is empty
+text_zero : (p : Profile) → NoRuleFails p → text_at p 0 ≡ []
+text_zero p valid = by p.text (held (begins_empty p.text) valid.text_zero)
+  where
+    held : (b : Bool) → zero_unless b ≡ None → b ≡ true
+    held true none = refl
+    held false none = let no : ⊥ = cc in absurd no
+
+    by : (texts : List (List ℕ)) → begins_empty texts ≡ true → get_or texts 0 [] ≡ []
+    by [] is = refl
+    by ([] ∷ texts) is = refl
+    by ((b ∷ bs) ∷ texts) is = absurd (false≢true is)
+
+-- among mappings of which no two are one, each stays what it is
+self_alike : (xs : List MappingText) → IsDistinct same_mapping xs → AllByRecursion (λ x. first_alike xs x ≡ x) xs
+self_alike [] apart = tt
+self_alike (y ∷ ys) apart = (
+  ap (λ b. unwrap_or (cond b (Some y) (find (same_mapping y) ys)) y) (mapping_laws.refl y),
+  all_by (λ x. (first_alike ys x ≡ x) × (same_mapping y x ≡ false)) (λ x. first_alike (y ∷ ys) x ≡ x)
+  (λ x k. ap (λ b. unwrap_or (cond b (Some y) (find (same_mapping x) ys)) x) (mapping_laws.symm x y ∙ k.1) ∙ k.0) ys
+  (all_both (λ x. first_alike ys x ≡ x) (λ x. same_mapping y x ≡ false) ys (self_alike ys (IsDistinct-tail same_mapping y ys apart)) (IsDistinct-head same_mapping y ys apart)),
+)
+
+-- A written profile of settled contents: what it says of its mappings and of the places of its locations.
+module _ (c : Contents) (settled : IsSettled c) where
+  abbrev whole : Profile
+  whole = writing.written c
+
+  mapping_again : (m : MappingText) → AllByRecursion (IsText c) (m.file ∷ m.build_id ∷ []) → mapping_text whole (written_mapping c m) ≡ m
+  mapping_again m all = (λ i. record {
+    start = m.start;
+    limit = m.limit;
+    offset = m.offset;
+    file = text_again c m.file all.0 i;
+    build_id = text_again c m.build_id all.1.0 i;
+    has_functions = m.has_functions;
+    has_filenames = m.has_filenames;
+    has_line_numbers = m.has_line_numbers;
+    has_inline_frames = m.has_inline_frames;
+  })
+
+  mappings_back : all_mappings (whole ∷ []) ≡ mappings c
+  mappings_back = append-nil _ ∙ map_back (mapping_text whole) (written_mapping c) (mappings c) (all_by _ _ mapping_again (mappings c) (texts_of_mappings c))
+
+  own_alike : AllByRecursion (λ m. first_alike (all_mappings (whole ∷ [])) (mapping_text whole m) ≡ mapping_text whole m) whole.mapping
+  own_alike =
+      all_unmapped (λ x. first_alike (all_mappings (whole ∷ [])) x ≡ x) (mapping_text whole) whole.mapping
+      (subst (λ xs. AllByRecursion (λ x. first_alike (all_mappings (whole ∷ [])) x ≡ x) xs) (append-nil (map (mapping_text whole) whole.mapping))
+      (self_alike (all_mappings (whole ∷ [])) (subst (IsDistinct same_mapping) (sym mappings_back) settled.mapped)))
+
+  -- its mappings stay as they are when it is merged alone
+  pub stays : (id : ℕ) → option_map (first_alike (all_mappings (whole ∷ []))) (mapping_found whole id) ≡ mapping_found whole id
+  stays id = by (mapping_with whole id) refl
+    where
+      by : (o : Option Mapping) → mapping_with whole id ≡ o → option_map (first_alike (all_mappings (whole ∷ []))) (option_map (mapping_text whole) o) ≡ option_map (mapping_text whole) o
+      by None is = refl
+      by (Some m) is = ap Some (found_holds (λ x. first_alike (all_mappings (whole ∷ [])) (mapping_text whole x) ≡ mapping_text whole x) (λ x. x.id == id) whole.mapping own_alike m is).0
+
+  pub small : AllByRecursion (λ l. l.address < 2 ^ 64) whole.location
+  small = all_mapped (λ l. l.address < 2 ^ 64) (written_location c) (locations c) (all_any _ (λ l. below_all _) (locations c)) where
+    below_all : (n : ℕ) → n % 2 ^ 64 < 2 ^ 64
+    below_all n = omega arith
+
+-- Filters over what a sample says.
+module _ (f : Finders) (config : Config) where
+  abbrev keys_told : List (ℕ × Written) → List Written
+  keys_told xs = map (key_texts config.grain config.showcolumns) (told_counted config.noinlines xs)
+
+  -- the keys that a report sees, none where the filters drop the sample
+  abbrev pub shows : List (ℕ × Written) → Option (List Written)
+  shows xs = option_map keys_told (filtered (λ x. x.1) f xs)
+
+  -- whether the keys pass a test
+  abbrev pub passes : (List Written → Bool) → List (ℕ × Written) → Bool
+  passes test xs = option_map_or test (shows xs) false
+
+  module _ (p : Profile) where
+    keys_mapped : (stack : List Frame) → map (key_of_frame p config) stack ≡ map (key_texts config.grain config.showcolumns) (map (written p) stack)
+    keys_mapped [] = refl
+    keys_mapped (x ∷ stack) = ap (λ ks. key_of_frame p config x ∷ ks) (keys_mapped stack)
+
+    keys_same : (stack : List Frame) → keys_of_stack p config stack ≡ keys_told (map (placed p) stack)
+    keys_same stack = keys_mapped (counted_frames config.noinlines stack) ∙ ap (map (key_texts config.grain config.showcolumns)) (counted_told p config.noinlines stack)
+
+    -- What a sample adds to a sum, by what its stack is told as.
+    pub part_told : (column : ℕ) (s : Sample) (test : List Written → Bool) → config.divide_by ≡ 1 → passes_tags p f config s ≡ true
+        → option_map_or (part test) (seen p f config (Some column) s) (pos 0) ≡ cond (passes test (map (placed p) (stack_of p s))) (value_in s column) (pos 0)
+    part_told column s test by_itself kept =
+        ap (λ b. option_map_or (part test) (option_map (seen_with p config (Some column) s) (cond b (frames_of_sample p f s) None)) (pos 0)) kept
+        ∙ elim (frames_of_sample p f s) as (λ (o : Option (List Frame)). option_map_or (part test) (option_map (seen_with p config (Some column) s) o) (pos 0)
+        ≡ cond (option_map_or test (option_map keys_told (option_map (map (placed p)) o)) false) (value_in s column) (pos 0)) [
+          | None ↦ refl
+          | Some stack ↦ λ i. cond (test (keys_same stack i)) ((ap (λ d. int_div (value_in s column) (pos d)) by_itself ∙ by_one (value_in s column)) i) (pos 0)
+        ]
+        ∙ ap (λ (o : Option (List (ℕ × Written))). cond (option_map_or test (option_map keys_told o) false) (value_in s column) (pos 0))
+        (sym (filtered-map (placed p) (λ (x : ℕ × Written). x.1) f (stack_of p s)))
+
+module _ (f : Finders) (config : Config) (column : ℕ) (divisor : config.divide_by ≡ 1) (tagfocus : config.tagfocus ≡ []) (tagignore : config.tagignore ≡ []) where
+  untagged : (p : Profile) (s : Sample) → passes_tags p f config s ≡ true
+  untagged p s = λ i. selects_or true p (filter_in_force (tagfocus i)) f.tagfocus s && not (selects_or false p (filter_in_force (tagignore i)) f.tagignore s)
+
+  -- the test of what a sample says
+  abbrev says : (List Written → Bool) → SampleText → Bool
+  says test t = passes f config test (told_from 0 t.locations)
+
+  -- a sum over what sources say
+  abbrev sum_of_sources : (List Written → Bool) → Profile → List Profile → Profile → ℤ
+  sum_of_sources test p ps q = total adding_ℤ (λ s. cond (says test (told_in p ps q s)) (value_in s column) (pos 0)) q.sample
+
+  module _ (p : Profile) (ps : List Profile) (starts : AllByRecursion (λ m. m.start < 2 ^ 64) (all_mappings (p ∷ ps)))
+      (values : AllByRecursion (HasValues (length p.sample_type)) (p ∷ ps)) (within : column < length p.sample_type) where
+    abbrev all : Profile
+    all = merged p ps
+
+    settled : IsSettled (contents p ps)
+    settled = settled_contents p ps starts
+
+    valid : NoRuleFails all
+    valid = valid_written (contents p ps) settled.fits
+
+    compact : IsCompact all
+    compact = compact_written (contents p ps)
+
+    types_is : length all.sample_type ≡ length p.sample_type
+    types_is = length-map (contents p ps).header.types (written_type (contents p ps)) ∙ length-map p.sample_type _
+
+    wide : HasValues (length all.sample_type) all
+    wide = all_mapped (λ s. length s.value ≡ length all.sample_type) (written_sample (contents p ps)) (contents p ps).samples
+        (all_by (λ s. length s.1 ≡ length (contents p ps).header.types) (λ s. length s.1 ≡ length all.sample_type)
+        (λ s is. is ∙ sym (length-map (contents p ps).header.types (written_type (contents p ps)))) (contents p ps).samples settled.fits.rows)
+
+    each_says : (test : List Written → Bool) (s : Sample) → RefersTo all s
+        → option_map_or (part test) (seen all f config (Some column) s) (pos 0) ≡ cond (says test (told_in all [] all s)) (value_in s column) (pos 0)
+    each_says test s refers =
+        part_told f config all column s test divisor (untagged all s)
+        ∙ ap (λ xs. cond (passes f config test xs) (value_in s column) (pos 0))
+        (frames_told all (first_alike (all_mappings (all ∷ []))) (stays (contents p ps) settled) (text_zero all valid) compact.locations (small (contents p ps) settled) 0 s.location_id refers)
+
+    -- A figure of the merged profile, by what its sources say.
+    pub figure_said : (test : List Written → Bool) → sum_where test (report_samples all f config (Some column)) ≡ total adding_ℤ (sum_of_sources test p ps) (p ∷ ps)
+    figure_said test =
+        let value : Sample → ℤ = λ s. cond (says test (told_in all [] all s)) (value_in s column) (pos 0) in
+        sum_seen test (seen all f config (Some column)) all.sample
+        ∙ sum_each (λ s. option_map_or (part test) (seen all f config (Some column) s) (pos 0)) value all.sample
+        (all_by (RefersTo all) _ (each_says test) all.sample (recursion_from_All (RefersTo all) all.sample (all_refer all all refl valid)))
+        ∙ sum_total value all.sample
+        ∙ sym (+ℤ_idr (total adding_ℤ value all.sample))
+        ∙ sym (grouped all [] (wide, tt) (says test) column (subst (λ n. column < n) (sym types_is) within))
+        ∙ ap (λ (c : Contents). total adding_ℤ (λ (item : SampleText × List ℤ). cond (says test item.0) (get_or item.1 column (pos 0)) (pos 0)) c.samples) (contents_again (contents p ps) settled)
+        ∙ grouped p ps values (says test) column within
+
+  -- Each source says in the merge of all what it says alone.
+  module _ (p : Profile) (ps : List Profile) (q : Profile) (keeps : KeepsMappings (p ∷ ps) q) where
+    abbrev among : MappingText → MappingText
+    among = first_alike (all_mappings (p ∷ ps))
+
+    abbrev alone : MappingText → MappingText
+    alone = first_alike (all_mappings (q ∷ []))
+
+    same_starts : (id : ℕ) → start_of (option_map among (mapping_found q id)) ≡ start_of (option_map alone (mapping_found q id))
+    same_starts id = by (mapping_with q id) refl
+      where
+        by : (o : Option Mapping) → mapping_with q id ≡ o → start_of (option_map among (option_map (mapping_text q) o)) ≡ start_of (option_map alone (option_map (mapping_text q) o))
+        by None is = refl
+        by (Some m) is = (found_holds _ (λ (x : Mapping). x.id == id) q.mapping keeps m is).0.start
+
+    same_files : (id : ℕ) → file_of (option_map among (mapping_found q id)) ≡ file_of (option_map alone (mapping_found q id))
+    same_files id = by (mapping_with q id) refl
+      where
+        by : (o : Option Mapping) → mapping_with q id ≡ o → file_of (option_map among (option_map (mapping_text q) o)) ≡ file_of (option_map alone (option_map (mapping_text q) o))
+        by None is = refl
+        by (Some m) is = (found_holds _ (λ (x : Mapping). x.id == id) q.mapping keeps m is).0.file
+
+    same_said : (test : List Written → Bool) (s : Sample) → cond (says test (told_in p ps q s)) (value_in s column) (pos 0) ≡ cond (says test (told_in q [] q s)) (value_in s column) (pos 0)
+    same_said test s = ap (λ xs. cond (passes f config test xs) (value_in s column) (pos 0)) (same_told q among alone same_starts same_files 0 s.location_id)
+
+    source_said : AllByRecursion (λ m. m.start < 2 ^ 64) q.mapping → length q.sample_type ≡ length p.sample_type → HasValues (length p.sample_type) q → column < length p.sample_type
+        → (test : List Written → Bool) → sum_of_sources test p ps q ≡ sum_where test (report_samples (merged q []) f config (Some column))
+    source_said starts types values within test =
+        let own : AllByRecursion (λ m. m.start < 2 ^ 64) (all_mappings (q ∷ [])) =
+        all_flat (λ m. m.start < 2 ^ 64) (λ r. map (mapping_text r) r.mapping) (q ∷ []) (all_mapped (λ m. m.start < 2 ^ 64) (mapping_text q) q.mapping starts, tt) in
+        total_same adding_ℤ (λ s. cond (says test (told_in p ps q s)) (value_in s column) (pos 0)) (λ s. cond (says test (told_in q [] q s)) (value_in s column) (pos 0)) q.sample
+        (all_any _ (same_said test) q.sample)
+        ∙ sym (figure_said q [] own (subst (λ n. HasValues n q) (sym types) values, tt) (subst (λ n. column < n) (sym types) within) test ∙ +ℤ_idr (sum_of_sources test q [] q))
+
+  pub shards_add_up : (p : Profile) (ps : List Profile) → AddUp p ps config column → (test : List Written → Bool)
+      → sum_where test (report_samples (merged p ps) f config (Some column)) ≡ over_sources (λ q. sum_where test (report_samples q f config (Some column))) (p ∷ ps)
+  shards_add_up p ps can test =
+      let starts : AllByRecursion (λ m. m.start < 2 ^ 64) (all_mappings (p ∷ ps)) =
+      all_flat (λ m. m.start < 2 ^ 64) (λ r. map (mapping_text r) r.mapping) (p ∷ ps)
+      (all_by _ _ (λ r own. all_mapped (λ m. m.start < 2 ^ 64) (mapping_text r) r.mapping own) (p ∷ ps) can.starts) in
+      figure_said p ps starts can.values can.within test
+      ∙ sym (sum_total (sum_of_sources test p ps) (p ∷ ps))
+      ∙ sum_each (sum_of_sources test p ps) (λ q. sum_where test (report_samples (merged q []) f config (Some column))) (p ∷ ps)
+      (all_by (λ q. (KeepsMappings (p ∷ ps) q) × ((AllByRecursion (λ m. m.start < 2 ^ 64) q.mapping) × ((length q.sample_type ≡ length p.sample_type) × (HasValues (length p.sample_type) q)))) _
+      (λ q of. source_said p ps q of.0 of.1.0 of.1.1.0 of.1.1.1 can.within test) (p ∷ ps)
+      (all_both _ _ (p ∷ ps) can.mappings (all_both _ _ (p ∷ ps) can.starts (all_both _ _ (p ∷ ps) can.types can.values))))
+
+pub merged_are_sums : MergedAreSums
+merged_are_sums p ps f config column can =
+    let each = shards_add_up f config column can.divisor can.tagfocus can.tagignore p ps can in
+    record {
+      flat = λ k. each (leads key_cmp k);
+      cum = λ k. each (has key_cmp k);
+      edge = λ kept a b. each (has_edge key_cmp kept a b);
+    }
