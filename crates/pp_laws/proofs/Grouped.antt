@@ -23,7 +23,7 @@ use Rattle.pp_merge.proofs.NumberedLemmas.{all_by, all_mapped}
 use Rattle.pp_merge.proofs.SettledLemmas.{all_flat, all_filtered, all_unmapped, all_any}
 use Rattle.pp_merge.proofs.SumLemmas.{length-added, get_or-added, length-total_of}
 use Rattle.pp_merge.proofs.TotalLemmas.{total, total-append, total-flat_map, total-map, total-filter, total_same, parted, adding_ℤ}
-use Rattle.pp_laws.specs.Bases.{HasValues}
+use Rattle.pp_laws.specs.Merged.{HasValues}
 
 -- a value of a row of zeros
 zero_at : (row : List ℤ) (k : ℕ) → list_all (int_eq (pos 0)) row ≡ true → get_or row k (pos 0) ≡ pos 0
@@ -58,7 +58,7 @@ none_of true v is = is
 none_of false v is = refl
 
 -- the sum over items that pass, as one over all
-total_passing : {X : Type 0} (f : X → ℤ) (test : X → Bool) (xs : List X)
+pub total_passing : {X : Type 0} (f : X → ℤ) (test : X → Bool) (xs : List X)
     → total adding_ℤ f (filter test xs) ≡ total adding_ℤ (λ x. cond (test x) (f x) (pos 0)) xs
 total_passing f test [] = refl
 total_passing f test (x ∷ xs) =

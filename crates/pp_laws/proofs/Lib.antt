@@ -12,3 +12,4 @@ pub mod Grouped
 pub mod Stages
 pub mod Telling
 pub mod Shards
+pub mod Subtracting

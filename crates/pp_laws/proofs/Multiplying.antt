@@ -107,7 +107,7 @@ whole_values_scale column num den s within rest =
     ∙ sym (+ℤ_idr (w *ℤ pos den)) ∙ ap (λ r. w *ℤ pos den +ℤ r) (sym rest) ∙ quot-rem (value_in s column *ℤ pos num) (pos den)
     ∙ ap (λ v. v *ℤ pos num) (sym (by_one (value_in s column)))
 
-value_negated : (values : List ℤ) (column : ℕ) → get_or (map neg_ℤ values) column (pos 0) ≡ neg_ℤ (get_or values column (pos 0))
+pub value_negated : (values : List ℤ) (column : ℕ) → get_or (map neg_ℤ values) column (pos 0) ≡ neg_ℤ (get_or values column (pos 0))
 value_negated [] column = refl
 value_negated (v ∷ values) zero = refl
 value_negated (v ∷ values) (suc column) = value_negated values column
@@ -122,7 +122,7 @@ selected_negated None divide_by s = refl
 selected_negated (Some column) divide_by s =
     ap (λ v. int_div v (pos divide_by)) (value_negated s.value column) ∙ div_negated (value_in s column) divide_by
 
-if_negated : (b : Bool) (v w : ℤ) → w ≡ neg_ℤ v → cond b w (pos 0) ≡ neg_ℤ (cond b v (pos 0))
+pub if_negated : (b : Bool) (v w : ℤ) → w ≡ neg_ℤ v → cond b w (pos 0) ≡ neg_ℤ (cond b v (pos 0))
 if_negated true v w is = is
 if_negated false v w is = refl
 

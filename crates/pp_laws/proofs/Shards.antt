@@ -42,8 +42,7 @@ use Rattle.pp_count.specs.EdgeSums.{has_edge}
 use Rattle.pp_count.specs.Seeing.{passes_tags, filtered_stack, counted_frames, key_of_frame, keys_of_stack, seen_with, seen}
 use Rattle.pp_count.specs.Counted.{report_samples}
 use Rattle.pp_count.proofs.Pieces.{all_refer}
-use Rattle.pp_laws.specs.Bases.{HasValues}
-use Rattle.pp_laws.specs.Merged.{KeepsMappings, AddUp, over_sources, MergedAreSums}
+use Rattle.pp_laws.specs.Merged.{HasValues, KeepsMappings, AddUp, over_sources, MergedAreSums}
 use Rattle.pp_laws.proofs.IntSums.{sum_over, sum_each}
 use Rattle.pp_laws.proofs.Sampling.{part, sum_seen}
 use Rattle.pp_laws.proofs.Multiplying.{by_one}
@@ -157,11 +156,11 @@ module _ (f : Finders) (config : Config) (column : ℕ) (divisor : config.divide
   untagged p s = λ i. selects_or true p (filter_in_force (tagfocus i)) f.tagfocus s && not (selects_or false p (filter_in_force (tagignore i)) f.tagignore s)
 
   -- the test of what a sample says
-  abbrev says : (List Written → Bool) → SampleText → Bool
+  abbrev pub says : (List Written → Bool) → SampleText → Bool
   says test t = passes f config test (told_from 0 t.locations)
 
   -- a sum over what sources say
-  abbrev sum_of_sources : (List Written → Bool) → Profile → List Profile → Profile → ℤ
+  abbrev pub sum_of_sources : (List Written → Bool) → Profile → List Profile → Profile → ℤ
   sum_of_sources test p ps q = total adding_ℤ (λ s. cond (says test (told_in p ps q s)) (value_in s column) (pos 0)) q.sample
 
   module _ (p : Profile) (ps : List Profile) (starts : AllByRecursion (λ m. m.start < 2 ^ 64) (all_mappings (p ∷ ps)))

@@ -1,21 +1,42 @@
--- A profile less itself.
-use Rattle.std.specs.Prelude.{◌≡◌, ℕ, List, [], ◌∷◌, length, Option}
-use Rattle.std.specs.List.{AllByRecursion}
+-- A difference is a difference: a profile less a base, and less itself.
+use Rattle.std.specs.Prelude.{◌≡◌, ℕ, ◌-ℤ◌, Bool, List, [], ◌∷◌, length, Option, Some}
 use Rattle.pp_model.specs.declared.config.Config.{Config}
 use Rattle.pp_model.specs.declared.profile.Profile.{Profile}
 use Rattle.pp_model.specs.declared.report.BaseKind.TheVariants.{Base}
 use Rattle.pp_model.specs.Finders.{Finders}
 use Rattle.pp_merge.specs.Merge.{merged}
 use Rattle.pp_merge.specs.Scale.{negated}
+use Rattle.pp_grain.specs.Keys.{key_cmp}
+use Rattle.pp_model.specs.Frames.{Written}
+use Rattle.pp_count.specs.Sums.{flat, cum}
+use Rattle.pp_count.specs.EdgeSums.{edge_sum}
 use Rattle.pp_count.specs.Counted.{report_samples}
+use Rattle.pp_laws.specs.Merged.{HasValues, AddUp}
 
--- each sample has a value for each of so many types
-abbrev pub HasValues : ℕ → Profile → Type 0
-HasValues types p = AllByRecursion (λ s. length s.value ≡ types) p.sample
+-- the profile less its base
+abbrev pub less_base : Profile → Profile → Profile
+less_base p base = merged p (negated Base base ∷ [])
 
--- the profile with itself as its base
-abbrev pub less_itself : Profile → Profile
-less_itself p = merged p (negated Base p ∷ [])
+-- Each figure of the profile less its base is the profile's less the base's, each reported alone.
+pub record AreDifferences (p base : Profile) (f : Finders) (config : Config) (column : ℕ) : Type 0 where
+  pub flat : (k : Written)
+      → flat key_cmp (report_samples (less_base p base) f config (Some column)) k
+      ≡ flat key_cmp (report_samples (merged p []) f config (Some column)) k
+      -ℤ flat key_cmp (report_samples (merged base []) f config (Some column)) k
+  pub cum : (k : Written)
+      → cum key_cmp (report_samples (less_base p base) f config (Some column)) k
+      ≡ cum key_cmp (report_samples (merged p []) f config (Some column)) k
+      -ℤ cum key_cmp (report_samples (merged base []) f config (Some column)) k
+  pub edge : (kept : Written → Bool) (a b : Written)
+      → edge_sum key_cmp kept (report_samples (less_base p base) f config (Some column)) a b
+      ≡ edge_sum key_cmp kept (report_samples (merged p []) f config (Some column)) a b
+      -ℤ edge_sum key_cmp kept (report_samples (merged base []) f config (Some column)) a b
+
+-- So it is of a profile and a base whose figures could be added up.
+abbrev pub BasesSubtract : Type 0
+BasesSubtract =
+    (p base : Profile) (f : Finders) (config : Config) (column : ℕ)
+    → AddUp p (base ∷ []) config column → AreDifferences p base f config column
 
 -- A profile less itself has no sample, so no report of it has a key or an edge.
 pub record IsNothing (p : Profile) : Type 0 where
@@ -24,4 +45,4 @@ pub record IsNothing (p : Profile) : Type 0 where
 
 -- So it is for every profile whose samples have a value for each type.
 abbrev pub NothingIsLeft : Type 0
-NothingIsLeft = (p : Profile) → HasValues (length p.sample_type) p → IsNothing (less_itself p)
+NothingIsLeft = (p : Profile) → HasValues (length p.sample_type) p → IsNothing (less_base p p)

@@ -6,5 +6,5 @@ pub mod Order
 pub mod Rows
 pub mod Units
 pub mod Scales
-pub mod Bases
 pub mod Merged
+pub mod Bases

@@ -13,7 +13,6 @@ use Rattle.pp_count.specs.Sums.{flat, cum}
 use Rattle.pp_count.specs.EdgeSums.{edge_sum}
 use Rattle.pp_count.specs.Counted.{report_samples}
 use Rattle.pp_graph.specs.Trimmed.{int_sum}
-use Rattle.pp_laws.specs.Bases.{HasValues}
 
 -- The mappings have one file and one start.
 pub record IsPlacedAs (a b : MappingText) : Type 0 where
@@ -27,6 +26,10 @@ KeepsMappings sources q =
     AllByRecursion
     (λ m. IsPlacedAs (first_alike (all_mappings sources) (mapping_text q m))
     (first_alike (all_mappings (q ∷ [])) (mapping_text q m))) q.mapping
+
+-- each sample has a value for each of so many types
+abbrev pub HasValues : ℕ → Profile → Type 0
+HasValues types p = AllByRecursion (λ s. length s.value ≡ types) p.sample
 
 -- Sources whose figures can be added up: they have as many types, each sample has a value for each, mappings keep their
 -- places, values are divided by 1, and no tag filter is in force.

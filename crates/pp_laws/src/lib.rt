@@ -4,6 +4,7 @@
 //! against, so it holds of every figure that they print. `specs/` has the statements, a file for each module.
 #![tactic(auto)]
 
+mod bases;
 mod bounds;
 mod flats;
 mod merged;
@@ -13,6 +14,7 @@ mod rows;
 mod scales;
 mod units;
 
+pub use bases::differences_are_differences;
 pub use bounds::{edges_are_within, figures_are_within, percentages_are_within, shared_keys_are_whole};
 pub use flats::nothing_is_lost;
 pub use merged::merged_reports_are_sums;

@@ -1,0 +1,8 @@
+use Rattle.pp_laws.proofs.Subtracting.{bases_subtract, nothing_is_left}
+use Rattle.pp_laws.proofs.bases.differences_are_differences.Goals as goal
+
+pub returns-clause-differences : goal.returns-clause-differences
+returns-clause-differences c = bases_subtract
+
+pub returns-clause-itself : goal.returns-clause-itself
+returns-clause-itself c = nothing_is_left
