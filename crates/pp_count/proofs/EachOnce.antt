@@ -1,17 +1,20 @@
--- A sorted list without ties is the set of its items.
+-- A sorted list without ties is the set of its items: for crates that sort what a report lists.
 use Rattle.std.proofs.Common.{◌≡◌, Bool, true, false, cond, ◌&&◌, List, [], ◌∷◌, map, Option, Some, None, refl, sym, ap, subst, ◌∙◌, T}
 use Rattle.std.proofs.lemmas.Bool.{false≢true}
-use Rattle.std.specs.List.{list_any, dedup, dedup_from, AllByRecursion}
+use Rattle.std.specs.List.{list_any, dedup, dedup_from, AllByRecursion, IsDistinct}
 use Rattle.std.specs.List.Sorted.{IsSorted, IsStrictlySortedBy}
 use Rattle.std.specs.Option.{is_some}
-use Rattle.std.specs.Ordering.{eq_by_cmp, is_lt}
+use Rattle.std.specs.Bool.{Decides}
+use Rattle.std.specs.Ordering.{eq_by_cmp, is_lt, is_eq}
 use Rattle.std.specs.Cmp.{IsTotalOrder}
+use Rattle.std.proofs.lemmas.Cmp.{tied_itself}
 use Rattle.std.specs.declared.cmp.Ordering.{Ordering}
-use Rattle.std.specs.declared.cmp.Ordering.TheVariants.{Less}
+use Rattle.std.specs.declared.cmp.Ordering.TheVariants.{Less, Equal, Greater}
 use Rattle.std.proofs.lemmas.List.Kept.{IsStrictlySortedBy-dedup}
 use Rattle.std.specs.FinMap as finite
 use Rattle.std.specs.FinMap.Entries.{below_all, is_sorted, is_some-find}
 use Rattle.pp_count.specs.Ranks.{each_once, set_entry}
+use Rattle.pp_count.proofs.Renaming.{same_bool}
 
 module _ {K : Type 0} (R : K → K → Ordering) where
   -- no item ties with the one before it
@@ -70,3 +73,45 @@ module _ {K : Type 0} {R : K → K → Ordering} (o : IsTotalOrder R) (same : fi
       (ap is_some (finite.get-from_entries o (map set_entry xs) q) ∙ is_some-find R q (map set_entry xs) ∙ ap (list_any (eq_by_cmp R q)) (keys-items R xs)
       ∙ members q ∙ sym (ap (list_any (eq_by_cmp R q)) (keys-items R ks)) ∙ sym (is_some-find R q (map set_entry ks)) ∙ sym (ap is_some (finite.get-from_sorted R (map set_entry ks) q in_order)))) in
       ap finite.keys equal ∙ listed
+
+-- what an order says where it says that two tie
+ties : (o : Ordering) → is_eq o ≡ true → o ≡ Equal
+ties Less h = absurd (false≢true h)
+ties Equal h = refl
+ties Greater h = absurd (false≢true h)
+
+module _ {K : Type 0} {R : K → K → Ordering} (o : IsTotalOrder R) (alike : finite.IsAntisymmetric R) where
+  -- where only what is the same ties, the test for ties decides what is the same
+  pub tied_decides : (x y : K) → Decides (eq_by_cmp R x y) (x ≡ y)
+  tied_decides x y = (λ e. alike x y (ties (R x y) e), λ is. ap (eq_by_cmp R x) (sym is) ∙ ap is_eq (tied_itself o x))
+
+-- Items that are told apart by a test of its own.
+module _ {K : Type 0} {R : K → K → Ordering} (o : IsTotalOrder R) (alike : finite.IsAntisymmetric R)
+    (same : K → K → Bool) (decides : (x y : K) → Decides (same x y) (x ≡ y)) where
+  same_ties : (x y : K) → eq_by_cmp R x y ≡ same x y
+  same_ties x y = same_bool _ _
+      (λ e. (decides x y).1 ((tied_decides o alike x y).0 e))
+      (λ e. (tied_decides o alike x y).1 ((decides x y).0 e))
+
+  same_symm : (x y : K) → same x y ≡ same y x
+  same_symm x y = same_bool _ _
+      (λ e. (decides y x).1 (sym ((decides x y).0 e)))
+      (λ e. (decides x y).1 (sym ((decides y x).0 e)))
+
+  apart_next : (k : K) (ks : List K) → IsDistinct same (k ∷ ks) → Apart R k ks
+  unfolding IsDistinct
+  apart_next k [] d = tt
+  apart_next k (x ∷ xs) d = (same_ties x k ∙ same_symm x k ∙ d.0.0, apart_next x xs d.1)
+
+  apart_all : (ks : List K) → IsDistinct same ks → AllApart R ks
+  apart_all [] d = tt
+  apart_all (k ∷ ks) d = apart_next k ks d
+
+  -- A list that is sorted by R, and whose items no two are the same, is the set in that
+  -- order of any list with the same items.
+  pub each_once_is : (xs ks : List K) → IsSorted R ks → IsDistinct same ks
+      → ((x : K) → list_any (same x) xs ≡ list_any (same x) ks)
+      → each_once R xs ≡ ks
+  each_once_is xs ks sorted distinct members =
+      ranked o alike xs ks sorted (apart_all ks distinct)
+      (λ x. (λ i. list_any (λ y. same_ties x y i) xs) ∙ members x ∙ (λ i. list_any (λ y. sym (same_ties x y) i) ks))

@@ -21,7 +21,7 @@ use Rattle.pp_count.specs.declared.part.KeySum.{KeySum}
 use Rattle.pp_count.specs.declared.sums.Sums.{Sums}
 use Rattle.pp_count.specs.declared.tally.Tally.{Tally}
 use Rattle.pp_count.specs.Table.{no_key, written_key}
-use Rattle.pp_count.specs.Sums.{Seen, weighed, absolute, renamed, occurs, flat, cum}
+use Rattle.pp_count.specs.Sums.{Seen, all_keys, weighed, absolute, renamed, occurs, flat, cum}
 use Rattle.pp_count.specs.Tally.{IsTallyOf, entry_of}
 use Rattle.pp_count.specs.Parts.{sums_of, key_at_sum, flat_size, HasBelow}
 use Rattle.pp_count.specs.declared.scope.Scope.{Scope}
@@ -32,7 +32,7 @@ use Rattle.pp_count.proofs.CallerLemmas.{weighed-renamed}
 use Rattle.pp_count.proofs.Sizes.{same_sums, flats_bound, part_within}
 use Rattle.pp_count.proofs.Joining.{more_of}
 use Rattle.pp_count.proofs.Finals.{none_before}
-use Rattle.pp_count.proofs.Renaming.{all_keys, same_bool, same_found, list_any-renamed, all_keys_occur, occurs_below, cum-renamed, flat-renamed, tied_is}
+use Rattle.pp_count.proofs.Renaming.{same_bool, same_found, list_any-renamed, all_keys_occur, occurs_below, cum-renamed, flat-renamed, tied_is}
 
 -- an entry list with an item is that of a key that some sample had
 head_is : (w : Bool) (x e : KeySum) (rest : List KeySum) → cond w (x ∷ []) [] ≡ e ∷ rest → (w ≡ true) × (x ≡ e)
@@ -148,7 +148,7 @@ module _ (p : Profile) (compact : IsCompact p) (names : List Key) (keys : All (I
     )
 
     members : (m : ℕ) → list_any (eq_by_cmp nat_cmp m) (map (λ (e : KeySum). e.key) es) ≡ list_any (eq_by_cmp nat_cmp m) (all_keys S)
-    members m = any_entry m es (ltb 0 (at m).last) _ (entries m) ∙ (tallies m).occurs ∙ sym (all_keys_occur S m)
+    members m = any_entry m es (ltb 0 (at m).last) _ (entries m) ∙ (tallies m).occurs ∙ sym (all_keys_occur nat_cmp S m)
 
     pub keyed : (T : List (Seen Written)) (sums : Sums) → map (renamed name) seen ≡ T
         → sums.names ≡ map (key_at_sum names) es → sums.flat ≡ map (λ e. e.flat) es → sums.cum ≡ map (λ e. e.cum) es

@@ -2,6 +2,7 @@ pub mod Numbering
 pub mod Adding
 pub mod Entries
 pub mod Joining
+pub mod CountedFrames
 pub mod Sights
 pub mod Ranges
 pub mod Pieces
@@ -16,3 +17,4 @@ pub mod Kept
 pub mod Pairing
 pub mod Edged
 pub mod EachOnce
+pub mod Ties

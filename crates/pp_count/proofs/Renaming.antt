@@ -1,5 +1,5 @@
 -- Sums by key numbers are the sums by the keys that the numbers stand for.
-use Rattle.std.proofs.Common.{◌≡◌, ℕ, ◌<◌, Bool, true, false, cond, ◌||◌, pos, ◌+ℤ◌, List, [], ◌∷◌, ◌++◌, flat_map, map, All, refl, sym, ap, ◌∙◌, arith}
+use Rattle.std.proofs.Common.{◌≡◌, ℕ, ◌<◌, Bool, true, false, cond, ◌||◌, pos, ◌+ℤ◌, List, [], ◌∷◌, ◌++◌, map, All, refl, sym, ap, ◌∙◌, arith}
 use Rattle.std.specs.List.{list_any}
 use Rattle.std.specs.Ordering.{nat_cmp, eq_by_cmp}
 use Rattle.std.specs.Cmp.{unsigned_tied}
@@ -8,11 +8,7 @@ use Rattle.std.proofs.lemmas.Bool.{false≢true, eqb-true, eq-eqb}
 use Rattle.std.proofs.lemmas.List.{map-append}
 use Rattle.std.proofs.lemmas.List.Elements.{All-head, All-tail}
 use Rattle.std.proofs.lemmas.List.Folds.{list_any-append}
-use Rattle.pp_count.specs.Sums.{Seen, renamed, has, leads, occurs, cum, flat}
-
--- the keys of all samples, sample by sample
-abbrev pub all_keys : {K : Type 0} → List (Seen K) → List K
-all_keys samples = flat_map (λ s. s.keys) samples
+use Rattle.pp_count.specs.Sums.{Seen, all_keys, renamed, has, leads, occurs, cum, flat}
 
 -- a Bool is known by when it is true
 pub same_bool : (a b : Bool) → (a ≡ true → b ≡ true) → (b ≡ true → a ≡ true) → a ≡ b
@@ -58,10 +54,11 @@ pub list_any-renamed : {K : Type 0} (f : ℕ → K) (p : K → Bool) (xs : List 
 list_any-renamed f p [] = refl
 list_any-renamed f p (x ∷ xs) = ap (λ b. p (f x) || b) (list_any-renamed f p xs)
 
--- a number stands among all keys where it occurs
-pub all_keys_occur : (ss : List (Seen ℕ)) (m : ℕ) → list_any (eq_by_cmp nat_cmp m) (all_keys ss) ≡ occurs nat_cmp ss m
-all_keys_occur [] m = refl
-all_keys_occur (s ∷ ss) m = list_any-append (eq_by_cmp nat_cmp m) s.keys (all_keys ss) ∙ ap (λ b. has nat_cmp m s.keys || b) (all_keys_occur ss m)
+-- a key stands among all keys where it occurs
+pub all_keys_occur : {K : Type 0} (order : K → K → Ordering) (samples : List (Seen K)) (k : K) → list_any (eq_by_cmp order k) (all_keys samples) ≡ occurs order samples k
+all_keys_occur order [] k = refl
+all_keys_occur order (s ∷ samples) k =
+    list_any-append (eq_by_cmp order k) s.keys (all_keys samples) ∙ ap (λ b. has order k s.keys || b) (all_keys_occur order samples k)
 
 -- all keys of the samples are below n
 abbrev pub AllBelow : ℕ → List (Seen ℕ) → Type 0

@@ -1,7 +1,6 @@
 -- The key numbers of frames.
-use Rattle.std.proofs.Common.{◌≡◌, ℕ, zero, suc, ◌+◌, ◌<◌, ◌≤◌, ◌==◌, append_assoc, Bool, true, false, cond, not, ◌||◌, List, [], ◌∷◌, ◌++◌, length, drop, get_or, map, All, Option, Some, None, refl, sym, ap, ◌∙◌, subst, arith}
-use Rattle.std.specs.Option.{unwrap_or, option_map_or}
-use Rattle.std.specs.List.{slice_get}
+use Rattle.std.proofs.Common.{◌≡◌, ℕ, ◌+◌, ◌<◌, ◌≤◌, append_assoc, true, false, List, [], ◌∷◌, ◌++◌, length, drop, get_or, map, All, Option, Some, None, refl, sym, ap, ◌∙◌, subst, arith}
+use Rattle.std.specs.Option.{unwrap_or}
 use Rattle.std.proofs.lemmas.List.{get_or-map, get_or_default, length-map, map-append, append-nil}
 use Rattle.std.proofs.Math.ListN.{drop_of_length-le}
 use Rattle.std.proofs.lemmas.List.Elements.{All-push}
@@ -15,7 +14,8 @@ use Rattle.pp_model.specs.Frames.{Written, written, rows, row_frame, lines_at}
 use Rattle.pp_grain.specs.Keys.{counts, key_texts}
 use Rattle.pp_count.specs.declared.table.KeyTable.{KeyTable}
 use Rattle.pp_count.specs.Table.{written_key, IsKeyTable}
-use Rattle.pp_count.specs.Seeing.{counted_frames, key_of_frame, keys_of_stack}
+use Rattle.pp_count.specs.Seeing.{key_of_frame, keys_of_stack}
+use Rattle.pp_count.proofs.CountedFrames.{one_more, no_more}
 
 -- the frame of the row, which stands at that place of the location's rows
 frame_in : (location : ℕ) (lines : List Line) (row : Option ℕ) (d : Frame) → IsRowOf lines row
@@ -86,21 +86,6 @@ pub record NumberedTo (p : Profile) (config : Config) (table : KeyTable) (stack 
 pub numbered_none : (p : Profile) (config : Config) (table : KeyTable) (stack : List Frame) (keys : List ℕ) → keys ≡ [] → NumberedTo p config table stack 0 keys
 numbered_none p config table stack keys none = rw none (record { below = λ k d below. absurd (omega (arith, below)); named = refl })
 
--- the frames, with one in front of them that counts
-abbrev keep_frame : Bool → Frame → List Frame → List Frame
-keep_frame counts f fs = cond counts (f ∷ fs) fs
-
--- a frame counts by what follows it
-counts_here : (stack : List Frame) (i : ℕ) (noinlines : Bool) (f : Frame) → i < length stack → f ≡ get_or stack i f
-    → keep_frame (counts stack i noinlines) f (counted_frames noinlines (drop (i + 1) stack)) ≡ counted_frames noinlines (drop i stack)
-counts_here [] i noinlines f here is = absurd (omega (arith, here))
-counts_here (x ∷ stack) zero noinlines f here is = ap (λ g. cond (counts (x ∷ stack) 0 noinlines) (g ∷ counted_frames noinlines stack) (counted_frames noinlines stack)) is
-counts_here (x ∷ stack) (suc i) noinlines f here is =
-    let next : suc i + 1 ≡ suc (i + 1) = omega arith in
-    let same : counts (x ∷ stack) (suc i) noinlines ≡ counts stack i noinlines =
-    ap (λ (m : ℕ). not noinlines || option_map_or (λ (g : Frame). not (g.place == (get_or stack i g).place)) (slice_get (x ∷ stack) m) true) next in
-    (λ j. keep_frame (same j) f (counted_frames noinlines (drop (next j) (x ∷ stack)))) ∙ counts_here stack i noinlines f (omega (arith, here)) is
-
 -- one more frame, which counts
 pub numbered_more : (p : Profile) (config : Config) (table : KeyTable) (stack : List Frame) (i : ℕ) (keys : List ℕ) (f : Frame) (n : ℕ)
     → i < length stack → f ≡ get_or stack i f → counts stack i config.noinlines ≡ true
@@ -113,7 +98,7 @@ numbered_more p config table stack i keys f n here is counted below named so_far
       ∙ append_assoc (map (written_key p table.names) keys) (written_key p table.names n ∷ []) (keys_of_stack p config (drop (i + 1) stack))
       ∙ ap (λ k. map (written_key p table.names) keys ++ k ∷ keys_of_stack p config (drop (i + 1) stack)) named
       ∙ ap (λ fs. map (written_key p table.names) keys ++ map (key_of_frame p config) fs)
-      (ap (λ b. keep_frame b f (counted_frames config.noinlines (drop (i + 1) stack))) (sym counted) ∙ counts_here stack i config.noinlines f here is)
+      (one_more stack i config.noinlines f here is counted)
       ∙ so_far.named;
 }
 
@@ -132,13 +117,10 @@ pub numbered_other : (p : Profile) (config : Config) (table : KeyTable) (stack :
     → i < length stack → counts stack i config.noinlines ≡ false
     → NumberedTo p config table stack i keys → NumberedTo p config table stack (i + 1) keys
 numbered_other p config table stack i keys here other so_far =
-    let f : Frame = get_or stack i (record { place = 0; location = 0; row = None }) in
     record {
       below = so_far.below;
       named =
-          ap (λ fs. map (written_key p table.names) keys ++ map (key_of_frame p config) fs)
-          (ap (λ b. keep_frame b f (counted_frames config.noinlines (drop (i + 1) stack))) (sym other)
-          ∙ counts_here stack i config.noinlines f here (get_or_default stack i (record { place = 0; location = 0; row = None }) f here))
+          ap (λ fs. map (written_key p table.names) keys ++ map (key_of_frame p config) fs) (no_more stack i config.noinlines here other)
           ∙ so_far.named;
     }
 

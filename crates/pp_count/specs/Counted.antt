@@ -19,8 +19,8 @@ use Rattle.pp_count.specs.Seeing.{HoldsFilters, seen_samples, framed_samples, fi
 use Rattle.pp_count.specs.Matches.{matches_of}
 use Rattle.pp_count.specs.Counts.{AreSumsOf, total_of}
 
--- What a report counts of a profile can be counted: samples and columns are few, sums fit, and verdicts, tags and column
--- are those of the profile.
+-- What a report counts of a profile can be counted: samples and columns are few, sums
+-- fit, and verdicts, tags and column are those of the profile.
 pub record CanCount (p : Profile) (v : Verdicts) (config : Config) (of_column : Option ℕ) : Type 0 where
   pub countable : IsCountable p
   pub column : IsColumnOf p of_column
@@ -28,8 +28,8 @@ pub record CanCount (p : Profile) (v : Verdicts) (config : Config) (of_column : 
   pub focus : HasItsTags p v.tag (filter_in_force config.tagfocus)
   pub ignore : HasItsTags p v.tag (filter_in_force config.tagignore)
 
--- The samples that put keys into a report: those that the filters leave and whose selected value isn't 0, with the keys of
--- their frames that count.
+-- The samples that put keys into a report: those that the filters leave and whose
+-- selected value isn't 0, with the keys of their frames that count.
 abbrev pub report_samples : Profile → Finders → Config → Option ℕ → List (Seen Written)
 report_samples p f config column = weighed (seen_samples p f config column p.sample)
 

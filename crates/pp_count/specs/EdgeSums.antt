@@ -59,7 +59,8 @@ is_kept_name p names keep k =
 abbrev pub edges_between : ℕ → ℕ → List Edge → List Edge
 edges_between caller callee edges = filter (λ e. e.from == caller && e.to == callee) edges
 
--- The edges are those of these samples over the names that are kept: each pair that occurs has one, and no other has any.
+-- The edges are those of these samples over the names that are kept: each pair that
+-- occurs has one, and no other has any.
 pub record AreEdgesOf (p : Profile) (samples : List (Seen Written)) (names : List Key)
     (keep : List Bool) (edges : List Edge) : Type 0 where
   pub within : All (λ e. (e.from < length names) × (e.to < length names)) edges

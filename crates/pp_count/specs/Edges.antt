@@ -17,7 +17,8 @@ pair_number names caller callee = caller * names + callee
 abbrev pub pair_if : ℕ → ℕ → ℕ → List ℕ
 pair_if names caller callee = if caller == callee then [] else pair_number names caller callee ∷ []
 
--- the pairs of keys of which one stands directly above the other, leaf first, where this key stands under the first of them
+-- the pairs of keys of which one stands directly above the other, leaf first, where this
+-- key stands under the first of them
 abbrev pub pairs_over : ℕ → Option ℕ → List ℕ → List ℕ
 pairs_over names under [] = []
 pairs_over names None (a ∷ keys) = pairs_over names (Some a) keys

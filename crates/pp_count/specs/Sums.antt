@@ -1,6 +1,6 @@
 -- What a report counts: sums over the plain list of samples, once for each key.
 use Rattle.std.specs.Prelude.{ℕ, ℤ, pos, ◌+ℤ◌, nat_abs, Bool, false, not, List, [], ◌∷◌, map, if◌then◌else◌}
-use Rattle.std.specs.List.{filter, list_any, sum_by}
+use Rattle.std.specs.List.{filter, flat_map, list_any, sum_by}
 use Rattle.std.specs.Ordering.{eq_by_cmp, int_eq}
 use Rattle.std.specs.declared.cmp.Ordering.{Ordering}
 
@@ -8,6 +8,10 @@ use Rattle.std.specs.declared.cmp.Ordering.{Ordering}
 pub record Seen (K : Type 0) : Type 0 where
   pub value : ℤ
   pub keys : List K
+
+-- the keys of all samples, sample by sample
+abbrev pub all_keys : {K : Type 0} → List (Seen K) → List K
+all_keys samples = flat_map (λ s. s.keys) samples
 
 -- the samples that put keys into a report: those whose value isn't 0
 abbrev pub weighed : {K : Type 0} → List (Seen K) → List (Seen K)

@@ -16,7 +16,8 @@ use thiserror::Error;
 #[error("no such sample type")]
 pub struct BadSampleIndex;
 
-/// The place of the sample type that `sample_index` asks for. None where it asks for none and there are no sample types.
+/// The place of the sample type that `sample_index` asks for. None where it asks for none
+/// and there are no sample types.
 ///
 /// An empty `sample_index` means the first type of the profile's default name, else the last one. Digits alone are a
 /// place, counted from 0. Any other text is the name of a type, of which the first counts.

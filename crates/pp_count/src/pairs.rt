@@ -5,8 +5,8 @@ ghost use Rattle.pp_count.specs.Edges.{is_kept_key, pair_if, pairs_of};
 
 use pp_base::Memory;
 
-/// The pairs of a sample's keys, leaf first, over the keys that are kept. A pair of the numbers `caller` and `callee` has
-/// the number `caller * keep.len() + callee`.
+/// The pairs of a sample's keys, leaf first, over the keys that are kept. A pair of the
+/// numbers `caller` and `callee` has the number `caller * keep.len() + callee`.
 pub fn gather_pairs(pairs: &mut Vec<u64>, keys: &[u64], keep: &[bool]) -> Result<(), Memory>
     requires { length keep.now < 2 ^ 32 }
     ensures { IfOk result (λ _. pairs.new.items ≡ pairs_of keep.now keys.now) }

@@ -17,7 +17,7 @@ pub struct Scope<'a> {
     pub column: Option<u32>,
     /// The table of key numbers of `l` and `config`.
     pub table: &'a KeyTable,
-    /// None where keys are counted. Else pairs are, over the keys that are kept here, by key number; keys past the end are
-    /// not kept.
+    /// None where keys are counted. Else pairs are, over the keys that are kept here, by
+    /// key number; keys past the end are not kept.
     pub over: Option<&'a [bool]>,
 }
