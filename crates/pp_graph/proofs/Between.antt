@@ -1,9 +1,9 @@
 -- The edges that are left between the keys that a report shows, and how many were cut.
-use Rattle.std.proofs.Common.{◌≡◌, ◌≢◌, ℕ, zero, suc, eqb, ◌+◌, ◌<◌, ◌≤◌, Bool, true, false, cond, not, ◌&&◌, ◌||◌, List, [], ◌∷◌, ◌++◌, length, map, get_or, All, inl, inr, refl, sym, ap, subst, ◌∙◌, arith}
-use Rattle.std.specs.List.{filter, list_any, range_with_len, sum_by, AllPairs, Contains}
+use Rattle.std.proofs.Common.{◌≡◌, ◌≢◌, ℕ, zero, suc, eqb, ◌+◌, ◌<◌, Bool, true, false, cond, not, ◌&&◌, ◌||◌, List, [], ◌∷◌, length, map, get_or, All, inl, inr, refl, sym, ap, subst, ◌∙◌, arith}
+use Rattle.std.specs.List.{filter, list_any, sum_by, AllPairs}
 use Rattle.std.specs.Ordering.{nat_cmp, eq_by_cmp}
 use Rattle.std.specs.Cmp.{unsigned_tied}
-use Rattle.std.proofs.lemmas.Bool.{cases_eq, cases_order, eq-eqb, eqb-true, false≢true}
+use Rattle.std.proofs.lemmas.Bool.{cases_eq, cases_order, eq-eqb, false≢true}
 use Rattle.std.proofs.lemmas.List.{length-map, get_or-map}
 use Rattle.std.proofs.lemmas.List.Elements.{All-nil, All-cons, All-head, All-tail, All-filter, All-from_get_or, All-get_or, filter_passes, filter_agree}
 use Rattle.std.proofs.lemmas.List.Sums.{sum_by-cons}
@@ -13,16 +13,16 @@ use Rattle.pp_grain.specs.declared.key.Key.{Key}
 use Rattle.pp_grain.specs.Keys.{key_cmp, key_written}
 use Rattle.pp_count.specs.declared.edge.Edge.{Edge}
 use Rattle.pp_count.specs.Sums.{Seen, has}
-use Rattle.pp_count.specs.Edges.{is_kept_key}
 use Rattle.pp_count.specs.EdgeSums.{stands_over, has_pair, has_edge, edge_occurs, edge_sum, kept_numbers, is_kept_name, edges_between, AreEdgesOf}
 use Rattle.pp_count.specs.Table.{no_key, written_key}
 use Rattle.pp_count.proofs.Renaming.{same_found, list_any-renamed}
+use Rattle.pp_count.proofs.Ties.{tied}
 use Rattle.pp_graph.specs.Lists.{once_if}
-use Rattle.pp_graph.specs.Trim.{is_heavy, has_heavy_edge, has_light_edge, light_edge_count}
+use Rattle.pp_graph.specs.Trim.{has_heavy_edge, has_light_edge, light_edge_count}
 use Rattle.pp_graph.specs.Cuts.{kept_flags, is_heavy_edge, is_light_edge}
 use Rattle.pp_graph.proofs.Chaining.{eqb-not}
 use Rattle.pp_graph.proofs.Flags.{kept_are, among}
-use Rattle.pp_graph.proofs.Shown.{All-with, key_tied, key_decides}
+use Rattle.pp_graph.proofs.Shown.{All-with}
 
 filter-both : {X : Type 0} (p q : X → Bool) (xs : List X) → filter p (filter q xs) ≡ filter (λ x. q x && p x) xs
 filter-both p q [] = refl
@@ -152,7 +152,7 @@ module _ (kept : Written → Bool) where
   over_kept a b under (k ∷ keys) is all found =
       either (eq_by_cmp key_cmp a k && eq_by_cmp key_cmp b under) (stands_over key_cmp a b k keys) found
       (λ here. let two = both (eq_by_cmp key_cmp a k) (eq_by_cmp key_cmp b under) here in
-      (ap kept (key_tied a k two.0) ∙ All-head (λ q. kept q ≡ true) k keys all, ap kept (key_tied b under two.1) ∙ is))
+      (ap kept (tied a k two.0) ∙ All-head (λ q. kept q ≡ true) k keys all, ap kept (tied b under two.1) ∙ is))
       (λ later. over_kept a b k keys (All-head (λ q. kept q ≡ true) k keys all) (All-tail (λ q. kept q ≡ true) k keys all) later)
 
   pair_kept : (a b : Written) (keys : List Written) → All (λ k. kept k ≡ true) keys → has_pair key_cmp a b keys ≡ true → (kept a ≡ true) × (kept b ≡ true)
@@ -200,7 +200,7 @@ module _ (p : Profile) (samples : List (Seen Written)) (names : List Key) (disti
     go [] all found = absurd (false≢true found)
     go (n ∷ ns) all found =
         either (eq_by_cmp key_cmp (key_at a) (key_at n)) (list_any (λ m. eq_by_cmp key_cmp (key_at a) (key_at m)) ns) found
-        (λ here. ap (λ b. b || among a ns) (unsigned_tied a n ∙ eq-eqb a n (same_number a n in_a (All-head (λ m. m < length names) n ns all) (key_tied (key_at a) (key_at n) here))))
+        (λ here. ap (λ b. b || among a ns) (unsigned_tied a n ∙ eq-eqb a n (same_number a n in_a (All-head (λ m. m < length names) n ns all) (tied (key_at a) (key_at n) here))))
         (λ later. or_later (eq_by_cmp nat_cmp a n) (among a ns) (go ns (All-tail (λ m. m < length names) n ns all) later)) where
           or_later : (x y : Bool) → y ≡ true → (x || y) ≡ true
           or_later true y e = refl

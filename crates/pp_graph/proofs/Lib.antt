@@ -7,7 +7,6 @@ pub mod Adding
 pub mod Starting
 pub mod Collecting
 pub mod RowOrder
-pub mod EachOnce
 pub mod Ordering
 pub mod Shown
 pub mod Summing

@@ -11,7 +11,8 @@ use Rattle.pp_model.specs.Frames.{Written}
 use Rattle.pp_model.specs.declared.config.Sort.{Sort}
 use Rattle.pp_model.specs.declared.config.Sort.TheVariants as sorts
 use Rattle.pp_count.specs.Sums.{Seen, cum, flat}
-use Rattle.pp_graph.specs.Trim.{by_size, report_order}
+use Rattle.pp_count.specs.Ranks.{by_size}
+use Rattle.pp_graph.specs.Trim.{report_order}
 
 module _ {K : Type 0} (order : K → K → Ordering) (value : K → ℤ) where
   -- by size first: for crates that list neighbours

@@ -1,19 +1,16 @@
 -- The ranked rows are the keys that a report shows.
-use Rattle.std.proofs.Common.{◌≡◌, ◌≢◌, ℕ, zero, suc, eqb, ◌+◌, ◌<◌, ◌≤◌, ◌^◌, Bool, true, false, cond, not, ◌&&◌, ◌||◌, ℤ, pos, nat_abs, List, [], ◌∷◌, ◌++◌, length, map, take, get_or, All, refl, sym, ap, subst, ◌∙◌, arith}
-use Rattle.std.specs.List.{filter, flat_map, list_any, range_with_len, IsDistinct, AllPairs, sum_by}
+use Rattle.std.proofs.Common.{◌≡◌, ◌≢◌, ℕ, eqb, ◌+◌, ◌<◌, Bool, true, false, cond, not, ◌&&◌, pos, nat_abs, List, [], ◌∷◌, length, map, take, get_or, All, refl, sym, ap, subst, ◌∙◌, arith}
+use Rattle.std.specs.List.{filter, list_any, range_with_len, IsDistinct}
 use Rattle.std.specs.List.Sorted.{IsPermutation, IsSorted, IsSortedBy}
-use Rattle.std.specs.Ordering.{nat_cmp, eq_by_cmp, is_lt, ordering_then}
+use Rattle.std.specs.Ordering.{eq_by_cmp, is_lt, ordering_then}
 use Rattle.std.specs.declared.cmp.Ordering.{Ordering}
 use Rattle.std.specs.declared.cmp.Ordering.TheVariants.{Less, Equal, Greater}
 use Rattle.std.proofs.lemmas.Cmp.{eq_by_cmp_equiv}
 use Rattle.std.proofs.lemmas.List.{length-map, get_or-map, take-map}
-use Rattle.std.proofs.lemmas.List.Elements.{All-nil, All-cons, All-head, All-tail, All-get_or, All-filter, All-from_get_or, All-take}
+use Rattle.std.proofs.lemmas.List.Elements.{All-nil, All-cons, All-head, All-tail, All-get_or, All-from_get_or, All-take}
 use Rattle.std.proofs.lemmas.List.FromFn.{fill_by_all, length-range_with_len, get_or-range_with_len}
-use Rattle.std.proofs.lemmas.List.Filters.{sum_by-filter_both}
-use Rattle.std.proofs.lemmas.List.Folds.{list_any-append}
 use Rattle.std.proofs.lemmas.List.Kept.{AllPairs-filter}
-use Rattle.std.proofs.lemmas.List.Sorted.{IsPermutation-map, list_any-IsPermutation, sum_by-IsPermutation, length_permutation}
-use Rattle.std.proofs.lemmas.List.Sums.{sum_by-take-le, sum_by-cons}
+use Rattle.std.proofs.lemmas.List.Sorted.{IsPermutation-map, list_any-IsPermutation}
 use Rattle.std.proofs.lemmas.Map.Keys.{IsDistinct-IsPermutation}
 use Rattle.std.proofs.lemmas.Map.Made.{IsDistinct-from_AllPairs, length-from_keys}
 use Rattle.std.proofs.lemmas.Map.Views.{any-filter_same}
@@ -21,27 +18,21 @@ use Rattle.pp_model.specs.declared.config.Sort.{Sort}
 use Rattle.pp_model.specs.declared.config.Sort.TheVariants as sorts
 use Rattle.pp_model.specs.declared.profile.Profile.{Profile}
 use Rattle.pp_model.specs.Frames.{Written}
-use Rattle.pp_grain.specs.declared.key.Key.{Key}
 use Rattle.pp_grain.specs.Keys.{key_cmp, key_written}
-use Rattle.pp_grain.proofs.CallerLemmas.{key_cmp_total, key_cmp_ties}
+use Rattle.pp_grain.proofs.CallerLemmas.{key_cmp_total}
 use Rattle.pp_count.specs.declared.sums.Sums.{Sums}
-use Rattle.pp_count.specs.Sums.{Seen, has, occurs, cum, flat}
+use Rattle.pp_count.specs.Sums.{Seen, all_keys, cum, flat}
 use Rattle.pp_count.specs.Counts.{AreSumsOf, written_names}
 use Rattle.pp_count.specs.Counted.{FitSums}
 use Rattle.pp_count.specs.Table.{no_key, written_key}
+use Rattle.pp_count.specs.Ranks.{is_heavy}
+use Rattle.pp_count.proofs.Renaming.{all_keys_occur}
+use Rattle.pp_count.proofs.EachOnce.{each_once_is}
+use Rattle.pp_count.proofs.Ties.{tied, key_decides}
 use Rattle.pp_graph.specs.declared.heavy.Row.{Row}
-use Rattle.pp_graph.specs.Trim.{all_keys, is_heavy, is_heavy_key, report_order, heavy_keys, light_count, shown_keys}
-use Rattle.pp_graph.specs.Trimmed.{int_sum}
+use Rattle.pp_graph.specs.Trim.{is_heavy_key, report_order, heavy_keys, light_count, shown_keys}
 use Rattle.pp_graph.specs.Ranks.{row_cmp, row_key, size_cmp, sum_at, major, minor, IsRowOf, is_heavy_number, heavy_numbers, light_numbers, AreRanked}
-use Rattle.pp_graph.proofs.EachOnce.{each_once_is, tied, tied_self}
 use Rattle.pp_graph.proofs.Ordering.{report_total, report_same}
-
--- two keys tie exactly where they are the same
-pub key_tied : (x y : Written) → eq_by_cmp key_cmp x y ≡ true → x ≡ y
-key_tied = tied key_cmp_total key_cmp_ties
-
-pub key_decides : (x y : Written) → (eq_by_cmp key_cmp x y ≡ true → x ≡ y) × (x ≡ y → eq_by_cmp key_cmp x y ≡ true)
-key_decides x y = (key_tied x y, λ is. ap (eq_by_cmp key_cmp x) (sym is) ∙ tied_self key_cmp_total key_cmp_ties x)
 
 -- a filter of what stands for items is what stands for a filter of them
 filter-map : {X Y : Type 0} (f : X → Y) (p : X → Bool) (q : Y → Bool) (xs : List X) → All (λ x. p x ≡ q (f x)) xs → map f (filter p xs) ≡ filter q (map f xs)
@@ -53,12 +44,6 @@ filter-map f p q (x ∷ xs) all =
         | true ↦ ap (λ r. f x ∷ r) rest
         | false ↦ rest
       ] ∙ ap (λ c. cond c (f x ∷ filter q (map f xs)) (filter q (map f xs))) same
-
--- a key stands among all keys where it occurs
-all_keys_occur : {K : Type 0} (order : K → K → Ordering) (samples : List (Seen K)) (k : K) → list_any (eq_by_cmp order k) (all_keys samples) ≡ occurs order samples k
-all_keys_occur order [] k = refl
-all_keys_occur order (s ∷ samples) k =
-    list_any-append (eq_by_cmp order k) s.keys (all_keys samples) ∙ ap (λ b. has order k s.keys || b) (all_keys_occur order samples k)
 
 range_below : (n : ℕ) → All (λ m. m < n) (range_with_len 0 n)
 range_below n = All-from_get_or (λ m. m < n) (range_with_len 0 n) 0 (λ i h. omega (arith, get_or-range_with_len 0 n i 0 (omega (arith, length-range_with_len 0 n)), length-range_with_len 0 n))
@@ -137,9 +122,9 @@ module _ (p : Profile) (samples : List (Seen Written)) (sums : Sums) (fits : Fit
 
   members : (test : Written → Bool) (k : Written) → list_any (eq_by_cmp key_cmp k) (filter test (all_keys samples)) ≡ list_any (eq_by_cmp key_cmp k) (filter test names)
   members test k =
-      any-filter_same (eq_by_cmp key_cmp k) test (test k) (λ q e. ap test (sym (key_tied k q e))) (all_keys samples)
+      any-filter_same (eq_by_cmp key_cmp k) test (test k) (λ q e. ap test (sym (tied k q e))) (all_keys samples)
       ∙ ap (λ b. test k && b) (all_keys_occur key_cmp samples k ∙ sym (are.occur k))
-      ∙ sym (any-filter_same (eq_by_cmp key_cmp k) test (test k) (λ q e. ap test (sym (key_tied k q e))) names)
+      ∙ sym (any-filter_same (eq_by_cmp key_cmp k) test (test k) (λ q e. ap test (sym (tied k q e))) names)
 
   distinct_names : (test : Written → Bool) → IsDistinct (eq_by_cmp key_cmp) (filter test names)
   distinct_names test = IsDistinct-from_AllPairs key_decides (filter test names) (AllPairs-filter (λ a b. a ≢ b) test names are.once)
@@ -199,7 +184,7 @@ module _ (p : Profile) (samples : List (Seen Written)) (sums : Sums) (fits : Fit
     -- the heavy keys in report order are those of the rows
     pub heavy_are : heavy_keys key_cmp sort total billionths samples ≡ map row_key rows
     heavy_are =
-        each_once_is (report_total samples sort) (report_same samples sort) key_cmp_total key_cmp_ties
+        each_once_is (report_total samples sort) (report_same samples sort) (eq_by_cmp key_cmp) key_decides
         (filter (is_heavy_key key_cmp total billionths samples) (all_keys samples)) (map row_key rows) keys_sorted
         (IsDistinct-IsPermutation (eq_by_cmp key_cmp) (eq_by_cmp_equiv key_cmp_total).symm (filter (is_heavy_key key_cmp total billionths samples) names) (map row_key rows) permuted
         (distinct_names (is_heavy_key key_cmp total billionths samples)))

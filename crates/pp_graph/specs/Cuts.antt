@@ -3,7 +3,7 @@ use Rattle.std.specs.Prelude.{ℕ, Bool, not, List, ◌++◌, map, take, drop, O
 use Rattle.std.specs.List.{list_any, range_with_len}
 use Rattle.std.specs.Ordering.{nat_cmp, eq_by_cmp}
 use Rattle.pp_count.specs.declared.edge.Edge.{Edge}
-use Rattle.pp_graph.specs.Trim.{is_heavy}
+use Rattle.pp_count.specs.Ranks.{is_heavy}
 
 -- for each name whether its number is among these
 abbrev pub kept_flags : ℕ → List ℕ → List Bool

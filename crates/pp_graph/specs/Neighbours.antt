@@ -8,11 +8,12 @@ use Rattle.pp_model.specs.declared.profile.Profile.{Profile}
 use Rattle.pp_model.specs.Finders.{Finders}
 use Rattle.pp_model.specs.Frames.{Written}
 use Rattle.pp_grain.specs.Keys.{key_cmp}
-use Rattle.pp_count.specs.Sums.{Seen}
+use Rattle.pp_count.specs.Sums.{Seen, all_keys}
 use Rattle.pp_count.specs.EdgeSums.{edge_sum}
 use Rattle.pp_count.specs.Counts.{total_of}
 use Rattle.pp_count.specs.Counted.{report_samples}
-use Rattle.pp_graph.specs.Trim.{by_size, all_keys, each_once, has_heavy_edge, is_report_key}
+use Rattle.pp_count.specs.Ranks.{by_size, each_once}
+use Rattle.pp_graph.specs.Trim.{has_heavy_edge, is_report_key}
 
 -- The other end of an edge, and the edge's value.
 pub record Neighbour (K : Type 0) : Type 0 where

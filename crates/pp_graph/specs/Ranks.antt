@@ -12,8 +12,8 @@ use Rattle.pp_grain.specs.Keys.{key_cmp}
 use Rattle.pp_grain.specs.Told.{written_texts}
 use Rattle.pp_count.specs.declared.sums.Sums.{Sums}
 use Rattle.pp_count.specs.Table.{written_key}
+use Rattle.pp_count.specs.Ranks.{is_heavy}
 use Rattle.pp_graph.specs.declared.heavy.Row.{Row}
-use Rattle.pp_graph.specs.Trim.{is_heavy}
 
 -- what the row's key stands for
 abbrev pub row_key : Row → Written

@@ -1,10 +1,9 @@
 -- Which keys and edges a report shows, and in which order.
-use Rattle.std.specs.Prelude.{ℕ, ◌*◌, ◌==◌, ℤ, pos, negsuc, nat_abs, Bool, not, ◌&&◌, List, length, map, take, flat_map, nat_le, if◌then◌else◌, Option}
+use Rattle.std.specs.Prelude.{ℕ, ◌==◌, ℤ, pos, negsuc, Bool, not, ◌&&◌, List, length, take, if◌then◌else◌, Option}
 use Rattle.std.specs.List.{filter, sum_by}
-use Rattle.std.specs.Ordering.{nat_cmp, on, flip_args, then_cmp, eq_by_cmp}
+use Rattle.std.specs.Ordering.{then_cmp, eq_by_cmp}
 use Rattle.std.specs.Set.{distinct_count}
 use Rattle.std.specs.declared.cmp.Ordering.{Ordering}
-use Rattle.std.specs.FinMap as finite
 use Rattle.pp_model.specs.declared.config.Config.{Config}
 use Rattle.pp_model.specs.declared.config.Sort.{Sort}
 use Rattle.pp_model.specs.declared.config.Sort.TheVariants as sorts
@@ -12,35 +11,16 @@ use Rattle.pp_model.specs.declared.profile.Profile.{Profile}
 use Rattle.pp_model.specs.Finders.{Finders}
 use Rattle.pp_model.specs.Frames.{Written}
 use Rattle.pp_grain.specs.Keys.{key_cmp}
-use Rattle.pp_count.specs.Sums.{Seen, has, cum, flat}
+use Rattle.pp_count.specs.Sums.{Seen, all_keys, has, cum, flat}
 use Rattle.pp_count.specs.EdgeSums.{edge_occurs, edge_sum}
 use Rattle.pp_count.specs.Counts.{total_of}
 use Rattle.pp_count.specs.Counted.{report_samples}
+use Rattle.pp_count.specs.Ranks.{is_heavy, by_size, each_once}
 
 -- The limit that `nodecount` sets, 0 for none: its own number, and for -1 the report's.
 abbrev pub node_limit : ℤ → ℕ → ℕ
 node_limit (pos count) own = count
 node_limit (negsuc _) own = own
-
--- the sum's absolute value is at least this fraction, in billionths, of the total
-abbrev pub is_heavy : ℕ → ℕ → ℤ → Bool
-is_heavy total billionths sum = nat_le (total * billionths) (nat_abs sum * 1000000000)
-
--- the greater absolute value first
-abbrev pub by_size : {K : Type 0} → (K → ℤ) → K → K → Ordering
-by_size value = flip_args (on (λ k. nat_abs (value k)) nat_cmp)
-
--- the keys of all samples, sample by sample
-abbrev pub all_keys : {K : Type 0} → List (Seen K) → List K
-all_keys samples = flat_map (λ s. s.keys) samples
-
--- an item of a set, with nothing beside it
-abbrev pub set_entry : {K : Type 0} → K → K × Unit {0}
-set_entry k = (k, tt)
-
--- the keys as a set, each once, in an order
-abbrev pub each_once : {K : Type 0} → (K → K → Ordering) → List K → List K
-each_once order keys = finite.keys (finite.from_entries {R = order} (map set_entry keys))
 
 -- the first of them: as many as the limit says, and all where it is 0
 abbrev pub shown_keys : {K : Type 0} → ℕ → List K → List K

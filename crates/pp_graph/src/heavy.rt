@@ -1,7 +1,7 @@
 //! The keys that are heavy enough for a report, in report order.
 ghost use Rattle.std.specs.Prelude.{◌≡◌, ◌<◌, ◌^◌, length, nat_abs, All, IfOk};
 ghost use Rattle.pp_grain.specs.Keys.{IsKeyOf};
-ghost use Rattle.pp_graph.specs.Trim.{is_heavy};
+ghost use Rattle.pp_count.specs.Ranks.{is_heavy};
 ghost use Rattle.pp_graph.specs.Ranks.{row_cmp, sum_at, is_heavy_number, IsRowOf, Collected, AreRanked};
 
 use pp_base::{Fraction, List, Memory};
