@@ -35,9 +35,9 @@ use Rattle.pp_source.specs.Ledgers.{HasKey, IsLedgerOf, IsLineOf, is_found, is_o
 use Rattle.pp_source.specs.Routines.{all_lines, found_lines}
 use Rattle.pp_source.specs.Tally.{no_tally, tally_at, has_key}
 use Rattle.pp_count.proofs.EachOnce.{ranked}
+use Rattle.pp_count.proofs.Ties.{tied, tied_self}
 use Rattle.pp_source.proofs.InOrder.{distinct_apart}
 use Rattle.pp_source.proofs.Tallying.{has_told, known_among, same_told}
-use Rattle.pp_source.proofs.Ties.{tied, tied_self}
 
 -- what is kept of a key in these entries
 abbrev pub kept_in : List (Key × Tally) → Key → Tally

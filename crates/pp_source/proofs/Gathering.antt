@@ -1,7 +1,5 @@
 -- The keys of the frames that count, one after the other.
-use Rattle.std.proofs.Common.{◌≡◌, ℕ, zero, suc, ◌+◌, ◌<◌, ◌≤◌, ◌==◌, append_assoc, Bool, true, false, cond, not, ◌||◌, List, [], ◌∷◌, ◌++◌, length, drop, get_or, map, All, None, refl, sym, ap, ◌∙◌, arith}
-use Rattle.std.specs.Option.{option_map_or}
-use Rattle.std.specs.List.{slice_get}
+use Rattle.std.proofs.Common.{◌≡◌, ℕ, ◌+◌, ◌<◌, ◌≤◌, append_assoc, Bool, true, false, List, [], ◌∷◌, ◌++◌, length, drop, get_or, map, All, refl, sym, ap, ◌∙◌, arith}
 use Rattle.std.proofs.lemmas.List.{get_or_default, map-append, append-nil}
 use Rattle.std.proofs.Math.ListN.{drop_of_length-le}
 use Rattle.std.proofs.lemmas.List.Elements.{All-push}
@@ -11,6 +9,7 @@ use Rattle.pp_model.specs.Frames.{Written, written}
 use Rattle.pp_grain.specs.declared.key.Key.{Key}
 use Rattle.pp_grain.specs.Keys.{counts, key_written, IsKeyOf}
 use Rattle.pp_count.specs.Seeing.{counted_frames}
+use Rattle.pp_count.proofs.CountedFrames.{one_more, no_more}
 use Rattle.pp_source.specs.Amounts.{line_of}
 
 -- the lines of frames that count
@@ -21,18 +20,6 @@ lines_of p noinlines stack = map line_of (map (written p) (counted_frames noinli
 pub record GatheredTo (p : Profile) (noinlines : Bool) (stack : List Frame) (i : ℕ) (keys : List Key) : Type 0 where
   pub of_profile : All (IsKeyOf p) keys
   pub told : map (key_written p) keys ++ lines_of p noinlines (drop i stack) ≡ lines_of p noinlines stack
-
--- a frame counts by what follows it
-counts_here : (stack : List Frame) (i : ℕ) (noinlines : Bool) (f : Frame) → i < length stack → f ≡ get_or stack i f
-    → cond (counts stack i noinlines) (f ∷ counted_frames noinlines (drop (i + 1) stack)) (counted_frames noinlines (drop (i + 1) stack)) ≡ counted_frames noinlines (drop i stack)
-counts_here [] i noinlines f here is = absurd (omega (arith, here))
-counts_here (x ∷ stack) zero noinlines f here is = ap (λ g. cond (counts (x ∷ stack) 0 noinlines) (g ∷ counted_frames noinlines stack) (counted_frames noinlines stack)) is
-counts_here (x ∷ stack) (suc i) noinlines f here is =
-    let next : suc i + 1 ≡ suc (i + 1) = omega arith in
-    let same : counts (x ∷ stack) (suc i) noinlines ≡ counts stack i noinlines =
-    ap (λ (m : ℕ). not noinlines || option_map_or (λ (g : Frame). not (g.place == (get_or stack i g).place)) (slice_get (x ∷ stack) m) true) next in
-    (λ j. cond (same j) (f ∷ counted_frames noinlines (drop (next j) (x ∷ stack))) (counted_frames noinlines (drop (next j) (x ∷ stack))))
-    ∙ counts_here stack i noinlines f (omega (arith, here)) is
 
 module _ (p : Profile) (noinlines : Bool) (stack : List Frame) where
   pub gathered_none : (keys : List Key) → keys ≡ [] → GatheredTo p noinlines stack 0 keys
@@ -49,7 +36,7 @@ module _ (p : Profile) (noinlines : Bool) (stack : List Frame) where
         ∙ append_assoc (map (key_written p) keys) (key_written p key ∷ []) (lines_of p noinlines (drop (i + 1) stack))
         ∙ ap (λ k. map (key_written p) keys ++ k ∷ lines_of p noinlines (drop (i + 1) stack)) told
         ∙ ap (λ fs. map (key_written p) keys ++ map line_of (map (written p) fs))
-        (ap (λ b. cond b (f ∷ counted_frames noinlines (drop (i + 1) stack)) (counted_frames noinlines (drop (i + 1) stack))) (sym counted) ∙ counts_here stack i noinlines f here is)
+        (one_more stack i noinlines f here is counted)
         ∙ so_far.told;
   }
 
@@ -66,14 +53,9 @@ module _ (p : Profile) (noinlines : Bool) (stack : List Frame) where
   pub gathered_other : (i : ℕ) (keys : List Key) → i < length stack → counts stack i noinlines ≡ false
       → GatheredTo p noinlines stack i keys → GatheredTo p noinlines stack (i + 1) keys
   gathered_other i keys here other so_far =
-      let f : Frame = get_or stack i (record { place = 0; location = 0; row = None }) in
       record {
         of_profile = so_far.of_profile;
-        told =
-            ap (λ fs. map (key_written p) keys ++ map line_of (map (written p) fs))
-            (ap (λ b. cond b (f ∷ counted_frames noinlines (drop (i + 1) stack)) (counted_frames noinlines (drop (i + 1) stack))) (sym other)
-            ∙ counts_here stack i noinlines f here (get_or_default stack i (record { place = 0; location = 0; row = None }) f here))
-            ∙ so_far.told;
+        told = ap (λ fs. map (key_written p) keys ++ map line_of (map (written p) fs)) (no_more stack i noinlines here other) ∙ so_far.told;
       }
 
   -- past the last frame all are there

@@ -14,6 +14,5 @@ pub mod PathLemmas
 pub mod RowLemmas
 pub mod RunLemmas
 pub mod Tallying
-pub mod Ties
 pub mod Walking
 pub mod Zero

@@ -17,7 +17,7 @@ use Rattle.pp_source.specs.Amounts.{line_of}
 use Rattle.pp_source.specs.Routines.{all_lines, found_lines}
 use Rattle.pp_count.specs.Ranks.{each_once, set_entry}
 use Rattle.pp_count.proofs.EachOnce.{ranked}
-use Rattle.pp_source.proofs.Ties.{tied_self}
+use Rattle.pp_count.proofs.Ties.{tied_self}
 
 keys_of_items : (ws : List Written) → map (λ e. e.0) (map set_entry ws) ≡ ws
 keys_of_items [] = refl

@@ -16,10 +16,10 @@ use Rattle.pp_grain.proofs.CallerLemmas.{same_keys}
 use Rattle.pp_count.specs.Sums.{Seen, has, leads, cum, flat, occurs, sum_where}
 use Rattle.pp_count.proofs.Adding.{sum_where_push, or-true, or-false}
 use Rattle.pp_count.proofs.Renaming.{same_bool}
+use Rattle.pp_count.proofs.Ties.{tied, tied_self}
 use Rattle.pp_source.specs.declared.tally.Tally.{Tally}
 use Rattle.pp_source.specs.Ledgers.{HasKey}
 use Rattle.pp_source.specs.Tally.{IsTallyOf, has_key, leads_keys, with_flat, with_sample}
-use Rattle.pp_source.proofs.Ties.{tied, tied_self}
 use Rattle.std.proofs.lemmas.List.Elements.{All-head, All-tail}
 
 -- keys of a compact profile are the same where they stand for the same
