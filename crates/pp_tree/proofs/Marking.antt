@@ -1,5 +1,5 @@
 -- The keys that the own pattern finds, as they are gathered.
-use Rattle.std.proofs.Common.{◌≡◌, ℕ, zero, suc, ◌+◌, ◌<◌, ◌≤◌, Bool, true, false, cond, not, ltb, ◌==◌, ◌&&◌, ◌||◌, List, [], ◌∷◌, ◌++◌, length, map, drop, take, get_or, All, Option, Some, None, Result, Ok, Err, IfOk, pos, refl, sym, ap, subst, ◌∙◌, arith, append_assoc}
+use Rattle.std.proofs.Common.{◌≡◌, ℕ, suc, ◌+◌, ◌<◌, ◌≤◌, Bool, true, false, cond, not, ltb, ◌&&◌, ◌||◌, List, [], ◌∷◌, ◌++◌, length, map, drop, take, get_or, All, Option, Some, None, Result, Ok, Err, IfOk, pos, refl, sym, ap, subst, ◌∙◌, arith, append_assoc}
 use Rattle.std.specs.List.{list_any, slice_get, position_or_len}
 use Rattle.std.specs.Option.{option_map_or}
 use Rattle.std.proofs.lemmas.Option.{get_or_from_slice_get, slice_get_within}
@@ -25,8 +25,9 @@ use Rattle.pp_grain.proofs.SightLemmas.{key_decides}
 use Rattle.pp_stack.specs.Filters.{frames_of_sample}
 use Rattle.pp_count.specs.Column.{selected}
 use Rattle.pp_count.specs.Seeing.{counted_frames, key_of_frame}
+use Rattle.pp_count.proofs.CountedFrames.{counts_here}
+use Rattle.pp_count.proofs.Renaming.{same_bool}
 use Rattle.pp_tree.specs.Found.{has_key, is_own_frame, is_own_at, has_own_frame, has_own_sample, has_own_number, no_frame}
-use Rattle.pp_graph.proofs.EachOnce.{same_bool}
 use Rattle.pp_tree.proofs.Shown.{any-append}
 
 or-false : (a : Bool) → (a || false) ≡ a
@@ -36,17 +37,6 @@ or-false false = refl
 or-assoc : (a b c : Bool) → (a || (b || c)) ≡ ((a || b) || c)
 or-assoc true b c = refl
 or-assoc false b c = refl
-
--- a frame counts by what follows it
-counts_here : (stack : List Frame) (i : ℕ) (noinlines : Bool) (f : Frame) → i < length stack → f ≡ get_or stack i f
-    → cond (counts stack i noinlines) (f ∷ counted_frames noinlines (drop (i + 1) stack)) (counted_frames noinlines (drop (i + 1) stack)) ≡ counted_frames noinlines (drop i stack)
-counts_here [] i noinlines f here is = absurd (omega (arith, here))
-counts_here (x ∷ stack) zero noinlines f here is = ap (λ g. cond (counts (x ∷ stack) 0 noinlines) (g ∷ counted_frames noinlines stack) (counted_frames noinlines stack)) is
-counts_here (x ∷ stack) (suc i) noinlines f here is =
-    let next : suc i + 1 ≡ suc (i + 1) = omega arith in
-    let same : counts (x ∷ stack) (suc i) noinlines ≡ counts stack i noinlines =
-    ap (λ (m : ℕ). not noinlines || option_map_or (λ (g : Frame). not (g.place == (get_or stack i g).place)) (slice_get (x ∷ stack) m) true) next in
-    (λ j. cond (same j) (f ∷ counted_frames noinlines (drop (next j) (x ∷ stack))) (counted_frames noinlines (drop (next j) (x ∷ stack)))) ∙ counts_here stack i noinlines f (omega (arith, here)) is
 
 -- what follows from the first changes nothing
 absorbed : (a b : Bool) → (b ≡ true → a ≡ true) → a ≡ (a || b)

@@ -1,5 +1,5 @@
 -- Sorted ends of edges are the neighbours that a report lists.
-use Rattle.std.proofs.Common.{◌≡◌, ℕ, zero, suc, ◌+◌, ◌<◌, Bool, true, ℤ, List, [], ◌∷◌, length, map, get_or, All, refl, sym, ap, ◌∙◌, arith}
+use Rattle.std.proofs.Common.{◌≡◌, ℕ, zero, suc, ◌+◌, ◌<◌, Bool, ℤ, List, [], ◌∷◌, length, map, get_or, All, refl, sym, ap, ◌∙◌, arith}
 use Rattle.std.specs.List.{filter, list_any, IsDistinct}
 use Rattle.std.specs.List.Sorted.{IsSorted, IsSortedBy}
 use Rattle.std.specs.Ordering.{eq_by_cmp, is_lt, ordering_then, then_cmp}
@@ -9,22 +9,16 @@ use Rattle.std.proofs.lemmas.List.Elements.{All-head, All-tail, All-get_or}
 use Rattle.pp_model.specs.Frames.{Written}
 use Rattle.pp_grain.specs.Keys.{key_cmp}
 use Rattle.pp_grain.proofs.CallerLemmas.{key_cmp_total, key_cmp_ties}
+use Rattle.pp_count.specs.Ranks.{by_size}
+use Rattle.pp_count.proofs.EachOnce.{each_once_is}
+use Rattle.pp_count.proofs.Ties.{key_decides}
 use Rattle.pp_graph.specs.Neighbours.{Neighbour, listed}
-use Rattle.pp_graph.specs.Trim.{by_size}
-use Rattle.pp_graph.proofs.EachOnce as graph
 use Rattle.pp_graph.proofs.Ordering.{sized_total, sized_same}
-use Rattle.pp_tree.specs.Ends.{size_cmp}
-
--- keys that tie are the same
-pub tied : (x y : Written) → eq_by_cmp key_cmp x y ≡ true → x ≡ y
-tied = graph.tied key_cmp_total key_cmp_ties
-
-pub tied_self : (x : Written) → eq_by_cmp key_cmp x x ≡ true
-tied_self = graph.tied_self key_cmp_total key_cmp_ties
+use Rattle.pp_tree.specs.Ends.{value_cmp}
 
 -- the order of neighbours
 abbrev pub neighbour_cmp : Neighbour Written → Neighbour Written → Ordering
-neighbour_cmp a b = ordering_then (size_cmp a.value b.value) (key_cmp a.key b.key)
+neighbour_cmp a b = ordering_then (value_cmp a.value b.value) (key_cmp a.key b.key)
 
 module _ (value : Written → ℤ) where
   -- the neighbour has the value of its key
@@ -41,7 +35,7 @@ module _ (value : Written → ℤ) where
       let next : k + 1 < length xs = omega (arith, len, high) in
       let has : (j : ℕ) → j < length xs → HasValue (get_or xs j r) = λ j h. All-get_or HasValue xs j r h right in
       (λ i. is_lt (then_cmp (by_size value) key_cmp (get_or-map_within xs (k + 1) d r next i) (get_or-map_within xs k d r here i)))
-      ∙ (λ i. is_lt (ordering_then (size_cmp (sym (has (k + 1) next) i) (sym (has k here) i)) (key_cmp (get_or xs (k + 1) r).key (get_or xs k r).key)))
+      ∙ (λ i. is_lt (ordering_then (value_cmp (sym (has (k + 1) next) i) (sym (has k here) i)) (key_cmp (get_or xs (k + 1) r).key (get_or xs k r).key)))
       ∙ sorted k r low next where
         get_or-map_within : (xs : List (Neighbour Written)) (j : ℕ) (d : Written) (e : Neighbour Written) → j < length xs → get_or (map (λ x. x.key) xs) j d ≡ (get_or xs j e).key
         get_or-map_within [] j d e h = absurd (omega arith)
@@ -62,4 +56,5 @@ module _ (value : Written → ℤ) where
       let ks : List Written = map (λ (x : Neighbour Written). x.key) xs in
       rebuilt xs right
       ∙ ap (map (λ k. record { key = k; value = value k }))
-      (sym (graph.each_once_is (sized_total key_cmp value key_cmp_total) (sized_same key_cmp value key_cmp_ties) key_cmp_total key_cmp_ties (filter test keys) ks (keys_sorted xs right sorted) distinct same))
+      (sym (each_once_is (sized_total key_cmp value key_cmp_total) (sized_same key_cmp value key_cmp_ties) (eq_by_cmp key_cmp) key_decides
+      (filter test keys) ks (keys_sorted xs right sorted) distinct same))

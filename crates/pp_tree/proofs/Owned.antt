@@ -25,10 +25,10 @@ use Rattle.pp_count.specs.Counted.{report_frames, is_own, has_own_match}
 use Rattle.pp_count.specs.Seeing.{counted_frames, framed_with, framed_samples, filtered_stack, filtered_from, passes_tags}
 use Rattle.pp_count.specs.Sums.{Seen, weighed}
 use Rattle.pp_count.proofs.Kept.{kept_samples}
+use Rattle.pp_count.proofs.Renaming.{same_bool}
+use Rattle.pp_count.proofs.Ties.{tied, tied_self}
 use Rattle.pp_tree.specs.Peek.{is_own_of, is_own_key}
 use Rattle.pp_tree.specs.Found.{has_key, is_own_frame, has_own_frame, has_own_sample, has_own_number}
-use Rattle.pp_tree.proofs.Ordered.{tied, tied_self}
-use Rattle.pp_graph.proofs.EachOnce.{same_bool}
 use Rattle.pp_tree.proofs.Marking.{has_same}
 
 any_implies : {X : Type 0} (t u : X → Bool) → ((x : X) → t x ≡ true → u x ≡ true) → (xs : List X) → list_any t xs ≡ true → list_any u xs ≡ true

@@ -25,18 +25,19 @@ use Rattle.pp_count.specs.Counts.{total_of}
 use Rattle.pp_count.specs.EdgeSums.{has_edge, has_pair, edge_occurs, edge_sum, is_kept_name, AreEdgesOf, edges_between}
 use Rattle.pp_count.specs.Edges.{is_kept_key}
 use Rattle.pp_count.specs.Seeing.{HoldsFilters}
-use Rattle.pp_count.specs.Sums.{Seen, has, occurs, cum}
+use Rattle.pp_count.specs.Sums.{Seen, has, occurs, cum, all_keys}
 use Rattle.pp_count.specs.Table.{no_key, written_key}
+use Rattle.pp_count.specs.Ranks.{each_once, is_heavy}
+use Rattle.pp_count.proofs.Ties.{tied_self}
 use Rattle.pp_graph.specs.declared.ranking.Ranked.{Ranked}
 use Rattle.pp_graph.specs.Links.{Links, live_edges}
-use Rattle.pp_graph.specs.Trim.{all_keys, each_once, report_order, is_heavy, is_heavy_key}
+use Rattle.pp_graph.specs.Trim.{report_order, is_heavy_key}
 use Rattle.pp_graph.specs.Trimmed.{IsRankedOf}
 use Rattle.pp_top.specs.Top.{CanShow, flat_sum}
 use Rattle.pp_tree.specs.Nodes.{table_heading, nodes_text}
 use Rattle.pp_tree.specs.Peek.{all_report_keys, is_own_key, whole_node_of, peek_text}
 use Rattle.pp_tree.specs.Ends.{ShowsPairs, node_at, peeked_text, edge_if}
 use Rattle.pp_tree.specs.Whole.{any_key, all_pairs, IsWholeRanking}
-use Rattle.pp_tree.proofs.Ordered.{tied_self}
 use Rattle.pp_tree.proofs.Shown.{keys_of_names, nodes_are}
 
 -- a filter, item by item

@@ -18,10 +18,10 @@ use Rattle.pp_count.specs.Counted.{IsCountedOf, report_samples}
 use Rattle.pp_count.specs.Counts.{AreSumsOf, written_names, total_of}
 use Rattle.pp_count.specs.EdgeSums.{edge_sum}
 use Rattle.pp_count.specs.Seeing.{HoldsFilters}
-use Rattle.pp_count.specs.Sums.{Seen}
+use Rattle.pp_count.specs.Sums.{Seen, all_keys}
 use Rattle.pp_count.specs.Table.{written_key}
 use Rattle.pp_graph.specs.declared.trimming.Trimmed.{Trimmed}
-use Rattle.pp_graph.specs.Trim.{all_keys, has_heavy_edge, report_keys, is_report_key}
+use Rattle.pp_graph.specs.Trim.{has_heavy_edge, report_keys, is_report_key}
 use Rattle.pp_graph.specs.Trimmed.{IsTrimmedOf}
 use Rattle.pp_top.specs.Top.{row_of}
 use Rattle.pp_top.proofs.NameLemmas.{row_is}

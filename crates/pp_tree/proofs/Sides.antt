@@ -12,8 +12,8 @@ use Rattle.pp_grain.specs.declared.key.Key.{Key}
 use Rattle.pp_grain.specs.Keys.{key_cmp, key_written}
 use Rattle.pp_count.specs.declared.edge.Edge.{Edge}
 use Rattle.pp_count.specs.Table.{no_key, written_key}
-use Rattle.pp_tree.proofs.Ordered.{tied}
-use Rattle.pp_graph.proofs.EachOnce.{same_bool}
+use Rattle.pp_count.proofs.Renaming.{same_bool}
+use Rattle.pp_count.proofs.Ties.{tied}
 
 -- two filters
 pub filter-both : {X : Type 0} (p q : X → Bool) (xs : List X) → filter p (filter q xs) ≡ filter (λ x. q x && p x) xs

@@ -82,13 +82,13 @@ abbrev pub neighbour_of : CodeNear → Neighbour Written
 neighbour_of near = record { key = written_texts near.texts; value = near.value }
 
 -- the greater of two absolute values first
-abbrev pub size_cmp : ℤ → ℤ → Ordering
-size_cmp a b = nat_cmp (nat_abs b) (nat_abs a)
+abbrev pub value_cmp : ℤ → ℤ → Ordering
+value_cmp a b = nat_cmp (nat_abs b) (nat_abs a)
 
 -- the order of ends: by absolute value falling, then by the keys
 abbrev pub near_cmp : CodeNear → CodeNear → Ordering
 near_cmp a b =
-    ordering_then (size_cmp a.value b.value)
+    ordering_then (value_cmp a.value b.value)
     (key_cmp (written_texts a.texts) (written_texts b.texts))
 
 -- the caller's end of an edge, and the edge's value

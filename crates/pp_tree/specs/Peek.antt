@@ -11,7 +11,9 @@ use Rattle.pp_units.specs.Rows.{showing_line}
 use Rattle.pp_grain.specs.Keys.{key_cmp, key_texts}
 use Rattle.pp_count.specs.Counted.{report_samples, report_frames, is_own}
 use Rattle.pp_graph.specs.Neighbours.{all_callers_of, all_callees_of}
-use Rattle.pp_graph.specs.Trim.{all_keys, each_once, report_order}
+use Rattle.pp_count.specs.Sums.{all_keys}
+use Rattle.pp_count.specs.Ranks.{each_once}
+use Rattle.pp_graph.specs.Trim.{report_order}
 use Rattle.pp_top.specs.Top.{row_of, flat_sum}
 use Rattle.pp_tree.specs.Nodes.{Node, table_heading, nodes_text}
 use Rattle.pp_tree.specs.Tree.{near_of}
@@ -40,8 +42,8 @@ whole_node_of p f config column k = record {
   callees = map near_of (all_callees_of p f config column k);
 }
 
--- The text of the peek report: its head, which accounts for all keys, the heading, and the nodes that the pattern finds,
--- in report order.
+-- The text of the peek report: its head, which accounts for all keys, the heading, and
+-- the nodes that the pattern finds, in report order.
 abbrev pub peek_text : Profile → Finders → Config → Option ℕ → Facts → List ℕ
 peek_text p f config column h =
     let keys = all_report_keys p f config column in

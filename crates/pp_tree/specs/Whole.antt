@@ -15,7 +15,8 @@ use Rattle.pp_count.specs.Counts.{total_of}
 use Rattle.pp_count.specs.EdgeSums.{edge_sum}
 use Rattle.pp_count.specs.Seeing.{HoldsFilters}
 use Rattle.pp_graph.specs.declared.ranking.Ranked.{Ranked}
-use Rattle.pp_graph.specs.Trim.{all_keys, has_heavy_edge}
+use Rattle.pp_count.specs.Sums.{all_keys}
+use Rattle.pp_graph.specs.Trim.{has_heavy_edge}
 use Rattle.pp_graph.specs.Trimmed.{written_order}
 use Rattle.pp_top.specs.Top.{flat_sum}
 use Rattle.pp_tree.specs.Peek.{all_report_keys}
