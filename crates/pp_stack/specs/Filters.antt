@@ -1,5 +1,5 @@
--- The stack filters, over what the frames stand for. A definition takes what an item of the stack stands for, `told`, so
--- that it speaks of frames as places (`written p`) and of frames as texts (`λ w. w`) alike.
+-- The stack filters, over what the frames stand for. A definition takes what an item of the stack stands
+-- for, `told`, so that it speaks of frames as places (`written p`) and of frames as texts (`λ w. w`) alike.
 use Rattle.std.specs.Prelude.{◌≡◌, Bool, true, false, not, ◌&&◌, ◌||◌, List, [], ◌∷◌, map, filter, Option, Some, None, option_map, if◌then◌else◌}
 use Rattle.std.specs.List.{list_any}
 use Rattle.std.specs.Option.{option_map_or}

@@ -1,5 +1,5 @@
--- What the lines of several reports have in common: values and percentages in their columns, and the lines that say what
--- is shown and what is not.
+-- What the lines of several reports have in common: values and percentages in their
+-- columns, and the lines that say what is shown and what is not.
 use Rattle.std.specs.Prelude.{ℕ, ◌==◌, nat_lt, ℤ, pos, List, [], ◌++◌, codes, decimal, if◌then◌else◌}
 use Rattle.pp_units.specs.Shown.{Shown}
 use Rattle.pp_units.specs.Numbers.{value_text, percent_text, right_text}
