@@ -12,7 +12,6 @@ pub mod Slots
 pub mod TablesLemmas
 pub mod KeysLemmas
 pub mod CountLemmas
-pub mod EachOnce
 pub mod EventSums
 pub mod Ranking
 pub mod Listed

@@ -1,7 +1,7 @@
 -- The keys and the tags that the tags report lists are the lines of the tables in their order.
-use Rattle.std.proofs.Common.{◌≡◌, ℕ, ◌+◌, ◌<◌, Bool, true, false, true≢false, cond, ◌||◌, ℤ, nat_abs, List, [], ◌∷◌, ◌++◌, map, length, get_or, All, refl, sym, ap, subst, ◌∙◌, arith}
+use Rattle.std.proofs.Common.{◌≡◌, ℕ, ◌+◌, ◌<◌, Bool, true, false, true≢false, cond, ◌||◌, nat_abs, List, [], ◌∷◌, ◌++◌, map, length, get_or, All, refl, sym, ap, subst, ◌∙◌, arith}
 use Rattle.std.specs.List.{filter, list_any, flat_map, AllByRecursion, IsDistinct}
-use Rattle.std.specs.List.Sorted.{IsSorted, IsSortedBy, IsPermutation}
+use Rattle.std.specs.List.Sorted.{IsSortedBy, IsPermutation}
 use Rattle.std.specs.Bool.{Decides}
 use Rattle.std.specs.Str.{bytes_eq}
 use Rattle.std.specs.Ordering.{nat_cmp, ordering_then, is_lt}
@@ -18,8 +18,9 @@ use Rattle.pp_stack.proofs.ToldLemmas.{filter-map}
 use Rattle.pp_merge.specs.FirstSight.{seen_with, seen_after, distinct, place_of}
 use Rattle.pp_merge.proofs.FirstSightLemmas.{distinct_apart, distinct-map, all-seen_after}
 use Rattle.pp_count.specs.Sums.{Seen}
+use Rattle.pp_count.proofs.Renaming.{same_bool}
+use Rattle.pp_count.proofs.EachOnce.{each_once_is}
 use Rattle.pp_grain.proofs.CallerLemmas.{both_equal}
-use Rattle.pp_dump.specs.declared.tag_table.TagTable.{TagTable}
 use Rattle.pp_dump.specs.declared.key_table.KeyTable.{KeyTable}
 use Rattle.pp_dump.specs.declared.tag_lines.TagLine.{TagLine}
 use Rattle.pp_dump.specs.TagLines.{TagTexts, bytes_cmp, tag_cmp, same_tag, has_key, all_tags, all_keys, key_sum, key_size, tag_sum, line_cmp, key_tags, value_line}
@@ -27,7 +28,6 @@ use Rattle.pp_dump.specs.Names.{name_texts, key_tag}
 use Rattle.pp_dump.specs.Tables.{Event, AreKeys, key_event, events_of_key, events_from}
 use Rattle.pp_dump.specs.Ranked.{Entry, line_entry, line_key, event_entry, table_tags, entry_cmp, key_cmp, entry_line, IsKeyLine}
 use Rattle.pp_dump.proofs.TagNamesLemmas.{tag_decides}
-use Rattle.pp_dump.proofs.EachOnce.{same_bool, each_once_is}
 use Rattle.pp_dump.proofs.EventSums.{tag_sums, key_sums, key_sizes, key_same, tags_are}
 use Rattle.pp_dump.proofs.Ranking.{tag_cmp_total, tag_cmp_ties, bytes_cmp_ties, tag_symm, tags_apart, place_at, at_all, sorted_as}
 

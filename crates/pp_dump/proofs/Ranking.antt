@@ -1,32 +1,28 @@
 -- Lines of tags in their order are what the report lists.
-use Rattle.std.proofs.Common.{◌≡◌, ℕ, ◌+◌, ◌<◌, zero, suc, Bool, true, false, cond, not, ◌||◌, ◌&&◌, ℤ, nat_abs, List, [], ◌∷◌, ◌++◌, map, length, length-append, take, get_or, slice_index_or, All, refl, sym, ap, subst, ◌∙◌, append_assoc, arith}
-use Rattle.std.specs.List.{filter, list_any, flat_map, AllByRecursion, IsDistinct}
-use Rattle.std.specs.List.Sorted.{IsSorted, IsSortedBy, IsPermutation}
-use Rattle.std.specs.Bool.{Decides}
-use Rattle.std.specs.Ordering.{nat_cmp, bool_cmp, ordering_then, is_lt}
+use Rattle.std.proofs.Common.{◌≡◌, ℕ, ◌+◌, ◌<◌, zero, suc, Bool, true, false, cond, not, nat_abs, List, [], ◌∷◌, ◌++◌, map, length, take, get_or, slice_index_or, All, refl, sym, ap, subst, ◌∙◌, append_assoc, arith}
+use Rattle.std.specs.List.{flat_map, AllByRecursion, IsDistinct}
+use Rattle.std.specs.List.Sorted.{IsSorted, IsSortedBy}
+use Rattle.std.specs.Ordering.{bool_cmp, is_lt}
 use Rattle.std.specs.Prelude.{slice_get, Some}
 use Rattle.std.proofs.lemmas.Option.{get_or_from_slice_get}
-use Rattle.std.specs.Cmp.{IsTotalOrder, IsEquivalence, bool_cmp_total, booleans_Decides}
+use Rattle.std.specs.Cmp.{IsTotalOrder, IsEquivalence, bool_cmp_total}
 use Rattle.std.specs.declared.cmp.Ordering.{Ordering}
-use Rattle.std.specs.declared.cmp.Ordering.TheVariants.{Less, Equal, Greater}
+use Rattle.std.specs.declared.cmp.Ordering.TheVariants.{Equal}
 use Rattle.std.specs.FinMap as finite
 use Rattle.std.specs.FinMap.{nat_cmp-IsAntisymmetric, int_cmp-IsAntisymmetric, slice_cmp-IsAntisymmetric}
-use Rattle.std.proofs.lemmas.Bool.{false≢true}
 use Rattle.std.proofs.lemmas.Cmp.{on_total, then_total, back_total, int_cmp_total, nat_list_cmp_total, nat_cmp_total}
-use Rattle.std.proofs.lemmas.List.{append-nil, take_more, length-map, map-append, get_or_default}
+use Rattle.std.proofs.lemmas.List.{append-nil, take_more, length-map, get_or_default}
 use Rattle.std.proofs.lemmas.Grind.{flat_map-append}
-use Rattle.std.proofs.lemmas.List.Elements.{All-nil, All-cons, All-head, All-tail, All-get_or}
-use Rattle.std.proofs.lemmas.List.Sorted.{IsPermutation-map, list_any-IsPermutation, All-permutation}
-use Rattle.std.proofs.lemmas.Map.Keys.{IsDistinct-IsPermutation}
+use Rattle.std.proofs.lemmas.List.Elements.{All-get_or}
 use Rattle.pp_grain.proofs.CallerLemmas.{both_equal}
-use Rattle.pp_merge.specs.FirstSight.{distinct, place_of}
+use Rattle.pp_merge.specs.FirstSight.{place_of}
 use Rattle.pp_merge.proofs.FirstSightLemmas.{distinct_apart}
+use Rattle.pp_count.proofs.Renaming.{same_bool}
 use Rattle.pp_dump.specs.declared.tag_table.TagSum.{TagSum}
 use Rattle.pp_dump.specs.TagLines.{TagTexts, bytes_cmp, tag_cmp, same_tag}
 use Rattle.pp_dump.specs.Tables.{Event, IsTable, no_sum, sum_of, events_with}
 use Rattle.pp_dump.specs.Ranked.{Entry, no_tag, table_tags, event_entry, entry_cmp}
 use Rattle.pp_dump.proofs.TagNamesLemmas.{tag_decides}
-use Rattle.pp_dump.proofs.EachOnce.{same_bool}
 
 -- one line more
 pub lines_more : {X : Type 0} (f : X → List ℕ) (old out new : List ℕ) (lines : List X) (i : ℕ) (x : X) → i < length lines → x ≡ get_or lines i x

@@ -1,10 +1,9 @@
 -- The tags report: for each key of the labels that are shown its values, with sums over the samples that have them.
-use Rattle.std.specs.Prelude.{ℕ, ℤ, pos, nat_abs, Bool, true, false, ◌&&◌, List, [], ◌∷◌, ◌++◌, map, codes, bytes_eq, if◌then◌else◌, Option}
+use Rattle.std.specs.Prelude.{ℕ, ℤ, pos, nat_abs, Bool, true, false, ◌&&◌, List, [], ◌++◌, map, codes, bytes_eq, if◌then◌else◌, Option}
 use Rattle.std.specs.List.{flat_map, filter, list_any, sum_by}
 use Rattle.std.specs.Bool.{beq}
-use Rattle.std.specs.Ordering.{nat_cmp, int_cmp, int_eq, bool_cmp, then_cmp, on, flip_args}
+use Rattle.std.specs.Ordering.{nat_cmp, int_cmp, int_eq, bool_cmp, then_cmp, on}
 use Rattle.std.specs.Cmp.Lexicographic.{slice_cmp}
-use Rattle.std.specs.FinMap as finite
 use Rattle.std.specs.declared.cmp.Ordering.{Ordering}
 use Rattle.pp_model.specs.declared.config.Config.{Config}
 use Rattle.pp_model.specs.declared.profile.Label.{Label}
@@ -20,10 +19,11 @@ use Rattle.pp_tags.specs.TagFilters.{shown_labels}
 use Rattle.pp_count.specs.Column.{selected}
 use Rattle.pp_count.specs.Counts.{filtered_samples}
 use Rattle.pp_count.specs.Sums.{Seen, sum_where}
+use Rattle.pp_count.specs.Ranks.{by_size, each_once}
 use Rattle.pp_dump.specs.Traces.{own_value}
 
--- What a label says: its key, and its text, or its number with the unit. A text has neither number nor unit, and a number
--- no text.
+-- What a label says: its key, and its text, or its number with the unit. A text has
+-- neither number nor unit, and a number no text.
 pub record TagTexts : Type 0 where
   pub key : List ℕ
   pub is_number : Bool
@@ -77,14 +77,6 @@ abbrev pub tagged_samples : Profile → Finders → Config → Option ℕ → Li
 tagged_samples p f config column =
     map (tagged p f config column) (filtered_samples p f config p.sample)
 
--- an item of a set, with nothing beside it
-abbrev pub set_entry : {K : Type 0} → K → K × Unit {0}
-set_entry k = (k, tt)
-
--- the items as a set, each once, in an order
-abbrev pub each_once : {K : Type 0} → (K → K → Ordering) → List K → List K
-each_once order items = finite.keys (finite.from_entries {R = order} (map set_entry items))
-
 -- the tag has the key
 abbrev pub has_key : List ℕ → TagTexts → Bool
 has_key key tag = bytes_eq key tag.key
@@ -127,7 +119,7 @@ module _ (samples : List (Seen TagTexts)) where
 
   -- the order of the lines of a key: the greater absolute sum first, then by value
   abbrev pub line_cmp : TagTexts → TagTexts → Ordering
-  line_cmp = then_cmp (flip_args (on (λ tag. nat_abs (tag_sum tag)) nat_cmp)) tag_cmp
+  line_cmp = then_cmp (by_size tag_sum) tag_cmp
 
   -- the tags of the key, each once, in the order of their lines
   abbrev pub key_tags : List ℕ → List TagTexts
