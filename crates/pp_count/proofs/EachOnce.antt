@@ -88,7 +88,7 @@ module _ {K : Type 0} {R : K → K → Ordering} (o : IsTotalOrder R) (alike : f
 -- Items that are told apart by a test of its own.
 module _ {K : Type 0} {R : K → K → Ordering} (o : IsTotalOrder R) (alike : finite.IsAntisymmetric R)
     (same : K → K → Bool) (decides : (x y : K) → Decides (same x y) (x ≡ y)) where
-  same_ties : (x y : K) → eq_by_cmp R x y ≡ same x y
+  pub same_ties : (x y : K) → eq_by_cmp R x y ≡ same x y
   same_ties x y = same_bool _ _
       (λ e. (decides x y).1 ((tied_decides o alike x y).0 e))
       (λ e. (tied_decides o alike x y).1 ((decides x y).0 e))

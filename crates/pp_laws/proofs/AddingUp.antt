@@ -12,21 +12,23 @@ use Rattle.pp_model.specs.declared.profile.Profile.{Profile}
 use Rattle.pp_model.specs.Finders.{Finders}
 use Rattle.pp_model.specs.Frames.{Written}
 use Rattle.pp_grain.specs.Keys.{key_cmp}
-use Rattle.pp_grain.proofs.CallerLemmas.{key_cmp_total, key_cmp_ties}
+use Rattle.pp_grain.proofs.CallerLemmas.{key_cmp_total}
 use Rattle.pp_count.specs.declared.sums.Sums.{Sums}
-use Rattle.pp_count.specs.Sums.{Seen, occurs, cum, sum_where}
+use Rattle.pp_count.specs.Sums.{Seen, occurs, cum, sum_where, all_keys}
 use Rattle.pp_count.specs.Seeing.{seen_samples}
 use Rattle.pp_count.specs.Counts.{AreSumsOf, written_names, total_of}
 use Rattle.pp_count.specs.Counted.{report_samples}
-use Rattle.pp_graph.specs.Trim.{all_keys, each_once, is_heavy, is_heavy_key, report_order}
+use Rattle.pp_count.specs.Ranks.{each_once, is_heavy}
+use Rattle.pp_count.proofs.EachOnce.{same_ties}
+use Rattle.pp_count.proofs.Ties.{key_decides}
+use Rattle.pp_graph.specs.Trim.{is_heavy_key, report_order}
 use Rattle.pp_graph.specs.Trimmed.{int_sum}
-use Rattle.pp_graph.proofs.EachOnce.{same_ties}
 use Rattle.pp_graph.proofs.Ordering.{report_total, report_same}
-use Rattle.pp_graph.proofs.Shown.{key_decides}
 use Rattle.pp_laws.specs.Figures.{has_frames}
 use Rattle.pp_laws.specs.Flats.{FlatsAddUp, RowsAddUp}
 use Rattle.pp_laws.proofs.Listed.{each_once_apart, each_once_members}
-use Rattle.pp_laws.proofs.Sampling.{flats_add_up, sum_where-weighed, all_keys_occur}
+use Rattle.pp_count.proofs.Renaming.{all_keys_occur}
+use Rattle.pp_laws.proofs.Sampling.{flats_add_up, sum_where-weighed}
 
 flats_of : (p : Profile) (samples : List (Seen Written)) (sums : Sums) → AreSumsOf p samples sums → int_sum sums.flat ≡ sum_where has_frames samples
 flats_of p samples sums are =
@@ -45,7 +47,7 @@ heavy_always total billionths sum none =
 
 -- report order tells apart what the order of keys tells apart
 pub order_ties : (sort : Sort) (samples : List (Seen Written)) → eq_by_cmp (report_order key_cmp sort samples) ≡ eq_by_cmp key_cmp
-order_ties sort samples = λ i x y. same_ties (report_total samples sort) (report_same samples sort) key_cmp_total key_cmp_ties x y i
+order_ties sort samples = λ i x y. same_ties (report_total samples sort) (report_same samples sort) (eq_by_cmp key_cmp) key_decides x y i
 
 pub rows_counted : RowsAddUp
 rows_counted p f config column none =

@@ -3,10 +3,11 @@ use Rattle.std.proofs.Common.{◌≡◌, ℕ, Bool, true, false, cond, List, [],
 use Rattle.std.specs.List.{filter}
 use Rattle.pp_model.specs.Frames.{Written}
 use Rattle.pp_grain.specs.Keys.{key_cmp}
-use Rattle.pp_count.specs.Sums.{Seen, cum}
+use Rattle.pp_count.specs.Sums.{Seen, cum, all_keys}
 use Rattle.pp_count.specs.Counts.{total_of}
 use Rattle.pp_count.specs.Counted.{report_samples}
-use Rattle.pp_graph.specs.Trim.{all_keys, each_once, is_heavy_key, report_order, shown_keys}
+use Rattle.pp_count.specs.Ranks.{each_once}
+use Rattle.pp_graph.specs.Trim.{is_heavy_key, report_order, shown_keys}
 use Rattle.pp_graph.proofs.Ordering.{report_total, report_same}
 use Rattle.pp_laws.specs.Rows.{TrimmingHides}
 use Rattle.pp_laws.proofs.Listed.{each_once-filter}

@@ -9,7 +9,7 @@ use Rattle.std.specs.FinMap.Entries.{below_all, is_sorted, where_key, is_some-fi
 use Rattle.std.specs.declared.cmp.Ordering.{Ordering}
 use Rattle.std.specs.declared.cmp.Ordering.TheVariants.{Less, Equal, Greater}
 use Rattle.std.proofs.lemmas.Bool.{false≢true, and_parts}
-use Rattle.pp_graph.specs.Trim.{each_once, set_entry}
+use Rattle.pp_count.specs.Ranks.{each_once, set_entry}
 
 -- what is found of a unit is told by whether it is found
 marked : (o p : Option (Unit {0})) → is_some o ≡ is_some p → o ≡ p

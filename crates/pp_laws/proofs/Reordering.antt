@@ -17,17 +17,19 @@ use Rattle.pp_model.specs.Finders.{Finders}
 use Rattle.pp_model.specs.Frames.{Written}
 use Rattle.pp_grain.specs.Keys.{key_cmp}
 use Rattle.pp_count.specs.Column.{selected}
-use Rattle.pp_count.specs.Sums.{Seen, weighed, sum_where, has, leads, occurs, flat, cum}
+use Rattle.pp_count.specs.Sums.{Seen, weighed, sum_where, has, leads, occurs, flat, cum, all_keys}
 use Rattle.pp_count.specs.EdgeSums.{has_edge}
 use Rattle.pp_count.specs.Seeing.{absolute_all, filtered_stack, seen, seen_samples}
 use Rattle.pp_count.specs.Counts.{is_base, filtered_samples, total_by, total_over, total_of}
 use Rattle.pp_count.specs.Counted.{report_samples}
-use Rattle.pp_graph.specs.Trim.{by_size, all_keys, each_once, is_heavy, is_heavy_key, report_order, shown_keys, report_keys}
+use Rattle.pp_count.specs.Ranks.{by_size, each_once, is_heavy}
+use Rattle.pp_count.proofs.Renaming.{all_keys_occur}
+use Rattle.pp_count.proofs.Ties.{tied}
+use Rattle.pp_graph.specs.Trim.{is_heavy_key, report_order, shown_keys, report_keys}
 use Rattle.pp_graph.proofs.Ordering.{report_total, report_same}
-use Rattle.pp_graph.proofs.Shown.{key_tied}
 use Rattle.pp_laws.specs.Order.{HaveSameFigures, with_samples, OrderIsFree}
 use Rattle.pp_laws.proofs.IntSums.{sum_permuted}
-use Rattle.pp_laws.proofs.Sampling.{part, sum_seen, all_keys_occur}
+use Rattle.pp_laws.proofs.Sampling.{part, sum_seen}
 use Rattle.pp_laws.proofs.Listed.{each_once_same}
 use Rattle.pp_laws.proofs.AddingUp.{order_ties}
 
@@ -71,7 +73,7 @@ same_rows sort total other billionths ss ts totals flats cums occur =
     let heavy : Written → Bool = is_heavy_key key_cmp other billionths ts in
     let ties : eq_by_cmp order ≡ eq_by_cmp key_cmp = order_ties sort ts in
     let among : (xs : List Written) (k : Written) → list_any (eq_by_cmp key_cmp k) (filter heavy xs) ≡ (heavy k && list_any (eq_by_cmp key_cmp k) xs) = λ xs k.
-    any-filter_same (eq_by_cmp key_cmp k) heavy (heavy k) (λ q e. ap heavy (sym (key_tied k q e))) xs in
+    any-filter_same (eq_by_cmp key_cmp k) heavy (heavy k) (λ q e. ap heavy (sym (tied k q e))) xs in
     (λ i. each_once (same_order sort ss ts (λ j k. flats k j) (λ j k. cums k j) i) (filter (λ k. is_heavy (totals i) billionths (cums k i)) (all_keys ss)))
     ∙ each_once_same (report_total ts sort) (report_same ts sort) (filter heavy (all_keys ss)) (filter heavy (all_keys ts)) (λ k.
     (λ i. list_any (ties i k) (filter heavy (all_keys ss))) ∙ among (all_keys ss) k

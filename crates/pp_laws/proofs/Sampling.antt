@@ -11,11 +11,9 @@ use Rattle.std.proofs.lemmas.Bool.{false≢true, and_parts, not-false}
 use Rattle.std.proofs.lemmas.Bool.Decides.{Decides-int_eq}
 use Rattle.std.proofs.lemmas.Cmp.{eq_by_cmp_equiv}
 use Rattle.std.proofs.lemmas.Int.{ints}
-use Rattle.std.proofs.lemmas.List.Folds.{list_any-append}
 use Rattle.std.proofs.lemmas.List.Sums.{sum_by-cons}
-use Rattle.pp_count.specs.Sums.{Seen, weighed, absolute, sum_where, has, leads, occurs, cum, flat}
+use Rattle.pp_count.specs.Sums.{Seen, weighed, absolute, sum_where, has, leads, occurs, cum, flat, all_keys}
 use Rattle.pp_count.specs.EdgeSums.{stands_over, has_pair, has_edge, edge_sum}
-use Rattle.pp_graph.specs.Trim.{all_keys}
 use Rattle.pp_graph.specs.Trimmed.{int_sum}
 use Rattle.pp_laws.specs.Figures.{has_frames, whole, NoneNegative}
 use Rattle.pp_laws.proofs.IntSums.{sum_over, sum_same, sum_none, sum_plus, sum-filter, sum-filter_map, sum-append, sum_permuted, one_match}
@@ -154,12 +152,6 @@ module _ {K : Type 0} (order : K → K → Ordering) where
 
   pub edge_callee : (kept : K → Bool) (a b : K) (ks : List K) → has_edge order kept a b ks ≡ true → has order b ks ≡ true
   edge_callee kept a b ks is = has-filter kept b ks (pair_callee a b (filter kept ks) (and_parts _ _ is).1)
-
--- a key stands among all keys where it occurs
-pub all_keys_occur : {K : Type 0} (order : K → K → Ordering) (samples : List (Seen K)) (k : K) → list_any (eq_by_cmp order k) (all_keys samples) ≡ occurs order samples k
-all_keys_occur order [] k = refl
-all_keys_occur order (s ∷ samples) k =
-    list_any-append (eq_by_cmp order k) s.keys (all_keys samples) ∙ ap (λ b. has order k s.keys || b) (all_keys_occur order samples k)
 
 module _ {K : Type 0} {order : K → K → Ordering} (o : IsTotalOrder order) where
   -- a sample's value is in the flat of one key, its leaf's
