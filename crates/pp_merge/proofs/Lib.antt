@@ -45,3 +45,5 @@ pub mod LengthLemmas
 pub mod MergedLengths
 pub mod NegatedLemmas
 pub mod SmallLemmas
+pub mod KeptSums
+pub mod WrittenPlaces

@@ -28,7 +28,7 @@ use Rattle.pp_merge.proofs.SumLemmas.{length-added, get_or-added, abs-total_of}
 use Rattle.pp_merge.proofs.TotalLemmas.{total, total-flat_map, total-map, total-filter, total_same, parted, adding_ℕ, adding_ℤ}
 
 -- a row of zeros
-zero_at : (row : List ℤ) (k : ℕ) → list_all (int_eq (pos 0)) row ≡ true → get_or row k (pos 0) ≡ pos 0
+pub zero_at : (row : List ℤ) (k : ℕ) → list_all (int_eq (pos 0)) row ≡ true → get_or row k (pos 0) ≡ pos 0
 zero_at [] k all = refl
 zero_at (v ∷ row) zero all = sym ((Decides-int_eq (pos 0) v).0 (and_parts _ _ all).0)
 zero_at (v ∷ row) (suc k) all = zero_at row k (and_parts _ _ all).1
@@ -47,7 +47,8 @@ zeros_at zero column = refl
 zeros_at (suc n) zero = refl
 zeros_at (suc n) (suc column) = zeros_at n column
 
-at_total : (n column : ℕ) (rows : List (List ℤ)) → column < n → AllByRecursion (λ row. length row ≡ n) rows
+-- the value of a column, of the sum of rows
+pub at_total : (n column : ℕ) (rows : List (List ℤ)) → column < n → AllByRecursion (λ row. length row ≡ n) rows
     → get_or (total_of n rows) column (pos 0) ≡ total adding_ℤ (λ row. get_or row column (pos 0)) rows
 at_total n column rows within wide =
     let long = length-replicate n (pos 0) in

@@ -33,7 +33,7 @@ use Rattle.pp_merge.proofs.WrittenCompact.{compact_written, no_function, no_mapp
 use Rattle.pp_merge.proofs.WrittenValid.{texts_of_types, texts_of_samples, texts_of_mappings, texts_of_functions, texts_of_comments, texts_of_patterns, texts_of_period, last_texts, seen_mappings, seen_functions, seen_locations}
 
 -- a number that was added is taken off again
-back_by : (d s : ℕ) → d < 2 ^ 64 → s < 2 ^ 64 → less (plus d s) s ≡ d
+pub back_by : (d s : ℕ) → d < 2 ^ 64 → s < 2 ^ 64 → less (plus d s) s ≡ d
 back_by d s small start = omega arith
 
 -- what is read back from what each item was written as
@@ -42,7 +42,7 @@ map_back f g [] all = refl
 map_back f g (x ∷ xs) all = (λ j. all.0 j ∷ map_back f g xs all.1 j)
 
 -- the entry that an item was written as is found by its id
-found_at : {A E : Type 0} (same : A → A → Bool) (decides : (a b : A) → Decides (same a b) (a ≡ b)) (xs : List A) (d : A) (id : E → ℕ) (entry : A → E)
+pub found_at : {A E : Type 0} (same : A → A → Bool) (decides : (a b : A) → Decides (same a b) (a ≡ b)) (xs : List A) (d : A) (id : E → ℕ) (entry : A → E)
     → AreNumbered (map id (map entry xs)) → (x : A) → IsSeen same xs x → find (λ e. id e == place_of same xs x + 1) (map entry xs) ≡ Some (entry x)
 found_at same decides xs d id entry numbered x seen =
     let k = place_of same xs x in
@@ -60,7 +60,7 @@ at_seen P same decides (y ∷ ys) all x seen = by (same x y) refl (at_seen P sam
     by false is go h = go h
 
 -- among mappings of which no two are one, each is the first that is one with it
-alike_self : (xs : List MappingText) → IsDistinct same_mapping xs → (m : MappingText) → IsSeen equal_mapping xs m → first_alike xs m ≡ m
+pub alike_self : (xs : List MappingText) → IsDistinct same_mapping xs → (m : MappingText) → IsSeen equal_mapping xs m → first_alike xs m ≡ m
 alike_self [] apart m seen = refl
 alike_self (y ∷ ys) apart m seen = by (equal_mapping m y) refl (alike_self ys (IsDistinct-tail same_mapping y ys apart) m) seen
   where
@@ -104,7 +104,7 @@ module _ (c : Contents) (settled : IsSettled c) where
       (found_at same_function function_decides (functions c) no_function (λ (x : Function). x.id) (written_function c) (compact_written c).functions f there)
       ∙ ap Some (function_again c f all.0 all.1.0 all.1.1.0)
 
-  mapping_again : (m : MappingText) → AllByRecursion (IsText c) (m.file ∷ m.build_id ∷ []) → mapping_text (written c) (written_mapping c m) ≡ m
+  pub mapping_again : (m : MappingText) → AllByRecursion (IsText c) (m.file ∷ m.build_id ∷ []) → mapping_text (written c) (written_mapping c m) ≡ m
   mapping_again m all = (λ i. record {
     start = m.start;
     limit = m.limit;
@@ -118,7 +118,7 @@ module _ (c : Contents) (settled : IsSettled c) where
   })
 
   -- so is a mapping
-  mapping_back : (m : Option MappingText) → ((x : MappingText) → m ≡ Some x → IsSeen equal_mapping (mappings c) x) → mapping_found (written c) (option_map_or (mapping_id c) m 0) ≡ m
+  pub mapping_back : (m : Option MappingText) → ((x : MappingText) → m ≡ Some x → IsSeen equal_mapping (mappings c) x) → mapping_found (written c) (option_map_or (mapping_id c) m 0) ≡ m
   mapping_back None seen =
       ap (option_map (mapping_text (written c)))
       (sym (find_by_place (λ (x : Mapping). x.id) (written c).mapping 0 (written_mapping c no_mapping) (compact_written c).mappings))
@@ -129,7 +129,7 @@ module _ (c : Contents) (settled : IsSettled c) where
       ∙ ap Some (mapping_again m (at_seen (λ x. AllByRecursion (IsText c) (x.file ∷ x.build_id ∷ [])) equal_mapping mapping_decides (mappings c) (texts_of_mappings c) m there))
 
   -- all mappings are those that were written
-  mappings_back : all_mappings (written c ∷ []) ≡ mappings c
+  pub mappings_back : all_mappings (written c ∷ []) ≡ mappings c
   mappings_back = append-nil _ ∙ map_back (mapping_text (written c)) (written_mapping c) (mappings c) (all_by _ _ mapping_again (mappings c) (texts_of_mappings c))
 
   becomes_itself : (m : Option MappingText) → ((x : MappingText) → m ≡ Some x → IsSeen equal_mapping (mappings c) x)
@@ -137,19 +137,19 @@ module _ (c : Contents) (settled : IsSettled c) where
   becomes_itself None seen = refl
   becomes_itself (Some m) seen = ap Some (ap (λ all. first_alike all m) mappings_back ∙ alike_self (mappings c) settled.mapped m (seen m refl))
 
-  start_small : (m : Option MappingText) → ((x : MappingText) → m ≡ Some x → IsSeen equal_mapping (mappings c) x) → start_of m < 2 ^ 64
+  pub start_small : (m : Option MappingText) → ((x : MappingText) → m ≡ Some x → IsSeen equal_mapping (mappings c) x) → start_of m < 2 ^ 64
   start_small None seen = omega arith
   start_small (Some m) seen = at_seen (λ x. x.start < 2 ^ 64) equal_mapping mapping_decides (mappings c) settled.starts m (seen m refl)
 
   -- what is known of a location that was walked
-  abbrev Known : LocationText → Type 0
+  abbrev pub Known : LocationText → Type 0
   Known l = ((m : MappingText) → l.mapping ≡ Some m → IsSeen equal_mapping (mappings c) m)
       × AllByRecursion (λ line. (f : FunctionText) → line.function ≡ Some f → IsSeen same_function (functions c) f) l.lines × (l.distance < 2 ^ 64)
 
-  known : AllByRecursion Known (locations c)
+  pub known : AllByRecursion Known (locations c)
   known = all_by _ Known (λ l k. (k.0, k.1.0, k.1.1)) (locations c) (all_both _ _ (locations c) (seen_mappings c) (all_both _ _ (locations c) (seen_functions c) settled.distances))
 
-  lines_back : (lines : List LineText) → AllByRecursion (λ line. (f : FunctionText) → line.function ≡ Some f → IsSeen same_function (functions c) f) lines
+  pub lines_back : (lines : List LineText) → AllByRecursion (λ line. (f : FunctionText) → line.function ≡ Some f → IsSeen same_function (functions c) f) lines
       → map (line_text (function_found (written c))) (map (written_line c) lines) ≡ lines
   lines_back lines seen =
       map_back (line_text (function_found (written c))) (written_line c) lines
@@ -173,7 +173,7 @@ module _ (c : Contents) (settled : IsSettled c) where
       (found_at same_location location_decides (locations c) no_place (λ (x : Location). x.id) (written_location c) (compact_written c).locations l there)
       ∙ location_back l (at_seen Known same_location location_decides (locations c) known l there)
 
-  labels_back : (labels : List LabelText) → AllByRecursion (λ l. AllByRecursion (IsText c) (label_texts l)) labels → map (label_text (text_of (written c))) (map (written_label c) labels) ≡ labels
+  pub labels_back : (labels : List LabelText) → AllByRecursion (λ l. AllByRecursion (IsText c) (label_texts l)) labels → map (label_text (text_of (written c))) (map (written_label c) labels) ≡ labels
   labels_back labels all =
       map_back (label_text (text_of (written c))) (written_label c) labels
       (all_by _ _ (λ l own i. record { key = text_again c l.key own.0 i; text = text_again c l.text own.1.0 i; num = l.num; unit = text_again c l.unit own.1.1.0 i }) labels all)

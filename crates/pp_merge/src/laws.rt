@@ -1,14 +1,17 @@
 //! What holds of any profile that is written. These functions do nothing: their clauses are the laws.
 ghost use Rattle.pp_model.specs.Rules.{IsCompact, NoRuleFails};
-ghost use Rattle.std.specs.Prelude.{◌≡◌, ◌<◌, ◌≤◌, ◌^◌, ℕ, List, [], ◌∷◌, length};
+ghost use Rattle.std.specs.Prelude.{◌≡◌, ◌<◌, ◌≤◌, ◌^◌, ℕ, ℤ, Bool, List, [], ◌∷◌, filter, length, option_map};
 ghost use Rattle.pp_merge.specs.Lengths.{IsNoLonger};
-ghost use Rattle.pp_merge.specs.Totals.{value_sum, value_sums};
+ghost use Rattle.pp_merge.specs.Totals.{value_sum, value_sums, sum_where};
 ghost use Rattle.std.specs.List.{AllByRecursion, sum_by};
 ghost use Rattle.pp_model.specs.Sizes.{absolute_sum};
 ghost use Rattle.pp_model.specs.declared.profile.Profile.{Profile};
 ghost use Rattle.pp_merge.specs.Written.{Contents, written, FitsTypes};
 ghost use Rattle.pp_merge.specs.Merge.{contents, merged, all_mappings};
 ghost use Rattle.pp_merge.specs.Settled.{IsSettled};
+ghost use Rattle.pp_merge.specs.Sums.{counts, summed};
+ghost use Rattle.pp_merge.specs.Alike.{same_sample, first_alike};
+ghost use Rattle.pp_merge.specs.Described.{SampleText, mapping_found};
 
 /// In a written profile each id is its place plus 1, and no text stands twice.
 pub fn written_is_compact()
@@ -59,4 +62,21 @@ pub fn absolute_sums_are_within()
 pub fn tables_are_no_longer()
     ensures { (p : Profile) → (ps : List Profile) → AllByRecursion NoRuleFails (p ∷ ps)
         → IsNoLonger (merged p ps) (p ∷ ps) }
+{}
+
+/// Where equal samples are added up and those of 0 are dropped, the sum of a column stays over the samples that pass any
+/// test on locations and labels.
+pub fn sums_are_kept_where()
+    ensures { (columns column : ℕ) → column < columns → (items : List (SampleText × List ℤ))
+        → AllByRecursion (λ item. length item.1 ≡ columns) items → (test : SampleText → Bool)
+        → sum_where test column (filter counts (summed same_sample columns items))
+        ≡ sum_where test column items }
+{}
+
+/// In a profile that stays as it is when it is merged alone, each mapping is the first that is one with it.
+pub fn mappings_are_first()
+    ensures { (p : Profile) → AllByRecursion (λ m. m.start < 2 ^ 64) (all_mappings (p ∷ []))
+        → merged p [] ≡ p → (id : ℕ)
+        → option_map (first_alike (all_mappings (p ∷ []))) (mapping_found p id)
+        ≡ mapping_found p id }
 {}
