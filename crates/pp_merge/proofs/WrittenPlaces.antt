@@ -67,11 +67,11 @@ module _ (c : Contents) (settled : IsSettled c) where
     mapping_there = mapping_back c settled l.mapping known_there.0
 
     pub lines_there : map (line_text (function_found (written c))) (written_location c l).line ≡ l.lines
-    lines_there = lines_back c settled l.lines known_there.1.0
+    lines_there = lines_back c settled l.lines known_there.1
 
     -- and its address tells how far behind the mapping's start it lies
     pub distance_there : less (plus l.distance (start_of l.mapping)) (start_of l.mapping) ≡ l.distance
-    distance_there = back_by l.distance (start_of l.mapping) known_there.1.1 (start_small c settled l.mapping known_there.0)
+    distance_there = back_by l.distance (start_of l.mapping) known_there.2 (start_small c settled l.mapping known_there.0)
 
 -- In a profile that stays as it is when it is merged alone, each mapping is the first that is one with it,
 pub mappings_stay : (p : Profile) → AllByRecursion (λ m. m.start < 2 ^ 64) (all_mappings (p ∷ [])) → merged p [] ≡ p
