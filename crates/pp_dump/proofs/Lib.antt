@@ -15,3 +15,8 @@ pub mod CountLemmas
 pub mod EventSums
 pub mod Ranking
 pub mod Listed
+pub mod FilteredParts
+pub mod StackGroups
+pub mod PlaceTexts
+pub mod StackTexts
+pub mod KeptStacks

@@ -4,6 +4,7 @@ pub mod Traces
 pub mod Scope
 pub mod TagLines
 pub mod Saved
+pub mod Stacks
 pub mod Places
 pub mod Names
 pub mod Tables

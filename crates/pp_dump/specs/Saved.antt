@@ -1,5 +1,5 @@
 -- The profile that the raw and proto reports show: what the filters of a report leave of a profile.
-use Rattle.std.specs.Prelude.{◌≡◌, ℕ, ◌<◌, ◌==◌, ℤ, pos, ◌+ℤ◌, Bool, List, [], ◌∷◌, map, filter, length, slice_get, slice_index_or, Option, option_map, if◌then◌else◌, All, Contains}
+use Rattle.std.specs.Prelude.{◌==◌, ℤ, List, [], ◌∷◌, map, filter, length, slice_get, option_map, if◌then◌else◌}
 use Rattle.std.specs.List.{filter_map}
 use Rattle.pp_model.specs.declared.config.Config.{Config}
 use Rattle.pp_model.specs.declared.frame.Frame.{Frame}
@@ -9,10 +9,10 @@ use Rattle.pp_model.specs.declared.profile.Sample.{Sample}
 use Rattle.pp_model.specs.declared.profile.Profile.{Profile}
 use Rattle.pp_model.specs.Conditions.{no_location, location_at}
 use Rattle.pp_model.specs.Finders.{Finders}
-use Rattle.pp_model.specs.Frames.{Written, written, written_at, line_at, text_of}
+use Rattle.pp_model.specs.Frames.{line_at, text_of}
 use Rattle.pp_tags.specs.TagFilters.{shown_labels}
 use Rattle.pp_count.specs.Seeing.{filtered_stack}
-use Rattle.pp_merge.specs.Described.{LocationText, LabelText, SampleText, mapping_text, function_found, mapping_found, location_text, label_text}
+use Rattle.pp_merge.specs.Described.{LocationText, SampleText, function_found, mapping_found, location_text, label_text}
 use Rattle.pp_merge.specs.Alike.{same_sample, first_alike}
 use Rattle.pp_merge.specs.Sums.{summed, counts}
 use Rattle.pp_merge.specs.Header.{HeaderText, header_of}
@@ -79,56 +79,3 @@ saved_contents p f config = record {
 -- The saved profile: each sample that the filters leave, with the frames and labels that they leave and all its values.
 abbrev pub saved : Profile → Finders → Config → Profile
 saved p f config = profile_of (saved_contents p f config)
-
--- What a report can tell of a sample: its frames, grouped by place, its labels and its values.
-pub record Told : Type 0 where
-  pub places : List (List Written)
-  pub labels : List LabelText
-  pub values : List ℤ
-
--- a sample of the profile, as it stands
-abbrev pub told_whole : Profile → Sample → Told
-told_whole p s = record {
-  places = map (written_at p) s.location_id;
-  labels = map (label_text (text_of p)) s.label;
-  values = s.value;
-}
-
--- a sample of which the filters leave this stack
-abbrev pub told_cut : Profile → Finders → Sample → List Frame → Told
-told_cut p f s stack = record {
-  places = map (map (written p)) (by_place stack);
-  labels = map (label_text (text_of p)) (shown_labels p f s.label);
-  values = s.value;
-}
-
--- all samples of the profile
-abbrev pub told_samples : Profile → List Told
-told_samples p = map (told_whole p) p.sample
-
--- the samples that the filters leave, as they leave them
-abbrev pub told_filtered : Profile → Finders → Config → List Told
-told_filtered p f config =
-    filter_map (λ s. option_map (told_cut p f s) (filtered_stack p f config s)) p.sample
-
--- the sum of the column over the samples whose frames and labels pass a test
-abbrev pub sum_told : (List (List Written) → List LabelText → Bool) → ℕ → List Told → ℤ
-sum_told test column [] = pos 0
-sum_told test column (t ∷ told) =
-    (if test t.places t.labels then slice_index_or t.values column (pos 0) else pos 0)
-    +ℤ sum_told test column told
-
--- the same frames and labels
-pub record IsTold (t other : Told) : Type 0 where
-  pub places : t.places ≡ other.places
-  pub labels : t.labels ≡ other.labels
-
--- The samples of the saved profile are those that the filters leave: each has the frames and labels of one of these, and
--- where samples became one, or 0 and were dropped, the sums of each column stay, over those whose frames and labels pass
--- any test.
-pub record KeepsStacks (p : Profile) (f : Finders) (config : Config) (q : Profile) : Type 0 where
-  pub each : All (λ t. (other : Told) × Contains (told_filtered p f config) other × IsTold t other)
-      (told_samples q)
-  pub sums : (test : List (List Written) → List LabelText → Bool) → (column : ℕ)
-      → column < length p.sample_type
-      → sum_told test column (told_samples q) ≡ sum_told test column (told_filtered p f config)

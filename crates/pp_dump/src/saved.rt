@@ -9,6 +9,7 @@ ghost use Rattle.pp_merge.specs.Merge.{merged};
 ghost use Rattle.pp_count.specs.Counts.{samples_at};
 ghost use Rattle.pp_count.specs.Seeing.{HoldsFilters, filtered_from};
 ghost use Rattle.pp_dump.specs.Saved.{saved};
+ghost use Rattle.pp_dump.specs.Stacks.{KeepsStacks};
 ghost use Rattle.pp_dump.specs.Places.{with_cut, ArePlaces, IsCutOf};
 
 use crate::copying::{same_locations, with_cut};
@@ -22,7 +23,8 @@ use std::alloc::Global;
 
 /// What the filters leave of the profile, merged alone: the samples with the frames and labels that they leave and with all
 /// their values, and the locations with the lines that are left. It has no patterns of its own, and the rest of the header
-/// stays. Saved again without filters it stays as it is. `Err` is want of memory.
+/// stays. Saved again without filters it stays as it is. Of a profile that was merged it keeps the stacks that the filters
+/// leave, as they are written out: equal samples are one, and those whose values add up to 0 went. `Err` is want of memory.
 pub fn saved_profile(
     alloc: Global,
     l: &Loaded,
@@ -33,6 +35,10 @@ pub fn saved_profile(
     ensures saved { (f : Finders) → (config : Config) → HoldsFilters l.now v.now config f →
         c.now.kept ≡ filtered_from l.now.profile f config 0 l.now.profile.sample →
         IfOk result (λ q. q ≡ saved l.now.profile f config) }
+    ensures stacks { (f : Finders) → (config : Config) → HoldsFilters l.now v.now config f →
+        c.now.kept ≡ filtered_from l.now.profile f config 0 l.now.profile.sample →
+        merged l.now.profile [] ≡ l.now.profile →
+        IfOk result (KeepsStacks l.now.profile f config) }
     ensures valid { IfOk result (λ q. NoRuleFails q) }
     ensures again { IfOk result (λ q. merged q [] ≡ q) }
 {

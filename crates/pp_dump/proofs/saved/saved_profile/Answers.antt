@@ -2,10 +2,14 @@ use Rattle.std.proofs.Common.{◌≡◌, [], sym, ap, subst, ◌∙◌}
 use Rattle.pp_model.specs.declared.profile.Profile.{Profile}
 use Rattle.pp_model.specs.Rules.{NoRuleFails}
 use Rattle.pp_merge.specs.Merge.{contents, merged}
+use Rattle.pp_merge.specs.Settled.{IsSettled}
 use Rattle.pp_merge.specs.Written.{written}
 use Rattle.pp_merge.proofs.SettledLemmas.{settled_contents}
 use Rattle.pp_merge.proofs.WrittenAgain.{contents_again}
 use Rattle.pp_dump.specs.Places.{with_cut}
+use Rattle.pp_dump.specs.Saved.{saved_contents, saved}
+use Rattle.pp_dump.specs.Stacks.{KeepsStacks}
+use Rattle.pp_dump.proofs.KeptStacks.{keeps_stacks}
 use Rattle.pp_dump.proofs.CutContents.{contents_saved, starts_of}
 use Rattle.pp_dump.proofs.saved.saved_profile.Goals as goal
 
@@ -16,6 +20,19 @@ returns-clause-saved c f config holds kept =
     c.in_ok-q.ensures ∙ ap (λ (p : Profile). merged p []) is.is
     ∙ ap written
     (contents_saved c.args.l.now c.args.v.now f config c.as_slice.result.now is.samples is.locations is.valid holds.found (c.as_slice.ensures ∙ kept) is.adds)
+
+-- so it keeps the stacks that the filters leave
+pub returns-clause-stacks : goal.returns-clause-stacks
+returns-clause-stacks c f config holds kept again =
+    let is = c.in_ok-cut.ensures in
+    let p = c.args.l.now.profile in
+    let cut = with_cut p is.samples is.locations in
+    let starts = starts_of p is.samples is.locations is.starts in
+    let same : contents cut [] ≡ saved_contents p f config =
+    contents_saved c.args.l.now c.args.v.now f config c.as_slice.result.now is.samples is.locations is.valid holds.found (c.as_slice.ensures ∙ kept) is.adds in
+    let saved_is : c.in_ok-q.q ≡ saved p f config = c.in_ok-q.ensures ∙ ap (λ (q : Profile). merged q []) is.is ∙ ap written same in
+    subst (KeepsStacks p f config) (sym saved_is)
+    (keeps_stacks p f config is.valid starts again (subst IsSettled same (settled_contents cut [] starts)))
 
 -- and what is merged alone stays as it is
 pub returns-clause-again : goal.returns-clause-again
