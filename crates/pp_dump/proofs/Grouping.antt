@@ -21,11 +21,11 @@ begins_with f ((next ∷ group) ∷ groups) = by (f.place == next.place)
     by true = record { group = next ∷ group; others = groups; is = refl }
     by false = record { group = []; others = (next ∷ group) ∷ groups; is = refl }
 
-begins : (f : Frame) (stack : List Frame) → Begins f (by_place (f ∷ stack))
+pub begins : (f : Frame) (stack : List Frame) → Begins f (by_place (f ∷ stack))
 begins f stack = begins_with f (by_place stack)
 
 -- a frame of another place is a group of its own
-alone : (x y : Frame) (ys : List Frame) → x.place ≢ y.place → by_place (x ∷ y ∷ ys) ≡ (x ∷ []) ∷ by_place (y ∷ ys)
+pub alone : (x y : Frame) (ys : List Frame) → x.place ≢ y.place → by_place (x ∷ y ∷ ys) ≡ (x ∷ []) ∷ by_place (y ∷ ys)
 alone x y ys other =
     let b = begins y ys in
     ap (grouped_with x) b.is
@@ -33,7 +33,7 @@ alone x y ys other =
     ∙ ap (λ (groups : List (List Frame)). (x ∷ []) ∷ groups) (sym b.is)
 
 -- a frame of the same place is in the next one's group
-joined : (x y : Frame) (ys group : List Frame) (others : List (List Frame)) → x.place ≡ y.place → by_place (y ∷ ys) ≡ (y ∷ group) ∷ others
+pub joined : (x y : Frame) (ys group : List Frame) (others : List (List Frame)) → x.place ≡ y.place → by_place (y ∷ ys) ≡ (y ∷ group) ∷ others
     → by_place (x ∷ y ∷ ys) ≡ (x ∷ y ∷ group) ∷ others
 joined x y ys group others same is =
     ap (grouped_with x) is ∙ ap (λ (t : Bool). cond t ((x ∷ y ∷ group) ∷ others) ((x ∷ []) ∷ ((y ∷ group) ∷ others))) (eq-eqb x.place y.place same)

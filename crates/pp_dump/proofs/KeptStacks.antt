@@ -22,7 +22,7 @@ use Rattle.pp_merge.specs.FirstSight.{distinct}
 use Rattle.pp_merge.specs.Merge.{all_mappings, contents, merged}
 use Rattle.pp_merge.specs.Settled.{IsSettled}
 use Rattle.pp_merge.specs.Sums.{counts, keys_of, summed, sum_of}
-use Rattle.pp_merge.specs.Totals.{value_where, sum_where}
+use Rattle.pp_merge.specs.Totals.{value_passing, sum_passing}
 use Rattle.pp_merge.specs.Written.{Contents, locations}
 use Rattle.pp_merge.proofs.Deciding.{sample_decides}
 use Rattle.pp_merge.proofs.FirstSightLemmas.{IsSeen}
@@ -40,9 +40,9 @@ use Rattle.pp_dump.proofs.PlaceTexts.{place_of}
 use Rattle.pp_dump.proofs.StackTexts.{stack_text, with_stack, whole_back, left_are}
 
 -- sums over samples whose stacks are written out
-sum_stacks : (test : StackText → Bool) (column : ℕ) (xs : List (SampleText × List ℤ)) → sum_where test column (map with_stack xs) ≡ sum_where (λ s. test (stack_text s)) column xs
+sum_stacks : (test : StackText → Bool) (column : ℕ) (xs : List (SampleText × List ℤ)) → sum_passing test column (map with_stack xs) ≡ sum_passing (λ s. test (stack_text s)) column xs
 sum_stacks test column [] = refl
-sum_stacks test column (x ∷ xs) = ap (λ sum. value_where test column (with_stack x) +ℤ sum) (sum_stacks test column xs)
+sum_stacks test column (x ∷ xs) = ap (λ sum. value_passing test column (with_stack x) +ℤ sum) (sum_stacks test column xs)
 
 -- items that differ when they are described differ
 apart_when : {A B : Type 0} (f : A → B) (xs : List A) → AllPairs (λ a b. a ≢ b) (map f xs) → AllPairs (λ a b. a ≢ b) xs
@@ -143,7 +143,7 @@ module _ (p : Profile) (f : Finders) (config : Config) (valid : NoRuleFails p) w
         apart = subst (λ (these : List (StackText × List ℤ)). AllPairs (λ a b. a ≢ b) (without_values these)) (sym whole) (stacks_apart c settled);
         counted = subst (All (λ s. counts s ≡ true)) (sym whole) (stacks_count c settled);
         sums = λ test column within.
-            ap (sum_where test column) whole ∙ sum_stacks test column c.samples
+            ap (sum_passing test column) whole ∙ sum_stacks test column c.samples
             ∙ sum_stays same_sample sample_decides (λ s. test (stack_text s)) n column within items wide
-            ∙ sym (sum_stacks test column items) ∙ ap (sum_where test column) (sym left);
+            ∙ sym (sum_stacks test column items) ∙ ap (sum_passing test column) (sym left);
       }

@@ -20,3 +20,6 @@ pub mod StackGroups
 pub mod PlaceTexts
 pub mod StackTexts
 pub mod KeptStacks
+pub mod CountedPlaces
+pub mod SeenStacks
+pub mod WholeStacks

@@ -90,13 +90,14 @@ module _ (p : Profile) where
       numbered_cohere place location (λ none. no_line line lines (sym is ∙ none)) (range_with_len 0 (length (line ∷ lines)))
       (recursion_from_All (IsFrameOf p) (map (row_frame place location) (range_with_len 0 (length (line ∷ lines)))) (rows_of_profile p place location (line ∷ lines) within is))
 
-  rows_place : (place location : ℕ) (lines : List Line) → AllByRecursion (λ f. f.place ≡ place) (rows place location lines)
+  -- the places of the frames of one location, and of all
+  pub rows_place : (place location : ℕ) (lines : List Line) → AllByRecursion (λ f. f.place ≡ place) (rows place location lines)
   rows_place place location [] = (refl, tt)
   rows_place place location (line ∷ lines) =
       let numbers : List ℕ = range_with_len 0 (length (line ∷ lines)) in
       all_mapped (λ (f : Frame). f.place ≡ place) (row_frame place location) numbers (all_any (λ (n : ℕ). (row_frame place location n).place ≡ place) (λ n. refl) numbers)
 
-  places_from : (place : ℕ) (ids : List ℕ) → AllByRecursion (λ f. place ≤ f.place) (frames_from p place ids)
+  pub places_from : (place : ℕ) (ids : List ℕ) → AllByRecursion (λ f. place ≤ f.place) (frames_from p place ids)
   places_from place [] = tt
   places_from place (id ∷ ids) =
       let here : List Frame = rows place (id - 1) (location_at p (id - 1)).line in

@@ -5,6 +5,7 @@ pub mod Scope
 pub mod TagLines
 pub mod Saved
 pub mod Stacks
+pub mod Unfiltered
 pub mod Places
 pub mod Names
 pub mod Tables

@@ -13,7 +13,7 @@ use Rattle.pp_tags.specs.TagFilters.{shown_labels}
 use Rattle.pp_count.specs.Seeing.{filtered_stack}
 use Rattle.pp_merge.specs.Described.{MappingText, LineText, LabelText, function_found, mapping_found, line_text, label_text}
 use Rattle.pp_merge.specs.Sums.{counts}
-use Rattle.pp_merge.specs.Totals.{sum_where}
+use Rattle.pp_merge.specs.Totals.{sum_passing}
 use Rattle.pp_dump.specs.Saved.{by_place, cut_location}
 
 -- A place of a stack: the mapping, address and folded flag of its location, the lines that are left of it, and the frames.
@@ -29,7 +29,7 @@ pub record StackText : Type 0 where
   pub places : List PlaceText
   pub labels : List LabelText
 
--- the place of a location of which these frames are told
+-- the place of a location, with these frames
 abbrev pub place_text : Profile → Location → List Written → PlaceText
 place_text p location frames = record {
   mapping = mapping_found p location.mapping_id;
@@ -90,4 +90,4 @@ pub record KeepsStacks (p : Profile) (f : Finders) (config : Config) (q : Profil
   pub apart : AllPairs (λ a b. a ≢ b) (without_values (whole_stacks q))
   pub counted : All (λ s. counts s ≡ true) (whole_stacks q)
   pub sums : (test : StackText → Bool) → (column : ℕ) → column < length p.sample_type
-      → sum_where test column (whole_stacks q) ≡ sum_where test column (left_stacks p f config)
+      → sum_passing test column (whole_stacks q) ≡ sum_passing test column (left_stacks p f config)

@@ -7,7 +7,7 @@ use Rattle.std.proofs.lemmas.Bool.{not-false}
 use Rattle.std.proofs.Math.IntN.{+ℤ_idl}
 use Rattle.pp_merge.specs.FirstSight.{distinct}
 use Rattle.pp_merge.specs.Sums.{counts, keys_of, rows_of, summed, sum_of}
-use Rattle.pp_merge.specs.Totals.{value_where, sum_where}
+use Rattle.pp_merge.specs.Totals.{value_passing, sum_passing}
 use Rattle.pp_merge.proofs.DistinctLemmas.{deciding_laws}
 use Rattle.pp_merge.proofs.FirstSightLemmas.{IsSeen, all_seen, distinct_apart}
 use Rattle.pp_merge.proofs.MergedTotals.{zero_at, at_total}
@@ -16,13 +16,13 @@ use Rattle.pp_merge.proofs.SettledLemmas.{all_filtered, all_unmapped, all_any}
 use Rattle.pp_merge.proofs.TotalLemmas.{total, total-map, total-filter, total_same, parted, adding_ℤ}
 
 -- a sum over what passes, as a sum of values
-pub sum_where_is : {K : Type 0} (test : K → Bool) (column : ℕ) (items : List (K × List ℤ)) → sum_where test column items ≡ total adding_ℤ (value_where test column) items
-sum_where_is test column [] = refl
-sum_where_is test column (x ∷ items) = ap (λ sum. value_where test column x +ℤ sum) (sum_where_is test column items)
+pub sum_passing_is : {K : Type 0} (test : K → Bool) (column : ℕ) (items : List (K × List ℤ)) → sum_passing test column items ≡ total adding_ℤ (value_passing test column) items
+sum_passing_is test column [] = refl
+sum_passing_is test column (x ∷ items) = ap (λ sum. value_passing test column x +ℤ sum) (sum_passing_is test column items)
 
 module _ {K : Type 0} (same : K → K → Bool) (decides : (a b : K) → Decides (same a b) (a ≡ b)) (test : K → Bool) (n column : ℕ) where
   abbrev value : K × List ℤ → ℤ
-  value = value_where test column
+  value = value_passing test column
 
   -- the value of the column in a row
   abbrev at : List ℤ → ℤ
@@ -40,8 +40,8 @@ module _ {K : Type 0} (same : K → K → Bool) (decides : (a b : K) → Decides
       by false = refl
 
   -- an item without any value adds nothing
-  none_where : (item : K × List ℤ) → counts item ≡ false → value item ≡ pos 0
-  none_where item none = by (test item.0)
+  none_passing : (item : K × List ℤ) → counts item ≡ false → value item ≡ pos 0
+  none_passing item none = by (test item.0)
     where
       by : (b : Bool) → (if b then at item.1 else pos 0) ≡ pos 0
       by true = zero_at item.1 column (not-false _ none)
@@ -94,13 +94,13 @@ module _ {K : Type 0} (same : K → K → Bool) (decides : (a b : K) → Decides
         (all_unmapped (IsSeen same keys) (λ (item : K × List ℤ). item.0) items (all_seen same (deciding_laws same decides).refl [] (keys_of same items)))
 
     -- The sum over the items that are left is the sum over all.
-    pub sum_stays : sum_where test column (filter counts (summed same n items)) ≡ sum_where test column items
+    pub sum_stays : sum_passing test column (filter counts (summed same n items)) ≡ sum_passing test column items
     sum_stays =
-        sum_where_is test column (filter counts (summed same n items))
-        ∙ total-filter adding_ℤ value counts (summed same n items) (all_any _ none_where (summed same n items))
+        sum_passing_is test column (filter counts (summed same n items))
+        ∙ total-filter adding_ℤ value counts (summed same n items) (all_any _ none_passing (summed same n items))
         ∙ total-map adding_ℤ value (λ key. (key, sum_of same n items key)) keys
         ∙ total_same adding_ℤ (λ key. value (key, sum_of same n items key)) (λ key. total adding_ℤ at (rows_of same (map masked items) key)) keys (all_any _ key_value keys)
         ∙ parted adding_ℤ same decides at keys (distinct_apart same (deciding_laws same decides) (keys_of same items)) (map masked items) keyed
         ∙ total-map adding_ℤ (λ item. at item.1) masked items
         ∙ total_same adding_ℤ (λ item. at (masked item).1) value items (all_any _ masked_value items)
-        ∙ sym (sum_where_is test column items)
+        ∙ sym (sum_passing_is test column items)

@@ -15,11 +15,11 @@ value_sums column [] = pos 0
 value_sums column (p ∷ ps) = value_sum column p.sample +ℤ value_sums column ps
 
 -- the item's value of the column, 0 where its key fails the test
-abbrev pub value_where : {K : Type 0} → (K → Bool) → ℕ → K × List ℤ → ℤ
-value_where test column item =
+abbrev pub value_passing : {K : Type 0} → (K → Bool) → ℕ → K × List ℤ → ℤ
+value_passing test column item =
     if test item.0 then slice_index_or item.1 column (pos 0) else pos 0
 
 -- the sum of the column's values over the items whose keys pass the test
-abbrev pub sum_where : {K : Type 0} → (K → Bool) → ℕ → List (K × List ℤ) → ℤ
-sum_where test column [] = pos 0
-sum_where test column (item ∷ items) = value_where test column item +ℤ sum_where test column items
+abbrev pub sum_passing : {K : Type 0} → (K → Bool) → ℕ → List (K × List ℤ) → ℤ
+sum_passing test column [] = pos 0
+sum_passing test column (item ∷ items) = value_passing test column item +ℤ sum_passing test column items

@@ -2,7 +2,7 @@
 ghost use Rattle.pp_model.specs.Rules.{IsCompact, NoRuleFails};
 ghost use Rattle.std.specs.Prelude.{◌≡◌, ◌<◌, ◌≤◌, ◌^◌, ℕ, ℤ, Bool, List, [], ◌∷◌, filter, length, option_map};
 ghost use Rattle.pp_merge.specs.Lengths.{IsNoLonger};
-ghost use Rattle.pp_merge.specs.Totals.{value_sum, value_sums, sum_where};
+ghost use Rattle.pp_merge.specs.Totals.{value_sum, value_sums, sum_passing};
 ghost use Rattle.std.specs.List.{AllByRecursion, sum_by};
 ghost use Rattle.pp_model.specs.Sizes.{absolute_sum};
 ghost use Rattle.pp_model.specs.declared.profile.Profile.{Profile};
@@ -69,8 +69,8 @@ pub fn tables_are_no_longer()
 pub fn sums_are_kept_where()
     ensures { (columns column : ℕ) → column < columns → (items : List (SampleText × List ℤ))
         → AllByRecursion (λ item. length item.1 ≡ columns) items → (test : SampleText → Bool)
-        → sum_where test column (filter counts (summed same_sample columns items))
-        ≡ sum_where test column items }
+        → sum_passing test column (filter counts (summed same_sample columns items))
+        ≡ sum_passing test column items }
 {}
 
 /// In a profile that stays as it is when it is merged alone, each mapping is the first that is one with it.

@@ -1,6 +1,6 @@
 use Rattle.std.proofs.Common.{◌≡◌, [], sym, ap, subst, ◌∙◌}
 use Rattle.pp_model.specs.declared.profile.Profile.{Profile}
-use Rattle.pp_model.specs.Rules.{NoRuleFails}
+use Rattle.pp_model.specs.Rules.{NoRuleFails, IsCompact}
 use Rattle.pp_merge.specs.Merge.{contents, merged}
 use Rattle.pp_merge.specs.Settled.{IsSettled}
 use Rattle.pp_merge.specs.Written.{written}
@@ -10,6 +10,8 @@ use Rattle.pp_dump.specs.Places.{with_cut}
 use Rattle.pp_dump.specs.Saved.{saved_contents, saved}
 use Rattle.pp_dump.specs.Stacks.{KeepsStacks}
 use Rattle.pp_dump.proofs.KeptStacks.{keeps_stacks}
+use Rattle.pp_dump.proofs.SeenStacks.{keeps_sums}
+use Rattle.pp_dump.proofs.WholeStacks.{whole_left}
 use Rattle.pp_dump.proofs.CutContents.{contents_saved, starts_of}
 use Rattle.pp_dump.proofs.saved.saved_profile.Goals as goal
 
@@ -46,3 +48,12 @@ returns-clause-again c =
 -- what is compact keeps the table rules
 pub returns-clause-valid : goal.returns-clause-valid
 returns-clause-valid c = subst NoRuleFails c.get-valid.ensures.same c.get-valid.ensures.valid
+
+-- without filters its stacks are left whole, so the sums are kept
+pub returns-clause-sums : goal.returns-clause-sums
+returns-clause-sums c f config holds kept again =
+    let q = c.in_ok-q.q in
+    let compact = subst IsCompact c.get-valid.ensures.same c.get-valid.ensures.compact in
+    let valid = subst NoRuleFails c.get-valid.ensures.same c.get-valid.ensures.valid in
+    keeps_sums c.args.l.now.profile f config q (returns-clause-stacks c f config holds kept again)
+    (λ d tagfocus tagignore. whole_left q compact.locations d tagfocus tagignore valid)
