@@ -11,5 +11,6 @@ pub mod Multiplying
 pub mod Grouped
 pub mod Stages
 pub mod Telling
+pub mod Tagging
 pub mod Shards
 pub mod Subtracting

@@ -1,7 +1,7 @@
 -- Merged reports are sums.
 use Rattle.std.proofs.Common.{◌≡◌, ℕ, ◌<◌, ◌^◌, ◌%◌, ◌+◌, Bool, true, false, cond, not, ◌&&◌, ℤ, pos, ◌+ℤ◌, List, [], ◌∷◌, ◌++◌, length, map, get_or, ◌==◌, All, Option, Some, None, option_map, refl, sym, ap, ◌∙◌, subst, arith, append-nil, inl, inr}
 use Rattle.std.specs.Prelude.{int_div, find, unwrap_or}
-use Rattle.std.specs.List.{AllByRecursion, IsDistinct}
+use Rattle.std.specs.List.{AllByRecursion, list_all, IsDistinct}
 use Rattle.std.specs.Option.{option_map_or}
 use Rattle.std.proofs.Math.IntN.{+ℤ_idr}
 use Rattle.std.proofs.lemmas.Bool.{false≢true}
@@ -17,12 +17,12 @@ use Rattle.pp_model.specs.declared.profile.Sample.{Sample}
 use Rattle.pp_model.specs.Conditions.{RefersTo}
 use Rattle.pp_model.specs.Finders.{Finders}
 use Rattle.pp_model.specs.Frames.{Written, written, text_at, text_of, stack_of, mapping_with}
-use Rattle.pp_model.specs.Rules.{NoRuleFails, IsCompact, begins_empty, zero_unless}
+use Rattle.pp_model.proofs.RuleLemmas.{passes as rule_passes}
+use Rattle.pp_model.specs.Rules.{label_has_texts, NoRuleFails, IsCompact, begins_empty, zero_unless}
 use Rattle.pp_model.specs.Sizes.{value_in}
 use Rattle.pp_stack.specs.Filters.{filtered, frames_of_sample}
-use Rattle.pp_tags.specs.TagFilters.{filter_in_force, selects_or}
 use Rattle.pp_grain.specs.Keys.{key_cmp, key_texts}
-use Rattle.pp_merge.specs.Described.{MappingText, SampleText, mapping_text, mapping_found, location_found, start_of}
+use Rattle.pp_merge.specs.Described.{MappingText, SampleText, label_text, mapping_text, mapping_found, location_found, start_of}
 use Rattle.pp_merge.specs.Alike.{same_mapping, first_alike}
 use Rattle.pp_merge.specs.Merge.{all_mappings, contents, merged}
 use Rattle.pp_merge.specs.Settled.{IsSettled}
@@ -48,6 +48,7 @@ use Rattle.pp_laws.proofs.Sampling.{part, sum_seen}
 use Rattle.pp_laws.proofs.Multiplying.{by_one}
 use Rattle.pp_laws.proofs.Grouped.{grouped, told_in}
 use Rattle.pp_laws.proofs.Stages.{filtered-map}
+use Rattle.pp_laws.proofs.Tagging.{tags_told, tags_is, labels_tell, TellsText}
 use Rattle.pp_laws.proofs.Telling.{told_from, told_counted, file_of, placed, counted_told, frames_told, same_told}
 
 pub sum_total : {X : Type 0} (f : X → ℤ) (xs : List X) → sum_over f xs ≡ total adding_ℤ f xs
@@ -138,26 +139,27 @@ module _ (f : Finders) (config : Config) where
     keys_same : (stack : List Frame) → keys_of_stack p config stack ≡ keys_told (map (placed p) stack)
     keys_same stack = keys_mapped (counted_frames config.noinlines stack) ∙ ap (map (key_texts config.grain config.showcolumns)) (counted_told p config.noinlines stack)
 
-    -- What a sample adds to a sum, by what its stack is told as.
-    pub part_told : (column : ℕ) (s : Sample) (test : List Written → Bool) → config.divide_by ≡ 1 → passes_tags p f config s ≡ true
-        → option_map_or (part test) (seen p f config (Some column) s) (pos 0) ≡ cond (passes test (map (placed p) (stack_of p s))) (value_in s column) (pos 0)
-    part_told column s test by_itself kept =
-        ap (λ b. option_map_or (part test) (option_map (seen_with p config (Some column) s) (cond b (frames_of_sample p f s) None)) (pos 0)) kept
-        ∙ elim (frames_of_sample p f s) as (λ (o : Option (List Frame)). option_map_or (part test) (option_map (seen_with p config (Some column) s) o) (pos 0)
-        ≡ cond (option_map_or test (option_map keys_told (option_map (map (placed p)) o)) false) (value_in s column) (pos 0)) [
-          | None ↦ refl
-          | Some stack ↦ λ i. cond (test (keys_same stack i)) ((ap (λ d. int_div (value_in s column) (pos d)) by_itself ∙ by_one (value_in s column)) i) (pos 0)
+    -- What a sample adds to a sum, by its tags and by what its stack is told as.
+    pub part_told : (column : ℕ) (s : Sample) (test : List Written → Bool) → config.divide_by ≡ 1
+        → option_map_or (part test) (seen p f config (Some column) s) (pos 0)
+        ≡ cond (passes_tags p f config s && passes test (map (placed p) (stack_of p s))) (value_in s column) (pos 0)
+    part_told column s test by_itself =
+        elim (passes_tags p f config s) as (λ (b : Bool). option_map_or (part test) (option_map (seen_with p config (Some column) s) (cond b (frames_of_sample p f s) None)) (pos 0)
+        ≡ cond (b && passes test (map (placed p) (stack_of p s))) (value_in s column) (pos 0)) [
+          | false ↦ refl
+          | true ↦ elim (frames_of_sample p f s) as (λ (o : Option (List Frame)). option_map_or (part test) (option_map (seen_with p config (Some column) s) o) (pos 0)
+              ≡ cond (option_map_or test (option_map keys_told (option_map (map (placed p)) o)) false) (value_in s column) (pos 0)) [
+                | None ↦ refl
+                | Some stack ↦ λ i. cond (test (keys_same stack i)) ((ap (λ d. int_div (value_in s column) (pos d)) by_itself ∙ by_one (value_in s column)) i) (pos 0)
+              ]
+              ∙ ap (λ (o : Option (List (ℕ × Written))). cond (option_map_or test (option_map keys_told o) false) (value_in s column) (pos 0))
+              (sym (filtered-map (placed p) (λ (x : ℕ × Written). x.1) f (stack_of p s)))
         ]
-        ∙ ap (λ (o : Option (List (ℕ × Written))). cond (option_map_or test (option_map keys_told o) false) (value_in s column) (pos 0))
-        (sym (filtered-map (placed p) (λ (x : ℕ × Written). x.1) f (stack_of p s)))
 
-module _ (f : Finders) (config : Config) (column : ℕ) (divisor : config.divide_by ≡ 1) (tagfocus : config.tagfocus ≡ []) (tagignore : config.tagignore ≡ []) where
-  untagged : (p : Profile) (s : Sample) → passes_tags p f config s ≡ true
-  untagged p s = λ i. selects_or true p (filter_in_force (tagfocus i)) f.tagfocus s && not (selects_or false p (filter_in_force (tagignore i)) f.tagignore s)
-
+module _ (f : Finders) (config : Config) (column : ℕ) (divisor : config.divide_by ≡ 1) where
   -- the test of what a sample says
   abbrev pub says : (List Written → Bool) → SampleText → Bool
-  says test t = passes f config test (told_from 0 t.locations)
+  says test t = tags_told f config t.labels && passes f config test (told_from 0 t.locations)
 
   -- a sum over what sources say
   abbrev pub sum_of_sources : (List Written → Bool) → Profile → List Profile → Profile → ℤ
@@ -185,12 +187,24 @@ module _ (f : Finders) (config : Config) (column : ℕ) (divisor : config.divide
         (all_by (λ s. length s.1 ≡ length (contents p ps).header.types) (λ s. length s.1 ≡ length all.sample_type)
         (λ s is. is ∙ sym (length-map (contents p ps).header.types (written_type (contents p ps)))) (contents p ps).samples settled.fits.rows)
 
-    each_says : (test : List Written → Bool) (s : Sample) → RefersTo all s
+    -- what holds of each of its samples
+    abbrev Fine : Sample → Type 0
+    Fine s = (RefersTo all s) × (AllByRecursion (TellsText all) s.label)
+
+    each_fine : AllByRecursion Fine all.sample
+    each_fine = all_both (RefersTo all) (λ s. AllByRecursion (TellsText all) s.label) all.sample
+        (recursion_from_All (RefersTo all) all.sample (all_refer all all refl valid))
+        (all_by (λ s. list_all (label_has_texts all) s.label ≡ true) (λ s. AllByRecursion (TellsText all) s.label)
+        (λ s ok. labels_tell all valid compact (text_zero all valid) s.label ok) all.sample
+        (recursion_from_All (λ s. list_all (label_has_texts all) s.label ≡ true) all.sample (rule_passes (λ s. list_all (label_has_texts all) s.label) all.sample valid.sample_text)))
+
+    each_says : (test : List Written → Bool) (s : Sample) → Fine s
         → option_map_or (part test) (seen all f config (Some column) s) (pos 0) ≡ cond (says test (told_in all [] all s)) (value_in s column) (pos 0)
-    each_says test s refers =
-        part_told f config all column s test divisor (untagged all s)
-        ∙ ap (λ xs. cond (passes f config test xs) (value_in s column) (pos 0))
-        (frames_told all (first_alike (all_mappings (all ∷ []))) (stays (contents p ps) settled) (text_zero all valid) compact.locations (small (contents p ps) settled) 0 s.location_id refers)
+    each_says test s fine =
+        part_told f config all column s test divisor
+        ∙ (λ i. cond (tags_is all s fine.1 f config i && passes f config test
+        (frames_told all (first_alike (all_mappings (all ∷ []))) (stays (contents p ps) settled) (text_zero all valid) compact.locations (small (contents p ps) settled) 0 s.location_id fine.0 i))
+        (value_in s column) (pos 0))
 
     -- A figure of the merged profile, by what its sources say.
     pub figure_said : (test : List Written → Bool) → sum_where test (report_samples all f config (Some column)) ≡ total adding_ℤ (sum_of_sources test p ps) (p ∷ ps)
@@ -198,7 +212,7 @@ module _ (f : Finders) (config : Config) (column : ℕ) (divisor : config.divide
         let value : Sample → ℤ = λ s. cond (says test (told_in all [] all s)) (value_in s column) (pos 0) in
         sum_seen test (seen all f config (Some column)) all.sample
         ∙ sum_each (λ s. option_map_or (part test) (seen all f config (Some column) s) (pos 0)) value all.sample
-        (all_by (RefersTo all) _ (each_says test) all.sample (recursion_from_All (RefersTo all) all.sample (all_refer all all refl valid)))
+        (all_by Fine _ (each_says test) all.sample each_fine)
         ∙ sum_total value all.sample
         ∙ sym (+ℤ_idr (total adding_ℤ value all.sample))
         ∙ sym (grouped all [] (wide, tt) (says test) column (subst (λ n. column < n) (sym types_is) within))
@@ -228,7 +242,7 @@ module _ (f : Finders) (config : Config) (column : ℕ) (divisor : config.divide
         by (Some m) is = (found_holds _ (λ (x : Mapping). x.id == id) q.mapping keeps m is).0.file
 
     same_said : (test : List Written → Bool) (s : Sample) → cond (says test (told_in p ps q s)) (value_in s column) (pos 0) ≡ cond (says test (told_in q [] q s)) (value_in s column) (pos 0)
-    same_said test s = ap (λ xs. cond (passes f config test xs) (value_in s column) (pos 0)) (same_told q among alone same_starts same_files 0 s.location_id)
+    same_said test s = ap (λ xs. cond (tags_told f config (map (label_text (text_of q)) s.label) && passes f config test xs) (value_in s column) (pos 0)) (same_told q among alone same_starts same_files 0 s.location_id)
 
     source_said : AllByRecursion (λ m. m.start < 2 ^ 64) q.mapping → length q.sample_type ≡ length p.sample_type → HasValues (length p.sample_type) q → column < length p.sample_type
         → (test : List Written → Bool) → sum_of_sources test p ps q ≡ sum_where test (report_samples (merged q []) f config (Some column))
@@ -254,7 +268,7 @@ module _ (f : Finders) (config : Config) (column : ℕ) (divisor : config.divide
 
 pub merged_are_sums : MergedAreSums
 merged_are_sums p ps f config column can =
-    let each = shards_add_up f config column can.divisor can.tagfocus can.tagignore p ps can in
+    let each = shards_add_up f config column can.divisor p ps can in
     record {
       flat = λ k. each (leads key_cmp k);
       cum = λ k. each (has key_cmp k);

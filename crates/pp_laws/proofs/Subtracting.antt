@@ -109,9 +109,9 @@ nothing_is_left p values = record {
   reports = λ f config column. ap (λ ss. weighed (seen_samples (less_base p p) f config column ss)) (nothing p values);
 }
 
-module _ (f : Finders) (config : Config) (column : ℕ) (divisor : config.divide_by ≡ 1) (tagfocus : config.tagfocus ≡ []) (tagignore : config.tagignore ≡ []) where
+module _ (f : Finders) (config : Config) (column : ℕ) (divisor : config.divide_by ≡ 1) where
   abbrev said : (List Written → Bool) → Profile → ℤ
-  said test q = sum_of_sources f config column divisor tagfocus tagignore test q [] q
+  said test q = sum_of_sources f config column divisor test q [] q
 
   abbrev figure : (List Written → Bool) → Profile → ℤ
   figure test q = sum_where test (report_samples q f config (Some column))
@@ -119,13 +119,13 @@ module _ (f : Finders) (config : Config) (column : ℕ) (divisor : config.divide
   alone : (test : List Written → Bool) (q : Profile) → AllByRecursion (λ m. m.start < 2 ^ 64) q.mapping → HasValues (length q.sample_type) q → column < length q.sample_type
       → figure test (merged q []) ≡ said test q
   alone test q starts values within =
-      figure_said f config column divisor tagfocus tagignore q []
+      figure_said f config column divisor q []
       (all_flat (λ m. m.start < 2 ^ 64) (λ r. map (mapping_text r) r.mapping) (q ∷ []) (all_mapped (λ m. m.start < 2 ^ 64) (mapping_text q) q.mapping starts, tt))
       (values, tt) within test ∙ +ℤ_idr (said test q)
 
   said_negated : (test : List Written → Bool) (q : Profile) → said test (negated Base q) ≡ neg_ℤ (said test q)
   said_negated test q =
-      let tells : SampleText → Bool = says f config column divisor tagfocus tagignore test in
+      let tells : SampleText → Bool = says f config column divisor test in
       let value : Sample → ℤ = λ s. cond (tells (told_in q [] q s)) (value_in s column) (pos 0) in
       total-map adding_ℤ (λ s. cond (tells (told_in (negated Base q) [] (negated Base q) s)) (value_in s column) (pos 0)) negated_sample q.sample
       ∙ total_same adding_ℤ (λ s. cond (tells (told_in (negated Base q) [] (negated Base q) (negated_sample s))) (value_in (negated_sample s) column) (pos 0)) (λ s. neg_ℤ (value s)) q.sample
@@ -140,15 +140,13 @@ module _ (f : Finders) (config : Config) (column : ℕ) (divisor : config.divide
   subtracts p base can test =
       let values : HasValues (length base.sample_type) base = subst (λ n. HasValues n base) (sym can.types.1.0) can.values.1.0 in
       let within : column < length base.sample_type = subst (λ n. column < n) (sym can.types.1.0) can.within in
-      shards_add_up f config column divisor tagfocus tagignore p (negated Base base ∷ []) (record {
+      shards_add_up f config column divisor p (negated Base base ∷ []) (record {
         within = can.within;
         types = can.types;
         values = (can.values.0, (values_negated (length p.sample_type) base can.values.1.0, tt));
         starts = can.starts;
         mappings = can.mappings;
         divisor = divisor;
-        tagfocus = tagfocus;
-        tagignore = tagignore;
       }) test
       ∙ added_less (figure test (merged p [])) (figure test (merged base [])) (figure test (merged (negated Base base) []))
       (alone test (negated Base base) can.starts.1.0 (values_negated (length base.sample_type) base values) within
@@ -156,7 +154,7 @@ module _ (f : Finders) (config : Config) (column : ℕ) (divisor : config.divide
 
 pub bases_subtract : BasesSubtract
 bases_subtract p base f config column can =
-    let each = subtracts f config column can.divisor can.tagfocus can.tagignore p base can in
+    let each = subtracts f config column can.divisor p base can in
     record {
       flat = λ k. each (leads key_cmp k);
       cum = λ k. each (has key_cmp k);

@@ -32,7 +32,7 @@ abbrev pub HasValues : ℕ → Profile → Type 0
 HasValues types p = AllByRecursion (λ s. length s.value ≡ types) p.sample
 
 -- Sources whose figures can be added up: they have as many types, each sample has a value for each, mappings keep their
--- places, values are divided by 1, and no tag filter is in force.
+-- places, and values are divided by 1.
 pub record AddUp (p : Profile) (ps : List Profile) (config : Config) (column : ℕ) : Type 0 where
   pub within : column < length p.sample_type
   pub types : AllByRecursion (λ q. length q.sample_type ≡ length p.sample_type) (p ∷ ps)
@@ -40,8 +40,6 @@ pub record AddUp (p : Profile) (ps : List Profile) (config : Config) (column : �
   pub starts : AllByRecursion (λ q. AllByRecursion (λ m. m.start < 2 ^ 64) q.mapping) (p ∷ ps)
   pub mappings : AllByRecursion (KeepsMappings (p ∷ ps)) (p ∷ ps)
   pub divisor : config.divide_by ≡ 1
-  pub tagfocus : config.tagfocus ≡ []
-  pub tagignore : config.tagignore ≡ []
 
 -- the figure of each source alone, added up
 abbrev pub over_sources : (Profile → ℤ) → List Profile → ℤ

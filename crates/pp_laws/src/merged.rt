@@ -9,7 +9,7 @@ ghost use Rattle.pp_laws.specs.Merged.{MergedAreSums};
 /// Premises, `AddUp`: the sources have as many columns, and each sample a value for each. Each mapping keeps its file and its
 /// start; a mapping that becomes one with that of another source takes over its file and start, and keys by address, names
 /// of objects and patterns on them may then change. Values are divided by 1, since a sum is cut off once and its parts each.
-/// No tag filter is in force. Values may have either sign.
+/// Values may have either sign.
 pub fn merged_reports_are_sums()
     ensures { MergedAreSums }
 {}
