@@ -1,9 +1,9 @@
 -- The values of merged samples, added up by what the samples are.
-use Rattle.std.proofs.Common.{◌≡◌, ℕ, zero, suc, ◌<◌, Bool, true, false, cond, not, ◌&&◌, ℤ, pos, neg_ℤ, ◌+ℤ◌, List, [], ◌∷◌, ◌++◌, length, map, replicate, get_or, refl, sym, ap, ◌∙◌, subst, arith}
+use Rattle.std.proofs.Common.{◌≡◌, ℕ, zero, suc, ◌<◌, Bool, true, false, cond, ℤ, pos, ◌+ℤ◌, List, [], ◌∷◌, length, map, replicate, get_or, refl, sym, ap, ◌∙◌, subst, arith}
 use Rattle.std.specs.Prelude.{filter, fold}
 use Rattle.std.specs.List.{AllByRecursion, list_all}
 use Rattle.std.specs.Ordering.{int_eq}
-use Rattle.std.proofs.Math.IntN.{+ℤ_idl, +ℤ_idr, +ℤ_assoc, +ℤ_invr}
+use Rattle.std.proofs.Math.IntN.{+ℤ_idl, +ℤ_idr, +ℤ_assoc}
 use Rattle.std.proofs.lemmas.Bool.{not-false, and_parts}
 use Rattle.std.proofs.lemmas.Bool.Decides.{Decides-int_eq}
 use Rattle.std.proofs.lemmas.List.{length-replicate}
@@ -21,8 +21,8 @@ use Rattle.pp_merge.proofs.DistinctLemmas.{deciding_laws}
 use Rattle.pp_merge.proofs.FirstSightLemmas.{IsSeen, all_seen, distinct_apart}
 use Rattle.pp_merge.proofs.NumberedLemmas.{all_by, all_mapped}
 use Rattle.pp_merge.proofs.SettledLemmas.{all_flat, all_filtered, all_unmapped, all_any}
-use Rattle.pp_merge.proofs.SumLemmas.{length-added, get_or-added, length-total_of}
-use Rattle.pp_merge.proofs.TotalLemmas.{total, total-append, total-flat_map, total-map, total-filter, total_same, parted, adding_ℤ}
+use Rattle.pp_merge.proofs.SumLemmas.{length-added, get_or-added}
+use Rattle.pp_merge.proofs.TotalLemmas.{total, total-flat_map, total-map, total-filter, total_same, parted, adding_ℤ}
 use Rattle.pp_laws.specs.Merged.{HasValues}
 
 -- a value of a row of zeros

@@ -12,5 +12,6 @@ pub mod Grouped
 pub mod Stages
 pub mod Telling
 pub mod Tagging
+pub mod Alone
 pub mod Shards
 pub mod Subtracting

@@ -1,7 +1,7 @@
 -- Scaling scales, and a base counts against its source.
-use Rattle.std.proofs.Common.{◌≡◌, ℕ, zero, suc, ◌<◌, ◌/◌, Bool, true, false, cond, not, ◌&&◌, ℤ, pos, negsuc, neg_ℤ, ◌+ℤ◌, ◌*ℤ◌, List, [], ◌∷◌, length, map, get_or, set, Option, Some, None, option_map, refl, sym, ap, ◌∙◌}
-use Rattle.std.specs.Prelude.{int_div, int_rem}
-use Rattle.std.specs.List.{AllByRecursion, filter_map}
+use Rattle.std.proofs.Common.{◌≡◌, ℕ, zero, suc, ◌/◌, Bool, true, false, cond, not, ◌&&◌, ℤ, pos, negsuc, neg_ℤ, ◌+ℤ◌, ◌*ℤ◌, List, [], ◌∷◌, map, get_or, set, Option, Some, None, option_map, refl, sym, ap, ◌∙◌}
+use Rattle.std.specs.Prelude.{int_div}
+use Rattle.std.specs.List.{AllByRecursion}
 use Rattle.std.specs.Option.{option_map_or}
 use Rattle.std.proofs.Math.IntN.{+ℤ_idr, zero-*ℤ, neg_ℤ-neg_ℤ}
 use Rattle.std.proofs.Math.Nat.{div-one, zero-div}
@@ -26,7 +26,7 @@ use Rattle.pp_count.specs.EdgeSums.{has_edge}
 use Rattle.pp_count.specs.Seeing.{filtered_stack, keys_of_stack, seen_with, seen}
 use Rattle.pp_count.specs.Counted.{report_samples}
 use Rattle.pp_laws.specs.Scales.{ScalesEvenly, FiguresScale, WholeValuesScale, BasesNegate}
-use Rattle.pp_laws.proofs.IntSums.{sum_over, sum_same, sum_each, sum-map, sum_times, sum_negated}
+use Rattle.pp_laws.proofs.IntSums.{sum_same, sum_each, sum-map, sum_times, sum_negated}
 use Rattle.pp_laws.proofs.Sampling.{part, sum_seen}
 
 of_either : (b : Bool) (v w : ℤ) (num den : ℕ) → w *ℤ pos den ≡ v *ℤ pos num → cond b w (pos 0) *ℤ pos den ≡ cond b v (pos 0) *ℤ pos num

@@ -1,10 +1,9 @@
 -- The order of samples does not matter.
-use Rattle.std.proofs.Common.{◌≡◌, ℕ, ◌+◌, Bool, true, false, cond, not, ◌&&◌, ◌||◌, ℤ, pos, nat_abs, List, [], ◌∷◌, Option, Some, None, refl, sym, ap, ◌∙◌, arith}
+use Rattle.std.proofs.Common.{◌≡◌, ℕ, ◌+◌, Bool, true, false, cond, not, ◌&&◌, ◌||◌, pos, nat_abs, List, [], ◌∷◌, Option, Some, None, refl, sym, ap, ◌∙◌, arith}
 use Rattle.std.specs.List.{filter, filter_map, list_any, sum_by, cons_option}
 use Rattle.std.specs.List.Sorted.{IsPermutation}
 use Rattle.std.specs.Option.{is_some, option_map_or}
 use Rattle.std.specs.Ordering.{eq_by_cmp, int_eq, then_cmp}
-use Rattle.std.specs.declared.cmp.Ordering.{Ordering}
 use Rattle.std.proofs.lemmas.List.Sorted.{list_any-IsPermutation, sum_by-IsPermutation}
 use Rattle.std.proofs.lemmas.List.Sums.{sum_by-cons}
 use Rattle.std.proofs.lemmas.Map.Views.{any-filter_same}
@@ -19,15 +18,15 @@ use Rattle.pp_grain.specs.Keys.{key_cmp}
 use Rattle.pp_count.specs.Column.{selected}
 use Rattle.pp_count.specs.Sums.{Seen, weighed, sum_where, has, leads, occurs, flat, cum, all_keys}
 use Rattle.pp_count.specs.EdgeSums.{has_edge}
-use Rattle.pp_count.specs.Seeing.{absolute_all, filtered_stack, seen, seen_samples}
+use Rattle.pp_count.specs.Seeing.{filtered_stack, seen}
 use Rattle.pp_count.specs.Counts.{is_base, filtered_samples, total_by, total_over, total_of}
 use Rattle.pp_count.specs.Counted.{report_samples}
 use Rattle.pp_count.specs.Ranks.{by_size, each_once, is_heavy}
 use Rattle.pp_count.proofs.Renaming.{all_keys_occur}
 use Rattle.pp_count.proofs.Ties.{tied}
-use Rattle.pp_graph.specs.Trim.{is_heavy_key, report_order, shown_keys, report_keys}
+use Rattle.pp_graph.specs.Trim.{is_heavy_key, report_order, shown_keys}
 use Rattle.pp_graph.proofs.Ordering.{report_total, report_same}
-use Rattle.pp_laws.specs.Order.{HaveSameFigures, with_samples, OrderIsFree}
+use Rattle.pp_laws.specs.Order.{with_samples, OrderIsFree}
 use Rattle.pp_laws.proofs.IntSums.{sum_permuted}
 use Rattle.pp_laws.proofs.Sampling.{part, sum_seen}
 use Rattle.pp_laws.proofs.Listed.{each_once_same}

@@ -1,7 +1,7 @@
 -- Sums over the samples of a report.
-use Rattle.std.proofs.Common.{◌≡◌, ℕ, ◌≤◌, Bool, true, false, true≢false, cond, not, ◌&&◌, ◌||◌, ℤ, pos, ◌+ℤ◌, ◌+◌, nat_abs, List, [], ◌∷◌, ◌++◌, map, Option, refl, sym, ap, ◌∙◌, arith}
+use Rattle.std.proofs.Common.{◌≡◌, ◌≤◌, Bool, true, false, cond, not, ◌&&◌, ◌||◌, ℤ, pos, ◌+ℤ◌, ◌+◌, nat_abs, List, [], ◌∷◌, ◌++◌, Option, refl, sym, ap, ◌∙◌, arith}
 use Rattle.std.specs.Prelude.{◌≤ℤ◌}
-use Rattle.std.specs.List.{AllByRecursion, IsDistinct, filter, filter_map, list_any, sum_by}
+use Rattle.std.specs.List.{AllByRecursion, IsDistinct, filter, filter_map, list_any}
 use Rattle.std.specs.List.Sorted.{IsPermutation}
 use Rattle.std.specs.Option.{option_map_or}
 use Rattle.std.specs.Ordering.{eq_by_cmp, int_eq}
@@ -12,11 +12,10 @@ use Rattle.std.proofs.lemmas.Bool.Decides.{Decides-int_eq}
 use Rattle.std.proofs.lemmas.Cmp.{eq_by_cmp_equiv}
 use Rattle.std.proofs.lemmas.Int.{ints}
 use Rattle.std.proofs.lemmas.List.Sums.{sum_by-cons}
-use Rattle.pp_count.specs.Sums.{Seen, weighed, absolute, sum_where, has, leads, occurs, cum, flat, all_keys}
-use Rattle.pp_count.specs.EdgeSums.{stands_over, has_pair, has_edge, edge_sum}
-use Rattle.pp_graph.specs.Trimmed.{int_sum}
+use Rattle.pp_count.specs.Sums.{Seen, weighed, absolute, sum_where, has, leads, occurs, flat, all_keys}
+use Rattle.pp_count.specs.EdgeSums.{stands_over, has_pair, has_edge}
 use Rattle.pp_laws.specs.Figures.{has_frames, whole, NoneNegative}
-use Rattle.pp_laws.proofs.IntSums.{sum_over, sum_same, sum_none, sum_plus, sum-filter, sum-filter_map, sum-append, sum_permuted, one_match}
+use Rattle.pp_laws.proofs.IntSums.{sum_over, sum_none, sum_plus, sum-filter, sum-filter_map, sum_permuted, one_match}
 
 -- what a sample adds to the sum of those that pass
 abbrev pub part : {K : Type 0} → (List K → Bool) → Seen K → ℤ

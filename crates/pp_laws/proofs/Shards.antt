@@ -1,45 +1,38 @@
 -- Merged reports are sums.
-use Rattle.std.proofs.Common.{◌≡◌, ℕ, ◌<◌, ◌^◌, ◌%◌, ◌+◌, Bool, true, false, cond, not, ◌&&◌, ℤ, pos, ◌+ℤ◌, List, [], ◌∷◌, ◌++◌, length, map, get_or, ◌==◌, All, Option, Some, None, option_map, refl, sym, ap, ◌∙◌, subst, arith, append-nil, inl, inr}
-use Rattle.std.specs.Prelude.{int_div, find, unwrap_or}
-use Rattle.std.specs.List.{AllByRecursion, list_all, IsDistinct}
+use Rattle.std.proofs.Common.{◌≡◌, ℕ, ◌<◌, ◌^◌, Bool, true, false, cond, ◌&&◌, ℤ, pos, ◌+ℤ◌, List, [], ◌∷◌, length, map, get_or, ◌==◌, Option, Some, None, option_map, refl, sym, ap, ◌∙◌, subst}
+use Rattle.std.specs.Prelude.{int_div}
+use Rattle.std.specs.List.{AllByRecursion, list_all}
 use Rattle.std.specs.Option.{option_map_or}
 use Rattle.std.proofs.Math.IntN.{+ℤ_idr}
-use Rattle.std.proofs.lemmas.Bool.{false≢true}
 use Rattle.std.proofs.lemmas.List.{length-map}
-use Rattle.std.proofs.lemmas.List.Elements.{All-head, All-tail, recursion_from_All}
-use Rattle.std.proofs.lemmas.Map.Keys.{IsDistinct-head, IsDistinct-tail}
+use Rattle.std.proofs.lemmas.List.Elements.{recursion_from_All}
 use Rattle.pp_model.specs.declared.config.Config.{Config}
 use Rattle.pp_model.specs.declared.frame.Frame.{Frame}
 use Rattle.pp_model.specs.declared.profile.Mapping.{Mapping}
-use Rattle.pp_model.specs.declared.profile.Location.{Location}
 use Rattle.pp_model.specs.declared.profile.Profile.{Profile}
 use Rattle.pp_model.specs.declared.profile.Sample.{Sample}
 use Rattle.pp_model.specs.Conditions.{RefersTo}
 use Rattle.pp_model.specs.Finders.{Finders}
-use Rattle.pp_model.specs.Frames.{Written, written, text_at, text_of, stack_of, mapping_with}
+use Rattle.pp_model.specs.Frames.{Written, written, text_of, stack_of, mapping_with}
 use Rattle.pp_model.proofs.RuleLemmas.{passes as rule_passes}
-use Rattle.pp_model.specs.Rules.{label_has_texts, NoRuleFails, IsCompact, begins_empty, zero_unless}
+use Rattle.pp_model.specs.Rules.{label_has_texts, NoRuleFails, IsCompact}
 use Rattle.pp_model.specs.Sizes.{value_in}
 use Rattle.pp_stack.specs.Filters.{filtered, frames_of_sample}
 use Rattle.pp_grain.specs.Keys.{key_cmp, key_texts}
-use Rattle.pp_merge.specs.Described.{MappingText, SampleText, label_text, mapping_text, mapping_found, location_found, start_of}
-use Rattle.pp_merge.specs.Alike.{same_mapping, first_alike}
+use Rattle.pp_merge.specs.Described.{MappingText, SampleText, label_text, mapping_text, mapping_found, start_of}
+use Rattle.pp_merge.specs.Alike.{first_alike}
 use Rattle.pp_merge.specs.Merge.{all_mappings, contents, merged}
 use Rattle.pp_merge.specs.Settled.{IsSettled}
-use Rattle.pp_merge.specs.Written.{Contents, written_mapping, written_location, written_sample, written_type, mappings, locations}
-use Rattle.pp_merge.specs.Written as writing
-use Rattle.pp_merge.proofs.MergedMapping.{mapping_laws}
+use Rattle.pp_merge.specs.Written.{Contents, written_sample, written_type}
 use Rattle.pp_merge.proofs.NumberedLemmas.{all_by, all_both, all_mapped}
-use Rattle.pp_merge.proofs.RoundTrip.{IsText, text_again}
-use Rattle.pp_merge.proofs.SettledLemmas.{all_any, all_flat, all_unmapped, found_holds, settled_contents}
+use Rattle.pp_merge.proofs.SettledLemmas.{all_any, all_flat, found_holds, settled_contents}
 use Rattle.pp_merge.proofs.TotalLemmas.{total, total_same, adding_ℤ}
-use Rattle.pp_merge.proofs.WrittenAgain.{map_back, contents_again}
+use Rattle.pp_merge.proofs.WrittenAgain.{contents_again}
 use Rattle.pp_merge.proofs.WrittenCompact.{compact_written}
-use Rattle.pp_merge.proofs.WrittenValid.{valid_written, texts_of_mappings}
-use Rattle.pp_count.specs.Column.{selected}
-use Rattle.pp_count.specs.Sums.{Seen, sum_where, has, leads}
+use Rattle.pp_merge.proofs.WrittenValid.{valid_written}
+use Rattle.pp_count.specs.Sums.{sum_where, has, leads}
 use Rattle.pp_count.specs.EdgeSums.{has_edge}
-use Rattle.pp_count.specs.Seeing.{passes_tags, filtered_stack, counted_frames, key_of_frame, keys_of_stack, seen_with, seen}
+use Rattle.pp_count.specs.Seeing.{passes_tags, counted_frames, key_of_frame, keys_of_stack, seen_with, seen}
 use Rattle.pp_count.specs.Counted.{report_samples}
 use Rattle.pp_count.proofs.Pieces.{all_refer}
 use Rattle.pp_laws.specs.Merged.{HasValues, KeepsMappings, AddUp, over_sources, MergedAreSums}
@@ -49,74 +42,12 @@ use Rattle.pp_laws.proofs.Multiplying.{by_one}
 use Rattle.pp_laws.proofs.Grouped.{grouped, told_in}
 use Rattle.pp_laws.proofs.Stages.{filtered-map}
 use Rattle.pp_laws.proofs.Tagging.{tags_told, tags_is, labels_tell, TellsText}
+use Rattle.pp_laws.proofs.Alone.{text_zero, stays, small}
 use Rattle.pp_laws.proofs.Telling.{told_from, told_counted, file_of, placed, counted_told, frames_told, same_told}
 
 pub sum_total : {X : Type 0} (f : X → ℤ) (xs : List X) → sum_over f xs ≡ total adding_ℤ f xs
 sum_total f [] = refl
 sum_total f (x ∷ xs) = ap (λ v. f x +ℤ v) (sum_total f xs)
-
--- the text of index 0 is empty
-text_zero : (p : Profile) → NoRuleFails p → text_at p 0 ≡ []
-text_zero p valid = by p.text (held (begins_empty p.text) valid.text_zero)
-  where
-    held : (b : Bool) → zero_unless b ≡ None → b ≡ true
-    held true none = refl
-    held false none = let no : ⊥ = cc in absurd no
-
-    by : (texts : List (List ℕ)) → begins_empty texts ≡ true → get_or texts 0 [] ≡ []
-    by [] is = refl
-    by ([] ∷ texts) is = refl
-    by ((b ∷ bs) ∷ texts) is = absurd (false≢true is)
-
--- among mappings of which no two are one, each stays what it is
-self_alike : (xs : List MappingText) → IsDistinct same_mapping xs → AllByRecursion (λ x. first_alike xs x ≡ x) xs
-self_alike [] apart = tt
-self_alike (y ∷ ys) apart = (
-  ap (λ b. unwrap_or (cond b (Some y) (find (same_mapping y) ys)) y) (mapping_laws.refl y),
-  all_by (λ x. (first_alike ys x ≡ x) × (same_mapping y x ≡ false)) (λ x. first_alike (y ∷ ys) x ≡ x)
-  (λ x k. ap (λ b. unwrap_or (cond b (Some y) (find (same_mapping x) ys)) x) (mapping_laws.symm x y ∙ k.1) ∙ k.0) ys
-  (all_both (λ x. first_alike ys x ≡ x) (λ x. same_mapping y x ≡ false) ys (self_alike ys (IsDistinct-tail same_mapping y ys apart)) (IsDistinct-head same_mapping y ys apart)),
-)
-
--- A written profile of settled contents: what it says of its mappings and of the places of its locations.
-module _ (c : Contents) (settled : IsSettled c) where
-  abbrev whole : Profile
-  whole = writing.written c
-
-  mapping_again : (m : MappingText) → AllByRecursion (IsText c) (m.file ∷ m.build_id ∷ []) → mapping_text whole (written_mapping c m) ≡ m
-  mapping_again m all = (λ i. record {
-    start = m.start;
-    limit = m.limit;
-    offset = m.offset;
-    file = text_again c m.file all.0 i;
-    build_id = text_again c m.build_id all.1.0 i;
-    has_functions = m.has_functions;
-    has_filenames = m.has_filenames;
-    has_line_numbers = m.has_line_numbers;
-    has_inline_frames = m.has_inline_frames;
-  })
-
-  mappings_back : all_mappings (whole ∷ []) ≡ mappings c
-  mappings_back = append-nil _ ∙ map_back (mapping_text whole) (written_mapping c) (mappings c) (all_by _ _ mapping_again (mappings c) (texts_of_mappings c))
-
-  own_alike : AllByRecursion (λ m. first_alike (all_mappings (whole ∷ [])) (mapping_text whole m) ≡ mapping_text whole m) whole.mapping
-  own_alike =
-      all_unmapped (λ x. first_alike (all_mappings (whole ∷ [])) x ≡ x) (mapping_text whole) whole.mapping
-      (subst (λ xs. AllByRecursion (λ x. first_alike (all_mappings (whole ∷ [])) x ≡ x) xs) (append-nil (map (mapping_text whole) whole.mapping))
-      (self_alike (all_mappings (whole ∷ [])) (subst (IsDistinct same_mapping) (sym mappings_back) settled.mapped)))
-
-  -- its mappings stay as they are when it is merged alone
-  pub stays : (id : ℕ) → option_map (first_alike (all_mappings (whole ∷ []))) (mapping_found whole id) ≡ mapping_found whole id
-  stays id = by (mapping_with whole id) refl
-    where
-      by : (o : Option Mapping) → mapping_with whole id ≡ o → option_map (first_alike (all_mappings (whole ∷ []))) (option_map (mapping_text whole) o) ≡ option_map (mapping_text whole) o
-      by None is = refl
-      by (Some m) is = ap Some (found_holds (λ x. first_alike (all_mappings (whole ∷ [])) (mapping_text whole x) ≡ mapping_text whole x) (λ x. x.id == id) whole.mapping own_alike m is).0
-
-  pub small : AllByRecursion (λ l. l.address < 2 ^ 64) whole.location
-  small = all_mapped (λ l. l.address < 2 ^ 64) (written_location c) (locations c) (all_any _ (λ l. below_all _) (locations c)) where
-    below_all : (n : ℕ) → n % 2 ^ 64 < 2 ^ 64
-    below_all n = omega arith
 
 -- Filters over what a sample says.
 module _ (f : Finders) (config : Config) where

@@ -1,13 +1,13 @@
 -- The unit only spells.
-use Rattle.std.proofs.Common.{◌≡◌, ℕ, zero, suc, ◌+◌, ◌*◌, ◌/◌, ◌%◌, ◌<◌, ◌≤◌, Bool, true, false, cond, ℤ, pos, negsuc, neg_ℤ, nat_abs, List, Option, Some, None, refl, sym, ap, subst, ◌∙◌, arith}
-use Rattle.std.specs.Prelude.{◌≤ℤ◌, ◌<ℤ◌, IfSome}
+use Rattle.std.proofs.Common.{◌≡◌, ℕ, zero, suc, ◌+◌, ◌*◌, ◌%◌, ◌<◌, true, false, cond, pos, negsuc, neg_ℤ, nat_abs, List, Option, Some, None, refl, sym, subst, arith}
+use Rattle.std.specs.Prelude.{IfSome}
 use Rattle.std.specs.Option.{option_map_or}
 use Rattle.std.proofs.Math.Nat.{div-add-mod, mod-lt}
 use Rattle.std.proofs.lemmas.Int.{ints}
 use Rattle.pp_units.specs.declared.scale.Scale.{Scale}
 use Rattle.pp_units.specs.declared.scale.Scale.TheVariants.{Nanoseconds, Microseconds, Milliseconds, Seconds, Hours, SingleBytes, Kilobytes, Megabytes, Gigabytes, Terabytes, Petabytes, Counts}
 use Rattle.pp_units.specs.Numbers.{number_text}
-use Rattle.pp_units.specs.Rounded.{IsNearest, nearest, rounded}
+use Rattle.pp_units.specs.Rounded.{IsNearest, nearest}
 use Rattle.pp_units.specs.Scales.{factor, family_of_scale, scale_of}
 use Rattle.pp_units.specs.Shown.{Shown, largest_within, picked, picked_by, forced, factor_of, suffix_of, is_same_kind}
 use Rattle.pp_laws.specs.Units.{RowsStay, UnitsSpell, PickedUnitsSpell, ForcedUnitsSpell}

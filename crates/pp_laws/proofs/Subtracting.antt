@@ -1,5 +1,5 @@
 -- A difference is a difference: a profile less a base, and less itself.
-use Rattle.std.proofs.Common.{◌≡◌, ℕ, zero, suc, ◌+◌, ◌<◌, ◌^◌, Bool, true, false, cond, not, ◌&&◌, ℤ, pos, neg_ℤ, ◌+ℤ◌, ◌-ℤ◌, List, [], ◌∷◌, ◌++◌, length, map, get_or, Option, Some, refl, sym, ap, ◌∙◌, subst, arith}
+use Rattle.std.proofs.Common.{◌≡◌, ℕ, suc, ◌<◌, ◌^◌, Bool, true, cond, not, ◌&&◌, ℤ, pos, neg_ℤ, ◌+ℤ◌, ◌-ℤ◌, List, [], ◌∷◌, ◌++◌, length, map, get_or, Some, refl, sym, ap, ◌∙◌, subst, arith}
 use Rattle.std.specs.Prelude.{filter}
 use Rattle.std.specs.List.{AllByRecursion, list_all}
 use Rattle.std.specs.Ordering.{int_eq}
@@ -15,7 +15,7 @@ use Rattle.pp_model.specs.Frames.{Written, text_of}
 use Rattle.pp_model.specs.Sizes.{value_in}
 use Rattle.pp_grain.specs.Keys.{key_cmp}
 use Rattle.pp_merge.specs.FirstSight.{distinct}
-use Rattle.pp_merge.specs.Described.{SampleText, location_found, mapping_text, sample_text, samples_found}
+use Rattle.pp_merge.specs.Described.{SampleText, location_found, mapping_text, sample_text}
 use Rattle.pp_merge.specs.Alike.{same_sample, first_alike}
 use Rattle.pp_merge.specs.Merge.{all_mappings, all_samples, contents, merged}
 use Rattle.pp_merge.specs.Scale.{negated, negated_sample}
@@ -31,7 +31,7 @@ use Rattle.pp_count.specs.Seeing.{seen_samples}
 use Rattle.pp_count.specs.Counted.{report_samples}
 use Rattle.pp_laws.specs.Merged.{HasValues, AddUp}
 use Rattle.pp_laws.specs.Bases.{less_base, BasesSubtract, NothingIsLeft}
-use Rattle.pp_laws.proofs.IntSums.{sum_over, sum_negated}
+use Rattle.pp_laws.proofs.IntSums.{sum_negated}
 use Rattle.pp_laws.proofs.Multiplying.{value_negated, if_negated}
 use Rattle.pp_laws.proofs.Grouped.{at_total, rows_wide, told_in, total_passing}
 use Rattle.pp_laws.proofs.Shards.{sum_total, says, sum_of_sources, figure_said, shards_add_up}

@@ -1,6 +1,6 @@
 -- What the stack of a sample stands for, told from what the sample says.
-use Rattle.std.proofs.Common.{◌≡◌, ℕ, zero, suc, ◌+◌, ◌-◌, ◌<◌, ◌^◌, ◌%◌, Bool, true, false, cond, not, ◌||◌, ◌==◌, ℤ, pos, List, [], ◌∷◌, ◌++◌, length, map, flat_map, All, Option, Some, None, option_map, refl, sym, ap, ◌∙◌, subst, arith}
-use Rattle.std.specs.Prelude.{Contains, find}
+use Rattle.std.proofs.Common.{◌≡◌, ℕ, suc, ◌+◌, ◌-◌, ◌<◌, ◌^◌, Bool, true, false, cond, not, ◌||◌, ◌==◌, pos, List, [], ◌∷◌, ◌++◌, length, map, All, Option, Some, None, option_map, refl, sym, ap, ◌∙◌, arith}
+use Rattle.std.specs.Prelude.{Contains}
 use Rattle.std.specs.List.{AllByRecursion, range_with_len}
 use Rattle.std.specs.Option.{option_map_or}
 use Rattle.std.proofs.lemmas.List.{map-append}
@@ -12,11 +12,10 @@ use Rattle.pp_model.specs.declared.profile.Mapping.{Mapping}
 use Rattle.pp_model.specs.declared.profile.Function.{Function}
 use Rattle.pp_model.specs.declared.profile.Profile.{Profile}
 use Rattle.pp_model.specs.Conditions.{no_location, location_at}
-use Rattle.pp_model.specs.Frames.{Written, written, text_at, text_of, text_number, name_number, file_number, object_number, function_with, mapping_with, location_with, written_line, nameless, written_lines, written_at, rows, row_frame, frames_from}
+use Rattle.pp_model.specs.Frames.{Written, written, text_at, text_number, name_number, file_number, object_number, function_with, mapping_with, location_with, written_line, written_lines, written_at, rows, row_frame, frames_from}
 use Rattle.pp_model.specs.Rules.{AreNumbered, location_ids}
 use Rattle.pp_model.proofs.CompactLemmas.{find_numbered, place_within, one_le_id}
 use Rattle.pp_model.proofs.FrameLemmas.{written_found}
-use Rattle.pp_grain.specs.Keys.{counts}
 use Rattle.pp_merge.specs.Described.{FunctionText, MappingText, LineText, LocationText, function_text, mapping_text, line_text, function_found, mapping_found, location_text, location_found, nowhere, less, plus, start_of}
 use Rattle.pp_merge.proofs.SettledLemmas.{found_holds}
 use Rattle.pp_count.specs.Seeing.{counted_frames}

@@ -1,7 +1,7 @@
 -- How large the figures of a report can be.
-use Rattle.std.proofs.Common.{◌≡◌, ℕ, ◌+◌, ◌≤◌, Bool, true, false, cond, ℤ, pos, nat_abs, List, [], ◌∷◌, Option, Some, None, option_map, refl, sym, ap, subst, ◌∙◌, ◌||◌, arith}
+use Rattle.std.proofs.Common.{◌≡◌, ℕ, ◌+◌, ◌≤◌, Bool, true, false, cond, nat_abs, List, [], ◌∷◌, Option, Some, None, option_map, refl, sym, ap, subst, ◌∙◌, ◌||◌, arith}
 use Rattle.std.specs.Prelude.{◌≤ℤ◌}
-use Rattle.std.specs.List.{filter, list_any, sum_by, cons_option}
+use Rattle.std.specs.List.{filter, list_any, cons_option}
 use Rattle.std.specs.Option.{is_some}
 use Rattle.std.proofs.lemmas.Bool.{false≢true}
 use Rattle.std.proofs.lemmas.List.Sums.{sum_by-cons}
@@ -13,12 +13,11 @@ use Rattle.pp_model.specs.Finders.{Finders}
 use Rattle.pp_model.specs.Frames.{Written}
 use Rattle.pp_grain.specs.Keys.{key_cmp}
 use Rattle.pp_count.specs.Column.{selected}
-use Rattle.pp_count.specs.Sums.{Seen, weighed, absolute, sum_where, has, leads, flat, cum}
-use Rattle.pp_count.specs.EdgeSums.{has_edge, edge_sum}
+use Rattle.pp_count.specs.Sums.{Seen, weighed, absolute, sum_where, has, leads, cum}
+use Rattle.pp_count.specs.EdgeSums.{has_edge}
 use Rattle.pp_count.specs.Seeing.{absolute_all, filtered_stack, seen_with, seen_samples}
 use Rattle.pp_count.specs.Counts.{is_base, filtered_samples, total_by, total_over, total_of}
 use Rattle.pp_count.proofs.Totals.{filter_size}
-use Rattle.pp_laws.specs.Figures.{whole}
 use Rattle.pp_laws.specs.Bounds.{FiguresWithin, SharedKeys, PercentagesWithin, EdgesWithin}
 use Rattle.pp_laws.proofs.Sampling.{sum_where-weighed, sum_where_above, sum_where_within, sum_where_all, sum_where_bound, none_weighed, leads_has, edge_caller, edge_callee}
 

@@ -1,5 +1,5 @@
 -- A difference is a difference: a profile less a base, and less itself.
-use Rattle.std.specs.Prelude.{◌≡◌, ℕ, ◌-ℤ◌, Bool, List, [], ◌∷◌, length, Option, Some}
+use Rattle.std.specs.Prelude.{◌≡◌, ℕ, ◌-ℤ◌, Bool, [], ◌∷◌, length, Option, Some}
 use Rattle.pp_model.specs.declared.config.Config.{Config}
 use Rattle.pp_model.specs.declared.profile.Profile.{Profile}
 use Rattle.pp_model.specs.declared.report.BaseKind.TheVariants.{Base}

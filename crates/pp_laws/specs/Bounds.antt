@@ -1,5 +1,5 @@
 -- How large the figures of a report can be.
-use Rattle.std.specs.Prelude.{◌≡◌, ℕ, ◌≤◌, ℤ, pos, ◌≤ℤ◌, nat_abs, Bool, true, false, List, Option}
+use Rattle.std.specs.Prelude.{◌≡◌, ℕ, ◌≤◌, pos, ◌≤ℤ◌, nat_abs, Bool, true, false, List, Option}
 use Rattle.std.specs.List.{AllByRecursion, list_any}
 use Rattle.pp_model.specs.declared.config.Config.{Config}
 use Rattle.pp_model.specs.declared.profile.Profile.{Profile}

@@ -1,5 +1,5 @@
 -- Focus and ignore of one pattern part the whole.
-use Rattle.std.specs.Prelude.{◌≡◌, ℕ, ◌+ℤ◌, Bool, List, ◌++◌, Option, Some, None}
+use Rattle.std.specs.Prelude.{◌≡◌, ℕ, ◌+ℤ◌, Bool, ◌++◌, Option, Some, None}
 use Rattle.std.specs.List.Sorted.{IsPermutation}
 use Rattle.pp_model.specs.declared.config.Config.{Config}
 use Rattle.pp_model.specs.declared.profile.Profile.{Profile}

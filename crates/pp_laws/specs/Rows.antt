@@ -1,5 +1,5 @@
 -- Trimming only hides.
-use Rattle.std.specs.Prelude.{◌≡◌, ℕ, List, Option}
+use Rattle.std.specs.Prelude.{◌≡◌, ℕ, Option}
 use Rattle.std.specs.List.{filter}
 use Rattle.pp_base.specs.declared.fraction.Fraction.{Fraction}
 use Rattle.pp_model.specs.declared.config.Config.{Config}

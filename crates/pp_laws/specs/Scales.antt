@@ -1,5 +1,5 @@
 -- Scaling scales, and a base counts against its source.
-use Rattle.std.specs.Prelude.{◌≡◌, ℕ, ◌<◌, ℤ, pos, neg_ℤ, ◌*ℤ◌, int_rem, Bool, List, length, Option, Some}
+use Rattle.std.specs.Prelude.{◌≡◌, ℕ, ◌<◌, pos, neg_ℤ, ◌*ℤ◌, int_rem, Bool, List, length, Option, Some}
 use Rattle.std.specs.List.{AllByRecursion}
 use Rattle.pp_model.specs.declared.config.Config.{Config}
 use Rattle.pp_model.specs.declared.profile.Profile.{Profile}
