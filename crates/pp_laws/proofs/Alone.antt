@@ -40,8 +40,8 @@ self_alike [] apart = tt
 self_alike (y ∷ ys) apart = (
   ap (λ b. unwrap_or (cond b (Some y) (find (same_mapping y) ys)) y) (mapping_laws.refl y),
   all_by (λ x. (first_alike ys x ≡ x) × (same_mapping y x ≡ false)) (λ x. first_alike (y ∷ ys) x ≡ x)
-  (λ x k. ap (λ b. unwrap_or (cond b (Some y) (find (same_mapping x) ys)) x) (mapping_laws.symm x y ∙ k.1) ∙ k.0) ys
-  (all_both (λ x. first_alike ys x ≡ x) (λ x. same_mapping y x ≡ false) ys (self_alike ys (IsDistinct-tail same_mapping y ys apart)) (IsDistinct-head same_mapping y ys apart)),
+      (λ x k. ap (λ b. unwrap_or (cond b (Some y) (find (same_mapping x) ys)) x) (mapping_laws.symm x y ∙ k.1) ∙ k.0) ys
+      (all_both (λ x. first_alike ys x ≡ x) (λ x. same_mapping y x ≡ false) ys (self_alike ys (IsDistinct-tail same_mapping y ys apart)) (IsDistinct-head same_mapping y ys apart)),
 )
 
 -- A written profile of settled contents: what it says of its mappings and of the places of its locations.

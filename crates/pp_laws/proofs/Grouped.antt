@@ -89,15 +89,15 @@ module _ (test : SampleText → Bool) where
         | true ↦ λ passes. elim (same_sample key item.0) as (λ b. same_sample key item.0 ≡ b
             → map row (cond b (item ∷ mine kept) (mine kept)) ≡ cond (test key) (map row (cond b (item ∷ mine items) (mine items))) []) [
               | true ↦ λ one.
-                let is : test key ≡ true = ap test ((sample_decides key item.0).0 one) ∙ passes in
-                ap (λ r. item.1 ∷ r) (rest ∙ ap (λ t. cond t (map row (mine items)) []) is) ∙ ap (λ t. cond t (item.1 ∷ map row (mine items)) []) (sym is)
+                  let is : test key ≡ true = ap test ((sample_decides key item.0).0 one) ∙ passes in
+                  ap (λ r. item.1 ∷ r) (rest ∙ ap (λ t. cond t (map row (mine items)) []) is) ∙ ap (λ t. cond t (item.1 ∷ map row (mine items)) []) (sym is)
               | false ↦ λ one. rest
             ] refl
         | false ↦ λ passes. elim (same_sample key item.0) as (λ b. same_sample key item.0 ≡ b
             → map row (mine kept) ≡ cond (test key) (map row (cond b (item ∷ mine items) (mine items))) []) [
               | true ↦ λ one.
-                let is : test key ≡ false = ap test ((sample_decides key item.0).0 one) ∙ passes in
-                rest ∙ ap (λ t. cond t (map row (mine items)) []) is ∙ ap (λ t. cond t (item.1 ∷ map row (mine items)) []) (sym is)
+                  let is : test key ≡ false = ap test ((sample_decides key item.0).0 one) ∙ passes in
+                  rest ∙ ap (λ t. cond t (map row (mine items)) []) is ∙ ap (λ t. cond t (item.1 ∷ map row (mine items)) []) (sym is)
               | false ↦ λ one. rest
             ] refl
       ] refl

@@ -44,8 +44,8 @@ parted a b c xs ys zs (inr is) moved =
     (elim c as (λ o. IsPermutation (cons_option o zs) (xs ++ cons_option o ys)) [
       | None ↦ moved
       | Some x ↦ IsPermutation-trans (x ∷ zs) (x ∷ (xs ++ ys)) (xs ++ x ∷ ys)
-        (IsPermutation-cons x zs (xs ++ ys) moved)
-        (IsPermutation-sym (xs ++ x ∷ ys) (x ∷ (xs ++ ys)) (IsPermutation-middle xs x ys))
+          (IsPermutation-cons x zs (xs ++ ys) moved)
+          (IsPermutation-sym (xs ++ x ∷ ys) (x ∷ (xs ++ ys)) (IsPermutation-middle xs x ys))
     ])
 
 module _ (find : Finder) (p : Profile) (f : Finders) (config : Config) (column : Option ℕ) where

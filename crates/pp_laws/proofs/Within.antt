@@ -56,9 +56,9 @@ absolute_seen p f config column (s ∷ ss) =
     ≡ absolute_all column config.divide_by (cond (is_some o) (s ∷ filtered_samples p f config ss) (filtered_samples p f config ss))) [
       | None ↦ absolute_seen p f config column ss
       | Some stack ↦
-        sum_by-cons (λ (t : Seen Written). nat_abs t.value) (seen_with p config column s stack) (seen_samples p f config column ss)
-        ∙ ap (λ n. nat_abs (selected column config.divide_by s) + n) (absolute_seen p f config column ss)
-        ∙ sym (sum_by-cons (λ (t : Sample). nat_abs (selected column config.divide_by t)) s (filtered_samples p f config ss))
+          sum_by-cons (λ (t : Seen Written). nat_abs t.value) (seen_with p config column s stack) (seen_samples p f config column ss)
+          ∙ ap (λ n. nat_abs (selected column config.divide_by s) + n) (absolute_seen p f config column ss)
+          ∙ sym (sum_by-cons (λ (t : Sample). nat_abs (selected column config.divide_by t)) s (filtered_samples p f config ss))
     ]
 
 none_left : (test : Sample → Bool) (ss : List Sample) → list_any test ss ≡ false → filter test ss ≡ []

@@ -19,8 +19,8 @@ pub record IsPlacedAs (a b : MappingText) : Type 0 where
   pub start : a.start ≡ b.start
   pub file : a.file ≡ b.file
 
--- The source's mappings keep file and start when it is merged with the others: they become mappings of the same file and
--- start as when it is merged alone.
+-- The source's mappings keep file and start when it is merged with the others: they become mappings of the same file
+-- and start as when it is merged alone.
 abbrev pub KeepsMappings : List Profile → Profile → Type 0
 KeepsMappings sources q =
     AllByRecursion

@@ -14,8 +14,8 @@ use Rattle.pp_graph.specs.Trim.{report_keys, shown_keys, is_heavy_key}
 abbrev pub with_fraction : Fraction → Config → Config
 with_fraction fraction config = record config { nodefraction = fraction }
 
--- The rows are those of the report without limit, by this fraction, that are heavy enough, in their order, and of these the
--- first. All figures are taken from the same samples and the same total.
+-- The rows are those of the report without limit, by this fraction, that are heavy enough, in their order, and of
+-- these the first. All figures are taken from the same samples and the same total.
 pub record OnlyHides (none : Fraction) (p : Profile) (f : Finders) (config : Config) (column : Option ℕ)
     (limit : ℕ) : Type 0 where
   pub rows : report_keys p f config column limit

@@ -36,7 +36,8 @@ FiguresScale =
     → AreScaled num den (report_samples p f config (Some column))
     (report_samples (scaled p column num den) f config (Some column))
 
--- Values of which den divides the value times num scale evenly, where reports divide by 1 and the sample has the column.
+-- Values of which den divides the value times num scale evenly, where reports divide by 1 and the sample has the
+-- column.
 abbrev pub WholeValuesScale : Type 0
 WholeValuesScale =
     (column num den : ℕ) (s : Sample)

@@ -20,14 +20,14 @@ pub fn shared_keys_are_whole()
 // What would break it: a `total_of` (pp_count, `Counts`) over other samples than the figures are taken from.
 /// No flat, cum or edge is further from 0 than the total, so no percentage is above 100 or below -100.
 ///
-/// Premise: no loaded sample carries the label `pprof::base` of the text `true`. With such samples the total is the base's
-/// alone, and a percentage may pass 100. Values may have either sign.
+/// Premise: no loaded sample carries the label `pprof::base` of the text `true`. With such samples the total is the
+/// base's alone, and a percentage may pass 100. Values may have either sign.
 pub fn percentages_are_within()
     ensures { PercentagesWithin }
 {}
 
-// What would break it: a `has_edge` (pp_count, `EdgeSums`) between keys that aren't kept, or an `edge_sum` that counts a
-// sample as often as the pair occurs in it.
+// What would break it: a `has_edge` (pp_count, `EdgeSums`) between keys that aren't kept, or an `edge_sum` that
+// counts a sample as often as the pair occurs in it.
 /// An edge is at least 0 and no heavier than the cum of its caller and that of its callee, whichever keys are kept.
 ///
 /// Premise: no selected value of a filtered sample is negative.

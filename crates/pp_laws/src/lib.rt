@@ -15,7 +15,9 @@ mod scales;
 mod units;
 
 pub use bases::differences_are_differences;
-pub use bounds::{edges_are_within, figures_are_within, percentages_are_within, shared_keys_are_whole};
+pub use bounds::{
+    edges_are_within, figures_are_within, percentages_are_within, shared_keys_are_whole,
+};
 pub use flats::nothing_is_lost;
 pub use merged::merged_reports_are_sums;
 pub use order::order_of_samples_is_free;

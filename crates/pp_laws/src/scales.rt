@@ -4,8 +4,8 @@ ghost use Rattle.pp_laws.specs.Scales.{FiguresScale, WholeValuesScale, BasesNega
 // What would break it: a `scaled` (pp_merge, `Scale`) that scales another column, or leaves out a sample.
 /// In a profile whose column is multiplied by num and divided by den each flat, cum and edge is so, too.
 ///
-/// Premise: each sample's selected value scales without a remainder. `whole` says where it does: reports divide by 1, and
-/// den divides the value times num.
+/// Premise: each sample's selected value scales without a remainder. `whole` says where it does: reports divide by 1,
+/// and den divides the value times num.
 pub fn scaling_scales()
     ensures figures { FiguresScale }
     ensures whole { WholeValuesScale }
