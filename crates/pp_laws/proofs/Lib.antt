@@ -15,3 +15,4 @@ pub mod Tagging
 pub mod Alone
 pub mod Shards
 pub mod Subtracting
+pub mod Labelled

@@ -37,7 +37,7 @@ use Rattle.pp_laws.proofs.Grouped.{at_total, rows_wide, told_in, total_passing}
 use Rattle.pp_laws.proofs.Shards.{sum_total, says, sum_of_sources, figure_said, shards_add_up}
 
 -- the negative of a sum
-total_negated : {X : Type 0} (f : X → ℤ) (xs : List X) → total adding_ℤ (λ x. neg_ℤ (f x)) xs ≡ neg_ℤ (total adding_ℤ f xs)
+pub total_negated : {X : Type 0} (f : X → ℤ) (xs : List X) → total adding_ℤ (λ x. neg_ℤ (f x)) xs ≡ neg_ℤ (total adding_ℤ f xs)
 total_negated f xs = sym (sum_total (λ x. neg_ℤ (f x)) xs) ∙ sum_negated f xs ∙ ap neg_ℤ (sum_total f xs)
 
 -- a negated profile has as many values
@@ -99,24 +99,24 @@ module _ (p : Profile) (values : HasValues (length p.sample_type) p) where
       (rows_wide p (negated Base p ∷ []) wide key)
       ∙ key_cancels key column)
 
-  nothing : (less_base p p).sample ≡ []
+  nothing : (less_base Base p p).sample ≡ []
   nothing = ap (map (written_sample (contents p (negated Base p ∷ []))))
       (none_counted (sum_of same_sample (length p.sample_type) (all_samples both)) (distinct same_sample (keys_of same_sample (all_samples both))) row_cancels)
 
 pub nothing_is_left : NothingIsLeft
 nothing_is_left p values = record {
   samples = nothing p values;
-  reports = λ f config column. ap (λ ss. weighed (seen_samples (less_base p p) f config column ss)) (nothing p values);
+  reports = λ f config column. ap (λ ss. weighed (seen_samples (less_base Base p p) f config column ss)) (nothing p values);
 }
 
 module _ (f : Finders) (config : Config) (column : ℕ) (divisor : config.divide_by ≡ 1) where
-  abbrev said : (List Written → Bool) → Profile → ℤ
+  abbrev pub said : (List Written → Bool) → Profile → ℤ
   said test q = sum_of_sources f config column divisor test q [] q
 
-  abbrev figure : (List Written → Bool) → Profile → ℤ
+  abbrev pub figure : (List Written → Bool) → Profile → ℤ
   figure test q = sum_where test (report_samples q f config (Some column))
 
-  alone : (test : List Written → Bool) (q : Profile) → AllByRecursion (λ m. m.start < 2 ^ 64) q.mapping → HasValues (length q.sample_type) q → column < length q.sample_type
+  pub alone : (test : List Written → Bool) (q : Profile) → AllByRecursion (λ m. m.start < 2 ^ 64) q.mapping → HasValues (length q.sample_type) q → column < length q.sample_type
       → figure test (merged q []) ≡ said test q
   alone test q starts values within =
       figure_said f config column divisor q []
@@ -132,11 +132,11 @@ module _ (f : Finders) (config : Config) (column : ℕ) (divisor : config.divide
       (all_any _ (λ s. if_negated (tells (told_in q [] q s)) (value_in s column) (value_in (negated_sample s) column) (value_negated s.value column)) q.sample)
       ∙ total_negated value q.sample
 
-  added_less : (x y z : ℤ) → z ≡ neg_ℤ y → x +ℤ (z +ℤ pos 0) ≡ x -ℤ y
+  pub added_less : (x y z : ℤ) → z ≡ neg_ℤ y → x +ℤ (z +ℤ pos 0) ≡ x -ℤ y
   added_less x y z is = omega (arith, ints, is)
 
   subtracts : (p base : Profile) → AddUp p (base ∷ []) config column → (test : List Written → Bool)
-      → figure test (less_base p base) ≡ figure test (merged p []) -ℤ figure test (merged base [])
+      → figure test (less_base Base p base) ≡ figure test (merged p []) -ℤ figure test (merged base [])
   subtracts p base can test =
       let values : HasValues (length base.sample_type) base = subst (λ n. HasValues n base) (sym can.types.1.0) can.values.1.0 in
       let within : column < length base.sample_type = subst (λ n. column < n) (sym can.types.1.0) can.within in

@@ -1,9 +1,11 @@
 -- How large the figures of a report can be.
-use Rattle.std.proofs.Common.{◌≡◌, ℕ, ◌+◌, ◌≤◌, Bool, true, false, cond, nat_abs, List, [], ◌∷◌, Option, Some, None, option_map, refl, sym, ap, subst, ◌∙◌, ◌||◌, arith}
-use Rattle.std.specs.Prelude.{◌≤ℤ◌}
-use Rattle.std.specs.List.{filter, list_any, cons_option}
+use Rattle.std.proofs.Common.{◌≡◌, ℕ, ◌+◌, ◌≤◌, Bool, true, false, cond, nat_abs, List, [], ◌∷◌, Option, Some, None, option_map, refl, sym, ap, subst, ◌∙◌, ◌||◌, arith, ℤ, pos, negsuc}
+use Rattle.std.specs.Prelude.{◌≤ℤ◌, int_div}
+use Rattle.std.specs.List.{AllByRecursion, filter, list_any, cons_option}
 use Rattle.std.specs.Option.{is_some}
 use Rattle.std.proofs.lemmas.Bool.{false≢true}
+use Rattle.std.proofs.lemmas.Int.{ints}
+use Rattle.pp_model.specs.Sizes.{value_in}
 use Rattle.std.proofs.lemmas.List.Sums.{sum_by-cons}
 use Rattle.pp_model.specs.declared.config.Config.{Config}
 use Rattle.pp_model.specs.declared.frame.Frame.{Frame}
@@ -18,7 +20,8 @@ use Rattle.pp_count.specs.EdgeSums.{has_edge}
 use Rattle.pp_count.specs.Seeing.{absolute_all, filtered_stack, seen_with, seen_samples}
 use Rattle.pp_count.specs.Counts.{is_base, filtered_samples, total_by, total_over, total_of}
 use Rattle.pp_count.proofs.Totals.{filter_size}
-use Rattle.pp_laws.specs.Bounds.{FiguresWithin, SharedKeys, PercentagesWithin, EdgesWithin}
+use Rattle.pp_laws.specs.Figures.{NoneNegative}
+use Rattle.pp_laws.specs.Bounds.{FiguresWithin, ValuesWithin, SharedKeys, PercentagesWithin, EdgesWithin}
 use Rattle.pp_laws.proofs.Sampling.{sum_where-weighed, sum_where_above, sum_where_within, sum_where_all, sum_where_bound, none_weighed, leads_has, edge_caller, edge_callee}
 
 pub figures_within : FiguresWithin
@@ -31,6 +34,20 @@ figures_within p f config column k none =
       under = subst (λ v. cum key_cmp (weighed seen) k ≤ℤ v) (sum_where-weighed (λ _. true) seen)
           (sum_where_within (has key_cmp k) (λ _. true) (λ ks is. refl) (weighed seen) above);
     }
+
+div_above : (v : ℤ) (d : ℕ) → pos 0 ≤ℤ v → pos 0 ≤ℤ int_div v (pos d)
+div_above (pos n) d above = omega (arith, ints)
+div_above (negsuc n) d above = absurd (omega (arith, ints, above))
+
+pub values_within : ValuesWithin
+values_within p f config column none = go p.sample none where
+  go : (ss : List Sample) → AllByRecursion (λ s. pos 0 ≤ℤ value_in s column) ss → NoneNegative (seen_samples p f config (Some column) ss)
+  go [] all = tt
+  go (s ∷ ss) all =
+      elim (filtered_stack p f config s) as (λ (o : Option (List Frame)). NoneNegative (cons_option (option_map (seen_with p config (Some column) s) o) (seen_samples p f config (Some column) ss))) [
+        | None ↦ go ss all.1
+        | Some stack ↦ (div_above (value_in s column) config.divide_by all.0, go ss all.1)
+      ]
 
 pub shared_keys : SharedKeys
 shared_keys p f config column k all =

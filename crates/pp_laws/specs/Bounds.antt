@@ -1,10 +1,11 @@
 -- How large the figures of a report can be.
-use Rattle.std.specs.Prelude.{◌≡◌, ℕ, ◌≤◌, pos, ◌≤ℤ◌, nat_abs, Bool, true, false, List, Option}
+use Rattle.std.specs.Prelude.{◌≡◌, ℕ, ◌≤◌, pos, ◌≤ℤ◌, nat_abs, Bool, true, false, List, Option, Some}
 use Rattle.std.specs.List.{AllByRecursion, list_any}
 use Rattle.pp_model.specs.declared.config.Config.{Config}
 use Rattle.pp_model.specs.declared.profile.Profile.{Profile}
 use Rattle.pp_model.specs.Finders.{Finders}
 use Rattle.pp_model.specs.Frames.{Written}
+use Rattle.pp_model.specs.Sizes.{value_in}
 use Rattle.pp_grain.specs.Keys.{key_cmp}
 use Rattle.pp_count.specs.Sums.{Seen, has, flat, cum}
 use Rattle.pp_count.specs.EdgeSums.{edge_sum}
@@ -25,6 +26,13 @@ FiguresWithin =
     (p : Profile) (f : Finders) (config : Config) (column : Option ℕ) (k : Written)
     → NoneNegative (seen_samples p f config column p.sample)
     → AreWithin (report_samples p f config column) (seen_samples p f config column p.sample) k
+
+-- No filtered sample has a negative value where none of the profile's values in the column is negative.
+abbrev pub ValuesWithin : Type 0
+ValuesWithin =
+    (p : Profile) (f : Finders) (config : Config) (column : ℕ)
+    → AllByRecursion (λ s. pos 0 ≤ℤ value_in s column) p.sample
+    → NoneNegative (seen_samples p f config (Some column) p.sample)
 
 -- A key that stands in each sample whose value isn't 0 has that sum as its cum, of whichever signs the values are.
 abbrev pub SharedKeys : Type 0

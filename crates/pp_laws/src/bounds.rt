@@ -1,12 +1,13 @@
 //! How large the figures of a report can be.
-ghost use Rattle.pp_laws.specs.Bounds.{FiguresWithin, SharedKeys, PercentagesWithin, EdgesWithin};
+ghost use Rattle.pp_laws.specs.Bounds.{FiguresWithin, ValuesWithin, SharedKeys, PercentagesWithin, EdgesWithin};
 
 // What would break it: a `cum` (pp_count, `Sums`) that counts a sample for each frame of its key and not once.
 /// Flat is at least 0, no more than cum, and cum no more than the sum of the filtered samples' values, for every key.
 ///
-/// Premise: no selected value of a filtered sample is negative.
+/// Premise: no selected value of a filtered sample is negative. `values` says that so it is where no value of the column is.
 pub fn figures_are_within()
-    ensures { FiguresWithin }
+    ensures figures { FiguresWithin }
+    ensures values { ValuesWithin }
 {}
 
 // What would break it: a `cum` (pp_count, `Sums`) that takes a part of a sample that has the key.

@@ -1,5 +1,8 @@
-use Rattle.pp_laws.proofs.Within.{figures_within}
+use Rattle.pp_laws.proofs.Within.{figures_within, values_within}
 use Rattle.pp_laws.proofs.bounds.figures_are_within.Goals as goal
 
-pub returns : goal.returns
-returns c = figures_within
+pub returns-clause-figures : goal.returns-clause-figures
+returns-clause-figures c = figures_within
+
+pub returns-clause-values : goal.returns-clause-values
+returns-clause-values c = values_within
