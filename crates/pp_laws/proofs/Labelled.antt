@@ -1,5 +1,5 @@
 -- A profile less a base whose samples are labelled.
-use Rattle.std.proofs.Common.{◌≡◌, ℕ, ◌+◌, ◌<◌, ◌^◌, ◌==◌, Bool, true, false, cond, not, ◌&&◌, ℤ, pos, neg_ℤ, ◌-ℤ◌, List, [], ◌∷◌, ◌++◌, length, map, Option, Some, None, option_map, refl, sym, ap, ◌∙◌, subst}
+use Rattle.std.proofs.Common.{◌≡◌, ℕ, ◌<◌, ◌==◌, Bool, true, false, cond, not, ◌&&◌, ℤ, pos, neg_ℤ, ◌-ℤ◌, List, [], ◌∷◌, ◌++◌, length, map, Option, Some, None, option_map, refl, sym, ap, ◌∙◌, subst}
 use Rattle.std.specs.List.{AllByRecursion}
 use Rattle.std.proofs.Math.ListN.{get_or-append}
 use Rattle.std.proofs.lemmas.Bool.{and_parts}
@@ -19,13 +19,13 @@ use Rattle.pp_model.proofs.RuleLemmas.{passes as rule_passes, text_below}
 use Rattle.std.specs.Option.{option_map_or}
 use Rattle.pp_tags.specs.TagFilters.{filter_in_force}
 use Rattle.pp_grain.specs.Keys.{key_cmp}
-use Rattle.pp_merge.specs.Described.{LabelText, MappingText, SampleText, FunctionText, mapping_text, function_text, mapping_found, function_found, location_text, location_found, nowhere}
+use Rattle.pp_merge.specs.Described.{LabelText, MappingText, SampleText, mapping_text, function_text, mapping_found, function_found, location_text, location_found, nowhere}
 use Rattle.pp_merge.specs.Alike.{first_alike}
 use Rattle.pp_merge.specs.Merge.{all_mappings, merged}
 use Rattle.pp_merge.specs.Scale.{negated, negated_sample, labelled_sample, base_label, base_texts}
 use Rattle.pp_merge.proofs.NumberedLemmas.{all_by, all_mapped}
 use Rattle.pp_merge.proofs.SettledLemmas.{all_any, found_holds}
-use Rattle.pp_merge.proofs.TotalLemmas.{total, total-map, total_same, adding_ℤ}
+use Rattle.pp_merge.proofs.TotalLemmas.{total-map, total_same, adding_ℤ}
 use Rattle.pp_count.specs.Sums.{has, leads}
 use Rattle.pp_count.specs.EdgeSums.{has_edge}
 use Rattle.pp_laws.specs.Merged.{HasValues, IsPlacedAs, KeepsMappings, AddUp}
@@ -107,7 +107,7 @@ module _ (b : Profile) (valid : NoRuleFails b) where
   keeps_each p [] texts keeps = tt
   keeps_each p (m ∷ ms) texts keeps = (
     subst (λ (x : MappingText × MappingText). IsPlacedAs x.0 x.1)
-    (λ i. (first_alike (sym (same_all p) i) (sym (same_mapping_text m texts.0) i), first_alike (sym same_alone i) (sym (same_mapping_text m texts.0) i))) keeps.0,
+        (λ i. (first_alike (sym (same_all p) i) (sym (same_mapping_text m texts.0) i), first_alike (sym same_alone i) (sym (same_mapping_text m texts.0) i))) keeps.0,
     keeps_each p ms texts.1 keeps.1,
   )
 
