@@ -7,6 +7,8 @@ use Rattle.std.proofs.Math.IntN.{+ℤ_idr}
 use Rattle.std.proofs.lemmas.List.{length-map}
 use Rattle.std.proofs.lemmas.List.Elements.{recursion_from_All}
 use Rattle.pp_model.specs.declared.config.Config.{Config}
+use Rattle.pp_model.specs.declared.config.Grain.{Grain}
+use Rattle.pp_model.specs.declared.config.Grain.TheVariants.{Functions, FileFunctions, Files, Lines, Addresses}
 use Rattle.pp_model.specs.declared.frame.Frame.{Frame}
 use Rattle.pp_model.specs.declared.profile.Mapping.{Mapping}
 use Rattle.pp_model.specs.declared.profile.Profile.{Profile}
@@ -43,11 +45,19 @@ use Rattle.pp_laws.proofs.Grouped.{grouped, told_in}
 use Rattle.pp_laws.proofs.Stages.{filtered-map}
 use Rattle.pp_laws.proofs.Tagging.{tags_told, tags_is, labels_tell, TellsText}
 use Rattle.pp_laws.proofs.Alone.{text_zero, stays, small}
-use Rattle.pp_laws.proofs.Telling.{told_from, told_counted, file_of, placed, counted_told, frames_told, same_told}
+use Rattle.pp_laws.proofs.Telling.{told_from, told_counted, file_of, placed, counted_told, frames_told, same_told, located_by}
 
 pub sum_total : {X : Type 0} (f : X → ℤ) (xs : List X) → sum_over f xs ≡ total adding_ℤ f xs
 sum_total f [] = refl
 sum_total f (x ∷ xs) = ap (λ v. f x +ℤ v) (sum_total f xs)
+
+-- a key doesn't tell more of an address than its grain does
+key_by : (grain : Grain) (showcolumns : Bool) (w : Written) → key_texts grain showcolumns w ≡ key_texts grain showcolumns (located_by grain w)
+key_by Functions showcolumns w = refl
+key_by FileFunctions showcolumns w = refl
+key_by Files showcolumns w = refl
+key_by Lines showcolumns w = refl
+key_by Addresses showcolumns w = refl
 
 -- Filters over what a sample says.
 module _ (f : Finders) (config : Config) where
@@ -63,34 +73,34 @@ module _ (f : Finders) (config : Config) where
   passes test xs = option_map_or test (shows xs) false
 
   module _ (p : Profile) where
-    keys_mapped : (stack : List Frame) → map (key_of_frame p config) stack ≡ map (key_texts config.grain config.showcolumns) (map (written p) stack)
+    keys_mapped : (stack : List Frame) → map (key_of_frame p config) stack ≡ map (key_texts config.grain config.showcolumns) (map (λ x. located_by config.grain (written p x)) stack)
     keys_mapped [] = refl
-    keys_mapped (x ∷ stack) = ap (λ ks. key_of_frame p config x ∷ ks) (keys_mapped stack)
+    keys_mapped (x ∷ stack) = λ i. key_by config.grain config.showcolumns (written p x) i ∷ keys_mapped stack i
 
-    keys_same : (stack : List Frame) → keys_of_stack p config stack ≡ keys_told (map (placed p) stack)
-    keys_same stack = keys_mapped (counted_frames config.noinlines stack) ∙ ap (map (key_texts config.grain config.showcolumns)) (counted_told p config.noinlines stack)
+    keys_same : (stack : List Frame) → keys_of_stack p config stack ≡ keys_told (map (placed config.grain p) stack)
+    keys_same stack = keys_mapped (counted_frames config.noinlines stack) ∙ ap (map (key_texts config.grain config.showcolumns)) (counted_told config.grain p config.noinlines stack)
 
     -- What a sample adds to a sum, by its tags and by what its stack is told as.
     pub part_told : (column : ℕ) (s : Sample) (test : List Written → Bool) → config.divide_by ≡ 1
         → option_map_or (part test) (seen p f config (Some column) s) (pos 0)
-        ≡ cond (passes_tags p f config s && passes test (map (placed p) (stack_of p s))) (value_in s column) (pos 0)
+        ≡ cond (passes_tags p f config s && passes test (map (placed config.grain p) (stack_of p s))) (value_in s column) (pos 0)
     part_told column s test by_itself =
         elim (passes_tags p f config s) as (λ (b : Bool). option_map_or (part test) (option_map (seen_with p config (Some column) s) (cond b (frames_of_sample p f s) None)) (pos 0)
-        ≡ cond (b && passes test (map (placed p) (stack_of p s))) (value_in s column) (pos 0)) [
+        ≡ cond (b && passes test (map (placed config.grain p) (stack_of p s))) (value_in s column) (pos 0)) [
           | false ↦ refl
           | true ↦ elim (frames_of_sample p f s) as (λ (o : Option (List Frame)). option_map_or (part test) (option_map (seen_with p config (Some column) s) o) (pos 0)
-              ≡ cond (option_map_or test (option_map keys_told (option_map (map (placed p)) o)) false) (value_in s column) (pos 0)) [
+              ≡ cond (option_map_or test (option_map keys_told (option_map (map (placed config.grain p)) o)) false) (value_in s column) (pos 0)) [
                 | None ↦ refl
                 | Some stack ↦ λ i. cond (test (keys_same stack i)) ((ap (λ d. int_div (value_in s column) (pos d)) by_itself ∙ by_one (value_in s column)) i) (pos 0)
               ]
               ∙ ap (λ (o : Option (List (ℕ × Written))). cond (option_map_or test (option_map keys_told o) false) (value_in s column) (pos 0))
-              (sym (filtered-map (placed p) (λ (x : ℕ × Written). x.1) f (stack_of p s)))
+              (sym (filtered-map (placed config.grain p) (λ (x : ℕ × Written). x.1) f (stack_of p s)))
         ]
 
 module _ (f : Finders) (config : Config) (column : ℕ) (divisor : config.divide_by ≡ 1) where
   -- the test of what a sample says
   abbrev pub says : (List Written → Bool) → SampleText → Bool
-  says test t = tags_told f config t.labels && passes f config test (told_from 0 t.locations)
+  says test t = tags_told f config t.labels && passes f config test (told_from config.grain 0 t.locations)
 
   -- a sum over what sources say
   abbrev pub sum_of_sources : (List Written → Bool) → Profile → List Profile → Profile → ℤ
@@ -134,7 +144,7 @@ module _ (f : Finders) (config : Config) (column : ℕ) (divisor : config.divide
     each_says test s fine =
         part_told f config all column s test divisor
         ∙ (λ i. cond (tags_is all s fine.1 f config i && passes f config test
-        (frames_told all (first_alike (all_mappings (all ∷ []))) (stays (contents p ps) settled) (text_zero all valid) compact.locations (small (contents p ps) settled) 0 s.location_id fine.0 i))
+        (frames_told all (first_alike (all_mappings (all ∷ []))) (stays (contents p ps) settled) (text_zero all valid) compact.locations (small (contents p ps) settled) config.grain 0 s.location_id fine.0 i))
         (value_in s column) (pos 0))
 
     -- A figure of the merged profile, by what its sources say.
@@ -151,19 +161,19 @@ module _ (f : Finders) (config : Config) (column : ℕ) (divisor : config.divide
         ∙ grouped p ps values (says test) column within
 
   -- Each source says in the merge of all what it says alone.
-  module _ (p : Profile) (ps : List Profile) (q : Profile) (keeps : KeepsMappings (p ∷ ps) q) where
+  module _ (p : Profile) (ps : List Profile) (q : Profile) (keeps : KeepsMappings config.grain (p ∷ ps) q) where
     abbrev among : MappingText → MappingText
     among = first_alike (all_mappings (p ∷ ps))
 
     abbrev alone : MappingText → MappingText
     alone = first_alike (all_mappings (q ∷ []))
 
-    same_starts : (id : ℕ) → start_of (option_map among (mapping_found q id)) ≡ start_of (option_map alone (mapping_found q id))
-    same_starts id = by (mapping_with q id) refl
+    same_starts : (id : ℕ) → config.grain ≡ Addresses → start_of (option_map among (mapping_found q id)) ≡ start_of (option_map alone (mapping_found q id))
+    same_starts id told = by (mapping_with q id) refl
       where
         by : (o : Option Mapping) → mapping_with q id ≡ o → start_of (option_map among (option_map (mapping_text q) o)) ≡ start_of (option_map alone (option_map (mapping_text q) o))
         by None is = refl
-        by (Some m) is = (found_holds _ (λ (x : Mapping). x.id == id) q.mapping keeps m is).0.start
+        by (Some m) is = (found_holds _ (λ (x : Mapping). x.id == id) q.mapping keeps m is).0.start told
 
     same_files : (id : ℕ) → file_of (option_map among (mapping_found q id)) ≡ file_of (option_map alone (mapping_found q id))
     same_files id = by (mapping_with q id) refl
@@ -173,7 +183,7 @@ module _ (f : Finders) (config : Config) (column : ℕ) (divisor : config.divide
         by (Some m) is = (found_holds _ (λ (x : Mapping). x.id == id) q.mapping keeps m is).0.file
 
     same_said : (test : List Written → Bool) (s : Sample) → cond (says test (told_in p ps q s)) (value_in s column) (pos 0) ≡ cond (says test (told_in q [] q s)) (value_in s column) (pos 0)
-    same_said test s = ap (λ xs. cond (tags_told f config (map (label_text (text_of q)) s.label) && passes f config test xs) (value_in s column) (pos 0)) (same_told q among alone same_starts same_files 0 s.location_id)
+    same_said test s = ap (λ xs. cond (tags_told f config (map (label_text (text_of q)) s.label) && passes f config test xs) (value_in s column) (pos 0)) (same_told config.grain q among alone same_starts same_files 0 s.location_id)
 
     source_said : AllByRecursion (λ m. m.start < 2 ^ 64) q.mapping → length q.sample_type ≡ length p.sample_type → HasValues (length p.sample_type) q → column < length p.sample_type
         → (test : List Written → Bool) → sum_of_sources test p ps q ≡ sum_where test (report_samples (merged q []) f config (Some column))
@@ -193,7 +203,7 @@ module _ (f : Finders) (config : Config) (column : ℕ) (divisor : config.divide
       figure_said p ps starts can.values can.within test
       ∙ sym (sum_total (sum_of_sources test p ps) (p ∷ ps))
       ∙ sum_each (sum_of_sources test p ps) (λ q. sum_where test (report_samples (merged q []) f config (Some column))) (p ∷ ps)
-      (all_by (λ q. (KeepsMappings (p ∷ ps) q) × ((AllByRecursion (λ m. m.start < 2 ^ 64) q.mapping) × ((length q.sample_type ≡ length p.sample_type) × (HasValues (length p.sample_type) q)))) _
+      (all_by (λ q. (KeepsMappings config.grain (p ∷ ps) q) × ((AllByRecursion (λ m. m.start < 2 ^ 64) q.mapping) × ((length q.sample_type ≡ length p.sample_type) × (HasValues (length p.sample_type) q)))) _
       (λ q of. source_said p ps q of.0 of.1.0 of.1.1.0 of.1.1.1 can.within test) (p ∷ ps)
       (all_both _ _ (p ∷ ps) can.mappings (all_both _ _ (p ∷ ps) can.starts (all_both _ _ (p ∷ ps) can.types can.values))))
 

@@ -5,6 +5,8 @@ use Rattle.std.specs.List.{AllByRecursion, range_with_len}
 use Rattle.std.specs.Option.{option_map_or}
 use Rattle.std.proofs.lemmas.List.{map-append}
 use Rattle.std.proofs.lemmas.List.Elements.{All-head, All-tail}
+use Rattle.pp_model.specs.declared.config.Grain.{Grain}
+use Rattle.pp_model.specs.declared.config.Grain.TheVariants.{Functions, FileFunctions, Files, Lines, Addresses}
 use Rattle.pp_model.specs.declared.frame.Frame.{Frame}
 use Rattle.pp_model.specs.declared.profile.Line.{Line}
 use Rattle.pp_model.specs.declared.profile.Location.{Location}
@@ -52,14 +54,38 @@ file_of mapping = option_map_or (λ m. m.file) mapping []
 abbrev pub told_location : LocationText → List Written
 told_location l = told_lines (told_address l) (file_of l.mapping) l.lines
 
+-- what keys of the grain tell of an address
+abbrev pub address_by : Grain → ℕ → ℕ
+address_by Functions address = 0
+address_by FileFunctions address = 0
+address_by Files address = 0
+address_by Lines address = 0
+address_by Addresses address = address
+
+-- the frame with what keys of the grain tell of its address
+abbrev pub located_by : Grain → Written → Written
+located_by grain w = record w { address = address_by grain w.address }
+
+each_by : (grain : Grain) (address : ℕ) (object : List ℕ) (lines : List LineText) → map (located_by grain) (map (told_line address object) lines) ≡ map (told_line (address_by grain address) object) lines
+each_by grain address object [] = refl
+each_by grain address object (line ∷ lines) = ap (λ r. told_line (address_by grain address) object line ∷ r) (each_by grain address object lines)
+
+lines_by : (grain : Grain) (address : ℕ) (object : List ℕ) (lines : List LineText) → map (located_by grain) (told_lines address object lines) ≡ told_lines (address_by grain address) object lines
+lines_by grain address object [] = refl
+lines_by grain address object (line ∷ lines) = each_by grain address object (line ∷ lines)
+
+-- the frames of a location, as keys of the grain see them
+abbrev pub told_by : Grain → LocationText → List Written
+told_by grain l = told_lines (address_by grain (told_address l)) (file_of l.mapping) l.lines
+
 -- a frame with the place of its location in the sample
 abbrev pub at_place : ℕ → Written → ℕ × Written
 at_place place w = (place, w)
 
 -- the frames of locations, of which the first has this place
-abbrev pub told_from : ℕ → List LocationText → List (ℕ × Written)
-told_from place [] = []
-told_from place (l ∷ ls) = map (at_place place) (told_location l) ++ told_from (place + 1) ls
+abbrev pub told_from : Grain → ℕ → List LocationText → List (ℕ × Written)
+told_from grain place [] = []
+told_from grain place (l ∷ ls) = map (at_place place) (told_by grain l) ++ told_from grain (place + 1) ls
 
 -- no frame of the same place follows
 abbrev pub ends_place : ℕ → List (ℕ × Written) → Bool
@@ -75,27 +101,27 @@ told_counted noinlines (x ∷ xs) =
 distance_back : (a s : ℕ) → a < 2 ^ 64 → a ≡ plus (less a s) s
 distance_back a s small = omega (arith, small)
 
-module _ (p : Profile) where
+module _ (grain : Grain) (p : Profile) where
   -- the frame with its place
   abbrev pub placed : Frame → ℕ × Written
-  placed f = (f.place, written p f)
+  placed f = (f.place, located_by grain (written p f))
 
-  pub counted_told : (noinlines : Bool) (stack : List Frame) → map (written p) (counted_frames noinlines stack) ≡ told_counted noinlines (map placed stack)
+  pub counted_told : (noinlines : Bool) (stack : List Frame) → map (λ x. located_by grain (written p x)) (counted_frames noinlines stack) ≡ told_counted noinlines (map placed stack)
   counted_told noinlines [] = refl
-  counted_told noinlines (f ∷ []) = elim (not noinlines || true) as (λ b. map (written p) (cond b (f ∷ []) []) ≡ cond b (written p f ∷ []) []) [ true ↦ refl | false ↦ refl ]
+  counted_told noinlines (f ∷ []) = elim (not noinlines || true) as (λ b. map (λ x. located_by grain (written p x)) (cond b (f ∷ []) []) ≡ cond b (located_by grain (written p f) ∷ []) []) [ true ↦ refl | false ↦ refl ]
   counted_told noinlines (f ∷ g ∷ stack) =
-      let rest : map (written p) (counted_frames noinlines (g ∷ stack)) ≡ told_counted noinlines (map placed (g ∷ stack)) = counted_told noinlines (g ∷ stack) in
-      elim (not noinlines || not (g.place == f.place)) as (λ b. map (written p) (cond b (f ∷ counted_frames noinlines (g ∷ stack)) (counted_frames noinlines (g ∷ stack)))
-      ≡ cond b (written p f ∷ told_counted noinlines (map placed (g ∷ stack))) (told_counted noinlines (map placed (g ∷ stack)))) [
-        | true ↦ ap (λ r. written p f ∷ r) rest
+      let rest : map (λ x. located_by grain (written p x)) (counted_frames noinlines (g ∷ stack)) ≡ told_counted noinlines (map placed (g ∷ stack)) = counted_told noinlines (g ∷ stack) in
+      elim (not noinlines || not (g.place == f.place)) as (λ b. map (λ x. located_by grain (written p x)) (cond b (f ∷ counted_frames noinlines (g ∷ stack)) (counted_frames noinlines (g ∷ stack)))
+      ≡ cond b (located_by grain (written p f) ∷ told_counted noinlines (map placed (g ∷ stack))) (told_counted noinlines (map placed (g ∷ stack)))) [
+        | true ↦ ap (λ r. located_by grain (written p f) ∷ r) rest
         | false ↦ rest
       ]
 
-  rows_placed : (place location : ℕ) (ns : List ℕ) → map placed (map (row_frame place location) ns) ≡ map (at_place place) (map (written p) (map (row_frame place location) ns))
+  rows_placed : (place location : ℕ) (ns : List ℕ) → map placed (map (row_frame place location) ns) ≡ map (at_place place) (map (located_by grain) (map (written p) (map (row_frame place location) ns)))
   rows_placed place location [] = refl
   rows_placed place location (n ∷ ns) = ap (λ r. placed (row_frame place location n) ∷ r) (rows_placed place location ns)
 
-  lines_placed : (place location : ℕ) (lines : List Line) → map placed (rows place location lines) ≡ map (at_place place) (map (written p) (rows place location lines))
+  lines_placed : (place location : ℕ) (lines : List Line) → map placed (rows place location lines) ≡ map (at_place place) (map (located_by grain) (map (written p) (rows place location lines)))
   lines_placed place location [] = refl
   lines_placed place location (line ∷ lines) = rows_placed place location (range_with_len 0 (length (line ∷ lines)))
 
@@ -164,28 +190,39 @@ module _ (p : Profile) (become : MappingText → MappingText) (self : (id : ℕ)
         length_ids = length_map (λ (x : Location). x.id) p.location
 
   -- The stack with its places is told from the locations.
-  pub frames_told : (place : ℕ) (ids : List ℕ) → All (Contains (location_ids p)) ids
-      → map (placed p) (frames_from p place ids) ≡ told_from place (map (location_found become p) ids)
-  frames_told place [] inside = refl
-  frames_told place (id ∷ ids) inside =
+  pub frames_told : (grain : Grain) (place : ℕ) (ids : List ℕ) → All (Contains (location_ids p)) ids
+      → map (placed grain p) (frames_from p place ids) ≡ told_from grain place (map (location_found become p) ids)
+  frames_told grain place [] inside = refl
+  frames_told grain place (id ∷ ids) inside =
       let here : Contains (location_ids p) id = All-head (Contains (location_ids p)) id ids inside in
-      map-append (placed p) (rows place (id - 1) (location_at p (id - 1)).line) (frames_from p (place + 1) ids)
-      ∙ (λ i. (lines_placed p place (id - 1) (location_at p (id - 1)).line
-      ∙ ap (map (at_place place)) (written_found p place id numbered here ∙ located id here)) i
-      ++ frames_told (place + 1) ids (All-tail (Contains (location_ids p)) id ids inside) i)
+      let said : LocationText = location_found become p id in
+      map-append (placed grain p) (rows place (id - 1) (location_at p (id - 1)).line) (frames_from p (place + 1) ids)
+      ∙ (λ i. (lines_placed grain p place (id - 1) (location_at p (id - 1)).line
+      ∙ ap (λ ws. map (at_place place) (map (located_by grain) ws)) (written_found p place id numbered here ∙ located id here)
+      ∙ ap (map (at_place place)) (lines_by grain (told_address said) (file_of said.mapping) said.lines)) i
+      ++ frames_told grain (place + 1) ids (All-tail (Contains (location_ids p)) id ids inside) i)
 
--- Where mappings become others of the same file and start, the stack that is told is the same.
-module _ (p : Profile) (first second : MappingText → MappingText)
-    (starts : (id : ℕ) → start_of (option_map first (mapping_found p id)) ≡ start_of (option_map second (mapping_found p id)))
+address_same : (grain : Grain) (distance a b : ℕ) → (grain ≡ Addresses → a ≡ b) → address_by grain (plus distance a) ≡ address_by grain (plus distance b)
+address_same Functions distance a b same = refl
+address_same FileFunctions distance a b same = refl
+address_same Files distance a b same = refl
+address_same Lines distance a b same = refl
+address_same Addresses distance a b same = ap (plus distance) (same refl)
+
+-- Where mappings become others of the same file, and where keys tell addresses of the same start, the same stack is told.
+module _ (grain : Grain) (p : Profile) (first second : MappingText → MappingText)
+    (starts : (id : ℕ) → grain ≡ Addresses → start_of (option_map first (mapping_found p id)) ≡ start_of (option_map second (mapping_found p id)))
     (files : (id : ℕ) → file_of (option_map first (mapping_found p id)) ≡ file_of (option_map second (mapping_found p id))) where
-  same_location_told : (id : ℕ) → told_location (location_found first p id) ≡ told_location (location_found second p id)
+  same_location_told : (id : ℕ) → told_by grain (location_found first p id) ≡ told_by grain (location_found second p id)
   same_location_told id =
-      elim (location_with p id) as (λ (o : Option Location). told_location (option_map_or (location_text first (function_found p) (mapping_found p)) o nowhere)
-      ≡ told_location (option_map_or (location_text second (function_found p) (mapping_found p)) o nowhere)) [
+      elim (location_with p id) as (λ (o : Option Location). told_by grain (option_map_or (location_text first (function_found p) (mapping_found p)) o nowhere)
+      ≡ told_by grain (option_map_or (location_text second (function_found p) (mapping_found p)) o nowhere)) [
         | None ↦ refl
-        | Some l ↦ λ i. told_lines (plus (less l.address (start_of (mapping_found p l.mapping_id))) (starts l.mapping_id i)) (files l.mapping_id i) (map (line_text (function_found p)) l.line)
+        | Some l ↦ λ i. told_lines
+            (address_same grain (less l.address (start_of (mapping_found p l.mapping_id))) (start_of (option_map first (mapping_found p l.mapping_id))) (start_of (option_map second (mapping_found p l.mapping_id))) (starts l.mapping_id) i)
+            (files l.mapping_id i) (map (line_text (function_found p)) l.line)
       ]
 
-  pub same_told : (place : ℕ) (ids : List ℕ) → told_from place (map (location_found first p) ids) ≡ told_from place (map (location_found second p) ids)
+  pub same_told : (place : ℕ) (ids : List ℕ) → told_from grain place (map (location_found first p) ids) ≡ told_from grain place (map (location_found second p) ids)
   same_told place [] = refl
   same_told place (id ∷ ids) = λ i. map (at_place place) (same_location_told id i) ++ same_told (place + 1) ids i

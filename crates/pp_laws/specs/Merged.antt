@@ -2,6 +2,8 @@
 use Rattle.std.specs.Prelude.{◌≡◌, ℕ, ◌<◌, ◌^◌, ℤ, Bool, List, [], ◌∷◌, length, map, Some}
 use Rattle.std.specs.List.{AllByRecursion}
 use Rattle.pp_model.specs.declared.config.Config.{Config}
+use Rattle.pp_model.specs.declared.config.Grain.{Grain}
+use Rattle.pp_model.specs.declared.config.Grain.TheVariants.{Addresses}
 use Rattle.pp_model.specs.declared.profile.Profile.{Profile}
 use Rattle.pp_model.specs.Finders.{Finders}
 use Rattle.pp_model.specs.Frames.{Written}
@@ -14,17 +16,17 @@ use Rattle.pp_count.specs.EdgeSums.{edge_sum}
 use Rattle.pp_count.specs.Counted.{report_samples}
 use Rattle.pp_graph.specs.Trimmed.{int_sum}
 
--- The mappings have one file and one start.
-pub record IsPlacedAs (a b : MappingText) : Type 0 where
-  pub start : a.start ≡ b.start
+-- The mappings have one file and, where keys tell addresses, one start.
+pub record IsPlacedAs (grain : Grain) (a b : MappingText) : Type 0 where
+  pub start : grain ≡ Addresses → a.start ≡ b.start
   pub file : a.file ≡ b.file
 
--- The source's mappings keep file and start when it is merged with the others: they become mappings of the same file
--- and start as when it is merged alone.
-abbrev pub KeepsMappings : List Profile → Profile → Type 0
-KeepsMappings sources q =
+-- The source's mappings keep their places when it is merged with the others: they become mappings of the same file, and
+-- where keys tell addresses of the same start, as when it is merged alone.
+abbrev pub KeepsMappings : Grain → List Profile → Profile → Type 0
+KeepsMappings grain sources q =
     AllByRecursion
-    (λ m. IsPlacedAs (first_alike (all_mappings sources) (mapping_text q m))
+    (λ m. IsPlacedAs grain (first_alike (all_mappings sources) (mapping_text q m))
     (first_alike (all_mappings (q ∷ [])) (mapping_text q m))) q.mapping
 
 -- each sample has a value for each of so many types
@@ -38,7 +40,7 @@ pub record AddUp (p : Profile) (ps : List Profile) (config : Config) (column : �
   pub types : AllByRecursion (λ q. length q.sample_type ≡ length p.sample_type) (p ∷ ps)
   pub values : AllByRecursion (HasValues (length p.sample_type)) (p ∷ ps)
   pub starts : AllByRecursion (λ q. AllByRecursion (λ m. m.start < 2 ^ 64) q.mapping) (p ∷ ps)
-  pub mappings : AllByRecursion (KeepsMappings (p ∷ ps)) (p ∷ ps)
+  pub mappings : AllByRecursion (KeepsMappings config.grain (p ∷ ps)) (p ∷ ps)
   pub divisor : config.divide_by ≡ 1
 
 -- the figure of each source alone, added up
