@@ -23,3 +23,4 @@ pub mod KeptStacks
 pub mod CountedPlaces
 pub mod SeenStacks
 pub mod WholeStacks
+pub mod SavedHeader

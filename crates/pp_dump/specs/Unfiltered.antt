@@ -1,11 +1,14 @@
--- What a report that has no filters counts on a saved profile.
+-- What a report that has no filters counts on a saved profile, and by which columns.
 use Rattle.std.specs.Prelude.{◌≡◌, ℕ, ◌<◌, Bool, List, [], length, Some, None}
 use Rattle.pp_model.specs.declared.config.Config.{Config}
 use Rattle.pp_model.specs.declared.profile.Profile.{Profile}
 use Rattle.pp_model.specs.Finders.{Finders}
 use Rattle.pp_model.specs.Frames.{Written}
+use Rattle.pp_merge.specs.Header.{header_of}
+use Rattle.pp_count.specs.Column.{column_of}
 use Rattle.pp_count.specs.Seeing.{seen_samples}
 use Rattle.pp_count.specs.Sums.{sum_where}
+use Rattle.pp_dump.specs.Saved.{patternless}
 
 -- no pattern is in force
 abbrev pub no_finders : Finders
@@ -43,3 +46,8 @@ KeepsSums p f config q =
     → column < length p.sample_type
     → sum_where test (seen_samples q no_finders d (Some column) q.sample)
     ≡ sum_where test (seen_samples p f config (Some column) p.sample)
+
+-- All that is said of q as a whole is what is said of p, but for the two patterns. So each text asks for the same column.
+pub record KeepsHeader (p q : Profile) : Type 0 where
+  pub header : header_of q [] ≡ patternless p
+  pub columns : (text : List ℕ) → column_of q text ≡ column_of p text

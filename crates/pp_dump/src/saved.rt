@@ -10,7 +10,7 @@ ghost use Rattle.pp_count.specs.Counts.{samples_at};
 ghost use Rattle.pp_count.specs.Seeing.{HoldsFilters, filtered_from};
 ghost use Rattle.pp_dump.specs.Saved.{saved};
 ghost use Rattle.pp_dump.specs.Stacks.{KeepsStacks};
-ghost use Rattle.pp_dump.specs.Unfiltered.{KeepsSums};
+ghost use Rattle.pp_dump.specs.Unfiltered.{KeepsSums, KeepsHeader};
 ghost use Rattle.pp_dump.specs.Places.{with_cut, ArePlaces, IsCutOf};
 
 use crate::copying::{same_locations, with_cut};
@@ -25,7 +25,8 @@ use std::alloc::Global;
 /// What the filters leave of the profile, merged alone: the samples with the frames and labels that they leave and with all
 /// their values, and the locations with the lines that are left. It has no patterns of its own, and the rest of the header
 /// stays. Saved again without filters it stays as it is. Of a profile that was merged it keeps the stacks that the filters
-/// leave, as they are written out: equal samples are one, and those whose values add up to 0 went. `Err` is want of memory.
+/// leave, as they are written out: equal samples are one, and those whose values add up to 0 went. So without filters a
+/// report adds up the same for each key. `Err` is want of memory.
 pub fn saved_profile(
     alloc: Global,
     l: &Loaded,
@@ -44,6 +45,7 @@ pub fn saved_profile(
         c.now.kept ≡ filtered_from l.now.profile f config 0 l.now.profile.sample →
         merged l.now.profile [] ≡ l.now.profile →
         IfOk result (KeepsSums l.now.profile f config) }
+    ensures header { IfOk result (KeepsHeader l.now.profile) }
     ensures valid { IfOk result (λ q. NoRuleFails q) }
     ensures again { IfOk result (λ q. merged q [] ≡ q) }
 {

@@ -3,13 +3,15 @@ use Rattle.pp_model.specs.declared.profile.Profile.{Profile}
 use Rattle.pp_model.specs.Rules.{NoRuleFails, IsCompact}
 use Rattle.pp_merge.specs.Merge.{contents, merged}
 use Rattle.pp_merge.specs.Settled.{IsSettled}
-use Rattle.pp_merge.specs.Written.{written}
+use Rattle.pp_merge.specs.Header.{header_of}
+use Rattle.pp_merge.specs.Written.{Contents, written}
 use Rattle.pp_merge.proofs.SettledLemmas.{settled_contents}
 use Rattle.pp_merge.proofs.WrittenAgain.{contents_again}
 use Rattle.pp_dump.specs.Places.{with_cut}
-use Rattle.pp_dump.specs.Saved.{saved_contents, saved}
+use Rattle.pp_dump.specs.Saved.{patternless, saved_contents, saved}
 use Rattle.pp_dump.specs.Stacks.{KeepsStacks}
 use Rattle.pp_dump.proofs.KeptStacks.{keeps_stacks}
+use Rattle.pp_dump.proofs.SavedHeader.{header_cut, same_column}
 use Rattle.pp_dump.proofs.SeenStacks.{keeps_sums}
 use Rattle.pp_dump.proofs.WholeStacks.{whole_left}
 use Rattle.pp_dump.proofs.CutContents.{contents_saved, starts_of}
@@ -57,3 +59,16 @@ returns-clause-sums c f config holds kept again =
     let valid = subst NoRuleFails c.get-valid.ensures.same c.get-valid.ensures.valid in
     keeps_sums c.args.l.now.profile f config q (returns-clause-stacks c f config holds kept again)
     (λ d tagfocus tagignore. whole_left q compact.locations d tagfocus tagignore valid)
+
+-- the header is that of what was cut, so the columns are those of the profile
+pub returns-clause-header : goal.returns-clause-header
+returns-clause-header c =
+    let is = c.in_ok-cut.ensures in
+    let p = c.args.l.now.profile in
+    let cut = with_cut p is.samples is.locations in
+    let starts = starts_of p is.samples is.locations is.starts in
+    let header : header_of c.in_ok-q.q [] ≡ patternless p =
+    ap (λ (q : Profile). header_of q []) (c.in_ok-q.ensures ∙ ap (λ (q : Profile). merged q []) is.is)
+    ∙ ap (λ (what : Contents). what.header) (contents_again (contents cut []) (settled_contents cut [] starts))
+    ∙ header_cut p is.samples is.locations is.valid in
+    record { header = header; columns = same_column p c.in_ok-q.q header }
