@@ -24,3 +24,5 @@ pub mod CountedPlaces
 pub mod SeenStacks
 pub mod WholeStacks
 pub mod SavedHeader
+pub mod SeenSums
+pub mod NaturalStacks

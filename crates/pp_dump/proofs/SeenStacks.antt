@@ -64,7 +64,7 @@ module _ (p : Profile) (f : Finders) (config : Config) (column : ℕ) (undivided
   one_more (Some x) rest = refl
 
   -- the samples that the filters leave, as the report sees them
-  seen_left : (xs : List Sample) → filter_map (seen p f config (Some column)) xs ≡ map as_seen (filter_map (λ s. option_map (left_stack p f s) (filtered_stack p f config s)) xs)
+  pub seen_left : (xs : List Sample) → filter_map (seen p f config (Some column)) xs ≡ map as_seen (filter_map (λ s. option_map (left_stack p f s) (filtered_stack p f config s)) xs)
   seen_left [] = refl
   seen_left (s ∷ xs) =
       (λ i. cons_option (one_seen s (filtered_stack p f config s) i) (seen_left xs i))

@@ -10,7 +10,7 @@ ghost use Rattle.pp_count.specs.Counts.{samples_at};
 ghost use Rattle.pp_count.specs.Seeing.{HoldsFilters, filtered_from};
 ghost use Rattle.pp_dump.specs.Saved.{saved};
 ghost use Rattle.pp_dump.specs.Stacks.{KeepsStacks};
-ghost use Rattle.pp_dump.specs.Unfiltered.{KeepsSums, KeepsHeader};
+ghost use Rattle.pp_dump.specs.Unfiltered.{KeepsSums, KeepsKeys, KeepsHeader};
 ghost use Rattle.pp_dump.specs.Places.{with_cut, ArePlaces, IsCutOf};
 
 use crate::copying::{same_locations, with_cut};
@@ -45,6 +45,10 @@ pub fn saved_profile(
         c.now.kept ≡ filtered_from l.now.profile f config 0 l.now.profile.sample →
         merged l.now.profile [] ≡ l.now.profile →
         IfOk result (KeepsSums l.now.profile f config) }
+    ensures keys { (f : Finders) → (config : Config) → HoldsFilters l.now v.now config f →
+        c.now.kept ≡ filtered_from l.now.profile f config 0 l.now.profile.sample →
+        merged l.now.profile [] ≡ l.now.profile →
+        IfOk result (KeepsKeys l.now.profile f config) }
     ensures header { IfOk result (KeepsHeader l.now.profile) }
     ensures valid { IfOk result (λ q. NoRuleFails q) }
     ensures again { IfOk result (λ q. merged q [] ≡ q) }

@@ -10,7 +10,9 @@ use Rattle.pp_merge.proofs.WrittenAgain.{contents_again}
 use Rattle.pp_dump.specs.Places.{with_cut}
 use Rattle.pp_dump.specs.Saved.{patternless, saved_contents, saved}
 use Rattle.pp_dump.specs.Stacks.{KeepsStacks}
-use Rattle.pp_dump.proofs.KeptStacks.{keeps_stacks}
+use Rattle.pp_dump.specs.Unfiltered.{KeepsSums, KeepsKeys}
+use Rattle.pp_dump.proofs.KeptStacks.{keeps_stacks, left_is}
+use Rattle.pp_dump.proofs.NaturalStacks.{keeps_keys}
 use Rattle.pp_dump.proofs.SavedHeader.{header_cut, same_column}
 use Rattle.pp_dump.proofs.SeenStacks.{keeps_sums}
 use Rattle.pp_dump.proofs.WholeStacks.{whole_left}
@@ -59,6 +61,26 @@ returns-clause-sums c f config holds kept again =
     let valid = subst NoRuleFails c.get-valid.ensures.same c.get-valid.ensures.valid in
     keeps_sums c.args.l.now.profile f config q (returns-clause-stacks c f config holds kept again)
     (λ d tagfocus tagignore. whole_left q compact.locations d tagfocus tagignore valid)
+
+-- and where no value is below 0 the keys that occur
+pub returns-clause-keys : goal.returns-clause-keys
+returns-clause-keys c f config holds kept again =
+    let is = c.in_ok-cut.ensures in
+    let p = c.args.l.now.profile in
+    let q = c.in_ok-q.q in
+    let compact = subst IsCompact c.get-valid.ensures.same c.get-valid.ensures.compact in
+    let valid = subst NoRuleFails c.get-valid.ensures.same c.get-valid.ensures.valid in
+    let cut = with_cut p is.samples is.locations in
+    let starts = starts_of p is.samples is.locations is.starts in
+    let same : contents cut [] ≡ saved_contents p f config =
+    contents_saved c.args.l.now c.args.v.now f config c.as_slice.result.now is.samples is.locations is.valid holds.found (c.as_slice.ensures ∙ kept) is.adds in
+    let saved_is : q ≡ saved p f config = returns-clause-saved c f config holds kept in
+    subst (KeepsKeys p f config) (sym saved_is)
+    (λ least d alike column within.
+    keeps_keys column p f config is.valid within least (subst IsSettled same (settled_contents cut [] starts)) (left_is p f config is.valid starts again)
+    (subst (KeepsSums p f config) saved_is (returns-clause-sums c f config holds kept again))
+    (λ e tagfocus tagignore. whole_left (saved p f config) (subst IsCompact saved_is compact).locations e tagfocus tagignore (subst NoRuleFails saved_is valid))
+    d alike)
 
 -- the header is that of what was cut, so the columns are those of the profile
 pub returns-clause-header : goal.returns-clause-header
