@@ -17,8 +17,9 @@ use pp_desk::{Desk, Objects, Stop};
 use std::alloc::Global;
 use std::thread::Threads;
 
-/// The whole program: what it does for the words after its name, over files, standard input, both outputs, a matcher of patterns and
-/// a gate. A report's text is whole before its first byte goes out, and the line of an ending is written last.
+/// The whole program: what it does for the words after its name, over files, standard
+/// input, both outputs, a matcher of patterns and a gate. A report's text is whole before
+/// its first byte goes out, and the line of an ending is written last.
 pub fn run<R: Threads + Sync, F: Files, I: Source, O: Sink, E: Sink, M: Matcher, G: Gate>(
     rt: &R,
     alloc: Global,

@@ -1,5 +1,6 @@
--- The header of a CPU profile (gperftools, "CPU Profile format", "Header"): word 1 is the number of words behind it that
--- belong to the header, word 2 the version of the format, word 3 the period of sampling in microseconds, word 4 padding.
+-- The header of a CPU profile (gperftools, "CPU Profile format", "Header"): word 1 is the
+-- number of words behind it that belong to the header, word 2 the version of the format,
+-- word 3 the period of sampling in microseconds, word 4 padding.
 use Rattle.std.specs.Prelude.{ℕ, ◌*◌, ◌==◌, ◌&&◌, List, nat_le, Ok}
 use Rattle.pp_legacy.specs.declared.fault.LegacyKind.TheVariants.{BadHeader}
 use Rattle.pp_legacy.specs.declared.header.Header.{Header}
@@ -10,7 +11,8 @@ use Rattle.pp_legacy.specs.Words.{word_at, behind_words}
 abbrev pub most_period : ℕ
 most_period = 9223372036854775
 
--- what words that begin with word 0 have as their header: the period in nanoseconds, and the first word behind the header
+-- what words that begin with word 0 have as their header: the period in nanoseconds, and
+-- the first word behind the header
 unfoldable pub header : List ℕ → Reading Header
 header ws = do
   slots ← word_at ws 1

@@ -1,5 +1,5 @@
--- CPU profiles as gperftools writes them (gperftools, "CPU Profile format"): a header, records, a trailer, and the text of
--- the process's mapped regions.
+-- CPU profiles as gperftools writes them (gperftools, "CPU Profile format"): a header,
+-- records, a trailer, and the text of the process's mapped regions.
 use Rattle.std.specs.Prelude.{ℕ, ◌*◌, ◌==◌, Bool, ◌&&◌, List, length, take, drop, nat_le, Ok}
 use Rattle.std.specs.List.{list_all}
 use Rattle.pp_model.specs.declared.profile.Profile.{Profile}

@@ -1,5 +1,5 @@
--- The records of a CPU profile (gperftools, "CPU Profile format", "Profile records", "Binary trailer"): how often a stack was
--- seen, the number of its addresses, and these, leaf first. The trailer is a record of the words 0, 1 and 0.
+-- The records of a CPU profile (gperftools, "CPU Profile format", "Profile records", "Binary trailer"): how often a
+-- stack was seen, the number of its addresses, and these, leaf first. The trailer is a record of the words 0, 1 and 0.
 use Rattle.std.specs.Prelude.{ℕ, zero, suc, ◌+◌, ◌-◌, ◌*◌, ◌^◌, ◌==◌, ℤ, pos, List, [], ◌∷◌, length, slice_range, nat_lt, nat_le, Option, Some, None, Ok, Err, if◌then◌else◌}
 use Rattle.std.specs.Option.{option_map_or}
 use Rattle.pp_legacy.specs.declared.fault.LegacyKind.TheVariants.{BadRecord, TooLarge}

@@ -1,5 +1,6 @@
--- The text behind the trailer (gperftools, "CPU Profile format", "Text list of mapped objects"; proc(5), /proc/pid/maps):
--- the mapped regions of the process, one a line, as in `00400000-00500000 r-xp 00000000 08:01 131    /bin/prog`.
+-- The text behind the trailer (gperftools, "CPU Profile format", "Text list of mapped
+-- objects"; proc(5), /proc/pid/maps): the mapped regions of the process, one a line, as
+-- in `00400000-00500000 r-xp 00000000 08:01 131    /bin/prog`.
 use Rattle.std.specs.Prelude.{ℕ, ◌+◌, ◌==◌, Bool, ◌&&◌, not, List, length, take, drop, slice_index, nat_lt, nat_le, Option, Some, None, if◌then◌else◌}
 use Rattle.std.specs.List.{prefix_len, slice_split, filter_map}
 use Rattle.std.specs.Char.{is_ascii_hexdigit}

@@ -18,7 +18,8 @@ same_function a b =
 abbrev pub identity : MappingText → List ℕ
 identity m = if bytes_eq [] m.build_id then m.file else m.build_id
 
--- Mappings are one where they are as long, begin at one place of the file, and map one file. No mapping is shorter than 0.
+-- Mappings are one where they are as long, begin at one place of the file, and map one
+-- file. No mapping is shorter than 0.
 abbrev pub same_mapping : MappingText → MappingText → Bool
 same_mapping a b =
     a.limit - a.start == b.limit - b.start

@@ -16,7 +16,8 @@ use Rattle.pp_merge.specs.Described.{FunctionText, MappingText, LineText, Locati
 use Rattle.pp_merge.specs.Alike.{same_function, equal_mapping, same_location}
 use Rattle.pp_merge.specs.Header.{TypeText, HeaderText}
 
--- What a merged profile says: its header, its samples with their values, and the mapping that comes first, if there is any.
+-- What a merged profile says: its header, its samples with their values, and the mapping
+-- that comes first, if there is any.
 pub record Contents : Type 0 where
   pub header : HeaderText
   pub samples : List (SampleText × List ℤ)

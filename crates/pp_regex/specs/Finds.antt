@@ -43,8 +43,8 @@ pub record RegexHeld : Type 0 where
   pub answers : List Answer
   pub unbuilt : ℕ
 
--- Why a matcher gave its answer, with the counts of unbuilt patterns before and after. Only a text that is no pattern is
--- refused without the count rising, and only a pattern raises it. The count stays at its counter's last value.
+-- Why a matcher gave its answer, with the counts of unbuilt patterns before and after. Only a text that is no pattern
+-- is refused without the count rising, and only a pattern raises it. The count stays at its counter's last value.
 abbrev pub HasCause : ℕ → ℕ → List ℕ → Judgement → Type 0
 HasCause old new text (Found verdicts) = IsPattern text × (new ≡ old)
 HasCause old new text Refused =

@@ -26,14 +26,14 @@ unit_text p column = option_map_or (λ t. text_of p t.unit) (type_of p column) [
 abbrev pub first_file : Profile → List ℕ
 first_file p = option_map_or (λ m. text_of p m.file) (slice_get p.mapping 0) []
 
--- The unit that is asked for, as values of the other one are printed in it. The outer None says that it measures something
--- else, the inner one that none is asked for.
+-- The unit that is asked for, as values of the other one are printed in it. The outer
+-- None says that it measures something else, the inner one that none is asked for.
 abbrev pub wanted_unit : List ℕ → List ℕ → Option (Option Shown)
 wanted_unit [] unit = Some None
 wanted_unit (b ∷ wanted) unit = option_map Some (forced (b ∷ wanted) unit)
 
--- The head of a report over a total, whose values are printed in the unit that is wanted, else in the one picked for the
--- total.
+-- The head of a report over a total, whose values are printed in the unit that is wanted,
+-- else in the one picked for the total.
 abbrev pub head_of : Profile → Option ℕ → Option Shown → ℕ → Facts
 head_of p column wanted total = record {
   file = first_file p;

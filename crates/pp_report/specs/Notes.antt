@@ -30,8 +30,8 @@ tag_notes config matched =
     ++ note_unless (slice_index_or matched 8 true) (codes "tagshow") config.tagshow
     ++ note_unless (slice_index_or matched 9 true) (codes "taghide") config.taghide
 
--- The notes by which options match: focus, ignore, hide, show, show_from, tagfocus, tagignore, prune_from (which is never
--- noted), tagshow and taghide.
+-- The notes by which options match: focus, ignore, hide, show, show_from, tagfocus,
+-- tagignore, prune_from (which is never noted), tagshow and taghide.
 unfoldable pub notes_by : Config → List Bool → List ℕ
 notes_by config matched = frame_notes config matched ++ tag_notes config matched
 

@@ -89,8 +89,8 @@ report_settled finds l report config (Ok settled) =
     finish finds l report config settled.showing
     >>= (λ outcome. Give (reported_with settled.notes outcome))
 
--- Makes a report: the refusals of its column and unit, the patterns in order, the notes, then the text. The configuration's
--- workers are not read.
+-- Makes a report: the refusals of its column and unit, the patterns in order, the notes,
+-- then the text. The configuration's workers are not read.
 unfoldable pub report_of : Finds → Loaded → Report → Config → Script Reported
 report_of finds l report config =
     prepare finds l report config >>= report_settled finds l report config
