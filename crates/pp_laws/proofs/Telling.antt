@@ -209,7 +209,7 @@ address_same Files distance a b same = refl
 address_same Lines distance a b same = refl
 address_same Addresses distance a b same = ap (plus distance) (same refl)
 
--- Where mappings become others of the same file, and where keys tell addresses of the same start, the same stack is told.
+-- Where mappings become others of the same file, and of the same start where keys tell addresses, one stack is told.
 module _ (grain : Grain) (p : Profile) (first second : MappingText → MappingText)
     (starts : (id : ℕ) → grain ≡ Addresses → start_of (option_map first (mapping_found p id)) ≡ start_of (option_map second (mapping_found p id)))
     (files : (id : ℕ) → file_of (option_map first (mapping_found p id)) ≡ file_of (option_map second (mapping_found p id))) where

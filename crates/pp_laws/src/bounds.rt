@@ -4,7 +4,8 @@ ghost use Rattle.pp_laws.specs.Bounds.{FiguresWithin, ValuesWithin, SharedKeys, 
 // What would break it: a `cum` (pp_count, `Sums`) that counts a sample for each frame of its key and not once.
 /// Flat is at least 0, no more than cum, and cum no more than the sum of the filtered samples' values, for every key.
 ///
-/// Premise: no selected value of a filtered sample is negative. `values` says that so it is where no value of the column is.
+/// Premise: no selected value of a filtered sample is negative. `values` says that so it is where no value of the column
+/// is.
 pub fn figures_are_within()
     ensures figures { FiguresWithin }
     ensures values { ValuesWithin }
@@ -19,7 +20,7 @@ pub fn shared_keys_are_whole()
 {}
 
 // What would break it: a `total_of` (pp_count, `Counts`) over other samples than the figures are taken from.
-/// No flat, cum or edge is further from 0 than the total, so no percentage is above 100 or below -100.
+/// No flat, cum or edge is further from 0 than the total that percentages are taken of.
 ///
 /// Premise: no loaded sample carries the label `pprof::base` of the text `true`. With such samples the total is the
 /// base's alone, and a percentage may pass 100. Values may have either sign.
