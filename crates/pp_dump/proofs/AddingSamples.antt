@@ -26,62 +26,11 @@ use Rattle.pp_tags.specs.Labels.{key_text}
 use Rattle.pp_tags.specs.TagFilters.{shown_labels, is_shown}
 use Rattle.pp_merge.proofs.NumberedLemmas.{all_by, all_pass}
 use Rattle.pp_merge.proofs.SettledLemmas.{all_filtered}
-use Rattle.pp_dump.specs.Saved.{by_place, cut_location}
-use Rattle.pp_dump.specs.Places.{without_id, entry_in, ArePlaces, IsEntry, IsWithin, AreEntries, IsCutSample, Spread, spread_in, spread_of, spread_left, AddsSamples}
-use Rattle.pp_dump.proofs.PlacesLemmas.{all_with}
-
--- locations stay as they are where others are added behind them
-module _ (old new : List Location) (front : IsFront old new) where
-  longer : length old ≤ length new
-  longer = omega (arith, ap length front.1, length-append old front.0)
-
-  within_still : (id : ℕ) → IsWithin old id → IsWithin new id
-  within_still id is = record { positive = is.positive; within = omega (arith, longer, is.within) }
-
-  entry_still : (id : ℕ) → IsWithin old id → entry_in new id ≡ entry_in old id
-  entry_still id is =
-      ap (λ (ls : List Location). entry_in ls id) front.1
-      ∙ ap without_id (get_or_append_left old front.0 no_location (id - 1) (omega (arith, is.positive, is.within)))
-
-  pub entries_still : (ids : List ℕ) → AllByRecursion (IsWithin old) ids → map (entry_in new) ids ≡ map (entry_in old) ids
-  entries_still [] all = refl
-  entries_still (id ∷ ids) all = λ i. entry_still id all.0 i ∷ entries_still ids all.1 i
-
-  pub all_within_still : (ids : List ℕ) → AllByRecursion (IsWithin old) ids → AllByRecursion (IsWithin new) ids
-  all_within_still = all_by (IsWithin old) (IsWithin new) within_still
-
-  sample_still : (p : Profile) (s : Sample) → IsCutSample p old s → IsCutSample p new s
-  sample_still p s is = record { within = all_within_still s.location_id is.within; texts = is.texts; values = is.values; typed = is.typed }
-
-  pub samples_still : (p : Profile) (samples : List Sample) → AllByRecursion (IsCutSample p old) samples → AllByRecursion (IsCutSample p new) samples
-  samples_still p = all_by (IsCutSample p old) (IsCutSample p new) (sample_still p)
-
-  spread_still : (p : Profile) (s : Sample) → IsCutSample p old s → spread_in new s ≡ spread_in old s
-  spread_still p s is = ap (λ (ls : List Location). record { locations = ls; labels = s.label; values = s.value }) (entries_still s.location_id is.within)
-
-  pub spreads_still : (p : Profile) (samples : List Sample) → AllByRecursion (IsCutSample p old) samples → map (spread_in new) samples ≡ map (spread_in old) samples
-  spreads_still p [] all = refl
-  spreads_still p (s ∷ samples) all = λ i. spread_still p s all.0 i ∷ spreads_still p samples all.1 i
-
--- a front of a front
-pub front_front : {A : Type 0} (a b c : List A) → IsFront a b → IsFront b c → IsFront a c
-front_front a b c first second = (first.0 ++ second.0, second.1 ∙ ap (λ xs. xs ++ second.0) first.1 ∙ append_assoc a first.0 second.0)
-
--- the entries of ids, with one more
-pub entries_more : (old new wanted : List Location) (location : Location) (ids : List ℕ) (id : ℕ) → IsFront old new → AreEntries old wanted ids
-    → IsEntry new location id → AreEntries new (wanted ++ location ∷ []) (ids ++ id ∷ [])
-entries_more old new wanted location ids id front are is = record {
-  within = all_with (IsWithin new) ids id (all_within_still old new front ids are.within) (record { positive = is.positive; within = is.within });
-  same =
-      map-append (entry_in new) ids (id ∷ [])
-      ∙ (λ i. (entries_still old new front ids are.within ∙ are.same) i ++ is.same i ∷ [])
-      ∙ sym (map-append without_id wanted (location ∷ []));
-}
-
--- what holds of both lists
-pub all_append : {A : Type 0} (P : A → Type 0) (xs ys : List A) → AllByRecursion P xs → AllByRecursion P ys → AllByRecursion P (xs ++ ys)
-all_append P [] ys first second = second
-all_append P (x ∷ xs) ys first second = (first.0, all_append P xs ys first.1 second)
+use Rattle.pp_restack.specs.Stacks.{by_place, cut_location}
+use Rattle.pp_restack.specs.Places.{ArePlaces, AreEntries, IsCutSample, spread_in}
+use Rattle.pp_restack.proofs.Placing.{front_front, samples_still, spreads_still, all_append}
+use Rattle.pp_restack.proofs.CutValid.{some_type}
+use Rattle.pp_dump.specs.Places.{spread_of, spread_left, AddsSamples}
 
 -- nothing is added for samples of which nothing is left
 pub adds_none : (l : Loaded) (v : Verdicts) (samples before : List Sample) (locations : List Location) → ArePlaces l.profile locations
@@ -111,60 +60,6 @@ adds_both l v first second a b c x y z one two =
           ∙ (λ i. (spreads_still y z two.front p one.added one.each ∙ one.are f finds) i ++ two.are f finds i)
           ∙ sym (flat_map-append (spread_left p f) first second);
     }
-
--- The groups of a stack down to this rest have their locations.
-pub record PlacedTo (p : Profile) (old : List Location) (stack rest : List Frame) (new : List Location) (ids : List ℕ) : Type 0 where
-  pub of_profile : All (IsFrameOf p) rest
-  pub places : ArePlaces p new
-  pub front : IsFront old new
-  pub groups : List (List Frame)
-  pub whole : by_place stack ≡ groups ++ by_place rest
-  pub entries : AreEntries new (map (cut_location p) groups) ids
-
--- none of them
-pub placed_none : (p : Profile) (old : List Location) (stack : List Frame) → All (IsFrameOf p) stack → ArePlaces p old → PlacedTo p old stack stack old []
-placed_none p old stack all places = record {
-  of_profile = all;
-  places = places;
-  front = ([], sym (append-nil old));
-  groups = [];
-  whole = refl;
-  entries = record { within = tt; same = refl };
-}
-
--- one group more
-pub placed_more : (p : Profile) (old : List Location) (stack rest : List Frame) (now new : List Location) (ids : List ℕ) (count id : ℕ)
-    → PlacedTo p old stack rest now ids → by_place rest ≡ take count rest ∷ by_place (drop count rest)
-    → ArePlaces p new → IsFront now new → IsEntry new (cut_location p (take count rest)) id → PlacedTo p old stack (drop count rest) new (ids ++ id ∷ [])
-placed_more p old stack rest now new ids count id so_far first places front entry = record {
-  of_profile = All-drop (IsFrameOf p) count rest so_far.of_profile;
-  places = places;
-  front = front_front old now new so_far.front front;
-  groups = so_far.groups ++ take count rest ∷ [];
-  whole =
-      so_far.whole ∙ ap (λ (groups : List (List Frame)). so_far.groups ++ groups) first
-      ∙ sym (append_assoc so_far.groups (take count rest ∷ []) (by_place (drop count rest)));
-  entries =
-      subst (λ (wanted : List Location). AreEntries new wanted (ids ++ id ∷ [])) (sym (map-append (cut_location p) so_far.groups (take count rest ∷ [])))
-      (entries_more now new (map (cut_location p) so_far.groups) (cut_location p (take count rest)) ids id front so_far.entries entry);
-}
-
--- all of them
-pub placed_all : (p : Profile) (old : List Location) (stack rest : List Frame) (new : List Location) (ids : List ℕ) → length rest ≡ 0
-    → PlacedTo p old stack rest new ids → AreEntries new (map (cut_location p) (by_place stack)) ids
-placed_all p old stack [] new ids none so_far =
-    subst (λ (groups : List (List Frame)). AreEntries new (map (cut_location p) groups) ids) (sym (append-nil so_far.groups) ∙ sym so_far.whole) so_far.entries
-placed_all p old stack (f ∷ rest) new ids none so_far = absurd (omega (arith, none))
-
--- a profile with a sample has a column
-some_type : (p : Profile) → NoRuleFails p → 0 < length p.sample → 0 < length p.sample_type
-some_type p valid some = by (length p.sample == 0) refl (nat_lt 0 (length p.sample_type)) refl valid.untyped
-  where
-    by : (none : Bool) → (length p.sample == 0) ≡ none → (typed : Bool) → nat_lt 0 (length p.sample_type) ≡ typed → zero_unless (none || typed) ≡ None
-        → 0 < length p.sample_type
-    by true empty typed is rule = absurd (omega (arith, eqb-true (length p.sample) 0 empty, some))
-    by false empty true is rule = ltb-true 0 (length p.sample_type) is
-    by false empty false is rule = absurd (none-some 0 (sym rule))
 
 -- the shown ones of labels that name texts do too
 shown_texts : (p : Profile) (f : Finders) (labels : List Label) → list_all (label_has_texts p) labels ≡ true → list_all (label_has_texts p) (shown_labels p f labels) ≡ true
@@ -204,8 +99,3 @@ adds_one l v s made stack before after old new valid (k, within, at) (some, find
           (λ i. record { locations = entries.same i; labels = labels f finds i; values = values i } ∷ [])
           ∙ ap (λ (o : Option (List Frame)). option_map_or (spread_of p f s) o [] ++ []) (left f finds);
     }
-
--- what follows on success
-pub then_ok : {T E : Type 0} {P Q : Type 0} (r : Result T E) → (P → Q) → OnOk r P → OnOk r Q
-then_ok (Ok x) step h = step h
-then_ok (Err e) step h = tt

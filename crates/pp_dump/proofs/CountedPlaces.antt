@@ -7,8 +7,8 @@ use Rattle.pp_model.specs.declared.frame.Frame.{Frame}
 use Rattle.pp_model.specs.declared.profile.Profile.{Profile}
 use Rattle.pp_model.specs.Frames.{Written, written}
 use Rattle.pp_count.specs.Seeing.{counted_frames}
-use Rattle.pp_dump.specs.Saved.{by_place, grouped_with}
-use Rattle.pp_dump.proofs.Grouping.{begins}
+use Rattle.pp_restack.specs.Stacks.{by_place, grouped_with}
+use Rattle.pp_restack.proofs.Grouping.{begins}
 
 -- the last of these
 abbrev pub last_only : List Written → List Written

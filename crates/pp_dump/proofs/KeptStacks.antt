@@ -35,7 +35,7 @@ use Rattle.pp_merge.proofs.WrittenPlaces.{distance_there}
 use Rattle.pp_merge.proofs.WrittenValid.{seen_locations}
 use Rattle.pp_dump.specs.Saved.{cut_sample, cut_samples, saved_contents, saved}
 use Rattle.pp_dump.specs.Stacks.{PlaceText, StackText, whole_stacks, left_stacks, without_values, KeepsStacks}
-use Rattle.pp_dump.proofs.CutValid.{text_zero}
+use Rattle.pp_restack.proofs.CutValid.{text_zero}
 use Rattle.pp_dump.proofs.PlaceTexts.{place_of}
 use Rattle.pp_dump.proofs.StackTexts.{stack_text, with_stack, whole_back, left_are}
 

@@ -1,11 +1,8 @@
 pub mod Appending
 pub mod Counting
 pub mod KeptSamples
-pub mod PlacesLemmas
-pub mod Grouping
 pub mod SomeFinders
 pub mod AddingSamples
-pub mod CutValid
 pub mod CutContents
 pub mod TagNamesLemmas
 pub mod Slots

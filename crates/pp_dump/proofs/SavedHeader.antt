@@ -14,9 +14,9 @@ use Rattle.pp_model.specs.Rules.{NoRuleFails}
 use Rattle.pp_stack.proofs.ToldLemmas.{position-map}
 use Rattle.pp_count.specs.Column.{last_of, first_else, type_named, column_of}
 use Rattle.pp_merge.specs.Header.{TypeText, HeaderText, type_text, first_nonempty, header_of}
-use Rattle.pp_dump.specs.Saved.{patternless}
-use Rattle.pp_dump.specs.Places.{with_cut}
-use Rattle.pp_dump.proofs.CutValid.{text_zero}
+use Rattle.pp_restack.specs.Stacks.{patternless}
+use Rattle.pp_restack.specs.Places.{with_cut}
+use Rattle.pp_restack.proofs.CutValid.{text_zero}
 
 -- The header of the profile that is merged alone.
 pub header_cut : (p : Profile) (samples : List Sample) (locations : List Location) → NoRuleFails p → header_of (with_cut p samples locations) [] ≡ patternless p

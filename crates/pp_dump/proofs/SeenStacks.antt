@@ -16,7 +16,7 @@ use Rattle.pp_count.specs.Seeing.{counted_frames, keys_of_stack, filtered_stack,
 use Rattle.pp_count.specs.Sums.{Seen, sum_where}
 use Rattle.pp_merge.specs.Totals.{value_passing, sum_passing}
 use Rattle.pp_merge.proofs.Agreement.{map_map}
-use Rattle.pp_dump.specs.Saved.{by_place}
+use Rattle.pp_restack.specs.Stacks.{by_place}
 use Rattle.pp_dump.specs.Stacks.{PlaceText, StackText, left_place, left_stack, left_stacks, whole_stacks, KeepsStacks}
 use Rattle.pp_dump.specs.Unfiltered.{no_finders, KeepsSums}
 use Rattle.pp_dump.proofs.CountedPlaces.{counted_places, counted_stack}

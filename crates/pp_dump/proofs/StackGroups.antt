@@ -19,7 +19,7 @@ use Rattle.pp_model.proofs.FrameLemmas.{rows_of_profile}
 use Rattle.pp_stack.specs.Filters.{frames_of_sample}
 use Rattle.pp_merge.proofs.NumberedLemmas.{all_by, all_mapped}
 use Rattle.pp_merge.proofs.SettledLemmas.{all_join, all_any, all_filtered}
-use Rattle.pp_dump.specs.Saved.{by_place, grouped_with}
+use Rattle.pp_restack.specs.Stacks.{by_place, grouped_with}
 use Rattle.pp_dump.proofs.FilteredParts.{filters_keep}
 
 -- what holds of each item holds of those in front and of those behind

@@ -25,9 +25,10 @@ use Rattle.pp_merge.proofs.NumberedLemmas.{all_by, all_both}
 use Rattle.pp_merge.proofs.WrittenAgain.{labels_back}
 use Rattle.pp_merge.proofs.WrittenPlaces.{location_there, mapping_there, lines_there, mappings_stay, addresses_small}
 use Rattle.pp_merge.proofs.WrittenValid.{texts_of_samples, seen_locations, valid_written}
-use Rattle.pp_dump.specs.Saved.{by_place, cut_location, cut_text, cut_sample}
+use Rattle.pp_restack.specs.Stacks.{by_place, cut_location, cut_text}
+use Rattle.pp_dump.specs.Saved.{cut_sample}
 use Rattle.pp_dump.specs.Stacks.{PlaceText, StackText, place_text, whole_place, left_place, whole_stack, left_stack, whole_stacks}
-use Rattle.pp_dump.proofs.CutValid.{text_zero}
+use Rattle.pp_restack.proofs.CutValid.{text_zero}
 use Rattle.pp_dump.proofs.PlaceTexts.{place_of, place_with, written_lines_are, group_frames}
 use Rattle.pp_dump.proofs.StackGroups.{IsGroup, Coheres, are_groups, left_coheres}
 

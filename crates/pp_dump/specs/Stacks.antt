@@ -14,7 +14,7 @@ use Rattle.pp_count.specs.Seeing.{filtered_stack}
 use Rattle.pp_merge.specs.Described.{MappingText, LineText, LabelText, function_found, mapping_found, line_text, label_text}
 use Rattle.pp_merge.specs.Sums.{counts}
 use Rattle.pp_merge.specs.Totals.{sum_passing}
-use Rattle.pp_dump.specs.Saved.{by_place, cut_location}
+use Rattle.pp_restack.specs.Stacks.{by_place, cut_location}
 
 -- A place of a stack: the mapping, address and folded flag of its location, the lines that are left of it, and the frames.
 pub record PlaceText : Type 0 where

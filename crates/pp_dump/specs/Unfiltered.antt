@@ -9,7 +9,7 @@ use Rattle.pp_merge.specs.Header.{header_of}
 use Rattle.pp_count.specs.Column.{column_of}
 use Rattle.pp_count.specs.Seeing.{seen_samples}
 use Rattle.pp_count.specs.Sums.{weighed, sum_where, absolute}
-use Rattle.pp_dump.specs.Saved.{patternless}
+use Rattle.pp_restack.specs.Stacks.{patternless}
 
 -- no pattern is in force
 abbrev pub no_finders : Finders

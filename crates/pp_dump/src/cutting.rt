@@ -1,17 +1,15 @@
 //! What the filters of a report leave of the samples of a profile.
-ghost use Rattle.std.specs.Prelude.{◌≡◌, ◌<◌, ◌≤◌, ◌∷◌, [], take, drop, length, map, IfOk, OnOk};
-ghost use Rattle.pp_base.specs.Front.{IsFront};
-ghost use Rattle.pp_model.specs.Conditions.{HasVerdicts, IsSampleOf, RefersTo, IsStackOf};
+ghost use Rattle.std.specs.Prelude.{◌≡◌, ◌∷◌, [], IfOk, OnOk};
+ghost use Rattle.pp_model.specs.Conditions.{HasVerdicts, IsSampleOf, RefersTo};
 ghost use Rattle.pp_model.specs.Finders.{Finders, HoldsFinders};
-ghost use Rattle.pp_model.specs.Rules.{NoRuleFails};
 ghost use Rattle.pp_tags.specs.TagFilters.{shown_labels};
 ghost use Rattle.pp_count.specs.Counts.{samples_at};
-ghost use Rattle.pp_dump.specs.Saved.{by_place, cut_location};
-ghost use Rattle.pp_dump.specs.Places.{ArePlaces, AreEntries, AddsSamples};
+ghost use Rattle.pp_restack.specs.Places.{ArePlaces};
+ghost use Rattle.pp_dump.specs.Places.{AddsSamples};
 
-use crate::places::{Places, place_group};
 use pp_base::{List, Memory};
-use pp_model::{Frame, Loaded, Profile, Sample, Verdicts};
+use pp_model::{Loaded, Sample, Verdicts};
+use pp_restack::{Places, place_stack};
 use pp_stack::filter_stack;
 use pp_tags::show_tags;
 use std::alloc::Global;
@@ -80,7 +78,9 @@ fn cut_sample(
     let Some(stack) = filter_stack(alloc, l, v, s)? else {
         return Ok(());
     };
-    let ids = place_stack(alloc, l.profile.get(), stack.as_slice(), &mut cut.places)?;
+    let mut ids = List::new(alloc);
+    let places = &mut cut.places;
+    place_stack(alloc, l.profile.get(), stack.as_slice(), &mut ids, places)?;
     let sample = sample_with(alloc, l, v, s, ids)?;
     cut.samples.push(sample)
 }
@@ -107,45 +107,4 @@ fn sample_with(
         value,
         label,
     })
-}
-
-// The ids of the locations that the groups of the stack become.
-fn place_stack(
-    alloc: Global,
-    p: &Profile,
-    stack: &[Frame],
-    places: &mut Places,
-) -> Result<List<u64>, Memory>
-    requires frames { IsStackOf p.now stack.now }
-    requires valid { NoRuleFails p.now }
-    requires places { ArePlaces p.now places.old.locations }
-    ensures places { OnOk result (ArePlaces p.now places.new.locations) }
-    ensures front { OnOk result (IsFront places.old.locations places.new.locations) }
-    ensures ids { IfOk result (λ ids. AreEntries places.new.locations
-        (map (cut_location p.now) (by_place stack.now)) ids) }
-{
-    let mut ids = List::new(alloc);
-    let mut rest = stack;
-    while !rest.is_empty() {
-        let (group, others) = rest.split_at(group_len(rest));
-        let id = place_group(alloc, p, group, places)?;
-        ids.push(id)?;
-        rest = others;
-    }
-    Ok(ids)
-}
-
-// How many frames the first group has.
-fn group_len(stack: &[Frame]) -> usize
-    requires { 0 < length stack.now }
-    ensures some { 0 < result }
-    ensures within { result ≤ length stack.now }
-    ensures group { by_place stack.now ≡ take result stack.now ∷ by_place (drop result stack.now) }
-{
-    for count in 1..stack.len() {
-        if stack[count - 1].place != stack[count].place {
-            return count;
-        }
-    }
-    stack.len()
 }

@@ -2,12 +2,10 @@
 #![tactic(auto)]
 
 mod comments;
-mod copying;
 mod cutting;
 mod digits;
 mod key_table;
 mod locations;
-mod places;
 mod raw;
 mod samples;
 mod saved;

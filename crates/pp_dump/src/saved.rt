@@ -11,15 +11,14 @@ ghost use Rattle.pp_count.specs.Seeing.{HoldsFilters, filtered_from};
 ghost use Rattle.pp_dump.specs.Saved.{saved};
 ghost use Rattle.pp_dump.specs.Stacks.{KeepsStacks};
 ghost use Rattle.pp_dump.specs.Unfiltered.{KeepsSums, KeepsKeys, KeepsHeader};
-ghost use Rattle.pp_dump.specs.Places.{with_cut, ArePlaces, IsCutOf};
+ghost use Rattle.pp_restack.specs.Places.{with_cut};
+ghost use Rattle.pp_dump.specs.Places.{IsCutOf};
 
-use crate::copying::{same_locations, with_cut};
 use crate::cutting::{Cut, cut_samples};
-use crate::places::Places;
 use pp_base::{List, Memory};
 use pp_count::Counted;
-use pp_merge::merge;
 use pp_model::{Compact, Loaded, Profile, Valid, Verdicts};
+use pp_restack::{Places, merge_alone, places_of, with_cut};
 use std::alloc::Global;
 
 /// What the filters leave of the profile, merged alone: the samples with the frames and labels that they leave and with all
@@ -91,32 +90,4 @@ fn profile_with(alloc: Global, p: &Profile, cut: Cut) -> Result<Profile, Memory>
         return Err(Memory);
     }
     with_cut(alloc, p, samples, locations)
-}
-
-// The locations of the profile, none of which is cut.
-fn places_of(alloc: Global, p: &Profile) -> Result<Places, Memory>
-    ensures { IfOk result (λ places. places.locations ≡ p.now.location) }
-{
-    let mut hints = List::new(alloc);
-    for _ in 0..p.location.len() {
-        hints.push(0)?;
-    }
-    Ok(Places {
-        locations: same_locations(alloc, p.location.as_slice())?,
-        hints,
-        lines: List::new(alloc),
-    })
-}
-
-// Nothing is refused but for want of memory: one profile agrees with itself, and no sum is above that of the loaded profile.
-fn merge_alone(alloc: Global, p: Valid) -> Result<Compact, Memory>
-    requires { length p.sample < 2 ^ 32 }
-    ensures { IfOk result (λ q. q ≡ merged p []) }
-{
-    let mut list = List::new(alloc);
-    list.push(p)?;
-    match merge(alloc, list) {
-        Ok(q) => Ok(q),
-        Err(_) => Err(Memory),
-    }
 }

@@ -1,4 +1,5 @@
 pub mod ForceLemmas
+pub mod LoadFinderLemmas
 mod Rows
 pub mod RunLemmas
 pub mod StageLemmas

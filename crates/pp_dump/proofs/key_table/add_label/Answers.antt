@@ -4,7 +4,7 @@ use Rattle.pp_merge.specs.FirstSight.{place_of}
 use Rattle.pp_dump.specs.TagLines.{TagTexts, same_tag}
 use Rattle.pp_dump.specs.Names.{name_texts, key_tag}
 use Rattle.pp_dump.specs.Tables.{Event, key_event, IsTableOf, AddsAt}
-use Rattle.pp_dump.proofs.AddingSamples.{then_ok}
+use Rattle.pp_restack.proofs.Placing.{then_ok}
 use Rattle.pp_dump.proofs.KeysLemmas.{keys_more}
 use Rattle.pp_dump.proofs.key_table.add_label.Goals as goal
 

@@ -6,8 +6,9 @@ use Rattle.pp_model.specs.declared.profile.Sample.{Sample}
 use Rattle.pp_model.specs.declared.profile.Profile.{Profile}
 use Rattle.pp_model.specs.Rules.{NoRuleFails}
 use Rattle.pp_count.specs.Counts.{samples_at}
-use Rattle.pp_dump.specs.Places.{ArePlaces, IsCutSample, AddsSamples, with_cut}
-use Rattle.pp_dump.proofs.CutValid.{own_places, cut_valid}
+use Rattle.pp_restack.specs.Places.{ArePlaces, IsCutSample, with_cut}
+use Rattle.pp_restack.proofs.CutValid.{own_places, cut_valid}
+use Rattle.pp_dump.specs.Places.{AddsSamples}
 use Rattle.pp_dump.proofs.saved.cut_profile.Goals as goal
 
 -- the locations of the profile are places of it

@@ -7,8 +7,10 @@ use Rattle.pp_merge.specs.Header.{header_of}
 use Rattle.pp_merge.specs.Written.{Contents, written}
 use Rattle.pp_merge.proofs.SettledLemmas.{settled_contents}
 use Rattle.pp_merge.proofs.WrittenAgain.{contents_again}
-use Rattle.pp_dump.specs.Places.{with_cut}
-use Rattle.pp_dump.specs.Saved.{patternless, saved_contents, saved}
+use Rattle.pp_restack.specs.Places.{with_cut}
+use Rattle.pp_restack.specs.Stacks.{patternless}
+use Rattle.pp_restack.proofs.MadeContents.{starts_of}
+use Rattle.pp_dump.specs.Saved.{saved_contents, saved}
 use Rattle.pp_dump.specs.Stacks.{KeepsStacks}
 use Rattle.pp_dump.specs.Unfiltered.{KeepsSums, KeepsKeys}
 use Rattle.pp_dump.proofs.KeptStacks.{keeps_stacks, left_is}
@@ -16,7 +18,7 @@ use Rattle.pp_dump.proofs.NaturalStacks.{keeps_keys}
 use Rattle.pp_dump.proofs.SavedHeader.{header_cut, same_column}
 use Rattle.pp_dump.proofs.SeenStacks.{keeps_sums}
 use Rattle.pp_dump.proofs.WholeStacks.{whole_left}
-use Rattle.pp_dump.proofs.CutContents.{contents_saved, starts_of}
+use Rattle.pp_dump.proofs.CutContents.{contents_saved}
 use Rattle.pp_dump.proofs.saved.saved_profile.Goals as goal
 
 -- what was cut is merged alone

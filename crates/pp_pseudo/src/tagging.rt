@@ -1,0 +1,127 @@
+//! A profile with frames that are made from labels.
+ghost use Rattle.std.specs.Prelude.{◌≡◌, ◌++◌, ◌<◌, ◌^◌, [], length, IfOk, OnOk};
+ghost use Rattle.std.specs.List.{AllByRecursion};
+ghost use Rattle.pp_model.specs.Sizes.{IsCountable};
+ghost use Rattle.pp_pseudo.specs.Grown.{grown};
+ghost use Rattle.pp_pseudo.specs.TagSums.{KeepsTagSums};
+ghost use Rattle.pp_pseudo.specs.WithTags.{tagged};
+ghost use Rattle.pp_pseudo.specs.Framed.{AreTagged, IsTagged};
+ghost use Rattle.pp_restack.specs.Places.{with_cut};
+
+use crate::frames::{Frames, put_frames};
+use crate::growing::grow;
+use crate::names::Names;
+use pp_base::{List, Memory, Text};
+use pp_model::{Loaded, Profile, Sample, Valid};
+use pp_restack::{Places, merge_alone, places_of, with_cut};
+use std::alloc::Global;
+
+/// The profile with a frame for each listed key of which a sample has a label, at the root for the keys of `roots` and at the
+/// leaf for those of `leaves`, each list root first. The frame's function is named by the key, `=` and the values of the
+/// labels, joined by commas. Load pruning is done, so that the profile has neither patterns nor verdicts. All labels and
+/// values stay, and samples that became equal are added up. `Err` is want of memory.
+pub fn with_tags(
+    alloc: Global,
+    l: &Loaded,
+    roots: &List<Text>,
+    leaves: &List<Text>,
+) -> Result<Loaded, Memory>
+    ensures tagged { IfOk result (λ q. q ≡ tagged l.now roots.now leaves.now) }
+    ensures countable { IsCountable l.now.profile → IfOk result (λ q. IsCountable q.profile) }
+    ensures sums { IfOk result (λ q. KeepsTagSums l.now (roots.now ++ leaves.now) q.profile) }
+{
+    let root_keys = roots.as_slice();
+    let leaf_keys = leaves.as_slice();
+    let p = tagged_alone(alloc, l, root_keys, leaf_keys)?;
+    let profile = merge_alone(alloc, p)?;
+    Ok(Loaded {
+        profile,
+        drop: None,
+        keep: None,
+    })
+}
+
+// The profile that is merged alone.
+fn tagged_alone(alloc: Global, l: &Loaded, roots: &[Text], leaves: &[Text]) -> Result<Valid, Memory>
+    ensures { IfOk result (λ q. IsTagged l.now roots.now leaves.now q) }
+{
+    let p = l.profile.get();
+    let mut samples = List::new(alloc);
+    let places = places_of(alloc, p)?;
+    let mut frames = Frames {
+        names: Names::new(alloc),
+        places,
+        name: Text::new(alloc),
+    };
+    tag_samples(alloc, l, roots, leaves, &mut samples, &mut frames)?;
+    let q = grown_with(alloc, p, samples, frames)?;
+    Ok(Valid::claim(q))
+}
+
+// Adds each sample with the frames of the keys.
+fn tag_samples(
+    alloc: Global,
+    l: &Loaded,
+    roots: &[Text],
+    leaves: &[Text],
+    samples: &mut List<Sample>,
+    frames: &mut Frames,
+) -> Result<(), Memory>
+    requires none { AreTagged l.now roots.now leaves.now [] frames.old.names
+        frames.old.places.locations samples.old }
+    ensures { OnOk result (AreTagged l.now roots.now leaves.now l.now.profile.sample
+        frames.new.names frames.new.places.locations samples.new) }
+{
+    let p = l.profile.get();
+    for s in p.sample.as_slice() {
+        let mut ids = List::new(alloc);
+        put_frames(alloc, l, roots, leaves, s, &mut ids, frames)?;
+        let sample = sample_with(alloc, s, ids)?;
+        samples.push(sample)?;
+    }
+    Ok(())
+}
+
+// The sample with these locations.
+fn sample_with(alloc: Global, s: &Sample, ids: List<u64>) -> Result<Sample, Memory>
+    ensures { IfOk result (λ sample. sample ≡ record s.now { location_id = ids }) }
+{
+    let mut value = List::new(alloc);
+    value.extend(s.value.as_slice())?;
+    let mut label = List::new(alloc);
+    label.extend(s.label.as_slice())?;
+    Ok(Sample {
+        location_id: ids,
+        value,
+        label,
+    })
+}
+
+// The profile with these samples and locations, and with the names. No memory holds 2^32 samples.
+fn grown_with(
+    alloc: Global,
+    p: &Profile,
+    samples: List<Sample>,
+    frames: Frames,
+) -> Result<Profile, Memory>
+    ensures same { IfOk result (λ q.
+        q ≡ with_cut (grown p.now frames.names) samples frames.places.locations) }
+    ensures few { IfOk result (λ q. length samples < 2 ^ 32) }
+    ensures starts { IfOk result (λ q. AllByRecursion (λ m. m.start < 2 ^ 64) p.now.mapping) }
+{
+    let Frames {
+        names,
+        places,
+        name: _name,
+    } = frames;
+    let Places {
+        locations,
+        hints: _hints,
+        lines: _lines,
+    } = places;
+    if samples.len() > u32::MAX as usize {
+        return Err(Memory);
+    }
+    let q = with_cut(alloc, p, samples, locations)?;
+    grow(alloc, q, names)
+}
