@@ -1,9 +1,9 @@
 //! All stack filters in their order.
 
-ghost use Rattle.std.specs.Prelude.{◌≡◌, map, option_map, IfOk, IfSome};
+ghost use Rattle.std.specs.Prelude.{◌≡◌, map, option_map, Some, true, IfOk, IfSome};
 ghost use Rattle.pp_model.specs.Conditions.{IsStackOf, HasVerdicts, RefersTo};
 ghost use Rattle.pp_model.specs.Finders.{Finders, HoldsFinders};
-ghost use Rattle.pp_model.specs.Frames.{written};
+ghost use Rattle.pp_model.specs.Frames.{written, stack_of};
 ghost use Rattle.pp_stack.specs.Runs.{kept_if};
 ghost use Rattle.pp_stack.specs.Filters.{filtered, passed, shortened, frames_of_sample, stack_of_sample};
 
@@ -82,4 +82,18 @@ fn shorten(l: &Loaded, v: &Verdicts, stack: &mut Stack) -> bool
     }
     prune_from(l, v, stack);
     true
+}
+
+/// Whether no stack filter is in force, so that each sample is kept with its whole stack.
+pub fn keeps_all(l: &Loaded, v: &Verdicts) -> bool
+    ensures { (f : Finders) → HoldsFinders l.now v.now f → result ≡ true →
+        (s : Sample) → frames_of_sample l.now.profile f s ≡ Some (stack_of l.now.profile s) }
+{
+    l.drop.is_none()
+        && v.ignore.is_none()
+        && v.focus.is_none()
+        && v.hide.is_none()
+        && v.show.is_none()
+        && v.show_from.is_none()
+        && v.prune_from.is_none()
 }

@@ -8,5 +8,5 @@ mod retain;
 mod runs;
 mod stages;
 
-pub use filter::{filter_frames, filter_stack};
+pub use filter::{filter_frames, filter_stack, keeps_all};
 pub use stages::{cut, kept, load_prune, prune_from, show_from};
