@@ -4,6 +4,7 @@ pub mod Entries
 pub mod Joining
 pub mod CountedFrames
 pub mod Sights
+pub mod Located
 pub mod Ranges
 pub mod Pieces
 pub mod Tags

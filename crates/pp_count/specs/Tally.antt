@@ -1,20 +1,22 @@
 -- What is kept for each key number while samples are added up. No public clause cites it.
-use Rattle.std.specs.Prelude.{◌≡◌, ℕ, ◌==◌, nat_eq, nat_lt, ℤ, pos, ◌+ℤ◌, List, [], ◌∷◌, if◌then◌else◌}
+use Rattle.std.specs.Prelude.{◌≡◌, ℕ, ◌==◌, nat_eq, nat_lt, ℤ, pos, ◌+ℤ◌, List, [], ◌∷◌, length, slice_index_or, if◌then◌else◌}
 use Rattle.std.specs.Option.{unwrap_or}
 use Rattle.std.specs.Ordering.{nat_cmp, int_eq}
-use Rattle.indexmap.specs.IndexMap.{IndexMap, get}
+use Rattle.indexmap.specs.IndexMap.{get}
 use Rattle.pp_count.specs.Sums.{Seen, cum, flat, has, leads, occurs}
 use Rattle.pp_count.specs.declared.tally.Tally.{Tally}
+use Rattle.pp_count.specs.declared.tallies.Tallies.{Tallies}
 use Rattle.pp_count.specs.declared.part.KeySum.{KeySum}
 
 -- no sample had the key
 abbrev pub no_tally : Tally
 no_tally = record { flat = pos 0; cum = pos 0; last = 0 }
 
-module _ {S : Type 0} where
-  -- what is kept of the key number
-  abbrev pub tally_at : IndexMap ℕ Tally S → ℕ → Tally
-  tally_at tallies k = unwrap_or (get nat_eq tallies k) no_tally
+-- what is kept of the key number: in the list as far as it goes, else in the map
+unfoldable pub tally_at : Tallies → ℕ → Tally
+tally_at tallies k =
+    if nat_lt k (length tallies.listed.items) then slice_index_or tallies.listed.items k no_tally
+    else unwrap_or (get nat_eq tallies.others k) no_tally
 
 -- The tally is that of the key over these samples.
 pub record IsTallyOf (samples : List (Seen ℕ)) (k : ℕ) (t : Tally) : Type 0 where

@@ -11,7 +11,6 @@ use crate::scope::Scope;
 use crate::seeing::see;
 use crate::tallies::{Tallies, add_sample, entries};
 use crate::value::selected;
-use indexmap::IndexMap;
 use pp_base::{List, Memory};
 use pp_model::Sample;
 use std::alloc::Global;
@@ -50,7 +49,7 @@ pub fn count_range(
     requires few { number + length samples.now < 2 ^ 32 }
     ensures { IfOk result (IsPartOf scope.now number samples.now) }
 {
-    let mut tallies = IndexMap::new(alloc);
+    let mut tallies = Tallies::new(alloc, scope.numbers())?;
     let kept = add_samples(alloc, scope, &mut tallies, samples, number)?;
     let sums = entries(alloc, &tallies)?;
     Ok(Part { kept, sums })

@@ -21,3 +21,13 @@ pub struct Scope<'a> {
     /// key number; keys past the end are not kept.
     pub over: Option<&'a [bool]>,
 }
+
+impl Scope<'_> {
+    /// How many key numbers there can be, or numbers of pairs of keys where pairs are counted.
+    pub fn numbers(&self) -> usize {
+        match self.over {
+            None => self.table.names.len() as usize,
+            Some(keep) => keep.len().saturating_mul(keep.len()),
+        }
+    }
+}

@@ -1,7 +1,8 @@
 //! A sample as a report sees it, by key numbers.
-ghost use Rattle.std.specs.Prelude.{◌≡◌, ◌<◌, [], length, map, slice_index_or, All, IfOk, option_map};
+ghost use Rattle.std.specs.Prelude.{◌≡◌, ◌<◌, [], false, length, map, slice_index_or, All, IfOk, option_map};
 ghost use Rattle.pp_model.specs.Conditions.{IsFrameOf, IsStackOf, IsSampleOf, RefersTo};
 ghost use Rattle.pp_model.specs.Finders.{Finders};
+ghost use Rattle.pp_model.specs.Frames.{stack_of};
 ghost use Rattle.pp_stack.specs.Runs.{kept_if};
 ghost use Rattle.pp_count.specs.Table.{written_key, IsKeyTable};
 ghost use Rattle.pp_count.specs.Seeing.{HoldsFilters, key_of_frame, keys_of_stack, filtered_stack};
@@ -11,7 +12,7 @@ use crate::scope::Scope;
 use pp_base::{List, Memory};
 use pp_grain::counted;
 use pp_model::{Frame, Sample, Stack};
-use pp_stack::filter_stack;
+use pp_stack::{filter_stack, keeps_all};
 use pp_tags::tag_kept;
 use std::alloc::Global;
 
@@ -34,11 +35,45 @@ pub fn see(alloc: Global, scope: &Scope, s: &Sample, keys: &mut Vec<u64>) -> Res
     if !tag_kept(scope.l, scope.v, scope.focus, scope.ignore, s) {
         return Ok(false);
     }
+    if !scope.config.noinlines && keeps_all(scope.l, scope.v) {
+        number_all(scope, s, keys)?;
+        return Ok(true);
+    }
     let Some(stack) = filter_stack(alloc, scope.l, scope.v, s)? else {
         return Ok(false);
     };
     number_stack(scope, &stack, keys)?;
     Ok(true)
+}
+
+// Adds the key numbers of all frames of the sample, leaf first. No stack is made for it.
+fn number_all(scope: &Scope, s: &Sample, keys: &mut Vec<u64>) -> Result<(), Memory>
+    requires refers { RefersTo scope.now.l.now.profile s.now }
+    requires table { IsKeyTable scope.now.l.now.profile scope.now.config.now scope.now.table.now }
+    requires all { scope.now.config.now.noinlines ≡ false }
+    requires none { keys.old.items ≡ [] }
+    ensures below { IfOk result (λ _.
+        All (λ k. k < length scope.now.table.now.names) keys.new.items) }
+    ensures named { IfOk result (λ _.
+        map (written_key scope.now.l.now.profile scope.now.table.now.names) keys.new.items
+        ≡ keys_of_stack scope.now.l.now.profile scope.now.config.now
+        (stack_of scope.now.l.now.profile s.now)) }
+{
+    // Each id is a place plus 1.
+    let _compact = scope.l.profile.get();
+    let rows = scope.table.location.as_slice();
+    for id in s.location_id.as_slice() {
+        let row = row_at(rows, *id - 1);
+        keys.extend_from_slice(row.as_slice())?;
+    }
+    Ok(())
+}
+
+fn row_at<'a>(rows: &'a [List<u64>], place: u64) -> &'a List<u64>
+    requires { place < length rows.now }
+    ensures { result.now ≡ slice_index_or rows.now place [] }
+{
+    &rows[place as usize]
 }
 
 // Adds the key numbers of the frames that count, leaf first.

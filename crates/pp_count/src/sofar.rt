@@ -5,7 +5,6 @@ ghost use Rattle.pp_count.specs.Parts.{sums_of, flat_size, cum_size};
 
 use crate::part::Part;
 use crate::tallies::{Tallies, add_sums, entries};
-use indexmap::IndexMap;
 use pp_base::{List, Memory};
 use std::alloc::Global;
 
@@ -19,15 +18,16 @@ pub struct Sofar {
 }
 
 impl Sofar {
-    /// Nothing.
-    pub fn new(alloc: Global) -> Self
-        ensures kept { result.kept ≡ [] }
-        ensures none { (k : ℕ) → tally_at result.tallies k ≡ no_tally }
+    /// Nothing, with places for so many key numbers where they are few.
+    pub fn new(alloc: Global, numbers: usize) -> Result<Self, Memory>
+        ensures kept { IfOk result (λ sofar. sofar.kept ≡ []) }
+        ensures none { IfOk result (λ sofar. (k : ℕ) → tally_at sofar.tallies k ≡ no_tally) }
     {
-        Sofar {
+        let tallies = Tallies::new(alloc, numbers)?;
+        Ok(Sofar {
             kept: List::new(alloc),
-            tallies: IndexMap::new(alloc),
-        }
+            tallies,
+        })
     }
 
     /// Adds the part of the samples that follow.

@@ -1,6 +1,6 @@
-//! Tallies by key number. A table has room for the key numbers that were seen alone, however many a report has.
-ghost use Rattle.std.specs.Prelude.{◌≡◌, ◌≢◌, ℕ, ◌+◌, ◌+ℤ◌, ◌<◌, ◌^◌, nat_abs, nat_eq, IfOk, if◌then◌else◌, [], ◌++◌};
-ghost use Rattle.pp_count.specs.Tally.{tally_at, credited, with_cum, with_flat, with_sample, with_seen, plus, added, entry_of};
+//! Tallies by key number: in a list where key numbers are few, else in a map that has those alone that were seen.
+ghost use Rattle.std.specs.Prelude.{◌≡◌, ◌≢◌, ℕ, ◌+◌, ◌+ℤ◌, ◌<◌, ◌^◌, nat_abs, nat_eq, nat_lt, slice_index_or, length, IfOk, if◌then◌else◌, [], ◌++◌};
+ghost use Rattle.pp_count.specs.Tally.{tally_at, no_tally, credited, with_cum, with_flat, with_sample, with_seen, plus, added, entry_of};
 ghost use Rattle.pp_count.specs.Parts.{sums_of, flat_size, cum_size};
 
 use crate::part::KeySum;
@@ -9,8 +9,32 @@ use indexmap::IndexMap;
 use pp_base::{List, Memory};
 use std::alloc::Global;
 
+/// How many key numbers have a place in a list at most, however many a report has.
+pub const LISTED: usize = 65_536;
+
 /// What each key number has so far.
-pub type Tallies = IndexMap<u64, Tally>;
+#[derive(Drop)]
+pub struct Tallies {
+    /// By key number, those of the lowest numbers.
+    pub listed: Vec<Tally>,
+    /// Those of other key numbers that were seen.
+    pub others: IndexMap<u64, Tally>,
+}
+
+impl Tallies {
+    /// None, with places for so many key numbers where they are few.
+    #[tactic(auto, unfolding(crate::specs::Tally::tally_at))]
+    pub fn new(alloc: Global, numbers: usize) -> Result<Tallies, Memory>
+        ensures { IfOk result (λ tallies. (k : ℕ) → tally_at tallies k ≡ no_tally) }
+    {
+        let places = if numbers <= LISTED { numbers } else { 0 };
+        let listed = vec![in alloc; Tally::NONE; places]?;
+        Ok(Tallies {
+            listed,
+            others: IndexMap::new(alloc),
+        })
+    }
+}
 
 /// Adds one sample whose keys have these numbers, leaf first, unless its value is 0. Its turn is after those of the
 /// samples before it.
@@ -42,6 +66,7 @@ fn add_cum(tallies: &mut Tallies, value: i64, keys: &[u64], turn: u64) -> Result
 }
 
 // Adds the value to the cum of the key, where the sample of that turn was not yet added.
+#[tactic(auto, unfolding(crate::specs::Tally::tally_at))]
 fn credit_key(tallies: &mut Tallies, value: i64, key: u64, turn: u64) -> Result<(), Memory>
     requires { (tally_at tallies.old key).last ≢ turn →
         nat_abs (tally_at tallies.old key).cum + nat_abs value < 2 ^ 63 }
@@ -50,7 +75,13 @@ fn credit_key(tallies: &mut Tallies, value: i64, key: u64, turn: u64) -> Result<
     ensures others { IfOk result (λ _. (k : ℕ) → k ≢ key →
         tally_at tallies.new k ≡ tally_at tallies.old k) }
 {
+    let place = key as usize;
+    if place < tallies.listed.len() {
+        tallies.listed[place].credit(value, turn);
+        return Ok(());
+    }
     tallies
+        .others
         .entry(key)?
         .or_insert(Tally::NONE)
         .credit(value, turn);
@@ -70,6 +101,7 @@ fn add_flat(tallies: &mut Tallies, value: i64, keys: &[u64]) -> Result<(), Memor
 }
 
 // Adds the value to the flat of the key.
+#[tactic(auto, unfolding(crate::specs::Tally::tally_at))]
 fn lead_key(tallies: &mut Tallies, value: i64, key: u64) -> Result<(), Memory>
     requires { nat_abs (tally_at tallies.old key).flat + nat_abs value < 2 ^ 63 }
     ensures key { IfOk result (λ _. tally_at tallies.new key
@@ -77,7 +109,16 @@ fn lead_key(tallies: &mut Tallies, value: i64, key: u64) -> Result<(), Memory>
     ensures others { IfOk result (λ _. (k : ℕ) → k ≢ key →
         tally_at tallies.new k ≡ tally_at tallies.old k) }
 {
-    tallies.entry(key)?.or_insert(Tally::NONE).lead(value);
+    let place = key as usize;
+    if place < tallies.listed.len() {
+        tallies.listed[place].lead(value);
+        return Ok(());
+    }
+    tallies
+        .others
+        .entry(key)?
+        .or_insert(Tally::NONE)
+        .lead(value);
     Ok(())
 }
 
@@ -97,6 +138,7 @@ pub fn add_sums(tallies: &mut Tallies, sums: &[KeySum]) -> Result<(), Memory>
 }
 
 // Adds the entry to the tally of its key.
+#[tactic(auto, unfolding(crate::specs::Tally::tally_at))]
 fn join_key(tallies: &mut Tallies, sum: &KeySum) -> Result<(), Memory>
     requires flat_fits { nat_abs (tally_at tallies.old sum.now.key).flat + nat_abs sum.now.flat < 2 ^ 63 }
     requires cum_fits { nat_abs (tally_at tallies.old sum.now.key).cum + nat_abs sum.now.cum < 2 ^ 63 }
@@ -105,22 +147,72 @@ fn join_key(tallies: &mut Tallies, sum: &KeySum) -> Result<(), Memory>
     ensures others { IfOk result (λ _. (k : ℕ) → k ≢ sum.now.key →
         tally_at tallies.new k ≡ tally_at tallies.old k) }
 {
-    tallies.entry(sum.key)?.or_insert(Tally::NONE).join(sum);
+    let place = sum.key as usize;
+    if place < tallies.listed.len() {
+        tallies.listed[place].join(sum);
+        return Ok(());
+    }
+    tallies
+        .others
+        .entry(sum.key)?
+        .or_insert(Tally::NONE)
+        .join(sum);
     Ok(())
 }
 
-/// The entries of the keys that some sample had, in the order of first sight.
+/// The entries of the keys that some sample had: those of the list by number, the others in the order of first sight.
 pub fn entries(alloc: Global, tallies: &Tallies) -> Result<List<KeySum>, Memory>
     ensures { IfOk result (λ sums. (k : ℕ) →
         sums_of k sums ≡ entry_of k (tally_at tallies.now k)) }
 {
     let mut sums = List::new(alloc);
-    for index in 0..tallies.len() {
-        if let Some((key, tally)) = tallies.get_index(index) {
-            push_entry(&mut sums, *key, tally)?;
+    push_listed(&mut sums, &tallies.listed)?;
+    push_others(&mut sums, tallies)?;
+    Ok(sums)
+}
+
+// Adds the entries of a list of tallies.
+fn push_listed(sums: &mut List<KeySum>, listed: &[Tally]) -> Result<(), Memory>
+    requires { sums.old ≡ [] }
+    ensures { IfOk result (λ _. (k : ℕ) →
+        sums_of k sums.new ≡ entry_of k (slice_index_or listed.now k no_tally)) }
+{
+    for (number, tally) in listed.iter().enumerate() {
+        push_entry(sums, number as u64, tally)?;
+    }
+    Ok(())
+}
+
+// Adds the entries of the key numbers that are past the list.
+#[tactic(auto, unfolding(crate::specs::Tally::tally_at))]
+fn push_others(sums: &mut List<KeySum>, tallies: &Tallies) -> Result<(), Memory>
+    requires { (k : ℕ) → sums_of k sums.old
+        ≡ entry_of k (slice_index_or tallies.now.listed.items k no_tally) }
+    ensures { IfOk result (λ _. (k : ℕ) → sums_of k sums.new ≡ entry_of k (tally_at tallies.now k)) }
+{
+    for index in 0..tallies.others.len() {
+        if let Some((key, tally)) = tallies.others.get_index(index) {
+            push_other(sums, &tallies.listed, *key, tally)?;
         }
     }
-    Ok(sums)
+    Ok(())
+}
+
+// Adds the entry of the key, where its number is past the list.
+fn push_other(
+    sums: &mut List<KeySum>,
+    listed: &[Tally],
+    key: u64,
+    tally: &Tally,
+) -> Result<(), Memory>
+    ensures { IfOk result (λ _. (k : ℕ) → sums_of k sums.new
+        ≡ sums_of k sums.old ++ (if nat_eq key k then (if nat_lt k (length listed.now) then []
+        else entry_of key tally.now) else [])) }
+{
+    if key < listed.len() as u64 {
+        return Ok(());
+    }
+    push_entry(sums, key, tally)
 }
 
 // Adds the entry of the key, where some sample had it.

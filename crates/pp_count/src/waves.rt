@@ -12,7 +12,7 @@ use std::alloc::Global;
 use std::thread::Threads;
 
 /// How many pieces are counted before their parts are added. So no more than their parts stand in memory.
-pub const WAVE: u32 = 512;
+pub const WAVE: u32 = 64;
 
 /// What all samples come to, in pieces on as many lanes as the configuration has workers.
 pub fn count_all<'x, R: Threads + Sync, G: Gate>(
@@ -27,7 +27,7 @@ pub fn count_all<'x, R: Threads + Sync, G: Gate>(
         (tally_at sofar.tallies) sofar.kept) }
 {
     let pieces = scope.l.profile.get().sample.len().div_ceil(PIECE) as u32;
-    let mut sofar = Sofar::new(alloc);
+    let mut sofar = Sofar::new(alloc, scope.numbers())?;
     for wave in 0..pieces.div_ceil(WAVE) {
         let first = wave * WAVE;
         let job = Counting {

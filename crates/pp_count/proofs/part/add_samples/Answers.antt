@@ -3,9 +3,12 @@ use Rattle.pp_model.specs.Conditions.{RefersTo, IsSampleOf}
 use Rattle.pp_count.specs.Tally.{tally_at}
 use Rattle.pp_count.specs.Scope.{profile_of}
 use Rattle.pp_stack.specs.Runs.{kept_if}
-use Rattle.pp_count.proofs.Ranges.{name_of, room, counted_kept, counted_dropped}
+use Rattle.pp_count.proofs.Ranges.{name_of, room, counted_none, counted_kept, counted_dropped}
 use Rattle.pp_count.proofs.part.add_samples.Goals.{then-branch+in_ok-add_seen+in_ok-push, else-branch}
 use Rattle.pp_count.proofs.part.add_samples.Goals as goal
+
+pub loop-index-init : goal.loop-index-init
+loop-index-init c = counted_none c.args.scope.now c.args.number (tally_at c.args.tallies.now) c.new-kept.result c.requires.none c.new-kept.ensures
 
 pub see-requires-clause-member : goal.see-requires-clause-member
 see-requires-clause-member c =

@@ -6,4 +6,4 @@ use Rattle.pp_count.proofs.waves.count_all.Given as goal
 
 -- the waves so far are counted
 abbrev pub invariant-loop-wave : goal.invariant-loop-wave
-invariant-loop-wave g l = CountedTo l.scope 0 1 (front_of l.scope.l.now.profile.sample (min (l.wave * 512) l.pieces)) (tally_at l.sofar.tallies) l.sofar.kept
+invariant-loop-wave g l = CountedTo l.scope 0 1 (front_of l.scope.l.now.profile.sample (min (l.wave * 64) l.pieces)) (tally_at l.sofar.tallies) l.sofar.kept
