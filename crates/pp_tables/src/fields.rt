@@ -1,5 +1,5 @@
 //! What one field gives to a message: a scalar, numbers, a text or a message.
-ghost use Rattle.std.specs.Prelude.{◌≡◌, ◌+◌, ◌<◌, ◌^◌, ◌++◌, [], ◌∷◌, length, map, IfOk, IfErr, Some};
+ghost use Rattle.std.specs.Prelude.{◌≡◌, ◌+◌, ◌<◌, ◌^◌, ◌++◌, [], ◌∷◌, length, map, IfOk, IfErr, OnOk, Some};
 ghost use Rattle.pp_wire.specs.Fields.{Varint, Bytes, item, content_of, numbers};
 ghost use Rattle.pp_tables.specs.Message.{Scalar, Numbers, Run, Nested, fault_by, fault_in};
 ghost use Rattle.pp_tables.specs.Select.{last_or, uints_in, ints_in, bools_in, uint_list_in, int_list_in, texts_in, messages_in, fields_in, signed};
@@ -7,9 +7,10 @@ ghost use Rattle.pp_tables.specs.Takes.{TakesField};
 
 use crate::ReadRefusal;
 use crate::message::{Message, fill};
-use pp_base::{List, Text};
+use pp_base::{List, Memory, Text};
 use pp_wire::{Field, Packed, Payload, WireFault, WireKind};
 use std::alloc::Global;
+use std::mem;
 
 fn wrong_kind(field: &Field<'_>) -> WireFault
     ensures { result ≡ record { kind = WireKind.WrongKind; at = field.now.at } }
@@ -109,21 +110,31 @@ pub(crate) fn push_message<M: Message>(
     Ok(())
 }
 
-pub(crate) fn push_uints(list: &mut List<u64>, field: &Field<'_>) -> Result<(), ReadRefusal>
+pub(crate) fn push_uints(
+    alloc: Global,
+    list: &mut List<u64>,
+    field: &Field<'_>,
+) -> Result<(), ReadRefusal>
     ensures { TakesField result (fault_by Numbers (content_of field.now.payload) field.now.at)
         (list.new ≡ list.old ++ uint_list_in (item field.now)) }
 {
     match field.payload {
         Payload::Varint(n) => Ok(list.push(n)?),
-        Payload::Bytes(bytes, _) => push_packed_uints(list, bytes, field.at),
+        Payload::Bytes(bytes, _) => push_packed_uints(alloc, list, bytes, field.at),
         _ => Err(ReadRefusal::Wire(wrong_kind(field))),
     }
 }
 
-fn push_packed_uints(list: &mut List<u64>, bytes: &[u8], at: u64) -> Result<(), ReadRefusal>
+fn push_packed_uints(
+    alloc: Global,
+    list: &mut List<u64>,
+    bytes: &[u8],
+    at: u64,
+) -> Result<(), ReadRefusal>
     ensures { TakesField result (numbers bytes.now at).fault
         (list.new ≡ list.old ++ (numbers bytes.now at).items) }
 {
+    reserve(alloc, list, count_ends(bytes))?;
     let mut packed = Packed::new(bytes, at);
     while let Some(next) = packed.next() {
         list.push(next?)?;
@@ -131,24 +142,53 @@ fn push_packed_uints(list: &mut List<u64>, bytes: &[u8], at: u64) -> Result<(), 
     Ok(())
 }
 
-pub(crate) fn push_ints(list: &mut List<i64>, field: &Field<'_>) -> Result<(), ReadRefusal>
+pub(crate) fn push_ints(
+    alloc: Global,
+    list: &mut List<i64>,
+    field: &Field<'_>,
+) -> Result<(), ReadRefusal>
     ensures { TakesField result (fault_by Numbers (content_of field.now.payload) field.now.at)
         (list.new ≡ list.old ++ int_list_in (item field.now)) }
 {
     match field.payload {
         Payload::Varint(n) => Ok(list.push(n.cast_signed())?),
-        Payload::Bytes(bytes, _) => push_packed_ints(list, bytes, field.at),
+        Payload::Bytes(bytes, _) => push_packed_ints(alloc, list, bytes, field.at),
         _ => Err(ReadRefusal::Wire(wrong_kind(field))),
     }
 }
 
-fn push_packed_ints(list: &mut List<i64>, bytes: &[u8], at: u64) -> Result<(), ReadRefusal>
+fn push_packed_ints(
+    alloc: Global,
+    list: &mut List<i64>,
+    bytes: &[u8],
+    at: u64,
+) -> Result<(), ReadRefusal>
     ensures { TakesField result (numbers bytes.now at).fault
         (list.new ≡ list.old ++ map signed (numbers bytes.now at).items) }
 {
+    reserve(alloc, list, count_ends(bytes))?;
     let mut packed = Packed::new(bytes, at);
     while let Some(next) = packed.next() {
         list.push(next?.cast_signed())?;
     }
+    Ok(())
+}
+
+// How many varints end in the bytes. It is a measure of room alone, so nothing is promised of it.
+fn count_ends(bytes: &[u8]) -> usize {
+    bytes.iter().filter(|byte| **byte < 128).count()
+}
+
+// Makes room for so many items more. An empty list gets no more than that, since it is mostly filled once.
+fn reserve<T: Drop>(alloc: Global, list: &mut List<T>, count: usize) -> Result<(), Memory>
+    ensures { OnOk result (list.new ≡ list.old) }
+{
+    let mut items = mem::replace(list, List::new(alloc)).into_vec();
+    if items.is_empty() {
+        items.reserve_exact(count)?;
+    } else {
+        items.reserve(count)?;
+    }
+    *list = List::from_vec(items);
     Ok(())
 }
