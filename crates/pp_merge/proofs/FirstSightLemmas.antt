@@ -90,14 +90,14 @@ module _ {A : Type 0} (same : A → A → Bool) where
       by true rest is = refl
       by false rest is = ap (λ n. 1 + n) (rest is)
 
-  seen-seen_with : (seen : List A) (x y : A) → IsSeen seen y → IsSeen (seen_with same seen x) y
+  pub seen-seen_with : (seen : List A) (x y : A) → IsSeen seen y → IsSeen (seen_with same seen x) y
   seen-seen_with seen x y h = by (list_any (same x) seen)
     where
       by : (b : Bool) → IsSeen (if b then seen else seen ++ x ∷ []) y
       by true = h
       by false = any-append (same y) seen (x ∷ []) h
 
-  place-seen_with : (seen : List A) (x y : A) → IsSeen seen y → place_of same (seen_with same seen x) y ≡ place_of same seen y
+  pub place-seen_with : (seen : List A) (x y : A) → IsSeen seen y → place_of same (seen_with same seen x) y ≡ place_of same seen y
   place-seen_with seen x y h = by (list_any (same x) seen)
     where
       by : (b : Bool) → place_of same (if b then seen else seen ++ x ∷ []) y ≡ place_of same seen y
@@ -122,7 +122,7 @@ module _ {A : Type 0} (same : A → A → Bool) where
         by true = refl
         by false = place_new seen x
 
-    seen_now : (seen : List A) (x : A) → IsSeen (seen_with same seen x) x
+    pub seen_now : (seen : List A) (x : A) → IsSeen (seen_with same seen x) x
     seen_now seen x = by (list_any (same x) seen) refl
       where
         by : (b : Bool) → list_any (same x) seen ≡ b → IsSeen (if b then seen else seen ++ x ∷ []) x

@@ -3,6 +3,8 @@ pub mod Rows
 pub mod ChangeLemmas
 pub mod WalkLemmas
 pub mod IdLemmas
+pub mod MetLemmas
+pub mod KeptIds
 pub mod Tables
 pub mod Lists
 pub mod Ready

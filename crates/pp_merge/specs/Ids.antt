@@ -1,16 +1,12 @@
 -- Ids of a table's entries, and what they become. An id is a place plus 1, and 0 stands for none.
 use Rattle.std.specs.Prelude.{ℕ, ◌+◌, ◌-◌, ◌^◌, ◌==◌, ◌||◌, nat_le, ℤ, pos, List, slice_index_or, if◌then◌else◌}
-use Rattle.std.specs.List.{position_or_len}
 use Rattle.pp_model.specs.Frames.{text_number}
 use Rattle.pp_merge.specs.Behind.{behind_id}
+pub use Rattle.pp_merge.specs.MetPlaces.{place_id}
 use Rattle.pp_merge.specs.declared.ids.Known.{Known}
 use Rattle.pp_merge.specs.declared.ids.Known.TheVariants.{InOrder, KnownIds}
 use Rattle.pp_merge.specs.declared.ids.Ids.{Ids}
 use Rattle.pp_merge.specs.declared.ids.Ids.TheVariants.{Same, Listed, Moved, By}
-
--- The place of the id among these plus 1, which is past them where it isn't there. 0 stays.
-abbrev pub place_id : List ℕ → ℕ → ℕ
-place_id ids id = if id == 0 then 0 else position_or_len (λ other. id == other) ids + 1
 
 -- the place of the entry with the id, plus 1
 abbrev pub known_id : Known → ℕ → ℕ
@@ -25,7 +21,7 @@ listed_id ids id = if id == 0 then 0 else slice_index_or ids (id - 1) 0
 abbrev pub new_id : Ids → ℕ → ℕ
 new_id Same id = id
 new_id (Moved known behind) id = behind_id behind.after behind.len (known_id known id)
-new_id (Listed ids) id = place_id ids.keys id
+new_id (Listed ids) id = place_id ids id
 new_id (By ids) id = listed_id ids id
 
 -- the index of the text with the id, and 0 where there is none
@@ -37,5 +33,5 @@ abbrev pub new_text : Ids → ℤ → ℤ
 new_text Same index = index
 new_text (Moved known behind) index =
     index_of_id (behind_id behind.after behind.len (known_id known (text_number index + 1)))
-new_text (Listed ids) index = index_of_id (place_id ids.keys (text_number index + 1))
+new_text (Listed ids) index = index_of_id (place_id ids (text_number index + 1))
 new_text (By ids) index = index_of_id (listed_id ids (text_number index + 1))

@@ -1,4 +1,5 @@
 pub mod FirstSight
+pub mod MetPlaces
 pub mod Described
 pub mod Alike
 pub mod Sums

@@ -1,9 +1,11 @@
 //! New ids for old ones. An id names an entry of a table, and 0 names none.
 ghost use Rattle.std.specs.Prelude.{◌≡◌, ◌+◌};
+ghost use Rattle.std.specs.Bool.{OnTrue};
 ghost use Rattle.pp_model.specs.Frames.{text_number};
 ghost use Rattle.pp_merge.specs.Ids.{known_id, place_id, listed_id, new_id, new_text, index_of_id};
 
 use crate::behind::Behind;
+use crate::met::Met;
 use indexmap::IndexSet;
 use pp_base::List;
 
@@ -28,8 +30,8 @@ impl Known {
     }
 }
 
-// The place of the id plus 1, which is past the ids where it isn't there. 0 stays.
-fn place_id(ids: &IndexSet<u64>, id: u64) -> u64
+/// The place of the id plus 1, which is past the ids where it isn't there. 0 stays.
+pub fn place_id(ids: &IndexSet<u64>, id: u64) -> u64
     ensures { result ≡ place_id ids.now.keys id }
 {
     if id == 0 {
@@ -48,7 +50,7 @@ pub enum Ids {
     /// Each id stays.
     Same,
     /// An id becomes its place among these, plus 1.
-    Listed(IndexSet<u64>),
+    Listed(Met),
     /// The table goes behind others.
     Moved(Known, Behind),
     /// The id k + 1 becomes the id at place k, and 0 where there is none.
@@ -56,13 +58,23 @@ pub enum Ids {
 }
 
 impl Ids {
+    /// Whether each id stays.
+    pub fn keeps_all(&self) -> bool
+        ensures { OnTrue result (self.now ≡ Ids.Same) }
+    {
+        match self {
+            Ids::Same => true,
+            _ => false,
+        }
+    }
+
     /// What the id becomes.
     pub fn id(&self, id: u64) -> u64
         ensures { result ≡ new_id self.now id }
     {
         match self {
             Ids::Same => id,
-            Ids::Listed(ids) => place_id(ids, id),
+            Ids::Listed(ids) => ids.id(id),
             Ids::Moved(known, behind) => behind.id(known.id(id)),
             Ids::By(ids) => listed(ids.as_slice(), id),
         }
@@ -74,7 +86,7 @@ impl Ids {
     {
         match self {
             Ids::Same => index,
-            Ids::Listed(ids) => index_of_id(place_id(ids, id_of_index(index))),
+            Ids::Listed(ids) => index_of_id(ids.id(id_of_index(index))),
             Ids::Moved(known, behind) => index_of_id(behind.id(known.id(id_of_index(index)))),
             Ids::By(ids) => index_of_id(listed(ids.as_slice(), id_of_index(index))),
         }

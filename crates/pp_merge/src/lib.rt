@@ -13,6 +13,7 @@ mod join;
 mod known;
 mod laws;
 mod merging;
+mod met;
 mod normalizing;
 mod places;
 mod refusal;

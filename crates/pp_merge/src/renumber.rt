@@ -1,10 +1,11 @@
 //! Tables whose ids and references are given new numbers, in place.
 ghost use Rattle.pp_merge.specs.Renumbered.{renumbered_label, renumbered_line, renumbered_type, renumbered_function, renumbered_mapping, renumbered_location, renumbered_sample, renumbered, with_header, new_ids};
 ghost use Rattle.pp_merge.specs.Ids.{new_id, new_text};
-ghost use Rattle.std.specs.Prelude.{◌≡◌};
+ghost use Rattle.std.specs.Prelude.{◌≡◌, map};
 
 use crate::change::{Change, change_each};
 use crate::ids::Ids;
+use pp_base::List;
 use pp_model::{Function, Label, Line, Location, Mapping, Profile, Sample, ValueType};
 
 /// What the ids of each table and the references to it become.
@@ -96,8 +97,32 @@ impl Change<Sample> for Renumbering {
     ghost changed = { λ by. renumbered_sample (new_ids by) };
 
     fn change(&self, sample: &mut Sample) {
-        change_each(&mut sample.location_id, self);
-        change_each(&mut sample.label, self);
+        self.change_locations(&mut sample.location_id);
+        self.change_labels(&mut sample.label);
+    }
+}
+
+impl Renumbering {
+    // Gives the locations of a sample their new ids. Where all ids stay, they are not gone through.
+    #[tactic(auto, using(crate::proofs::KeptIds::same_locations))]
+    fn change_locations(&self, ids: &mut List<u64>)
+        ensures { ids.new ≡ map (new_id self.now.location) ids.old }
+    {
+        if self.location.keeps_all() {
+            return;
+        }
+        change_each(ids, self);
+    }
+
+    // Gives the labels of a sample their new texts.
+    #[tactic(auto, using(crate::proofs::KeptIds::same_labels))]
+    fn change_labels(&self, labels: &mut List<Label>)
+        ensures { labels.new ≡ map (renumbered_label (new_ids self.now)) labels.old }
+    {
+        if self.text.keeps_all() {
+            return;
+        }
+        change_each(labels, self);
     }
 }
 

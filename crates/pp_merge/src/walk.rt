@@ -4,7 +4,7 @@ ghost use Rattle.std.specs.List.{flat_map};
 ghost use Rattle.pp_merge.specs.Walk.{met_with, met_after, function_refs, mapping_ref, text_ids, type_text_ids, label_text_ids, sample_text_ids, mapping_text_ids, function_text_ids, location_refs};
 
 use crate::ids::id_of_index;
-use indexmap::IndexSet;
+use crate::met::Met;
 use pp_base::Memory;
 use pp_model::{Function, Label, Line, Location, Mapping, Sample, ValueType};
 
@@ -27,16 +27,13 @@ pub trait Refers<Table> {
     ghost refs: { Self → List ℕ };
 
     /// Adds the ids that were not met yet.
-    fn meet(&self, met: &mut IndexSet<u64>) -> Result<(), Memory>
-        ensures { OnOk result (met.new.keys ≡ met_after met.old.keys (refs self.now)) };
+    fn meet(&self, met: &mut Met) -> Result<(), Memory>
+        ensures { OnOk result (met.new ≡ met_after met.old (refs self.now)) };
 }
 
 /// Adds the ids to which the items refer, in order.
-pub fn meet_each<Table, T: Refers<Table>>(
-    items: &[T],
-    met: &mut IndexSet<u64>,
-) -> Result<(), Memory>
-    ensures { OnOk result (met.new.keys ≡ met_after met.old.keys (flat_map T.refs items.now)) }
+pub fn meet_each<Table, T: Refers<Table>>(items: &[T], met: &mut Met) -> Result<(), Memory>
+    ensures { OnOk result (met.new ≡ met_after met.old (flat_map T.refs items.now)) }
 {
     for item in items {
         item.meet(met)?;
@@ -45,18 +42,15 @@ pub fn meet_each<Table, T: Refers<Table>>(
 }
 
 /// Adds the id, unless it is 0 or was met.
-pub fn meet_id(id: u64, met: &mut IndexSet<u64>) -> Result<(), Memory>
-    ensures { OnOk result (met.new.keys ≡ met_with met.old.keys id) }
+pub fn meet_id(id: u64, met: &mut Met) -> Result<(), Memory>
+    ensures { OnOk result (met.new ≡ met_with met.old id) }
 {
-    if id != 0 {
-        met.insert_full(id)?;
-    }
-    Ok(())
+    met.meet(id)
 }
 
 // Adds the id of the text with the index.
-fn meet_text(index: i64, met: &mut IndexSet<u64>) -> Result<(), Memory>
-    ensures { OnOk result (met.new.keys ≡ met_after met.old.keys (text_ids index)) }
+fn meet_text(index: i64, met: &mut Met) -> Result<(), Memory>
+    ensures { OnOk result (met.new ≡ met_after met.old (text_ids index)) }
 {
     meet_id(id_of_index(index), met)
 }
@@ -64,7 +58,7 @@ fn meet_text(index: i64, met: &mut IndexSet<u64>) -> Result<(), Memory>
 impl Refers<Locations> for u64 {
     ghost refs = { λ id. id ∷ [] };
 
-    fn meet(&self, met: &mut IndexSet<u64>) -> Result<(), Memory> {
+    fn meet(&self, met: &mut Met) -> Result<(), Memory> {
         meet_id(*self, met)
     }
 }
@@ -72,7 +66,7 @@ impl Refers<Locations> for u64 {
 impl Refers<Locations> for Sample {
     ghost refs = { location_refs };
 
-    fn meet(&self, met: &mut IndexSet<u64>) -> Result<(), Memory> {
+    fn meet(&self, met: &mut Met) -> Result<(), Memory> {
         meet_each::<Locations, u64>(self.location_id.as_slice(), met)
     }
 }
@@ -80,7 +74,7 @@ impl Refers<Locations> for Sample {
 impl Refers<Mappings> for Location {
     ghost refs = { mapping_ref };
 
-    fn meet(&self, met: &mut IndexSet<u64>) -> Result<(), Memory> {
+    fn meet(&self, met: &mut Met) -> Result<(), Memory> {
         meet_id(self.mapping_id, met)
     }
 }
@@ -88,7 +82,7 @@ impl Refers<Mappings> for Location {
 impl Refers<Functions> for Line {
     ghost refs = { λ line. line.function_id ∷ [] };
 
-    fn meet(&self, met: &mut IndexSet<u64>) -> Result<(), Memory> {
+    fn meet(&self, met: &mut Met) -> Result<(), Memory> {
         meet_id(self.function_id, met)
     }
 }
@@ -96,7 +90,7 @@ impl Refers<Functions> for Line {
 impl Refers<Functions> for Location {
     ghost refs = { function_refs };
 
-    fn meet(&self, met: &mut IndexSet<u64>) -> Result<(), Memory> {
+    fn meet(&self, met: &mut Met) -> Result<(), Memory> {
         meet_each::<Functions, Line>(self.line.as_slice(), met)
     }
 }
@@ -104,7 +98,7 @@ impl Refers<Functions> for Location {
 impl Refers<Texts> for i64 {
     ghost refs = { text_ids };
 
-    fn meet(&self, met: &mut IndexSet<u64>) -> Result<(), Memory> {
+    fn meet(&self, met: &mut Met) -> Result<(), Memory> {
         meet_text(*self, met)
     }
 }
@@ -112,7 +106,7 @@ impl Refers<Texts> for i64 {
 impl Refers<Texts> for ValueType {
     ghost refs = { type_text_ids };
 
-    fn meet(&self, met: &mut IndexSet<u64>) -> Result<(), Memory> {
+    fn meet(&self, met: &mut Met) -> Result<(), Memory> {
         meet_text(self.kind, met)?;
         meet_text(self.unit, met)
     }
@@ -121,7 +115,7 @@ impl Refers<Texts> for ValueType {
 impl Refers<Texts> for Label {
     ghost refs = { label_text_ids };
 
-    fn meet(&self, met: &mut IndexSet<u64>) -> Result<(), Memory> {
+    fn meet(&self, met: &mut Met) -> Result<(), Memory> {
         meet_text(self.key, met)?;
         meet_text(self.text, met)?;
         meet_text(self.num_unit, met)
@@ -131,7 +125,7 @@ impl Refers<Texts> for Label {
 impl Refers<Texts> for Sample {
     ghost refs = { sample_text_ids };
 
-    fn meet(&self, met: &mut IndexSet<u64>) -> Result<(), Memory> {
+    fn meet(&self, met: &mut Met) -> Result<(), Memory> {
         meet_each::<Texts, Label>(self.label.as_slice(), met)
     }
 }
@@ -139,7 +133,7 @@ impl Refers<Texts> for Sample {
 impl Refers<Texts> for Mapping {
     ghost refs = { mapping_text_ids };
 
-    fn meet(&self, met: &mut IndexSet<u64>) -> Result<(), Memory> {
+    fn meet(&self, met: &mut Met) -> Result<(), Memory> {
         meet_text(self.file, met)?;
         meet_text(self.build_id, met)
     }
@@ -148,7 +142,7 @@ impl Refers<Texts> for Mapping {
 impl Refers<Texts> for Function {
     ghost refs = { function_text_ids };
 
-    fn meet(&self, met: &mut IndexSet<u64>) -> Result<(), Memory> {
+    fn meet(&self, met: &mut Met) -> Result<(), Memory> {
         meet_text(self.name, met)?;
         meet_text(self.system_name, met)?;
         meet_text(self.filename, met)

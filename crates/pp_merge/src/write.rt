@@ -5,9 +5,9 @@ ghost use Rattle.pp_merge.specs.Walk.{met_after, profile_text_ids, header_text_i
 
 use crate::gather::gather;
 use crate::ids::Ids;
+use crate::met::Met;
 use crate::renumber::{Renumbering, renumber};
 use crate::walk::{Functions, Locations, Mappings, Refers, Texts, meet_each, meet_id};
-use indexmap::IndexSet;
 use pp_base::Memory;
 use pp_model::{Function, Location, Mapping, Profile, Sample, ValueType};
 use std::alloc::Global;
@@ -32,22 +32,22 @@ pub fn write(alloc: Global, mut p: Profile) -> Result<Profile, Memory>
 }
 
 // Keeps the locations of the samples, and gives their ids in order.
-fn keep_locations(alloc: Global, p: &mut Profile) -> Result<IndexSet<u64>, Memory>
-    ensures met { IfOk result (λ met. met.keys ≡ locations_met p.old) }
+fn keep_locations(alloc: Global, p: &mut Profile) -> Result<Met, Memory>
+    ensures met { IfOk result (λ met. met ≡ locations_met p.old) }
     ensures kept { OnOk result (p.new ≡ with_locations p.old) }
 {
-    let mut met = IndexSet::new(alloc);
+    let mut met = Met::new(alloc, p.location.len().saturating_add(1))?;
     meet_each::<Locations, Sample>(p.sample.as_slice(), &mut met)?;
     p.location = gather(alloc, p.location.as_slice(), met.as_slice())?;
     Ok(met)
 }
 
 // Keeps the first mapping and those of the locations, and gives their ids in order.
-fn keep_mappings(alloc: Global, p: &mut Profile) -> Result<IndexSet<u64>, Memory>
-    ensures met { IfOk result (λ met. met.keys ≡ mappings_met p.old) }
+fn keep_mappings(alloc: Global, p: &mut Profile) -> Result<Met, Memory>
+    ensures met { IfOk result (λ met. met ≡ mappings_met p.old) }
     ensures kept { OnOk result (p.new ≡ with_mappings p.old) }
 {
-    let mut met = IndexSet::new(alloc);
+    let mut met = Met::new(alloc, p.mapping.len().saturating_add(1))?;
     meet_id(first_id(p), &mut met)?;
     meet_each::<Mappings, Location>(p.location.as_slice(), &mut met)?;
     p.mapping = gather(alloc, p.mapping.as_slice(), met.as_slice())?;
@@ -62,23 +62,23 @@ fn first_id(p: &Profile) -> u64
 }
 
 // Keeps the functions of the locations, and gives their ids in order.
-fn keep_functions(alloc: Global, p: &mut Profile) -> Result<IndexSet<u64>, Memory>
-    ensures met { IfOk result (λ met. met.keys ≡ functions_met p.old) }
+fn keep_functions(alloc: Global, p: &mut Profile) -> Result<Met, Memory>
+    ensures met { IfOk result (λ met. met ≡ functions_met p.old) }
     ensures kept { OnOk result (p.new ≡ with_functions p.old) }
 {
-    let mut met = IndexSet::new(alloc);
+    let mut met = Met::new(alloc, p.function.len().saturating_add(1))?;
     meet_each::<Functions, Location>(p.location.as_slice(), &mut met)?;
     p.function = gather(alloc, p.function.as_slice(), met.as_slice())?;
     Ok(met)
 }
 
 // Keeps the texts that the profile names, and gives their ids in order.
-fn keep_texts(alloc: Global, p: &mut Profile) -> Result<IndexSet<u64>, Memory>
-    ensures met { IfOk result (λ met. met.keys ≡ texts_met p.old) }
-    ensures few { IfOk result (λ met. length met.keys < 2 ^ 62) }
+fn keep_texts(alloc: Global, p: &mut Profile) -> Result<Met, Memory>
+    ensures met { IfOk result (λ met. met ≡ texts_met p.old) }
+    ensures few { IfOk result (λ met. length met < 2 ^ 62) }
     ensures kept { OnOk result (p.new ≡ with_texts p.old) }
 {
-    let mut met = IndexSet::new(alloc);
+    let mut met = Met::new(alloc, p.text.len().saturating_add(1))?;
     meet_texts(p, &mut met)?;
     // No memory holds so many, and an index of a text has 63 bits.
     if met.len() >= 1 << 62 {
@@ -89,8 +89,8 @@ fn keep_texts(alloc: Global, p: &mut Profile) -> Result<IndexSet<u64>, Memory>
 }
 
 // Meets the texts in the order in which they are numbered.
-fn meet_texts(p: &Profile, met: &mut IndexSet<u64>) -> Result<(), Memory>
-    ensures { OnOk result (met.new.keys ≡ met_after met.old.keys (profile_text_ids p.now)) }
+fn meet_texts(p: &Profile, met: &mut Met) -> Result<(), Memory>
+    ensures { OnOk result (met.new ≡ met_after met.old (profile_text_ids p.now)) }
 {
     meet_id(1, met)?;
     meet_each::<Texts, ValueType>(p.sample_type.as_slice(), met)?;
@@ -101,8 +101,8 @@ fn meet_texts(p: &Profile, met: &mut IndexSet<u64>) -> Result<(), Memory>
 }
 
 // Meets the texts that the header names after its types.
-fn meet_header(p: &Profile, met: &mut IndexSet<u64>) -> Result<(), Memory>
-    ensures { OnOk result (met.new.keys ≡ met_after met.old.keys (header_text_ids p.now)) }
+fn meet_header(p: &Profile, met: &mut Met) -> Result<(), Memory>
+    ensures { OnOk result (met.new ≡ met_after met.old (header_text_ids p.now)) }
 {
     <i64 as Refers<Texts>>::meet(&p.drop_frames, met)?;
     <i64 as Refers<Texts>>::meet(&p.keep_frames, met)?;

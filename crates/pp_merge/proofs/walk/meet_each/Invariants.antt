@@ -5,4 +5,4 @@ use Rattle.pp_merge.proofs.walk.meet_each.Given as goal
 
 abbrev pub invariant-loop-item : goal.invariant-loop-item
 invariant-loop-item g l =
-    l.met.keys ≡ met_after l.initial.met.keys (flat_map g.T.Refers.refs (take l.item-index l.items))
+    l.met ≡ met_after l.initial.met (flat_map g.T.Refers.refs (take l.item-index l.items))
