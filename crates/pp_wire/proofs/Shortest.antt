@@ -1,10 +1,10 @@
 -- The shortest varint, group by group.
-use Rattle.std.proofs.Common.{◌≡◌, ℕ, zero, suc, ◌+◌, ◌-◌, ◌*◌, ◌/◌, ◌%◌, ◌^◌, ◌<◌, ◌≤◌, List, [], ◌∷◌, ◌++◌, length, take, refl, subst, append_assoc, arith}
+use Rattle.std.proofs.Common.{◌≡◌, ℕ, zero, suc, ◌+◌, ◌-◌, ◌*◌, ◌/◌, ◌%◌, ◌^◌, ◌<◌, ◌≤◌, List, [], ◌∷◌, ◌++◌, length, take, refl, ap, ◌∙◌, subst, append_assoc, arith}
 use Rattle.std.proofs.Math.ListN.{set}
 use Rattle.std.proofs.lemmas.List.{take_more_set}
 use Rattle.std.proofs.lemmas.Nat.{shr_below}
 use Rattle.std.proofs.lemmas.Bool.{lt-ltb, le-ltb}
-use Rattle.pp_wire.specs.Spelling.{shortest}
+use Rattle.pp_wire.specs.Spelling.{shortest, varint_bytes}
 
 pub last_group : (more n : ℕ) → n < 128 → shortest more n ≡ n ∷ []
 unfolding shortest
@@ -14,6 +14,15 @@ last_group (suc more) n lt = let test = lt-ltb n 128 lt in rw test refl
 pub next_group : (more fewer n : ℕ) → more ≡ suc fewer → 128 ≤ n → shortest more n ≡ (128 + n % 128) ∷ shortest fewer (n / 128)
 unfolding shortest
 next_group more fewer n one_less high = let test = le-ltb n 128 high in rw (one_less, test) refl
+
+-- a number of one group, and of two
+pub one_group : (n : ℕ) → n < 128 → varint_bytes n ≡ n ∷ []
+one_group n low = last_group 9 n low
+
+pub two_groups : (n : ℕ) → 128 ≤ n → n < 16384 → varint_bytes n ≡ (128 + n % 128) ∷ n / 128 ∷ []
+two_groups n high low =
+    let one_less : 9 ≡ suc 8 = omega arith in
+    next_group 9 8 n one_less high ∙ ap (λ rest. (128 + n % 128) ∷ rest) (last_group 8 (n / 128) (omega (arith, low)))
 
 pub all_groups : (n : ℕ) → shortest 0 n ≡ n ∷ []
 unfolding shortest

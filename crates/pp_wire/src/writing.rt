@@ -9,7 +9,23 @@ use crate::varint::{varint_into, varint_len};
 use pp_base::{Memory, Text, whole_or_nothing};
 
 /// Appends the shortest varint of a number.
+#[tactic(auto, using(crate::proofs::Shortest::one_group, crate::proofs::Shortest::two_groups))]
 pub fn put_varint(out: &mut Text, n: u64) -> Result<(), Memory>
+    ensures ok { OnOk result (out.new ≡ out.old ++ varint_bytes n) }
+    ensures err { OnErr result (out.new ≡ out.old) }
+{
+    // Most numbers are small, and so few bytes are copied without a call.
+    if n < 128 {
+        return out.extend(&[n as u8]);
+    }
+    if n < 16_384 {
+        return out.extend(&[(128 + n % 128) as u8, (n / 128) as u8]);
+    }
+    put_long_varint(out, n)
+}
+
+// The same for a number of any length.
+fn put_long_varint(out: &mut Text, n: u64) -> Result<(), Memory>
     ensures ok { OnOk result (out.new ≡ out.old ++ varint_bytes n) }
     ensures err { OnErr result (out.new ≡ out.old) }
 {
