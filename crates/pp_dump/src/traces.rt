@@ -242,9 +242,22 @@ fn put_others(scope: &Scope, frames: &[Frame], lines: &mut Text) -> Result<(), M
         (map (key_of_frame (profile_of scope.now) scope.now.config.now) frames.now)) }
 {
     for frame in frames {
-        put_frame(scope, b"", frame, lines)?;
+        put_other(scope, frame, lines)?;
     }
     Ok(())
+}
+
+// A frame that nothing stands in front of: its ten places and the three after them are one text.
+#[tactic(auto, unfolding(crate::specs::Traces::frame_line))]
+fn put_other(scope: &Scope, frame: &Frame, lines: &mut Text) -> Result<(), Memory>
+    requires { IsFrameOf (profile_of scope.now) frame.now }
+    ensures { IfOk result (λ _. lines.new ≡ lines.old ++ frame_line []
+        (key_of_frame (profile_of scope.now) scope.now.config.now frame.now)) }
+{
+    let key = key_of(scope.l, frame, scope.config.grain, scope.config.showcolumns);
+    lines.extend(b"             ")?;
+    write_name(scope.l, &key, lines)?;
+    lines.extend(b"\n")
 }
 
 // A frame by the name of its key, below what stands in front of it.
