@@ -1,4 +1,4 @@
--- Places of a stack as the texts of their locations: frames that were left of a profile, and locations that were written.
+-- Places of a stack as the texts of their locations: frames that were left, and locations that were written.
 use Rattle.std.proofs.Common.{◌≡◌, ◌≢◌, ℕ, ℤ, pos, Bool, List, [], ◌∷◌, map, length, get_or, refl, sym, ap, ◌∙◌, subst, arith}
 use Rattle.std.specs.Prelude.{Option, Some, None, option_map}
 use Rattle.std.specs.List.{AllByRecursion, cons_option, slice_get}

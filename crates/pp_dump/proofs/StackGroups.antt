@@ -1,4 +1,4 @@
--- The groups of a stack that the filters leave: frames of one location each, and where that has no lines one frame alone.
+-- The groups of a stack that the filters leave: frames of one location each, one alone where that has no lines.
 use Rattle.std.proofs.Common.{◌≡◌, ◌≢◌, ℕ, zero, suc, ◌+◌, ◌-◌, ◌<◌, ◌≤◌, Bool, true, false, List, [], ◌∷◌, ◌++◌, map, filter, length, take, drop, All, Contains, refl, sym, ap, ◌∙◌, arith}
 use Rattle.std.specs.Prelude.{◌==◌, if◌then◌else◌, IfSome}
 use Rattle.std.specs.List.{AllByRecursion, range_with_len}

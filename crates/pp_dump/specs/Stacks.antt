@@ -16,7 +16,8 @@ use Rattle.pp_merge.specs.Sums.{counts}
 use Rattle.pp_merge.specs.Totals.{sum_passing}
 use Rattle.pp_restack.specs.Stacks.{by_place, cut_location}
 
--- A place of a stack: the mapping, address and folded flag of its location, the lines that are left of it, and the frames.
+-- A place of a stack: the mapping, address and folded flag of its location, the lines that are left of it, and its
+-- frames.
 pub record PlaceText : Type 0 where
   pub mapping : Option MappingText
   pub address : ℕ
@@ -81,9 +82,9 @@ left_stacks p f config =
 abbrev pub without_values : List (StackText × List ℤ) → List StackText
 without_values samples = map (λ s. s.0) samples
 
--- The samples of the saved profile are those that the filters leave, where equal ones became one and those of 0 went: each
--- is one of them, no two are equal, each has a value that isn't 0, and the sum of each column is what it was over the
--- samples that pass a test, whatever the test asks of stack and labels.
+-- The samples of the saved profile are those that the filters leave, where equal ones became one and those of 0 went:
+-- each is one of them, no two are equal, each has a value that isn't 0, and the sum of each column is what it was over
+-- the samples that pass a test, whatever the test asks of stack and labels.
 pub record KeepsStacks (p : Profile) (f : Finders) (config : Config) (q : Profile) : Type 0 where
   pub each
       : All (Contains (without_values (left_stacks p f config))) (without_values (whole_stacks q))

@@ -39,8 +39,8 @@ pub record SeesAlike (config d : Config) : Type 0 where
   pub tagfocus : d.tagfocus ≡ []
   pub tagignore : d.tagignore ≡ []
 
--- Without filters, the sum of a column of q over the samples whose keys pass a test is what it is of p with them, whatever the
--- test asks of the keys of a sample: so are the sums of each key, of each leaf and of each pair.
+-- Without filters, the sum of a column of q over the samples whose keys pass a test is what it is of p with them,
+-- whatever the test asks of the keys of a sample: so are the sums of each key, of each leaf and of each pair.
 abbrev pub KeepsSums : Profile → Finders → Config → Profile → Type 0
 KeepsSums p f config q =
     (d : Config) → SeesAlike config d → (test : List Written → Bool) → (column : ℕ)
@@ -48,8 +48,8 @@ KeepsSums p f config q =
     → sum_where test (seen_samples q no_finders d (Some column) q.sample)
     ≡ sum_where test (seen_samples p f config (Some column) p.sample)
 
--- A column counts the same of q without filters as of p with them: some sample whose value isn't 0 passes a test of its keys
--- in both or in neither, so the same keys and pairs occur; and the absolute values add up to the same.
+-- A column counts the same of q without filters as of p with them: some sample whose value isn't 0 passes a test of its
+-- keys in both or in neither, so the same keys and pairs occur; and the absolute values add up to the same.
 pub record SameKeys (p : Profile) (f : Finders) (config : Config) (q : Profile) (d : Config)
     (column : ℕ) : Type 0 where
   pub some : (test : List Written → Bool)
@@ -66,7 +66,8 @@ KeepsKeys p f config q =
     All (λ s. All (λ v. pos 0 ≤ℤ v) s.value) p.sample → (d : Config) → SeesAlike config d
     → (column : ℕ) → column < length p.sample_type → SameKeys p f config q d column
 
--- All that is said of q as a whole is what is said of p, but for the two patterns. So each text asks for the same column.
+-- All that is said of q as a whole is what is said of p, but for the two patterns. So each text asks for the same
+-- column.
 pub record KeepsHeader (p q : Profile) : Type 0 where
   pub header : header_of q [] ≡ patternless p
   pub columns : (text : List ℕ) → column_of q text ≡ column_of p text
