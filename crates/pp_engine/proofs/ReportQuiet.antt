@@ -17,8 +17,9 @@ use Rattle.pp_model.specs.Frames.{Written}
 use Rattle.pp_pattern.specs.Report.{judge}
 use Rattle.pp_report.specs.declared.refusal.ReportRefusal.{ReportRefusal}
 use Rattle.pp_report.specs.Patterns.{own_pattern, ask_patterns}
-use Rattle.pp_report.specs.Prepared.{Showing, prepare_counts, prepare_showing, showing_for, prepare}
-use Rattle.pp_report.specs.Reports.{list_text, text_by, finish}
+use Rattle.pp_report.specs.Prepared.{Showing, prepare_counts, prepare_showing, showing_for, prepare_on, prepare}
+use Rattle.pp_report.specs.Reports.{list_text, text_by, finish_on, finish}
+use Rattle.pp_report.specs.Tagged.{basis_of}
 use Rattle.pp_source.specs.SourceText.{file_text}
 use Rattle.pp_source.specs.declared.source.Source.{Source}
 use Rattle.pp_source.specs.declared.source.TheConstants.{SOURCE_LIMIT}
@@ -53,8 +54,8 @@ module _ (test : Step → Bool) where
     only_settled report (Ok showing) = only_showing report showing
     only_settled report (Err refusal) = tt
 
-    only_prepare : (report : Report) → Only test (prepare finds l report config)
-    unfolding prepare
+    only_prepare : (report : Report) → Only test (prepare_on finds l report config)
+    unfolding prepare_on
     only_prepare report = only_settled report (showing_for report l.profile config)
 
   module _ (reads : (path : List ℕ) (limit : ℕ) → test (ReadFile path limit) ≡ true) where
@@ -101,29 +102,29 @@ module _ (test : Step → Bool) where
     only_text p f config column h reports.Proto = tt
     only_text p f config column h (reports.List pattern) = only_list p f config column h
 
-    only_finish : (finds : Finds) (l : Loaded) (report : Report) (config : Config) (showing : Showing) → Only test (finish finds l report config showing)
-    unfolding finish
+    only_finish : (finds : Finds) (l : Loaded) (report : Report) (config : Config) (showing : Showing) → Only test (finish_on finds l report config showing)
+    unfolding finish_on
     only_finish finds l report config showing = only_text l.profile _ config showing.column _ report
 
 -- What comes before a report's text only looks.
 pub prepare_looks : (finds : Finds) (l : Loaded) (report : Report) (config : Config) → Only only_looks (prepare finds l report config)
-prepare_looks finds l report config = only_prepare only_looks (λ pattern. refl) finds l config report
+prepare_looks finds l report config = only_prepare only_looks (λ pattern. refl) finds (basis_of report l config) config report
 
 -- It reads no line.
 pub prepare_reads_no_line : (finds : Finds) (l : Loaded) (report : Report) (config : Config) → Only reads_no_line (prepare finds l report config)
-prepare_reads_no_line finds l report config = only_prepare reads_no_line (λ pattern. refl) finds l config report
+prepare_reads_no_line finds l report config = only_prepare reads_no_line (λ pattern. refl) finds (basis_of report l config) config report
 
 -- The text of a report only looks.
 pub finish_looks : (finds : Finds) (l : Loaded) (report : Report) (config : Config) (showing : Showing) → Only only_looks (finish finds l report config showing)
-finish_looks finds l report config showing = only_finish only_looks (λ path limit. refl) finds l report config showing
+finish_looks finds l report config showing = only_finish only_looks (λ path limit. refl) finds (basis_of report l config) report config showing
 
 -- It reads no line.
 pub finish_reads_no_line : (finds : Finds) (l : Loaded) (report : Report) (config : Config) (showing : Showing) → Only reads_no_line (finish finds l report config showing)
-finish_reads_no_line finds l report config showing = only_finish reads_no_line (λ path limit. refl) finds l report config showing
+finish_reads_no_line finds l report config showing = only_finish reads_no_line (λ path limit. refl) finds (basis_of report l config) report config showing
 
 -- Neither writes anything.
 pub prepare_writes_nothing : (finds : Finds) (l : Loaded) (report : Report) (config : Config) → Only writes_nothing (prepare finds l report config)
-prepare_writes_nothing finds l report config = only_prepare writes_nothing (λ pattern. refl) finds l config report
+prepare_writes_nothing finds l report config = only_prepare writes_nothing (λ pattern. refl) finds (basis_of report l config) config report
 
 pub finish_writes_nothing : (finds : Finds) (l : Loaded) (report : Report) (config : Config) (showing : Showing) → Only writes_nothing (finish finds l report config showing)
-finish_writes_nothing finds l report config showing = only_finish writes_nothing (λ path limit. refl) finds l report config showing
+finish_writes_nothing finds l report config showing = only_finish writes_nothing (λ path limit. refl) finds (basis_of report l config) report config showing

@@ -1,11 +1,11 @@
 -- What the writers of reports ask for, and what they leave.
-use Rattle.std.proofs.Common.{◌≡◌, ℕ, ◌<◌, ◌≤◌, ◌^◌, ◌==◌, Bool, true, false, cond, List, [], ◌++◌, nat_abs, refl, sym, ap, ◌∙◌, subst, arith}
-use Rattle.std.specs.Prelude.{Option, Some, None, Result, Ok, Err, IfOk, OnOk, if◌then◌else◌}
-use Rattle.std.specs.List.{filter, sum_by}
+use Rattle.std.proofs.Common.{◌≡◌, ℕ, ◌<◌, ◌^◌, ◌==◌, true, false, cond, List, [], ◌++◌, nat_abs, refl, sym, ap, ◌∙◌, subst, arith}
+use Rattle.std.specs.Prelude.{Option, Some, None, Result, Ok, Err, if◌then◌else◌}
+use Rattle.std.specs.List.{filter}
 use Rattle.std.specs.Option.{is_some}
 use Rattle.pp_desk.specs.declared.stop.Stop.{Stop}
 use Rattle.pp_desk.specs.Script.{Script, Give, Make, ◌>>=◌}
-use Rattle.pp_desk.specs.Went.{Went, beside}
+use Rattle.pp_desk.specs.Went.{Went}
 use Rattle.pp_desk.specs.World.{World}
 use Rattle.pp_desk.proofs.Going.{gives, goes_give, stops_first}
 use Rattle.pp_model.specs.declared.config.Config.{Config}
@@ -21,9 +21,9 @@ use Rattle.pp_model.specs.Sizes.{IsCountable}
 use Rattle.pp_pattern.specs.Report.{Finds}
 use Rattle.pp_count.specs.declared.counted.Counted.{Counted}
 use Rattle.pp_count.specs.Column.{selected}
-use Rattle.pp_count.specs.Counted.{CanCount, IsCountedOf}
+use Rattle.pp_count.specs.Counted.{IsCountedOf}
 use Rattle.pp_count.specs.Counts.{is_base, total_by, total_over, total_of, filtered_samples}
-use Rattle.pp_count.specs.Seeing.{HoldsFilters, absolute_all, filtered_stack}
+use Rattle.pp_count.specs.Seeing.{absolute_all, filtered_stack}
 use Rattle.pp_count.proofs.Kept.{values_fit}
 use Rattle.pp_count.proofs.Totals.{filter_size}
 use Rattle.pp_graph.specs.declared.ranking.Ranked.{Ranked}
@@ -39,7 +39,7 @@ use Rattle.pp_report.specs.declared.refusal.ReportRefusal.{ReportRefusal}
 use Rattle.pp_report.specs.declared.refusal.ReportRefusal.TheVariants.{NoMatch}
 use Rattle.pp_report.specs.Patterns.{report_finders}
 use Rattle.pp_report.specs.Prepared.{Showing, AreCounts, HasCounts}
-use Rattle.pp_report.specs.Reports.{of_found, finish, finish_by, text_by}
+use Rattle.pp_report.specs.Reports.{of_found, finish_on, finish_by, text_by}
 
 -- what a ranking shows can be written
 pub can_show : (l : Loaded) (v : Verdicts) (config : Config) (column : Option ℕ) (limit : ℕ) (c : Counted) (t : Ranked)
@@ -136,8 +136,8 @@ module _ (script : Script (Option (List ℕ))) where
 module _ (finds : Finds) (l : Loaded) (report : Report) (config : Config) where
   -- a comments report has counted nothing
   pub finish_comments : (w : World) (s : Showing) (text : List ℕ) → report ≡ reports.Comments → text ≡ comments_text l.profile
-      → Went w w (finish finds l report config s) (Ok (Ok text))
-  unfolding finish text_by
+      → Went w w (finish_on finds l report config s) (Ok (Ok text))
+  unfolding finish_on text_by
   finish_comments w s text comments is =
       subst (λ r. Went {T = Result (List ℕ) ReportRefusal} w w (finish_by l.profile (report_finders finds l r config) config s r) (Ok (Ok text))) (sym comments)
       (subst (λ t. Went {T = Result (List ℕ) ReportRefusal} w w (Give (Ok (comments_text l.profile))) (Ok (Ok t))) (sym is) (gives w (Ok (comments_text l.profile))))

@@ -1,4 +1,5 @@
 pub mod PatternLemmas
+pub mod TypesLemmas
 pub mod PreparingLemmas
 pub mod FinishingLemmas
 pub mod GeneratingLemmas

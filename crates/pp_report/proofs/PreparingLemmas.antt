@@ -1,6 +1,6 @@
 -- How the stages went that settle what a report is made of.
 use Rattle.std.proofs.Common.{◌≡◌, ℕ, List, [], ◌++◌, append-nil, refl, sym, ap, ◌∙◌, subst}
-use Rattle.std.specs.Prelude.{Result, Ok, Err, None}
+use Rattle.std.specs.Prelude.{Result, Ok, Err, Option, None, unwrap_or}
 use Rattle.pp_base.specs.Front.{IsFront}
 use Rattle.pp_desk.specs.declared.stop.Stop.{Stop}
 use Rattle.pp_desk.specs.declared.stop.Stop.TheVariants as stops
@@ -22,9 +22,10 @@ use Rattle.pp_pattern.specs.Report.{Finds, AreVerdictsOf}
 use Rattle.pp_report.specs.declared.prepared.Prepared.{Prepared}
 use Rattle.pp_report.specs.declared.refusal.ReportRefusal.{ReportRefusal}
 use Rattle.pp_report.specs.declared.shows.Shows.{Shows}
-use Rattle.pp_report.specs.Notes.{notes_by, notes_text}
+use Rattle.pp_report.specs.Notes.{notes_by}
 use Rattle.pp_report.specs.Patterns.{own_pattern, report_finders, ask_patterns}
-use Rattle.pp_report.specs.Prepared.{Settled, Showing, showing, settled_by, settled_of, answered, prepare, prepare_counts, prepare_showing, IsCounted, IsCountedBy, HasCounts, IsPrepared, showing_for}
+use Rattle.pp_report.specs.Prepared.{Settled, Showing, showing, settled_by, settled_of, notes_of, answered, prepare_on, prepare_counts, prepare_showing, IsCounted, IsCountedBy, IsCountedOver, HasCounts, IsPrepared, showing_for}
+use Rattle.pp_report.specs.Tagged.{basis_of}
 use Rattle.pp_report.proofs.PatternLemmas.{report_holds, can_count}
 
 module _ (finds : Finds) (l : Loaded) (report : Report) (config : Config) (known : Shows) (a b : World) where
@@ -83,34 +84,66 @@ is_counted finds l report config known v are compact countable below prepared co
         can = can_count finds l report config v are known.column countable below;
         are = counted.counts_all;
       });
-  notes_front = front_same prepared.notes (notes_text l.profile (report_finders finds l report config) config)
+  notes_front = front_same prepared.notes (notes_of finds l report config)
       (ap (λ (p : Prepared). p.notes) counted.are
       ∙ ap (notes_by config) (counted.counts_all.matches (report_finders finds l report config) (report_holds finds l report config v are compact)));
 }
 
 -- what was not counted
 pub is_uncounted : (finds : Finds) (l : Loaded) (report : Report) (config : Config) (known : Shows) (prepared : Prepared)
-    → report ≡ reports.Comments → prepared ≡ record { notes = []; shows = known; counts = None } → IsCounted finds l report config known prepared
+    → report ≡ reports.Comments → prepared ≡ record { notes = []; shows = known; counts = None; tagged = None } → IsCounted finds l report config known prepared
 is_uncounted finds l report config known prepared comments is = record {
   shows_that = ap (λ (p : Prepared). p.shows) is;
   has_counts = subst (λ counts. HasCounts finds l report config known.column counts) (sym (ap (λ (p : Prepared). p.counts) is)) comments;
   notes_front =
-      let all = notes_text l.profile (report_finders finds l report config) config in
+      let all = notes_of finds l report config in
       (all, ap (λ (p : Prepared). p.notes ++ all) (sym is));
 }
 
+-- what was counted over the profile that a report is made of
+pub counted_over : (finds : Finds) (l made_of : Loaded) (report : Report) (config : Config) (known : Shows) (prepared : Prepared) (tagged : Option Loaded)
+    → unwrap_or tagged l ≡ made_of → IsCounted finds made_of report config known prepared
+    → IsCountedOver finds l made_of report config known (record prepared { tagged = tagged })
+counted_over finds l made_of report config known prepared tagged basis counted = record {
+  basis = basis;
+  settled = record { shows_that = counted.shows_that; has_counts = counted.has_counts; notes_front = counted.notes_front };
+}
+
+module _ (finds : Finds) (over made_of : Loaded) (same : over ≡ made_of) (report : Report) (config : Config) (s : Showing) (a b : World) where
+  -- how it went over the profile that the report is made of
+  pub over_went : (r : Result (Result Settled ReportRefusal) Stop) → Went a b (prepare_showing finds over report config s) r
+      → Went a b (prepare_showing finds made_of report config s) r
+  over_went r went = subst (λ q. Went a b (prepare_showing finds q report config s) r) same went
+
+  pub over_prepared : (answer : Result Prepared ReportRefusal) (prepared whole : Prepared) (tagged : Option Loaded) → answer ≡ Ok prepared
+      → whole ≡ record prepared { tagged = tagged } → Went a b (prepare_showing finds over report config s) (answered (Ok answer))
+      → Went a b (prepare_showing finds made_of report config s) (answered (Ok (Ok whole)))
+  over_prepared answer prepared whole tagged is all went =
+      subst (λ (w : Prepared). Went a b (prepare_showing finds made_of report config s) (answered (Ok (Ok w)))) (sym all)
+      (over_went (answered (Ok (Ok prepared))) (subst (λ x. Went a b (prepare_showing finds over report config s) (answered (Ok x))) is went))
+
+  pub over_refused : (answer : Result Prepared ReportRefusal) (r : ReportRefusal) → answer ≡ Err r
+      → Went a b (prepare_showing finds over report config s) (answered (Ok answer))
+      → Went a b (prepare_showing finds made_of report config s) (answered (Ok (Err r)))
+  over_refused answer r is went =
+      over_went (answered (Ok (Err r))) (subst (λ x. Went a b (prepare_showing finds over report config s) (answered (Ok x))) is went)
+
 -- All is settled, where it is known what the report shows.
 pub is_prepared : (finds : Finds) (l : Loaded) (report : Report) (config : Config) (known : Shows) (prepared : Prepared)
-    → Ok (showing known) ≡ showing_for report l.profile config → IsCounted finds l report config known prepared → IsPrepared finds l report config prepared
-is_prepared finds l report config known prepared shows counted = record {
-  shows_what = sym shows ∙ ap (λ (s : Shows). Ok (showing s)) (sym counted.shows_that);
-  has_counts = subst (λ (s : Shows). HasCounts finds l report config s.column prepared.counts) (sym counted.shows_that) counted.has_counts;
-  notes_front = counted.notes_front;
+    → Ok (showing known) ≡ showing_for report (basis_of report l config).profile config → IsCountedOver finds l (basis_of report l config) report config known prepared
+    → IsPrepared finds l report config prepared
+is_prepared finds l report config known prepared shows over = record {
+  basis = over.basis;
+  settled = record {
+    shows_what = sym shows ∙ ap (λ (s : Shows). Ok (showing s)) (sym over.settled.shows_that);
+    has_counts = subst (λ (s : Shows). HasCounts finds (basis_of report l config) report config s.column prepared.counts) (sym over.settled.shows_that) over.settled.has_counts;
+    notes_front = over.settled.notes_front;
+  };
 }
 
 module _ (finds : Finds) (l : Loaded) (config : Config) (known : Shows) (w : World) where
   -- a comments report asks for nothing
-  pub showing_comments : (prepared : Prepared) → prepared ≡ record { notes = []; shows = known; counts = None }
+  pub showing_comments : (prepared : Prepared) → prepared ≡ record { notes = []; shows = known; counts = None; tagged = None }
       → Went w w (prepare_showing finds l reports.Comments config (showing known)) (answered (Ok (Ok prepared)))
   unfolding prepare_showing
   showing_comments prepared is =
@@ -134,13 +167,13 @@ showing_counts finds l (reports.List pattern) config s other = refl
 module _ (finds : Finds) (l : Loaded) (report : Report) (config : Config) where
   -- it is known what the report shows
   pub prepare_shown : (a b : World) (s : Showing) (answer : Result (Result Settled ReportRefusal) Stop) → Ok s ≡ showing_for report l.profile config
-      → Went a b (prepare_showing finds l report config s) answer → Went a b (prepare finds l report config) answer
-  unfolding prepare
+      → Went a b (prepare_showing finds l report config s) answer → Went a b (prepare_on finds l report config) answer
+  unfolding prepare_on
   prepare_shown a b s answer known went = subst (λ k. Went a b (go_on (prepare_showing finds l report config) k) answer) known went
 
   -- it is refused at once
   pub prepare_refused : (w : World) (r : ReportRefusal) → Err r ≡ showing_for report l.profile config
-      → Went w w (prepare finds l report config) (Ok (Err r))
-  unfolding prepare
+      → Went w w (prepare_on finds l report config) (Ok (Err r))
+  unfolding prepare_on
   prepare_refused w r known =
       subst (λ k. Went {T = Result Settled ReportRefusal} w w (go_on (prepare_showing finds l report config) k) (Ok (Err r))) known (gives w (Err r))

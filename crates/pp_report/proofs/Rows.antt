@@ -1,12 +1,12 @@
 -- Worked rows of messages, notes and units.
 use Rattle.std.proofs.Common.{◌≡◌, refl, true, false, [], ◌∷◌, codes}
-use Rattle.std.specs.Prelude.{Some, None, Ok, Err}
+use Rattle.std.specs.Prelude.{Some, None}
 use Rattle.pp_model.specs.declared.report.Report.TheVariants as reports
 use Rattle.pp_model.specs.declared.verdicts.Slot.TheVariants as slots
 use Rattle.pp_model.specs.Defaults.{defaults}
 use Rattle.pp_units.specs.Scales.{is_named, scale_of}
 use Rattle.pp_units.specs.Shown.{forced, is_same_kind}
-use Rattle.pp_report.specs.declared.refusal.ReportRefusal.TheVariants.{BadSampleIndex, UnitMismatch, PatternRefused, NoMatch}
+use Rattle.pp_report.specs.declared.refusal.ReportRefusal.TheVariants.{BadSampleIndex, PatternRefused, NoMatch}
 use Rattle.pp_report.specs.Heads.{wanted_unit}
 use Rattle.pp_report.specs.Messages.{refusal_line}
 use Rattle.pp_report.specs.Names.{option_name}

@@ -1,5 +1,5 @@
 -- What is settled before the text of a report is made: what it shows, what it asks for, and its notes.
-use Rattle.std.specs.Prelude.{◌≡◌, ℕ, List, [], Option, Some, None, Result, Ok, Err, option_map}
+use Rattle.std.specs.Prelude.{◌≡◌, ℕ, List, [], Option, Some, None, Result, Ok, Err, option_map, unwrap_or}
 use Rattle.pp_base.specs.Front.{IsFront}
 use Rattle.pp_desk.specs.declared.stop.Stop.{Stop}
 use Rattle.pp_desk.specs.Asking.{Asking, ◌>>=◌, go_on}
@@ -24,6 +24,7 @@ use Rattle.pp_report.specs.declared.refusal.ReportRefusal.TheVariants.{BadSample
 use Rattle.pp_report.specs.Heads.{wanted_unit, unit_text}
 use Rattle.pp_report.specs.Notes.{notes_by, notes_text}
 use Rattle.pp_report.specs.Patterns.{report_finders, ask_patterns}
+use Rattle.pp_report.specs.Tagged.{basis_of}
 
 -- The column of values that a report shows, and the unit that is asked for.
 pub record Showing : Type 0 where
@@ -52,12 +53,14 @@ pub record Settled : Type 0 where
   pub showing : Showing
   pub notes : List ℕ
 
+-- the notes of a report that is made of the profile
+abbrev pub notes_of : Finds → Loaded → Report → Config → List ℕ
+notes_of finds l report config = notes_text l.profile (report_finders finds l report config) config
+
 -- what is settled of a report that shows this, once its patterns are known
 abbrev pub settled_of : Finds → Loaded → Report → Config → Showing → Settled
-settled_of finds l report config showing = record {
-  showing = showing;
-  notes = notes_text l.profile (report_finders finds l report config) config;
-}
+settled_of finds l report config showing =
+    record { showing = showing; notes = notes_of finds l report config }
 
 -- Asks for the patterns of a report that shows this.
 unfoldable pub prepare_counts : Finds → Loaded → Report → Config → Showing → Asking ReportRefusal Settled
@@ -71,11 +74,15 @@ prepare_showing finds l reports.Comments config showing =
     Give (Ok (record { showing = showing; notes = [] }))
 prepare_showing finds l report config showing = prepare_counts finds l report config showing
 
--- What is done before the text of a report is made. No pattern is asked of one that is
--- refused for its column or its unit.
-unfoldable pub prepare : Finds → Loaded → Report → Config → Asking ReportRefusal Settled
-prepare finds l report config =
+-- What is done before the text of a report is made that is made of this profile. No pattern is asked of one that is refused
+-- for its column or its unit.
+unfoldable pub prepare_on : Finds → Loaded → Report → Config → Asking ReportRefusal Settled
+prepare_on finds l report config =
     go_on (prepare_showing finds l report config) (showing_for report l.profile config)
+
+-- The same of the loaded profile, which may first get frames from labels.
+abbrev pub prepare : Finds → Loaded → Report → Config → Asking ReportRefusal Settled
+prepare finds l report config = prepare_on finds (basis_of report l config) report config
 
 -- what `Shows` says
 abbrev pub showing : Shows → Showing
@@ -103,19 +110,31 @@ abbrev pub HasCounts : Finds → Loaded → Report → Config → Option ℕ →
 HasCounts finds l report config column None = report ≡ reports.Comments
 HasCounts finds l report config column (Some counts) = AreCounts finds l report config column counts
 
--- All is settled for the text of the report.
-pub record IsPrepared (finds : Finds) (l : Loaded) (report : Report) (config : Config) (prepared : Prepared)
+-- All is settled for the text of the report that is made of this profile.
+pub record IsPreparedOn (finds : Finds) (l : Loaded) (report : Report) (config : Config) (prepared : Prepared)
     : Type 0 where
   pub shows_what : showing_for report l.profile config ≡ Ok (showing prepared.shows)
   pub has_counts : HasCounts finds l report config prepared.shows.column prepared.counts
-  pub notes_front : IsFront prepared.notes (notes_text l.profile (report_finders finds l report config) config)
+  pub notes_front : IsFront prepared.notes (notes_of finds l report config)
+
+-- The same over the loaded profile.
+pub record IsPrepared (finds : Finds) (l : Loaded) (report : Report) (config : Config) (prepared : Prepared)
+    : Type 0 where
+  pub basis : unwrap_or prepared.tagged l ≡ basis_of report l config
+  pub settled : IsPreparedOn finds (basis_of report l config) report config prepared
 
 -- The same, where it is known what the report shows. No public clause cites it.
 pub record IsCounted (finds : Finds) (l : Loaded) (report : Report) (config : Config) (known : Shows)
     (prepared : Prepared) : Type 0 where
   pub shows_that : prepared.shows ≡ known
   pub has_counts : HasCounts finds l report config known.column prepared.counts
-  pub notes_front : IsFront prepared.notes (notes_text l.profile (report_finders finds l report config) config)
+  pub notes_front : IsFront prepared.notes (notes_of finds l report config)
+
+-- The same, with the profile that the report is made of in the place of the loaded one. No public clause cites it.
+pub record IsCountedOver (finds : Finds) (l made_of : Loaded) (report : Report) (config : Config) (known : Shows)
+    (prepared : Prepared) : Type 0 where
+  pub basis : unwrap_or prepared.tagged l ≡ made_of
+  pub settled : IsCounted finds made_of report config known prepared
 
 -- The samples are counted by these verdicts, and the notes are those by their matches. No public clause cites it.
 pub record IsCountedBy (l : Loaded) (config : Config) (known : Shows) (v : Verdicts) (prepared : Prepared)
@@ -125,5 +144,6 @@ pub record IsCountedBy (l : Loaded) (config : Config) (known : Shows) (v : Verdi
     notes = notes_by config sums.matched.slots;
     shows = known;
     counts = Some (record { verdicts = v; counted = sums });
+    tagged = None;
   }
   pub counts_all : IsCountedOf l v config known.column sums

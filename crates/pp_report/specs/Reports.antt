@@ -1,5 +1,5 @@
 -- What a report comes to: its notes, and its text or a refusal.
-use Rattle.std.specs.Prelude.{◌≡◌, ℕ, Bool, List, [], length, drop, Option, Some, None, Result, Ok, Err, if◌then◌else◌}
+use Rattle.std.specs.Prelude.{ℕ, List, [], length, drop, Option, Some, None, Result, Ok, Err, if◌then◌else◌}
 use Rattle.pp_desk.specs.declared.stop.Stop.{Stop}
 use Rattle.pp_desk.specs.Script.{Script, Give, ◌>>=◌}
 use Rattle.pp_model.specs.declared.config.Config.{Config}
@@ -15,6 +15,7 @@ use Rattle.pp_count.specs.Counted.{has_own_match}
 use Rattle.pp_graph.specs.Trim.{node_limit}
 use Rattle.pp_top.specs.Top.{top_text}
 use Rattle.pp_tree.specs.Tree.{tree_text}
+use Rattle.pp_calltree.specs.Text.{calltree_text}
 use Rattle.pp_tree.specs.Peek.{peek_text}
 use Rattle.pp_dump.specs.Traces.{traces_text}
 use Rattle.pp_dump.specs.TagLines.{tags_text}
@@ -27,6 +28,7 @@ use Rattle.pp_report.specs.declared.refusal.ReportRefusal.TheVariants.{NoMatch}
 use Rattle.pp_report.specs.Heads.{report_head}
 use Rattle.pp_report.specs.Patterns.{report_finders}
 use Rattle.pp_report.specs.Prepared.{Showing, Settled, prepare}
+use Rattle.pp_report.specs.Tagged.{basis_of}
 
 -- the text that was made, if the own pattern found something
 abbrev pub of_found : Option (List ℕ) → Result (List ℕ) ReportRefusal
@@ -44,13 +46,19 @@ unfoldable pub list_text : Profile → Finders → Config → Option ℕ → Fac
 list_text p f config column h =
     list_report p f config column h >>= (λ text. Give (of_found text))
 
+-- the text of a tree report: its nodes by their paths from the root where these are asked for, else each key with its
+-- callers and callees
+abbrev pub tree_report_text : Profile → Finders → Config → Option ℕ → Facts → List ℕ
+tree_report_text p f config column h =
+    if config.path_tree then calltree_text p f config column h
+    else tree_text p f config column (node_limit config.nodecount 80) h
+
 -- The text of a report with this head, once its patterns are known. Only a list report reads files.
 unfoldable pub text_by : Profile → Finders → Config → Option ℕ → Facts → Report
     → Script (Result (List ℕ) ReportRefusal)
 text_by p f config column h reports.Top =
     Give (Ok (top_text p f config column (node_limit config.nodecount 0) h))
-text_by p f config column h reports.Tree =
-    Give (Ok (tree_text p f config column (node_limit config.nodecount 80) h))
+text_by p f config column h reports.Tree = Give (Ok (tree_report_text p f config column h))
 text_by p f config column h (reports.Peek pattern) = Give (peek_outcome p f config column h)
 text_by p f config column h reports.Traces = Give (Ok (traces_text p f config column h))
 text_by p f config column h reports.Tags = Give (Ok (tags_text p f config column h))
@@ -65,11 +73,16 @@ abbrev pub finish_by : Profile → Finders → Config → Showing → Report
 finish_by p f config showing report =
     text_by p f config showing.column (report_head p f config showing.column showing.wanted) report
 
--- The text of a report that shows this.
-unfoldable pub finish : Finds → Loaded → Report → Config → Showing
+-- The text of a report that shows this and is made of this profile.
+unfoldable pub finish_on : Finds → Loaded → Report → Config → Showing
     → Script (Result (List ℕ) ReportRefusal)
-finish finds l report config showing =
+finish_on finds l report config showing =
     finish_by l.profile (report_finders finds l report config) config showing report
+
+-- The same of the loaded profile, which may first get frames from labels.
+abbrev pub finish : Finds → Loaded → Report → Config → Showing
+    → Script (Result (List ℕ) ReportRefusal)
+finish finds l report config showing = finish_on finds (basis_of report l config) report config showing
 
 -- What a report comes to.
 pub record Reported : Type 0 where

@@ -5,13 +5,16 @@ ghost use Rattle.pp_model.specs.Finders.{Finders};
 ghost use Rattle.pp_units.specs.Head.{facts};
 ghost use Rattle.pp_count.specs.Counted.{CanCount, IsCountedOf};
 ghost use Rattle.pp_count.specs.Seeing.{HoldsFilters};
-ghost use Rattle.pp_report.specs.Prepared.{showing, IsPrepared};
-ghost use Rattle.pp_report.specs.Reports.{finish, text_by, list_text};
+ghost use Rattle.pp_report.specs.Prepared.{showing, HasCounts, IsPrepared};
+ghost use Rattle.pp_report.specs.Reports.{finish, finish_on, text_by, list_text};
 
 use crate::ReportRefusal;
 use crate::heads::head_of;
 use crate::prepared::{Counts, Prepared};
-use crate::texts::{comments, peek, proto, raw, tags, top, traces, tree};
+use crate::shows::Shows;
+use crate::tagging::basis;
+use crate::texts::{comments, peek, proto, raw, tags, top, traces};
+use crate::trees::tree_report;
 use pp_base::{Gate, Text};
 use pp_desk::{Desk, Stop};
 use pp_model::{Config, Loaded, Report};
@@ -22,7 +25,6 @@ use std::thread::Threads;
 
 /// The text of a report that was prepared, or `NoMatch` where the pattern of a peek or list report finds nothing. Only a list
 /// report reads files.
-#[tactic(auto, using(pp_desk::proofs::Going::going), unfolding(crate::specs::Reports::finish))]
 pub fn finish<R: Threads + Sync, D: Desk, G: Gate>(
     rt: &R,
     alloc: Global,
@@ -37,7 +39,33 @@ pub fn finish<R: Threads + Sync, D: Desk, G: Gate>(
     ensures { Went (D.world desk.old) (D.world desk.new)
         (finish D.finds l.now report.now config.now (showing prepared.shows)) result }
 {
-    let Prepared { shows, counts, .. } = prepared;
+    let Prepared {
+        shows,
+        counts,
+        tagged,
+        ..
+    } = prepared;
+    let over = basis(&tagged, l);
+    finish_on(rt, alloc, over, report, config, shows, counts, desk, gate)
+}
+
+// The text of a report that shows this and is made of this profile.
+#[tactic(auto, using(pp_desk::proofs::Going::going), unfolding(crate::specs::Reports::finish_on))]
+fn finish_on<R: Threads + Sync, D: Desk, G: Gate>(
+    rt: &R,
+    alloc: Global,
+    l: &Loaded,
+    report: &Report,
+    config: &Config,
+    shows: Shows,
+    counts: Option<Counts>,
+    desk: &mut D,
+    gate: &G,
+) -> Result<Result<Text, ReportRefusal>, Stop>
+    requires { HasCounts D.finds l.now report.now config.now shows.column counts }
+    ensures { Went (D.world desk.old) (D.world desk.new)
+        (finish_on D.finds l.now report.now config.now (showing shows)) result }
+{
     let column = shows.column;
     let Some(counts) = counts else {
         return Ok(Ok(comments(alloc, l)?));
@@ -71,7 +99,7 @@ fn text_by<R: Threads + Sync, D: Desk, G: Gate>(
 {
     match report {
         Report::Top => Ok(Ok(top(alloc, l, config, column, counts, head)?)),
-        Report::Tree => Ok(Ok(tree(rt, alloc, l, config, column, counts, head, gate)?)),
+        Report::Tree => Ok(Ok(tree_report(rt, alloc, l, config, column, counts, head, gate)?)),
         Report::Peek(_) => Ok(peek(rt, alloc, l, config, column, counts, head, gate)?),
         Report::Traces => Ok(Ok(traces(alloc, l, config, column, counts, head)?)),
         Report::Tags => Ok(Ok(tags(alloc, l, config, column, counts, head)?)),

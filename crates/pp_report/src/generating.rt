@@ -3,8 +3,8 @@ ghost use Rattle.std.specs.Prelude.{◌≡◌, ◌++◌, OnErr};
 ghost use Rattle.pp_base.specs.Front.{IsFront};
 ghost use Rattle.pp_desk.specs.Went.{Went};
 ghost use Rattle.pp_model.specs.Sizes.{IsCountable};
-ghost use Rattle.pp_report.specs.Notes.{notes_text};
-ghost use Rattle.pp_report.specs.Patterns.{report_finders};
+ghost use Rattle.pp_report.specs.Prepared.{notes_of};
+ghost use Rattle.pp_report.specs.Tagged.{basis_of};
 ghost use Rattle.pp_report.specs.Reports.{report_of, reported, added};
 
 use crate::ReportRefusal;
@@ -17,6 +17,8 @@ use std::alloc::Global;
 use std::thread::Threads;
 
 /// Makes a report: its text, or why there is none. Its notes are appended to `notes`, also where the answer is `NoMatch`.
+///
+/// Where `tagroot` or `tagleaf` names a key, each report but comments is made of the profile with the frames from labels.
 ///
 /// It is refused for its column, then for its unit, both before any pattern is asked, then for the first pattern that the
 /// matcher refuses, and last where the pattern of a peek or list report finds no function that could be shown. `Err` is the
@@ -37,7 +39,7 @@ pub fn generate<R: Threads + Sync, D: Desk, G: Gate>(
         (reported (added notes.old notes.new) result) }
     ensures notes { notes.new ≡ notes.old ++ added notes.old notes.new }
     ensures stopped { OnErr result (IsFront (added notes.old notes.new)
-        (notes_text l.now.profile (report_finders D.finds l.now report.now config.now) config.now)) }
+        (notes_of D.finds (basis_of report.now l.now config.now) report.now config.now)) }
 {
     match prepare(rt, alloc, l, report, config, desk, gate)? {
         Err(refusal) => Ok(Err(refusal)),

@@ -12,7 +12,9 @@ mod prepared;
 mod preparing;
 mod refusal;
 mod shows;
+mod tagging;
 mod texts;
+mod trees;
 
 pub use finishing::finish;
 pub use generating::generate;

@@ -3,7 +3,7 @@
 use crate::shows::Shows;
 use pp_base::Text;
 use pp_count::Counted;
-use pp_model::Verdicts;
+use pp_model::{Loaded, Verdicts};
 
 /// What the patterns of a report find, and what its samples come to.
 #[derive(Drop)]
@@ -20,4 +20,6 @@ pub struct Prepared {
     pub shows: Shows,
     /// None for a comments report, which counts nothing.
     pub counts: Option<Counts>,
+    /// The profile with frames from labels, where the report is made of that one.
+    pub tagged: Option<Loaded>,
 }

@@ -4,13 +4,15 @@ ghost use Rattle.pp_desk.specs.Went.{Went};
 ghost use Rattle.pp_model.specs.Conditions.{IsColumnOf};
 ghost use Rattle.pp_model.specs.Sizes.{IsCountable};
 ghost use Rattle.pp_count.specs.Counted.{CanCount};
-ghost use Rattle.pp_report.specs.Prepared.{prepare, prepare_showing, prepare_counts, showing, answered, IsPrepared, IsCounted, IsCountedBy};
+ghost use Rattle.pp_report.specs.Prepared.{prepare, prepare_showing, prepare_counts, showing, answered, IsPrepared, IsCounted, IsCountedBy, IsCountedOver};
+ghost use Rattle.pp_report.specs.Tagged.{basis_of};
 
 use crate::ReportRefusal;
 use crate::asking::ask_patterns;
 use crate::notes::notes_by;
 use crate::prepared::{Counts, Prepared};
 use crate::shows::{Shows, shows_for};
+use crate::tagging::{basis, tagged_of};
 use pp_base::{Gate, Memory, Text};
 use pp_count::count;
 use pp_desk::{Desk, Stop};
@@ -18,8 +20,9 @@ use pp_model::{Config, Loaded, Report, Verdicts};
 use std::alloc::Global;
 use std::thread::Threads;
 
-/// What is done before the text of a report is made: its column and unit are looked up, its patterns asked, its samples
-/// counted and its notes taken down. No pattern is asked of a report that is refused for its column or its unit.
+/// What is done before the text of a report is made: its column and unit are looked up, frames are made from labels, its
+/// patterns asked, its samples counted and its notes taken down. A report that is refused for its column or its unit gets no
+/// frames, and no pattern is asked of it.
 ///
 /// For callers that hand on the notes before the text is made, since a list report reads files for it: `prepare`, the
 /// notes, and `finish` come to what `generate` does.
@@ -39,12 +42,57 @@ pub fn prepare<R: Threads + Sync, D: Desk, G: Gate>(
         (λ answer. IfOk answer (IsPrepared D.finds l.now report.now config.now)) }
 {
     match shows_for(alloc, l, report, config)? {
-        Ok(shows) => prepare_showing(rt, alloc, l, report, config, shows, desk, gate),
+        Ok(shows) => prepare_over(rt, alloc, l, report, config, shows, desk, gate),
         Err(refusal) => Ok(Err(refusal)),
     }
 }
 
-// The same for a report that shows this.
+// Makes the frames from labels that the report is made with, and goes on over the profile that has these.
+fn prepare_over<R: Threads + Sync, D: Desk, G: Gate>(
+    rt: &R,
+    alloc: Global,
+    l: &Loaded,
+    report: &Report,
+    config: &Config,
+    shows: Shows,
+    desk: &mut D,
+    gate: &G,
+) -> Result<Result<Prepared, ReportRefusal>, Stop>
+    requires countable { IsCountable l.now.profile }
+    requires column { IsColumnOf l.now.profile shows.column }
+    ensures went { Went (D.world desk.old) (D.world desk.new)
+        (prepare_showing D.finds (basis_of report.now l.now config.now) report.now config.now
+        (showing shows)) (answered result) }
+    ensures counted { IfOk result (λ answer. IfOk answer
+        (IsCountedOver D.finds l.now (basis_of report.now l.now config.now) report.now config.now shows)) }
+{
+    let tagged = tagged_of(alloc, report, l, config)?;
+    let over = basis(&tagged, l);
+    match prepare_showing(rt, alloc, over, report, config, shows, desk, gate)? {
+        Ok(prepared) => Ok(Ok(made_of(prepared, tagged))),
+        Err(refusal) => Ok(Err(refusal)),
+    }
+}
+
+// The same, with the profile that it was made of.
+fn made_of(prepared: Prepared, tagged: Option<Loaded>) -> Prepared
+    ensures { result ≡ record prepared { tagged = tagged } }
+{
+    let Prepared {
+        notes,
+        shows,
+        counts,
+        ..
+    } = prepared;
+    Prepared {
+        notes,
+        shows,
+        counts,
+        tagged,
+    }
+}
+
+// What is done before the text of a report is made that shows this.
 fn prepare_showing<R: Threads + Sync, D: Desk, G: Gate>(
     rt: &R,
     alloc: Global,
@@ -69,12 +117,13 @@ fn prepare_showing<R: Threads + Sync, D: Desk, G: Gate>(
 }
 
 fn uncounted(alloc: Global, shows: Shows) -> Prepared
-    ensures { result ≡ record { notes = []; shows = shows; counts = None } }
+    ensures { result ≡ record { notes = []; shows = shows; counts = None; tagged = None } }
 {
     Prepared {
         notes: Text::new(alloc),
         shows,
         counts: None,
+        tagged: None,
     }
 }
 
@@ -123,5 +172,6 @@ fn counted<R: Threads + Sync, G: Gate>(
         notes,
         shows,
         counts: Some(Counts { verdicts, counted }),
+        tagged: None,
     })
 }

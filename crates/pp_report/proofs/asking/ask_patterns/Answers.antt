@@ -1,5 +1,5 @@
-use Rattle.std.proofs.Common.{◌≡◌, refl, subst}
-use Rattle.std.specs.Prelude.{Result, Ok, Err}
+use Rattle.std.proofs.Common.{refl, subst}
+use Rattle.std.specs.Prelude.{Ok}
 use Rattle.pp_desk.specs.Script.{Give}
 use Rattle.pp_desk.specs.Went.{Went}
 use Rattle.pp_desk.proofs.Going.{goes_give}

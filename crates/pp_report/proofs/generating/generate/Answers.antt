@@ -1,4 +1,4 @@
-use Rattle.std.proofs.Common.{◌≡◌, ◌++◌, ap, ◌∙◌, subst}
+use Rattle.std.proofs.Common.{◌++◌, ap, ◌∙◌, subst}
 use Rattle.std.specs.Prelude.{Ok, Result}
 use Rattle.std.proofs.lemmas.Result.{err_from_is_err_and, IfOk-at_ok}
 use Rattle.pp_desk.specs.Went.{Went}
@@ -50,4 +50,4 @@ returns-in_ok-extend-in-Ok-clause-stopped g c =
     let notes = added_some c.args.notes.now c.extend.new.self c.in-Ok.prepared.notes
     (c.in_ok-extend-in-Ok.ensures.ok ∙ ap (λ more. c.args.notes.now ++ more) c.as_slice.ensures) in
     let prepared = IfOk-at_ok _ c.in-Ok.is c.in_ok-refusal.ensures.prepared in
-    on_err c.finish.result (rw notes prepared.notes_front)
+    on_err c.finish.result (rw notes prepared.settled.notes_front)

@@ -1,4 +1,4 @@
-use Rattle.std.proofs.Common.{◌≡◌, ap, sym, subst}
+use Rattle.std.proofs.Common.{subst}
 use Rattle.std.proofs.lemmas.Result.{err_from_is_err_and, IfOk-at_ok}
 use Rattle.pp_model.specs.Rules.{IsCompact}
 use Rattle.pp_report.proofs.PreparingLemmas.{counts_stop, counts_refused, counts_want, counts_all, is_counted}

@@ -1,4 +1,4 @@
-use Rattle.std.proofs.Common.{◌≡◌, ap, ◌∙◌}
+use Rattle.std.proofs.Common.{ap, ◌∙◌}
 use Rattle.pp_dump.specs.Raw.{raw_text}
 use Rattle.pp_report.proofs.FinishingLemmas.{made_text}
 use Rattle.pp_report.proofs.texts.raw.Goals as goal

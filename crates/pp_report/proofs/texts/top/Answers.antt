@@ -1,4 +1,4 @@
-use Rattle.std.proofs.Common.{◌≡◌, ap, ◌∙◌}
+use Rattle.std.proofs.Common.{ap, ◌∙◌}
 use Rattle.pp_units.specs.Head.{facts}
 use Rattle.pp_top.specs.Top.{top_text}
 use Rattle.pp_report.proofs.FinishingLemmas.{can_show, made_text}

@@ -1,0 +1,239 @@
+-- For each key, the flats of its nodes add up to its flat.
+use Rattle.std.proofs.Common.{◌≡◌, ℕ, zero, suc, ◌+◌, ◌<◌, ◌≤◌, Bool, true, false, cond, ◌&&◌, ◌||◌, T, ℤ, pos, ◌+ℤ◌, List, [], ◌∷◌, ◌++◌, length, map, reverse, get_or, All, Option, Some, None, refl, sym, ap, subst, ◌∙◌, arith}
+use Rattle.std.specs.Prelude.{flat_map}
+use Rattle.std.specs.List.{list_any, cons_option, IsDistinct, AllByRecursion}
+use Rattle.std.specs.Ordering.{eq_by_cmp, is_lt, is_eq}
+use Rattle.std.specs.Cmp.{tied_itself}
+use Rattle.std.specs.Option.{is_some}
+use Rattle.std.specs.FinMap as finite
+use Rattle.std.specs.FinMap.Entries.{below_all, is_sorted, is_some-find}
+use Rattle.std.specs.declared.cmp.Ordering.{Ordering}
+use Rattle.std.specs.declared.cmp.Ordering.TheVariants.{Less, Equal, Greater}
+use Rattle.std.proofs.lemmas.Bool.{false≢true}
+use Rattle.std.proofs.lemmas.Cmp.{eq_by_cmp_equiv}
+use Rattle.std.proofs.lemmas.Grind.{reverse_onto}
+use Rattle.std.proofs.lemmas.Int.{ints}
+use Rattle.std.proofs.lemmas.List.Concat.{flat_map-cons}
+use Rattle.std.proofs.lemmas.List.Elements.{All-nil, All-cons, All-head, All-tail}
+use Rattle.std.proofs.lemmas.List.Sums.{get_or-le-sum_by}
+use Rattle.pp_model.specs.Frames.{Written}
+use Rattle.pp_grain.specs.Keys.{key_cmp}
+use Rattle.pp_grain.proofs.CallerLemmas.{key_cmp_total, key_cmp_ties}
+use Rattle.pp_count.specs.Sums.{Seen, sum_where, leads, flat}
+use Rattle.pp_count.specs.Ranks.{set_entry}
+use Rattle.pp_count.proofs.EachOnce.{keys-items}
+use Rattle.pp_calltree.specs.CallTree.{TreeRow, rooted, any_row, is_end, first_key, first_keys, below_key, under, path_flat, siblings, sibling_order, row_of, rows_below, tree_rows, all_lengths}
+use Rattle.pp_calltree.specs.Tree.{flats_with}
+use Rattle.pp_calltree.proofs.Children.{order_total, order_ties, ties}
+
+abbrev eq : Written → Written → Bool
+eq = eq_by_cmp key_cmp
+
+same : (x y : Written) → eq x y ≡ true → x ≡ y
+same x y e = key_cmp_ties x y (ties _ e)
+
+-- the path ends with the key
+abbrev ends : Written → List Written → Bool
+ends k [] = false
+ends k (q ∷ path) = cond (is_end path) (eq k q) (ends k path)
+
+-- what the paths that end with the key come to
+abbrev last_sum : Written → List (Seen Written) → ℤ
+last_sum k S = sum_where (ends k) S
+
+-- a sum over keys
+abbrev total : (Written → ℤ) → List Written → ℤ
+total f [] = pos 0
+total f (q ∷ ks) = f q +ℤ total f ks
+
+total_none : (ks : List Written) → total (λ q. pos 0) ks ≡ pos 0
+total_none [] = refl
+total_none (q ∷ ks) = omega (arith, ints, total_none ks)
+
+total_same : (f g : Written → ℤ) → ((q : Written) → f q ≡ g q) → (ks : List Written) → total f ks ≡ total g ks
+total_same f g is [] = refl
+total_same f g is (q ∷ ks) = λ i. is q i +ℤ total_same f g is ks i
+
+total_plus : (f g : Written → ℤ) (ks : List Written) → total (λ q. f q +ℤ g q) ks ≡ total f ks +ℤ total g ks
+total_plus f g [] = refl
+total_plus f g (q ∷ ks) = omega (arith, ints, total_plus f g ks)
+
+-- no other key ties
+none_tie : (c : ℤ) (p q : Written) (ks : List Written) → eq q p ≡ true → AllByRecursion (λ y. eq q y ≡ false) ks → total (λ y. cond (eq y p) c (pos 0)) ks ≡ pos 0
+none_tie c p q [] e apart = refl
+none_tie c p q (y ∷ ks) e apart =
+    let other : eq y p ≡ false = ap (λ z. eq y z) (sym (same q p e)) ∙ (eq_by_cmp_equiv key_cmp_total).symm y q ∙ apart.0 in
+    (λ i. cond (other i) c (pos 0) +ℤ none_tie c p q ks e apart.1 i)
+
+-- of distinct keys with a given one, only that counts
+one_total : (c : ℤ) (p : Written) (ks : List Written) → IsDistinct eq ks → list_any (eq p) ks ≡ true → total (λ y. cond (eq y p) c (pos 0)) ks ≡ c
+unfolding IsDistinct
+one_total c p [] distinct found = absurd (false≢true found)
+one_total c p (q ∷ ks) distinct found =
+    elim (eq q p) as (λ b. eq q p ≡ b → cond b c (pos 0) +ℤ total (λ y. cond (eq y p) c (pos 0)) ks ≡ c) [
+      | true ↦ λ e. omega (arith, ints, none_tie c p q ks e distinct.0)
+      | false ↦ λ e. omega (arith, ints, one_total c p ks distinct.1 (later (sym ((eq_by_cmp_equiv key_cmp_total).symm p q ∙ e)) found))
+    ] refl where
+      later : {b : Bool} → false ≡ eq p q → (eq p q || b) ≡ true → b ≡ true
+      later {b} other found = ap (λ x. x || b) other ∙ found
+
+module _ (k : Written) where
+  -- what the paths that begin with q come to for the key
+  abbrev part : List (Seen Written) → Written → ℤ
+  part S q = cond (eq k q) (path_flat key_cmp S q) (pos 0) +ℤ last_sum k (under key_cmp q S)
+
+  -- what one of them does
+  abbrev gain : ℤ → List Written → ℤ
+  gain v path = cond (ends k path) v (pos 0)
+
+  part_none : (q : Written) (v : ℤ) (S : List (Seen Written)) → part (record { value = v; keys = [] } ∷ S) q ≡ part S q
+  part_none q v S = refl
+
+  if_sum : (b : Bool) (x y : ℤ) → cond b (x +ℤ y) (pos 0) ≡ cond b x (pos 0) +ℤ cond b y (pos 0)
+  if_sum true x y = refl
+  if_sum false x y = refl
+
+  -- one more path
+  part_more : (q p : Written) (v : ℤ) (path : List Written) (S : List (Seen Written))
+      → part (record { value = v; keys = p ∷ path } ∷ S) q ≡ cond (eq q p) (gain v (p ∷ path)) (pos 0) +ℤ part S q
+  part_more q p v path S =
+      elim (eq q p) as (λ b. eq q p ≡ b → cond (eq k q) (sum_where is_end (cons_option (cond b (Some (record { value = v; keys = path })) None) (under key_cmp q S))) (pos 0)
+      +ℤ sum_where (ends k) (cons_option (cond b (Some (record { value = v; keys = path })) None) (under key_cmp q S)) ≡ cond b (gain v (p ∷ path)) (pos 0) +ℤ part S q) [
+        | true ↦ λ e.
+            ap (λ z. z +ℤ (cond (ends k path) v (pos 0) +ℤ last_sum k (under key_cmp q S))) (if_sum (eq k q) (cond (is_end path) v (pos 0)) (path_flat key_cmp S q))
+            ∙ omega (arith, ints, gained e path)
+        | false ↦ λ e. omega (arith, ints)
+      ] refl where
+        gained : eq q p ≡ true → (r : List Written) → cond (eq k q) (cond (is_end r) v (pos 0)) (pos 0) +ℤ cond (ends k r) v (pos 0) ≡ cond (ends k (p ∷ r)) v (pos 0)
+        gained e [] = ap (λ z. cond (eq k z) v (pos 0) +ℤ pos 0) (same q p e) ∙ plus_none (cond (eq k p) v (pos 0)) where
+          plus_none : (z : ℤ) → z +ℤ pos 0 ≡ z
+          plus_none z = omega (arith, ints)
+        gained e (x ∷ r) = if_none (eq k q) (cond (ends k (x ∷ r)) v (pos 0)) where
+          if_none : (b : Bool) (z : ℤ) → cond b (pos 0) (pos 0) +ℤ z ≡ z
+          if_none true z = omega (arith, ints)
+          if_none false z = omega (arith, ints)
+
+  -- the paths are parted by their first keys
+  parted_by : (ks : List Written) → IsDistinct eq ks → (S : List (Seen Written)) → All (λ q. list_any (eq q) ks ≡ true) (first_keys S) → total (part S) ks ≡ last_sum k S
+  parted_by ks distinct [] all = total_same (part []) (λ q. pos 0) (λ q. nothing (eq k q)) ks ∙ total_none ks where
+    nothing : (b : Bool) → cond b (pos 0) (pos 0) +ℤ pos 0 ≡ pos 0
+    nothing true = refl
+    nothing false = refl
+  parted_by ks distinct (s ∷ S) all = parted_one s.keys s.value all (λ rest. parted_by ks distinct S rest) where
+    parted_one : (keys : List Written) (v : ℤ) → All (λ q. list_any (eq q) ks ≡ true) (cons_option (first_key keys) (first_keys S))
+        → (All (λ q. list_any (eq q) ks ≡ true) (first_keys S) → total (part S) ks ≡ last_sum k S)
+        → total (part (record { value = v; keys = keys } ∷ S)) ks ≡ cond (ends k keys) v (pos 0) +ℤ last_sum k S
+    parted_one [] v all later = later all ∙ omega (arith, ints)
+    parted_one (p ∷ path) v all later =
+        total_same (part (record { value = v; keys = p ∷ path } ∷ S)) (λ q. cond (eq q p) (gain v (p ∷ path)) (pos 0) +ℤ part S q) (λ q. part_more q p v path S) ks
+        ∙ total_plus (λ q. cond (eq q p) (gain v (p ∷ path)) (pos 0)) (part S) ks
+        ∙ (λ i. one_total (gain v (p ∷ path)) p ks distinct (All-head (λ q. list_any (eq q) ks ≡ true) p (first_keys S) all) i
+        +ℤ later (All-tail (λ q. list_any (eq q) ks ≡ true) p (first_keys S) all) i)
+
+  flats_with-append : (a b : List (TreeRow Written)) → flats_with k (a ++ b) ≡ flats_with k a +ℤ flats_with k b
+  flats_with-append [] b = omega (arith, ints)
+  flats_with-append (r ∷ a) b = omega (arith, ints, flats_with-append a b)
+
+  flats_with-all : (F : Written → List (TreeRow Written)) (ks : List Written) → flats_with k (flat_map F ks) ≡ total (λ q. flats_with k (F q)) ks
+  flats_with-all F [] = refl
+  flats_with-all F (q ∷ ks) = ap (flats_with k) (flat_map-cons F q ks) ∙ flats_with-append (F q) (flat_map F ks) ∙ ap (λ z. flats_with k (F q) +ℤ z) (flats_with-all F ks)
+
+-- the keys of a list that rises strictly are distinct
+module _ (R : Written → Written → Ordering) (ties_same : (x y : Written) → eq_by_cmp R x y ≡ eq x y) where
+  both : (a b : Bool) → (a && b) ≡ true → (a ≡ true) × (b ≡ true)
+  both true b e = (refl, e)
+  both false b e = absurd (false≢true e)
+
+  less_apart : (o : Ordering) → is_lt o ≡ true → is_eq o ≡ false
+  less_apart Less e = refl
+  less_apart Equal e = absurd (false≢true e)
+  less_apart Greater e = absurd (false≢true e)
+
+  apart_all : (x : Written) (es : List (Written × Unit {0})) → below_all R x es ≡ true → AllByRecursion (λ y. eq x y ≡ false) (map (λ e. e.0) es)
+  apart_all x [] e = tt
+  apart_all x (y ∷ es) e = let parts = both (is_lt (R x y.0)) (below_all R x es) e in (sym (ties_same x y.0) ∙ less_apart (R x y.0) parts.0, apart_all x es parts.1)
+
+  distinct_all : (es : List (Written × Unit {0})) → is_sorted R es ≡ true → IsDistinct eq (map (λ e. e.0) es)
+  unfolding IsDistinct
+  distinct_all [] e = tt
+  distinct_all (x ∷ es) e = let parts = both (below_all R x.0 es) (is_sorted R es) e in (apart_all x.0 es parts.0, distinct_all es parts.1)
+
+is_true : (b : Bool) → T b → b ≡ true
+is_true true t = refl
+is_true false t = absurd t
+
+found_at : (p : Written → Bool) (xs : List Written) (i : ℕ) (d : Written) → i < length xs → p (get_or xs i d) ≡ true → list_any p xs ≡ true
+found_at p [] i d here e = absurd (omega arith)
+found_at p (x ∷ xs) zero d here e = ap (λ b. b || list_any p xs) e
+found_at p (x ∷ xs) (suc i) d here e = or_later (p x) (list_any p xs) (found_at p xs i d (omega arith) e) where
+  or_later : (a b : Bool) → b ≡ true → (a || b) ≡ true
+  or_later true b e = refl
+  or_later false b e = e
+
+module _ (S : List (Seen Written)) where
+  abbrev as_set : finite.FinMap (sibling_order key_cmp S) (Unit {0})
+  as_set = finite.from_entries {R = sibling_order key_cmp S} (map set_entry (first_keys S))
+
+  siblings_distinct : IsDistinct eq (siblings key_cmp S)
+  siblings_distinct = distinct_all (sibling_order key_cmp S) (order_ties S) (finite.entries as_set) (is_true _ (finite.entries_sorted as_set))
+
+  siblings_found : (q : Written) → list_any (eq q) (first_keys S) ≡ true → list_any (eq q) (siblings key_cmp S) ≡ true
+  siblings_found q found =
+      (λ i. list_any (λ y. sym (order_ties S q y) i) (siblings key_cmp S)) ∙ sym (finite.contains_key-keys as_set q)
+      ∙ ap is_some (finite.get-from_entries (order_total S) (map set_entry (first_keys S)) q) ∙ is_some-find (sibling_order key_cmp S) q (map set_entry (first_keys S))
+      ∙ ap (list_any (eq_by_cmp (sibling_order key_cmp S) q)) (keys-items (sibling_order key_cmp S) (first_keys S))
+      ∙ (λ i. list_any (λ y. order_ties S q y i) (first_keys S)) ∙ found
+
+  siblings_cover : All (λ q. list_any (eq q) (siblings key_cmp S) ≡ true) (first_keys S)
+  siblings_cover i d here =
+      siblings_found (get_or (first_keys S) i d) (found_at (eq (get_or (first_keys S) i d)) (first_keys S) i d here (ap is_eq (tied_itself key_cmp_total (get_or (first_keys S) i d))))
+
+short_one : (m : ℕ) (q : Written) (v : ℤ) (keys : List Written) (R : List (Seen Written)) → length keys ≤ suc m → All (λ (s : Seen Written). length s.keys ≤ m) R
+    → All (λ (s : Seen Written). length s.keys ≤ m) (cons_option (below_key key_cmp q v keys) R)
+short_one m q v [] R here rest = rest
+short_one m q v (p ∷ path) R here rest = elim (eq q p) as (λ b. All (λ (s : Seen Written). length s.keys ≤ m) (cons_option (cond b (Some (record { value = v; keys = path })) None) R)) [
+  | true ↦ All-cons (λ (s : Seen Written). length s.keys ≤ m) (record { value = v; keys = path }) R (omega (arith, here)) rest
+  | false ↦ rest
+]
+
+under_short : (m : ℕ) (q : Written) (S : List (Seen Written)) → All (λ (s : Seen Written). length s.keys ≤ suc m) S → All (λ (s : Seen Written). length s.keys ≤ m) (under key_cmp q S)
+under_short m q [] all = All-nil (λ (s : Seen Written). length s.keys ≤ m)
+under_short m q (s ∷ S) all =
+    short_one m q s.value s.keys (under key_cmp q S) (All-head (λ (s : Seen Written). length s.keys ≤ suc m) s S all)
+    (under_short m q S (All-tail (λ (s : Seen Written). length s.keys ≤ suc m) s S all))
+
+no_last : (k : Written) (S : List (Seen Written)) → All (λ (s : Seen Written). length s.keys ≤ 0) S → last_sum k S ≡ pos 0
+no_last k [] all = refl
+no_last k (s ∷ S) all = one s.keys (All-head (λ (t : Seen Written). length t.keys ≤ 0) s S all) (no_last k S (All-tail (λ (t : Seen Written). length t.keys ≤ 0) s S all)) where
+  one : (keys : List Written) → length keys ≤ 0 → last_sum k S ≡ pos 0 → cond (ends k keys) s.value (pos 0) +ℤ last_sum k S ≡ pos 0
+  one [] here rest = omega (arith, ints, rest)
+  one (p ∷ path) here rest = absurd (omega (arith, here))
+
+by_key_below : (k : Written) (most depth : ℕ) (S : List (Seen Written)) → All (λ (s : Seen Written). length s.keys ≤ most) S
+    → flats_with k (rows_below key_cmp any_row most depth S) ≡ last_sum k S
+by_key_below k zero depth S short = sym (no_last k S short)
+by_key_below k (suc most) depth S short =
+    let F : Written → List (TreeRow Written) = λ q. row_of key_cmp depth S q ∷ rows_below key_cmp any_row most (depth + 1) (under key_cmp q S) in
+    flats_with-all k F (siblings key_cmp S)
+    ∙ total_same (λ q. flats_with k (F q)) (part k S)
+    (λ q. ap (λ z. cond (eq k q) (path_flat key_cmp S q) (pos 0) +ℤ z) (by_key_below k most (depth + 1) (under key_cmp q S) (under_short most q S short)))
+    (siblings key_cmp S)
+    ∙ parted_by k (siblings key_cmp S) (siblings_distinct S) S (siblings_cover S)
+
+ends_push : (k q : Written) (xs : List Written) → ends k (xs ++ q ∷ []) ≡ eq k q
+ends_push k q [] = refl
+ends_push k q (x ∷ []) = refl
+ends_push k q (x ∷ y ∷ xs) = ends_push k q (y ∷ xs)
+
+ends_rooted : (k : Written) (keys : List Written) → ends k (reverse keys) ≡ leads key_cmp k keys
+ends_rooted k [] = refl
+ends_rooted k (q ∷ keys) = ap (ends k) (reverse_onto keys q []) ∙ ends_push k q (reverse keys)
+
+last_rooted : (k : Written) (S : List (Seen Written)) → last_sum k (map rooted S) ≡ flat key_cmp S k
+last_rooted k [] = refl
+last_rooted k (s ∷ S) = λ i. cond (ends_rooted k s.keys i) s.value (pos 0) +ℤ last_rooted k S i
+
+-- The flats of a key's nodes add up to its flat.
+pub flats_add_up : (k : Written) (S : List (Seen Written)) → flats_with k (tree_rows key_cmp any_row (map rooted S)) ≡ flat key_cmp S k
+flats_add_up k S =
+    by_key_below k (all_lengths (map rooted S)) 0 (map rooted S) (λ i d here. get_or-le-sum_by (λ (s : Seen Written). length s.keys) (map rooted S) i d here) ∙ last_rooted k S

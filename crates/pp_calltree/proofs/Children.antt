@@ -1,0 +1,194 @@
+-- The sorted branches of a node are its children in the call tree.
+use Rattle.std.proofs.Common.{◌≡◌, ℕ, zero, suc, ◌+◌, ◌<◌, Bool, true, false, ◌||◌, nat_eq, nat_abs, List, [], ◌∷◌, length, map, get_or, All, Some, refl, sym, ap, subst, ◌∙◌, arith}
+use Rattle.std.specs.List.{list_any, IsDistinct, AllByRecursion}
+use Rattle.std.specs.List.Sorted.{IsPermutation, IsSorted}
+use Rattle.std.specs.Map.{lookup, keys_of}
+use Rattle.std.specs.Option.{unwrap_or, is_some}
+use Rattle.std.specs.Ordering.{nat_cmp, eq_by_cmp, is_lt, is_eq, ordering_then}
+use Rattle.std.specs.Cmp.{IsTotalOrder, nat_cmp_total, tied_itself, unsigned_tied}
+use Rattle.std.specs.declared.cmp.Ordering.{Ordering}
+use Rattle.std.specs.declared.cmp.Ordering.TheVariants.{Less, Equal, Greater}
+use Rattle.std.specs.FinMap.{IsAntisymmetric}
+use Rattle.std.proofs.lemmas.Bool.{false≢true, eq-eqb}
+use Rattle.std.proofs.lemmas.Cmp.{nat_eq_equiv, on_total, then_total, back_total, eq_by_cmp_equiv}
+use Rattle.std.proofs.lemmas.List.{length-map}
+use Rattle.std.proofs.lemmas.List.Elements.{All-head, All-tail, All-map}
+use Rattle.std.proofs.lemmas.List.Sorted.{IsPermutation-map, All-permutation, list_any-IsPermutation}
+use Rattle.std.proofs.lemmas.Map.Entries.{lookup_from_place}
+use Rattle.std.proofs.lemmas.Map.Keys.{IsDistinct-IsPermutation}
+use Rattle.std.proofs.lemmas.Map.Made.{is_some-lookup}
+use Rattle.std.proofs.lemmas.Option.{slice_get-get_or}
+use Rattle.pp_model.specs.Frames.{Written}
+use Rattle.pp_grain.specs.Keys.{key_cmp}
+use Rattle.pp_grain.proofs.CallerLemmas.{key_cmp_total, both_equal, key_cmp_ties}
+use Rattle.pp_count.specs.Sums.{Seen, renamed}
+use Rattle.pp_count.specs.Parts.{HasBelow}
+use Rattle.pp_count.proofs.EachOnce.{Apart, AllApart, ranked}
+use Rattle.pp_count.proofs.Renaming.{same_bool, same_found, list_any-renamed}
+use Rattle.pp_calltree.specs.declared.branch.Branch.{Branch}
+use Rattle.pp_calltree.specs.declared.texts.Texts.{Texts}
+use Rattle.pp_calltree.specs.CallTree.{first_keys, path_cum, path_flat, sibling_order, siblings}
+use Rattle.pp_calltree.specs.Branches.{Said, said, branch_of, no_branch}
+use Rattle.pp_calltree.specs.Siblings.{texts_at, size_cmp, branch_cmp}
+use Rattle.pp_calltree.proofs.Under.{first_keys-renamed, path_cum-renamed, path_flat-renamed, first_below}
+
+-- The list has the branches of these samples below so many keys, each once.
+pub record AreBranches (depth : ℕ) (S : List (Seen ℕ)) (list : List Branch) : Type 0 where
+  pub said_are : All (λ b. said b ≡ branch_of depth S b.key) list
+  pub present : (m : ℕ) → list_any (nat_eq m) (map (λ b. b.key) list) ≡ list_any (eq_by_cmp nat_cmp m) (first_keys S)
+  pub distinct : IsDistinct nat_eq (map (λ b. b.key) list)
+
+-- an entry of a table says what the branch of its key does
+module _ (depth : ℕ) (S : List (Seen ℕ)) (es : List (ℕ × Branch)) (distinct : IsDistinct nat_eq (keys_of es))
+    (says : (k : ℕ) → said (unwrap_or (lookup (nat_eq k) es) (no_branch depth k)) ≡ branch_of depth S k) where
+  entries_say : All (λ (e : ℕ × Branch). said e.1 ≡ branch_of depth S e.0) es
+  entries_say i d here =
+      let e : ℕ × Branch = get_or es i d in
+      let found : lookup (nat_eq e.0) es ≡ Some e.1 = lookup_from_place nat_eq_equiv es i e.0 e.1 distinct (slice_get-get_or es i d here) in
+      sym (ap (λ o. said (unwrap_or o (no_branch depth e.0))) found) ∙ says e.0
+
+  branches_say : All (λ b. said b ≡ branch_of depth S b.key) (map (λ (e : ℕ × Branch). e.1) es)
+  branches_say = All-map (λ (b : Branch). said b ≡ branch_of depth S b.key) (λ (e : ℕ × Branch). e.1) es
+      (λ i d here. let is = entries_say i d here in is ∙ ap (branch_of depth S) (sym (ap (λ (s : Said). s.key) is)))
+
+  keys_same : (xs : List (ℕ × Branch)) → All (λ (e : ℕ × Branch). said e.1 ≡ branch_of depth S e.0) xs → map (λ (b : Branch). b.key) (map (λ (e : ℕ × Branch). e.1) xs) ≡ keys_of xs
+  keys_same [] all = refl
+  keys_same (x ∷ xs) all = λ i.
+      (All-head (λ (e : ℕ × Branch). said e.1 ≡ branch_of depth S e.0) x xs all i).key
+      ∷ keys_same xs (All-tail (λ (e : ℕ × Branch). said e.1 ≡ branch_of depth S e.0) x xs all) i
+
+  -- the branches of a table, in any order
+  pub listed : (list : List Branch) → ((k : ℕ) → is_some (lookup (nat_eq k) es) ≡ list_any (eq_by_cmp nat_cmp k) (first_keys S))
+      → IsPermutation (map (λ (e : ℕ × Branch). e.1) es) list → AreBranches depth S list
+  listed list present moved =
+      let keys : IsPermutation (map (λ (b : Branch). b.key) (map (λ (e : ℕ × Branch). e.1) es)) (map (λ (b : Branch). b.key) list) =
+      IsPermutation-map (λ (b : Branch). b.key) _ _ moved in
+      record {
+        said_are = All-permutation (λ (b : Branch). said b ≡ branch_of depth S b.key) _ _ moved branches_say;
+        present = λ m. sym (list_any-IsPermutation (nat_eq m) _ _ keys) ∙ ap (list_any (nat_eq m)) (keys_same es entries_say) ∙ sym (is_some-lookup (nat_eq m) es) ∙ present m;
+        distinct = IsDistinct-IsPermutation nat_eq nat_eq_equiv.symm _ _ keys (subst (IsDistinct nat_eq) (sym (keys_same es entries_say)) distinct);
+      }
+
+-- what an order says where it says that two tie
+pub ties : (o : Ordering) → is_eq o ≡ true → o ≡ Equal
+ties Less h = absurd (false≢true h)
+ties Equal h = refl
+ties Greater h = absurd (false≢true h)
+
+module _ (W : List (Seen Written)) where
+  pub order_total : IsTotalOrder (sibling_order key_cmp W)
+  order_total =
+      then_total
+      (then_total (back_total (on_total (λ k. nat_abs (path_cum key_cmp W k)) nat_cmp_total)) (back_total (on_total (λ k. nat_abs (path_flat key_cmp W k)) nat_cmp_total)))
+      key_cmp_total
+
+  order_same : IsAntisymmetric (sibling_order key_cmp W)
+  order_same x y e = key_cmp_ties x y (both_equal _ _ e).1
+
+  -- it ties exactly what the order of keys ties
+  pub order_ties : (x y : Written) → eq_by_cmp (sibling_order key_cmp W) x y ≡ eq_by_cmp key_cmp x y
+  order_ties x y = same_bool _ _
+      (λ e. ap (λ k. eq_by_cmp key_cmp x k) (sym (order_same x y (ties _ e))) ∙ ap is_eq (tied_itself key_cmp_total x))
+      (λ e. ap (λ k. eq_by_cmp (sibling_order key_cmp W) x k) (sym (key_cmp_ties x y (ties _ e))) ∙ ap is_eq (tied_itself order_total x))
+
+  keys_apart : (k : Written) (ks : List Written) → IsDistinct (eq_by_cmp key_cmp) (k ∷ ks) → Apart (sibling_order key_cmp W) k ks
+  unfolding IsDistinct
+  keys_apart k [] d = tt
+  keys_apart k (x ∷ xs) d = (order_ties x k ∙ (eq_by_cmp_equiv key_cmp_total).symm x k ∙ d.0.0, keys_apart x xs d.1)
+
+  all_apart : (ks : List Written) → IsDistinct (eq_by_cmp key_cmp) ks → AllApart (sibling_order key_cmp W) ks
+  all_apart [] d = tt
+  all_apart (k ∷ ks) d = keys_apart k ks d
+
+get_or-mapped : {A B : Type 0} (g : A → B) (xs : List A) (j : ℕ) (d : B) (e : A) → j < length xs → get_or (map g xs) j d ≡ g (get_or xs j e)
+get_or-mapped g [] j d e h = absurd (omega arith)
+get_or-mapped g (x ∷ xs) zero d e h = refl
+get_or-mapped g (x ∷ xs) (suc j) d e h = get_or-mapped g xs j d e (omega arith)
+
+or_later : (a b : Bool) → b ≡ true → (a || b) ≡ true
+or_later true b e = refl
+or_later false b e = e
+
+has_at : (p : ℕ → Bool) (ks : List ℕ) (i d : ℕ) → i < length ks → p (get_or ks i d) ≡ true → list_any p ks ≡ true
+has_at p [] i d here e = absurd (omega arith)
+has_at p (k ∷ ks) zero d here e = ap (λ b. b || list_any p ks) e
+has_at p (k ∷ ks) (suc i) d here e = or_later (p k) (list_any p ks) (has_at p ks i d (omega arith) e)
+
+module _ (texts : Texts) (name : ℕ → Written) (n : ℕ) (apart : (a b : ℕ) → a < n → b < n → eq_by_cmp key_cmp (name a) (name b) ≡ eq_by_cmp nat_cmp a b)
+    (texts_are : (k : ℕ) → k < n → texts_at texts k ≡ name k) (depth : ℕ) (S : List (Seen ℕ)) (below : All (HasBelow n) S) (list : List Branch) (are : AreBranches depth S list) where
+  abbrev W : List (Seen Written)
+  W = map (renamed name) S
+
+  -- A branch has the sums of its key's children.
+  record IsNode (b : Branch) : Type 0 where
+    in_n : b.key < n
+    cum_is : path_cum key_cmp W (name b.key) ≡ b.cum
+    flat_is : path_flat key_cmp W (name b.key) ≡ b.flat
+
+  pub keys_below : All (λ (b : Branch). b.key < n) list
+  keys_below i d here =
+      let k : ℕ = (get_or list i d).key in
+      let within : i < length (map (λ (b : Branch). b.key) list) = omega (arith, here, length-map list (λ (b : Branch). b.key)) in
+      first_below n k S below (sym (are.present k) ∙ has_at (nat_eq k) (map (λ (b : Branch). b.key) list) i 0 within (ap (nat_eq k) (get_or-mapped (λ (b : Branch). b.key) list i 0 d here) ∙ eq-eqb k k refl))
+
+  nodes_are : All IsNode list
+  nodes_are i d here =
+      let b : Branch = get_or list i d in
+      let in_n : b.key < n = keys_below i d here in
+      let is : said b ≡ branch_of depth S b.key = are.said_are i d here in
+      record {
+        in_n = in_n;
+        cum_is = path_cum-renamed key_cmp name n apart b.key S in_n below ∙ sym (ap (λ (s : Said). s.cum) is);
+        flat_is = path_flat-renamed key_cmp name n apart b.key S in_n below ∙ sym (ap (λ (s : Said). s.flat) is);
+      }
+
+  -- branches are ordered as their keys are
+  nodes_order : (a b : Branch) → IsNode a → IsNode b → sibling_order key_cmp W (name a.key) (name b.key) ≡ branch_cmp texts a b
+  nodes_order a b x y = λ i.
+      ordering_then (ordering_then (size_cmp (x.cum_is i) (y.cum_is i)) (size_cmp (x.flat_is i) (y.flat_is i)))
+      (key_cmp (sym (texts_are a.key x.in_n) i) (sym (texts_are b.key y.in_n) i))
+
+  keys_sorted : IsSorted (branch_cmp texts) list → IsSorted (sibling_order key_cmp W) (map (λ (b : Branch). name b.key) list)
+  keys_sorted sorted = λ k d low high.
+      let len : length (map (λ (b : Branch). name b.key) list) ≡ length list = length-map list (λ (b : Branch). name b.key) in
+      let here : k < length list = omega (arith, len, high) in
+      let next : k + 1 < length list = omega (arith, len, high) in
+      let e : Branch = no_branch 0 0 in
+      (λ i. is_lt (sibling_order key_cmp W (get_or-mapped (λ (b : Branch). name b.key) list (k + 1) d e next i) (get_or-mapped (λ (b : Branch). name b.key) list k d e here i)))
+      ∙ ap is_lt (nodes_order (get_or list (k + 1) e) (get_or list k e) (nodes_are (k + 1) e next) (nodes_are k e here)) ∙ sorted k e low next
+
+  apart_all : (x : ℕ) (xs : List ℕ) → x < n → All (λ m. m < n) xs → AllByRecursion (λ y. nat_eq x y ≡ false) xs → AllByRecursion (λ y. eq_by_cmp key_cmp (name x) y ≡ false) (map name xs)
+  apart_all x [] in_n all d = tt
+  apart_all x (y ∷ ys) in_n all d =
+      (apart x y in_n (All-head (λ m. m < n) y ys all) ∙ unsigned_tied x y ∙ d.0, apart_all x ys in_n (All-tail (λ m. m < n) y ys all) d.1)
+
+  distinct_all : (xs : List ℕ) → All (λ m. m < n) xs → IsDistinct nat_eq xs → IsDistinct (eq_by_cmp key_cmp) (map name xs)
+  unfolding IsDistinct
+  distinct_all [] all d = tt
+  distinct_all (x ∷ xs) all d = (apart_all x xs (All-head (λ m. m < n) x xs all) (All-tail (λ m. m < n) x xs all) d.0, distinct_all xs (All-tail (λ m. m < n) x xs all) d.1)
+
+  map_twice : (xs : List Branch) → map name (map (λ (b : Branch). b.key) xs) ≡ map (λ (b : Branch). name b.key) xs
+  map_twice [] = refl
+  map_twice (x ∷ xs) = ap (λ r. name x.key ∷ r) (map_twice xs)
+
+  members : (q : Written) → list_any (eq_by_cmp key_cmp q) (first_keys W) ≡ list_any (eq_by_cmp key_cmp q) (map (λ (b : Branch). name b.key) list)
+  members q =
+      ap (list_any (eq_by_cmp key_cmp q)) (first_keys-renamed name S) ∙ list_any-renamed name (eq_by_cmp key_cmp q) (first_keys S)
+      ∙ same_found (λ m. eq_by_cmp key_cmp q (name m)) (first_keys S) (map (λ (b : Branch). b.key) list)
+      (λ m. sym (are.present m) ∙ (λ i. list_any (λ y. sym (unsigned_tied m y) i) (map (λ (b : Branch). b.key) list)))
+      ∙ sym (list_any-renamed name (eq_by_cmp key_cmp q) (map (λ (b : Branch). b.key) list)) ∙ ap (list_any (eq_by_cmp key_cmp q)) (map_twice list)
+
+  -- the keys of the sorted branches are the siblings
+  pub siblings_are : IsSorted (branch_cmp texts) list → siblings key_cmp W ≡ map (λ b. name b.key) list
+  siblings_are sorted =
+      ranked (order_total W) (order_same W) (first_keys W) (map (λ (b : Branch). name b.key) list) (keys_sorted sorted)
+      (all_apart W (map (λ (b : Branch). name b.key) list)
+      (subst (IsDistinct (eq_by_cmp key_cmp)) (map_twice list) (distinct_all (map (λ (b : Branch). b.key) list) (All-map (λ (m : ℕ). m < n) (λ (b : Branch). b.key) list keys_below) are.distinct)))
+      (λ q. (λ i. list_any (λ x. order_ties W q x i) (first_keys W)) ∙ members q ∙ (λ i. list_any (λ x. sym (order_ties W q x) i) (map (λ (b : Branch). name b.key) list)))
+
+  -- the sums of a branch are those of its key
+  pub row_cum : (i : ℕ) (d : Branch) → i < length list → path_cum key_cmp W (name (get_or list i d).key) ≡ (get_or list i d).cum
+  row_cum i d here = (nodes_are i d here).cum_is
+
+  pub row_flat : (i : ℕ) (d : Branch) → i < length list → path_flat key_cmp W (name (get_or list i d).key) ≡ (get_or list i d).flat
+  row_flat i d here = (nodes_are i d here).flat_is

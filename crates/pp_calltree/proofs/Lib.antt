@@ -1,0 +1,13 @@
+pub mod Splits
+pub mod SiblingOrder
+pub mod Gathering
+pub mod Naming
+pub mod Under
+pub mod Children
+pub mod LaidOut
+pub mod Built
+pub mod Walks
+pub mod Summing
+pub mod Pruning
+pub mod Written
+pub mod ByKey

@@ -1,0 +1,96 @@
+-- Sums of flats, and lines of nodes, one after the other.
+use Rattle.std.proofs.Common.{◌≡◌, ℕ, zero, suc, ◌+◌, ◌<◌, ◌≤◌, ◌^◌, ℤ, pos, ◌+ℤ◌, nat_abs, w64, to_z, of_z, List, ◌++◌, length, map, drop, get_or, refl, sym, ap, ◌∙◌, append_assoc, arith}
+use Rattle.std.specs.List.{repeat}
+use Rattle.std.proofs.lemmas.Int.{fits_signed_from_abs, to_z-of_z}
+use Rattle.std.proofs.Math.IntN.{+ℤ_assoc, +ℤ_idl, +ℤ_idr}
+use Rattle.std.proofs.lemmas.List.{drop_more, drop_all, append-nil}
+use Rattle.std.proofs.lemmas.List.Sums.{sum_by-cons}
+use Rattle.pp_model.specs.declared.profile.Profile.{Profile}
+use Rattle.pp_units.specs.Shown.{Shown}
+use Rattle.pp_count.proofs.Adding.{triangle}
+use Rattle.pp_calltree.specs.declared.tree.PathNode.{PathNode}
+use Rattle.pp_calltree.specs.Laid.{node_row}
+use Rattle.pp_calltree.specs.Shown.{flat_sizes}
+use Rattle.pp_calltree.specs.Text.{flats_sum, node_line, node_lines}
+
+-- The sum of the first flats leaves room for those that are left.
+pub record HasSum (nodes : List PathNode) (i : ℕ) (sum : ℤ) : Type 0 where
+  pub small : nat_abs sum + flat_sizes (drop i nodes) ≤ flat_sizes nodes
+
+-- The sum of the first flats, and with those that are left that of all.
+pub record SumTo (p : Profile) (nodes : List PathNode) (i : ℕ) (sum : ℤ) : Type 0 where
+  pub small : nat_abs sum + flat_sizes (drop i nodes) ≤ flat_sizes nodes
+  pub whole : sum +ℤ flats_sum (map (node_row p) (drop i nodes)) ≡ flats_sum (map (node_row p) nodes)
+
+-- The lines of the first nodes, and with those of the others those of all.
+pub record RowsTo (p : Profile) (unit : Shown) (total : ℕ) (nodes : List PathNode) (before : List ℕ) (i : ℕ) (sum : ℤ) (out : List ℕ) : Type 0 where
+  pub small : nat_abs sum + flat_sizes (drop i nodes) ≤ flat_sizes nodes
+  pub whole : out ++ node_lines unit total sum (map (node_row p) (drop i nodes)) ≡ before ++ node_lines unit total (pos 0) (map (node_row p) nodes)
+
+next_size : (nodes : List PathNode) (i : ℕ) (d : PathNode) → i < length nodes → flat_sizes (drop i nodes) ≡ nat_abs (get_or nodes i d).flat + flat_sizes (drop (i + 1) nodes)
+next_size nodes i d here = ap flat_sizes (drop_more nodes i d here) ∙ sum_by-cons (λ (n : PathNode). nat_abs n.flat) (get_or nodes i d) (drop (i + 1) nodes)
+
+-- the next flat can be added
+pub has_place : (nodes : List PathNode) (i : ℕ) (d : PathNode) (sum : ℤ) → i < length nodes → nat_abs sum + flat_sizes (drop i nodes) ≤ flat_sizes nodes → flat_sizes nodes < 2 ^ 63
+    → nat_abs sum + nat_abs (get_or nodes i d).flat < 2 ^ 63
+has_place nodes i d sum here small fits = omega (arith, small, fits, next_size nodes i d here)
+
+still_small : (nodes : List PathNode) (i : ℕ) (d : PathNode) (sum : ℤ) → i < length nodes → nat_abs sum + flat_sizes (drop i nodes) ≤ flat_sizes nodes
+    → nat_abs (sum +ℤ (get_or nodes i d).flat) + flat_sizes (drop (i + 1) nodes) ≤ flat_sizes nodes
+still_small nodes i d sum here small = omega (arith, small, next_size nodes i d here, triangle sum (get_or nodes i d).flat)
+
+read_back : (z : ℤ) → nat_abs z < 2 ^ 63 → to_z w64 (of_z w64 z) ≡ z
+read_back z small = to_z-of_z w64 z (fits_signed_from_abs w64 z small)
+
+-- the next sum, as the machine has it
+pub next_is : (nodes : List PathNode) (i : ℕ) (d : PathNode) (sum result : ℤ) → i < length nodes → nat_abs sum + flat_sizes (drop i nodes) ≤ flat_sizes nodes → flat_sizes nodes < 2 ^ 63
+    → result ≡ sum +ℤ to_z w64 (of_z w64 (get_or nodes i d).flat) → to_z w64 (of_z w64 result) ≡ sum +ℤ (get_or nodes i d).flat
+next_is nodes i d sum result here small fits is =
+    let flat : ℤ = (get_or nodes i d).flat in
+    let whole : result ≡ sum +ℤ flat = is ∙ ap (λ z. sum +ℤ z) (read_back flat (omega (arith, has_place nodes i d sum here small fits))) in
+    read_back result (omega (arith, ap nat_abs whole, triangle sum flat, has_place nodes i d sum here small fits)) ∙ whole
+
+pub sum_more : (p : Profile) (nodes : List PathNode) (i : ℕ) (d : PathNode) (sum new : ℤ) → i < length nodes → new ≡ sum +ℤ (get_or nodes i d).flat
+    → SumTo p nodes i sum → SumTo p nodes (i + 1) new
+sum_more p nodes i d sum new here is so_far = record {
+  small = omega (arith, ap nat_abs is, still_small nodes i d sum here so_far.small);
+  whole = ap (λ z. z +ℤ flats_sum (map (node_row p) (drop (i + 1) nodes))) is
+      ∙ +ℤ_assoc sum (get_or nodes i d).flat (flats_sum (map (node_row p) (drop (i + 1) nodes)))
+      ∙ ap (λ ns. sum +ℤ flats_sum (map (node_row p) ns)) (sym (drop_more nodes i d here)) ∙ so_far.whole;
+}
+
+pub sum_start : (p : Profile) (nodes : List PathNode) → SumTo p nodes 0 (pos 0)
+sum_start p nodes = record { small = omega arith; whole = +ℤ_idl (flats_sum (map (node_row p) nodes)) }
+
+pub sum_all : (p : Profile) (nodes : List PathNode) (i : ℕ) (sum : ℤ) → length nodes ≤ i → SumTo p nodes i sum → sum ≡ flats_sum (map (node_row p) nodes)
+sum_all p nodes i sum past so_far =
+    sym (+ℤ_idr sum) ∙ sym (ap (λ ns. sum +ℤ flats_sum (map (node_row p) ns)) (drop_all i nodes past)) ∙ so_far.whole
+
+pub rows_more : (p : Profile) (unit : Shown) (total : ℕ) (nodes : List PathNode) (before : List ℕ) (i : ℕ) (d : PathNode) (sum next : ℤ) (out new : List ℕ)
+    → i < length nodes → next ≡ sum +ℤ (get_or nodes i d).flat → new ≡ out ++ node_line unit total next (node_row p (get_or nodes i d))
+    → RowsTo p unit total nodes before i sum out → RowsTo p unit total nodes before (i + 1) next new
+rows_more p unit total nodes before i d sum next out new here is more so_far =
+    let line : List ℕ = node_line unit total next (node_row p (get_or nodes i d)) in
+    let rest : List ℕ = node_lines unit total next (map (node_row p) (drop (i + 1) nodes)) in
+    let step : node_lines unit total sum (map (node_row p) (drop i nodes)) ≡ line ++ rest =
+    ap (λ ns. node_lines unit total sum (map (node_row p) ns)) (drop_more nodes i d here)
+    ∙ (λ j. node_line unit total (sym is j) (node_row p (get_or nodes i d)) ++ node_lines unit total (sym is j) (map (node_row p) (drop (i + 1) nodes))) in
+    record {
+      small = omega (arith, ap nat_abs is, still_small nodes i d sum here so_far.small);
+      whole = ap (λ o. o ++ rest) more ∙ append_assoc out line rest ∙ sym (ap (λ r. out ++ r) step) ∙ so_far.whole;
+    }
+
+pub rows_start : (p : Profile) (unit : Shown) (total : ℕ) (nodes : List PathNode) (before : List ℕ) → RowsTo p unit total nodes before 0 (pos 0) before
+rows_start p unit total nodes before = record { small = omega arith; whole = refl }
+
+pub rows_all : (p : Profile) (unit : Shown) (total : ℕ) (nodes : List PathNode) (before : List ℕ) (i : ℕ) (sum : ℤ) (out : List ℕ) → length nodes ≤ i
+    → RowsTo p unit total nodes before i sum out → out ≡ before ++ node_lines unit total (pos 0) (map (node_row p) nodes)
+rows_all p unit total nodes before i sum out past so_far =
+    sym (append-nil out) ∙ sym (ap (λ ns. out ++ node_lines unit total sum (map (node_row p) ns)) (drop_all i nodes past)) ∙ so_far.whole
+
+-- a text once more
+pub repeat_more : (n : ℕ) (text : List ℕ) → repeat (n + 1) text ≡ repeat n text ++ text
+repeat_more zero text = append-nil text
+repeat_more (suc n) text =
+    let next : suc n + 1 ≡ suc (n + 1) = omega arith in
+    ap (λ m. repeat m text) next ∙ ap (λ r. text ++ r) (repeat_more n text) ∙ sym (append_assoc text (repeat n text) text)

@@ -1,0 +1,29 @@
+-- The paths of samples as the code holds them, by key numbers. No public clause cites it.
+use Rattle.std.specs.Prelude.{◌≡◌, ℕ, ℤ, pos, List, [], ◌∷◌, map, if◌then◌else◌}
+use Rattle.std.specs.Ordering.{int_eq}
+use Rattle.pp_model.specs.declared.profile.Sample.{Sample}
+use Rattle.pp_count.specs.declared.scope.Scope.{Scope}
+use Rattle.pp_count.specs.Sums.{Seen, weighed}
+use Rattle.pp_count.specs.Scope.{AreSeen}
+use Rattle.pp_calltree.specs.declared.path.Path.{Path}
+use Rattle.pp_calltree.specs.declared.path.Rest.{Rest}
+use Rattle.pp_calltree.specs.CallTree.{rooted}
+
+-- the sample of a path
+abbrev pub path_seen : Path → Seen ℕ
+path_seen path = record { value = path.value; keys = path.keys }
+
+-- the sample of what is left of a path
+abbrev pub rest_seen : Rest → Seen ℕ
+rest_seen rest = record { value = rest.value; keys = rest.keys.now }
+
+-- the sample with its keys root first, unless its value is 0
+abbrev pub rooted_if : ℤ → List ℕ → List (Seen ℕ)
+rooted_if value keys =
+    if int_eq value (pos 0) then [] else rooted (record { value = value; keys = keys }) ∷ []
+
+-- The paths are those of what the report sees of the samples, by key numbers.
+pub record ArePaths (scope : Scope) (samples : List Sample) (paths : List Path) : Type 0 where
+  pub seen : List (Seen ℕ)
+  pub are : AreSeen scope samples seen
+  pub paths_are : map path_seen paths ≡ map rooted (weighed seen)

@@ -1,0 +1,90 @@
+//! The nodes of a call tree, laid out parents before children.
+ghost use Rattle.std.specs.Prelude.{◌≡◌, ◌≢◌, ℕ, ◌+◌, ◌<◌, ◌^◌, nat_abs, List as Seq, length, map, All, AllPairs, IfOk};
+ghost use Rattle.std.specs.List.{sum_by};
+ghost use Rattle.pp_model.specs.declared.profile.Profile.{Profile as Tables};
+ghost use Rattle.pp_model.specs.Rules.{IsCompact};
+ghost use Rattle.pp_grain.specs.declared.key.Key.{Key};
+ghost use Rattle.pp_grain.specs.Keys.{IsKeyOf, key_cmp};
+ghost use Rattle.pp_count.specs.Sums.{absolute};
+ghost use Rattle.pp_calltree.specs.CallTree.{all_lengths, any_row, tree_rows};
+ghost use Rattle.pp_calltree.specs.Paths.{rest_seen};
+ghost use Rattle.pp_calltree.specs.Laid.{CanLay, HasRoom, WaitBelow, branch_row, node_row, written_out};
+
+use crate::branch::Branch;
+use crate::path::Rest;
+use crate::siblings::sort_branches;
+use crate::splitting::split;
+use crate::texts::Texts;
+use crate::tree::PathNode;
+use pp_base::{List, Memory};
+use pp_grain::Names;
+use pp_model::Profile;
+use std::alloc::Global;
+
+/// The nodes of the paths, whose keys are numbers of the names.
+pub fn lay_out(
+    alloc: Global,
+    p: &Profile,
+    names: &Names,
+    rests: &[Rest],
+) -> Result<List<PathNode>, Memory>
+    requires compact { IsCompact p.now }
+    requires keys { All (IsKeyOf p.now) names.now }
+    requires distinct { AllPairs (λ a b. a ≢ b) names.now }
+    requires room { HasRoom names.now (all_lengths (map rest_seen rests.now)) (map rest_seen rests.now) }
+    ensures rows { IfOk result (λ nodes. map (node_row p.now) nodes
+        ≡ tree_rows key_cmp any_row (written_out p.now names.now (map rest_seen rests.now))) }
+    ensures keys { IfOk result (λ nodes. All (λ n. IsKeyOf p.now n.key) nodes) }
+    ensures fits { IfOk result (λ nodes. sum_by (λ n. nat_abs n.flat) nodes < 2 ^ 63) }
+{
+    let texts = Texts::new(alloc, p, names)?;
+    let mut nodes = List::new(alloc);
+    let mut waiting = Vec::new(alloc);
+    push_branches(alloc, &texts, rests, 0, &mut waiting)?;
+    for _turn in 0..u64::MAX {
+        let Some(branch) = waiting.pop() else {
+            return Ok(nodes);
+        };
+        let Some(depth) = branch.depth.checked_add(1) else {
+            return Err(Memory);
+        };
+        nodes.push(node_of(names, &branch))?;
+        push_branches(alloc, &texts, branch.rests.as_slice(), depth, &mut waiting)?;
+    }
+    // No tree has so many nodes.
+    Err(Memory)
+}
+
+// Adds the branches below so many keys, the last one first.
+fn push_branches<'a>(
+    alloc: Global,
+    texts: &Texts,
+    rests: &[Rest<'a>],
+    depth: u64,
+    waiting: &mut Vec<Branch<'a>>,
+) -> Result<(), Memory>
+    requires { absolute (map rest_seen rests.now) < 2 ^ 63 }
+    ensures { (p : Tables) (names : Seq Key) (most left : ℕ) →
+        CanLay p names texts.now → HasRoom names left (map rest_seen rests.now) →
+        most ≡ depth + left → IfOk result (λ _. WaitBelow p names most depth left
+        (map rest_seen rests.now) waiting.old.items waiting.new.items) }
+{
+    let branches = split(alloc, rests, depth)?;
+    let mut list = sort_branches(alloc, texts, branches)?;
+    list.reverse();
+    waiting.append(&mut list)?;
+    Ok(())
+}
+
+fn node_of(names: &Names, branch: &Branch) -> PathNode
+    requires { branch.now.key < length names.now }
+    ensures row { (p : Tables) → node_row p result ≡ branch_row p names.now branch.now }
+    ensures key { (p : Tables) → All (IsKeyOf p) names.now → IsKeyOf p result.key }
+{
+    PathNode {
+        key: names.key(branch.key),
+        flat: branch.flat,
+        cum: branch.cum,
+        depth: branch.depth,
+    }
+}

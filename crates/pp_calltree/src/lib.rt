@@ -1,0 +1,16 @@
+//! The call tree of a report: what its samples come to by the path of their keys from the root, and its text.
+#![tactic(auto)]
+
+mod branch;
+mod building;
+mod laying;
+mod path;
+mod shown;
+mod siblings;
+mod splitting;
+mod texts;
+mod tree;
+mod writing;
+
+pub use tree::{CallTree, PathNode};
+pub use writing::write_calltree;

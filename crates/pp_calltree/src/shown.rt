@@ -1,0 +1,53 @@
+//! The nodes that are shown.
+ghost use Rattle.std.specs.Prelude.{◌≡◌, ◌<◌, ◌^◌, IfOk};
+ghost use Rattle.pp_count.specs.Ranks.{is_heavy};
+ghost use Rattle.pp_calltree.specs.Shown.{is_cut, AreShown};
+
+use crate::tree::PathNode;
+use pp_base::{Fraction, List, Memory};
+use std::alloc::Global;
+
+const BILLION: u128 = 1_000_000_000;
+
+/// The nodes whose cum is at least this fraction of the total, but for those below one whose cum isn't, in their order.
+pub fn shown_nodes(
+    alloc: Global,
+    nodes: &[PathNode],
+    total: u64,
+    least: Fraction,
+) -> Result<List<PathNode>, Memory>
+    ensures { IfOk result (AreShown total least.billionths nodes.now) }
+{
+    let mut shown = List::new(alloc);
+    let mut cut = None;
+    for node in nodes {
+        if is_cut(cut, node.depth) {
+            continue;
+        }
+        if is_heavy(total, least, node) {
+            cut = None;
+            shown.push(*node)?;
+        } else {
+            cut = Some(node.depth);
+        }
+    }
+    Ok(shown)
+}
+
+// Whether a node of this depth stands below one of that depth.
+fn is_cut(cut: Option<u64>, depth: u64) -> bool
+    ensures { result ≡ is_cut cut depth }
+{
+    match cut {
+        None => false,
+        Some(above) => above < depth,
+    }
+}
+
+// Whether the node's cum is at least this fraction of the total.
+fn is_heavy(total: u64, least: Fraction, node: &PathNode) -> bool
+    ensures { result ≡ is_heavy total least.billionths node.now.cum }
+{
+    let size = node.cum.unsigned_abs();
+    u128::from(total) * u128::from(least.billionths) <= u128::from(size) * BILLION
+}

@@ -1,0 +1,178 @@
+//! The text of a call tree.
+ghost use Rattle.std.specs.Prelude.{◌≡◌, ◌++◌, ◌+◌, ◌+ℤ◌, ◌<◌, ◌^◌, ℕ, ℤ, nat_abs, pos, codes, length, map, All, Option, IfOk, OnOk, OnErr};
+ghost use Rattle.std.specs.List.{repeat};
+ghost use Rattle.pp_model.specs.declared.profile.Profile.{Profile as Tables};
+ghost use Rattle.pp_model.specs.declared.verdicts.Verdicts.{Verdicts};
+ghost use Rattle.pp_model.specs.Finders.{Finders};
+ghost use Rattle.pp_units.specs.Head.{facts};
+ghost use Rattle.pp_units.specs.Rows.{showing_line, dropped_line, dropped_nodes, name_end};
+ghost use Rattle.pp_units.specs.Shown.{shown};
+ghost use Rattle.pp_grain.specs.Keys.{IsKeyOf};
+ghost use Rattle.pp_count.specs.Seeing.{HoldsFilters};
+ghost use Rattle.pp_calltree.specs.Laid.{node_row};
+ghost use Rattle.pp_calltree.specs.Shown.{flat_sizes};
+ghost use Rattle.pp_calltree.specs.Text.{calltree_text, flats_sum, indented, node_line, node_lines, nodes_text};
+ghost use Rattle.pp_calltree.specs.Tree.{IsTreeOf};
+
+use crate::shown::shown_nodes;
+use crate::tree::{CallTree, PathNode};
+use pp_base::{Memory, Text};
+use pp_grain::write_name;
+use pp_model::{Config, Loaded};
+use pp_units::{HEADING, Head, put_dropped_nodes, write_head};
+use std::alloc::Global;
+
+/// Appends the text of the tree: the lines of the head, the heading, and a row for each node that is shown, with two spaces
+/// before its name for each key above its own. Nodes whose cum is less than `nodefraction` of the head's total are left
+/// out with all below them. `Err` is want of memory, and `out` is then as it was.
+pub fn write_calltree(
+    alloc: Global,
+    l: &Loaded,
+    t: &CallTree,
+    config: &Config,
+    head: &Head,
+    out: &mut Text,
+) -> Result<(), Memory>
+    requires keys { All (λ n. IsKeyOf l.now.profile n.key) t.now.list }
+    requires fits { flat_sizes t.now.list < 2 ^ 63 }
+    requires total { head.now.total < 2 ^ 63 }
+    ensures ok { (v : Verdicts) (column : Option ℕ) (f : Finders) →
+        IsTreeOf l.now v config.now column t.now → HoldsFilters l.now v config.now f →
+        OnOk result (out.new
+        ≡ out.old ++ calltree_text l.now.profile f config.now column (facts head.now)) }
+    ensures err { OnErr result (out.new ≡ out.old) }
+{
+    let nodes = t.list.as_slice();
+    let shown = shown_nodes(alloc, nodes, head.total, config.nodefraction)?;
+    let dropped = (nodes.len() - shown.len()) as u64;
+    let mut text = Text::new(alloc);
+    put_tree(alloc, l, shown.as_slice(), dropped, head, &mut text)?;
+    out.append(text)
+}
+
+// The text of these nodes, of which so many are left out.
+fn put_tree(
+    alloc: Global,
+    l: &Loaded,
+    nodes: &[PathNode],
+    dropped: u64,
+    head: &Head,
+    out: &mut Text,
+) -> Result<(), Memory>
+    requires keys { All (λ n. IsKeyOf l.now.profile n.key) nodes.now }
+    requires fits { flat_sizes nodes.now < 2 ^ 63 }
+    requires total { head.now.total < 2 ^ 63 }
+    ensures { IfOk result (λ _. out.new ≡ out.old
+        ++ nodes_text (facts head.now) dropped (map (node_row l.now.profile) nodes.now)) }
+{
+    write_head(alloc, head, out)?;
+    put_summary(l, nodes, dropped, head, out)?;
+    out.extend(HEADING)?;
+    put_rows(alloc, l, nodes, head, out)
+}
+
+// What the nodes account for, and how many are left out.
+fn put_summary(
+    l: &Loaded,
+    nodes: &[PathNode],
+    dropped: u64,
+    head: &Head,
+    out: &mut Text,
+) -> Result<(), Memory>
+    requires fits { flat_sizes nodes.now < 2 ^ 63 }
+    requires total { head.now.total < 2 ^ 63 }
+    ensures { IfOk result (λ _. out.new ≡ out.old
+        ++ (showing_line (shown head.now.unit) head.now.total
+        (flats_sum (map (node_row l.now.profile) nodes.now)) ++ dropped_line dropped_nodes dropped)) }
+{
+    head.put_showing(sum_flats(l, nodes), out)?;
+    put_dropped_nodes(dropped, out)
+}
+
+// What the flats of the nodes add up to.
+fn sum_flats(_l: &Loaded, nodes: &[PathNode]) -> i64
+    requires { flat_sizes nodes.now < 2 ^ 63 }
+    ensures { result ≡ flats_sum (map (node_row _l.now.profile) nodes.now) }
+{
+    let mut sum = 0;
+    for node in nodes {
+        sum = plus(sum, node.flat);
+    }
+    sum
+}
+
+fn plus(sum: i64, flat: i64) -> i64
+    requires { nat_abs sum + nat_abs flat < 2 ^ 63 }
+    ensures { result ≡ sum +ℤ flat }
+{
+    sum + flat
+}
+
+// A line for each node.
+fn put_rows(
+    alloc: Global,
+    l: &Loaded,
+    nodes: &[PathNode],
+    head: &Head,
+    out: &mut Text,
+) -> Result<(), Memory>
+    requires keys { All (λ n. IsKeyOf l.now.profile n.key) nodes.now }
+    requires fits { flat_sizes nodes.now < 2 ^ 63 }
+    ensures { IfOk result (λ _. out.new ≡ out.old
+        ++ node_lines (shown head.now.unit) head.now.total (pos 0)
+        (map (node_row l.now.profile) nodes.now)) }
+{
+    let mut scratch = Text::new(alloc);
+    let mut sum = 0;
+    for node in nodes {
+        sum = plus(sum, node.flat);
+        put_row(l, head, node, sum, &mut scratch, out)?;
+    }
+    Ok(())
+}
+
+// "%10s %8s %8s %10s %8s  %s": flat, flat%, sum%, cum, cum% and the name behind its spaces, where the flats up to it have
+// this sum.
+fn put_row(
+    l: &Loaded,
+    head: &Head,
+    node: &PathNode,
+    sum: i64,
+    scratch: &mut Text,
+    out: &mut Text,
+) -> Result<(), Memory>
+    requires { IsKeyOf l.now.profile node.now.key }
+    ensures { IfOk result (λ _. out.new ≡ out.old
+        ++ node_line (shown head.now.unit) head.now.total sum (node_row l.now.profile node.now)) }
+{
+    head.put_columns(node.flat, sum, node.cum, scratch, out)?;
+    put_name(l, node, out)
+}
+
+fn put_name(l: &Loaded, node: &PathNode, out: &mut Text) -> Result<(), Memory>
+    requires { IsKeyOf l.now.profile node.now.key }
+    ensures { IfOk result (λ _. out.new ≡ out.old
+        ++ name_end (indented (node_row l.now.profile node.now))) }
+{
+    out.extend(b"  ")?;
+    put_indented(l, node, out)?;
+    out.extend(b"\n")
+}
+
+fn put_indented(l: &Loaded, node: &PathNode, out: &mut Text) -> Result<(), Memory>
+    requires { IsKeyOf l.now.profile node.now.key }
+    ensures { IfOk result (λ _. out.new ≡ out.old ++ indented (node_row l.now.profile node.now)) }
+{
+    put_spaces(node.depth, out)?;
+    write_name(l, &node.key, out)
+}
+
+// Two spaces for each key above.
+fn put_spaces(depth: u64, out: &mut Text) -> Result<(), Memory>
+    ensures { IfOk result (λ _. out.new ≡ out.old ++ repeat depth (codes "  ")) }
+{
+    for _above in 0..depth {
+        out.extend(b"  ")?;
+    }
+    Ok(())
+}

@@ -1,0 +1,26 @@
+-- The profile that a report is made of: the loaded one, or that one with frames made from labels.
+use Rattle.std.specs.Prelude.{ℕ, ◌==◌, ◌&&◌, Bool, true, false, List, length, if◌then◌else◌}
+use Rattle.pp_model.specs.declared.config.Config.{Config}
+use Rattle.pp_model.specs.declared.loaded.Loaded.{Loaded}
+use Rattle.pp_model.specs.declared.report.Report.{Report}
+use Rattle.pp_model.specs.declared.report.Report.TheVariants as reports
+use Rattle.pp_pseudo.specs.KeyList.{key_list}
+use Rattle.pp_pseudo.specs.WithTags.{tagged}
+
+-- the profile with the frames of these keys at the root and at the leaf, where any is named
+abbrev pub tagged_by : Loaded → List (List ℕ) → List (List ℕ) → Loaded
+tagged_by l roots leaves =
+    if length roots == 0 && length leaves == 0 then l else tagged l roots leaves
+
+-- the profile with the frames that the configuration asks for
+abbrev pub tagged_for : Loaded → Config → Loaded
+tagged_for l config = tagged_by l (key_list config.tagroot) (key_list config.tagleaf)
+
+-- a comments report
+abbrev pub is_comments : Report → Bool
+is_comments reports.Comments = true
+is_comments report = false
+
+-- What a report is made of, also the texts that its patterns are asked of. A comments report is made of the loaded profile.
+unfoldable pub basis_of : Report → Loaded → Config → Loaded
+basis_of report l config = if is_comments report then l else tagged_for l config
