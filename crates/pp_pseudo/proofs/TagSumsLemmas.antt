@@ -24,7 +24,7 @@ use Rattle.pp_model.proofs.RuleLemmas.{passes}
 use Rattle.pp_merge.specs.Described.{FunctionText, LineText, LocationText, SampleText, function_found, function_text, line_text}
 use Rattle.pp_merge.specs.Alike.{same_location, same_sample}
 use Rattle.pp_merge.specs.Settled.{IsSettled}
-use Rattle.pp_merge.specs.Totals.{value_sum, sum_where}
+use Rattle.pp_merge.specs.Totals.{value_sum, sum_passing}
 use Rattle.pp_merge.specs.Written.{Contents, written, locations, location_id, written_location, written_sample}
 use Rattle.pp_merge.proofs.Deciding.{sample_decides}
 use Rattle.pp_merge.proofs.FirstSightLemmas.{IsSeen}
@@ -110,24 +110,24 @@ module _ (c : Contents) (settled : IsSettled c) (name : List ℕ) (some : [] ≢
   one_more column h false s samples rest same is = ap (λ t. value_sum column (cond t (s ∷ samples) samples)) same ∙ is ∙ sym (+ℤ_idl rest)
 
   sums_from : (column : ℕ) (items : List (SampleText × List ℤ)) → AllByRecursion (λ s. AllByRecursion (IsSeen same_location (locations c)) s.0.locations) items
-      → value_sum column (filter (has_function q name) (map (written_sample c) items)) ≡ sum_where (sample_says name) column items
+      → value_sum column (filter (has_function q name) (map (written_sample c) items)) ≡ sum_passing (sample_says name) column items
   sums_from column [] there = refl
   sums_from column (item ∷ items) there =
       one_more column (has_function q name (written_sample c item)) (sample_says name item.0) (written_sample c item) (filter (has_function q name) (map (written_sample c) items)) _
       (ids_frames item.0.locations there.0) (sums_from column items there.1)
 
   -- The sum over the samples that have a function of the name.
-  pub sums_written : (column : ℕ) → value_sum column (filter (has_function q name) q.sample) ≡ sum_where (sample_says name) column c.samples
+  pub sums_written : (column : ℕ) → value_sum column (filter (has_function q name) q.sample) ≡ sum_passing (sample_says name) column c.samples
   sums_written column = sums_from column c.samples (seen_locations c)
 
   -- The sum over the samples that a test picks, where what is made of a sample has its values and passes where it does.
   pub sums_made : (column : ℕ) (make : Sample → SampleText × List ℤ) (test : Sample → Bool) → ((s : Sample) → (make s).1 ≡ s.value)
       → ((s : Sample) → test s ≡ sample_says name (make s).0) → (xs : List Sample)
-      → value_sum column (filter test xs) ≡ sum_where (sample_says name) column (map make xs)
+      → value_sum column (filter test xs) ≡ sum_passing (sample_says name) column (map make xs)
   sums_made column make test values says [] = refl
   sums_made column make test values says (s ∷ xs) =
       one_more column (test s) (sample_says name (make s).0) s (filter test xs) _ (says s) (sums_made column make test values says xs)
-      ∙ ap (λ (row : List ℤ). cond (sample_says name (make s).0) (slice_index_or row column (pos 0)) (pos 0) +ℤ sum_where (sample_says name) column (map make xs)) (sym (values s))
+      ∙ ap (λ (row : List ℤ). cond (sample_says name (make s).0) (slice_index_or row column (pos 0)) (pos 0) +ℤ sum_passing (sample_says name) column (map make xs)) (sym (values s))
 
 -- what stands before the first equals sign of two equal texts, and behind it
 parted : (a b v w : List ℕ) → AllByRecursion (λ x. x ≢ 61) a → AllByRecursion (λ x. x ≢ 61) b → a ++ 61 ∷ v ≡ b ++ 61 ∷ w → (a ≡ b) × (v ≡ w)
