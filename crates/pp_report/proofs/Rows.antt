@@ -11,7 +11,7 @@ use Rattle.pp_report.specs.Heads.{wanted_unit}
 use Rattle.pp_report.specs.Messages.{refusal_line}
 use Rattle.pp_report.specs.Names.{option_name}
 use Rattle.pp_report.specs.Notes.{note_unless, notes_by}
-use Rattle.pp_report.specs.Patterns.{verdict_on}
+use Rattle.pp_stack.specs.LoadFinders.{verdict_on}
 
 -- an option is called as its variable
 refused_focus : refusal_line reports.Top (PatternRefused slots.Focus) ≡ codes "pprof: focus: pattern refused\n"

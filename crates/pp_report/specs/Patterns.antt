@@ -1,14 +1,14 @@
 -- The patterns of a report, and what they find.
-use Rattle.std.specs.Prelude.{ℕ, Bool, false, List, [], ◌∷◌, Option, Some, None, Result, Ok, Err, option_map, bytes_eq, if◌then◌else◌}
+use Rattle.std.specs.Prelude.{ℕ, List, Option, Some, None, Result, Ok, Err, option_map}
 use Rattle.pp_desk.specs.Asking.{Asking}
 use Rattle.pp_desk.specs.Script.{Give, ◌>>=◌}
 use Rattle.pp_model.specs.declared.config.Config.{Config}
 use Rattle.pp_model.specs.declared.loaded.Loaded.{Loaded}
-use Rattle.pp_model.specs.declared.profile.Profile.{Profile}
 use Rattle.pp_model.specs.declared.report.Report.{Report}
 use Rattle.pp_model.specs.declared.report.Report.TheVariants as reports
 use Rattle.pp_model.specs.declared.verdicts.Verdicts.{Verdicts}
-use Rattle.pp_model.specs.Finders.{Finder, Finders}
+use Rattle.pp_model.specs.Finders.{Finders}
+use Rattle.pp_stack.specs.LoadFinders.{finder_by}
 use Rattle.pp_pattern.specs.declared.report.PatternRefused.{PatternRefused as Refused}
 use Rattle.pp_pattern.specs.Report.{Finds, judge, finders_of}
 use Rattle.pp_report.specs.declared.refusal.ReportRefusal.{ReportRefusal}
@@ -19,17 +19,6 @@ abbrev pub own_pattern : Report → Option (List ℕ)
 own_pattern (reports.Peek pattern) = Some pattern
 own_pattern (reports.List pattern) = Some pattern
 own_pattern report = None
-
--- the verdict on a text, by those on these texts; no other text is found
-abbrev pub verdict_on : List (List ℕ) → List Bool → List ℕ → Bool
-verdict_on [] found text = false
-verdict_on (known ∷ texts) [] text = false
-verdict_on (known ∷ texts) (verdict ∷ found) text =
-    if bytes_eq known text then verdict else verdict_on texts found text
-
--- what a pattern finds that has these verdicts on the profile's texts
-abbrev pub finder_by : Profile → List Bool → Finder
-finder_by p found = verdict_on p.text found
 
 -- What the patterns of a report find, and those of its profile.
 abbrev pub report_finders : Finds → Loaded → Report → Config → Finders
