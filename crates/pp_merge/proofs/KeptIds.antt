@@ -12,6 +12,10 @@ use Rattle.pp_merge.specs.Renumbered.{new_ids, renumbered_label}
 pub same_locations : (by : Ids) (ids : List ℕ) → by ≡ Same → ids ≡ map (new_id by) ids
 same_locations by ids is = sym (ap (λ b. map (new_id b) ids) is ∙ map-id ids)
 
+-- locations whose ids change as these do
+pub changed_locations : (by own : Ids) (ids : List ℕ) → by ≡ own → map (new_id own) ids ≡ map (new_id by) ids
+changed_locations by own ids is = sym (ap (λ b. map (new_id b) ids) is)
+
 -- labels whose texts stay
 pub same_labels : (by : Renumbering) (labels : List Label) → by.text ≡ Same → labels ≡ map (renumbered_label (new_ids by)) labels
 same_labels by labels is = sym (ap (λ t. map (renumbered_label (new_ids (record by { text = t }))) labels) is ∙ map-id labels)

@@ -100,8 +100,8 @@ pub fn id_of_index(index: i64) -> u64
     if index < 0 { 1 } else { index as u64 + 1 }
 }
 
-// The id at the place, and 0 where there is none.
-fn listed(ids: &[u64], id: u64) -> u64
+/// The id at the place, and 0 where there is none.
+pub fn listed(ids: &[u64], id: u64) -> u64
     ensures { result ≡ listed_id ids.now id }
 {
     if id == 0 {

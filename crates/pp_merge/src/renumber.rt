@@ -1,10 +1,13 @@
 //! Tables whose ids and references are given new numbers, in place.
 ghost use Rattle.pp_merge.specs.Renumbered.{renumbered_label, renumbered_line, renumbered_type, renumbered_function, renumbered_mapping, renumbered_location, renumbered_sample, renumbered, with_header, new_ids};
-ghost use Rattle.pp_merge.specs.Ids.{new_id, new_text};
+ghost use Rattle.pp_merge.specs.Behind.{behind_id};
+ghost use Rattle.pp_merge.specs.Ids.{new_id, new_text, place_id, listed_id};
 ghost use Rattle.std.specs.Prelude.{◌≡◌, map};
 
+use crate::behind::Behind;
 use crate::change::{Change, change_each};
-use crate::ids::Ids;
+use crate::ids::{Ids, Known, listed};
+use crate::met::Met;
 use pp_base::List;
 use pp_model::{Function, Label, Line, Location, Mapping, Profile, Sample, ValueType};
 
@@ -32,6 +35,33 @@ impl Change<u64> for Renumbering {
 
     fn change(&self, id: &mut u64) {
         *id = self.location.id(*id);
+    }
+}
+
+/// The id of a location whose place among those that were met is its new id.
+impl Change<u64> for Met {
+    ghost changed = { place_id };
+
+    fn change(&self, id: &mut u64) {
+        *id = self.id(*id);
+    }
+}
+
+/// The id of a location whose table goes behind others.
+impl Change<u64> for Behind {
+    ghost changed = { λ behind. behind_id behind.after behind.len };
+
+    fn change(&self, id: &mut u64) {
+        *id = self.id(*id);
+    }
+}
+
+/// The id of a location, where the new ids stand in a list.
+impl Change<u64> for List<u64> {
+    ghost changed = { listed_id };
+
+    fn change(&self, id: &mut u64) {
+        *id = listed(self.as_slice(), *id);
     }
 }
 
@@ -103,15 +133,19 @@ impl Change<Sample> for Renumbering {
 }
 
 impl Renumbering {
-    // Gives the locations of a sample their new ids. Where all ids stay, they are not gone through.
-    #[tactic(auto, using(crate::proofs::KeptIds::same_locations))]
+    // Gives the locations of a sample their new ids. Samples name many, so the way that ids change is asked once a list, and
+    // where all ids stay, they are not gone through.
+    #[tactic(auto, using(crate::proofs::KeptIds::same_locations, crate::proofs::KeptIds::changed_locations))]
     fn change_locations(&self, ids: &mut List<u64>)
         ensures { ids.new ≡ map (new_id self.now.location) ids.old }
     {
-        if self.location.keeps_all() {
-            return;
+        match &self.location {
+            Ids::Same => {}
+            Ids::Listed(met) => change_each(ids, met),
+            Ids::Moved(Known::InOrder, behind) => change_each(ids, behind),
+            Ids::Moved(Known::KnownIds(_), _) => change_each(ids, self),
+            Ids::By(list) => change_each(ids, list),
         }
-        change_each(ids, self);
     }
 
     // Gives the labels of a sample their new texts.

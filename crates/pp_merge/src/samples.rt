@@ -39,7 +39,7 @@ pub fn sum_samples(
 fn sample_items(alloc: Global, samples: List<Sample>) -> Result<Vec<(SampleKey, List<i64>)>, Memory>
     ensures { IfOk result (λ items. map item_of_key items.items ≡ map sample_item samples) }
 {
-    let mut items = Vec::new(alloc);
+    let mut items = Vec::with_capacity(alloc, samples.len())?;
     for sample in samples.into_vec() {
         let key = SampleKey {
             locations: sample.location_id.into_vec(),

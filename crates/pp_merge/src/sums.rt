@@ -20,7 +20,7 @@ pub fn sum_each<K: Hash + Eq + Drop>(
         → sum_by (λ item. nat_abs (slice_index_or item.1 column (pos 0))) items.items ≤ 2 ^ 63 - 1 }
     ensures { IfOk result (λ sums. sums.items ≡ summed K.eq columns items.items) }
 {
-    let mut keys = IndexSet::new(alloc);
+    let mut keys = IndexSet::with_capacity(alloc, items.len())?;
     let mut sums = List::new(alloc);
     for (key, row) in items {
         let (place, is_new) = keys.insert_full(key)?;
