@@ -73,3 +73,16 @@ is_long value scale counter bytes total le so_far =
     let k : 10 - counter ≡ 0 = omega arith in
     let one : with_front value scale (groups (10 - counter) bytes) ≡ Err LongVarint = rw k refl in
     sym so_far ∙ one
+
+-- a varint of one byte, and of two
+pub one_byte : (b : ℕ) (bytes rest : List ℕ) → rest ≡ b ∷ bytes → b < 128 → varint rest ≡ Ok (b, bytes)
+one_byte b bytes rest parts low =
+    is_last 0 1 0 b bytes rest (varint rest) (omega arith) low parts (starts_varint rest)
+    ∙ ap (λ n. read_of n bytes) (omega (arith, low))
+
+pub two_bytes : (a b n : ℕ) (bytes rest whole : List ℕ) → whole ≡ a ∷ rest → rest ≡ b ∷ bytes → 128 ≤ a → b < 128
+    → n ≡ (a - 128) + 128 * b → n < 2 ^ 14 → varint whole ≡ Ok (n, bytes)
+two_bytes a b n bytes rest whole first second high low sum small =
+    is_last _ _ 1 b bytes rest (varint whole) (omega arith) low second
+    (goes_on 0 1 0 a rest whole (varint whole) (omega arith) high first (starts_varint whole))
+    ∙ ap (λ n. read_of n bytes) (omega (arith, high, low, sum, small))

@@ -1,6 +1,6 @@
 //! Varints, at the front of bytes.
 
-ghost use Rattle.std.specs.Prelude.{◌≡◌, ◌<◌, ◌≤◌, [], ◌∷◌, length, take, IfOk, MatchOption};
+ghost use Rattle.std.specs.Prelude.{◌≡◌, ◌+◌, ◌-◌, ◌*◌, ◌^◌, ◌<◌, ◌≤◌, [], ◌∷◌, length, take, Ok, IfOk, IfSome, MatchOption};
 ghost use Rattle.pp_wire.specs.Reading.{Gives};
 ghost use Rattle.pp_wire.specs.Varint.{varint};
 ghost use Rattle.pp_wire.specs.Spelling.{varint_bytes};
@@ -9,6 +9,45 @@ use crate::WireKind;
 
 /// The varint at the front, and the bytes after it.
 pub(crate) fn varint_of(bytes: &[u8]) -> Result<(u64, &[u8]), WireKind>
+    ensures read { Gives (λ x. (x.0, x.1.now)) result (varint bytes.now) }
+    ensures shorter { IfOk result (λ x. length x.1.now < length bytes.now) }
+{
+    // Most numbers are small.
+    match short_varint_of(bytes) {
+        Some(read) => Ok(read),
+        None => long_varint_of(bytes),
+    }
+}
+
+// The same, where the varint takes one byte or two.
+#[tactic(auto, using(crate::proofs::Varints::one_byte))]
+fn short_varint_of(bytes: &[u8]) -> Option<(u64, &[u8])>
+    ensures read { IfSome result (λ x. varint bytes.now ≡ Ok (x.0, x.1.now)) }
+    ensures shorter { IfSome result (λ x. length x.1.now < length bytes.now) }
+{
+    let (first, rest) = first_of(bytes)?;
+    if first < 128 {
+        return Some((u64::from(first), rest));
+    }
+    let (second, rest) = first_of(rest)?;
+    if second < 128 {
+        return Some((two_groups(first, second), rest));
+    }
+    None
+}
+
+// The number of these two groups, of which the first is marked as not the last.
+fn two_groups(first: u8, second: u8) -> u64
+    requires marked { 128 ≤ first }
+    requires last { second < 128 }
+    ensures sum { result ≡ (first - 128) + 128 * second }
+    ensures small { result < 2 ^ 14 }
+{
+    u64::from(first - 128) + 128 * u64::from(second)
+}
+
+// The same for a varint of any length, group by group.
+fn long_varint_of(bytes: &[u8]) -> Result<(u64, &[u8]), WireKind>
     ensures read { Gives (λ x. (x.0, x.1.now)) result (varint bytes.now) }
     ensures shorter { IfOk result (λ x. length x.1.now < length bytes.now) }
 {

@@ -1,6 +1,6 @@
 use Rattle.std.proofs.Common.{arith}
 use Rattle.pp_wire.proofs.Varints.{starts_varint, goes_on, is_last, ends_early, is_long}
-use Rattle.pp_wire.proofs.varint.varint_of.Goals as goal
+use Rattle.pp_wire.proofs.varint.long_varint_of.Goals as goal
 
 pub loop-init : goal.loop-init
 loop-init c = record { so_far = starts_varint c.args.bytes.now; taken = omega arith }
