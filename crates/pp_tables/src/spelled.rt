@@ -44,6 +44,24 @@ pub(crate) fn put_packed_ints(
     requires below { number < 2 ^ 29 }
     ensures { OnOk result (out.new ≡ out.old ++ packed_field number (map unsigned list.now)) }
 {
+    // Most samples have one or two values, and for these no vector is made.
+    match list {
+        [n] => put_packed(out, number, &[n.cast_unsigned()]),
+        [n, last] => put_packed(out, number, &[n.cast_unsigned(), last.cast_unsigned()]),
+        _ => put_packed_list(alloc, out, number, list),
+    }
+}
+
+fn put_packed_list(
+    alloc: Global,
+    out: &mut Text,
+    number: u32,
+    list: &[i64],
+) -> Result<(), Memory>
+    requires least { 1 ≤ number }
+    requires below { number < 2 ^ 29 }
+    ensures { OnOk result (out.new ≡ out.old ++ packed_field number (map unsigned list.now)) }
+{
     let numbers = unsigned_of(alloc, list)?;
     put_packed(out, number, &numbers)
 }
