@@ -55,7 +55,7 @@ fn kept_samples(alloc: Global, sums: Vec<(SampleKey, List<i64>)>) -> Result<List
     ensures { IfOk result (λ samples. samples
         ≡ map sample_of (filter counts (map item_of_key sums.items))) }
 {
-    let mut samples = List::new(alloc);
+    let mut samples = List::from_vec(Vec::with_capacity(alloc, sums.len())?);
     for (key, value) in sums {
         push_counting(&mut samples, key, value)?;
     }

@@ -21,7 +21,7 @@ pub fn sum_each<K: Hash + Eq + Drop>(
     ensures { IfOk result (λ sums. sums.items ≡ summed K.eq columns items.items) }
 {
     let mut keys = IndexSet::with_capacity(alloc, items.len())?;
-    let mut sums = List::new(alloc);
+    let mut sums = List::from_vec(Vec::with_capacity(alloc, items.len())?);
     for (key, row) in items {
         let (place, is_new) = keys.insert_full(key)?;
         put(&mut sums, place, is_new, row)?;
