@@ -78,11 +78,18 @@ fn cut_sample(
     let Some(stack) = filter_stack(alloc, l, v, s)? else {
         return Ok(());
     };
-    let mut ids = List::new(alloc);
+    let mut ids = no_items(alloc, s.location_id.len())?;
     let places = &mut cut.places;
     place_stack(alloc, l.profile.get(), stack.as_slice(), &mut ids, places)?;
     let sample = sample_with(alloc, l, v, s, ids)?;
     cut.samples.push(sample)
+}
+
+/// No items, with room for so many.
+pub fn no_items<T>(alloc: Global, room: usize) -> Result<List<T>, Memory>
+    ensures { IfOk result (λ items. items ≡ []) }
+{
+    Ok(List::from_vec(Vec::with_capacity(alloc, room)?))
 }
 
 // The sample with these locations, and with its labels that are shown.

@@ -14,8 +14,8 @@ ghost use Rattle.pp_dump.specs.Unfiltered.{KeepsSums, KeepsKeys, KeepsHeader};
 ghost use Rattle.pp_restack.specs.Places.{with_cut};
 ghost use Rattle.pp_dump.specs.Places.{IsCutOf};
 
-use crate::cutting::{Cut, cut_samples};
-use pp_base::{List, Memory};
+use crate::cutting::{Cut, cut_samples, no_items};
+use pp_base::Memory;
 use pp_count::Counted;
 use pp_model::{Compact, Loaded, Profile, Valid, Verdicts};
 use pp_restack::{Places, merge_alone, places_of, with_cut};
@@ -65,8 +65,9 @@ fn cut_profile(alloc: Global, l: &Loaded, v: &Verdicts, kept: &[u32]) -> Result<
     ensures { IfOk result (λ q. IsCutOf l.now v.now kept.now q) }
 {
     let p = l.profile.get();
+    let samples = no_items(alloc, kept.len())?;
     let mut cut = Cut {
-        samples: List::new(alloc),
+        samples,
         places: places_of(alloc, p)?,
     };
     cut_samples(alloc, l, v, kept, &mut cut)?;

@@ -30,9 +30,9 @@ returns c =
     let same = c.get.ensures.same in
     let all = c.in_ok-place_stack.ensures.ids in
     let made : AppendsEntries new (map (cut_location l.profile) (by_place c.in-Some.stack)) [] c.place_stack.new.ids =
-    subst (λ (before : List ℕ). AppendsEntries new (map (cut_location l.profile) (by_place c.in-Some.stack)) before c.place_stack.new.ids) c.new-ids.ensures
-    (subst (λ (stack : List Frame). AppendsEntries new (map (cut_location l.profile) (by_place stack)) c.new-ids.result c.place_stack.new.ids) c.as_slice.ensures
-    (subst (λ (p : Profile). AppendsEntries new (map (cut_location p) (by_place c.as_slice.result.now)) c.new-ids.result c.place_stack.new.ids) same all)) in
+    subst (λ (before : List ℕ). AppendsEntries new (map (cut_location l.profile) (by_place c.in-Some.stack)) before c.place_stack.new.ids) c.in_ok-ids.ensures
+    (subst (λ (stack : List Frame). AppendsEntries new (map (cut_location l.profile) (by_place stack)) c.in_ok-ids.ids c.place_stack.new.ids) c.as_slice.ensures
+    (subst (λ (p : Profile). AppendsEntries new (map (cut_location p) (by_place c.as_slice.result.now)) c.in_ok-ids.ids c.place_stack.new.ids) same all)) in
     let entries =
     subst (λ (ids : List ℕ). AreEntries new (map (cut_location l.profile) (by_place c.in-Some.stack)) ids) (sym (c.in_ok-sample.ensures.ids ∙ made.is)) made.entries in
     let keeps = subst (λ (p : Profile). KeepsPlaces p old new) same c.in_ok-place_stack.ensures.places in

@@ -29,7 +29,7 @@ claim-requires c =
     (cut_valid p new.samples new.places.locations c.get-p.ensures.valid
     (subst (λ (q : Profile). ArePlaces q new.places.locations) (sym same) adds.places)
     (subst (λ (q : Profile). AllByRecursion (IsCutSample q new.places.locations) new.samples) (sym same)
-    (subst (AllByRecursion (IsCutSample c.args.l.now.profile new.places.locations)) (sym (adds.is ∙ ap (λ (samples : List Sample). samples ++ adds.added) c.new.ensures)) adds.each)))
+    (subst (AllByRecursion (IsCutSample c.args.l.now.profile new.places.locations)) (sym (adds.is ∙ ap (λ (samples : List Sample). samples ++ adds.added) c.in_ok-samples.ensures)) adds.each)))
 
 pub returns : goal.returns
 returns c =
@@ -43,8 +43,8 @@ returns c =
       locations = new.places.locations;
       is = c.claim.ensures ∙ c.in_ok-q.ensures.same ∙ ap (λ (p : Profile). with_cut p new.samples new.places.locations) same;
       adds =
-          subst (λ (samples : List Sample). AddsSamples l v numbered samples l.profile.location new.samples new.places.locations) c.new.ensures
-          (subst (λ (locations : List Location). AddsSamples l v numbered c.new.result locations new.samples new.places.locations)
+          subst (λ (samples : List Sample). AddsSamples l v numbered samples l.profile.location new.samples new.places.locations) c.in_ok-samples.ensures
+          (subst (λ (locations : List Location). AddsSamples l v numbered c.in_ok-samples.samples locations new.samples new.places.locations)
           (c.in_ok-places_of.ensures ∙ ap (λ (p : Profile). p.location) same) c.in_ok-cut_samples.ensures);
       valid = subst NoRuleFails same c.get-p.ensures.valid;
       few = c.in_ok-q.ensures.few;
