@@ -52,12 +52,7 @@ pub(crate) fn put_packed_ints(
     }
 }
 
-fn put_packed_list(
-    alloc: Global,
-    out: &mut Text,
-    number: u32,
-    list: &[i64],
-) -> Result<(), Memory>
+fn put_packed_list(alloc: Global, out: &mut Text, number: u32, list: &[i64]) -> Result<(), Memory>
     requires least { 1 ≤ number }
     requires below { number < 2 ^ 29 }
     ensures { OnOk result (out.new ≡ out.old ++ packed_field number (map unsigned list.now)) }

@@ -8,6 +8,7 @@ ghost use Rattle.pp_wire.specs.Spelling.{varint_bytes};
 use crate::WireKind;
 
 /// The varint at the front, and the bytes after it.
+#[inline(always)]
 pub(crate) fn varint_of(bytes: &[u8]) -> Result<(u64, &[u8]), WireKind>
     ensures read { Gives (λ x. (x.0, x.1.now)) result (varint bytes.now) }
     ensures shorter { IfOk result (λ x. length x.1.now < length bytes.now) }
@@ -20,6 +21,7 @@ pub(crate) fn varint_of(bytes: &[u8]) -> Result<(u64, &[u8]), WireKind>
 }
 
 // The same, where the varint takes one byte or two.
+#[inline(always)]
 #[tactic(auto, using(crate::proofs::Varints::one_byte))]
 fn short_varint_of(bytes: &[u8]) -> Option<(u64, &[u8])>
     ensures read { IfSome result (λ x. varint bytes.now ≡ Ok (x.0, x.1.now)) }
@@ -47,6 +49,7 @@ fn two_groups(first: u8, second: u8) -> u64
 }
 
 // The same for a varint of any length, group by group.
+#[inline(never)]
 fn long_varint_of(bytes: &[u8]) -> Result<(u64, &[u8]), WireKind>
     ensures read { Gives (λ x. (x.0, x.1.now)) result (varint bytes.now) }
     ensures shorter { IfOk result (λ x. length x.1.now < length bytes.now) }
