@@ -49,7 +49,7 @@ module _ (column : ℕ) where
   Natural s = IsNatural (get_or s.1 column (pos 0))
 
   -- of samples that are added up
-  summed_natural : (n : ℕ) (items : List (SampleText × List ℤ)) → column < n → AllByRecursion (λ item. length item.1 ≡ n) items → AllByRecursion Natural items
+  pub summed_natural : (n : ℕ) (items : List (SampleText × List ℤ)) → column < n → AllByRecursion (λ item. length item.1 ≡ n) items → AllByRecursion Natural items
       → AllByRecursion Natural (filter counts (summed same_sample n items))
   summed_natural n items within long all =
       let keys = distinct same_sample (keys_of same_sample items) in
@@ -73,7 +73,7 @@ module _ (column : ℕ) where
   module _ (p : Profile) (f : Finders) (config : Config) (valid : NoRuleFails p) (within : column < length p.sample_type)
       (least : All (λ s. All (λ v. pos 0 ≤ℤ v) s.value) p.sample) where
     -- of the samples that the filters leave
-    cut_natural : AllByRecursion Natural (cut_samples p f config)
+    pub cut_natural : AllByRecursion Natural (cut_samples p f config)
     cut_natural =
         all_some Natural (λ s. option_map (cut_sample p f s) (filtered_stack p f config s)) p.sample
         (recursion_from_All _ p.sample (λ k d below item is.

@@ -22,7 +22,7 @@ use Rattle.pp_dump.specs.Unfiltered.{no_finders, KeepsSums}
 use Rattle.pp_dump.proofs.CountedPlaces.{counted_places, counted_stack}
 
 -- a number divided by 1
-quotient_one : (z : ℤ) → int_div z (pos 1) ≡ z
+pub quotient_one : (z : ℤ) → int_div z (pos 1) ≡ z
 quotient_one (pos n) = let e : n / 1 ≡ n = omega arith in ap pos e
 quotient_one (negsuc n) = let e : suc n / 1 ≡ suc n = omega arith in ap (λ m. neg_ℤ (pos m)) e
 

@@ -65,7 +65,7 @@ edges_within p f config column kept a b none =
     }
 
 -- the samples that are seen have the values of those that the filters leave
-absolute_seen : (p : Profile) (f : Finders) (config : Config) (column : Option ℕ) (ss : List Sample)
+pub absolute_seen : (p : Profile) (f : Finders) (config : Config) (column : Option ℕ) (ss : List Sample)
     → absolute (seen_samples p f config column ss) ≡ absolute_all column config.divide_by (filtered_samples p f config ss)
 absolute_seen p f config column [] = refl
 absolute_seen p f config column (s ∷ ss) =
@@ -85,7 +85,7 @@ none_left test (s ∷ ss) none = elim (test s) as (λ b. (b || list_any test ss)
   | false ↦ λ is. none_left test ss is
 ] none
 
-none_among : (test q : Sample → Bool) (ss : List Sample) → list_any test ss ≡ false → list_any test (filter q ss) ≡ false
+pub none_among : (test q : Sample → Bool) (ss : List Sample) → list_any test ss ≡ false → list_any test (filter q ss) ≡ false
 none_among test q [] none = refl
 none_among test q (s ∷ ss) none = elim (test s) as (λ b. test s ≡ b → (b || list_any test ss) ≡ false → list_any test (filter q (s ∷ ss)) ≡ false) [
   | true ↦ λ here is. absurd (false≢true (sym is))
@@ -96,7 +96,7 @@ none_among test q (s ∷ ss) none = elim (test s) as (λ b. test s ≡ b → (b 
 ] refl none
 
 -- without a base the total is over all samples
-plain_total : (p : Profile) (config : Config) (column : Option ℕ) (ss : List Sample) → list_any (is_base p) ss ≡ false
+pub plain_total : (p : Profile) (config : Config) (column : Option ℕ) (ss : List Sample) → list_any (is_base p) ss ≡ false
     → total_over p config column ss ≡ absolute_all column config.divide_by ss
 plain_total p config column ss none =
     ap (λ base. total_by (absolute_all column config.divide_by base) (absolute_all column config.divide_by ss)) (none_left (is_base p) ss none)

@@ -1,0 +1,50 @@
+-- Keys that were listed once already list the same again.
+use Rattle.std.proofs.Common.{◌≡◌, ℕ, Bool, true, ◌&&◌, List, [], ◌∷◌, length, sym, ap, subst, ◌∙◌}
+use Rattle.std.specs.List.{filter, list_any, IsDistinct}
+use Rattle.std.specs.Ordering.{eq_by_cmp}
+use Rattle.std.specs.Set.{distinct_count}
+use Rattle.std.specs.Cmp.{IsTotalOrder}
+use Rattle.std.specs.FinMap as finite
+use Rattle.std.specs.declared.cmp.Ordering.{Ordering}
+use Rattle.std.proofs.lemmas.Cmp.{eq_by_cmp_equiv}
+use Rattle.std.proofs.lemmas.Map.Made.{length-from_keys}
+use Rattle.std.proofs.lemmas.Map.Views.{any-filter_same}
+use Rattle.pp_model.specs.Frames.{Written}
+use Rattle.pp_grain.specs.Keys.{key_cmp}
+use Rattle.pp_grain.proofs.CallerLemmas.{key_cmp_total, key_cmp_ties}
+use Rattle.pp_count.specs.Ranks.{each_once}
+use Rattle.pp_count.proofs.EachOnce.{same_ties}
+use Rattle.pp_count.proofs.Ties.{key_decides, tied}
+use Rattle.pp_laws.proofs.Listed.{each_once_members, each_once_same, each_once-filter, each_once_apart}
+
+-- the key is among those that pass a test
+among : (test : Written → Bool) (xs : List Written) (k : Written) → list_any (eq_by_cmp key_cmp k) (filter test xs) ≡ (test k && list_any (eq_by_cmp key_cmp k) xs)
+among test xs k = any-filter_same (eq_by_cmp key_cmp k) test (test k) (λ q e. ap test (sym (tied k q e))) xs
+
+-- what passes a test is the same before keys are listed and after it
+passing : (test : Written → Bool) (xs : List Written) (k : Written)
+    → list_any (eq_by_cmp key_cmp k) (filter test xs) ≡ list_any (eq_by_cmp key_cmp k) (filter test (each_once key_cmp xs))
+passing test xs k = among test xs k ∙ ap (λ b. test k && b) (sym (each_once_members key_cmp_total xs k)) ∙ sym (among test (each_once key_cmp xs) k)
+
+module _ {R : Written → Written → Ordering} (o : IsTotalOrder R) (same : finite.IsAntisymmetric R) where
+  ties : eq_by_cmp R ≡ eq_by_cmp key_cmp
+  ties = λ i x y. same_ties o same (eq_by_cmp key_cmp) key_decides x y i
+
+  -- Keys that pass a test list the same in any order, of the keys themselves and of their list.
+  pub relisted : (test : Written → Bool) (xs : List Written) → each_once R (filter test xs) ≡ each_once R (filter test (each_once key_cmp xs))
+  relisted test xs =
+      each_once_same o same (filter test xs) (filter test (each_once key_cmp xs)) (λ k.
+      (λ i. list_any (ties i k) (filter test xs)) ∙ passing test xs k ∙ (λ i. list_any (sym ties i k) (filter test (each_once key_cmp xs))))
+
+  -- So do all keys.
+  pub relisted_all : (xs : List Written) → each_once R xs ≡ each_once R (each_once key_cmp xs)
+  relisted_all xs =
+      each_once_same o same xs (each_once key_cmp xs) (λ k.
+      (λ i. list_any (ties i k) xs) ∙ sym (each_once_members key_cmp_total xs k) ∙ (λ i. list_any (sym ties i k) (each_once key_cmp xs)))
+
+-- As many keys pass a test as their list has that pass it.
+pub counted_once : (test : Written → Bool) (xs : List Written) → distinct_count (eq_by_cmp key_cmp) (filter test xs) ≡ length (filter test (each_once key_cmp xs))
+counted_once test xs =
+    let apart : IsDistinct (eq_by_cmp key_cmp) (filter test (each_once key_cmp xs)) =
+    subst (IsDistinct (eq_by_cmp key_cmp)) (each_once-filter key_cmp_total key_cmp_ties test xs) (each_once_apart key_cmp (filter test xs)) in
+    sym (length-from_keys (eq_by_cmp_equiv key_cmp_total) (filter test (each_once key_cmp xs)) (filter test xs) apart (λ k. sym (passing test xs k)))

@@ -1,0 +1,153 @@
+-- A saved profile has the figures that its filters left, so the texts over them are the same.
+use Rattle.std.proofs.Common.{◌≡◌, ℕ, pos, Bool, List, [], ◌∷◌, get_or, Option, Some, None, refl, sym, ap, ◌∙◌, subst}
+use Rattle.std.specs.Prelude.{option_map}
+use Rattle.std.specs.List.{AllByRecursion, cons_option, filter_map, list_any}
+use Rattle.pp_model.specs.declared.config.Config.{Config}
+use Rattle.pp_model.specs.declared.frame.Frame.{Frame}
+use Rattle.pp_model.specs.declared.profile.Sample.{Sample}
+use Rattle.pp_model.specs.declared.profile.Profile.{Profile}
+use Rattle.pp_model.specs.Conditions.{IsColumnOf}
+use Rattle.pp_model.specs.Finders.{Finders}
+use Rattle.pp_model.specs.Frames.{Written}
+use Rattle.pp_model.specs.Rules.{IsCompact}
+use Rattle.pp_grain.specs.Keys.{key_cmp}
+use Rattle.pp_grain.proofs.CallerLemmas.{key_cmp_total, key_cmp_ties}
+use Rattle.pp_count.specs.Sums.{Seen, weighed, all_keys, has, leads, absolute, sum_where}
+use Rattle.pp_count.specs.EdgeSums.{has_edge}
+use Rattle.pp_count.specs.Seeing.{filtered_stack, seen_with, framed_with, seen_samples}
+use Rattle.pp_count.specs.Counts.{total_of}
+use Rattle.pp_count.specs.Counted.{report_samples, report_frames, has_own_match, is_own}
+use Rattle.pp_count.specs.Ranks.{each_once}
+use Rattle.pp_count.proofs.Renaming.{all_keys_occur}
+use Rattle.pp_merge.specs.Merge.{contents}
+use Rattle.pp_merge.proofs.WrittenCompact.{compact_written}
+use Rattle.pp_dump.specs.Saved.{saved}
+use Rattle.pp_dump.specs.Stacks.{left_stacks, whole_stacks}
+use Rattle.pp_dump.specs.Unfiltered.{no_finders, SeesAlike}
+use Rattle.pp_dump.proofs.SeenSums.{IsNatural}
+use Rattle.pp_dump.proofs.WholeStacks.{whole_left}
+use Rattle.pp_laws.proofs.Listed.{each_once_same}
+use Rattle.pp_laws.proofs.Sampling.{sum_where-weighed}
+use Rattle.pp_saved.specs.Figures.{Figures, figures, is_found_frame, column_type, mapped_file}
+use Rattle.pp_saved.specs.Premises.{CanSave, IsSaved, unfiltered, own_alone}
+use Rattle.pp_saved.specs.Kept.{SavedFigures, SavedTexts, PrintAlike}
+use Rattle.pp_saved.specs.Layouts.{top_layout, tree_layout, peek_layout}
+use Rattle.pp_saved.proofs.FramedStacks.{own_natural, saved_natural, frames_found}
+use Rattle.pp_saved.proofs.OwnAlone.{own_figures, own_frames}
+use Rattle.pp_saved.proofs.Printed.{top_is, tree_is, peek_is}
+use Rattle.pp_saved.proofs.SavedHead.{same_type, same_duration, same_file}
+use Rattle.pp_saved.proofs.SavedTotals.{none_of_base, relative_total, nothing_adds_up}
+
+-- without a column no sample puts keys into a report
+none_seen : (p : Profile) (config : Config) (left : Sample → Option (List Frame)) (xs : List Sample)
+    → weighed (filter_map (λ s. option_map (seen_with p config None s) (left s)) xs) ≡ []
+none_seen p config left [] = refl
+none_seen p config left (s ∷ xs) = by (left s) (none_seen p config left xs)
+  where
+    by : (o : Option (List Frame)) → weighed (filter_map (λ t. option_map (seen_with p config None t) (left t)) xs) ≡ []
+        → weighed (cons_option (option_map (seen_with p config None s) o) (filter_map (λ t. option_map (seen_with p config None t) (left t)) xs)) ≡ []
+    by None rest = rest
+    by (Some stack) rest = rest
+
+none_framed : (p : Profile) (config : Config) (left : Sample → Option (List Frame)) (xs : List Sample)
+    → weighed (filter_map (λ s. option_map (framed_with p config None s) (left s)) xs) ≡ []
+none_framed p config left [] = refl
+none_framed p config left (s ∷ xs) = by (left s) (none_framed p config left xs)
+  where
+    by : (o : Option (List Frame)) → weighed (filter_map (λ t. option_map (framed_with p config None t) (left t)) xs) ≡ []
+        → weighed (cons_option (option_map (framed_with p config None s) o) (filter_map (λ t. option_map (framed_with p config None t) (left t)) xs)) ≡ []
+    by None rest = rest
+    by (Some stack) rest = rest
+
+-- Both reports add up the same, and find the same keys and frames.
+record Counted (p : Profile) (f : Finders) (config : Config) (q : Profile) (d : Config) (column : Option ℕ) : Type 0 where
+  pub sums : (test : List Written → Bool) → sum_where test (report_samples q no_finders d column) ≡ sum_where test (report_samples p f config column)
+  pub some : (test : List Written → Bool) → list_any (λ s. test s.keys) (report_samples q no_finders d column) ≡ list_any (λ s. test s.keys) (report_samples p f config column)
+  pub frames : (test : List Written → Bool) → list_any (λ s. test s.keys) (report_frames q no_finders d column) ≡ list_any (λ s. test s.keys) (report_frames p f config column)
+  pub absolutes : absolute (seen_samples q no_finders d column q.sample) ≡ absolute (seen_samples p f config column p.sample)
+
+module _ (p : Profile) (f : Finders) (config : Config) (q : Profile) (can : CanSave p config) (is : IsSaved p f config q) where
+  abbrev d : Config
+  d = unfiltered config
+
+  alike : SeesAlike config d
+  alike = record {
+    grain = refl;
+    showcolumns = refl;
+    noinlines = refl;
+    divide_by = can.divide_by;
+    undivided = can.divide_by;
+    tagfocus = refl;
+    tagignore = refl;
+  }
+
+  whole : left_stacks q no_finders d ≡ whole_stacks q
+  whole = let compact : IsCompact q = subst IsCompact is.again (compact_written (contents q [])) in whole_left q compact.locations d refl refl is.valid
+
+  counted : (column : Option ℕ) → IsColumnOf p column → Counted p f config q d column
+  counted None within =
+      let ours : report_samples p f config None ≡ [] = none_seen p config (filtered_stack p f config) p.sample in
+      let theirs : report_samples q no_finders d None ≡ [] = none_seen q d (filtered_stack q no_finders d) q.sample in
+      record {
+        sums = λ test. ap (sum_where test) (theirs ∙ sym ours);
+        some = λ test. ap (list_any (λ (s : Seen Written). test s.keys)) (theirs ∙ sym ours);
+        frames = λ test. ap (list_any (λ (s : Seen Written). test s.keys))
+            (none_framed q d (filtered_stack q no_finders d) q.sample ∙ sym (none_framed p config (filtered_stack p f config) p.sample));
+        absolutes = nothing_adds_up q no_finders d q.sample ∙ sym (nothing_adds_up p f config p.sample);
+      }
+  counted (Some column) within =
+      let keys = is.keys can.least d alike column within in
+      record {
+        sums = λ test. sum_where-weighed test _ ∙ is.sums d alike test column within ∙ sym (sum_where-weighed test _);
+        some = keys.some;
+        frames = frames_found p f config q d column is.stacks within refl can.divide_by can.divide_by whole
+            (own_natural p column can.valid within can.least)
+            (subst (λ (r : Profile). AllByRecursion (λ s. IsNatural (get_or s.value column (pos 0))) r.sample) (sym is.is) (saved_natural p column can.valid within can.least f config));
+        absolutes = keys.absolutes;
+      }
+
+  module _ (column : Option ℕ) (within : IsColumnOf p column) where
+    same : Counted p f config q d column
+    same = counted column within
+
+    total_is : total_of q no_finders d column ≡ total_of p f config column
+    total_is =
+        relative_total q no_finders d column can.relative (none_of_base p f config q is.stacks can.plain)
+        ∙ same.absolutes ∙ sym (relative_total p f config column can.relative can.plain)
+
+    keys_are : each_once key_cmp (all_keys (report_samples q no_finders d column)) ≡ each_once key_cmp (all_keys (report_samples p f config column))
+    keys_are =
+        each_once_same key_cmp_total key_cmp_ties _ _ (λ k.
+        all_keys_occur key_cmp (report_samples q no_finders d column) k ∙ same.some (has key_cmp k) ∙ sym (all_keys_occur key_cmp (report_samples p f config column) k))
+
+    pub alone : figures q no_finders d column ≡ figures p f config column
+    alone = λ i. record {
+      value_type = same_type p q column is.header.header i;
+      total = total_is i;
+      file = (ap mapped_file is.is ∙ same_file p f config) i;
+      duration = (ap (λ (r : Profile). r.duration_nanos) is.is ∙ same_duration p f config can.settled) i;
+      keys = keys_are i;
+      finds = λ test k. same.frames (list_any (is_found_frame config test k)) i;
+      flat_of = λ k. same.sums (leads key_cmp k) i;
+      cum_of = λ k. same.sums (has key_cmp k) i;
+      occurs_pair = λ kept a b. same.some (has_edge key_cmp kept a b) i;
+      sum_of_pair = λ kept a b. same.sums (has_edge key_cmp kept a b) i;
+    }
+
+-- The figures are the same,
+pub saved_figures : SavedFigures
+saved_figures p f config q column can is within = own_figures q f config column ∙ alone p f config q can is column within
+
+-- and so are the texts.
+pub saved_texts : SavedTexts
+saved_texts p f config q column can is within =
+    let g : Finders = own_alone f in
+    let d : Config = unfiltered config in
+    let figs : figures q g d column ≡ figures p f config column = saved_figures p f config q column can is within in
+    record {
+      top = λ limit h. top_is q g d column limit h ∙ ap (λ (a : Figures). top_layout a config limit h) figs ∙ sym (top_is p f config column limit h);
+      tree = λ limit h. tree_is q g d column limit h ∙ ap (λ (a : Figures). tree_layout a config limit h) figs ∙ sym (tree_is p f config column limit h);
+      found = ap (list_any (λ (s : Seen Written). list_any (is_own f) s.keys)) (own_frames q f config column)
+          ∙ (counted p f config q can is column within).frames (list_any (is_own f));
+      peek = λ h. peek_is q g d column h ∙ ap (λ (a : Figures). peek_layout a config f.own h) figs ∙ sym (peek_is p f config column h);
+    }

@@ -1,0 +1,68 @@
+-- The figures of a report: all that the layouts of top, tree and peek read of a profile.
+use Rattle.std.specs.Prelude.{ℕ, ℤ, ◌&&◌, Bool, List, [], map, slice_get, Option}
+use Rattle.std.specs.List.{list_any}
+use Rattle.std.specs.Option.{option_and_then, option_map_or}
+use Rattle.std.specs.Ordering.{eq_by_cmp}
+use Rattle.pp_model.specs.declared.config.Config.{Config}
+use Rattle.pp_model.specs.declared.profile.Profile.{Profile}
+use Rattle.pp_model.specs.Finders.{Finders}
+use Rattle.pp_model.specs.Frames.{Written, text_of}
+use Rattle.pp_grain.specs.Keys.{key_cmp, key_texts}
+use Rattle.pp_merge.specs.Header.{TypeText, type_text}
+use Rattle.pp_count.specs.Sums.{Seen, all_keys, flat, cum}
+use Rattle.pp_count.specs.EdgeSums.{edge_occurs, edge_sum}
+use Rattle.pp_count.specs.Counts.{total_of}
+use Rattle.pp_count.specs.Counted.{report_samples, report_frames}
+use Rattle.pp_count.specs.Ranks.{each_once}
+
+-- What a report says of a profile by one column.
+pub record Figures : Type 0 where
+  -- the name and the unit of the column's type, none without a column
+  pub value_type : Option TypeText
+  -- what percentages are taken of
+  pub total : ℕ
+  -- the path of the first mapping's file, or nothing
+  pub file : List ℕ
+  -- in nanoseconds
+  pub duration : ℤ
+  -- the keys that occur, each once, in their order
+  pub keys : List Written
+  -- whether a test holds of the function text of some frame that counts and has the key
+  pub finds : (List ℕ → Bool) → Written → Bool
+  -- the sums of a key: over the samples whose leaf has it, and over all that have it
+  pub flat_of : Written → ℤ
+  pub cum_of : Written → ℤ
+  -- over the keys that a test keeps, whether a pair of a caller and a callee occurs, and its sum
+  pub occurs_pair : (Written → Bool) → Written → Written → Bool
+  pub sum_of_pair : (Written → Bool) → Written → Written → ℤ
+
+-- the type of the column, written out
+abbrev pub column_type : Profile → Option ℕ → Option TypeText
+column_type p column = option_and_then (slice_get (map (type_text p) p.sample_type)) column
+
+-- the path of the first mapping's file, and nothing where there is no mapping
+abbrev pub mapped_file : Profile → List ℕ
+mapped_file p = option_map_or (λ m. text_of p m.file) (slice_get p.mapping 0) []
+
+-- the frame's function text passes the test, and the key is the frame's
+abbrev pub is_found_frame : Config → (List ℕ → Bool) → Written → Written → Bool
+is_found_frame config test k w =
+    test w.function && eq_by_cmp key_cmp k (key_texts config.grain config.showcolumns w)
+
+-- The figures of a report on the profile, by what its patterns find.
+abbrev pub figures : Profile → Finders → Config → Option ℕ → Figures
+figures p f config column =
+    let samples : List (Seen Written) = report_samples p f config column in
+    record {
+      value_type = column_type p column;
+      total = total_of p f config column;
+      file = mapped_file p;
+      duration = p.duration_nanos;
+      keys = each_once key_cmp (all_keys samples);
+      finds = λ test k.
+          list_any (λ s. list_any (is_found_frame config test k) s.keys) (report_frames p f config column);
+      flat_of = flat key_cmp samples;
+      cum_of = cum key_cmp samples;
+      occurs_pair = λ kept. edge_occurs key_cmp kept samples;
+      sum_of_pair = λ kept. edge_sum key_cmp kept samples;
+    }

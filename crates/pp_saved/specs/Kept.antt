@@ -1,0 +1,37 @@
+-- A saved profile reports as its filters did.
+use Rattle.std.specs.Prelude.{◌≡◌, ℕ, Bool, List, Option}
+use Rattle.pp_model.specs.declared.config.Config.{Config}
+use Rattle.pp_model.specs.declared.profile.Profile.{Profile}
+use Rattle.pp_model.specs.Conditions.{IsColumnOf}
+use Rattle.pp_model.specs.Finders.{Finders}
+use Rattle.pp_units.specs.Head.{Facts}
+use Rattle.pp_count.specs.Counted.{has_own_match}
+use Rattle.pp_top.specs.Top.{top_text}
+use Rattle.pp_tree.specs.Tree.{tree_text}
+use Rattle.pp_tree.specs.Peek.{peek_text}
+use Rattle.pp_saved.specs.Figures.{figures}
+use Rattle.pp_saved.specs.Premises.{CanSave, IsSaved, unfiltered, own_alone}
+
+-- Without filters a saved profile has the figures that the profile has with them.
+abbrev pub SavedFigures : Type 0
+SavedFigures =
+    (p : Profile) (f : Finders) (config : Config) (q : Profile) (column : Option ℕ)
+    → CanSave p config → IsSaved p f config q → IsColumnOf p column
+    → figures q (own_alone f) (unfiltered config) column ≡ figures p f config column
+
+-- The two reports print the same under the same head: top, tree and peek, and whether peek finds anything.
+pub record PrintAlike (p : Profile) (f : Finders) (config : Config) (q : Profile) (g : Finders) (d : Config)
+    (column : Option ℕ) : Type 0 where
+  pub top : (limit : ℕ) (h : Facts)
+      → top_text q g d column limit h ≡ top_text p f config column limit h
+  pub tree : (limit : ℕ) (h : Facts)
+      → tree_text q g d column limit h ≡ tree_text p f config column limit h
+  pub found : has_own_match q g d column ≡ has_own_match p f config column
+  pub peek : (h : Facts) → peek_text q g d column h ≡ peek_text p f config column h
+
+-- So do a saved profile without filters and the profile with them.
+abbrev pub SavedTexts : Type 0
+SavedTexts =
+    (p : Profile) (f : Finders) (config : Config) (q : Profile) (column : Option ℕ)
+    → CanSave p config → IsSaved p f config q → IsColumnOf p column
+    → PrintAlike p f config q (own_alone f) (unfiltered config) column

@@ -1,0 +1,4 @@
+pub mod Figures
+pub mod Premises
+pub mod Kept
+pub mod Layouts

@@ -1,0 +1,21 @@
+//! A saved profile reports without filters as the profile did with them.
+ghost use Rattle.pp_saved.specs.Kept.{SavedFigures, SavedTexts};
+
+// What would break it: a saved location with the lines that were cut, labels that are not shown, one column alone, a
+// mapping table in another order.
+/// Without its filters, a configuration gives the saved profile the figures that it gives the profile with them:
+/// the column's type, Total, what the head says, the keys with their function texts and sums, and all pairs.
+///
+/// Premises: the profile stays as it is when it is merged alone, as each loaded one does; none of its values is below
+/// 0 and no sample carries `pprof::base` of the text `true`; relative_percentages is on and divide_by is 1.
+pub fn saved_figures()
+    ensures { SavedFigures }
+{}
+
+// What would break it: a layout that reads more of the profile than its figures.
+/// So top, tree and peek print the same for both, or peek finds no function in both.
+///
+/// The premises are those of `saved_figures`.
+pub fn saved_texts()
+    ensures { SavedTexts }
+{}
