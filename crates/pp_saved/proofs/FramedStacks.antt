@@ -1,6 +1,6 @@
 -- The frames that a report sees of samples follow from their stacks, so a saved profile shows the frames that the
 -- filters left.
-use Rattle.std.proofs.Common.{◌≡◌, ℕ, ◌<◌, ℤ, pos, negsuc, ◌+ℤ◌, ◌≤ℤ◌, Bool, true, not, List, [], ◌∷◌, map, length, get_or, All, refl, sym, ap, ◌∙◌, subst, arith}
+use Rattle.std.proofs.Common.{◌≡◌, ℕ, ◌<◌, ℤ, pos, negsuc, ◌+ℤ◌, ◌≤ℤ◌, Bool, not, List, [], ◌∷◌, map, length, get_or, All, refl, sym, ap, ◌∙◌, subst, arith}
 use Rattle.std.specs.Prelude.{Option, Some, None, option_map, int_div}
 use Rattle.std.specs.List.{AllByRecursion, filter_map, cons_option, list_any}
 use Rattle.std.specs.Ordering.{int_eq}
@@ -12,7 +12,7 @@ use Rattle.pp_model.specs.declared.frame.Frame.{Frame}
 use Rattle.pp_model.specs.declared.profile.Sample.{Sample}
 use Rattle.pp_model.specs.declared.profile.Profile.{Profile}
 use Rattle.pp_model.specs.Finders.{Finders}
-use Rattle.pp_model.specs.Frames.{Written, written}
+use Rattle.pp_model.specs.Frames.{Written}
 use Rattle.pp_model.specs.Rules.{NoRuleFails}
 use Rattle.pp_model.specs.Sizes.{value_in}
 use Rattle.pp_model.proofs.RuleLemmas.{passes}
@@ -58,7 +58,7 @@ module _ (p : Profile) (f : Finders) (config : Config) (column : ℕ) (undivided
   one_framed : (s : Sample) (o : Option (List Frame))
       → option_map (framed_with p config (Some column) s) o ≡ option_map (framed_text config.noinlines column) (option_map (left_stack p f s) o)
   one_framed s None = refl
-  one_framed s (Some stack) = (λ i. Some (record { value = value_is s i; keys = frames_are stack i; }))
+  one_framed s (Some stack) = (λ i. Some (record { value = value_is s i; keys = frames_are stack i }))
 
   one_more : (o : Option (StackText × List ℤ)) (rest : List (StackText × List ℤ))
       → cons_option (option_map (framed_text config.noinlines column) o) (map (framed_text config.noinlines column) rest) ≡ map (framed_text config.noinlines column) (cons_option o rest)

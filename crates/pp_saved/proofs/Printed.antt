@@ -1,6 +1,6 @@
 -- The texts of top, tree and peek follow from the figures of their reports.
-use Rattle.std.proofs.Common.{◌≡◌, ℕ, ℤ, pos, Bool, true, not, ◌&&◌, List, [], ◌∷◌, ◌++◌, length, map, Option, refl, sym, ap, ◌∙◌}
-use Rattle.std.specs.List.{filter, list_any, sum_by}
+use Rattle.std.proofs.Common.{◌≡◌, ℕ, ℤ, pos, Bool, true, not, List, ◌++◌, length, map, Option, refl, ap, ◌∙◌}
+use Rattle.std.specs.List.{filter}
 use Rattle.pp_model.specs.declared.config.Config.{Config}
 use Rattle.pp_model.specs.declared.config.Sort.{Sort}
 use Rattle.pp_model.specs.declared.config.Sort.TheVariants as sorts

@@ -16,21 +16,20 @@ use Rattle.pp_count.specs.Sums.{Seen, weighed, all_keys, has, leads, absolute, s
 use Rattle.pp_count.specs.EdgeSums.{has_edge}
 use Rattle.pp_count.specs.Seeing.{filtered_stack, seen_with, framed_with, seen_samples}
 use Rattle.pp_count.specs.Counts.{total_of}
-use Rattle.pp_count.specs.Counted.{report_samples, report_frames, has_own_match, is_own}
+use Rattle.pp_count.specs.Counted.{report_samples, report_frames, is_own}
 use Rattle.pp_count.specs.Ranks.{each_once}
 use Rattle.pp_count.proofs.Renaming.{all_keys_occur}
 use Rattle.pp_merge.specs.Merge.{contents}
 use Rattle.pp_merge.proofs.WrittenCompact.{compact_written}
-use Rattle.pp_dump.specs.Saved.{saved}
 use Rattle.pp_dump.specs.Stacks.{left_stacks, whole_stacks}
 use Rattle.pp_dump.specs.Unfiltered.{no_finders, SeesAlike}
 use Rattle.pp_dump.proofs.SeenSums.{IsNatural}
 use Rattle.pp_dump.proofs.WholeStacks.{whole_left}
 use Rattle.pp_laws.proofs.Listed.{each_once_same}
 use Rattle.pp_laws.proofs.Sampling.{sum_where-weighed}
-use Rattle.pp_saved.specs.Figures.{Figures, figures, is_found_frame, column_type, mapped_file}
+use Rattle.pp_saved.specs.Figures.{Figures, figures, is_found_frame, mapped_file}
 use Rattle.pp_saved.specs.Premises.{CanSave, IsSaved, unfiltered, own_alone}
-use Rattle.pp_saved.specs.Kept.{SavedFigures, SavedTexts, PrintAlike}
+use Rattle.pp_saved.specs.Kept.{SavedFigures, SavedTexts}
 use Rattle.pp_saved.specs.Layouts.{top_layout, tree_layout, peek_layout}
 use Rattle.pp_saved.proofs.FramedStacks.{own_natural, saved_natural, frames_found}
 use Rattle.pp_saved.proofs.OwnAlone.{own_figures, own_frames}
@@ -101,8 +100,8 @@ module _ (p : Profile) (f : Finders) (config : Config) (q : Profile) (can : CanS
         sums = λ test. sum_where-weighed test _ ∙ is.sums d alike test column within ∙ sym (sum_where-weighed test _);
         some = keys.some;
         frames = frames_found p f config q d column is.stacks within refl can.divide_by can.divide_by whole
-            (own_natural p column can.valid within can.least)
-            (subst (λ (r : Profile). AllByRecursion (λ s. IsNatural (get_or s.value column (pos 0))) r.sample) (sym is.is) (saved_natural p column can.valid within can.least f config));
+            (own_natural p column is.loaded within can.least)
+            (subst (λ (r : Profile). AllByRecursion (λ s. IsNatural (get_or s.value column (pos 0))) r.sample) (sym is.is) (saved_natural p column is.loaded within can.least f config));
         absolutes = keys.absolutes;
       }
 

@@ -1,7 +1,7 @@
 -- What the head of a report says of a saved profile.
-use Rattle.std.proofs.Common.{◌≡◌, ℕ, ℤ, Bool, true, false, ◌||◌, List, [], ◌∷◌, ◌++◌, map, filter, refl, sym, ap, ◌∙◌, subst}
+use Rattle.std.proofs.Common.{◌≡◌, ℕ, ℤ, Bool, true, false, List, [], ◌∷◌, ◌++◌, map, refl, sym, ap, ◌∙◌, subst}
 use Rattle.std.specs.Prelude.{Option, Some, None, option_map, slice_get, find, ◌==◌, if◌then◌else◌}
-use Rattle.std.specs.List.{AllByRecursion, filter_map, cons_option, flat_map, list_any}
+use Rattle.std.specs.List.{AllByRecursion, filter_map, cons_option, list_any}
 use Rattle.std.specs.Option.{option_and_then, option_map_or, option_to_list}
 use Rattle.std.proofs.lemmas.Option.{none-some, same_Some}
 use Rattle.pp_model.specs.declared.config.Config.{Config}
@@ -15,9 +15,9 @@ use Rattle.pp_count.specs.Seeing.{filtered_stack}
 use Rattle.pp_merge.specs.Alike.{equal_mapping, same_sample, same_location, first_alike}
 use Rattle.pp_merge.specs.Described.{MappingText, LocationText, SampleText, mapping_text}
 use Rattle.pp_merge.specs.FirstSight.{distinct, seen_after}
-use Rattle.pp_merge.specs.Header.{HeaderText, TypeText, header_of}
+use Rattle.pp_merge.specs.Header.{HeaderText, header_of}
 use Rattle.pp_merge.specs.Merge.{all_mappings, merged}
-use Rattle.pp_merge.specs.Sums.{counts, keys_of, summed, sum_of}
+use Rattle.pp_merge.specs.Sums.{counts, keys_of, sum_of}
 use Rattle.pp_merge.specs.Written.{Contents, written, written_mapping, mappings, locations}
 use Rattle.pp_merge.proofs.NumberedLemmas.{all_mapped}
 use Rattle.pp_merge.proofs.RoundTrip.{IsText, text_again}

@@ -1,6 +1,6 @@
 -- The layouts of top, tree and peek, as they follow from the figures and the configuration.
-use Rattle.std.specs.Prelude.{◌≡◌, ℕ, ℤ, pos, Bool, false, true, not, ◌&&◌, List, ◌++◌, length, map, Option}
-use Rattle.std.specs.List.{filter, list_any, sum_by}
+use Rattle.std.specs.Prelude.{◌≡◌, ℕ, pos, Bool, false, true, not, ◌&&◌, List, ◌++◌, length, map, Option}
+use Rattle.std.specs.List.{filter, sum_by}
 use Rattle.std.specs.Option.{option_map_or}
 use Rattle.std.specs.Ordering.{then_cmp}
 use Rattle.std.specs.declared.cmp.Ordering.{Ordering}
