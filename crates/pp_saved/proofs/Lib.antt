@@ -4,4 +4,7 @@ pub mod FramedStacks
 pub mod SavedTotals
 pub mod SavedHead
 pub mod OwnAlone
+pub mod CutSamples
+pub mod SettledSaved
+pub mod Saving
 pub mod SavedAlike

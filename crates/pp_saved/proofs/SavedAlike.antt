@@ -21,6 +21,7 @@ use Rattle.pp_count.specs.Ranks.{each_once}
 use Rattle.pp_count.proofs.Renaming.{all_keys_occur}
 use Rattle.pp_merge.specs.Merge.{contents}
 use Rattle.pp_merge.proofs.WrittenCompact.{compact_written}
+use Rattle.pp_dump.specs.Saved.{saved}
 use Rattle.pp_dump.specs.Stacks.{left_stacks, whole_stacks}
 use Rattle.pp_dump.specs.Unfiltered.{no_finders, SeesAlike}
 use Rattle.pp_dump.proofs.SeenSums.{IsNatural}
@@ -28,13 +29,14 @@ use Rattle.pp_dump.proofs.WholeStacks.{whole_left}
 use Rattle.pp_laws.proofs.Listed.{each_once_same}
 use Rattle.pp_laws.proofs.Sampling.{sum_where-weighed}
 use Rattle.pp_saved.specs.Figures.{Figures, figures, is_found_frame, mapped_file}
-use Rattle.pp_saved.specs.Premises.{CanSave, IsSaved, unfiltered, own_alone}
-use Rattle.pp_saved.specs.Kept.{SavedFigures, SavedTexts}
+use Rattle.pp_saved.specs.Premises.{CanSave, unfiltered, own_alone}
+use Rattle.pp_saved.specs.Kept.{SavedFigures, SavedTexts, SavedColumns, SavedLasts}
 use Rattle.pp_saved.specs.Layouts.{top_layout, tree_layout, peek_layout}
 use Rattle.pp_saved.proofs.FramedStacks.{own_natural, saved_natural, frames_found}
 use Rattle.pp_saved.proofs.OwnAlone.{own_figures, own_frames}
 use Rattle.pp_saved.proofs.Printed.{top_is, tree_is, peek_is}
 use Rattle.pp_saved.proofs.SavedHead.{same_type, same_duration, same_file}
+use Rattle.pp_saved.proofs.Saving.{IsSaved, is_saved}
 use Rattle.pp_saved.proofs.SavedTotals.{none_of_base, relative_total, nothing_adds_up}
 
 -- without a column no sample puts keys into a report
@@ -100,8 +102,8 @@ module _ (p : Profile) (f : Finders) (config : Config) (q : Profile) (can : CanS
         sums = λ test. sum_where-weighed test _ ∙ is.sums d alike test column within ∙ sym (sum_where-weighed test _);
         some = keys.some;
         frames = frames_found p f config q d column is.stacks within refl can.divide_by can.divide_by whole
-            (own_natural p column is.loaded within can.least)
-            (subst (λ (r : Profile). AllByRecursion (λ s. IsNatural (get_or s.value column (pos 0))) r.sample) (sym is.is) (saved_natural p column is.loaded within can.least f config));
+            (own_natural p column can.valid within can.least)
+            (subst (λ (r : Profile). AllByRecursion (λ s. IsNatural (get_or s.value column (pos 0))) r.sample) (sym is.is) (saved_natural p column can.valid within can.least f config));
         absolutes = keys.absolutes;
       }
 
@@ -133,20 +135,34 @@ module _ (p : Profile) (f : Finders) (config : Config) (q : Profile) (can : CanS
       sum_of_pair = λ kept a b. same.sums (has_edge key_cmp kept a b) i;
     }
 
+-- the saved profile keeps what saving keeps
+saving : (p : Profile) (f : Finders) (config : Config) → CanSave p config → IsSaved p f config (saved p f config)
+saving p f config can = is_saved p f config can.valid can.starts can.settled
+
 -- The figures are the same,
 pub saved_figures : SavedFigures
-saved_figures p f config q column can is within = own_figures q f config column ∙ alone p f config q can is column within
+saved_figures p f config column can within =
+    own_figures (saved p f config) f config column ∙ alone p f config (saved p f config) can (saving p f config can) column within
 
 -- and so are the texts.
 pub saved_texts : SavedTexts
-saved_texts p f config q column can is within =
+saved_texts p f config column can within =
+    let q : Profile = saved p f config in
     let g : Finders = own_alone f in
     let d : Config = unfiltered config in
-    let figs : figures q g d column ≡ figures p f config column = saved_figures p f config q column can is within in
+    let figs : figures q g d column ≡ figures p f config column = saved_figures p f config column can within in
     record {
       top = λ limit h. top_is q g d column limit h ∙ ap (λ (a : Figures). top_layout a config limit h) figs ∙ sym (top_is p f config column limit h);
       tree = λ limit h. tree_is q g d column limit h ∙ ap (λ (a : Figures). tree_layout a config limit h) figs ∙ sym (tree_is p f config column limit h);
       found = ap (list_any (λ (s : Seen Written). list_any (is_own f) s.keys)) (own_frames q f config column)
-          ∙ (counted p f config q can is column within).frames (list_any (is_own f));
+          ∙ (counted p f config q can (saving p f config can) column within).frames (list_any (is_own f));
       peek = λ h. peek_is q g d column h ∙ ap (λ (a : Figures). peek_layout a config f.own h) figs ∙ sym (peek_is p f config column h);
     }
+
+-- A text asks for the same column,
+pub saved_columns : SavedColumns
+saved_columns p f config text can = (saving p f config can).header.columns text
+
+-- and what was saved is valid and merged.
+pub saved_lasts : SavedLasts
+saved_lasts p f config can = let is = saving p f config can in record { valid = is.valid; settled = is.again }

@@ -26,6 +26,7 @@ use Rattle.pp_merge.proofs.WrittenValid.{texts_of_mappings}
 use Rattle.pp_restack.specs.Stacks.{by_place, cut_location, cut_text, patternless}
 use Rattle.pp_dump.specs.Saved.{cut_sample, cut_samples, saved_contents, saved}
 use Rattle.pp_saved.specs.Figures.{column_type, mapped_file}
+use Rattle.pp_saved.proofs.CutSamples.{locations_each}
 
 -- The types are those of the profile.
 pub same_type : (p q : Profile) (column : Option ℕ) → header_of q [] ≡ patternless p → column_type q column ≡ column_type p column
@@ -74,23 +75,6 @@ module _ (p : Profile) (f : Finders) (config : Config) where
   cut_unmapped none group =
       ap (λ (ms : List Mapping). option_map (first_alike (all_mappings (p ∷ []))) (option_map (mapping_text p) (find (λ m. m.id == (cut_location p group).mapping_id) ms))) none
 
-  samples_unmapped : p.mapping ≡ [] → AllByRecursion (λ s. AllByRecursion Unmapped s.0.locations) c.samples
-  samples_unmapped none =
-      let items : List (SampleText × List ℤ) = cut_samples p f config in
-      all_filtered _ counts _
-      (all_mapped (λ (s : SampleText × List ℤ). AllByRecursion Unmapped s.0.locations) (λ key. (key, sum_of same_sample _ items key)) (distinct same_sample (keys_of same_sample items))
-      (all_distinct (λ (key : SampleText). AllByRecursion Unmapped key.locations) same_sample (keys_of same_sample items)
-      (all_mapped (λ (key : SampleText). AllByRecursion Unmapped key.locations) (λ item. item.0) items
-      (all_some (λ (item : SampleText × List ℤ). AllByRecursion Unmapped item.0.locations) (λ s. option_map (cut_sample p f s) (filtered_stack p f config s)) p.sample
-      (all_any (λ (s : Sample). (y : SampleText × List ℤ) → option_map (cut_sample p f s) (filtered_stack p f config s) ≡ Some y → AllByRecursion Unmapped y.0.locations)
-      (λ s y found. one s (filtered_stack p f config s) y found) p.sample)))))
-    where
-      one : (s : Sample) (o : Option (List Frame)) (y : SampleText × List ℤ) → option_map (cut_sample p f s) o ≡ Some y → AllByRecursion Unmapped y.0.locations
-      one s None y found = absurd (none-some y found)
-      one s (Some stack) y found =
-          subst (λ (x : SampleText × List ℤ). AllByRecursion Unmapped x.0.locations) (same_Some (cut_sample p f s stack) y found)
-          (all_mapped Unmapped (cut_text p) (by_place stack) (all_any (λ group. Unmapped (cut_text p group)) (cut_unmapped none) (by_place stack)))
-
   -- The first mapping's file is that of the profile.
   pub same_file : mapped_file (saved p f config) ≡ mapped_file p
   same_file = written_file c ∙ by p.mapping refl
@@ -102,8 +86,7 @@ module _ (p : Profile) (f : Finders) (config : Config) where
       by [] is =
           (λ i. file_in (distinct equal_mapping (option_to_list (slice_get (map (mapping_text p) (is i) ++ []) 0) ++ rest)))
           ∙ ap (λ (ms : List MappingText). file_in (distinct equal_mapping ms))
-          (none_some (λ (l : LocationText). l.mapping) (locations c)
-          (all_distinct Unmapped same_location _ (all_flat Unmapped (λ s. s.0.locations) c.samples (samples_unmapped is))))
+          (none_some (λ (l : LocationText). l.mapping) (locations c) (locations_each p f config Unmapped (cut_unmapped is)))
           ∙ ap (λ (ms : List Mapping). option_map_or (λ (m : Mapping). text_of p m.file) (slice_get ms 0) []) (sym is)
       by (m ∷ ms) is =
           (λ i. file_in (distinct equal_mapping (option_to_list (slice_get (map (mapping_text p) (is i) ++ []) 0) ++ rest)))

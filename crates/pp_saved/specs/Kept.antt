@@ -1,23 +1,27 @@
 -- A saved profile reports as its filters did.
-use Rattle.std.specs.Prelude.{◌≡◌, ℕ, Option}
+use Rattle.std.specs.Prelude.{◌≡◌, ℕ, List, [], Option}
 use Rattle.pp_model.specs.declared.config.Config.{Config}
 use Rattle.pp_model.specs.declared.profile.Profile.{Profile}
 use Rattle.pp_model.specs.Conditions.{IsColumnOf}
 use Rattle.pp_model.specs.Finders.{Finders}
 use Rattle.pp_units.specs.Head.{Facts}
+use Rattle.pp_model.specs.Rules.{NoRuleFails}
+use Rattle.pp_merge.specs.Merge.{merged}
+use Rattle.pp_count.specs.Column.{column_of}
 use Rattle.pp_count.specs.Counted.{has_own_match}
+use Rattle.pp_dump.specs.Saved.{saved}
 use Rattle.pp_top.specs.Top.{top_text}
 use Rattle.pp_tree.specs.Tree.{tree_text}
 use Rattle.pp_tree.specs.Peek.{peek_text}
 use Rattle.pp_saved.specs.Figures.{figures}
-use Rattle.pp_saved.specs.Premises.{CanSave, IsSaved, unfiltered, own_alone}
+use Rattle.pp_saved.specs.Premises.{CanSave, unfiltered, own_alone}
 
 -- Without filters a saved profile has the figures that the profile has with them.
 abbrev pub SavedFigures : Type 0
 SavedFigures =
-    (p : Profile) (f : Finders) (config : Config) (q : Profile) (column : Option ℕ)
-    → CanSave p config → IsSaved p f config q → IsColumnOf p column
-    → figures q (own_alone f) (unfiltered config) column ≡ figures p f config column
+    (p : Profile) (f : Finders) (config : Config) (column : Option ℕ)
+    → CanSave p config → IsColumnOf p column
+    → figures (saved p f config) (own_alone f) (unfiltered config) column ≡ figures p f config column
 
 -- The two reports print the same under the same head: top, tree and peek, and whether peek finds anything.
 pub record PrintAlike (p : Profile) (f : Finders) (config : Config) (q : Profile) (g : Finders) (d : Config)
@@ -32,6 +36,22 @@ pub record PrintAlike (p : Profile) (f : Finders) (config : Config) (q : Profile
 -- So do a saved profile without filters and the profile with them.
 abbrev pub SavedTexts : Type 0
 SavedTexts =
-    (p : Profile) (f : Finders) (config : Config) (q : Profile) (column : Option ℕ)
-    → CanSave p config → IsSaved p f config q → IsColumnOf p column
-    → PrintAlike p f config q (own_alone f) (unfiltered config) column
+    (p : Profile) (f : Finders) (config : Config) (column : Option ℕ)
+    → CanSave p config → IsColumnOf p column
+    → PrintAlike p f config (saved p f config) (own_alone f) (unfiltered config) column
+
+-- A text asks for the same column of both.
+abbrev pub SavedColumns : Type 0
+SavedColumns =
+    (p : Profile) (f : Finders) (config : Config) (text : List ℕ)
+    → CanSave p config → column_of (saved p f config) text ≡ column_of p text
+
+-- The profile keeps the table rules, and stays as it is when it is merged alone.
+pub record IsLasting (q : Profile) : Type 0 where
+  pub valid : NoRuleFails q
+  pub settled : merged q [] ≡ q
+
+-- So it is with each saved profile.
+abbrev pub SavedLasts : Type 0
+SavedLasts =
+    (p : Profile) (f : Finders) (config : Config) → CanSave p config → IsLasting (saved p f config)

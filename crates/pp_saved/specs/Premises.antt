@@ -1,15 +1,13 @@
--- What is known of a profile, of the configuration whose filters it is saved by, and of what was saved.
-use Rattle.std.specs.Prelude.{◌≡◌, pos, ◌≤ℤ◌, true, false, [], All}
-use Rattle.std.specs.List.{list_any}
+-- What is known of a profile and of the configuration whose filters it is saved by, and both without filters.
+use Rattle.std.specs.Prelude.{◌≡◌, ◌<◌, ◌^◌, pos, ◌≤ℤ◌, true, false, [], All}
+use Rattle.std.specs.List.{AllByRecursion, list_any}
 use Rattle.pp_model.specs.declared.config.Config.{Config}
 use Rattle.pp_model.specs.declared.profile.Profile.{Profile}
 use Rattle.pp_model.specs.Finders.{Finders}
 use Rattle.pp_model.specs.Rules.{NoRuleFails}
 use Rattle.pp_merge.specs.Merge.{merged}
 use Rattle.pp_count.specs.Counts.{is_base}
-use Rattle.pp_dump.specs.Saved.{saved}
-use Rattle.pp_dump.specs.Stacks.{KeepsStacks}
-use Rattle.pp_dump.specs.Unfiltered.{no_finders, KeepsSums, KeepsKeys, KeepsHeader}
+use Rattle.pp_dump.specs.Unfiltered.{no_finders}
 
 -- the configuration without the ten variables that filter
 abbrev pub unfiltered : Config → Config
@@ -31,22 +29,14 @@ unfiltered config =
 abbrev pub own_alone : Finders → Finders
 own_alone f = record no_finders { own = f.own }
 
--- The profile stays as it is when it is merged alone, as each loaded one does. No value is below 0, and no sample is one
--- of a base. Total is that of the filtered samples, and values are not divided.
+-- The profile keeps the table rules, its mappings start below 2^64, and it stays as it is when it is merged alone: so it
+-- is with each that was loaded. No value is below 0, and no sample is one of a base. Total is that of the filtered
+-- samples, and values are not divided.
 pub record CanSave (p : Profile) (config : Config) : Type 0 where
+  pub valid : NoRuleFails p
+  pub starts : AllByRecursion (λ m. m.start < 2 ^ 64) p.mapping
   pub settled : merged p [] ≡ p
   pub least : All (λ s. All (λ v. pos 0 ≤ℤ v) s.value) p.sample
   pub plain : list_any (is_base p) p.sample ≡ false
   pub relative : config.relative_percentages ≡ true
   pub divide_by : config.divide_by ≡ 1
-
--- What `pp_dump::saved_profile` says of its result, for a profile that keeps the table rules, as each loaded one does.
-pub record IsSaved (p : Profile) (f : Finders) (config : Config) (q : Profile) : Type 0 where
-  pub loaded : NoRuleFails p
-  pub is : q ≡ saved p f config
-  pub stacks : KeepsStacks p f config q
-  pub sums : KeepsSums p f config q
-  pub keys : KeepsKeys p f config q
-  pub header : KeepsHeader p q
-  pub valid : NoRuleFails q
-  pub again : merged q [] ≡ q

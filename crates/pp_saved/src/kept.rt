@@ -1,5 +1,5 @@
 //! A saved profile reports without filters as the profile did with them.
-ghost use Rattle.pp_saved.specs.Kept.{SavedFigures, SavedTexts};
+ghost use Rattle.pp_saved.specs.Kept.{SavedFigures, SavedTexts, SavedColumns, SavedLasts};
 
 // What would break it: a saved location with the lines that were cut, labels that are not shown, one column alone, a
 // mapping table in another order.
@@ -9,7 +9,8 @@ ghost use Rattle.pp_saved.specs.Kept.{SavedFigures, SavedTexts};
 /// Premises: the profile stays as it is when it is merged alone, as each loaded one does; none of its values is below
 /// 0 and no sample carries `pprof::base` of the text `true`; relative_percentages is on and divide_by is 1.
 pub fn saved_figures()
-    ensures { SavedFigures }
+    ensures columns { SavedColumns }
+    ensures figures { SavedFigures }
 {}
 
 // What would break it: a layout that reads more of the profile than its figures.
@@ -18,4 +19,12 @@ pub fn saved_figures()
 /// The premises are those of `saved_figures`.
 pub fn saved_texts()
     ensures { SavedTexts }
+{}
+
+// What would break it: a sample of 0 that is kept, two equal samples, a location in no mapping's place.
+/// A saved profile keeps the table rules and stays as it is when it is merged alone, so it can be loaded and saved again.
+///
+/// The premises are those of `saved_figures`.
+pub fn saved_lasts()
+    ensures { SavedLasts }
 {}

@@ -6,5 +6,5 @@
 mod kept;
 mod layouts;
 
-pub use kept::{saved_figures, saved_texts};
+pub use kept::{saved_figures, saved_lasts, saved_texts};
 pub use layouts::layouts_read_figures;
