@@ -1,5 +1,5 @@
 -- What holds of each location that is cut holds of the locations of a saved profile.
-use Rattle.std.proofs.Common.{◌≡◌, ℕ, ℤ, List, [], length, map, filter, subst}
+use Rattle.std.proofs.Common.{◌≡◌, ℤ, List, length, subst}
 use Rattle.std.specs.Prelude.{Option, Some, None, option_map}
 use Rattle.std.specs.List.{AllByRecursion}
 use Rattle.std.proofs.lemmas.Option.{none-some, same_Some}

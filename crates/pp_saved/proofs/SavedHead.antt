@@ -1,30 +1,24 @@
 -- What the head of a report says of a saved profile.
-use Rattle.std.proofs.Common.{◌≡◌, ℕ, ℤ, Bool, true, false, List, [], ◌∷◌, ◌++◌, map, refl, sym, ap, ◌∙◌, subst}
+use Rattle.std.proofs.Common.{◌≡◌, ℕ, Bool, true, false, List, [], ◌∷◌, ◌++◌, map, refl, sym, ap, ◌∙◌}
 use Rattle.std.specs.Prelude.{Option, Some, None, option_map, slice_get, find, ◌==◌, if◌then◌else◌}
 use Rattle.std.specs.List.{AllByRecursion, filter_map, cons_option, list_any}
 use Rattle.std.specs.Option.{option_and_then, option_map_or, option_to_list}
-use Rattle.std.proofs.lemmas.Option.{none-some, same_Some}
 use Rattle.pp_model.specs.declared.config.Config.{Config}
 use Rattle.pp_model.specs.declared.frame.Frame.{Frame}
 use Rattle.pp_model.specs.declared.profile.Mapping.{Mapping}
-use Rattle.pp_model.specs.declared.profile.Sample.{Sample}
 use Rattle.pp_model.specs.declared.profile.Profile.{Profile}
 use Rattle.pp_model.specs.Finders.{Finders}
 use Rattle.pp_model.specs.Frames.{text_of}
-use Rattle.pp_count.specs.Seeing.{filtered_stack}
-use Rattle.pp_merge.specs.Alike.{equal_mapping, same_sample, same_location, first_alike}
-use Rattle.pp_merge.specs.Described.{MappingText, LocationText, SampleText, mapping_text}
+use Rattle.pp_merge.specs.Alike.{equal_mapping, first_alike}
+use Rattle.pp_merge.specs.Described.{MappingText, LocationText, mapping_text}
 use Rattle.pp_merge.specs.FirstSight.{distinct, seen_after}
 use Rattle.pp_merge.specs.Header.{HeaderText, header_of}
 use Rattle.pp_merge.specs.Merge.{all_mappings, merged}
-use Rattle.pp_merge.specs.Sums.{counts, keys_of, sum_of}
 use Rattle.pp_merge.specs.Written.{Contents, written, written_mapping, mappings, locations}
-use Rattle.pp_merge.proofs.NumberedLemmas.{all_mapped}
 use Rattle.pp_merge.proofs.RoundTrip.{IsText, text_again}
-use Rattle.pp_merge.proofs.SettledLemmas.{all_any, all_distinct, all_filtered, all_flat, all_some}
 use Rattle.pp_merge.proofs.WrittenValid.{texts_of_mappings}
-use Rattle.pp_restack.specs.Stacks.{by_place, cut_location, cut_text, patternless}
-use Rattle.pp_dump.specs.Saved.{cut_sample, cut_samples, saved_contents, saved}
+use Rattle.pp_restack.specs.Stacks.{cut_location, cut_text, patternless}
+use Rattle.pp_dump.specs.Saved.{saved_contents, saved}
 use Rattle.pp_saved.specs.Figures.{column_type, mapped_file}
 use Rattle.pp_saved.proofs.CutSamples.{locations_each}
 

@@ -1,5 +1,5 @@
 -- What holds of the saved profile of a profile that stays as it is when it is merged alone.
-use Rattle.std.proofs.Common.{◌≡◌, ◌<◌, ◌^◌, [], ◌∷◌, map, sym, ap, ◌∙◌, subst, append-nil}
+use Rattle.std.proofs.Common.{◌≡◌, ◌<◌, ◌^◌, [], ◌∷◌, map, sym, ap, subst, append-nil}
 use Rattle.std.specs.List.{AllByRecursion}
 use Rattle.pp_model.specs.declared.config.Config.{Config}
 use Rattle.pp_model.specs.declared.profile.Profile.{Profile}
@@ -7,7 +7,7 @@ use Rattle.pp_model.specs.Finders.{Finders}
 use Rattle.pp_model.specs.Rules.{NoRuleFails}
 use Rattle.pp_merge.specs.Described.{MappingText, mapping_text}
 use Rattle.pp_merge.specs.Header.{header_of}
-use Rattle.pp_merge.specs.Merge.{all_mappings, contents, merged}
+use Rattle.pp_merge.specs.Merge.{all_mappings, merged}
 use Rattle.pp_merge.specs.Settled.{IsSettled}
 use Rattle.pp_merge.specs.Written.{Contents, written}
 use Rattle.pp_merge.proofs.NumberedLemmas.{all_mapped}
