@@ -42,6 +42,7 @@ impl Met {
     }
 
     /// Adds the id, unless it is 0 or was met.
+    #[inline(always)]
     #[tactic(auto, using(crate::proofs::MetLemmas::met_already))]
     pub fn meet(&mut self, id: u64) -> Result<(), Memory>
         ensures { OnOk result (self.new ≡ met_with self.old id) }
@@ -53,6 +54,7 @@ impl Met {
     }
 
     // The same, where the table does not know the id.
+    #[inline(never)]
     fn add(&mut self, id: u64) -> Result<(), Memory>
         ensures { OnOk result (self.new ≡ met_with self.old id) }
     {

@@ -42,6 +42,7 @@ pub fn meet_each<Table, T: Refers<Table>>(items: &[T], met: &mut Met) -> Result<
 }
 
 /// Adds the id, unless it is 0 or was met.
+#[inline(always)]
 pub fn meet_id(id: u64, met: &mut Met) -> Result<(), Memory>
     ensures { OnOk result (met.new ≡ met_with met.old id) }
 {
