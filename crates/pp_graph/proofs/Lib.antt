@@ -16,3 +16,4 @@ pub mod Pruning
 pub mod Between
 pub mod Left
 pub mod Rows
+mod LinkRows
