@@ -3,4 +3,5 @@ pub mod TypesLemmas
 pub mod PreparingLemmas
 pub mod FinishingLemmas
 pub mod GeneratingLemmas
+pub mod SavedLemmas
 mod Rows

@@ -14,11 +14,12 @@ use Rattle.pp_model.specs.declared.report.Report.{Report}
 use Rattle.pp_model.specs.declared.report.Report.TheVariants as reports
 use Rattle.pp_model.specs.Conditions.{IsColumnOf}
 use Rattle.pp_model.specs.Frames.{text_of}
-use Rattle.pp_merge.specs.Header.{TypeText, type_text, first_nonempty}
+use Rattle.pp_merge.specs.Header.{HeaderText, TypeText, type_text, first_nonempty, header_of}
 use Rattle.pp_merge.specs.Written.{Contents, type_texts, written, written_type}
 use Rattle.pp_merge.proofs.RoundTrip.{IsText, text_again}
 use Rattle.pp_merge.proofs.WrittenValid.{last_texts, texts_of_types}
 use Rattle.pp_count.specs.Column.{column_of, first_else, last_of, type_named}
+use Rattle.pp_restack.specs.Stacks.{patternless}
 use Rattle.pp_pseudo.specs.KeyList.{key_list}
 use Rattle.pp_pseudo.specs.WithTags.{tagged, tagged_contents}
 use Rattle.pp_report.specs.Heads.{unit_text, wanted_unit}
@@ -107,6 +108,13 @@ types_again c (t ∷ types) all =
 first_of_one : (text : List ℕ) → first_nonempty (text ∷ []) ≡ text
 first_of_one [] = refl
 first_of_one (b ∷ bs) = refl
+
+-- a header without patterns tells the types
+pub types_by_header : (p q : Profile) → header_of q [] ≡ patternless p → HasTypesOf p q
+types_by_header p q header = record {
+  types = ap (λ (h : HeaderText). h.types) header;
+  default = sym (first_of_one (text_of q q.default_sample_type)) ∙ ap (λ (h : HeaderText). h.default_sample_type) header ∙ first_of_one (text_of p p.default_sample_type);
+}
 
 module _ (l : Loaded) where
   tagged_types : (roots leaves : List (List ℕ)) → HasTypesOf l.profile (tagged l roots leaves).profile

@@ -6,3 +6,4 @@ pub mod Patterns
 pub mod Tagged
 pub mod Prepared
 pub mod Reports
+pub mod SavedReports

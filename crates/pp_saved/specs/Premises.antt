@@ -29,8 +29,8 @@ unfiltered config =
 abbrev pub own_alone : Finders → Finders
 own_alone f = record no_finders { own = f.own }
 
--- The profile keeps the table rules, its mappings start below 2^64, and it stays as it is when it is merged alone: so it
--- is with each that was loaded. No value is below 0, and no sample is one of a base. Total is that of the filtered
+-- The profile keeps the table rules, its mappings start below 2^64, and it stays as it is when it is merged alone: so
+-- it is with each that was loaded. No value is below 0, and no sample is one of a base. Total is that of the filtered
 -- samples, and values are not divided.
 pub record CanSave (p : Profile) (config : Config) : Type 0 where
   pub valid : NoRuleFails p

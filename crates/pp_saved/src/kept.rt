@@ -22,7 +22,7 @@ pub fn saved_texts()
 {}
 
 // What would break it: a sample of 0 that is kept, two equal samples, a location in no mapping's place.
-/// A saved profile keeps the table rules and stays as it is when it is merged alone, so it can be loaded and saved again.
+/// A saved profile keeps the table rules and stays as it is when it is merged alone, so it can be saved again.
 ///
 /// The premises are those of `saved_figures`.
 pub fn saved_lasts()

@@ -1,0 +1,184 @@
+-- The reports of a saved profile come to the texts that its filters gave.
+use Rattle.std.proofs.Common.{◌≡◌, ℕ, Bool, true, false, List, [], ◌∷◌, map, refl, sym, ap, ◌∙◌, subst}
+use Rattle.std.specs.Prelude.{Option, Some, None, Result, Ok, Err, option_map, slice_get, if◌then◌else◌, unwrap_or}
+use Rattle.std.specs.Option.{option_and_then, option_map_or}
+use Rattle.std.proofs.lemmas.Bool.{false≢true}
+use Rattle.std.proofs.lemmas.Option.{slice_get-map}
+use Rattle.pp_desk.specs.Script.{Give}
+use Rattle.pp_model.specs.declared.config.Config.{Config}
+use Rattle.pp_model.specs.declared.loaded.Loaded.{Loaded}
+use Rattle.pp_model.specs.declared.profile.Profile.{Profile}
+use Rattle.pp_model.specs.declared.profile.ValueType.{ValueType}
+use Rattle.pp_model.specs.declared.report.Report.{Report}
+use Rattle.pp_model.specs.declared.report.Report.TheVariants as reports
+use Rattle.pp_model.specs.Conditions.{IsColumnOf}
+use Rattle.pp_model.specs.Finders.{Finders}
+use Rattle.pp_model.specs.Frames.{text_of}
+use Rattle.pp_units.specs.Head.{Facts}
+use Rattle.pp_units.specs.Shown.{Shown, picked}
+use Rattle.pp_pattern.specs.Report.{Finds, finders_of}
+use Rattle.pp_merge.specs.Header.{HeaderText, TypeText, type_text, header_of}
+use Rattle.pp_count.specs.Counted.{has_own_match}
+use Rattle.pp_graph.specs.Trim.{node_limit}
+use Rattle.pp_restack.specs.Stacks.{patternless}
+use Rattle.pp_top.specs.Top.{top_text}
+use Rattle.pp_tree.specs.Tree.{tree_text}
+use Rattle.pp_tree.specs.Peek.{peek_text}
+use Rattle.pp_calltree.specs.Text.{calltree_text}
+use Rattle.pp_dump.specs.Saved.{saved}
+use Rattle.pp_saved.specs.Figures.{Figures, figures, column_type}
+use Rattle.pp_saved.specs.Kept.{PrintAlike}
+use Rattle.pp_saved.specs.Premises.{CanSave, unfiltered, own_alone}
+use Rattle.pp_saved.proofs.SavedAlike.{saved_figures, saved_texts}
+use Rattle.pp_saved.proofs.Saving.{is_saved}
+use Rattle.pp_report.specs.declared.refusal.ReportRefusal.{ReportRefusal}
+use Rattle.pp_report.specs.declared.refusal.ReportRefusal.TheVariants.{NoMatch}
+use Rattle.pp_report.specs.Heads.{type_of, kind_text, unit_text, report_head}
+use Rattle.pp_report.specs.Patterns.{own_pattern, finder_by, report_finders}
+use Rattle.pp_report.specs.Prepared.{Showing, showing_for}
+use Rattle.pp_report.specs.Reports.{finish, finish_on, finish_by, text_by}
+use Rattle.pp_report.specs.Tagged.{basis_of, is_comments, tagged_by}
+use Rattle.pp_report.specs.SavedReports.{SavedReports, IsSavedOf, IsPlain, reads_figures}
+use Rattle.pp_report.proofs.TypesLemmas.{HasTypesOf, same_showing, types_by_header}
+
+-- a text of the column's type
+type_is : (get : TypeText → List ℕ) (p : Profile) (column : Option ℕ)
+    → option_map_or get (column_type p column) [] ≡ option_map_or (λ t. get (type_text p t)) (type_of p column) []
+type_is get p None = refl
+type_is get p (Some n) = ap (λ (o : Option TypeText). option_map_or get o []) (slice_get-map (type_text p) p.sample_type n) ∙ by (slice_get p.sample_type n)
+  where
+    by : (o : Option ValueType) → option_map_or get (option_map (type_text p) o) [] ≡ option_map_or (λ t. get (type_text p t)) o []
+    by None = refl
+    by (Some t) = refl
+
+-- the head follows from the figures
+abbrev head_by : Figures → Option Shown → Facts
+head_by g wanted = record {
+  file = g.file;
+  kind = option_map_or (λ (t : TypeText). t.kind) g.value_type [];
+  duration = g.duration;
+  total = g.total;
+  unit = unwrap_or wanted (picked g.total (option_map_or (λ (t : TypeText). t.unit) g.value_type []));
+}
+
+head_is : (p : Profile) (f : Finders) (config : Config) (column : Option ℕ) (wanted : Option Shown)
+    → head_by (figures p f config column) wanted ≡ report_head p f config column wanted
+head_is p f config column wanted =
+    let total : ℕ = (figures p f config column).total in
+    λ i. record {
+      file = (figures p f config column).file;
+      kind = type_is (λ (t : TypeText). t.kind) p column i;
+      duration = p.duration_nanos;
+      total = total;
+      unit = unwrap_or wanted (picked total (type_is (λ (t : TypeText). t.unit) p column i));
+    }
+
+-- without keys no frames are made from labels
+plain_basis : (report : Report) (l : Loaded) (config : Config) → IsPlain config → basis_of report l config ≡ l
+unfolding basis_of
+plain_basis report l config plain = (λ i. if is_comments report then l else tagged_by l (plain.roots i) (plain.leaves i)) ∙ by (is_comments report)
+  where
+    by : (b : Bool) → (if b then l else l) ≡ l
+    by true = refl
+    by false = refl
+
+module _ (finds : Finds) (l r : Loaded) (report : Report) (config : Config) (can : CanSave l.profile config) (is : IsSavedOf finds l config r) where
+  abbrev f : Finders
+  f = report_finders finds l report config
+
+  abbrev g : Finders
+  g = report_finders finds r report (unfiltered config)
+
+  -- what is saved doesn't depend on the own pattern
+  profile_is : r.profile ≡ saved l.profile f config
+  profile_is = is.profile
+
+  finders_are : g ≡ own_alone f
+  finders_are = λ i. finders_of finds (unfiltered config) (own_pattern report) (option_map (finder_by r.profile) (is.drop i)) (option_map (finder_by r.profile) (is.keep i))
+
+  types_are : HasTypesOf l.profile r.profile
+  types_are =
+      subst (HasTypesOf l.profile) (sym profile_is)
+      (types_by_header l.profile (saved l.profile f config) (is_saved l.profile f config can.valid can.starts can.settled).header.header)
+
+  module _ (column : Option ℕ) (within : IsColumnOf l.profile column) (wanted : Option Shown) where
+    figures_are : figures r.profile g (unfiltered config) column ≡ figures l.profile f config column
+    figures_are = (λ i. figures (profile_is i) (finders_are i) (unfiltered config) column) ∙ saved_figures l.profile f config column can within
+
+    texts_are : PrintAlike l.profile f config r.profile g (unfiltered config) column
+    texts_are =
+        subst (λ (x : Profile × Finders). PrintAlike l.profile f config x.0 x.1 (unfiltered config) column) (λ i. (sym profile_is i, sym finders_are i))
+        (saved_texts l.profile f config column can within)
+
+    abbrev theirs : Facts
+    theirs = report_head r.profile g (unfiltered config) column wanted
+
+    abbrev ours : Facts
+    ours = report_head l.profile f config column wanted
+
+    heads_are : theirs ≡ ours
+    heads_are =
+        sym (head_is r.profile g (unfiltered config) column wanted) ∙ ap (λ (x : Figures). head_by x wanted) figures_are
+        ∙ head_is l.profile f config column wanted
+
+    top_same : (limit : ℕ) → top_text r.profile g (unfiltered config) column limit theirs ≡ top_text l.profile f config column limit ours
+    top_same limit = ap (top_text r.profile g (unfiltered config) column limit) heads_are ∙ texts_are.top limit ours
+
+    tree_same : (limit : ℕ) → tree_text r.profile g (unfiltered config) column limit theirs ≡ tree_text l.profile f config column limit ours
+    tree_same limit = ap (tree_text r.profile g (unfiltered config) column limit) heads_are ∙ texts_are.tree limit ours
+
+    peek_same : peek_text r.profile g (unfiltered config) column theirs ≡ peek_text l.profile f config column ours
+    peek_same = ap (peek_text r.profile g (unfiltered config) column) heads_are ∙ texts_are.peek ours
+
+    found_same : has_own_match r.profile g (unfiltered config) column ≡ has_own_match l.profile f config column
+    found_same = texts_are.found
+
+-- each report that reads figures alone
+text_same : (finds : Finds) (l r : Loaded) (report : Report) (config : Config) (can : CanSave l.profile config) (is : IsSavedOf finds l config r) → config.path_tree ≡ false
+    → reads_figures report ≡ true → (showing : Showing) → IsColumnOf l.profile showing.column
+    → finish_on finds r report (unfiltered config) showing ≡ finish_on finds l report config showing
+unfolding finish_on text_by
+text_same finds l r reports.Top config can is by_keys reads s within = λ i. Give (Ok (top_same finds l r reports.Top config can is s.column within s.wanted (node_limit config.nodecount 0) i))
+text_same finds l r reports.Tree config can is by_keys reads s within =
+    let q : Profile = r.profile in
+    let d : Config = unfiltered config in
+    let p : Profile = l.profile in
+    let f : Finders = report_finders finds l reports.Tree config in
+    let g : Finders = report_finders finds r reports.Tree d in
+    let h : Facts = report_head p f config s.column s.wanted in
+    let k : Facts = report_head q g d s.column s.wanted in
+    (λ i. Give (Ok (if by_keys i then calltree_text q g d s.column k else tree_text q g d s.column (node_limit config.nodecount 80) k)))
+    ∙ (λ i. Give (Ok (tree_same finds l r reports.Tree config can is s.column within s.wanted (node_limit config.nodecount 80) i)))
+    ∙ (λ i. Give (Ok (if sym by_keys i then calltree_text p f config s.column h else tree_text p f config s.column (node_limit config.nodecount 80) h)))
+text_same finds l r (reports.Peek pattern) config can is by_keys reads s within =
+    λ i. Give (if found_same finds l r (reports.Peek pattern) config can is s.column within s.wanted i
+    then Ok (peek_same finds l r (reports.Peek pattern) config can is s.column within s.wanted i) else Err NoMatch)
+text_same finds l r reports.Traces config can is by_keys reads s within = absurd (false≢true reads)
+text_same finds l r reports.Tags config can is by_keys reads s within = absurd (false≢true reads)
+text_same finds l r reports.Raw config can is by_keys reads s within = absurd (false≢true reads)
+text_same finds l r reports.Comments config can is by_keys reads s within = absurd (false≢true reads)
+text_same finds l r reports.Proto config can is by_keys reads s within = absurd (false≢true reads)
+text_same finds l r (reports.List pattern) config can is by_keys reads s within = absurd (false≢true reads)
+
+-- shows what the configuration shows, filtered or not
+unfiltered_shows : (report : Report) (p : Profile) (config : Config) → reads_figures report ≡ true → showing_for report p (unfiltered config) ≡ showing_for report p config
+unfiltered_shows reports.Top p config reads = refl
+unfiltered_shows reports.Tree p config reads = refl
+unfiltered_shows (reports.Peek pattern) p config reads = refl
+unfiltered_shows reports.Traces p config reads = refl
+unfiltered_shows reports.Tags p config reads = refl
+unfiltered_shows reports.Raw p config reads = refl
+unfiltered_shows reports.Comments p config reads = refl
+unfiltered_shows reports.Proto p config reads = refl
+unfiltered_shows (reports.List pattern) p config reads = refl
+
+-- The reports are alike.
+pub saved_reports : SavedReports
+saved_reports finds l r report config reads can plain is = record {
+  shows = unfiltered_shows report r.profile config reads ∙ same_showing l.profile r.profile (types_are finds l r report config can is) report config;
+  comes_to = λ showing within.
+      ap (λ (x : Loaded). finish_on finds x report (unfiltered config) showing)
+      (plain_basis report r (unfiltered config) (record { path_tree = plain.path_tree; roots = plain.roots; leaves = plain.leaves }))
+      ∙ text_same finds l r report config can is plain.path_tree reads showing within
+      ∙ ap (λ (x : Loaded). finish_on finds x report config showing) (sym (plain_basis report l config plain));
+}

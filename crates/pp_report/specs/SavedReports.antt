@@ -1,0 +1,48 @@
+-- A saved profile reports as its filters did.
+use Rattle.std.specs.Prelude.{◌≡◌, Bool, true, false, [], None, Result, Ok}
+use Rattle.pp_model.specs.declared.config.Config.{Config}
+use Rattle.pp_model.specs.declared.loaded.Loaded.{Loaded}
+use Rattle.pp_model.specs.declared.report.Report.{Report}
+use Rattle.pp_model.specs.declared.report.Report.TheVariants as reports
+use Rattle.pp_model.specs.Conditions.{IsColumnOf}
+use Rattle.pp_pattern.specs.Report.{Finds}
+use Rattle.pp_pseudo.specs.KeyList.{key_list}
+use Rattle.pp_dump.specs.Saved.{saved}
+use Rattle.pp_saved.specs.Premises.{CanSave, unfiltered}
+use Rattle.pp_report.specs.Patterns.{report_finders}
+use Rattle.pp_report.specs.Prepared.{Showing, showing_for}
+use Rattle.pp_report.specs.Reports.{finish}
+
+-- the report reads nothing but figures
+abbrev pub reads_figures : Report → Bool
+reads_figures reports.Top = true
+reads_figures reports.Tree = true
+reads_figures (reports.Peek pattern) = true
+reads_figures report = false
+
+-- The profile is what a proto report of the other one writes, loaded without any pattern of its own.
+pub record IsSavedOf (finds : Finds) (l : Loaded) (config : Config) (r : Loaded) : Type 0 where
+  pub profile : r.profile ≡ saved l.profile (report_finders finds l reports.Proto config) config
+  pub drop : r.drop ≡ None
+  pub keep : r.keep ≡ None
+
+-- The tree is by keys, and no frames are made from labels.
+pub record IsPlain (config : Config) : Type 0 where
+  pub path_tree : config.path_tree ≡ false
+  pub roots : key_list config.tagroot ≡ []
+  pub leaves : key_list config.tagleaf ≡ []
+
+-- Under the second configuration the report of r shows what that of l shows under the first, or is refused likewise;
+-- and it comes to the same text, or finds no function as well.
+pub record ReportAlike (finds : Finds) (l r : Loaded) (report : Report) (config d : Config) : Type 0 where
+  pub shows : showing_for report r.profile d ≡ showing_for report l.profile config
+  pub comes_to : (showing : Showing) → IsColumnOf l.profile showing.column
+      → finish finds r report d showing ≡ finish finds l report config showing
+
+-- So it is with each report that reads nothing but figures, of a profile and of what was saved of it by the filters of
+-- the configuration, which are empty in the second one.
+abbrev pub SavedReports : Type 0
+SavedReports =
+    (finds : Finds) (l r : Loaded) (report : Report) (config : Config)
+    → reads_figures report ≡ true → CanSave l.profile config → IsPlain config
+    → IsSavedOf finds l config r → ReportAlike finds l r report config (unfiltered config)
