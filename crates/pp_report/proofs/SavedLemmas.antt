@@ -34,7 +34,8 @@ use Rattle.pp_saved.proofs.Saving.{is_saved}
 use Rattle.pp_report.specs.declared.refusal.ReportRefusal.{ReportRefusal}
 use Rattle.pp_report.specs.declared.refusal.ReportRefusal.TheVariants.{NoMatch}
 use Rattle.pp_report.specs.Heads.{type_of, kind_text, unit_text, report_head}
-use Rattle.pp_report.specs.Patterns.{own_pattern, finder_by, report_finders}
+use Rattle.pp_report.specs.Patterns.{own_pattern, report_finders}
+use Rattle.pp_stack.specs.LoadFinders.{finder_by}
 use Rattle.pp_report.specs.Prepared.{Showing, showing_for}
 use Rattle.pp_report.specs.Reports.{finish, finish_on, finish_by, text_by}
 use Rattle.pp_report.specs.Tagged.{basis_of, is_comments, tagged_by}
