@@ -18,6 +18,3 @@ mod words;
 pub use fault::{LegacyFault, LegacyKind, LegacyRefusal};
 pub use laws::records_are_read_in_turn;
 pub use reading::{is_legacy, read_legacy};
-
-#[cfg(test)]
-mod tests;

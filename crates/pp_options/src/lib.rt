@@ -39,6 +39,3 @@ pub use variable::{
     FlagVariable, FractionVariable, TextVariable, VARIABLES, Variable, variable_named,
 };
 pub use words::read_words;
-
-#[cfg(test)]
-mod tests;

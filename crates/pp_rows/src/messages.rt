@@ -1,155 +1,13 @@
 // Profiles that are read, refused, or checked and written again.
-use crate::fixtures::{COLUMNS, DOCUMENT, EVERY_FIELD, INLINED, ONE_SAMPLE, TWO_TYPES};
+use crate::fixtures::{EVERY_FIELD, P0, P1, P5, P6};
 use crate::rules::is_indexed;
 use pp_base::{Memory, Text};
 use pp_check::check;
 use pp_model::{Function, Label, Line, Location, Mapping, Profile, Sample, ValueType};
 use pp_tables::{ReadRefusal, read_profile, write_profile};
-use pp_wire::{WireFault, WireKind};
 use std::alloc::Global;
+use std::process::Abort;
 use std::test::Fail;
-
-const REFUSED: [(&[u8], ReadRefusal); 20] = [
-    (b"", ReadRefusal::Empty),
-    (b"\x1f\x8b\x08", ReadRefusal::Compressed),
-    (
-        b"\x0a\x05\x08\x01",
-        ReadRefusal::Wire(WireFault {
-            kind: WireKind::Truncated,
-            at: 0,
-        }),
-    ),
-    (
-        b"\x00",
-        ReadRefusal::Wire(WireFault {
-            kind: WireKind::BadTag,
-            at: 0,
-        }),
-    ),
-    (
-        b"\x0b",
-        ReadRefusal::Wire(WireFault {
-            kind: WireKind::BadKind,
-            at: 0,
-        }),
-    ),
-    (
-        b"\x0d\x00\x00\x00\x00",
-        ReadRefusal::Wire(WireFault {
-            kind: WireKind::WrongKind,
-            at: 0,
-        }),
-    ),
-    (
-        b"\x48\xff\xff\xff\xff\xff\xff\xff\xff\xff\xff\x01",
-        ReadRefusal::Wire(WireFault {
-            kind: WireKind::LongVarint,
-            at: 0,
-        }),
-    ),
-    (
-        b"\x12\xff\xff\xff\xff\x0f",
-        ReadRefusal::Wire(WireFault {
-            kind: WireKind::Truncated,
-            at: 0,
-        }),
-    ),
-    (
-        b"\x12\xff\xff\xff\xff\xff\xff\xff\xff\xff\x01",
-        ReadRefusal::Wire(WireFault {
-            kind: WireKind::Truncated,
-            at: 0,
-        }),
-    ),
-    (
-        b"\x12\x03\x0a\x05\x01",
-        ReadRefusal::Wire(WireFault {
-            kind: WireKind::Truncated,
-            at: 2,
-        }),
-    ),
-    (
-        b"\x12\x02\x0a\x80",
-        ReadRefusal::Wire(WireFault {
-            kind: WireKind::Truncated,
-            at: 2,
-        }),
-    ),
-    (
-        b"\x12\x03\x0a\x01\x80",
-        ReadRefusal::Wire(WireFault {
-            kind: WireKind::Truncated,
-            at: 2,
-        }),
-    ),
-    (
-        b"\x12\x0d\x0a\x0b\x80\x80\x80\x80\x80\x80\x80\x80\x80\x80\x01",
-        ReadRefusal::Wire(WireFault {
-            kind: WireKind::LongVarint,
-            at: 2,
-        }),
-    ),
-    (
-        b"\x80\x80\x80\x80\x10\x00",
-        ReadRefusal::Wire(WireFault {
-            kind: WireKind::BadTag,
-            at: 0,
-        }),
-    ),
-    (
-        b"\x13",
-        ReadRefusal::Wire(WireFault {
-            kind: WireKind::BadKind,
-            at: 0,
-        }),
-    ),
-    (
-        b"\x0f",
-        ReadRefusal::Wire(WireFault {
-            kind: WireKind::BadKind,
-            at: 0,
-        }),
-    ),
-    (
-        b"\x32\x00\x22\x04\x22\x02\x1a\x00",
-        ReadRefusal::Wire(WireFault {
-            kind: WireKind::WrongKind,
-            at: 6,
-        }),
-    ),
-    (
-        b"\x5a\x02\x0d\x00\x12\x02\x0a\x80",
-        ReadRefusal::Wire(WireFault {
-            kind: WireKind::Truncated,
-            at: 2,
-        }),
-    ),
-    (
-        b"\x12\x02\x09\x00\x00",
-        ReadRefusal::Wire(WireFault {
-            kind: WireKind::Truncated,
-            at: 2,
-        }),
-    ),
-    (
-        b"\x6d\x00\x00\x00\x00",
-        ReadRefusal::Wire(WireFault {
-            kind: WireKind::WrongKind,
-            at: 0,
-        }),
-    ),
-];
-
-#[test]
-fn faults_are_refused(rt: HostRuntime) {
-    for (bytes, refusal) in REFUSED {
-        let met = match read_profile(rt.alloc(), bytes) {
-            Ok(_) => None,
-            Err(refusal) => Some(refusal),
-        };
-        assert_eq!(rt; met, Some(refusal), "of {bytes:?}");
-    }
-}
 
 fn profile(alloc: Global, bytes: &[u8]) -> Result<Profile, ReadRefusal> {
     read_profile(alloc, bytes)
@@ -224,7 +82,14 @@ fn function(id: u64, name: i64, filename: i64) -> Function {
 
 #[test]
 fn one_sample_is_read(rt: HostRuntime) -> Result<(), Fail> {
-    let p = profile(rt.alloc(), ONE_SAMPLE)?;
+    let p = profile(rt.alloc(), P0)?;
+    has_one_sample(&rt, &p);
+    has_one_location(&rt, &p);
+    has_texts(&rt, &p);
+    Ok(())
+}
+
+fn has_one_sample(rt: &impl Abort, p: &Profile) {
     assert_eq!(rt;
         p.sample_type.as_slice(),
         [ValueType { kind: 1, unit: 2 }].as_slice()
@@ -233,27 +98,28 @@ fn one_sample_is_read(rt: HostRuntime) -> Result<(), Fail> {
     for sample in p.sample.as_slice() {
         assert!(rt; is_sample(sample, &[1], &[1], &[]));
     }
+}
+
+fn has_one_location(rt: &impl Abort, p: &Profile) {
     assert_eq!(rt; p.mapping.len(), 0);
     assert_eq!(rt; p.location.len(), 1);
     for location in p.location.as_slice() {
         assert!(rt; is_location(location, 1, 0, 0, &[line(1, 0)]));
     }
     assert_eq!(rt; p.function.as_slice(), [function(1, 3, 0)].as_slice());
-    assert_eq!(rt; p.text.len(), 4);
-    for (text, wanted) in p
-        .text
-        .as_slice()
-        .iter()
-        .zip([b"".as_slice(), b"samples", b"count", b"main"])
-    {
+}
+
+fn has_texts(rt: &impl Abort, p: &Profile) {
+    let wanted = [b"".as_slice(), b"samples", b"count", b"main"];
+    assert_eq!(rt; p.text.len(), wanted.len());
+    for (text, wanted) in p.text.as_slice().iter().zip(wanted) {
         assert_eq!(rt; text.as_slice(), wanted);
     }
-    Ok(())
 }
 
 #[test]
 fn two_types_are_read(rt: HostRuntime) -> Result<(), Fail> {
-    let p = profile(rt.alloc(), TWO_TYPES)?;
+    let p = profile(rt.alloc(), P1)?;
     let labels = [
         Label {
             key: 11,
@@ -288,7 +154,7 @@ fn two_types_are_read(rt: HostRuntime) -> Result<(), Fail> {
 
 #[test]
 fn a_mapping_is_read(rt: HostRuntime) -> Result<(), Fail> {
-    let p = profile(rt.alloc(), INLINED)?;
+    let p = profile(rt.alloc(), P5)?;
     let mapping = Mapping {
         id: 1,
         start: 0x40_0000,
@@ -380,13 +246,13 @@ fn written_again(alloc: Global, bytes: &[u8]) -> Result<Option<Text>, Memory> {
     Ok(Some(write_profile(alloc, &valid)?))
 }
 
-// What is read, and what is written of it: a payload without fields of its own is left out, and a number is as short as can be.
-const WRITTEN: [(&[u8], &[u8]); 7] = [
-    (ONE_SAMPLE, ONE_SAMPLE),
-    (TWO_TYPES, TWO_TYPES),
-    (INLINED, INLINED),
-    (COLUMNS, COLUMNS),
-    (DOCUMENT, DOCUMENT),
+// What is read, and what is written of it: a payload without fields of its own is left out, and a number is as short as
+// can be.
+const WRITTEN: [(&[u8], &[u8]); 6] = [
+    (P0, P0),
+    (P1, P1),
+    (P5, P5),
+    (P6, P6),
     (EVERY_FIELD, EVERY_FIELD),
     (
         b"\x48\xff\xff\xff\xff\xff\xff\xff\xff\xff\x7f\x5a\x02\x08\x00",
@@ -394,12 +260,16 @@ const WRITTEN: [(&[u8], &[u8]); 7] = [
     ),
 ];
 
+fn written_rows() -> &'static [(&'static [u8], &'static [u8])] {
+    &WRITTEN
+}
+
 #[test]
 fn profiles_are_written_again(rt: HostRuntime) -> Result<(), Fail> {
-    for (bytes, wanted) in WRITTEN {
+    for (bytes, wanted) in written_rows() {
         let written = written_again(rt.alloc(), bytes)?;
         assert!(rt;
-            written.is_some_and(|text| text.as_slice() == wanted),
+            written.is_some_and(|text| text.as_slice() == *wanted),
             "{bytes:?}"
         );
     }

@@ -30,7 +30,7 @@ fn value_type(kind: i64) -> ValueType {
     ValueType { kind, unit: 0 }
 }
 
-fn empty_profile(alloc: Global) -> Profile {
+pub(crate) fn empty_profile(alloc: Global) -> Profile {
     Profile {
         sample_type: List::new(alloc),
         sample: List::new(alloc),
@@ -251,9 +251,13 @@ const FIRST: [Row; 13] = [
     ),
 ];
 
+fn first_rows() -> &'static [Row] {
+    &FIRST
+}
+
 #[test]
 fn first_faults(rt: HostRuntime) -> Result<(), Fail> {
-    rows_hold(&rt, rt.alloc(), &FIRST)?;
+    rows_hold(&rt, rt.alloc(), first_rows())?;
     Ok(())
 }
 
@@ -374,8 +378,12 @@ const LATER: [Row; 15] = [
     ),
 ];
 
+fn later_rows() -> &'static [Row] {
+    &LATER
+}
+
 #[test]
 fn later_faults(rt: HostRuntime) -> Result<(), Fail> {
-    rows_hold(&rt, rt.alloc(), &LATER)?;
+    rows_hold(&rt, rt.alloc(), later_rows())?;
     Ok(())
 }

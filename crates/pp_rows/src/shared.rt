@@ -7,6 +7,7 @@ use pp_model::{Compact, Config, Loaded, Profile, Valid, ValueType, Verdicts};
 use pp_steal::{Deal, Job, run_pieces};
 use std::alloc::Global;
 use std::test::Fail;
+use std::thread::Threads;
 
 // Looks at all that it shares, and gives back names of its own.
 #[derive(Drop)]
@@ -79,18 +80,32 @@ fn no_verdicts(alloc: Global) -> Verdicts {
     }
 }
 
+// The number of names that eight pieces gave back, looking at these.
+fn count_of_names<R: Threads + Sync>(
+    rt: &R,
+    alloc: Global,
+    loaded: &Loaded,
+    verdicts: &Verdicts,
+    config: &Config,
+) -> Result<usize, Memory> {
+    let looks = Looks {
+        alloc,
+        loaded,
+        verdicts,
+        config,
+    };
+    let names = run_pieces(rt, alloc, &looks, 8, 2, Deal::Round, &OpenGate)?;
+    Ok(names.len())
+}
+
+fn names_of_pieces<R: Threads + Sync>(rt: &R, alloc: Global) -> Result<usize, Memory> {
+    let loaded = nothing(alloc)?;
+    let config = Config::standard(alloc)?;
+    count_of_names(rt, alloc, &loaded, &no_verdicts(alloc), &config)
+}
+
 #[test]
 fn a_job_borrows_what_reports_need(rt: HostRuntime) -> Result<(), Fail> {
-    let loaded = nothing(rt.alloc())?;
-    let verdicts = no_verdicts(rt.alloc());
-    let config = Config::standard(rt.alloc())?;
-    let looks = Looks {
-        alloc: rt.alloc(),
-        loaded: &loaded,
-        verdicts: &verdicts,
-        config: &config,
-    };
-    let names = run_pieces(&rt, rt.alloc(), &looks, 8, 2, Deal::Round, &OpenGate)?;
-    assert_eq!(rt; names.len(), 8);
+    assert_eq!(rt; names_of_pieces(&rt, rt.alloc())?, 8);
     Ok(())
 }

@@ -13,6 +13,3 @@ mod run;
 pub use command::Command;
 pub use fault::{LineFault, LineRefusal};
 pub use line::read_line;
-
-#[cfg(test)]
-mod tests;

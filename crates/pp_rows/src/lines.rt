@@ -1,8 +1,9 @@
-//! What lines mean, as the documentation of the shell tells it.
-use crate::*;
+// What lines mean, as the documentation of the shell tells it.
+use crate::options::has_line;
 use pp_base::{Memory, Text};
 use pp_model::{Config, Report};
 use pp_options::{SetRefusal, set, write_options};
+use pp_shell::{Command, LineFault, LineRefusal, read_line};
 use std::alloc::Global;
 use std::test::Fail;
 
@@ -16,16 +17,6 @@ fn standing(alloc: Global) -> Result<Config, SetRefusal> {
     let mut config = Config::standard(alloc)?;
     set_up(alloc, &mut config)?;
     Ok(config)
-}
-
-// Whether the list of variables has the line.
-fn has_line(options: &Text, line: &str) -> bool {
-    for found in options.as_slice().split(|byte| *byte == b'\n') {
-        if found == line.as_bytes() {
-            return true;
-        }
-    }
-    false
 }
 
 // The variables after the line, or those of its report.

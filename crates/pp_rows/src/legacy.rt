@@ -1,10 +1,10 @@
 // What is read of a file of words and a text, and what faults are called.
-ghost use Rattle.std.specs.Prelude.{IsTrue};
 
-use crate::{LegacyFault, LegacyKind, LegacyRefusal, is_legacy, read_legacy};
 use pp_base::Memory;
-use pp_model::Valid;
+use pp_legacy::{LegacyFault, LegacyKind, LegacyRefusal, is_legacy, read_legacy};
+use pp_model::{Profile, Valid};
 use std::alloc::Global;
+use std::process::Abort;
 use std::test::Fail;
 
 fn file(alloc: Global, words: &[u64], text: &[u8]) -> Result<Vec<u8>, Memory> {
@@ -32,18 +32,25 @@ fn a_file_is_read(rt: HostRuntime) -> Result<(), Fail> {
     ];
     let maps = b"00400000-00500000 r-xp 00000000 08:01 131 /bin/prog\n";
     let read = read(rt.alloc(), &words, maps)?.ok_or("no CPU profile")?;
-    let profile = read.get();
+    has_samples(&rt, read.get());
+    has_places(&rt, read.get());
+    Ok(())
+}
+
+fn has_samples(rt: &impl Abort, profile: &Profile) {
     assert_eq!(rt; profile.period, 10000000);
     assert_eq!(rt; profile.sample.as_slice().len(), 2);
     let sample = &profile.sample.as_slice()[0];
     assert_eq!(rt; sample.location_id.as_slice(), [1, 2].as_slice());
     assert_eq!(rt; sample.value.as_slice(), [2, 20000000].as_slice());
+}
+
+fn has_places(rt: &impl Abort, profile: &Profile) {
     assert_eq!(rt; profile.location.as_slice().len(), 2);
     let location = &profile.location.as_slice()[1];
     assert_eq!(rt; (location.address, location.mapping_id), (0x402020, 1));
     assert_eq!(rt; profile.mapping.as_slice().len(), 1);
     assert_eq!(rt; profile.mapping.as_slice()[0].limit, 0x500000);
-    Ok(())
 }
 
 #[test]

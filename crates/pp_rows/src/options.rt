@@ -1,21 +1,13 @@
-//! What words, assignments and values mean, as the documentation of the options tells it.
-use crate::*;
+// What words, assignments and values mean, as the documentation of the options tells it.
+use crate::running::words_of;
 use pp_base::{List, Memory, Text};
 use pp_model::{BaseKind, Config, Report};
+use pp_options::{
+    FORMATS, Origin, Plan, SHELL_HELP, SetRefusal, UsageRefusal, read_words, set, topic_asked,
+    write_options, write_topic,
+};
 use std::alloc::Global;
 use std::test::Fail;
-
-// The words of a row, each parted by one space.
-fn words_of(alloc: Global, row: &str) -> Result<List<Text>, Memory> {
-    let mut words = List::new(alloc);
-    if row.is_empty() {
-        return Ok(words);
-    }
-    for word in row.split(' ') {
-        words.push(Text::from_slice(alloc, word.as_bytes())?)?;
-    }
-    Ok(words)
-}
 
 fn read(alloc: Global, row: &str) -> Result<Plan, UsageRefusal> {
     let words = words_of(alloc, row)?;
@@ -130,7 +122,7 @@ fn many_sources(rt: HostRuntime) -> Result<(), Fail> {
 }
 
 // Whether the list of variables has the line.
-fn has_line(options: &Text, line: &str) -> bool {
+pub(crate) fn has_line(options: &Text, line: &str) -> bool {
     for found in options.as_slice().split(|byte| *byte == b'\n') {
         if found == line.as_bytes() {
             return true;
