@@ -12,8 +12,8 @@ use Rattle.pp_count.specs.Sums.{Seen, sum_where}
 use Rattle.pp_count.specs.Ranks.{is_heavy, by_size, each_once}
 use Rattle.pp_count.specs.Counted.{report_samples}
 
--- A node: how many keys stand above its own, its key, and the sums over the samples whose path ends at it and over those
--- whose path goes through it.
+-- A node: how many keys stand above its own, its key, and the sums over the samples whose path ends at it and over
+-- those whose path goes through it.
 pub record TreeRow (K : Type 0) : Type 0 where
   pub depth : ℕ
   pub key : K

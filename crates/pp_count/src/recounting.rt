@@ -25,8 +25,8 @@ use pp_tags::TagFilter;
 use std::alloc::Global;
 use std::thread::Threads;
 
-/// The edges between the names of `counted` that are kept, after the other keys are left out of each stack: for each pair
-/// that occurs, the sum over the samples in which it does. `keep` has one entry per name. `Err` is want of memory.
+/// The edges between the names of `counted` that are kept, after the other keys are left out of each stack: for each
+/// pair that occurs, the sum over the samples in which it does. `keep` has one entry per name. `Err` is want of memory.
 ///
 /// Of the leaf-first stack A, B, C with B left out, the one edge goes from C to A. No edge goes from a key to itself.
 pub fn recount<R: Threads + Sync, G: Gate>(

@@ -26,7 +26,8 @@ pub enum LineRead {
     TooLong,
     /// The input has ended, and all its lines were given. Each later call answers the same.
     End,
-    /// 16,777,216 bytes of the input were read, and no line ends in what is left of them. Each later call answers the same.
+    /// 16,777,216 bytes of the input were read, and no line ends in what is left of them. Each later call answers the
+    /// same.
     InputTooLong,
     /// The source failed. The next call goes on with the same line.
     Failed,

@@ -87,8 +87,8 @@ impl Window {
     }
 }
 
-// Moves the bytes from `start` to `end` to the front. Each byte is moved once at most: from then on the start is 0 until
-// the bytes are given up.
+// Moves the bytes from `start` to `end` to the front. Each byte is moved once at most: from then on the start is 0
+// until the bytes are given up.
 fn move_to_front(buffer: &mut Vec<u8>, start: usize, end: usize)
     requires { (start ≤ end) × (end ≤ length buffer.old.items) }
     ensures front { take (end - start) buffer.new.items

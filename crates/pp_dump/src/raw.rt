@@ -12,8 +12,8 @@ use pp_base::{Memory, Text};
 use pp_model::{Compact, Profile, text_of};
 use std::alloc::Global;
 
-/// Appends the header, the samples with their labels, the locations with their lines and the mappings of the profile, each
-/// in lines of its own. `Err` is want of memory, and leaves `out` as it was.
+/// Appends the header, the samples with their labels, the locations with their lines and the mappings of the profile,
+/// each in lines of its own. `Err` is want of memory, and leaves `out` as it was.
 pub fn write_raw(alloc: Global, p: &Compact, out: &mut Text) -> Result<(), Memory>
     ensures ok { OnOk result (out.new ≡ out.old ++ raw_text p.now) }
     ensures err { OnErr result (out.new ≡ out.old) }

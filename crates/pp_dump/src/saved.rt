@@ -21,11 +21,11 @@ use pp_model::{Compact, Loaded, Profile, Valid, Verdicts};
 use pp_restack::{Places, merge_alone, places_of, with_cut};
 use std::alloc::Global;
 
-/// What the filters leave of the profile, merged alone: the samples with the frames and labels that they leave and with all
-/// their values, and the locations with the lines that are left. It has no patterns of its own, and the rest of the header
-/// stays. Saved again without filters it stays as it is. Of a profile that was merged it keeps the stacks that the filters
-/// leave, as they are written out: equal samples are one, and those whose values add up to 0 went. So without filters a
-/// report adds up the same for each key. `Err` is want of memory.
+/// What the filters leave of the profile, merged alone: the samples with the frames and labels that they leave and with
+/// all their values, and the locations with the lines that are left. It has no patterns of its own, and the rest of the
+/// header stays. Saved again without filters it stays as it is. Of a profile that was merged it keeps the stacks that
+/// the filters leave, as they are written out: equal samples are one, and those whose values add up to 0 went. So
+/// without filters a report adds up the same for each key. `Err` is want of memory.
 pub fn saved_profile(
     alloc: Global,
     l: &Loaded,

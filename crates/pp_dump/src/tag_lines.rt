@@ -36,7 +36,8 @@ pub struct TagLine<'a> {
     pub number: u64,
 }
 
-/// Appends for each key of the labels that are shown its values, with their sums over the samples that the filters leave.
+/// Appends for each key of the labels that are shown its values, with their sums over the samples that the filters
+/// leave.
 /// `Err` is want of memory, and leaves `out` as it was.
 pub fn write_tags(
     alloc: Global,

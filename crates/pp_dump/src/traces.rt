@@ -26,9 +26,9 @@ use std::alloc::Global;
 // The line between two samples: 11 dashes, a plus, 55 dashes.
 const SEPARATOR: &[u8] = b"-----------+-------------------------------------------------------\n";
 
-/// Appends the first lines of the head, and then each sample that the filters leave and that has a frame which counts: its
-/// labels that are shown, and its frames, leaf first, the first of them with the sample's value. `Err` is want of memory, and
-/// leaves `out` as it was.
+/// Appends the first lines of the head, and then each sample that the filters leave and that has a frame which counts:
+/// its labels that are shown, and its frames, leaf first, the first of them with the sample's value. `Err` is want of
+/// memory, and leaves `out` as it was.
 pub fn write_traces(
     alloc: Global,
     l: &Loaded,

@@ -4,8 +4,8 @@ ghost use Rattle.pp_laws.specs.Bounds.{FiguresWithin, ValuesWithin, SharedKeys, 
 // What would break it: a `cum` (pp_count, `Sums`) that counts a sample for each frame of its key and not once.
 /// Flat is at least 0, no more than cum, and cum no more than the sum of the filtered samples' values, for every key.
 ///
-/// Premise: no selected value of a filtered sample is negative. `values` says that so it is where no value of the column
-/// is.
+/// Premise: no selected value of a filtered sample is negative. `values` says that so it is where no value of the
+/// column is.
 pub fn figures_are_within()
     ensures figures { FiguresWithin }
     ensures values { ValuesWithin }

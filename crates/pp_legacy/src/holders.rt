@@ -1,7 +1,7 @@
 //! Which mapping holds an address.
 //!
-//! Mappings may overlap, and the first one that holds an address counts. So each mapping, in order, takes out the addresses
-//! that it holds of a sorted table of those that no mapping has taken yet: each address is taken out once.
+//! Mappings may overlap, and the first one that holds an address counts. So each mapping, in order, takes out the
+//! addresses that it holds of a sorted table of those that no mapping has taken yet: each address is taken out once.
 ghost use Rattle.std.specs.Prelude.{◌≡◌, ◌≢◌, ◌+◌, ◌<◌, ◌^◌, length, map, AllPairs, IfOk, OnSome};
 ghost use Rattle.std.specs.BTreeMap.{btree_map_len};
 ghost use Rattle.pp_legacy.specs.Free.{HasPlaces, IsLeastFrom, Takes};

@@ -31,8 +31,8 @@ impl<'a> Region<'a> {
     }
 }
 
-/// The region that a line tells of, as `00400000-00500000 r-xp 00000000 08:01 131 /bin/prog`: addresses, permissions, the
-/// place in the file, device, inode, and a path or none.
+/// The region that a line tells of, as `00400000-00500000 r-xp 00000000 08:01 131 /bin/prog`: addresses, permissions,
+/// the place in the file, device, inode, and a path or none.
 #[tactic(auto, unfolding(crate::specs::Regions::region_in))]
 pub fn region_in(line: &[u8]) -> Option<Region<'_>>
     ensures { Finds region_of result (region_in line.now) }

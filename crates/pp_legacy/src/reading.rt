@@ -23,7 +23,8 @@ const SAMPLES: ValueType = ValueType { kind: 1, unit: 2 };
 
 const CPU: ValueType = ValueType { kind: 3, unit: 4 };
 
-/// Whether a file is a CPU profile as gperftools writes it: it has 16 bytes or more, and the first eight are 0. No message
+/// Whether a file is a CPU profile as gperftools writes it: it has 16 bytes or more, and the first eight are 0. No
+/// message
 /// `Profile` of profile.proto begins so, since 0 is no field number.
 pub fn is_legacy(bytes: &[u8]) -> bool
     ensures { result ≡ is_legacy bytes.now }
@@ -34,8 +35,8 @@ pub fn is_legacy(bytes: &[u8]) -> bool
     }
 }
 
-/// The profile of such a file: samples/count and cpu/nanoseconds, each stack of addresses a sample, each address a location
-/// in the first mapping that holds it. Or the first fault of the file.
+/// The profile of such a file: samples/count and cpu/nanoseconds, each stack of addresses a sample, each address a
+/// location in the first mapping that holds it. Or the first fault of the file.
 pub fn read_legacy(alloc: Global, bytes: &[u8]) -> Result<Valid, LegacyRefusal>
     requires { IsTrue (is_legacy bytes.now) }
     ensures read { Gives (λ p. p) result (legacy bytes.now) }

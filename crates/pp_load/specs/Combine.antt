@@ -51,8 +51,8 @@ joining sources kind normalize profiles = do
   source ← merging (take sources profiles)
   less_bases kind normalize source (drop sources profiles)
 
--- What profiles come to, of which so many are sources and the others bases: all are compared with the first, then the sources
--- are merged, then the bases, and these are taken off.
+-- What profiles come to, of which so many are sources and the others bases: all are compared with the first, then the
+-- sources are merged, then the bases, and these are taken off.
 unfoldable pub combined : ℕ → Option BaseKind → Bool → List Profile → Loading Profile
 combined sources kind normalize profiles = do
   _ ← agreeing profiles

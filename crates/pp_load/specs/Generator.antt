@@ -47,8 +47,8 @@ abbrev pub ids_down : ℕ → List ℕ
 ids_down zero = []
 ids_down (suc id) = suc id ∷ ids_down id
 
--- The sample of this number, where fnd is its leaf and d the number modulo 8. Its callers are the functions before it, down
--- to main. It counts 1 and takes d + 1 microseconds, and the label `id` has its number.
+-- The sample of this number, where fnd is its leaf and d the number modulo 8. Its callers are the functions before it,
+-- down to main. It counts 1 and takes d + 1 microseconds, and the label `id` has its number.
 abbrev pub made_sample : ℕ → Sample
 made_sample number = record {
   location_id = ids_down (number % 8 + 2);

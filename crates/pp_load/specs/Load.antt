@@ -1,5 +1,5 @@
--- How the profile of a plan is loaded: which files are read, and in which order, and what comes of them. The first refusal
--- ends all, so that nothing more is read or asked.
+-- How the profile of a plan is loaded: which files are read, and in which order, and what comes of them. The first
+-- refusal ends all, so that nothing more is read or asked.
 use Rattle.std.specs.Prelude.{ℕ, List, [], ◌∷◌, length, Result, Ok}
 use Rattle.pp_desk.specs.Script.{Script, Give}
 use Rattle.pp_desk.specs.Asking.{Asking, ◌>>=◌}
@@ -43,7 +43,8 @@ read_plan plan = do
   sources ← read_all read_next nothing_read plan.origins
   read_all read_base sources plan.bases
 
--- The profile of a plan: its sources and bases are read, they are combined to one profile, and its own patterns are asked.
+-- The profile of a plan: its sources and bases are read, they are combined to one profile, and its own patterns are
+-- asked.
 unfoldable pub load : Finds → Plan → Script (Result Loaded LoadRefusal)
 load finds plan = do
   read ← read_plan plan

@@ -31,8 +31,8 @@ with_bytes read bytes = do
   p ← decoded (length read.profiles) bytes
   Ok (with_profile read (length bytes) p)
 
--- What was read can be counted: its profiles are valid, their mappings lie in the address space, their samples are together at
--- most as many as their bytes, and these are within the limit. No public clause cites it.
+-- What was read can be counted: its profiles are valid, their mappings lie in the address space, their samples are
+-- together at most as many as their bytes, and these are within the limit. No public clause cites it.
 pub record IsFew (read : Read) : Type 0 where
   pub bytes : read.size ≤ size_limit
   pub valid : AllByRecursion NoRuleFails read.profiles

@@ -12,8 +12,8 @@ use pp_merge::{MergeRefusal, NothingToScale, agree, merge, normalize, subtract};
 use pp_model::{BaseKind, Compact, Valid};
 use std::alloc::Global;
 
-/// The profiles, of which so many are sources and the others bases, as one. All are compared with the first source, then the
-/// sources are merged, then the bases, which are taken off the sources at last.
+/// The profiles, of which so many are sources and the others bases, as one. All are compared with the first source,
+/// then the sources are merged, then the bases, which are taken off the sources at last.
 #[tactic(auto, using(crate::proofs::Giving::giving), unfolding(crate::specs::Combine::combined))]
 pub fn combine(
     alloc: Global,

@@ -14,8 +14,8 @@ use pp_model::{Profile, Valid};
 use pp_tables::{ReadRefusal, read_profile};
 use std::alloc::Global;
 
-/// The profile of the source of this number, by its bytes: a CPU profile of gperftools, or a message of profile.proto in which
-/// no table rule fails.
+/// The profile of the source of this number, by its bytes: a CPU profile of gperftools, or a message of profile.proto
+/// in which no table rule fails.
 #[tactic(auto, unfolding(crate::specs::Decode::decoded))]
 pub fn decode(alloc: Global, source: u32, bytes: &[u8]) -> Result<Valid, Halt<LoadRefusal>>
     requires { length bytes.now < 2 ^ 32 }

@@ -9,9 +9,9 @@ use pp_model::{Function, Label, Line, Location, Profile, Sample, Valid, ValueTyp
 use pp_tables::write_profile;
 use std::alloc::Global;
 
-/// The bytes of a profile of so many samples, from 1 to 1,000,000, of the types samples/count and cpu/nanoseconds. Sample i
-/// goes from main through fn0, fn1 and so on to fnd, where d is i modulo 8. Its values are 1 and (d + 1) * 1000, and a number
-/// label `id` has the value i.
+/// The bytes of a profile of so many samples, from 1 to 1,000,000, of the types samples/count and cpu/nanoseconds.
+/// Sample i goes from main through fn0, fn1 and so on to fnd, where d is i modulo 8. Its values are 1 and (d + 1) *
+/// 1000, and a number label `id` has the value i.
 pub fn gen_profile(alloc: Global, samples: u32) -> Result<Text, Memory>
     requires some { 1 ≤ samples }
     requires few { samples ≤ 1000000 }

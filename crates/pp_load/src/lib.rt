@@ -1,7 +1,7 @@
 //! Sources and bases become one profile: read in the order of the words, decoded, checked, merged, and subtracted.
 //!
-//! Loading is one stage over a desk. Which files are read, and in which order, is its script; what the bytes come to is a
-//! plain definition beside it. The first refusal ends all, so that no later file is read.
+//! Loading is one stage over a desk. Which files are read, and in which order, is its script; what the bytes come to is
+//! a plain definition beside it. The first refusal ends all, so that no later file is read.
 #![tactic(auto)]
 
 mod combine;

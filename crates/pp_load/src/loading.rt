@@ -22,9 +22,9 @@ use pp_options::Plan;
 use pp_pattern::{FramesRefused, judge_load};
 use std::alloc::Global;
 
-/// Loads the profile of a plan: its sources and bases are read in the order of their words, combined to one profile, and that
-/// profile's own patterns are asked. The first refusal ends all. A file's bytes are given up once they are decoded, and the
-/// decoded profiles once they are merged.
+/// Loads the profile of a plan: its sources and bases are read in the order of their words, combined to one profile,
+/// and that profile's own patterns are asked. The first refusal ends all. A file's bytes are given up once they are
+/// decoded, and the decoded profiles once they are merged.
 pub fn load<D: Desk>(
     alloc: Global,
     plan: &Plan,

@@ -13,8 +13,8 @@ use pp_units::put_numbered;
 use pp_wire::{WireFault, WireKind};
 use std::alloc::Global;
 
-/// The line that tells why no profile of the plan is loaded. A source is called by its path, or `gen:` with its number of
-/// samples.
+/// The line that tells why no profile of the plan is loaded. A source is called by its path, or `gen:` with its number
+/// of samples.
 #[tactic(auto, unfolding(crate::specs::Messages::refusal_line))]
 pub fn refusal_line(alloc: Global, plan: &Plan, refusal: LoadRefusal) -> Result<Text, Memory>
     ensures { IfOk result (λ line. line ≡ refusal_line plan.now refusal) }

@@ -6,8 +6,8 @@ use pp_merge::What;
 use pp_wire::WireFault;
 use thiserror::Error;
 
-/// Why no profile is loaded. A source has its number from 0 in the list of the sources followed by the bases, each in the
-/// order of the words.
+/// Why no profile is loaded. A source has its number from 0 in the list of the sources followed by the bases, each in
+/// the order of the words.
 #[derive(Clone, Copy, Debug, PartialEq, Eq, Error)]
 pub enum LoadRefusal {
     /// No file has the path.

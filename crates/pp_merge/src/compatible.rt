@@ -7,8 +7,8 @@ ghost use Rattle.pp_merge.specs.Merge.{same_type, has_types_of, difference, disa
 use crate::refusal::What;
 use pp_model::{Profile, Valid, ValueType, text_of};
 
-/// What the second profile does not agree in with the first, the sample types before the period type, or `None` where the
-/// two can be merged. Names and units are compared as texts.
+/// What the second profile does not agree in with the first, the sample types before the period type, or `None` where
+/// the two can be merged. Names and units are compared as texts.
 pub fn agree(first: &Valid, p: &Valid) -> Option<What>
     ensures { result ≡ difference first.now p.now }
 {
@@ -49,7 +49,8 @@ fn is_same_type(p: &Profile, kind: &ValueType, q: &Profile, other: &ValueType) -
         && text_of(p, kind.unit) == text_of(q, other.unit)
 }
 
-/// The first of the others that does not agree with the first profile, by its place from 1, and what it does not agree in.
+/// The first of the others that does not agree with the first profile, by its place from 1, and what it does not agree
+/// in.
 pub fn first_disagreeing(first: &Valid, others: &[Valid]) -> Option<(usize, What)>
     ensures { result ≡ disagreeing first.now 1 others.now }
 {

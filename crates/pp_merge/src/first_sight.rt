@@ -7,8 +7,8 @@ use pp_base::{List, Memory};
 use std::alloc::Global;
 use std::hash::Hash;
 
-/// The keys without repeats, in the order of first sight, and for each key its id: its place among them plus 1. The keys are
-/// taken, and those that were seen before are dropped.
+/// The keys without repeats, in the order of first sight, and for each key its id: its place among them plus 1. The
+/// keys are taken, and those that were seen before are dropped.
 pub fn number_each<K: Hash + Eq + Drop>(
     alloc: Global,
     keys: Vec<K>,
@@ -46,8 +46,8 @@ pub trait Keyed<K: Hash + Eq> {
         ensures { result ≡ key_of self.now };
 }
 
-/// The items with different keys, each the first with its key, and for each item the id of the one with its key: the place
-/// among these plus 1.
+/// The items with different keys, each the first with its key, and for each item the id of the one with its key: the
+/// place among these plus 1.
 pub fn keep_firsts<K: Hash + Eq + Drop, T: Copy + Keyed<K>>(
     alloc: Global,
     items: &[T],

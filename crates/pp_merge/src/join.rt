@@ -17,8 +17,9 @@ use pp_model::{Profile, Valid, text_of};
 use std::alloc::Global;
 use std::mem;
 
-/// The profiles as one, each behind those before it: their tables and comments one after the other, and the header by the
-/// rules of merging, but for the duration, which stays the first one's. References are by place. `None` for no profiles.
+/// The profiles as one, each behind those before it: their tables and comments one after the other, and the header by
+/// the rules of merging, but for the duration, which stays the first one's. References are by place. `None` for no
+/// profiles.
 pub fn join(alloc: Global, list: List<Valid>) -> Result<Option<Profile>, Memory>
     ensures same { IfOk result (λ r. r ≡ joined list) }
     ensures few { IfOk result IsFew }

@@ -64,8 +64,8 @@ pub fn tables_are_no_longer()
         → IsNoLonger (merged p ps) (p ∷ ps) }
 {}
 
-/// Where equal samples are added up and those of 0 are dropped, the sum of a column stays over the samples that pass any
-/// test on locations and labels.
+/// Where equal samples are added up and those of 0 are dropped, the sum of a column stays over the samples that pass
+/// any test on locations and labels.
 pub fn sums_are_kept_where()
     ensures { (columns column : ℕ) → column < columns → (items : List (SampleText × List ℤ))
         → AllByRecursion (λ item. length item.1 ≡ columns) items → (test : SampleText → Bool)

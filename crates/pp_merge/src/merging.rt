@@ -14,10 +14,10 @@ use pp_base::{List, Memory};
 use pp_model::{Compact, Profile, Valid};
 use std::alloc::Global;
 
-/// The profiles as one. Functions, mappings, locations, samples and comments that are equal become one, in the order of first
-/// sight, and the values of equal samples are added up. What no sample with a value names is left out. The first profile whose
-/// types differ from those of the one at place 0 is refused, and else the least column whose absolute values add up to more
-/// than 2^63-1. The list is spent, also on a refusal.
+/// The profiles as one. Functions, mappings, locations, samples and comments that are equal become one, in the order of
+/// first sight, and the values of equal samples are added up. What no sample with a value names is left out. The first
+/// profile whose types differ from those of the one at place 0 is refused, and else the least column whose absolute
+/// values add up to more than 2^63-1. The list is spent, also on a refusal.
 pub fn merge(alloc: Global, list: List<Valid>) -> Result<Compact, MergeRefusal>
     requires some { 0 < length list }
     requires few { length list < 2 ^ 32 }

@@ -9,8 +9,8 @@ use pp_base::Memory;
 use std::alloc::Global;
 use std::marker::Model;
 
-/// Ids without repeats, in the order in which they are met. Samples name the same locations over and over, so what was met
-/// is found in a table, by index, and hashed only once.
+/// Ids without repeats, in the order in which they are met. Samples name the same locations over and over, so what was
+/// met is found in a table, by index, and hashed only once.
 #[derive(Drop)]
 pub struct Met {
     ids: IndexSet<u64>,

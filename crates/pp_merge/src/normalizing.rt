@@ -8,9 +8,9 @@ use crate::refusal::NothingToScale;
 use crate::scaling::scale;
 use pp_model::{Compact, Profile, value_in};
 
-/// Scales each column of the source by the sum of the base's absolute values over that of the source's. A column in which
-/// both sums are 0 stays. It is refused at the least column where the source's sum is 0 and the base's is not, and then
-/// nothing is changed.
+/// Scales each column of the source by the sum of the base's absolute values over that of the source's. A column in
+/// which both sums are 0 stays. It is refused at the least column where the source's sum is 0 and the base's is not,
+/// and then nothing is changed.
 pub fn normalize(source: &mut Compact, base: &Compact) -> Result<(), NothingToScale>
     requires source { IsCountable source.old }
     requires base { IsCountable base.now }

@@ -14,7 +14,8 @@ use pp_model::{Line, Location, Mapping, Profile, Sample};
 use std::alloc::Global;
 use std::mem;
 
-/// What tells a mapping apart where texts stand once, and text 0 is empty: how long it is, and which place of which file it maps.
+/// What tells a mapping apart where texts stand once, and text 0 is empty: how long it is, and which place of which
+/// file it maps.
 #[derive(Clone, Copy, Debug, PartialEq, Eq, Hash)]
 pub struct MappingKey {
     pub size: u64,
@@ -49,7 +50,8 @@ pub struct LocationKey {
     pub folded: bool,
 }
 
-/// The profile, whose texts and functions stand once, with each mapping and each location once, in the order of first sight.
+/// The profile, whose texts and functions stand once, with each mapping and each location once, in the order of first
+/// sight.
 pub fn share_places(alloc: Global, mut p: Profile) -> Result<Profile, Memory>
     ensures { IfOk result (λ r. r ≡ with_shared_places p) }
 {

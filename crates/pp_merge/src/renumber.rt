@@ -133,8 +133,8 @@ impl Change<Sample> for Renumbering {
 }
 
 impl Renumbering {
-    // Gives the locations of a sample their new ids. Samples name many, so the way that ids change is asked once a list, and
-    // where all ids stay, they are not gone through.
+    // Gives the locations of a sample their new ids. Samples name many, so the way that ids change is asked once a
+    // list, and where all ids stay, they are not gone through.
     #[tactic(auto, using(crate::proofs::KeptIds::same_locations, crate::proofs::KeptIds::changed_locations))]
     fn change_locations(&self, ids: &mut List<u64>)
         ensures { ids.new ≡ map (new_id self.now.location) ids.old }

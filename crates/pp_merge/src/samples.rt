@@ -18,8 +18,8 @@ pub struct SampleKey {
     pub labels: Vec<Label>,
 }
 
-/// The samples with different locations or labels, each at the place of the first of its kind, with the values of all of its
-/// kind added up. Those whose values are all 0 are left out.
+/// The samples with different locations or labels, each at the place of the first of its kind, with the values of all
+/// of its kind added up. Those whose values are all 0 are left out.
 pub fn sum_samples(
     alloc: Global,
     columns: usize,

@@ -20,8 +20,8 @@ use pp_model::Profile;
 use std::alloc::Global;
 use std::mem;
 
-/// What the profile says, with equal samples added up, and those without any value left out, written anew. Its references are
-/// by place.
+/// What the profile says, with equal samples added up, and those without any value left out, written anew. Its
+/// references are by place.
 pub fn share(alloc: Global, p: Profile) -> Result<Profile, Memory>
     requires joined { IsJoined p }
     requires wide { All (λ s. length s.value ≡ length p.sample_type) p.sample }

@@ -8,8 +8,8 @@ use pp_base::{List, Memory};
 use std::alloc::Global;
 use std::hash::Hash;
 
-/// The keys without repeats, in the order of first sight, and for each the sum of its values in each column. The first row of
-/// a key is kept and added to in place. Each item has `columns` values.
+/// The keys without repeats, in the order of first sight, and for each the sum of its values in each column. The first
+/// row of a key is kept and added to in place. Each item has `columns` values.
 pub fn sum_each<K: Hash + Eq + Drop>(
     alloc: Global,
     columns: usize,

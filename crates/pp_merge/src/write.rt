@@ -12,8 +12,8 @@ use pp_base::Memory;
 use pp_model::{Function, Location, Mapping, Profile, Sample, ValueType};
 use std::alloc::Global;
 
-/// The profile with what its samples name, in the order in which a walk over them meets it: mappings after the first one,
-/// locations, functions, and texts after text 0. Ids are places plus 1, and all else is left out.
+/// The profile with what its samples name, in the order in which a walk over them meets it: mappings after the first
+/// one, locations, functions, and texts after text 0. Ids are places plus 1, and all else is left out.
 pub fn write(alloc: Global, mut p: Profile) -> Result<Profile, Memory>
     ensures { IfOk result (λ r. IsWalked p r) }
 {

@@ -23,8 +23,8 @@ pub struct Frame {
 /// Frames, leaf first.
 pub type Stack = List<Frame>;
 
-/// The stack of a sample, leaf first: for each location its lines in order, or one frame without a row. `Err` is want of
-/// memory.
+/// The stack of a sample, leaf first: for each location its lines in order, or one frame without a row. `Err` is want
+/// of memory.
 pub fn frames(alloc: Global, l: &Loaded, s: &Sample) -> Result<Stack, Memory>
     requires { RefersTo l.now.profile s.now }
     ensures places { IfOk result (λ stack. stack ≡ stack_of l.now.profile s.now) }

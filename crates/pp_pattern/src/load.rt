@@ -20,8 +20,9 @@ pub enum FramesRefused {
     KeepFrames,
 }
 
-/// What drop_frames finds of the profile's texts, and what keep_frames does, each by whole names and None where its text is
-/// empty. The pattern asked is `^(?:`, the text, and `)$`. keep_frames is not asked after drop_frames was refused.
+/// What drop_frames finds of the profile's texts, and what keep_frames does, each by whole names and None where its
+/// text is empty. The pattern asked is `^(?:`, the text, and `)$`. keep_frames is not asked after drop_frames was
+/// refused.
 pub fn judge_load<D: Desk>(
     alloc: Global,
     desk: &mut D,

@@ -51,9 +51,9 @@ pub struct NameVerdicts {
     pub own: Option<List<bool>>,
 }
 
-/// Asks for the patterns of a report that aren't empty: focus, ignore, hide, show, show_from, the parts of tagfocus, those of
-/// tagignore, prune_from, tagshow, taghide, and `own`, the pattern of a peek or list report. No pattern is asked after one
-/// that is refused.
+/// Asks for the patterns of a report that aren't empty: focus, ignore, hide, show, show_from, the parts of tagfocus,
+/// those of tagignore, prune_from, tagshow, taghide, and `own`, the pattern of a peek or list report. No pattern is
+/// asked after one that is refused.
 pub fn judge<D: Desk>(
     alloc: Global,
     desk: &mut D,

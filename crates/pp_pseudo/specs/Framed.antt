@@ -1,5 +1,6 @@
--- Frames that are added to a sample, and samples that are added, while names are still met. What is said of the locations holds
--- in each profile that has grown by the names met, and by any others behind them. No public clause cites it.
+-- Frames that are added to a sample, and samples that are added, while names are still met. What is said of the
+-- locations holds in each profile that has grown by the names met, and by any others behind them. No public clause
+-- cites it.
 use Rattle.std.specs.Prelude.{◌≡◌, ℕ, ◌<◌, ◌^◌, List, [], ◌++◌, length, map}
 use Rattle.std.specs.List.{AllByRecursion}
 use Rattle.pp_base.specs.Front.{IsFront}
@@ -40,8 +41,8 @@ pub record AddsFrames (p : Profile) (before after : Placing) (texts : List Locat
   pub told : (final : List (List ℕ)) → IsFront after.names final
       → map (located (grown p final)) (map (entry_in after.locations) added) ≡ texts
 
--- These samples, made of those of the profile, may stand in each profile that has grown so, and say there what the samples
--- with the frames of the keys say.
+-- These samples, made of those of the profile, may stand in each profile that has grown so, and say there what the
+-- samples with the frames of the keys say.
 pub record AreTagged (l : Loaded) (roots leaves : List (List ℕ)) (done : List Sample) (names : List (List ℕ))
     (locations : List Location) (samples : List Sample) : Type 0 where
   pub places : (final : List (List ℕ)) → IsFront names final → ArePlaces (grown l.profile final) locations

@@ -35,8 +35,8 @@ tag_locations p keys labels = map tag_location (reverse (frame_names p keys labe
 abbrev pub pruned_stack : Loaded → Sample → List Frame
 pruned_stack l s = load_pruned (written l.profile) (load_finders l) (stack_of l.profile s)
 
--- The sample with the frames that load pruning leaves, between those of the leaves and those of the roots. A stack is leaf
--- first. All labels and all values stay.
+-- The sample with the frames that load pruning leaves, between those of the leaves and those of the roots. A stack is
+-- leaf first. All labels and all values stay.
 abbrev pub tagged_sample : Loaded → List (List ℕ) → List (List ℕ) → Sample → SampleText × List ℤ
 tagged_sample l roots leaves s = (
   record {

@@ -11,8 +11,8 @@ use pp_base::{Memory, Text};
 use pp_model::{Label, Profile, text_of};
 use pp_tags::has_text;
 
-/// Writes the key, `=`, and the values of the key's labels with commas between them, in the place of what was there. False says
-/// that no label has the key.
+/// Writes the key, `=`, and the values of the key's labels with commas between them, in the place of what was there.
+/// False says that no label has the key.
 pub fn put_frame_name(
     p: &Profile,
     key: &[u8],
@@ -30,7 +30,8 @@ pub fn put_frame_name(
     Ok(found)
 }
 
-// Appends the label's value after what parts it from the text before, where the label has the key. Gives whether one was found.
+// Appends the label's value after what parts it from the text before, where the label has the key. Gives whether one
+// was found.
 fn put_label(
     p: &Profile,
     key: &[u8],

@@ -26,7 +26,8 @@ pub struct Frames {
     pub name: Text,
 }
 
-/// Appends the ids of the sample's frames, leaf first: those of the leaves, those that load pruning leaves, those of the roots.
+/// Appends the ids of the sample's frames, leaf first: those of the leaves, those that load pruning leaves, those of
+/// the roots.
 pub fn put_frames(
     alloc: Global,
     l: &Loaded,

@@ -1,4 +1,5 @@
-//! Frames made from labels: for a listed key, a frame at the root or at the leaf of each sample that has a label of that key.
+//! Frames made from labels: for a listed key, a frame at the root or at the leaf of each sample that has a label of
+//! that key.
 #![tactic(auto)]
 
 mod frame_name;

@@ -10,8 +10,8 @@ use pp_base::{Judgement, List, Matcher, Text};
 use std::alloc::Global;
 use std::marker::Model;
 
-/// A matcher that finds a pattern where the regular expression has a match in the subject's bytes. It keeps its answers,
-/// and how many patterns were not built.
+/// A matcher that finds a pattern where the regular expression has a match in the subject's bytes. It keeps its
+/// answers, and how many patterns were not built.
 #[derive(Debug, Drop)]
 pub struct RegexMatcher {
     alloc: Global,
@@ -52,8 +52,8 @@ impl Matcher for RegexMatcher {
 
     ghost answers = { λ m. Some m.answers };
 
-    /// Builds the regular expression, searches each subject for it, and drops it. Refused are texts that aren't UTF-8 or no
-    /// pattern, and, with the count of unbuilt patterns raised, patterns whose program is too large.
+    /// Builds the regular expression, searches each subject for it, and drops it. Refused are texts that aren't UTF-8
+    /// or no pattern, and, with the count of unbuilt patterns raised, patterns whose program is too large.
     fn judge(&mut self, pattern: &Text, subjects: &List<Text>) -> Judgement
         ensures judges { Judges finds (Some self.old.answers) (Some self.new.answers)
             pattern.now subjects.now result }

@@ -74,8 +74,8 @@ prepare_showing finds l reports.Comments config showing =
     Give (Ok (record { showing = showing; notes = [] }))
 prepare_showing finds l report config showing = prepare_counts finds l report config showing
 
--- What is done before the text of a report is made that is made of this profile. No pattern is asked of one that is refused
--- for its column or its unit.
+-- What is done before the text of a report is made that is made of this profile. No pattern is asked of one that is
+-- refused for its column or its unit.
 unfoldable pub prepare_on : Finds → Loaded → Report → Config → Asking ReportRefusal Settled
 prepare_on finds l report config =
     go_on (prepare_showing finds l report config) (showing_for report l.profile config)

@@ -21,6 +21,7 @@ abbrev pub is_comments : Report → Bool
 is_comments reports.Comments = true
 is_comments report = false
 
--- What a report is made of, also the texts that its patterns are asked of. A comments report is made of the loaded profile.
+-- What a report is made of, also the texts that its patterns are asked of. A comments report is made of the loaded
+-- profile.
 unfoldable pub basis_of : Report → Loaded → Config → Loaded
 basis_of report l config = if is_comments report then l else tagged_for l config

@@ -23,8 +23,8 @@ use pp_units::Head;
 use std::alloc::Global;
 use std::thread::Threads;
 
-/// The text of a report that was prepared, or `NoMatch` where the pattern of a peek or list report finds nothing. Only a list
-/// report reads files.
+/// The text of a report that was prepared, or `NoMatch` where the pattern of a peek or list report finds nothing. Only
+/// a list report reads files.
 pub fn finish<R: Threads + Sync, D: Desk, G: Gate>(
     rt: &R,
     alloc: Global,

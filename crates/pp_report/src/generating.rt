@@ -16,13 +16,15 @@ use pp_model::{Config, Loaded, Report};
 use std::alloc::Global;
 use std::thread::Threads;
 
-/// Makes a report: its text, or why there is none. Its notes are appended to `notes`, also where the answer is `NoMatch`.
+/// Makes a report: its text, or why there is none. Its notes are appended to `notes`, also where the answer is
+/// `NoMatch`.
 ///
-/// Where `tagroot` or `tagleaf` names a key, each report but comments is made of the profile with the frames from labels.
+/// Where `tagroot` or `tagleaf` names a key, each report but comments is made of the profile with the frames from
+/// labels.
 ///
-/// It is refused for its column, then for its unit, both before any pattern is asked, then for the first pattern that the
-/// matcher refuses, and last where the pattern of a peek or list report finds no function that could be shown. `Err` is the
-/// failure of a file that a list report reads, or want of memory; a front of the notes is appended then.
+/// It is refused for its column, then for its unit, both before any pattern is asked, then for the first pattern that
+/// the matcher refuses, and last where the pattern of a peek or list report finds no function that could be shown.
+/// `Err` is the failure of a file that a list report reads, or want of memory; a front of the notes is appended then.
 pub fn generate<R: Threads + Sync, D: Desk, G: Gate>(
     rt: &R,
     alloc: Global,

@@ -20,9 +20,9 @@ use pp_model::{Config, Loaded, Report, Verdicts};
 use std::alloc::Global;
 use std::thread::Threads;
 
-/// What is done before the text of a report is made: its column and unit are looked up, frames are made from labels, its
-/// patterns asked, its samples counted and its notes taken down. A report that is refused for its column or its unit gets no
-/// frames, and no pattern is asked of it.
+/// What is done before the text of a report is made: its column and unit are looked up, frames are made from labels,
+/// its patterns asked, its samples counted and its notes taken down. A report that is refused for its column or its
+/// unit gets no frames, and no pattern is asked of it.
 ///
 /// For callers that hand on the notes before the text is made, since a list report reads files for it: `prepare`, the
 /// notes, and `finish` come to what `generate` does.

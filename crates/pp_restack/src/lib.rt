@@ -1,4 +1,5 @@
-//! A profile made of stacks: locations of which lines may be cut, the samples that name them, and all of it merged alone.
+//! A profile made of stacks: locations of which lines may be cut, the samples that name them, and all of it merged
+//! alone.
 #![tactic(auto)]
 
 mod alone;

@@ -37,8 +37,8 @@ pub fn places_of(alloc: Global, p: &Profile) -> Result<Places, Memory>
     })
 }
 
-/// The id of a location with the lines of these frames alone. It is added where neither the whole location nor the last one
-/// that was cut from it has just these lines.
+/// The id of a location with the lines of these frames alone. It is added where neither the whole location nor the last
+/// one that was cut from it has just these lines.
 pub fn place_group(
     alloc: Global,
     p: &Profile,
@@ -60,7 +60,8 @@ pub fn place_group(
     place_lines(alloc, location, place, places)
 }
 
-// The id of a location like this one, with the lines that were read. It may stand at the place already, or where the hint says.
+// The id of a location like this one, with the lines that were read. It may stand at the place already, or where the
+// hint says.
 fn place_lines(
     alloc: Global,
     location: &Location,
@@ -85,8 +86,8 @@ fn place_lines(
     Ok(id)
 }
 
-/// The id of a location of this one line, of which nothing else is known. `place` tells where the hint to it is; the place behind
-/// all hints gets a new one.
+/// The id of a location of this one line, of which nothing else is known. `place` tells where the hint to it is; the
+/// place behind all hints gets a new one.
 pub fn place_line(alloc: Global, line: Line, place: u64, places: &mut Places) -> Result<u64, Memory>
     ensures places { OnOk result (TakesPlace (line_location line)
         places.old.locations places.new.locations) }

@@ -12,8 +12,8 @@ use pp_base::Memory;
 use pp_model::{Loaded, Sample, Stack, Verdicts, frames};
 use std::alloc::Global;
 
-/// What all stack filters leave of the sample's stack, leaf first. None says that the sample is dropped, `Err` is want of
-/// memory.
+/// What all stack filters leave of the sample's stack, leaf first. None says that the sample is dropped, `Err` is want
+/// of memory.
 pub fn filter_stack(
     alloc: Global,
     l: &Loaded,

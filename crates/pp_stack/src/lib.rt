@@ -1,5 +1,5 @@
-//! The stack filters: what stays of a sample's frames after load pruning, ignore and focus, hide and show, show_from and
-//! prune_from. A filter reads the verdict of a text by its index, and never searches a text.
+//! The stack filters: what stays of a sample's frames after load pruning, ignore and focus, hide and show, show_from
+//! and prune_from. A filter reads the verdict of a text by its index, and never searches a text.
 #![tactic(auto)]
 
 mod filter;

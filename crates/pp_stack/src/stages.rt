@@ -15,11 +15,11 @@ use crate::runs::{finds_some, first_function, pruned_len, through_last_found};
 use pp_base::List;
 use pp_model::{Frame, Loaded, Stack, Verdicts};
 
-/// Takes off what `drop_frames` says (profile.proto, `drop_frames` and `keep_frames`). From the root on, frames stay up to
-/// the first that isn't prunable. Below that one, the first prunable frame goes, with all frames below it.
+/// Takes off what `drop_frames` says (profile.proto, `drop_frames` and `keep_frames`). From the root on, frames stay up
+/// to the first that isn't prunable. Below that one, the first prunable frame goes, with all frames below it.
 ///
-/// With `drop_frames` `malloc`, the stack helper, malloc, work, main (leaf first) becomes work, main; the stack x, malloc
-/// stays, since nothing else is on it.
+/// With `drop_frames` `malloc`, the stack helper, malloc, work, main (leaf first) becomes work, main; the stack x,
+/// malloc stays, since nothing else is on it.
 pub fn load_prune(l: &Loaded, stack: &mut Stack)
     requires { IsStackOf l.now.profile stack.old }
     ensures places { (f : Finders) → l.now.drop ≡ judged l.now.profile f.drop →
@@ -43,8 +43,8 @@ pub fn kept(l: &Loaded, v: &Verdicts, stack: &Stack) -> bool
         && finds_or(l, &v.focus, stack.as_slice(), true)
 }
 
-/// Takes off the frames that hide finds, and then those that show doesn't find, each where it is in force. The stack may
-/// become empty by it.
+/// Takes off the frames that hide finds, and then those that show doesn't find, each where it is in force. The stack
+/// may become empty by it.
 pub fn cut(l: &Loaded, v: &Verdicts, stack: &mut Stack)
     requires frames { IsStackOf l.now.profile stack.old }
     requires verdicts { HasVerdicts l.now.profile v.now }
@@ -77,7 +77,8 @@ pub fn show_from(l: &Loaded, v: &Verdicts, stack: &mut Stack) -> bool
     count > 0
 }
 
-/// Takes off all frames below the leaf-most frame whose function prune_from finds. Where it finds none, the stack stays.
+/// Takes off all frames below the leaf-most frame whose function prune_from finds. Where it finds none, the stack
+/// stays.
 ///
 /// Of the leaf-first stack A, B, C, B, D the pattern `B` leaves B, C, B, D, and `C` leaves C, B, D.
 pub fn prune_from(l: &Loaded, v: &Verdicts, stack: &mut Stack)

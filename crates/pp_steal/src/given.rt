@@ -24,8 +24,8 @@ pub struct Given {
 }
 
 /// What each lane took, and the pieces that none took. All lanes of one make have to be there, in their order. No piece
-/// stands in two lists, or twice in one: the deques' rule says so once each deque's passes are joined. Gives back memory,
-/// and takes none.
+/// stands in two lists, or twice in one: the deques' rule says so once each deque's passes are joined. Gives back
+/// memory, and takes none.
 pub fn close(lanes: List<Lane>) -> Given
     requires { IsWholeMake lanes }
     ensures taken { result.taken ≡ map taken_of lanes }
@@ -149,8 +149,8 @@ fn settle_all(whole: Whole) -> Settled
     }
 }
 
-// Joins the last pass of each row, all of this deque, into its owner's, and learns from the rule that no piece was taken
-// twice.
+// Joins the last pass of each row, all of this deque, into its owner's, and learns from the rule that no piece was
+// taken twice.
 fn settle(mut worker: Owner, lane: usize, rows: &mut Vec<Vec<Chair>>)
     requires worker { (worker_view worker).role ≡ Marked }
     requires rows { AllEndAt (worker_deque worker) lane rows.old.items }
@@ -179,8 +179,8 @@ fn join_last(worker: &mut Owner, lane: usize, row: &mut Vec<Chair>)
     worker.absorb::<Hand>(chair.pass);
 }
 
-// What the rule tells of the owner's view: it took pieces that were dealt, none of them twice. A piece that this pop gives is
-// in no lane's list, and so is left.
+// What the rule tells of the owner's view: it took pieces that were dealt, none of them twice. A piece that this pop
+// gives is in no lane's list, and so is left.
 fn learn(mut worker: Owner)
     requires { (worker_view worker).role ≡ Marked }
     ensures { TookDealt (worker_view worker) }

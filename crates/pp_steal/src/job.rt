@@ -14,7 +14,8 @@ pub trait Job: Sync {
     /// Which outcomes are right for a piece.
     ghost right: { Self → ℕ → Self.Out → Type 0 };
 
-    /// The outcome of the piece. By `Err` the lane that asked stops: it takes no further piece, and `run_pieces` answers
+    /// The outcome of the piece. By `Err` the lane that asked stops: it takes no further piece, and `run_pieces`
+    /// answers
     /// `Memory`.
     fn run(&self, piece: u32) -> Result<Self::Out, Memory>
         requires { piece < pieces self.now }

@@ -57,9 +57,9 @@ impl Model for Lane {
 }
 
 impl Lane {
-    /// The next piece for this lane: of its own deque, or else of another lane's, from its right neighbour round. With `None`
-    /// the count of its own deque rose, and that of each other lane. With `Some` the counts rose of the deques that were asked
-    /// before, and no others. No memory.
+    /// The next piece for this lane: of its own deque, or else of another lane's, from its right neighbour round. With
+    /// `None` the count of its own deque rose, and that of each other lane. With `Some` the counts rose of the deques
+    /// that were asked before, and no others. No memory.
     pub fn next(&mut self) -> Option<u32>
         ensures same_make { self.new.make ≡ self.old.make }
         ensures same_own { self.new.own ≡ self.old.own }

@@ -20,8 +20,8 @@ use std::alloc::Global;
 pub struct Lanes;
 
 impl Lanes {
-    /// `n` lanes, from 1 to 64, with the pieces below `pieces` dealt to their deques as `deal` says. Each lane can hold all of
-    /// them, and the first one also has the room that `close` needs: no other call on lanes takes memory.
+    /// `n` lanes, from 1 to 64, with the pieces below `pieces` dealt to their deques as `deal` says. Each lane can hold
+    /// all of them, and the first one also has the room that `close` needs: no other call on lanes takes memory.
     pub fn make(alloc: Global, pieces: u32, n: u32, deal: Deal) -> Result<List<Lane>, Memory>
         requires some { 1 ≤ n }
         requires few { n ≤ 64 }

@@ -3,8 +3,8 @@ ghost use Rattle.std.specs.Prelude.{◌≡◌, ◌≢◌, ℕ, ◌<◌, ◌≤�
 ghost use Rattle.pp_steal.specs.Lanes.{Make};
 ghost use Rattle.pp_steal.specs.Reaching.{GaveOrRose, Gave, NoneFell, AllRose, CameInTurn};
 
-/// A lane that can take pieces of its own deque and of the other lanes' deques. Lanes are numbered from 0. A count that is at
-/// its last value, 2^64 - 1, is said to rise though it stays. No call takes memory.
+/// A lane that can take pieces of its own deque and of the other lanes' deques. Lanes are numbered from 0. A count that
+/// is at its last value, 2^64 - 1, is said to rise though it stays. No call takes memory.
 pub trait Reach {
     /// How many lanes there are.
     ghost lanes: { Self → ℕ };
@@ -55,9 +55,9 @@ pub trait Reach {
             (misses self.old from) (misses self.new from) result };
 }
 
-/// A piece of its own deque, or else of the first other lane that gives one, from its right neighbour round. With `None` the
-/// count of its own deque rose, and that of each other lane. With `Some` the counts rose of the deques that were asked before,
-/// and no others. No memory.
+/// A piece of its own deque, or else of the first other lane that gives one, from its right neighbour round. With
+/// `None` the count of its own deque rose, and that of each other lane. With `Some` the counts rose of the deques that
+/// were asked before, and no others. No memory.
 pub fn sweep<R: Reach>(reach: &mut R) -> Option<u32>
     ensures same_lanes { R.lanes reach.new ≡ R.lanes reach.old }
     ensures same_own { R.own reach.new ≡ R.own reach.old }

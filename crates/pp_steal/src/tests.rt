@@ -177,8 +177,8 @@ fn want_of_memory_is_answered(rt: HostRuntime) {
     assert!(rt; outcomes.is_ok_and(|all| all.len() == 0));
 }
 
-// A job and its gate in one, which notes each call in turn by two digits: 1 for `enter`, 2 for `run` or 3 for `leave`, and the
-// piece, below 10.
+// A job and its gate in one, which notes each call in turn by two digits: 1 for `enter`, 2 for `run` or 3 for `leave`,
+// and the piece, below 10.
 #[derive(Drop)]
 struct Noted {
     squares: Squares,

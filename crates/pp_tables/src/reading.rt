@@ -8,8 +8,8 @@ use pp_base::Text;
 use pp_model::Profile;
 use std::alloc::Global;
 
-/// Reads the message `Profile` of profile.proto, as it stands or its first fault. No text at all counts as the one empty
-/// text. Nothing is asked of ids and text indices.
+/// Reads the message `Profile` of profile.proto, as it stands or its first fault. No text at all counts as the one
+/// empty text. Nothing is asked of ids and text indices.
 pub fn read_profile(alloc: Global, bytes: &[u8]) -> Result<Profile, ReadRefusal>
     ensures read { Answers result (read bytes.now) }
     ensures few { IfOk result (HasAtMost (length bytes.now)) }

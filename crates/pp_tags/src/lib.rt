@@ -1,5 +1,5 @@
-//! Labels: the tags of a profile, tag filters with the samples that they select, and the labels that are shown. A filter
-//! reads verdicts by the index of a text or of a tag, and never searches a text.
+//! Labels: the tags of a profile, tag filters with the samples that they select, and the labels that are shown. A
+//! filter reads verdicts by the index of a text or of a tag, and never searches a text.
 #![tactic(auto)]
 
 mod labels;

@@ -61,11 +61,11 @@ fn selects_or(
     }
 }
 
-/// Whether the filter selects the sample. `parts` has what each part of the filter finds: of the profile's texts where the
-/// filter has a name, and else of `tag`, which then has the profile's tags.
+/// Whether the filter selects the sample. `parts` has what each part of the filter finds: of the profile's texts where
+/// the filter has a name, and else of `tag`, which then has the profile's tags.
 ///
-/// A range selects a sample with a number in it. Parts after a name select where one of them finds the value of a label of
-/// that name; parts without a name where each finds the text `key:value` of some label.
+/// A range selects a sample with a number in it. Parts after a name select where one of them finds the value of a label
+/// of that name; parts without a name where each finds the text `key:value` of some label.
 pub fn selects(
     l: &Loaded,
     f: &TagFilter,

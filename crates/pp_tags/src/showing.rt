@@ -10,8 +10,8 @@ use pp_base::{List, Memory};
 use pp_model::{Label, Loaded, Sample, Verdicts};
 use std::alloc::Global;
 
-/// The labels of the sample, in order, whose key tagshow finds and taghide doesn't, each where it is in force. `Err` is want
-/// of memory.
+/// The labels of the sample, in order, whose key tagshow finds and taghide doesn't, each where it is in force. `Err` is
+/// want of memory.
 pub fn show_tags(alloc: Global, l: &Loaded, v: &Verdicts, s: &Sample) -> Result<List<Label>, Memory>
     requires { IsSampleOf l.now.profile s.now }
     ensures { (f : Finders) → HoldsFinders l.now v.now f →

@@ -22,8 +22,8 @@ pub struct TagFilter {
 impl TagFilter {
     ghost use Rattle.pp_tags.specs.TagFilters.{filter_of, filter_in_force, filter_with};
 
-    /// The filter that a text spells. What stands before the first `=` is the name; an empty one counts as none. The rest
-    /// is a range where it can be read as one, and is else split at commas into parts.
+    /// The filter that a text spells. What stands before the first `=` is the name; an empty one counts as none. The
+    /// rest is a range where it can be read as one, and is else split at commas into parts.
     pub fn read(alloc: Global, text: &[u8]) -> Result<TagFilter, Memory>
         ensures { IfOk result (λ filter. filter ≡ filter_of text.now) }
     {

@@ -21,7 +21,8 @@ impl Write for BrokenPipe {
     }
 }
 
-// A path that isn't UTF-8, one of no file, an empty file, one without end, and a folder, which opens and then can't be read.
+// A path that isn't UTF-8, one of no file, an empty file, one without end, and a folder, which opens and then can't be
+// read.
 const READS: [(&[u8], FileRead); 5] = [
     (b"\xff", FileRead::Missing),
     (b"/dev/null/profile", FileRead::Missing),
