@@ -4,7 +4,7 @@ use Rattle.std.specs.List.{repeat}
 use Rattle.pp_model.specs.declared.config.Config.{Config}
 use Rattle.pp_model.specs.declared.profile.Profile.{Profile}
 use Rattle.pp_model.specs.Finders.{Finders}
-use Rattle.pp_model.specs.Frames.{Written}
+use Rattle.pp_model.specs.FrameTexts.{Written}
 use Rattle.pp_units.specs.Head.{Facts, facts_text}
 use Rattle.pp_units.specs.Rows.{columns_text, name_end, showing_line, dropped_line, dropped_nodes, heading}
 use Rattle.pp_units.specs.Shown.{Shown}

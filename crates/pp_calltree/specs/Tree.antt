@@ -7,7 +7,7 @@ use Rattle.pp_model.specs.declared.config.Config.{Config}
 use Rattle.pp_model.specs.declared.loaded.Loaded.{Loaded}
 use Rattle.pp_model.specs.declared.verdicts.Verdicts.{Verdicts}
 use Rattle.pp_model.specs.Finders.{Finders}
-use Rattle.pp_model.specs.Frames.{Written}
+use Rattle.pp_model.specs.FrameTexts.{Written}
 use Rattle.pp_grain.specs.Keys.{key_cmp, IsKeyOf}
 use Rattle.pp_count.specs.Counted.{report_samples}
 use Rattle.pp_count.specs.Seeing.{HoldsFilters}

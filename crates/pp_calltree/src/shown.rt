@@ -1,13 +1,11 @@
 //! The nodes that are shown.
 ghost use Rattle.std.specs.Prelude.{◌≡◌, ◌<◌, ◌^◌, IfOk};
-ghost use Rattle.pp_count.specs.Ranks.{is_heavy};
 ghost use Rattle.pp_calltree.specs.Shown.{is_cut, AreShown};
 
 use crate::tree::PathNode;
 use pp_base::{Fraction, List, Memory};
+use pp_count::is_heavy;
 use std::alloc::Global;
-
-const BILLION: u128 = 1_000_000_000;
 
 /// The nodes whose cum is at least this fraction of the total, but for those below one whose cum isn't, in their order.
 pub fn shown_nodes(
@@ -24,7 +22,7 @@ pub fn shown_nodes(
         if is_cut(cut, node.depth) {
             continue;
         }
-        if is_heavy(total, least, node) {
+        if is_heavy(total, least, node.cum) {
             cut = None;
             shown.push(*node)?;
         } else {
@@ -42,12 +40,4 @@ fn is_cut(cut: Option<u64>, depth: u64) -> bool
         None => false,
         Some(above) => above < depth,
     }
-}
-
-// Whether the node's cum is at least this fraction of the total.
-fn is_heavy(total: u64, least: Fraction, node: &PathNode) -> bool
-    ensures { result ≡ is_heavy total least.billionths node.now.cum }
-{
-    let size = node.cum.unsigned_abs();
-    u128::from(total) * u128::from(least.billionths) <= u128::from(size) * BILLION
 }

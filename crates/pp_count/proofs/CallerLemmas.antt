@@ -7,7 +7,7 @@ use Rattle.pp_model.specs.declared.frame.Frame.{Frame}
 use Rattle.pp_model.specs.declared.profile.Sample.{Sample}
 use Rattle.pp_model.specs.declared.profile.Profile.{Profile}
 use Rattle.pp_model.specs.Finders.{Finders}
-use Rattle.pp_model.specs.Frames.{Written, written}
+use Rattle.pp_model.specs.FrameTexts.{Written, written}
 use Rattle.pp_grain.specs.Keys.{key_texts}
 use Rattle.pp_count.specs.Sums.{Seen, weighed, renamed}
 use Rattle.pp_count.specs.Seeing.{counted_frames, framed_with, framed_samples, filtered_stack, key_of_frame, seen_with, seen_samples}

@@ -8,7 +8,8 @@ use Rattle.pp_model.specs.declared.config.Config.{Config}
 use Rattle.pp_model.specs.declared.frame.Frame.{Frame}
 use Rattle.pp_model.specs.declared.profile.Line.{Line}
 use Rattle.pp_model.specs.declared.profile.Profile.{Profile}
-use Rattle.pp_model.specs.Frames.{Written, written, rows, row_frame, frames_from, lines_at}
+use Rattle.pp_model.specs.Frames.{rows, row_frame, frames_from, lines_at}
+use Rattle.pp_model.specs.FrameTexts.{Written, written}
 use Rattle.pp_grain.specs.declared.key.Key.{Key}
 use Rattle.pp_grain.specs.Keys.{key_texts}
 use Rattle.pp_count.specs.declared.table.KeyTable.{KeyTable}

@@ -9,7 +9,7 @@ use Rattle.std.proofs.lemmas.Option.{get_or_from_slice_get, slice_get_within}
 use Rattle.pp_model.specs.declared.config.Grain.{Grain}
 use Rattle.pp_model.specs.declared.frame.Frame.{Frame}
 use Rattle.pp_model.specs.declared.profile.Profile.{Profile}
-use Rattle.pp_model.specs.Frames.{Written, written}
+use Rattle.pp_model.specs.FrameTexts.{Written, written}
 use Rattle.pp_grain.specs.declared.key.Key.{Key}
 use Rattle.pp_grain.specs.Keys.{key_texts, key_written, IsKeyOf}
 use Rattle.pp_grain.specs.Sight.{seen_with}

@@ -10,7 +10,8 @@ use Rattle.pp_model.specs.declared.frame.Frame.{Frame}
 use Rattle.pp_model.specs.declared.profile.Line.{Line}
 use Rattle.pp_model.specs.declared.profile.Profile.{Profile}
 use Rattle.pp_model.specs.Conditions.{IsFrameOf, IsRowOf}
-use Rattle.pp_model.specs.Frames.{Written, written, rows, row_frame, lines_at}
+use Rattle.pp_model.specs.Frames.{rows, row_frame, lines_at}
+use Rattle.pp_model.specs.FrameTexts.{Written, written}
 use Rattle.pp_grain.specs.Keys.{counts, key_texts}
 use Rattle.pp_count.specs.declared.table.KeyTable.{KeyTable}
 use Rattle.pp_count.specs.Table.{written_key, IsKeyTable}

@@ -8,7 +8,7 @@ use Rattle.pp_model.specs.declared.profile.Profile.{Profile}
 use Rattle.pp_model.specs.declared.verdicts.Verdicts.{Verdicts}
 use Rattle.pp_model.specs.Conditions.{HasVerdicts, IsColumnOf}
 use Rattle.pp_model.specs.Finders.{Finders}
-use Rattle.pp_model.specs.Frames.{Written}
+use Rattle.pp_model.specs.FrameTexts.{Written}
 use Rattle.pp_model.specs.Sizes.{IsCountable}
 use Rattle.pp_grain.specs.Keys.{IsKeyOf}
 use Rattle.pp_tags.specs.TagFilters.{HasItsTags, filter_in_force}

@@ -3,7 +3,7 @@ use Rattle.std.specs.Prelude.{◌≡◌, ℕ, ◌<◌, ◌==◌, ℤ, Bool, fals
 use Rattle.std.specs.List.{filter, list_any, range_with_len}
 use Rattle.std.specs.Ordering.{eq_by_cmp}
 use Rattle.std.specs.declared.cmp.Ordering.{Ordering}
-use Rattle.pp_model.specs.Frames.{Written}
+use Rattle.pp_model.specs.FrameTexts.{Written}
 use Rattle.pp_model.specs.declared.profile.Profile.{Profile}
 use Rattle.pp_grain.specs.declared.key.Key.{Key}
 use Rattle.pp_grain.specs.Keys.{key_cmp}

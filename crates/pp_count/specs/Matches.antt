@@ -6,7 +6,8 @@ use Rattle.pp_model.specs.declared.config.Config.{Config}
 use Rattle.pp_model.specs.declared.profile.Sample.{Sample}
 use Rattle.pp_model.specs.declared.profile.Profile.{Profile}
 use Rattle.pp_model.specs.Finders.{Finder, Finders}
-use Rattle.pp_model.specs.Frames.{written, stack_of}
+use Rattle.pp_model.specs.Frames.{stack_of}
+use Rattle.pp_model.specs.FrameTexts.{written}
 use Rattle.pp_stack.specs.Filters.{finds_frame, load_pruned}
 use Rattle.pp_tags.specs.Labels.{key_text}
 use Rattle.pp_tags.specs.TagFilters.{filter_in_force, selects_or}

@@ -8,7 +8,7 @@ use Rattle.pp_model.specs.declared.profile.Profile.{Profile}
 use Rattle.pp_model.specs.declared.loaded.Loaded.{Loaded}
 use Rattle.pp_model.specs.declared.verdicts.Verdicts.{Verdicts}
 use Rattle.pp_model.specs.Finders.{Finders, HoldsFinders}
-use Rattle.pp_model.specs.Frames.{Written, written}
+use Rattle.pp_model.specs.FrameTexts.{Written, written}
 use Rattle.pp_grain.specs.Keys.{counts, key_texts}
 use Rattle.pp_stack.specs.Filters.{frames_of_sample}
 use Rattle.pp_tags.specs.TagFilters.{AreTagVerdicts, filter_in_force, is_tag_kept}

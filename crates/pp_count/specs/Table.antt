@@ -4,7 +4,8 @@ use Rattle.pp_base.specs.Front.{IsFront}
 use Rattle.pp_model.specs.declared.config.Config.{Config}
 use Rattle.pp_model.specs.declared.config.Grain.{Grain}
 use Rattle.pp_model.specs.declared.profile.Profile.{Profile}
-use Rattle.pp_model.specs.Frames.{Written, written, rows, lines_at}
+use Rattle.pp_model.specs.Frames.{rows, lines_at}
+use Rattle.pp_model.specs.FrameTexts.{Written, written}
 use Rattle.pp_grain.specs.declared.key.Key.{Key}
 use Rattle.pp_grain.specs.Keys.{key_texts, key_written, IsKeyOf}
 use Rattle.pp_count.specs.declared.table.KeyTable.{KeyTable}

@@ -3,7 +3,7 @@ ghost use Rattle.std.specs.Prelude.{◌≡◌, length};
 ghost use Rattle.std.specs.List.{list_any};
 ghost use Rattle.pp_model.specs.Conditions.{IsFrameOf, IsStackOf};
 ghost use Rattle.pp_model.specs.Finders.{Finder};
-ghost use Rattle.pp_model.specs.Frames.{written};
+ghost use Rattle.pp_model.specs.FrameTexts.{written};
 ghost use Rattle.pp_stack.specs.Filters.{AreVerdicts, finds_frame};
 ghost use Rattle.pp_tags.specs.Verdicts.{verdict_on};
 

@@ -11,8 +11,8 @@ use Rattle.pp_model.specs.declared.config.Config.{Config}
 use Rattle.pp_model.specs.declared.frame.Frame.{Frame}
 use Rattle.pp_model.specs.declared.profile.Sample.{Sample}
 use Rattle.pp_model.specs.declared.profile.Profile.{Profile}
-use Rattle.pp_model.specs.Finders.{Finders}
-use Rattle.pp_model.specs.Frames.{Written}
+use Rattle.pp_model.specs.Finders.{Finders, no_finders}
+use Rattle.pp_model.specs.FrameTexts.{Written}
 use Rattle.pp_model.specs.Rules.{NoRuleFails}
 use Rattle.pp_model.proofs.RuleLemmas.{passes}
 use Rattle.pp_count.specs.Seeing.{filtered_stack, seen_samples}
@@ -28,7 +28,7 @@ use Rattle.pp_merge.proofs.SettledLemmas.{all_any, all_filtered, all_some}
 use Rattle.pp_merge.proofs.TotalLemmas.{total, adding_ℤ}
 use Rattle.pp_dump.specs.Saved.{cut_sample, cut_samples, saved_contents, saved}
 use Rattle.pp_dump.specs.Stacks.{left_stacks, whole_stacks}
-use Rattle.pp_dump.specs.Unfiltered.{no_finders, SeesAlike, KeepsSums, SameKeys}
+use Rattle.pp_dump.specs.Unfiltered.{SeesAlike, KeepsSums, SameKeys}
 use Rattle.pp_dump.proofs.KeptStacks.{wide}
 use Rattle.pp_dump.proofs.SeenStacks.{seen_text, seen_left}
 use Rattle.pp_dump.proofs.SeenSums.{IsNatural, AreNatural, natural_plus, any_by_sum, absolute_by_sum}

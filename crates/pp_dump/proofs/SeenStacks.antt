@@ -8,8 +8,8 @@ use Rattle.pp_model.specs.declared.config.Grain.{Grain}
 use Rattle.pp_model.specs.declared.frame.Frame.{Frame}
 use Rattle.pp_model.specs.declared.profile.Sample.{Sample}
 use Rattle.pp_model.specs.declared.profile.Profile.{Profile}
-use Rattle.pp_model.specs.Finders.{Finders}
-use Rattle.pp_model.specs.Frames.{Written, written}
+use Rattle.pp_model.specs.Finders.{Finders, no_finders}
+use Rattle.pp_model.specs.FrameTexts.{Written, written}
 use Rattle.pp_model.specs.Sizes.{value_in}
 use Rattle.pp_grain.specs.Keys.{key_texts}
 use Rattle.pp_count.specs.Seeing.{counted_frames, keys_of_stack, filtered_stack, seen_with, seen, seen_samples}
@@ -18,7 +18,7 @@ use Rattle.pp_merge.specs.Totals.{value_passing, sum_passing}
 use Rattle.pp_merge.proofs.Agreement.{map_map}
 use Rattle.pp_restack.specs.Stacks.{by_place}
 use Rattle.pp_dump.specs.Stacks.{PlaceText, StackText, left_place, left_stack, left_stacks, whole_stacks, KeepsStacks}
-use Rattle.pp_dump.specs.Unfiltered.{no_finders, KeepsSums}
+use Rattle.pp_dump.specs.Unfiltered.{KeepsSums}
 use Rattle.pp_dump.proofs.CountedPlaces.{counted_places, counted_stack}
 
 -- a number divided by 1

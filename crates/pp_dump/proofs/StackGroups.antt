@@ -12,7 +12,8 @@ use Rattle.pp_model.specs.declared.profile.Sample.{Sample}
 use Rattle.pp_model.specs.declared.profile.Profile.{Profile}
 use Rattle.pp_model.specs.Conditions.{location_at, IsFrameOf, RefersTo}
 use Rattle.pp_model.specs.Finders.{Finders}
-use Rattle.pp_model.specs.Frames.{row_frame, rows, frames_from, lines_at, stack_of, written}
+use Rattle.pp_model.specs.Frames.{row_frame, rows, frames_from, lines_at, stack_of}
+use Rattle.pp_model.specs.FrameTexts.{written}
 use Rattle.pp_model.specs.Rules.{AreNumbered, location_ids}
 use Rattle.pp_model.proofs.CompactLemmas.{place_within}
 use Rattle.pp_model.proofs.FrameLemmas.{rows_of_profile}

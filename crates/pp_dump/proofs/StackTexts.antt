@@ -10,7 +10,8 @@ use Rattle.pp_model.specs.declared.profile.Sample.{Sample}
 use Rattle.pp_model.specs.declared.profile.Profile.{Profile}
 use Rattle.pp_model.specs.Conditions.{no_location, location_at, RefersTo}
 use Rattle.pp_model.specs.Finders.{Finders}
-use Rattle.pp_model.specs.Frames.{text_at, text_of, written_lines}
+use Rattle.pp_model.specs.Lookup.{text_at, text_of}
+use Rattle.pp_model.specs.FrameTexts.{written_lines}
 use Rattle.pp_model.specs.Rules.{AreNumbered, location_ids}
 use Rattle.pp_stack.specs.Filters.{frames_of_sample}
 use Rattle.pp_tags.specs.TagFilters.{shown_labels}

@@ -14,7 +14,9 @@ use Rattle.pp_model.specs.declared.profile.Location.{Location}
 use Rattle.pp_model.specs.declared.profile.Sample.{Sample}
 use Rattle.pp_model.specs.declared.profile.Profile.{Profile}
 use Rattle.pp_model.specs.Conditions.{no_location, location_at, RefersTo}
-use Rattle.pp_model.specs.Frames.{row_frame, rows, frames_from, stack_of, text_of, written, written_at, location_with}
+use Rattle.pp_model.specs.Lookup.{text_of, location_with}
+use Rattle.pp_model.specs.Frames.{row_frame, rows, frames_from, stack_of}
+use Rattle.pp_model.specs.FrameTexts.{written, written_at}
 use Rattle.pp_model.specs.Rules.{NoRuleFails, AreNumbered, location_ids}
 use Rattle.pp_model.proofs.CompactLemmas.{find_numbered, one_le_id, place_within}
 use Rattle.pp_model.proofs.FrameLemmas.{frames_written}
@@ -25,7 +27,7 @@ use Rattle.pp_count.specs.Seeing.{filtered_stack}
 use Rattle.pp_merge.specs.Described.{label_text}
 use Rattle.pp_restack.specs.Stacks.{by_place, lines_of, cut_location}
 use Rattle.pp_dump.specs.Stacks.{place_text, whole_place, left_place, whole_stack, left_stack, whole_stacks, left_stacks}
-use Rattle.pp_dump.specs.Unfiltered.{no_finders}
+use Rattle.pp_model.specs.Finders.{no_finders}
 use Rattle.pp_restack.proofs.Grouping.{alone, joined}
 use Rattle.pp_dump.proofs.StackGroups.{rows_place, places_from}
 

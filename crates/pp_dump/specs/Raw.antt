@@ -12,7 +12,7 @@ use Rattle.pp_model.specs.declared.profile.Line.{Line}
 use Rattle.pp_model.specs.declared.profile.Location.{Location}
 use Rattle.pp_model.specs.declared.profile.Function.{Function}
 use Rattle.pp_model.specs.declared.profile.Profile.{Profile}
-use Rattle.pp_model.specs.Frames.{text_of, function_with}
+use Rattle.pp_model.specs.Lookup.{text_of, function_with}
 use Rattle.pp_units.specs.Numbers.{right_text}
 use Rattle.pp_tags.specs.Labels.{has_text}
 

@@ -6,7 +6,7 @@ use Rattle.pp_model.specs.declared.frame.Frame.{Frame}
 use Rattle.pp_model.specs.declared.profile.Sample.{Sample}
 use Rattle.pp_model.specs.declared.profile.Profile.{Profile}
 use Rattle.pp_model.specs.Finders.{Finders}
-use Rattle.pp_model.specs.Frames.{text_of}
+use Rattle.pp_model.specs.Lookup.{text_of}
 use Rattle.pp_tags.specs.TagFilters.{shown_labels}
 use Rattle.pp_count.specs.Seeing.{filtered_stack}
 use Rattle.pp_merge.specs.Described.{SampleText, label_text}

@@ -8,7 +8,8 @@ use Rattle.pp_model.specs.declared.profile.Sample.{Sample}
 use Rattle.pp_model.specs.declared.profile.Profile.{Profile}
 use Rattle.pp_model.specs.Conditions.{no_location}
 use Rattle.pp_model.specs.Finders.{Finders}
-use Rattle.pp_model.specs.Frames.{Written, written, written_at, location_with, text_of}
+use Rattle.pp_model.specs.Lookup.{location_with, text_of}
+use Rattle.pp_model.specs.FrameTexts.{Written, written, written_at}
 use Rattle.pp_tags.specs.TagFilters.{shown_labels}
 use Rattle.pp_count.specs.Seeing.{filtered_stack}
 use Rattle.pp_merge.specs.Described.{MappingText, LineText, LabelText, function_found, mapping_found, line_text, label_text}

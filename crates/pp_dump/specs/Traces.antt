@@ -7,7 +7,7 @@ use Rattle.pp_model.specs.declared.profile.Label.{Label}
 use Rattle.pp_model.specs.declared.profile.Sample.{Sample}
 use Rattle.pp_model.specs.declared.profile.Profile.{Profile}
 use Rattle.pp_model.specs.Finders.{Finders}
-use Rattle.pp_model.specs.Frames.{Written}
+use Rattle.pp_model.specs.FrameTexts.{Written}
 use Rattle.pp_units.specs.Shown.{Shown, picked}
 use Rattle.pp_units.specs.Numbers.{value_text, right_text}
 use Rattle.pp_units.specs.Rows.{value_column}

@@ -1,33 +1,15 @@
 -- What a report that has no filters counts on a saved profile, and by which columns.
-use Rattle.std.specs.Prelude.{◌≡◌, ℕ, ◌<◌, pos, ◌≤ℤ◌, Bool, List, [], length, Some, None, All}
+use Rattle.std.specs.Prelude.{◌≡◌, ℕ, ◌<◌, pos, ◌≤ℤ◌, Bool, List, [], length, Some, All}
 use Rattle.std.specs.List.{list_any}
 use Rattle.pp_model.specs.declared.config.Config.{Config}
 use Rattle.pp_model.specs.declared.profile.Profile.{Profile}
-use Rattle.pp_model.specs.Finders.{Finders}
-use Rattle.pp_model.specs.Frames.{Written}
+use Rattle.pp_model.specs.Finders.{Finders, no_finders}
+use Rattle.pp_model.specs.FrameTexts.{Written}
 use Rattle.pp_merge.specs.Header.{header_of}
 use Rattle.pp_count.specs.Column.{column_of}
 use Rattle.pp_count.specs.Seeing.{seen_samples}
 use Rattle.pp_count.specs.Sums.{weighed, sum_where, absolute}
 use Rattle.pp_restack.specs.Stacks.{patternless}
-
--- no pattern is in force
-abbrev pub no_finders : Finders
-no_finders = record {
-  drop = None;
-  keep = None;
-  focus = None;
-  ignore = None;
-  hide = None;
-  show = None;
-  show_from = None;
-  prune_from = None;
-  tagshow = None;
-  taghide = None;
-  own = None;
-  tagfocus = [];
-  tagignore = [];
-}
 
 -- The second configuration makes the same keys of the same frames, and has no tag filters. Neither divides values.
 pub record SeesAlike (config d : Config) : Type 0 where

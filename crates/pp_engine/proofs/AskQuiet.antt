@@ -8,7 +8,7 @@ use Rattle.pp_model.specs.declared.config.Config.{Config}
 use Rattle.pp_model.specs.declared.profile.Profile.{Profile}
 use Rattle.pp_model.specs.declared.verdicts.Slot.{Slot}
 use Rattle.pp_model.specs.declared.verdicts.Tag.{Tag}
-use Rattle.pp_model.specs.Frames.{text_of}
+use Rattle.pp_model.specs.Lookup.{text_of}
 use Rattle.pp_pattern.specs.Load.{judge_load, whole_name}
 use Rattle.pp_pattern.specs.Patterns.{judge_pattern, judge_option, judge_part, judge_parts}
 use Rattle.pp_pattern.specs.Report.{judge_frames, judge_filter, judge_tags, judge_names, judge_with, judge}

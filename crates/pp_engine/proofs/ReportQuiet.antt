@@ -13,7 +13,7 @@ use Rattle.pp_model.specs.Finders.{Finders}
 use Rattle.pp_units.specs.Head.{Facts}
 use Rattle.pp_count.specs.Counted.{has_own_match}
 use Rattle.pp_count.specs.Sums.{Seen}
-use Rattle.pp_model.specs.Frames.{Written}
+use Rattle.pp_model.specs.FrameTexts.{Written}
 use Rattle.pp_pattern.specs.Report.{judge}
 use Rattle.pp_report.specs.declared.refusal.ReportRefusal.{ReportRefusal}
 use Rattle.pp_report.specs.Patterns.{own_pattern, ask_patterns}

@@ -4,7 +4,7 @@ use Rattle.std.specs.Char.{digit_char}
 use Rattle.std.specs.Fmt.{signed_decimal}
 use Rattle.std.specs.List.{join_with_byte, range_with_len}
 use Rattle.pp_base.specs.Paths.{last_name}
-use Rattle.pp_model.specs.Frames.{Written}
+use Rattle.pp_model.specs.FrameTexts.{Written}
 use Rattle.pp_grain.specs.Keys.{is_empty, is_zero, is_nameless}
 
 -- the k-th of sixteen hexadecimal digits, the highest first, in lower case

@@ -2,7 +2,8 @@
 ghost use Rattle.std.specs.Prelude.{◌≡◌, ◌<◌, [], length};
 ghost use Rattle.pp_model.specs.declared.config.Grain.TheVariants.{Lines};
 ghost use Rattle.pp_model.specs.Conditions.{IsFrameOf};
-ghost use Rattle.pp_model.specs.Frames.{written, text_at};
+ghost use Rattle.pp_model.specs.Lookup.{text_at};
+ghost use Rattle.pp_model.specs.FrameTexts.{written};
 ghost use Rattle.pp_grain.specs.Keys.{counts, kept_by, is_nameless, key_texts, key_written, IsKeyOf};
 
 use crate::key::Key;

@@ -8,7 +8,7 @@ use Rattle.std.proofs.lemmas.List.{length-map, get_or-map}
 use Rattle.std.proofs.lemmas.List.Elements.{All-nil, All-cons, All-head, All-tail, All-filter, All-from_get_or, All-get_or, filter_passes, filter_agree}
 use Rattle.std.proofs.lemmas.List.Sums.{sum_by-cons}
 use Rattle.pp_model.specs.declared.profile.Profile.{Profile}
-use Rattle.pp_model.specs.Frames.{Written}
+use Rattle.pp_model.specs.FrameTexts.{Written}
 use Rattle.pp_grain.specs.declared.key.Key.{Key}
 use Rattle.pp_grain.specs.Keys.{key_cmp, key_written}
 use Rattle.pp_count.specs.declared.edge.Edge.{Edge}

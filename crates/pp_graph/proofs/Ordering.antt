@@ -7,7 +7,7 @@ use Rattle.std.specs.declared.cmp.Ordering.{Ordering}
 use Rattle.std.proofs.lemmas.Cmp.{on_total, then_total, back_total}
 use Rattle.pp_grain.proofs.CallerLemmas.{both_equal, key_cmp_total, key_cmp_ties}
 use Rattle.pp_grain.specs.Keys.{key_cmp}
-use Rattle.pp_model.specs.Frames.{Written}
+use Rattle.pp_model.specs.FrameTexts.{Written}
 use Rattle.pp_model.specs.declared.config.Sort.{Sort}
 use Rattle.pp_model.specs.declared.config.Sort.TheVariants as sorts
 use Rattle.pp_count.specs.Sums.{Seen, cum, flat}

@@ -1,17 +1,14 @@
 //! The keys that are heavy enough for a report, in report order.
 ghost use Rattle.std.specs.Prelude.{◌≡◌, ◌<◌, ◌^◌, length, nat_abs, All, IfOk};
 ghost use Rattle.pp_grain.specs.Keys.{IsKeyOf};
-ghost use Rattle.pp_count.specs.Ranks.{is_heavy};
 ghost use Rattle.pp_graph.specs.Ranks.{row_cmp, sum_at, is_heavy_number, IsRowOf, Collected, AreRanked};
 
 use pp_base::{Fraction, List, Memory};
-use pp_count::Sums;
+use pp_count::{Sums, is_heavy};
 use pp_grain::{Key, KeyTexts, texts_of, texts_order};
 use pp_model::{Profile, Sort};
 use std::alloc::Global;
 use std::cmp::Ordering;
-
-const BILLION: u128 = 1_000_000_000;
 
 /// A key with what it is ranked by.
 #[derive(Clone, Copy, Debug)]
@@ -123,13 +120,6 @@ fn size_at(sums: &List<i64>, place: u64) -> u64
     ensures { result ≡ nat_abs (sum_at sums.now place) }
 {
     sums.as_slice()[place as usize].unsigned_abs()
-}
-
-/// Whether the sum is at least this fraction of the total.
-pub fn is_heavy(total: u64, least: Fraction, sum: i64) -> bool
-    ensures { result ≡ is_heavy total least.billionths sum }
-{
-    u128::from(total) * u128::from(least.billionths) <= u128::from(sum.unsigned_abs()) * BILLION
 }
 
 // Report order: the greater sum first, then the greater other sum, then the keys' texts and numbers.

@@ -7,10 +7,9 @@ ghost use Rattle.pp_graph.specs.Cuts.{kept_flags, is_heavy_edge, is_light_edge};
 ghost use Rattle.pp_graph.specs.Trimmed.{IsTrimmedOf};
 
 use crate::graph::Graph;
-use crate::heavy::is_heavy;
 use crate::ranking::{Ranked, rank};
 use pp_base::{Fraction, Gate, List, Memory};
-use pp_count::{Counted, Edge, recount};
+use pp_count::{Counted, Edge, is_heavy, recount};
 use pp_model::{Config, Loaded, Verdicts};
 use std::alloc::Global;
 use std::thread::Threads;

@@ -6,7 +6,7 @@ use Rattle.std.proofs.lemmas.Bool.{false≢true}
 use Rattle.std.proofs.lemmas.Map.Keys.{IsDistinct-head, IsDistinct-tail}
 use Rattle.pp_model.specs.declared.profile.Mapping.{Mapping}
 use Rattle.pp_model.specs.declared.profile.Profile.{Profile}
-use Rattle.pp_model.specs.Frames.{text_at, mapping_with}
+use Rattle.pp_model.specs.Lookup.{text_at, mapping_with}
 use Rattle.pp_model.specs.Rules.{NoRuleFails, begins_empty, zero_unless}
 use Rattle.pp_merge.specs.Described.{MappingText, mapping_text, mapping_found}
 use Rattle.pp_merge.specs.Alike.{same_mapping, first_alike}

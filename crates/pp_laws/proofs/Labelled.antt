@@ -13,7 +13,8 @@ use Rattle.pp_model.specs.declared.profile.Profile.{Profile}
 use Rattle.pp_model.specs.declared.profile.Sample.{Sample}
 use Rattle.pp_model.specs.declared.report.BaseKind.TheVariants.{DiffBase}
 use Rattle.pp_model.specs.Finders.{Finders}
-use Rattle.pp_model.specs.Frames.{Written, text_of, text_number, mapping_with, function_with, location_with}
+use Rattle.pp_model.specs.Lookup.{text_of, text_number, mapping_with, function_with, location_with}
+use Rattle.pp_model.specs.FrameTexts.{Written}
 use Rattle.pp_model.specs.Rules.{NoRuleFails, is_text, mapping_has_texts, function_has_texts}
 use Rattle.pp_model.specs.Sizes.{value_in}
 use Rattle.pp_model.proofs.RuleLemmas.{passes as rule_passes, text_below}

@@ -13,7 +13,7 @@ use Rattle.pp_model.specs.declared.profile.Profile.{Profile}
 use Rattle.pp_model.specs.declared.profile.Sample.{Sample}
 use Rattle.pp_model.specs.declared.report.BaseKind.TheVariants.{Base}
 use Rattle.pp_model.specs.Finders.{Finder, Finders}
-use Rattle.pp_model.specs.Frames.{Written}
+use Rattle.pp_model.specs.FrameTexts.{Written}
 use Rattle.pp_model.specs.Sizes.{value_in}
 use Rattle.pp_stack.specs.Filters.{frames_of_sample}
 use Rattle.pp_tags.specs.declared.tag_filter.TagFilter.{TagFilter}

@@ -8,7 +8,8 @@ use Rattle.pp_model.specs.declared.frame.Frame.{Frame}
 use Rattle.pp_model.specs.declared.profile.Profile.{Profile}
 use Rattle.pp_model.specs.declared.profile.Sample.{Sample}
 use Rattle.pp_model.specs.Finders.{Finder, Finders}
-use Rattle.pp_model.specs.Frames.{Written, written, stack_of}
+use Rattle.pp_model.specs.Frames.{stack_of}
+use Rattle.pp_model.specs.FrameTexts.{Written, written}
 use Rattle.pp_stack.specs.Filters.{finds_frame, load_pruned, shortened}
 use Rattle.pp_grain.specs.Keys.{key_cmp}
 use Rattle.pp_count.specs.Sums.{Seen, weighed, sum_where, has, leads}

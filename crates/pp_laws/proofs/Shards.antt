@@ -15,7 +15,9 @@ use Rattle.pp_model.specs.declared.profile.Profile.{Profile}
 use Rattle.pp_model.specs.declared.profile.Sample.{Sample}
 use Rattle.pp_model.specs.Conditions.{RefersTo}
 use Rattle.pp_model.specs.Finders.{Finders}
-use Rattle.pp_model.specs.Frames.{Written, written, text_of, stack_of, mapping_with}
+use Rattle.pp_model.specs.Lookup.{text_of, mapping_with}
+use Rattle.pp_model.specs.Frames.{stack_of}
+use Rattle.pp_model.specs.FrameTexts.{Written, written}
 use Rattle.pp_model.proofs.RuleLemmas.{passes as rule_passes}
 use Rattle.pp_model.specs.Rules.{label_has_texts, NoRuleFails, IsCompact}
 use Rattle.pp_model.specs.Sizes.{value_in}

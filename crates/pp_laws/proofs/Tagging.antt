@@ -11,7 +11,7 @@ use Rattle.pp_model.specs.declared.profile.Label.{Label}
 use Rattle.pp_model.specs.declared.profile.Profile.{Profile}
 use Rattle.pp_model.specs.declared.profile.Sample.{Sample}
 use Rattle.pp_model.specs.Finders.{Finder, Finders}
-use Rattle.pp_model.specs.Frames.{text_of, text_at}
+use Rattle.pp_model.specs.Lookup.{text_of, text_at}
 use Rattle.pp_model.specs.Rules.{NoRuleFails, IsCompact, label_has_texts, is_text}
 use Rattle.pp_stack.specs.Filters.{is_empty}
 use Rattle.pp_stack.proofs.ToldLemmas.{list_any-map}

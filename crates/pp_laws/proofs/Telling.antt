@@ -14,7 +14,9 @@ use Rattle.pp_model.specs.declared.profile.Mapping.{Mapping}
 use Rattle.pp_model.specs.declared.profile.Function.{Function}
 use Rattle.pp_model.specs.declared.profile.Profile.{Profile}
 use Rattle.pp_model.specs.Conditions.{no_location, location_at}
-use Rattle.pp_model.specs.Frames.{Written, written, text_at, text_number, name_number, file_number, object_number, function_with, mapping_with, location_with, written_line, written_lines, written_at, rows, row_frame, frames_from}
+use Rattle.pp_model.specs.Lookup.{text_at, text_number, function_with, mapping_with, location_with}
+use Rattle.pp_model.specs.Frames.{rows, row_frame, frames_from}
+use Rattle.pp_model.specs.FrameTexts.{Written, written, name_number, file_number, object_number, written_line, written_lines, written_at}
 use Rattle.pp_model.specs.Rules.{AreNumbered, location_ids}
 use Rattle.pp_model.proofs.CompactLemmas.{find_numbered, place_within, one_le_id}
 use Rattle.pp_model.proofs.FrameLemmas.{written_found}

@@ -9,7 +9,7 @@ use Rattle.pp_model.specs.Finders.{Finders}
 use Rattle.pp_merge.specs.Merge.{merged}
 use Rattle.pp_merge.specs.Scale.{negated}
 use Rattle.pp_grain.specs.Keys.{key_cmp}
-use Rattle.pp_model.specs.Frames.{Written}
+use Rattle.pp_model.specs.FrameTexts.{Written}
 use Rattle.pp_count.specs.Sums.{flat, cum}
 use Rattle.pp_count.specs.EdgeSums.{edge_sum}
 use Rattle.pp_count.specs.Counted.{report_samples}

@@ -6,7 +6,7 @@ use Rattle.pp_model.specs.declared.config.Grain.{Grain}
 use Rattle.pp_model.specs.declared.config.Grain.TheVariants.{Addresses}
 use Rattle.pp_model.specs.declared.profile.Profile.{Profile}
 use Rattle.pp_model.specs.Finders.{Finders}
-use Rattle.pp_model.specs.Frames.{Written}
+use Rattle.pp_model.specs.FrameTexts.{Written}
 use Rattle.pp_grain.specs.Keys.{key_cmp}
 use Rattle.pp_merge.specs.Described.{MappingText, mapping_text}
 use Rattle.pp_merge.specs.Alike.{first_alike}

@@ -6,7 +6,7 @@ use Rattle.pp_model.specs.declared.profile.Profile.{Profile}
 use Rattle.pp_model.specs.declared.profile.Sample.{Sample}
 use Rattle.pp_model.specs.declared.report.BaseKind.TheVariants.{Base}
 use Rattle.pp_model.specs.Finders.{Finders}
-use Rattle.pp_model.specs.Frames.{Written}
+use Rattle.pp_model.specs.FrameTexts.{Written}
 use Rattle.pp_model.specs.Sizes.{value_in}
 use Rattle.pp_grain.specs.Keys.{key_cmp}
 use Rattle.pp_merge.specs.Scale.{scaled, scaled_sample, negated}

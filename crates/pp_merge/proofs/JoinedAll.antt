@@ -14,7 +14,7 @@ use Rattle.pp_model.specs.declared.profile.Mapping.{Mapping}
 use Rattle.pp_model.specs.declared.profile.Location.{Location}
 use Rattle.pp_model.specs.declared.profile.Function.{Function}
 use Rattle.pp_model.specs.declared.profile.Profile.{Profile}
-use Rattle.pp_model.specs.Frames.{text_number, text_of}
+use Rattle.pp_model.specs.Lookup.{text_number, text_of}
 use Rattle.pp_merge.specs.declared.join.Sizes.{Sizes}
 use Rattle.pp_merge.specs.Behind.{behind_id}
 use Rattle.pp_merge.specs.Ids.{index_of_id}

@@ -17,7 +17,7 @@ use Rattle.pp_model.specs.declared.profile.Function.{Function}
 use Rattle.pp_model.specs.declared.profile.Label.{Label}
 use Rattle.pp_model.specs.declared.profile.Sample.{Sample}
 use Rattle.pp_model.specs.declared.profile.Profile.{Profile}
-use Rattle.pp_model.specs.Frames.{text_of, location_with}
+use Rattle.pp_model.specs.Lookup.{text_of, location_with}
 use Rattle.pp_model.specs.Rules.{NoRuleFails, begins_empty, zero_unless, is_text, header_texts, type_has_texts, label_has_texts, mapping_has_texts, function_has_texts, stands_in, location_ids}
 use Rattle.pp_model.proofs.RuleLemmas.{passes}
 use Rattle.pp_merge.specs.FirstSight.{distinct}

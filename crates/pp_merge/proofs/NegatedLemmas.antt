@@ -25,7 +25,7 @@ use Rattle.pp_model.specs.Sizes.{IsCountable, value_in}
 use Rattle.pp_model.specs.Values.{no_sample}
 use Rattle.pp_merge.specs.Scale.{negated, negated_sample, negated_nearest, nearest_negative, labelled_sample, base_label, base_texts}
 use Rattle.std.specs.Cmp.Lexicographic.{pointwise}
-use Rattle.pp_model.specs.Frames.{text_of}
+use Rattle.pp_model.specs.Lookup.{text_of}
 use Rattle.pp_merge.specs.declared.refusal.What.TheVariants.{SampleTypes, PeriodType}
 use Rattle.pp_merge.specs.Header.{type_text}
 use Rattle.pp_merge.specs.Merge.{difference, same_type}

@@ -9,7 +9,7 @@ use Rattle.std.proofs.lemmas.Bool.{eq-eqb, ne_eqb, cases_eq, cases_lt, cond-true
 use Rattle.std.proofs.lemmas.List.{length-map, get_or-map}
 use Rattle.std.proofs.lemmas.List.Elements.{All-from_recursion}
 use Rattle.std.proofs.lemmas.Option.{slice_get-get_or, slice_get_past}
-use Rattle.pp_model.specs.Frames.{place_read}
+use Rattle.pp_model.specs.Lookup.{place_read}
 use Rattle.pp_merge.specs.FirstSight.{seen_after, distinct, place_of, numbers, ids}
 use Rattle.pp_merge.specs.Ids.{listed_id}
 use Rattle.pp_merge.proofs.FirstSightLemmas.{IsSeen, all_seen, all_as}

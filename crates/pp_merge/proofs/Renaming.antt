@@ -9,7 +9,7 @@ use Rattle.pp_model.specs.declared.profile.Line.{Line}
 use Rattle.pp_model.specs.declared.profile.Location.{Location}
 use Rattle.pp_model.specs.declared.profile.Function.{Function}
 use Rattle.pp_model.specs.declared.profile.Profile.{Profile}
-use Rattle.pp_model.specs.Frames.{text_of}
+use Rattle.pp_model.specs.Lookup.{text_of}
 use Rattle.pp_merge.specs.Described.{FunctionText, MappingText, LocationText, less, start_of, function_text, mapping_text, line_text, location_text, label_text, sample_text}
 use Rattle.pp_merge.specs.Header.{type_text}
 use Rattle.pp_merge.specs.Renumbered.{NewIds, renumbered_type, renumbered_label, renumbered_line, renumbered_function, renumbered_mapping, renumbered_location, renumbered_sample}

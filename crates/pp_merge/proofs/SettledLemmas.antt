@@ -15,7 +15,7 @@ use Rattle.std.proofs.lemmas.Slice.Eq.{bytes_eq-Decides}
 use Rattle.pp_model.specs.declared.profile.Mapping.{Mapping}
 use Rattle.pp_model.specs.declared.profile.Location.{Location}
 use Rattle.pp_model.specs.declared.profile.Profile.{Profile}
-use Rattle.pp_model.specs.Frames.{text_of, location_with}
+use Rattle.pp_model.specs.Lookup.{text_of, location_with}
 use Rattle.pp_merge.specs.FirstSight.{distinct}
 use Rattle.pp_merge.specs.Described.{MappingText, LocationText, SampleText, function_found, mapping_text, mapping_found, location_text, location_found, sample_text, samples_found, less, nowhere}
 use Rattle.pp_merge.specs.Alike.{same_mapping, equal_mapping, same_location, same_sample, first_alike}

@@ -13,7 +13,7 @@ use Rattle.pp_model.specs.declared.profile.Location.{Location}
 use Rattle.pp_model.specs.declared.profile.Line.{Line}
 use Rattle.pp_model.specs.declared.profile.Function.{Function}
 use Rattle.pp_model.specs.declared.profile.Profile.{Profile}
-use Rattle.pp_model.specs.Frames.{text_number, text_of, place_read}
+use Rattle.pp_model.specs.Lookup.{text_number, text_of, place_read}
 use Rattle.pp_merge.specs.FirstSight.{distinct, ids}
 use Rattle.pp_merge.specs.Ids.{listed_id}
 use Rattle.pp_merge.specs.Described.{MappingText, function_text, location_text, sample_text, nowhere}

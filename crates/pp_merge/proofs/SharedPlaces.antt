@@ -16,7 +16,7 @@ use Rattle.pp_model.specs.declared.profile.Location.{Location}
 use Rattle.pp_model.specs.declared.profile.Line.{Line}
 use Rattle.pp_model.specs.declared.profile.Profile.{Profile}
 use Rattle.pp_model.specs.Conditions.{no_location}
-use Rattle.pp_model.specs.Frames.{text_of, place_read}
+use Rattle.pp_model.specs.Lookup.{text_of, place_read}
 use Rattle.pp_merge.specs.declared.ids.Ids.TheVariants.{By}
 use Rattle.pp_merge.specs.FirstSight.{distinct, place_of, ids}
 use Rattle.pp_merge.specs.Ids.{listed_id}

@@ -10,7 +10,7 @@ use Rattle.std.specs.Cmp.Lexicographic.{pointwise}
 use Rattle.std.proofs.lemmas.List.{length-map}
 use Rattle.pp_model.specs.declared.profile.Label.{Label}
 use Rattle.pp_model.specs.declared.profile.Profile.{Profile}
-use Rattle.pp_model.specs.Frames.{text_of}
+use Rattle.pp_model.specs.Lookup.{text_of}
 use Rattle.pp_merge.specs.FirstSight.{distinct}
 use Rattle.pp_merge.specs.Described.{LocationText, SampleText, label_text, sample_text, location_text, nowhere}
 use Rattle.pp_merge.specs.Alike.{same_location, same_label, same_sample}

@@ -11,7 +11,7 @@ use Rattle.std.proofs.lemmas.List.{get_or_past}
 use Rattle.std.proofs.lemmas.Slice.Eq.{bytes_eq-Decides}
 use Rattle.pp_model.specs.declared.profile.ValueType.{ValueType}
 use Rattle.pp_model.specs.declared.profile.Profile.{Profile}
-use Rattle.pp_model.specs.Frames.{text_number, text_of, place_read}
+use Rattle.pp_model.specs.Lookup.{text_number, text_of, place_read}
 use Rattle.pp_merge.specs.FirstSight.{distinct, place_of, ids}
 use Rattle.pp_merge.specs.Ids.{listed_id, index_of_id}
 use Rattle.pp_merge.specs.Described.{MappingText, function_text, mapping_text, location_text, sample_text, nowhere}

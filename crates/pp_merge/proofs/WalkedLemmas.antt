@@ -19,7 +19,7 @@ use Rattle.pp_model.specs.declared.profile.Location.{Location}
 use Rattle.pp_model.specs.declared.profile.Function.{Function}
 use Rattle.pp_model.specs.declared.profile.Profile.{Profile}
 use Rattle.pp_model.specs.Conditions.{no_location}
-use Rattle.pp_model.specs.Frames.{text_number, text_of, place_read}
+use Rattle.pp_model.specs.Lookup.{text_number, text_of, place_read}
 use Rattle.pp_merge.specs.Described.{FunctionText, MappingText, LocationText, less, plus, function_text, mapping_text, line_text, location_text, label_text, sample_text, nowhere}
 use Rattle.pp_merge.specs.Alike.{same_function, equal_mapping, same_location}
 use Rattle.pp_merge.specs.Header.{type_text, first_nonempty}

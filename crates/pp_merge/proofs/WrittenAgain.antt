@@ -12,7 +12,7 @@ use Rattle.pp_model.specs.declared.profile.Mapping.{Mapping}
 use Rattle.pp_model.specs.declared.profile.Location.{Location}
 use Rattle.pp_model.specs.declared.profile.Function.{Function}
 use Rattle.pp_model.specs.Rules.{AreNumbered}
-use Rattle.pp_model.specs.Frames.{text_of}
+use Rattle.pp_model.specs.Lookup.{text_of}
 use Rattle.pp_model.proofs.CompactLemmas.{find_numbered, find_by_place}
 use Rattle.pp_merge.specs.FirstSight.{distinct, place_of, seen_after}
 use Rattle.pp_merge.specs.Described.{FunctionText, MappingText, LineText, LocationText, LabelText, function_text, mapping_text, function_found, mapping_found, line_text, label_text, less, plus, start_of, location_text, location_found, nowhere, sample_text, samples_found}

@@ -6,7 +6,7 @@ use Rattle.std.specs.Option.{option_map}
 use Rattle.pp_model.specs.declared.profile.Mapping.{Mapping}
 use Rattle.pp_model.specs.declared.profile.Location.{Location}
 use Rattle.pp_model.specs.declared.profile.Profile.{Profile}
-use Rattle.pp_model.specs.Frames.{mapping_with, location_with}
+use Rattle.pp_model.specs.Lookup.{mapping_with, location_with}
 use Rattle.pp_merge.specs.Described.{MappingText, LocationText, mapping_text, function_found, mapping_found, line_text, less, plus, start_of}
 use Rattle.pp_merge.specs.Alike.{equal_mapping, same_location, first_alike}
 use Rattle.pp_merge.specs.Merge.{contents, merged, all_mappings}

@@ -8,7 +8,7 @@ use Rattle.pp_model.specs.declared.profile.Line.{Line}
 use Rattle.pp_model.specs.declared.profile.Location.{Location}
 use Rattle.pp_model.specs.declared.profile.Function.{Function}
 use Rattle.pp_model.specs.declared.profile.Profile.{Profile}
-use Rattle.pp_model.specs.Frames.{text_of, mapping_with, function_with, location_with}
+use Rattle.pp_model.specs.Lookup.{text_of, mapping_with, function_with, location_with}
 
 -- A function: its texts and where it starts.
 pub record FunctionText : Type 0 where

@@ -5,7 +5,7 @@ use Rattle.std.specs.Option.{option_map, option_to_list}
 use Rattle.pp_model.specs.declared.profile.Mapping.{Mapping}
 use Rattle.pp_model.specs.declared.profile.Location.{Location}
 use Rattle.pp_model.specs.declared.profile.Function.{Function}
-use Rattle.pp_model.specs.Frames.{place_read}
+use Rattle.pp_model.specs.Lookup.{place_read}
 
 -- the function with this id
 abbrev pub function_entry : Function → ℕ → Function

@@ -8,7 +8,7 @@ use Rattle.std.specs.Str.{bytes_eq}
 use Rattle.pp_model.specs.declared.profile.ValueType.{ValueType}
 use Rattle.pp_model.specs.declared.profile.Profile.{Profile}
 use Rattle.pp_merge.specs.FirstSight.{distinct}
-use Rattle.pp_model.specs.Frames.{text_of}
+use Rattle.pp_model.specs.Lookup.{text_of}
 
 -- What a column counts, and its unit.
 pub record TypeText : Type 0 where

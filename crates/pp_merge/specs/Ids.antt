@@ -1,6 +1,6 @@
 -- Ids of a table's entries, and what they become. An id is a place plus 1, and 0 stands for none.
 use Rattle.std.specs.Prelude.{ℕ, ◌+◌, ◌-◌, ◌^◌, ◌==◌, ◌||◌, nat_le, ℤ, pos, List, slice_index_or, if◌then◌else◌}
-use Rattle.pp_model.specs.Frames.{text_number}
+use Rattle.pp_model.specs.Lookup.{text_number}
 use Rattle.pp_merge.specs.Behind.{behind_id}
 pub use Rattle.pp_merge.specs.MetPlaces.{place_id}
 use Rattle.pp_merge.specs.declared.ids.Known.{Known}

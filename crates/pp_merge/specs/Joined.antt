@@ -2,7 +2,7 @@
 use Rattle.std.specs.Prelude.{◌+◌, ◌<◌, ◌^◌, ⊤, ℤ, List, [], ◌++◌, fold, length, Option, Some, None, if◌then◌else◌}
 use Rattle.std.specs.Str.{bytes_eq}
 use Rattle.pp_model.specs.declared.profile.Profile.{Profile}
-use Rattle.pp_model.specs.Frames.{text_of, text_number}
+use Rattle.pp_model.specs.Lookup.{text_of, text_number}
 use Rattle.pp_model.specs.Rules.{mapping_ids, function_ids, location_ids}
 use Rattle.pp_merge.specs.declared.join.Sizes.{Sizes}
 use Rattle.pp_merge.specs.Behind.{behind_id}

@@ -7,7 +7,7 @@ use Rattle.std.specs.Cmp.Lexicographic.{pointwise}
 use Rattle.pp_model.specs.declared.profile.Mapping.{Mapping}
 use Rattle.pp_model.specs.declared.profile.Line.{Line}
 use Rattle.pp_model.specs.declared.profile.Location.{Location}
-use Rattle.pp_model.specs.Frames.{place_read}
+use Rattle.pp_model.specs.Lookup.{place_read}
 use Rattle.pp_merge.specs.declared.places.MappingKey.{MappingKey}
 use Rattle.pp_merge.specs.declared.places.LocationKey.{LocationKey}
 use Rattle.pp_merge.specs.declared.ids.Ids.{Ids}

@@ -7,7 +7,7 @@ use Rattle.pp_model.specs.declared.profile.Mapping.{Mapping}
 use Rattle.pp_model.specs.declared.profile.Location.{Location}
 use Rattle.pp_model.specs.declared.profile.Function.{Function}
 use Rattle.pp_model.specs.declared.profile.Profile.{Profile}
-use Rattle.pp_model.specs.Frames.{text_number}
+use Rattle.pp_model.specs.Lookup.{text_number}
 use Rattle.pp_merge.specs.declared.ids.Ids.TheVariants.{By}
 use Rattle.pp_merge.specs.Ids.{listed_id, index_of_id}
 use Rattle.pp_merge.specs.FirstSight.{distinct, ids}

@@ -8,7 +8,7 @@ use Rattle.pp_model.specs.declared.profile.Mapping.{Mapping}
 use Rattle.pp_model.specs.declared.profile.Location.{Location}
 use Rattle.pp_model.specs.declared.profile.Function.{Function}
 use Rattle.pp_model.specs.declared.profile.Profile.{Profile}
-use Rattle.pp_model.specs.Frames.{text_number}
+use Rattle.pp_model.specs.Lookup.{text_number}
 use Rattle.pp_merge.specs.FirstSight.{seen_with}
 
 -- the ids met, after one more; 0 is none

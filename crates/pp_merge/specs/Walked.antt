@@ -2,7 +2,7 @@
 use Rattle.std.specs.Prelude.{◌≡◌, ℕ, ◌+◌, ◌<◌, ◌^◌, ◌==◌, List, [], ◌∷◌, length, if◌then◌else◌}
 use Rattle.std.specs.List.{flat_map}
 use Rattle.pp_model.specs.declared.profile.Profile.{Profile}
-use Rattle.pp_model.specs.Frames.{text_number}
+use Rattle.pp_model.specs.Lookup.{text_number}
 use Rattle.pp_merge.specs.Ids.{place_id, index_of_id}
 use Rattle.pp_merge.specs.Walk.{met_after, location_refs, mapping_ref, function_refs, profile_text_ids}
 use Rattle.pp_merge.specs.Gathered.{gathered, location_entry, mapping_entry, function_entry}

@@ -1,7 +1,7 @@
 //! Entries of a table in another order.
 ghost use Rattle.std.specs.Prelude.{◌≡◌, ℕ, IfOk, OnOk, ◌++◌, [], ◌∷◌};
 ghost use Rattle.std.specs.Option.{option_copied, option_to_list, option_map};
-ghost use Rattle.pp_model.specs.Frames.{place_read};
+ghost use Rattle.pp_model.specs.Lookup.{place_read};
 ghost use Rattle.pp_merge.specs.Gathered.{gathered, entry_at, function_entry, mapping_entry, location_entry};
 
 use pp_base::{List, Memory, Text};

@@ -1,7 +1,7 @@
 //! New ids for old ones. An id names an entry of a table, and 0 names none.
 ghost use Rattle.std.specs.Prelude.{◌≡◌, ◌+◌};
 ghost use Rattle.std.specs.Bool.{OnTrue};
-ghost use Rattle.pp_model.specs.Frames.{text_number};
+ghost use Rattle.pp_model.specs.Lookup.{text_number};
 ghost use Rattle.pp_merge.specs.Ids.{known_id, place_id, listed_id, new_id, new_text, index_of_id};
 
 use crate::behind::Behind;

@@ -7,7 +7,7 @@ use Rattle.std.proofs.lemmas.List.Folds.{find_at}
 use Rattle.std.proofs.lemmas.List.Sums.{position_or_len_is}
 use Rattle.std.proofs.lemmas.Option.{slice_get-get_or, slice_get_past}
 use Rattle.pp_model.specs.Rules.{AreNumbered}
-use Rattle.pp_model.specs.Frames.{place_read}
+use Rattle.pp_model.specs.Lookup.{place_read}
 
 -- an id of the list is a place plus 1
 pub place_of : (ids : List ℕ) (id : ℕ) → AreNumbered ids → Contains ids id → (k : ℕ) × (k < length ids) × (id ≡ k + 1)

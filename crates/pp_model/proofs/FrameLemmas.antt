@@ -13,7 +13,8 @@ use Rattle.pp_model.specs.declared.profile.Location.{Location}
 use Rattle.pp_model.specs.declared.profile.Profile.{Profile}
 use Rattle.pp_model.specs.Rules.{AreNumbered, location_ids}
 use Rattle.pp_model.specs.Conditions.{location_at, no_location, IsFrameOf}
-use Rattle.pp_model.specs.Frames.{Written, row_frame, rows, frames_from, written, written_line, written_lines, written_at}
+use Rattle.pp_model.specs.Frames.{row_frame, rows, frames_from}
+use Rattle.pp_model.specs.FrameTexts.{Written, written, written_line, written_lines, written_at}
 use Rattle.pp_model.proofs.CompactLemmas.{one_le_id, place_within, find_numbered}
 
 -- a row's frame after those of the rows before it

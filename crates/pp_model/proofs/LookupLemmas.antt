@@ -11,7 +11,8 @@ use Rattle.pp_model.specs.declared.profile.Function.{Function}
 use Rattle.pp_model.specs.declared.profile.Mapping.{Mapping}
 use Rattle.pp_model.specs.declared.profile.Profile.{Profile}
 use Rattle.pp_model.specs.Rules.{AreNumbered, function_ids, mapping_ids}
-use Rattle.pp_model.specs.Frames.{place_read, line_at, function_with, function_at, mapping_with}
+use Rattle.pp_model.specs.Lookup.{place_read, function_with, mapping_with}
+use Rattle.pp_model.specs.Frames.{line_at, function_at}
 use Rattle.pp_model.proofs.CompactLemmas.{find_by_place}
 
 -- nothing but zeros

@@ -10,7 +10,7 @@ use Rattle.pp_model.specs.declared.profile.Sample.{Sample}
 use Rattle.pp_model.specs.declared.profile.Profile.{Profile}
 use Rattle.pp_model.specs.Conditions.{RefersTo, IsSampleOf}
 use Rattle.pp_model.specs.Rules.{NoRuleFails, is_text_of, stands_in, is_zero_or_in, first_failing, location_ids, text_zero_fault, header_text_fault, comment_text_fault, type_text_fault, sample_text_fault, mapping_text_fault, function_text_fault, untyped_fault, mapping_zero_fault, mapping_repeat_fault, function_zero_fault, function_repeat_fault, location_zero_fault, location_repeat_fault, location_fault, sample_fault, value_fault}
-use Rattle.pp_model.specs.Frames.{text_number}
+use Rattle.pp_model.specs.Lookup.{text_number}
 
 -- a choice that gives nothing was not made
 false_from_none : (b : Bool) (n : ℕ) → cond b (Some n) None ≡ None → b ≡ false

@@ -1,5 +1,5 @@
 -- What patterns find, as predicates on texts, and the verdicts that hold these answers.
-use Rattle.std.specs.Prelude.{◌≡◌, ℕ, Bool, List, Option}
+use Rattle.std.specs.Prelude.{◌≡◌, ℕ, Bool, List, [], Option, None}
 use Rattle.pp_model.specs.declared.loaded.Loaded.{Loaded}
 use Rattle.pp_model.specs.declared.verdicts.Verdicts.{Verdicts}
 use Rattle.pp_model.specs.Judged.{judged}
@@ -24,6 +24,24 @@ pub record Finders : Type 0 where
   pub own : Option Finder
   pub tagfocus : List Finder
   pub tagignore : List Finder
+
+-- no pattern is in force
+abbrev pub no_finders : Finders
+no_finders = record {
+  drop = None;
+  keep = None;
+  focus = None;
+  ignore = None;
+  hide = None;
+  show = None;
+  show_from = None;
+  prune_from = None;
+  tagshow = None;
+  taghide = None;
+  own = None;
+  tagfocus = [];
+  tagignore = [];
+}
 
 -- The verdicts of the profile and of the report are what the patterns find of its texts. The parts of tag filters are
 -- not spoken of, since their subjects depend on the filter.

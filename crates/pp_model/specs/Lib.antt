@@ -2,8 +2,10 @@ pub mod Changes
 pub mod Conditions
 pub mod Defaults
 pub mod Finders
+pub mod FrameTexts
 pub mod Frames
 pub mod Judged
+pub mod Lookup
 pub mod Rules
 pub mod Sizes
 pub mod Values

@@ -2,7 +2,8 @@
 ghost use Rattle.std.specs.Prelude.{◌≡◌, ◌++◌, ◌+◌, ◌<◌, length, map, IfOk};
 ghost use Rattle.pp_model.specs.Rules.{IsCompact};
 ghost use Rattle.pp_model.specs.Conditions.{RefersTo, IsStackOf};
-ghost use Rattle.pp_model.specs.Frames.{stack_of, StandsFor, rows, lines_at, written, written_at};
+ghost use Rattle.pp_model.specs.Frames.{stack_of, rows, lines_at};
+ghost use Rattle.pp_model.specs.FrameTexts.{StandsFor, written, written_at};
 
 use crate::loaded::Loaded;
 use crate::profile::{Profile, Sample};

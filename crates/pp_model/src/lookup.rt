@@ -4,7 +4,9 @@ ghost use Rattle.std.specs.Option.{option_copied};
 ghost use Rattle.pp_model.specs.Rules.{NoRuleFails, IsCompact, function_has_texts, mapping_has_texts};
 ghost use Rattle.pp_model.specs.Conditions.{IsFrameOf, location_at};
 ghost use Rattle.pp_model.specs.Sizes.{value_in};
-ghost use Rattle.pp_model.specs.Frames.{written, text_at, text_number, text_of, line_at, function_at, mapping_at, place_read, function_index, file_index, object_index, line_number, column_number, address_number};
+ghost use Rattle.pp_model.specs.Lookup.{text_at, text_number, text_of, place_read};
+ghost use Rattle.pp_model.specs.Frames.{line_at, function_at, mapping_at, function_index, file_index, object_index, line_number, column_number, address_number};
+ghost use Rattle.pp_model.specs.FrameTexts.{written};
 
 use crate::frame::Frame;
 use crate::loaded::Loaded;

@@ -16,7 +16,7 @@ use Rattle.pp_model.specs.declared.profile.Location.{Location}
 use Rattle.pp_model.specs.declared.profile.Sample.{Sample}
 use Rattle.pp_model.specs.declared.profile.Profile.{Profile}
 use Rattle.pp_model.specs.Conditions.{IsFrameOf, IsSampleOf}
-use Rattle.pp_model.specs.Frames.{text_of}
+use Rattle.pp_model.specs.Lookup.{text_of}
 use Rattle.pp_model.specs.Rules.{NoRuleFails, IsCompact, location_refers, label_has_texts}
 use Rattle.pp_model.proofs.RuleLemmas.{passes}
 use Rattle.pp_stack.specs.Runs.{kept_if}

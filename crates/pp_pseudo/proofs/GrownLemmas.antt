@@ -17,7 +17,7 @@ use Rattle.pp_model.specs.declared.profile.Location.{Location}
 use Rattle.pp_model.specs.declared.profile.Profile.{Profile}
 use Rattle.pp_model.specs.declared.profile.Sample.{Sample}
 use Rattle.pp_model.specs.declared.profile.ValueType.{ValueType}
-use Rattle.pp_model.specs.Frames.{text_of, text_number, place_read, function_with}
+use Rattle.pp_model.specs.Lookup.{text_of, text_number, place_read, function_with}
 use Rattle.pp_model.specs.Rules.{NoRuleFails, IsCompact, AreNumbered, begins_empty, zero_unless, is_text, header_texts, type_has_texts, label_has_texts, mapping_has_texts, function_has_texts, function_ids, mapping_ids, is_zero_or_in, stands_in, location_refers}
 use Rattle.pp_model.proofs.RuleLemmas.{passes, contains_from}
 use Rattle.pp_model.proofs.CompactLemmas.{find_by_place, id_at, place_of}

@@ -17,7 +17,8 @@ use Rattle.pp_model.specs.declared.profile.Function.{Function}
 use Rattle.pp_model.specs.declared.profile.Location.{Location}
 use Rattle.pp_model.specs.declared.profile.Sample.{Sample}
 use Rattle.pp_model.specs.declared.profile.Profile.{Profile}
-use Rattle.pp_model.specs.Frames.{Written, text_at, text_of, text_number, function_with, written_at, written_line, written_lines}
+use Rattle.pp_model.specs.Lookup.{text_at, text_of, text_number, function_with}
+use Rattle.pp_model.specs.FrameTexts.{Written, written_at, written_line, written_lines}
 use Rattle.pp_model.specs.Rules.{NoRuleFails}
 use Rattle.pp_model.specs.Sizes.{value_in}
 use Rattle.pp_model.proofs.RuleLemmas.{passes}

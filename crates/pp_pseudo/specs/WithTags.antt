@@ -5,7 +5,9 @@ use Rattle.pp_model.specs.declared.loaded.Loaded.{Loaded}
 use Rattle.pp_model.specs.declared.profile.Label.{Label}
 use Rattle.pp_model.specs.declared.profile.Sample.{Sample}
 use Rattle.pp_model.specs.declared.profile.Profile.{Profile}
-use Rattle.pp_model.specs.Frames.{written, stack_of, text_of}
+use Rattle.pp_model.specs.Lookup.{text_of}
+use Rattle.pp_model.specs.Frames.{stack_of}
+use Rattle.pp_model.specs.FrameTexts.{written}
 use Rattle.pp_model.specs.Judged.{loaded_of}
 use Rattle.pp_stack.specs.Filters.{load_pruned}
 use Rattle.pp_stack.specs.LoadFinders.{load_finders}

@@ -10,7 +10,7 @@ use Rattle.std.proofs.lemmas.List.Sums.{AllPass-from_list_all}
 use Rattle.pp_model.specs.declared.profile.Location.{Location}
 use Rattle.pp_model.specs.declared.profile.Sample.{Sample}
 use Rattle.pp_model.specs.declared.profile.Profile.{Profile}
-use Rattle.pp_model.specs.Frames.{text_at}
+use Rattle.pp_model.specs.Lookup.{text_at}
 use Rattle.pp_model.specs.Rules.{NoRuleFails, IsCompact, begins_empty, zero_unless, is_text, header_texts, label_has_texts, location_ids, location_refers, stands_in}
 use Rattle.pp_model.proofs.RuleLemmas.{passes}
 use Rattle.pp_merge.proofs.NumberedLemmas.{all_by, all_pass, nowhere, nonzero, unrepeated, stands_at}

@@ -8,7 +8,7 @@ use Rattle.pp_model.specs.declared.profile.Location.{Location}
 use Rattle.pp_model.specs.declared.profile.Sample.{Sample}
 use Rattle.pp_model.specs.declared.profile.Profile.{Profile}
 use Rattle.pp_model.specs.Conditions.{no_location}
-use Rattle.pp_model.specs.Frames.{text_of}
+use Rattle.pp_model.specs.Lookup.{text_of}
 use Rattle.pp_model.specs.Rules.{NoRuleFails}
 use Rattle.pp_model.proofs.CompactLemmas.{find_numbered}
 use Rattle.pp_merge.specs.Described.{MappingText, mapping_text, location_found, nowhere, label_text, sample_text}

@@ -11,8 +11,8 @@ use Rattle.pp_model.specs.declared.config.Config.{Config}
 use Rattle.pp_model.specs.declared.frame.Frame.{Frame}
 use Rattle.pp_model.specs.declared.profile.Sample.{Sample}
 use Rattle.pp_model.specs.declared.profile.Profile.{Profile}
-use Rattle.pp_model.specs.Finders.{Finders}
-use Rattle.pp_model.specs.Frames.{Written}
+use Rattle.pp_model.specs.Finders.{Finders, no_finders}
+use Rattle.pp_model.specs.FrameTexts.{Written}
 use Rattle.pp_model.specs.Rules.{NoRuleFails}
 use Rattle.pp_model.specs.Sizes.{value_in}
 use Rattle.pp_model.proofs.RuleLemmas.{passes}
@@ -25,7 +25,6 @@ use Rattle.pp_merge.proofs.NumberedLemmas.{all_mapped}
 use Rattle.pp_restack.specs.Stacks.{by_place}
 use Rattle.pp_dump.specs.Saved.{cut_samples, saved_contents, saved}
 use Rattle.pp_dump.specs.Stacks.{PlaceText, StackText, left_place, left_stack, left_stacks, whole_stacks, KeepsStacks}
-use Rattle.pp_dump.specs.Unfiltered.{no_finders}
 use Rattle.pp_dump.proofs.CountedPlaces.{counted_places, counted_stack}
 use Rattle.pp_dump.proofs.KeptStacks.{wide}
 use Rattle.pp_dump.proofs.NaturalStacks.{summed_natural, cut_natural}

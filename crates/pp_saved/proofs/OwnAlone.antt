@@ -6,8 +6,9 @@ use Rattle.pp_model.specs.declared.config.Config.{Config}
 use Rattle.pp_model.specs.declared.frame.Frame.{Frame}
 use Rattle.pp_model.specs.declared.profile.Sample.{Sample}
 use Rattle.pp_model.specs.declared.profile.Profile.{Profile}
-use Rattle.pp_model.specs.Finders.{Finders}
-use Rattle.pp_model.specs.Frames.{Written, written, stack_of}
+use Rattle.pp_model.specs.Finders.{Finders, no_finders}
+use Rattle.pp_model.specs.Frames.{stack_of}
+use Rattle.pp_model.specs.FrameTexts.{Written, written}
 use Rattle.pp_grain.specs.Keys.{key_cmp}
 use Rattle.pp_stack.specs.Filters.{filtered}
 use Rattle.pp_count.specs.Sums.{Seen, weighed, all_keys, flat, cum}
@@ -16,7 +17,6 @@ use Rattle.pp_count.specs.Seeing.{filtered_stack, seen_with, framed_with}
 use Rattle.pp_count.specs.Counts.{total_over}
 use Rattle.pp_count.specs.Counted.{report_frames}
 use Rattle.pp_count.specs.Ranks.{each_once}
-use Rattle.pp_dump.specs.Unfiltered.{no_finders}
 use Rattle.pp_saved.specs.Figures.{Figures, figures, column_type, mapped_file, is_found_frame}
 use Rattle.pp_saved.specs.Premises.{unfiltered, own_alone}
 

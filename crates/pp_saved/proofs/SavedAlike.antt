@@ -7,8 +7,8 @@ use Rattle.pp_model.specs.declared.frame.Frame.{Frame}
 use Rattle.pp_model.specs.declared.profile.Sample.{Sample}
 use Rattle.pp_model.specs.declared.profile.Profile.{Profile}
 use Rattle.pp_model.specs.Conditions.{IsColumnOf}
-use Rattle.pp_model.specs.Finders.{Finders}
-use Rattle.pp_model.specs.Frames.{Written}
+use Rattle.pp_model.specs.Finders.{Finders, no_finders}
+use Rattle.pp_model.specs.FrameTexts.{Written}
 use Rattle.pp_model.specs.Rules.{IsCompact}
 use Rattle.pp_grain.specs.Keys.{key_cmp}
 use Rattle.pp_grain.proofs.CallerLemmas.{key_cmp_total, key_cmp_ties}
@@ -23,7 +23,7 @@ use Rattle.pp_merge.specs.Merge.{contents}
 use Rattle.pp_merge.proofs.WrittenCompact.{compact_written}
 use Rattle.pp_dump.specs.Saved.{saved}
 use Rattle.pp_dump.specs.Stacks.{left_stacks, whole_stacks}
-use Rattle.pp_dump.specs.Unfiltered.{no_finders, SeesAlike}
+use Rattle.pp_dump.specs.Unfiltered.{SeesAlike}
 use Rattle.pp_dump.proofs.SeenSums.{IsNatural}
 use Rattle.pp_dump.proofs.WholeStacks.{whole_left}
 use Rattle.pp_laws.proofs.Listed.{each_once_same}

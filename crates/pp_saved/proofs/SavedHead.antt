@@ -8,7 +8,7 @@ use Rattle.pp_model.specs.declared.frame.Frame.{Frame}
 use Rattle.pp_model.specs.declared.profile.Mapping.{Mapping}
 use Rattle.pp_model.specs.declared.profile.Profile.{Profile}
 use Rattle.pp_model.specs.Finders.{Finders}
-use Rattle.pp_model.specs.Frames.{text_of}
+use Rattle.pp_model.specs.Lookup.{text_of}
 use Rattle.pp_merge.specs.Alike.{equal_mapping, first_alike}
 use Rattle.pp_merge.specs.Described.{MappingText, LocationText, mapping_text}
 use Rattle.pp_merge.specs.FirstSight.{distinct, seen_after}

@@ -11,7 +11,8 @@ use Rattle.pp_model.specs.declared.frame.Frame.{Frame}
 use Rattle.pp_model.specs.declared.profile.Sample.{Sample}
 use Rattle.pp_model.specs.declared.profile.Profile.{Profile}
 use Rattle.pp_model.specs.Finders.{Finders}
-use Rattle.pp_model.specs.Frames.{Written, text_of}
+use Rattle.pp_model.specs.Lookup.{text_of}
+use Rattle.pp_model.specs.FrameTexts.{Written}
 use Rattle.pp_tags.specs.TagFilters.{is_shown, shown_labels}
 use Rattle.pp_tags.specs.Labels.{key_text}
 use Rattle.pp_count.specs.Seeing.{filtered_stack, seen_with, seen_samples}

@@ -3,7 +3,7 @@ use Rattle.std.proofs.Common.{◌≡◌, ◌<◌, ◌^◌, [], ◌∷◌, map, s
 use Rattle.std.specs.List.{AllByRecursion}
 use Rattle.pp_model.specs.declared.config.Config.{Config}
 use Rattle.pp_model.specs.declared.profile.Profile.{Profile}
-use Rattle.pp_model.specs.Finders.{Finders}
+use Rattle.pp_model.specs.Finders.{Finders, no_finders}
 use Rattle.pp_model.specs.Rules.{NoRuleFails}
 use Rattle.pp_merge.specs.Described.{MappingText, mapping_text}
 use Rattle.pp_merge.specs.Header.{header_of}
@@ -17,7 +17,7 @@ use Rattle.pp_merge.proofs.WrittenValid.{valid_written}
 use Rattle.pp_restack.specs.Stacks.{patternless}
 use Rattle.pp_dump.specs.Saved.{saved_contents, saved}
 use Rattle.pp_dump.specs.Stacks.{left_stacks, whole_stacks, KeepsStacks}
-use Rattle.pp_dump.specs.Unfiltered.{no_finders, KeepsSums, KeepsKeys, KeepsHeader}
+use Rattle.pp_dump.specs.Unfiltered.{KeepsSums, KeepsKeys, KeepsHeader}
 use Rattle.pp_dump.proofs.KeptStacks.{keeps_stacks, left_is}
 use Rattle.pp_dump.proofs.NaturalStacks.{keeps_keys}
 use Rattle.pp_dump.proofs.SavedHeader.{same_column}

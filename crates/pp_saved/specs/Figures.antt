@@ -6,7 +6,8 @@ use Rattle.std.specs.Ordering.{eq_by_cmp}
 use Rattle.pp_model.specs.declared.config.Config.{Config}
 use Rattle.pp_model.specs.declared.profile.Profile.{Profile}
 use Rattle.pp_model.specs.Finders.{Finders}
-use Rattle.pp_model.specs.Frames.{Written, text_of}
+use Rattle.pp_model.specs.Lookup.{text_of}
+use Rattle.pp_model.specs.FrameTexts.{Written}
 use Rattle.pp_grain.specs.Keys.{key_cmp, key_texts}
 use Rattle.pp_merge.specs.Header.{TypeText, type_text}
 use Rattle.pp_count.specs.Sums.{Seen, all_keys, flat, cum}

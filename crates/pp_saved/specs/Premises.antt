@@ -3,11 +3,10 @@ use Rattle.std.specs.Prelude.{◌≡◌, ◌<◌, ◌^◌, pos, ◌≤ℤ◌, tr
 use Rattle.std.specs.List.{AllByRecursion, list_any}
 use Rattle.pp_model.specs.declared.config.Config.{Config}
 use Rattle.pp_model.specs.declared.profile.Profile.{Profile}
-use Rattle.pp_model.specs.Finders.{Finders}
+use Rattle.pp_model.specs.Finders.{Finders, no_finders}
 use Rattle.pp_model.specs.Rules.{NoRuleFails}
 use Rattle.pp_merge.specs.Merge.{merged}
 use Rattle.pp_count.specs.Counts.{is_base}
-use Rattle.pp_dump.specs.Unfiltered.{no_finders}
 
 -- the configuration without the ten variables that filter
 abbrev pub unfiltered : Config → Config

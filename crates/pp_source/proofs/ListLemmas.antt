@@ -14,7 +14,7 @@ use Rattle.pp_desk.proofs.Going.{gives, wants, stops_first, goes_second, goes_gi
 use Rattle.pp_model.specs.declared.config.Config.{Config}
 use Rattle.std.specs.List.{list_any}
 use Rattle.pp_model.specs.Finders.{Finders}
-use Rattle.pp_model.specs.Frames.{Written}
+use Rattle.pp_model.specs.FrameTexts.{Written}
 use Rattle.pp_count.specs.Counted.{is_own}
 use Rattle.pp_units.specs.Head.{Facts}
 use Rattle.pp_count.specs.Sums.{Seen}

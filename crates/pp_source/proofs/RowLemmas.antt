@@ -9,7 +9,7 @@ use Rattle.pp_source.specs.declared.source.Source.{Source}
 use Rattle.pp_source.specs.Amounts.{routine_amounts}
 use Rattle.pp_source.specs.Ledgers.{line_texts, lines_texts}
 use Rattle.std.proofs.lemmas.Grind.{flat_map-append}
-use Rattle.pp_model.specs.Frames.{Written}
+use Rattle.pp_model.specs.FrameTexts.{Written}
 use Rattle.pp_units.specs.Head.{Facts}
 use Rattle.pp_count.specs.Sums.{Seen}
 use Rattle.pp_source.specs.SourceText.{file_lines, is_shown, last_from, line_row, number_above, numbers_of, past_row, routine_line, routine_text, rows_text, shown_rows, source_text, title_line}

@@ -12,7 +12,7 @@ use Rattle.pp_model.specs.declared.profile.Profile.{Profile}
 use Rattle.pp_model.specs.declared.profile.Sample.{Sample}
 use Rattle.pp_model.specs.declared.verdicts.Verdicts.{Verdicts}
 use Rattle.pp_model.specs.Finders.{Finders, HoldsFinders}
-use Rattle.pp_model.specs.Frames.{Written, written}
+use Rattle.pp_model.specs.FrameTexts.{Written, written}
 use Rattle.pp_model.specs.Rules.{IsCompact}
 use Rattle.pp_grain.specs.declared.key.Key.{Key}
 use Rattle.pp_grain.specs.Keys.{key_written, IsKeyOf}

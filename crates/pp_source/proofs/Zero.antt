@@ -8,7 +8,7 @@ use Rattle.pp_model.specs.Conditions.{RefersTo}
 use Rattle.pp_model.specs.declared.profile.Sample.{Sample}
 use Rattle.pp_model.proofs.RuleLemmas.{refers_from_valid}
 use Rattle.pp_model.specs.declared.profile.Profile.{Profile}
-use Rattle.pp_model.specs.Frames.{text_at}
+use Rattle.pp_model.specs.Lookup.{text_at}
 use Rattle.pp_model.specs.Rules.{NoRuleFails, begins_empty, zero_unless}
 
 zero_in : (texts : List (List ℕ)) → zero_unless (begins_empty texts) ≡ None → (get_or texts 0 [] ≡ []) × (0 < length texts)

@@ -6,7 +6,7 @@ use Rattle.pp_desk.specs.Script.{Script, Give, ◌>>=◌, read_file}
 use Rattle.pp_model.specs.declared.config.Config.{Config}
 use Rattle.pp_model.specs.declared.profile.Profile.{Profile}
 use Rattle.pp_model.specs.Finders.{Finders}
-use Rattle.pp_model.specs.Frames.{Written}
+use Rattle.pp_model.specs.FrameTexts.{Written}
 use Rattle.pp_units.specs.Head.{Facts}
 use Rattle.pp_count.specs.Sums.{Seen}
 use Rattle.pp_count.specs.Counted.{has_own_match, report_frames}

@@ -6,7 +6,7 @@ use Rattle.pp_units.specs.Head.{Facts}
 use Rattle.pp_units.specs.Numbers.{value_text, percent_text, right_text}
 use Rattle.pp_units.specs.Rows.{value_column}
 use Rattle.pp_units.specs.Shown.{Shown}
-use Rattle.pp_model.specs.Frames.{Written}
+use Rattle.pp_model.specs.FrameTexts.{Written}
 use Rattle.pp_count.specs.Sums.{Seen}
 use Rattle.pp_source.specs.declared.source.Source.{Source}
 use Rattle.pp_source.specs.declared.source.Source.TheVariants.{NoName, NotFound, TooLong, Whole}

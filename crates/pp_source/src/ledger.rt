@@ -3,7 +3,7 @@ ghost use Rattle.std.specs.Prelude.{◌≡◌, ◌+◌, ◌<◌, [], length, map
 ghost use Rattle.std.specs.Option.{option_copied};
 ghost use Rattle.pp_model.specs.Conditions.{HasVerdicts, IsColumnOf, IsFrameOf, IsStackOf};
 ghost use Rattle.pp_model.specs.Finders.{Finders};
-ghost use Rattle.pp_model.specs.Frames.{written};
+ghost use Rattle.pp_model.specs.FrameTexts.{written};
 ghost use Rattle.pp_grain.specs.declared.key.Key.{Key as KeyOf};
 ghost use Rattle.pp_grain.specs.Keys.{key_written, IsKeyOf};
 ghost use Rattle.pp_count.specs.Counted.{CanCount, IsCountedOf, report_frames};

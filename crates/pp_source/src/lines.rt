@@ -3,7 +3,7 @@ ghost use Rattle.std.specs.Prelude.{◌≡◌, ◌<◌, List as Seq, map, All, I
 ghost use Rattle.std.specs.List.{IsDistinct};
 ghost use Rattle.pp_model.specs.Conditions.{HasOnePerText};
 ghost use Rattle.pp_model.specs.Finders.{Finders};
-ghost use Rattle.pp_model.specs.Frames.{Written};
+ghost use Rattle.pp_model.specs.FrameTexts.{Written};
 ghost use Rattle.pp_model.specs.Judged.{judged};
 ghost use Rattle.pp_grain.specs.declared.key.Key.{Key as KeyOf};
 ghost use Rattle.pp_grain.specs.Keys.{IsKeyOf};

@@ -2,7 +2,7 @@
 ghost use Rattle.std.specs.Prelude.{◌≡◌, ◌++◌, ◌<◌, ◌^◌, List as Seq, All, IfOk, OnErr};
 ghost use Rattle.pp_desk.specs.Went.{Went, beside};
 ghost use Rattle.pp_model.specs.Finders.{Finders};
-ghost use Rattle.pp_model.specs.Frames.{Written};
+ghost use Rattle.pp_model.specs.FrameTexts.{Written};
 ghost use Rattle.pp_units.specs.Head.{facts};
 ghost use Rattle.pp_count.specs.Counted.{CanCount, IsCountedOf};
 ghost use Rattle.pp_count.specs.Sums.{Seen};

@@ -1,7 +1,7 @@
 //! The text of a routine.
 ghost use Rattle.std.specs.Prelude.{◌≡◌, ◌++◌, ◌<◌, ◌^◌, [], codes, List as Seq, All, IfOk};
 ghost use Rattle.std.specs.List.{cons_option};
-ghost use Rattle.pp_model.specs.Frames.{Written};
+ghost use Rattle.pp_model.specs.FrameTexts.{Written};
 ghost use Rattle.pp_units.specs.Head.{facts};
 ghost use Rattle.pp_units.specs.Shown.{shown};
 ghost use Rattle.pp_count.specs.Sums.{Seen};

@@ -1,6 +1,6 @@
 //! The lines of source of one routine.
 ghost use Rattle.std.specs.Prelude.{◌≡◌, ◌++◌, ◌<◌, ◌^◌, ◌∷◌, ◌-◌, List as Seq, length, flat_map, codes, All, IfOk};
-ghost use Rattle.pp_model.specs.Frames.{Written};
+ghost use Rattle.pp_model.specs.FrameTexts.{Written};
 ghost use Rattle.pp_units.specs.Shown.{shown};
 ghost use Rattle.pp_units.specs.Head.{facts};
 ghost use Rattle.pp_count.specs.Sums.{Seen};

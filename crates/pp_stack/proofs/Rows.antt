@@ -2,7 +2,7 @@
 use Rattle.std.proofs.Common.{◌≡◌, ℕ, List, [], ◌∷◌, refl}
 use Rattle.std.specs.Prelude.{pos, codes, bytes_eq, Option, Some, None}
 use Rattle.pp_model.specs.Finders.{Finder, Finders}
-use Rattle.pp_model.specs.Frames.{Written}
+use Rattle.pp_model.specs.FrameTexts.{Written}
 use Rattle.pp_stack.specs.Filters.{filtered}
 
 -- a frame of the function of this name

@@ -7,7 +7,8 @@ use Rattle.pp_model.specs.declared.frame.Frame.{Frame}
 use Rattle.pp_model.specs.declared.profile.Sample.{Sample}
 use Rattle.pp_model.specs.declared.profile.Profile.{Profile}
 use Rattle.pp_model.specs.Finders.{Finder, Finders}
-use Rattle.pp_model.specs.Frames.{Written, written, stack_of, written_stack}
+use Rattle.pp_model.specs.Frames.{stack_of}
+use Rattle.pp_model.specs.FrameTexts.{Written, written, written_stack}
 use Rattle.pp_stack.specs.Runs.{up_to_last, from_first, pruned}
 
 -- the verdicts are what the pattern finds of the profile's texts

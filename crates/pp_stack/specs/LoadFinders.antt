@@ -1,8 +1,8 @@
 -- What the patterns of a loaded profile find, as far as its verdicts tell.
-use Rattle.std.specs.Prelude.{ℕ, Bool, false, List, [], ◌∷◌, None, option_map, bytes_eq, if◌then◌else◌}
+use Rattle.std.specs.Prelude.{ℕ, Bool, false, List, [], ◌∷◌, option_map, bytes_eq, if◌then◌else◌}
 use Rattle.pp_model.specs.declared.loaded.Loaded.{Loaded}
 use Rattle.pp_model.specs.declared.profile.Profile.{Profile}
-use Rattle.pp_model.specs.Finders.{Finder, Finders}
+use Rattle.pp_model.specs.Finders.{Finder, Finders, no_finders}
 
 -- the verdict on a text, by those on these texts; no other text is found
 abbrev pub verdict_on : List (List ℕ) → List Bool → List ℕ → Bool
@@ -17,18 +17,8 @@ finder_by p found = verdict_on p.text found
 
 -- what the profile's own two patterns find, with no pattern of a report in force
 abbrev pub load_finders : Loaded → Finders
-load_finders l = record {
-  drop = option_map (finder_by l.profile) l.drop;
-  keep = option_map (finder_by l.profile) l.keep;
-  focus = None;
-  ignore = None;
-  hide = None;
-  show = None;
-  show_from = None;
-  prune_from = None;
-  tagshow = None;
-  taghide = None;
-  own = None;
-  tagfocus = [];
-  tagignore = [];
-}
+load_finders l =
+    record no_finders {
+      drop = option_map (finder_by l.profile) l.drop;
+      keep = option_map (finder_by l.profile) l.keep;
+    }

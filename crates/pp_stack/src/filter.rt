@@ -3,7 +3,8 @@
 ghost use Rattle.std.specs.Prelude.{◌≡◌, map, option_map, Some, true, IfOk, IfSome};
 ghost use Rattle.pp_model.specs.Conditions.{IsStackOf, HasVerdicts, RefersTo};
 ghost use Rattle.pp_model.specs.Finders.{Finders, HoldsFinders};
-ghost use Rattle.pp_model.specs.Frames.{written, stack_of};
+ghost use Rattle.pp_model.specs.Frames.{stack_of};
+ghost use Rattle.pp_model.specs.FrameTexts.{written};
 ghost use Rattle.pp_stack.specs.Runs.{kept_if};
 ghost use Rattle.pp_stack.specs.Filters.{filtered, passed, shortened, frames_of_sample, stack_of_sample};
 

@@ -3,7 +3,7 @@
 ghost use Rattle.std.specs.Prelude.{◌≡◌, ◌≤◌, length, take, drop, filter};
 ghost use Rattle.pp_model.specs.Conditions.{IsStackOf};
 ghost use Rattle.pp_model.specs.Finders.{Finder};
-ghost use Rattle.pp_model.specs.Frames.{written};
+ghost use Rattle.pp_model.specs.FrameTexts.{written};
 ghost use Rattle.pp_stack.specs.Runs.{as_wanted};
 ghost use Rattle.pp_stack.specs.Filters.{AreVerdicts, finds_frame};
 

@@ -4,7 +4,7 @@ ghost use Rattle.std.specs.Prelude.{◌≡◌, ◌<◌, ◌≤◌, length, posit
 ghost use Rattle.std.specs.List.{list_any};
 ghost use Rattle.pp_model.specs.Conditions.{IsStackOf};
 ghost use Rattle.pp_model.specs.Finders.{Finder, Finders};
-ghost use Rattle.pp_model.specs.Frames.{written};
+ghost use Rattle.pp_model.specs.FrameTexts.{written};
 ghost use Rattle.pp_model.specs.Judged.{judged};
 ghost use Rattle.pp_stack.specs.Runs.{through_last, as_wanted, pruned_len};
 ghost use Rattle.pp_stack.specs.Filters.{AreVerdicts, finds_frame, finds_function, is_prunable};

@@ -5,7 +5,7 @@ ghost use Rattle.std.specs.List.{list_any};
 ghost use Rattle.std.specs.Option.{option_map_or};
 ghost use Rattle.pp_model.specs.Conditions.{IsStackOf, HasVerdicts, HasOnePerText};
 ghost use Rattle.pp_model.specs.Finders.{Finder, Finders, HoldsFinders};
-ghost use Rattle.pp_model.specs.Frames.{written};
+ghost use Rattle.pp_model.specs.FrameTexts.{written};
 ghost use Rattle.pp_model.specs.Judged.{judged};
 ghost use Rattle.pp_stack.specs.Runs.{as_wanted};
 ghost use Rattle.pp_stack.specs.Filters.{finds_frame, load_pruned, is_kept, cut, shown_from, pruned_from};

@@ -13,7 +13,7 @@ use Rattle.pp_model.specs.declared.loaded.Loaded.{Loaded}
 use Rattle.pp_model.specs.declared.verdicts.Verdicts.{Verdicts}
 use Rattle.pp_model.specs.Conditions.{IsSampleOf}
 use Rattle.pp_model.specs.Finders.{Finder, Finders, HoldsFinders}
-use Rattle.pp_model.specs.Frames.{text_of, text_number}
+use Rattle.pp_model.specs.Lookup.{text_of, text_number}
 use Rattle.pp_model.specs.Judged.{judged}
 use Rattle.pp_model.specs.Rules.{NoRuleFails, label_has_texts, is_text}
 use Rattle.pp_model.proofs.RuleLemmas.{passes, text_below}

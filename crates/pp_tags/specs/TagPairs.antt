@@ -8,7 +8,7 @@ use Rattle.std.specs.Ordering.{int_cmp, ordering_then}
 use Rattle.pp_model.specs.declared.profile.Label.{Label}
 use Rattle.pp_model.specs.declared.profile.Profile.{Profile}
 use Rattle.pp_model.specs.declared.verdicts.Tag.{Tag}
-use Rattle.pp_model.specs.Frames.{text_of}
+use Rattle.pp_model.specs.Lookup.{text_of}
 use Rattle.pp_tags.specs.Labels.{has_text, key_value}
 
 -- the tag of a text label

@@ -4,7 +4,7 @@ use Rattle.std.specs.List.{slice_get}
 use Rattle.std.proofs.lemmas.Option.{get_or_from_slice_get, slice_get_within}
 use Rattle.std.proofs.lemmas.List.Elements.{All-get_or, All-head, All-tail}
 use Rattle.pp_model.specs.declared.profile.Profile.{Profile}
-use Rattle.pp_model.specs.Frames.{Written}
+use Rattle.pp_model.specs.FrameTexts.{Written}
 use Rattle.pp_grain.specs.declared.key.Key.{Key}
 use Rattle.pp_grain.specs.Keys.{key_cmp, key_written, IsKeyOf}
 use Rattle.pp_grain.specs.Naming.{name_text}

@@ -4,7 +4,7 @@ use Rattle.std.specs.List.{sum_by}
 use Rattle.pp_model.specs.declared.config.Config.{Config}
 use Rattle.pp_model.specs.declared.profile.Profile.{Profile}
 use Rattle.pp_model.specs.Finders.{Finders}
-use Rattle.pp_model.specs.Frames.{Written}
+use Rattle.pp_model.specs.FrameTexts.{Written}
 use Rattle.pp_units.specs.Head.{Facts, facts_text}
 use Rattle.pp_units.specs.Rows.{columns_text, name_end, showing_line, dropped_line, limited_line, heading}
 use Rattle.pp_units.specs.Rows as lines

@@ -13,7 +13,7 @@ use Rattle.pp_model.specs.declared.loaded.Loaded.{Loaded}
 use Rattle.pp_model.specs.declared.profile.Profile.{Profile}
 use Rattle.pp_model.specs.declared.verdicts.Verdicts.{Verdicts}
 use Rattle.pp_model.specs.Finders.{Finders}
-use Rattle.pp_model.specs.Frames.{Written}
+use Rattle.pp_model.specs.FrameTexts.{Written}
 use Rattle.pp_units.specs.Head.{Facts, facts_text}
 use Rattle.pp_units.specs.Rows.{showing_line}
 use Rattle.pp_grain.specs.declared.key.Key.{Key}

@@ -8,7 +8,7 @@ use Rattle.pp_model.specs.declared.frame.Frame.{Frame}
 use Rattle.pp_model.specs.declared.profile.Profile.{Profile}
 use Rattle.pp_model.specs.declared.profile.Sample.{Sample}
 use Rattle.pp_model.specs.Finders.{Finder, Finders}
-use Rattle.pp_model.specs.Frames.{Written, written}
+use Rattle.pp_model.specs.FrameTexts.{Written, written}
 use Rattle.pp_grain.specs.declared.key.Key.{Key}
 use Rattle.pp_grain.specs.Keys.{key_cmp, key_written, counts}
 use Rattle.pp_stack.specs.Filters.{frames_of_sample}

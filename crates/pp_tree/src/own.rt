@@ -4,7 +4,7 @@ ghost use Rattle.std.specs.List.{list_any};
 ghost use Rattle.std.specs.Option.{option_map_or};
 ghost use Rattle.pp_model.specs.Conditions.{HasVerdicts, IsFrameOf, IsStackOf};
 ghost use Rattle.pp_model.specs.Finders.{Finder, Finders, HoldsFinders};
-ghost use Rattle.pp_model.specs.Frames.{Written, written};
+ghost use Rattle.pp_model.specs.FrameTexts.{Written, written};
 ghost use Rattle.pp_grain.specs.Keys.{key_written, IsKeyOf};
 ghost use Rattle.pp_grain.specs.Sight.{same_key};
 ghost use Rattle.pp_stack.specs.Filters.{AreVerdicts};

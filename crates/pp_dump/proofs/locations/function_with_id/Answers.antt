@@ -1,7 +1,7 @@
 use Rattle.std.proofs.Common.{ap, ◌∙◌, pos, List}
 use Rattle.std.specs.Option.{option_copied}
 use Rattle.pp_model.specs.declared.profile.Function.{Function}
-use Rattle.pp_model.specs.Frames.{place_read}
+use Rattle.pp_model.specs.Lookup.{place_read}
 use Rattle.pp_model.proofs.CompactLemmas.{find_by_place}
 use Rattle.pp_dump.proofs.locations.function_with_id.Goals as goal
 

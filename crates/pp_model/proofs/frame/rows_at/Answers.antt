@@ -2,7 +2,8 @@ use Rattle.std.proofs.Common.{◌≡◌, ◌+◌, ◌++◌, ◌<◌, length, map
 use Rattle.std.proofs.lemmas.List.{length-map}
 use Rattle.pp_model.specs.declared.profile.Location.{Location}
 use Rattle.pp_model.specs.Rules.{location_ids}
-use Rattle.pp_model.specs.Frames.{rows, lines_at, written, written_at}
+use Rattle.pp_model.specs.Frames.{rows, lines_at}
+use Rattle.pp_model.specs.FrameTexts.{written, written_at}
 use Rattle.pp_model.proofs.CompactLemmas.{contains_id}
 use Rattle.pp_model.proofs.FrameLemmas.{rows_of_profile, written_found}
 use Rattle.pp_model.proofs.frame.rows_at.Goals as goal

@@ -1,7 +1,7 @@
 use Rattle.std.proofs.Common.{◌≡◌, List, map, refl, sym, ap, subst, ◌∙◌}
 use Rattle.pp_model.specs.declared.frame.Frame.{Frame}
 use Rattle.pp_model.specs.declared.profile.Profile.{Profile}
-use Rattle.pp_model.specs.Frames.{written}
+use Rattle.pp_model.specs.FrameTexts.{written}
 use Rattle.pp_model.specs.Rules.{NoRuleFails, IsCompact}
 use Rattle.pp_stack.specs.Filters.{load_pruned}
 use Rattle.pp_stack.specs.LoadFinders.{load_finders}

@@ -1,6 +1,6 @@
 use Rattle.std.proofs.Common.{◌-◌, List, length, drop}
 use Rattle.pp_desk.specs.Went.{IsOnWay}
-use Rattle.pp_model.specs.Frames.{Written}
+use Rattle.pp_model.specs.FrameTexts.{Written}
 use Rattle.pp_units.specs.Head.{facts}
 use Rattle.pp_count.specs.Sums.{Seen}
 use Rattle.pp_source.specs.Ledgers.{IsLedgerOf, lines_texts}

@@ -1,6 +1,6 @@
 use Rattle.std.proofs.Common.{◌≡◌, List, length, ap, ◌∙◌, arith, rules}
 use Rattle.std.proofs.lemmas.Result.{err_from_is_err_and}
-use Rattle.pp_model.specs.Frames.{Written}
+use Rattle.pp_model.specs.FrameTexts.{Written}
 use Rattle.pp_units.specs.Head.{facts}
 use Rattle.pp_count.specs.Counted.{has_own_match, report_frames}
 use Rattle.pp_count.specs.Sums.{Seen}

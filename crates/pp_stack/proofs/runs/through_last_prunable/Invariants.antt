@@ -1,7 +1,7 @@
 use Rattle.std.proofs.Common.{◌≡◌, ℕ, ◌<◌, ◌≤◌, false, length, get_or}
 use Rattle.pp_model.specs.declared.frame.Frame.{Frame}
 use Rattle.pp_model.specs.Finders.{Finder, Finders}
-use Rattle.pp_model.specs.Frames.{written}
+use Rattle.pp_model.specs.FrameTexts.{written}
 use Rattle.pp_model.specs.Judged.{judged}
 use Rattle.pp_stack.specs.Runs.{as_wanted}
 use Rattle.pp_stack.specs.Filters.{AreVerdicts, is_prunable}
