@@ -7,8 +7,8 @@ use Rattle.std.proofs.lemmas.List.{map-append, append-nil, length-append, length
 use Rattle.std.proofs.Math.Seq.{get_or-append_seam}
 use Rattle.std.proofs.lemmas.List.Elements.{filter-append}
 use Rattle.std.proofs.lemmas.Slice.Eq.{bytes_eq-Decides}
-use Rattle.pp_merge.specs.FirstSight.{seen_with, distinct, place_of}
-use Rattle.pp_merge.proofs.FirstSightLemmas.{distinct_push}
+use Rattle.pp_model.specs.FirstSight.{seen_with, distinct, place_of}
+use Rattle.pp_model.proofs.FirstSightLemmas.{distinct_push}
 use Rattle.pp_dump.specs.declared.tag_table.TagTable.{TagTable}
 use Rattle.pp_dump.specs.declared.key_table.KeyTable.{KeyTable}
 use Rattle.pp_dump.specs.TagLines.{TagTexts, same_tag, has_key}

@@ -15,8 +15,8 @@ use Rattle.std.proofs.lemmas.List.Sorted.{IsPermutation-map, list_any-IsPermutat
 use Rattle.std.proofs.lemmas.Map.Keys.{IsDistinct-IsPermutation}
 use Rattle.pp_units.specs.Shown.{Shown}
 use Rattle.pp_stack.proofs.ToldLemmas.{filter-map}
-use Rattle.pp_merge.specs.FirstSight.{seen_with, seen_after, distinct, place_of}
-use Rattle.pp_merge.proofs.FirstSightLemmas.{distinct_apart, distinct-map, all-seen_after}
+use Rattle.pp_model.specs.FirstSight.{seen_with, seen_after, distinct, place_of}
+use Rattle.pp_model.proofs.FirstSightLemmas.{distinct_apart, distinct-map, all-seen_after}
 use Rattle.pp_count.specs.Sums.{Seen}
 use Rattle.pp_count.proofs.Renaming.{same_bool}
 use Rattle.pp_count.proofs.EachOnce.{each_once_is}

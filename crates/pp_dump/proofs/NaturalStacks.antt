@@ -19,7 +19,7 @@ use Rattle.pp_count.specs.Seeing.{filtered_stack, seen_samples}
 use Rattle.pp_count.specs.Sums.{Seen}
 use Rattle.pp_merge.specs.Alike.{same_sample}
 use Rattle.pp_merge.specs.Described.{SampleText}
-use Rattle.pp_merge.specs.FirstSight.{distinct}
+use Rattle.pp_model.specs.FirstSight.{distinct}
 use Rattle.pp_merge.specs.Settled.{IsSettled}
 use Rattle.pp_merge.specs.Sums.{counts, keys_of, rows_of, summed, sum_of}
 use Rattle.pp_merge.proofs.MergedTotals.{at_total}

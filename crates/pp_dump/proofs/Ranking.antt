@@ -15,8 +15,8 @@ use Rattle.std.proofs.lemmas.List.{append-nil, take_more, length-map, get_or_def
 use Rattle.std.proofs.lemmas.Grind.{flat_map-append}
 use Rattle.std.proofs.lemmas.List.Elements.{All-get_or}
 use Rattle.pp_grain.proofs.CallerLemmas.{both_equal}
-use Rattle.pp_merge.specs.FirstSight.{place_of}
-use Rattle.pp_merge.proofs.FirstSightLemmas.{distinct_apart}
+use Rattle.pp_model.specs.FirstSight.{place_of}
+use Rattle.pp_model.proofs.FirstSightLemmas.{distinct_apart}
 use Rattle.pp_count.proofs.Renaming.{same_bool}
 use Rattle.pp_dump.specs.declared.tag_table.TagSum.{TagSum}
 use Rattle.pp_dump.specs.TagLines.{TagTexts, bytes_cmp, tag_cmp, same_tag}

@@ -6,7 +6,7 @@ use Rattle.std.proofs.lemmas.List.{length-append, length-set, get_or_append_left
 use Rattle.std.proofs.Math.Seq.{get_or-append_seam}
 use Rattle.std.proofs.lemmas.List.Folds.{position_or_len_push, list_any_at, Any-from_list_any}
 use Rattle.std.proofs.lemmas.List.Sums.{passes_at_first, prefix_len-le-length, fails_before_first}
-use Rattle.pp_merge.specs.FirstSight.{seen_with, place_of}
+use Rattle.pp_model.specs.FirstSight.{seen_with, place_of}
 use Rattle.pp_dump.specs.TagLines.{TagTexts, same_tag}
 use Rattle.pp_dump.proofs.TagNamesLemmas.{tag_decides}
 

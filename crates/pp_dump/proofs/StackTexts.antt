@@ -21,7 +21,7 @@ use Rattle.pp_merge.specs.Described.{MappingText, LineText, LocationText, Sample
 use Rattle.pp_merge.specs.Merge.{all_mappings, merged}
 use Rattle.pp_merge.specs.Settled.{IsSettled}
 use Rattle.pp_merge.specs.Written.{Contents, written as profile_of, locations, location_id, written_location, written_sample}
-use Rattle.pp_merge.proofs.FirstSightLemmas.{IsSeen}
+use Rattle.pp_model.proofs.FirstSightLemmas.{IsSeen}
 use Rattle.pp_merge.proofs.NumberedLemmas.{all_by, all_both}
 use Rattle.pp_merge.proofs.WrittenAgain.{labels_back}
 use Rattle.pp_merge.proofs.WrittenPlaces.{location_there, mapping_there, lines_there, mappings_stay, addresses_small}

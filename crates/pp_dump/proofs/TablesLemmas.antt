@@ -6,8 +6,8 @@ use Rattle.std.proofs.lemmas.List.{map-append, append-nil, get_or_past, get_or_d
 use Rattle.std.proofs.Math.Seq.{get_or-append_seam}
 use Rattle.std.proofs.lemmas.List.Elements.{filter-append}
 use Rattle.std.proofs.lemmas.List.Sums.{fold-append}
-use Rattle.pp_merge.specs.FirstSight.{seen_with, distinct, place_of}
-use Rattle.pp_merge.proofs.FirstSightLemmas.{distinct_push}
+use Rattle.pp_model.specs.FirstSight.{seen_with, distinct, place_of}
+use Rattle.pp_model.proofs.FirstSightLemmas.{distinct_push}
 use Rattle.pp_dump.specs.declared.tag_table.TagSum.{TagSum}
 use Rattle.pp_dump.specs.TagLines.{TagTexts, same_tag}
 use Rattle.pp_dump.specs.Tables.{Event, no_sum, credited, sum_of, events_with, sum_at, IsTable, Padded, had, grew, Credits}

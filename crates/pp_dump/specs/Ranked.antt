@@ -3,7 +3,7 @@ use Rattle.std.specs.Prelude.{◌≡◌, ℕ, ◌<◌, ℤ, pos, nat_abs, false,
 use Rattle.std.specs.Ordering.{nat_cmp, ordering_then}
 use Rattle.std.specs.declared.cmp.Ordering.{Ordering}
 use Rattle.pp_units.specs.Shown.{Shown}
-use Rattle.pp_merge.specs.FirstSight.{distinct, place_of}
+use Rattle.pp_model.specs.FirstSight.{distinct, place_of}
 use Rattle.pp_count.specs.Sums.{Seen}
 use Rattle.pp_dump.specs.declared.tag_table.TagSum.{TagSum}
 use Rattle.pp_dump.specs.declared.tag_table.TagTable.{TagTable}

@@ -3,7 +3,7 @@ use Rattle.std.specs.Prelude.{◌≡◌, ℕ, ◌+◌, ◌<◌, ◌≤◌, ◌==
 use Rattle.std.specs.List.{filter}
 use Rattle.pp_model.specs.declared.profile.Label.{Label}
 use Rattle.pp_model.specs.declared.profile.Profile.{Profile}
-use Rattle.pp_merge.specs.FirstSight.{distinct, place_of}
+use Rattle.pp_model.specs.FirstSight.{distinct, place_of}
 use Rattle.pp_count.specs.Sums.{Seen}
 use Rattle.pp_dump.specs.declared.tag_table.TagSum.{TagSum}
 use Rattle.pp_dump.specs.declared.tag_table.TagTable.{TagTable}

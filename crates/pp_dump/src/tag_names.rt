@@ -24,7 +24,7 @@ impl Model for TagNames {
 
 impl TagNames {
     ghost use Rattle.std.specs.Prelude.{◌≡◌, ◌<◌, [], length, slice_get, Some, IfOk, OnOk};
-    ghost use Rattle.pp_merge.specs.FirstSight.{seen_with, place_of};
+    ghost use Rattle.pp_model.specs.FirstSight.{seen_with, place_of};
     ghost use Rattle.pp_dump.specs.TagLines.{same_tag};
     ghost use Rattle.pp_dump.specs.Names.{name_texts};
 

@@ -1,6 +1,6 @@
 //! Tags in order of first sight, with the sums over the samples that have them.
 ghost use Rattle.std.specs.Prelude.{◌≡◌, List, [], ◌∷◌, ◌++◌, IfOk, OnOk};
-ghost use Rattle.pp_merge.specs.FirstSight.{place_of};
+ghost use Rattle.pp_model.specs.FirstSight.{place_of};
 ghost use Rattle.pp_dump.specs.TagLines.{same_tag};
 ghost use Rattle.pp_dump.specs.Names.{name_texts};
 ghost use Rattle.pp_dump.specs.Tables.{Event, credited, Padded, Credits, IsTableOf};

@@ -15,7 +15,7 @@ use Rattle.pp_model.specs.Lookup.{text_of}
 use Rattle.pp_model.specs.FrameTexts.{Written}
 use Rattle.pp_model.specs.Sizes.{value_in}
 use Rattle.pp_grain.specs.Keys.{key_cmp}
-use Rattle.pp_merge.specs.FirstSight.{distinct}
+use Rattle.pp_model.specs.FirstSight.{distinct}
 use Rattle.pp_merge.specs.Described.{SampleText, location_found, mapping_text, sample_text}
 use Rattle.pp_merge.specs.Alike.{same_sample, first_alike}
 use Rattle.pp_merge.specs.Merge.{all_mappings, all_samples, contents, merged}

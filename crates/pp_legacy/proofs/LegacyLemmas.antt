@@ -16,7 +16,7 @@ use Rattle.pp_legacy.specs.Regions.{Region, code_in, is_line_end, regions}
 use Rattle.pp_legacy.specs.Tables.{addresses_of, sample_of, mapping_of, mappings_of, location_of, locations_of, fixed_texts, texts_of, profile_of}
 use Rattle.pp_legacy.specs.Sizes.{HasAtMost, HasFew}
 use Rattle.pp_legacy.specs.Legacy.{legacy}
-use Rattle.pp_legacy.proofs.FirstSightLemmas.{length-distinct}
+use Rattle.pp_model.proofs.FirstSightLemmas.{length-distinct}
 
 module _ (bytes : List ℕ) where
   -- a fault of the header

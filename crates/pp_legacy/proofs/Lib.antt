@@ -4,7 +4,6 @@ pub mod WordsLemmas
 pub mod RecordLemmas
 pub mod HexLemmas
 pub mod Numbered
-pub mod FirstSightLemmas
 pub mod SampleLemmas
 pub mod HolderLemmas
 pub mod TableRules

@@ -7,10 +7,10 @@ use Rattle.std.proofs.lemmas.Grind.{flat_map-append}
 use Rattle.std.proofs.lemmas.List.{map-append, map_push, append-nil, take_more}
 use Rattle.std.proofs.lemmas.List.Sums.{fold-append}
 use Rattle.pp_model.specs.declared.profile.Sample.{Sample}
-use Rattle.pp_legacy.specs.FirstSight.{seen_with, seen_after, distinct, place_of}
+use Rattle.pp_model.specs.FirstSight.{seen_with, seen_after, distinct, place_of}
 use Rattle.pp_legacy.specs.Records.{Entry}
 use Rattle.pp_legacy.specs.Tables.{addresses_of, location_id, sample_of}
-use Rattle.pp_legacy.proofs.FirstSightLemmas.{IsSeen, all_as, map_agree, all_seen, place-seen_with, place-seen_after, place_when_seen}
+use Rattle.pp_model.proofs.FirstSightLemmas.{IsSeen, all_as, map_agree, all_seen, place-seen_with, place-seen_after, place_when_seen}
 
 -- a number is itself
 pub same_self : (n : ℕ) → nat_eq n n ≡ true

@@ -14,11 +14,11 @@ use Rattle.pp_model.specs.declared.profile.Mapping.{Mapping}
 use Rattle.pp_model.specs.declared.profile.Location.{Location}
 use Rattle.pp_model.specs.declared.profile.Profile.{Profile}
 use Rattle.pp_model.specs.Rules.{NoRuleFails, first_failing, first_repeated, stands_in, is_zero_or_in, is_text_of, mapping_ids, location_ids}
-use Rattle.pp_legacy.specs.FirstSight.{place_of}
+use Rattle.pp_model.specs.FirstSight.{place_of}
 use Rattle.pp_legacy.specs.Records.{Entry}
 use Rattle.pp_legacy.specs.Regions.{Region}
 use Rattle.pp_legacy.specs.Tables.{addresses_of, location_id, sample_of, mapping_of, mappings_of, holds, holder_of, location_of, locations_of, fixed_texts, texts_of, samples_type, cpu_type, profile_of}
-use Rattle.pp_legacy.proofs.FirstSightLemmas.{IsSeen, all_as, all_seen}
+use Rattle.pp_model.proofs.FirstSightLemmas.{IsSeen, all_as, all_seen}
 use Rattle.pp_legacy.proofs.SampleLemmas.{same_self, all_parts}
 
 -- a search for what no item has

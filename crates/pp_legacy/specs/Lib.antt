@@ -3,7 +3,6 @@ pub mod Words
 pub mod Header
 pub mod Records
 pub mod Regions
-pub mod FirstSight
 pub mod Tables
 pub mod Sizes
 pub mod Seen

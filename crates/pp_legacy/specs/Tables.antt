@@ -9,7 +9,7 @@ use Rattle.pp_model.specs.declared.profile.Location.{Location}
 use Rattle.pp_model.specs.declared.profile.Profile.{Profile}
 use Rattle.pp_legacy.specs.Records.{Entry}
 use Rattle.pp_legacy.specs.Regions.{Region}
-use Rattle.pp_legacy.specs.FirstSight.{distinct, place_of}
+use Rattle.pp_model.specs.FirstSight.{distinct, place_of}
 
 -- the addresses of all stacks, each once, in the order of first sight
 abbrev pub addresses_of : List Entry → List ℕ

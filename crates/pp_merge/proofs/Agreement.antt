@@ -1,9 +1,9 @@
 -- Two ways of telling items apart that agree give the same numbers.
 use Rattle.std.proofs.Common.{◌≡◌, ◌+◌, Bool, List, [], ◌∷◌, map, refl, sym, ap, ◌∙◌}
 use Rattle.std.specs.List.{AllByRecursion}
-use Rattle.pp_merge.specs.FirstSight.{distinct, place_of, numbers, ids}
+use Rattle.pp_model.specs.FirstSight.{distinct, place_of, numbers, ids}
 use Rattle.pp_merge.proofs.Prefix.{all_tt}
-use Rattle.pp_merge.proofs.FirstSightLemmas.{all_as, map_agree, distinct-map, place-map, all-seen_after}
+use Rattle.pp_model.proofs.FirstSightLemmas.{all_as, map_agree, distinct-map, place-map, all-seen_after}
 
 pub map_map : {A B C : Type 0} (f : A → B) (g : B → C) (xs : List A) → map g (map f xs) ≡ map (λ x. g (f x)) xs
 map_map f g [] = refl

@@ -8,10 +8,10 @@ use Rattle.std.specs.Cmp.{booleans_Decides}
 use Rattle.std.proofs.lemmas.Option.{none-some, same_Some}
 use Rattle.std.proofs.lemmas.Bool.Decides.{Decides-and, Decides-like, Decides-eqb, Decides-int_eq}
 use Rattle.std.proofs.lemmas.Slice.Eq.{bytes_eq-Decides, slice_eq-Decides}
-use Rattle.pp_merge.specs.FirstSight.{place_of}
+use Rattle.pp_model.specs.FirstSight.{place_of}
 use Rattle.pp_merge.specs.Described.{FunctionText, MappingText, LineText, LocationText, LabelText, SampleText}
 use Rattle.pp_merge.specs.Alike.{same_function, equal_mapping, same_line, same_location, same_label, same_sample}
-use Rattle.pp_merge.proofs.FirstSightLemmas.{IsSeen}
+use Rattle.pp_model.proofs.FirstSightLemmas.{IsSeen}
 
 -- what stands at an item's place is the item
 pub place_gets : {A : Type 0} (same : A → A → Bool) (decides : (a b : A) → Decides (same a b) (a ≡ b)) (seen : List A) (x d : A) → IsSeen same seen x

@@ -5,8 +5,9 @@ use Rattle.std.specs.Cmp.{IsEquivalence}
 use Rattle.std.specs.List.{list_any, IsDistinct}
 use Rattle.std.proofs.lemmas.List.Sums.{position_or_len_is}
 use Rattle.std.proofs.lemmas.Map.Keys.{apart_from_distinct}
-use Rattle.pp_merge.specs.FirstSight.{place_of}
-use Rattle.pp_merge.proofs.FirstSightLemmas.{IsSeen}
+use Rattle.indexmap.proofs.SetLemmas.{set_all_distinct}
+use Rattle.pp_model.specs.FirstSight.{distinct, place_of}
+use Rattle.pp_model.proofs.FirstSightLemmas.{IsSeen}
 
 -- two truth values that follow from each other
 same_truth : (a b : Bool) → (a ≡ true → b ≡ true) → (b ≡ true → a ≡ true) → a ≡ b
@@ -39,3 +40,8 @@ module _ {A : Type 0} (same : A → A → Bool) (decides : (a b : A) → Decides
       by : (b : Bool) → (IsSeen same ys x → place_of same ys x < length ys) → (b || list_any (same x) ys) ≡ true → cond (not b) (1 + place_of same ys x) 0 < length (y ∷ ys)
       by true rest is = omega arith
       by false rest is = omega (arith, rest is)
+
+-- Distinct items stay as they are: making them distinct again changes nothing.
+module _ {A : Type 0} (same : A → A → Bool) (laws : IsEquivalence same) where
+  pub distinct_same : (xs : List A) → IsDistinct same xs → distinct same xs ≡ xs
+  distinct_same xs apart = set_all_distinct laws [] xs apart

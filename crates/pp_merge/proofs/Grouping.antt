@@ -4,9 +4,9 @@ use Rattle.std.proofs.lemmas.List.{map-append, append-nil, get_or-map}
 use Rattle.std.proofs.lemmas.List.Sums.{sum_by-cons}
 use Rattle.std.specs.List.{list_any, All, AllByRecursion, IsDistinct}
 use Rattle.std.specs.Cmp.{IsEquivalence}
-use Rattle.pp_merge.specs.FirstSight.{seen_with, distinct, place_of}
+use Rattle.pp_model.specs.FirstSight.{seen_with, distinct, place_of}
 use Rattle.pp_merge.specs.Sums.{added, total_of, keys_of, rows_of, sum_of, rows_with}
-use Rattle.pp_merge.proofs.FirstSightLemmas.{IsSeen, all_as, map_agree, all_seen, distinct_push}
+use Rattle.pp_model.proofs.FirstSightLemmas.{IsSeen, all_as, map_agree, all_seen, distinct_push}
 use Rattle.pp_merge.proofs.Prefix.{IsNext, next_holds, seen_all, next_weight}
 use Rattle.pp_merge.proofs.SumLemmas.{added-zeros, total_push, length-total_of, abs-total_of, weight}
 

@@ -18,7 +18,7 @@ use Rattle.pp_model.specs.Lookup.{text_number, text_of}
 use Rattle.pp_merge.specs.declared.join.Sizes.{Sizes}
 use Rattle.pp_merge.specs.Behind.{behind_id}
 use Rattle.pp_merge.specs.Ids.{index_of_id}
-use Rattle.pp_merge.specs.FirstSight.{distinct}
+use Rattle.pp_model.specs.FirstSight.{distinct}
 use Rattle.pp_merge.specs.Described.{mapping_text, sample_text, samples_found}
 use Rattle.pp_merge.specs.Alike.{first_alike}
 use Rattle.pp_merge.specs.Header.{header_of, type_text, first_nonempty, greater, earlier}

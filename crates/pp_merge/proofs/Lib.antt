@@ -1,4 +1,3 @@
-pub mod FirstSightLemmas
 pub mod Rows
 pub mod ChangeLemmas
 pub mod WalkLemmas

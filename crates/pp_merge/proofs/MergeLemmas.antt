@@ -28,7 +28,7 @@ use Rattle.pp_merge.specs.Ids.{place_id}
 use Rattle.pp_merge.specs.Header.{type_text}
 use Rattle.pp_merge.specs.Alike.{same_sample}
 use Rattle.pp_merge.specs.Sums.{counts, keys_of, sum_of, rows_of, summed}
-use Rattle.pp_merge.specs.FirstSight.{distinct}
+use Rattle.pp_model.specs.FirstSight.{distinct}
 use Rattle.pp_merge.specs.Described.{SampleText}
 use Rattle.pp_merge.specs.Merge.{same_type, has_types_of, has_period_type_of, difference, disagreeing, too_large, all_samples, contents, merged, Merges}
 use Rattle.pp_merge.specs.Written.{FitsTypes, written}

@@ -12,7 +12,7 @@ use Rattle.pp_model.specs.declared.profile.Sample.{Sample}
 use Rattle.pp_model.specs.declared.profile.Profile.{Profile}
 use Rattle.pp_model.specs.Lookup.{text_of}
 use Rattle.pp_model.specs.Sizes.{value_in, absolute_sum}
-use Rattle.pp_merge.specs.FirstSight.{distinct}
+use Rattle.pp_model.specs.FirstSight.{distinct}
 use Rattle.pp_merge.specs.Described.{SampleText, location_found, sample_text, samples_found}
 use Rattle.pp_merge.specs.Alike.{same_sample, first_alike}
 use Rattle.pp_merge.specs.Merge.{all_mappings, all_samples, contents, merged}
@@ -21,7 +21,7 @@ use Rattle.pp_merge.specs.Totals.{value_sum, value_sums}
 use Rattle.pp_merge.specs.Written.{written_sample}
 use Rattle.pp_merge.proofs.Deciding.{sample_decides}
 use Rattle.pp_merge.proofs.DistinctLemmas.{deciding_laws}
-use Rattle.pp_merge.proofs.FirstSightLemmas.{IsSeen, all_seen, distinct_apart}
+use Rattle.pp_model.proofs.FirstSightLemmas.{IsSeen, all_seen, distinct_apart}
 use Rattle.pp_merge.proofs.NumberedLemmas.{all_by, all_mapped}
 use Rattle.pp_merge.proofs.SettledLemmas.{all_flat, all_filtered, all_unmapped, all_any}
 use Rattle.pp_merge.proofs.SumLemmas.{length-added, get_or-added, abs-total_of}

@@ -4,11 +4,11 @@ use Rattle.std.specs.Prelude.{◌==◌}
 use Rattle.std.specs.List.{list_any}
 use Rattle.std.proofs.lemmas.Bool.{eq-eqb, cases_eq, cases_lt, cond-false, ne_eqb}
 use Rattle.std.proofs.lemmas.List.{get_or-set_same, get_or-set_other, get_or-replicate, get_or_past, length-replicate}
-use Rattle.pp_merge.specs.FirstSight.{seen_with, place_of}
+use Rattle.pp_model.specs.FirstSight.{seen_with, place_of}
 use Rattle.pp_merge.specs.Walk.{met_with}
 use Rattle.pp_merge.specs.Ids.{place_id}
 use Rattle.pp_merge.specs.MetPlaces.{HoldsPlaces}
-use Rattle.pp_merge.proofs.FirstSightLemmas.{seen-seen_with, place-seen_with, place_when_seen, seen_now}
+use Rattle.pp_model.proofs.FirstSightLemmas.{seen-seen_with, place-seen_with, place_when_seen, seen_now}
 
 abbrev pub same : ℕ → ℕ → Bool
 same a b = a == b

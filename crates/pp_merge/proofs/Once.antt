@@ -10,9 +10,9 @@ use Rattle.std.proofs.lemmas.List.{length-map, get_or-map}
 use Rattle.std.proofs.lemmas.List.Elements.{All-from_recursion}
 use Rattle.std.proofs.lemmas.Option.{slice_get-get_or, slice_get_past}
 use Rattle.pp_model.specs.Lookup.{place_read}
-use Rattle.pp_merge.specs.FirstSight.{seen_after, distinct, place_of, numbers, ids}
+use Rattle.pp_model.specs.FirstSight.{seen_after, distinct, place_of, numbers, ids}
 use Rattle.pp_merge.specs.Ids.{listed_id}
-use Rattle.pp_merge.proofs.FirstSightLemmas.{IsSeen, all_seen, all_as}
+use Rattle.pp_model.proofs.FirstSightLemmas.{IsSeen, all_seen, all_as}
 use Rattle.pp_merge.proofs.Deciding.{place_gets}
 use Rattle.pp_merge.proofs.Tables.{Names, IsRef, read_named, read_none, ids_tell}
 

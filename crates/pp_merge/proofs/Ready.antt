@@ -13,7 +13,7 @@ use Rattle.pp_model.specs.declared.profile.Function.{Function}
 use Rattle.pp_model.specs.declared.profile.Profile.{Profile}
 use Rattle.pp_model.specs.Lookup.{text_number, text_of}
 use Rattle.pp_merge.specs.Alike.{same_function, equal_mapping, same_location}
-use Rattle.pp_merge.specs.FirstSight.{distinct}
+use Rattle.pp_model.specs.FirstSight.{distinct}
 use Rattle.pp_merge.specs.Placed.{functions_of, mappings_of, locations_of}
 use Rattle.pp_merge.proofs.Tables.{Names, IsRef}
 

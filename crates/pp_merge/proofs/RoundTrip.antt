@@ -8,7 +8,7 @@ use Rattle.std.proofs.lemmas.Slice.Eq.{bytes_eq-Decides}
 use Rattle.pp_merge.specs.Described.{FunctionText, function_text}
 use Rattle.pp_model.specs.Lookup.{text_of}
 use Rattle.pp_merge.specs.Written.{Contents, written, texts, walked_texts, index_of, written_function}
-use Rattle.pp_merge.proofs.FirstSightLemmas.{IsSeen, all_seen}
+use Rattle.pp_model.proofs.FirstSightLemmas.{IsSeen, all_seen}
 use Rattle.pp_merge.proofs.Deciding.{place_gets}
 
 module _ (c : Contents) where

@@ -16,7 +16,7 @@ use Rattle.pp_model.specs.declared.profile.Mapping.{Mapping}
 use Rattle.pp_model.specs.declared.profile.Location.{Location}
 use Rattle.pp_model.specs.declared.profile.Profile.{Profile}
 use Rattle.pp_model.specs.Lookup.{text_of, location_with}
-use Rattle.pp_merge.specs.FirstSight.{distinct}
+use Rattle.pp_model.specs.FirstSight.{distinct}
 use Rattle.pp_merge.specs.Described.{MappingText, LocationText, SampleText, function_found, mapping_text, mapping_found, location_text, location_found, sample_text, samples_found, less, nowhere}
 use Rattle.pp_merge.specs.Alike.{same_mapping, equal_mapping, same_location, same_sample, first_alike}
 use Rattle.pp_merge.specs.Header.{type_text}
@@ -24,7 +24,7 @@ use Rattle.pp_merge.specs.Merge.{all_mappings, all_samples, contents}
 use Rattle.pp_merge.specs.Settled.{IsSettled}
 use Rattle.pp_merge.specs.Sums.{counts, keys_of, rows_of, summed, sum_of}
 use Rattle.pp_merge.specs.Written.{locations, mappings}
-use Rattle.pp_merge.proofs.FirstSightLemmas.{all-seen_after, distinct_apart}
+use Rattle.pp_model.proofs.FirstSightLemmas.{all-seen_after, distinct_apart}
 use Rattle.pp_merge.proofs.Deciding.{mapping_decides, sample_decides}
 use Rattle.pp_merge.proofs.DistinctLemmas.{deciding_laws}
 use Rattle.pp_merge.proofs.MergedMapping.{mapping_laws, IsFound, find_congr, alike_tells}

@@ -9,7 +9,7 @@ use Rattle.std.proofs.lemmas.List.Elements.{All-map}
 use Rattle.pp_model.specs.declared.profile.Sample.{Sample}
 use Rattle.pp_model.specs.declared.profile.Profile.{Profile}
 use Rattle.pp_model.specs.Sizes.{value_in}
-use Rattle.pp_merge.specs.FirstSight.{ids}
+use Rattle.pp_model.specs.FirstSight.{ids}
 use Rattle.pp_merge.specs.Header.{header_of}
 use Rattle.pp_merge.specs.Placed.{gist, plain, totalled, samples_placed, mappings_of}
 use Rattle.pp_merge.specs.Alike.{first_alike}
@@ -20,7 +20,7 @@ use Rattle.pp_merge.specs.PlaceKeys.{same_place}
 use Rattle.pp_merge.specs.Share.{NamesLocations, IsJoined, with_comments_once, with_samples_once}
 use Rattle.pp_merge.specs.Walked.{walked_texts_of, walked}
 use Rattle.pp_merge.proofs.Prefix.{all_tt}
-use Rattle.pp_merge.proofs.FirstSightLemmas.{distinct_apart}
+use Rattle.pp_model.proofs.FirstSightLemmas.{distinct_apart}
 use Rattle.pp_merge.proofs.SampleKeyLemmas.{all_of_map, sum_by-map}
 use Rattle.pp_merge.proofs.Tables.{Names}
 use Rattle.pp_merge.proofs.Lists.{all_mapped}

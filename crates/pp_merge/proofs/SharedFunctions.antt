@@ -14,7 +14,7 @@ use Rattle.pp_model.specs.declared.profile.Line.{Line}
 use Rattle.pp_model.specs.declared.profile.Function.{Function}
 use Rattle.pp_model.specs.declared.profile.Profile.{Profile}
 use Rattle.pp_model.specs.Lookup.{text_number, text_of, place_read}
-use Rattle.pp_merge.specs.FirstSight.{distinct, ids}
+use Rattle.pp_model.specs.FirstSight.{distinct, ids}
 use Rattle.pp_merge.specs.Ids.{listed_id}
 use Rattle.pp_merge.specs.Described.{MappingText, function_text, location_text, sample_text, nowhere}
 use Rattle.pp_merge.specs.Alike.{same_function, first_alike}
@@ -23,7 +23,8 @@ use Rattle.pp_merge.specs.Placed.{functions_of, mappings_of, function_placed, ma
 use Rattle.pp_merge.specs.Renumbered.{renumbered_location, renumbered_line}
 use Rattle.pp_merge.specs.Shared.{by_functions, alike_functions, with_shared_functions}
 use Rattle.pp_merge.proofs.Prefix.{all_tt}
-use Rattle.pp_merge.proofs.FirstSightLemmas.{distinct-map, all-seen_after, distinct_apart, distinct_same}
+use Rattle.pp_model.proofs.FirstSightLemmas.{distinct-map, all-seen_after, distinct_apart}
+use Rattle.pp_merge.proofs.DistinctLemmas.{distinct_same}
 use Rattle.pp_merge.proofs.Agreement.{numbers-map}
 use Rattle.pp_merge.proofs.Deciding.{function_decides}
 use Rattle.pp_merge.proofs.Tables.{IsRef, places_tell}

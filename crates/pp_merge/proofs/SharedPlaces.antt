@@ -18,7 +18,7 @@ use Rattle.pp_model.specs.declared.profile.Profile.{Profile}
 use Rattle.pp_model.specs.Conditions.{no_location}
 use Rattle.pp_model.specs.Lookup.{text_of, place_read}
 use Rattle.pp_merge.specs.declared.ids.Ids.TheVariants.{By}
-use Rattle.pp_merge.specs.FirstSight.{distinct, place_of, ids}
+use Rattle.pp_model.specs.FirstSight.{distinct, place_of, ids}
 use Rattle.pp_merge.specs.Ids.{listed_id}
 use Rattle.pp_merge.specs.Described.{FunctionText, MappingText, LocationText, less, plus, start_of, function_text, mapping_text, line_text, location_text, sample_text, nowhere}
 use Rattle.pp_merge.specs.Alike.{same_function, same_mapping, equal_mapping, same_line, same_location, identity, first_alike}
@@ -27,7 +27,7 @@ use Rattle.pp_merge.specs.Placed.{functions_of, mappings_of, function_placed, ma
 use Rattle.pp_merge.specs.PlaceKeys.{mapping_key, start_at, distant, near, equal_line, same_place}
 use Rattle.pp_merge.specs.Renumbered.{renumbered_sample, renumbered_label}
 use Rattle.pp_merge.specs.Shared.{by_locations, alike_mappings, distant_locations, with_shared_places}
-use Rattle.pp_merge.proofs.FirstSightLemmas.{distinct-map, all-seen_after, distinct_apart}
+use Rattle.pp_model.proofs.FirstSightLemmas.{distinct-map, all-seen_after, distinct_apart}
 use Rattle.pp_merge.proofs.Agreement.{map_map, numbers-map}
 use Rattle.pp_merge.proofs.Deciding.{function_decides, mapping_decides, location_decides}
 use Rattle.pp_merge.proofs.MergedMapping.{mapping_laws}

@@ -11,14 +11,14 @@ use Rattle.std.proofs.lemmas.List.{length-map}
 use Rattle.pp_model.specs.declared.profile.Label.{Label}
 use Rattle.pp_model.specs.declared.profile.Profile.{Profile}
 use Rattle.pp_model.specs.Lookup.{text_of}
-use Rattle.pp_merge.specs.FirstSight.{distinct}
+use Rattle.pp_model.specs.FirstSight.{distinct}
 use Rattle.pp_merge.specs.Described.{LocationText, SampleText, label_text, sample_text, location_text, nowhere}
 use Rattle.pp_merge.specs.Alike.{same_location, same_label, same_sample}
 use Rattle.pp_merge.specs.Header.{header_of}
 use Rattle.pp_merge.specs.Placed.{function_placed, mapping_placed, locations_of, location_placed, plain, totalled}
 use Rattle.pp_merge.specs.Sums.{counts, keys_of, sum_of, summed}
 use Rattle.pp_merge.specs.SampleKeys.{sample_item, sample_of, equal_label, same_stack, summed_samples}
-use Rattle.pp_merge.proofs.FirstSightLemmas.{all-seen_after}
+use Rattle.pp_model.proofs.FirstSightLemmas.{all-seen_after}
 use Rattle.pp_merge.proofs.Agreement.{map_map}
 use Rattle.pp_merge.proofs.Deciding.{location_decides}
 use Rattle.pp_merge.proofs.SummedLemmas.{summed-map}

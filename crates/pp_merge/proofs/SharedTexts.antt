@@ -12,7 +12,7 @@ use Rattle.std.proofs.lemmas.Slice.Eq.{bytes_eq-Decides}
 use Rattle.pp_model.specs.declared.profile.ValueType.{ValueType}
 use Rattle.pp_model.specs.declared.profile.Profile.{Profile}
 use Rattle.pp_model.specs.Lookup.{text_number, text_of, place_read}
-use Rattle.pp_merge.specs.FirstSight.{distinct, place_of, ids}
+use Rattle.pp_model.specs.FirstSight.{distinct, place_of, ids}
 use Rattle.pp_merge.specs.Ids.{listed_id, index_of_id}
 use Rattle.pp_merge.specs.Described.{MappingText, function_text, mapping_text, location_text, sample_text, nowhere}
 use Rattle.pp_merge.specs.Alike.{first_alike}
@@ -21,7 +21,7 @@ use Rattle.pp_merge.specs.Placed.{functions_of, mappings_of, function_placed, ma
 use Rattle.pp_merge.specs.Renumbered.{NewIds, renumbered_function, renumbered_mapping, renumbered_location, renumbered_sample, renumbered_type}
 use Rattle.pp_merge.specs.Shared.{by_texts, with_shared_texts}
 use Rattle.pp_merge.proofs.Prefix.{all_tt}
-use Rattle.pp_merge.proofs.FirstSightLemmas.{length-distinct}
+use Rattle.pp_model.proofs.FirstSightLemmas.{length-distinct}
 use Rattle.pp_merge.proofs.Deciding.{place_gets}
 use Rattle.pp_merge.proofs.WalkedLemmas.{index_next}
 use Rattle.pp_merge.proofs.Lists.{all_mapped}

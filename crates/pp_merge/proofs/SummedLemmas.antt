@@ -2,9 +2,10 @@
 use Rattle.std.proofs.Common.{◌≡◌, ℕ, Bool, true, false, ◌||◌, ℤ, List, [], ◌∷◌, length, map, filter, refl, sym, ap, ◌∙◌, if◌then◌else◌}
 use Rattle.std.specs.List.{list_any, AllByRecursion, IsDistinct}
 use Rattle.std.specs.Cmp.{IsEquivalence}
-use Rattle.pp_merge.specs.FirstSight.{distinct}
+use Rattle.pp_model.specs.FirstSight.{distinct}
 use Rattle.pp_merge.specs.Sums.{total_of, keys_of, rows_of, sum_of, summed}
-use Rattle.pp_merge.proofs.FirstSightLemmas.{all_as, map_agree, distinct-map, distinct_same, all-seen_after}
+use Rattle.pp_model.proofs.FirstSightLemmas.{all_as, map_agree, distinct-map, all-seen_after}
+use Rattle.pp_merge.proofs.DistinctLemmas.{distinct_same}
 use Rattle.pp_merge.proofs.SumLemmas.{added-zeros}
 use Rattle.pp_merge.proofs.Agreement.{map_map}
 use Rattle.pp_merge.proofs.Grouping.{no_rows}

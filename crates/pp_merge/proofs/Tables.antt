@@ -10,11 +10,11 @@ use Rattle.std.proofs.lemmas.List.Elements.{All-from_recursion}
 use Rattle.std.proofs.lemmas.Map.Keys.{IsDistinct-head}
 use Rattle.std.proofs.lemmas.Option.{slice_get-get_or, slice_get-map}
 use Rattle.pp_model.specs.Lookup.{place_read}
-use Rattle.pp_merge.specs.FirstSight.{seen_with, seen_after, distinct, place_of}
+use Rattle.pp_model.specs.FirstSight.{seen_with, seen_after, distinct, place_of}
 use Rattle.pp_merge.specs.Ids.{place_id}
 use Rattle.pp_merge.specs.Walk.{met_after}
 use Rattle.pp_merge.specs.Gathered.{gathered}
-use Rattle.pp_merge.proofs.FirstSightLemmas.{distinct-map, place-map, all-seen_after}
+use Rattle.pp_model.proofs.FirstSightLemmas.{distinct-map, place-map, all-seen_after}
 
 -- ids compared
 abbrev pub same_id : ℕ → ℕ → Bool

@@ -8,7 +8,7 @@ use Rattle.std.proofs.Math.IntN.{+ℤ_idl, +ℤ_assoc, +ℤ_comm}
 use Rattle.pp_merge.proofs.NumberedLemmas.{all_by}
 use Rattle.pp_merge.specs.Sums.{rows_of}
 use Rattle.pp_merge.proofs.DistinctLemmas.{deciding_laws}
-use Rattle.pp_merge.proofs.FirstSightLemmas.{IsSeen}
+use Rattle.pp_model.proofs.FirstSightLemmas.{IsSeen}
 
 -- Numbers that are added, in any order.
 pub record Adding (M : Type 0) : Type 0 where

@@ -23,7 +23,7 @@ use Rattle.pp_model.specs.Lookup.{text_number, text_of, place_read}
 use Rattle.pp_merge.specs.Described.{FunctionText, MappingText, LocationText, less, plus, function_text, mapping_text, line_text, location_text, label_text, sample_text, nowhere}
 use Rattle.pp_merge.specs.Alike.{same_function, equal_mapping, same_location}
 use Rattle.pp_merge.specs.Header.{type_text, first_nonempty}
-use Rattle.pp_merge.specs.FirstSight.{distinct, place_of}
+use Rattle.pp_model.specs.FirstSight.{distinct, place_of}
 use Rattle.pp_merge.specs.Ids.{place_id, index_of_id}
 use Rattle.pp_merge.specs.Walk.{met_after, location_refs, mapping_ref, function_refs, text_ids, type_text_ids, label_text_ids, sample_text_ids, mapping_text_ids, function_text_ids, header_text_ids, profile_text_ids}
 use Rattle.pp_merge.specs.Gathered.{gathered, location_entry, mapping_entry, function_entry}

@@ -14,7 +14,7 @@ use Rattle.pp_model.specs.declared.profile.Function.{Function}
 use Rattle.pp_model.specs.Rules.{AreNumbered}
 use Rattle.pp_model.specs.Lookup.{text_of}
 use Rattle.pp_model.proofs.CompactLemmas.{find_numbered, find_by_place}
-use Rattle.pp_merge.specs.FirstSight.{distinct, place_of, seen_after}
+use Rattle.pp_model.specs.FirstSight.{distinct, place_of, seen_after}
 use Rattle.pp_merge.specs.Described.{FunctionText, MappingText, LineText, LocationText, LabelText, function_text, mapping_text, function_found, mapping_found, line_text, label_text, less, plus, start_of, location_text, location_found, nowhere, sample_text, samples_found}
 use Rattle.pp_merge.specs.Alike.{same_function, same_mapping, equal_mapping, same_location, same_sample, first_alike}
 use Rattle.pp_merge.specs.Header.{TypeText, type_text, header_of, first_nonempty}
@@ -22,9 +22,9 @@ use Rattle.pp_merge.specs.Merge.{contents, all_mappings, all_samples}
 use Rattle.pp_merge.specs.Settled.{IsSettled}
 use Rattle.pp_merge.specs.Sums.{counts, summed}
 use Rattle.pp_merge.specs.Written.{Contents, written, locations, mappings, functions, type_texts, label_texts, index_of, mapping_id, function_id, location_id, written_type, written_label, written_mapping, written_function, written_line, written_location, written_sample}
-use Rattle.pp_merge.proofs.FirstSightLemmas.{IsSeen, distinct_same}
+use Rattle.pp_model.proofs.FirstSightLemmas.{IsSeen}
 use Rattle.pp_merge.proofs.Deciding.{function_decides, mapping_decides, location_decides, sample_decides, place_gets}
-use Rattle.pp_merge.proofs.DistinctLemmas.{deciding_laws, place_below}
+use Rattle.pp_merge.proofs.DistinctLemmas.{deciding_laws, place_below, distinct_same}
 use Rattle.pp_merge.proofs.MergedMapping.{mapping_laws}
 use Rattle.pp_merge.proofs.SummedLemmas.{summed_same}
 use Rattle.pp_merge.proofs.NumberedLemmas.{all_by, all_both}

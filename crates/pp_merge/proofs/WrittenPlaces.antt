@@ -14,7 +14,7 @@ use Rattle.pp_merge.specs.Settled.{IsSettled}
 use Rattle.pp_merge.specs.Written.{Contents, written, locations, mappings, location_id, written_mapping, written_location}
 use Rattle.pp_merge.proofs.Deciding.{mapping_decides, location_decides}
 use Rattle.pp_merge.proofs.DistinctLemmas.{deciding_laws}
-use Rattle.pp_merge.proofs.FirstSightLemmas.{IsSeen, all_seen}
+use Rattle.pp_model.proofs.FirstSightLemmas.{IsSeen, all_seen}
 use Rattle.pp_merge.proofs.NumberedLemmas.{all_by, all_both, all_mapped}
 use Rattle.pp_merge.proofs.RoundTrip.{IsText}
 use Rattle.pp_merge.proofs.SettledLemmas.{all_any, all_distinct, found_holds, settled_contents}

@@ -7,7 +7,7 @@ use Rattle.std.specs.Int.{saturate_to_bits}
 use Rattle.std.specs.Str.{bytes_eq}
 use Rattle.pp_model.specs.declared.profile.ValueType.{ValueType}
 use Rattle.pp_model.specs.declared.profile.Profile.{Profile}
-use Rattle.pp_merge.specs.FirstSight.{distinct}
+use Rattle.pp_model.specs.FirstSight.{distinct}
 use Rattle.pp_model.specs.Lookup.{text_of}
 
 -- What a column counts, and its unit.

@@ -1,4 +1,3 @@
-pub mod FirstSight
 pub mod MetPlaces
 pub mod Described
 pub mod Alike

@@ -5,7 +5,7 @@ use Rattle.std.specs.Int.{saturate_to_bits}
 use Rattle.std.specs.Ordering.{int_eq}
 use Rattle.pp_model.specs.declared.profile.Sample.{Sample}
 use Rattle.pp_model.specs.declared.profile.Profile.{Profile}
-use Rattle.pp_merge.specs.FirstSight.{distinct}
+use Rattle.pp_model.specs.FirstSight.{distinct}
 use Rattle.pp_merge.specs.SampleKeys.{summed_samples}
 
 -- the sample's locations are some of n

@@ -10,7 +10,7 @@ use Rattle.pp_model.specs.declared.profile.Profile.{Profile}
 use Rattle.pp_model.specs.Lookup.{text_number}
 use Rattle.pp_merge.specs.declared.ids.Ids.TheVariants.{By}
 use Rattle.pp_merge.specs.Ids.{listed_id, index_of_id}
-use Rattle.pp_merge.specs.FirstSight.{distinct, ids}
+use Rattle.pp_model.specs.FirstSight.{distinct, ids}
 use Rattle.pp_merge.specs.PlaceKeys.{mapping_key, distant, near, same_place}
 use Rattle.pp_merge.specs.Renumbered.{NewIds, renumbered, renumbered_location, renumbered_sample}
 

@@ -2,7 +2,7 @@
 use Rattle.std.specs.Prelude.{ℕ, Bool, true, false, ◌++◌, slice_set, slice_index_or, not, ℤ, ◌+ℤ◌, pos, List, [], ◌∷◌, map, fold, filter, replicate}
 use Rattle.std.specs.Ordering.{int_eq}
 use Rattle.std.specs.List.{list_all}
-use Rattle.pp_merge.specs.FirstSight.{distinct}
+use Rattle.pp_model.specs.FirstSight.{distinct}
 
 -- two rows of values added up, column by column
 abbrev pub added : List ℤ → List ℤ → List ℤ

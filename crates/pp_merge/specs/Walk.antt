@@ -9,7 +9,7 @@ use Rattle.pp_model.specs.declared.profile.Location.{Location}
 use Rattle.pp_model.specs.declared.profile.Function.{Function}
 use Rattle.pp_model.specs.declared.profile.Profile.{Profile}
 use Rattle.pp_model.specs.Lookup.{text_number}
-use Rattle.pp_merge.specs.FirstSight.{seen_with}
+use Rattle.pp_model.specs.FirstSight.{seen_with}
 
 -- the ids met, after one more; 0 is none
 abbrev pub met_with : List ℕ → ℕ → List ℕ

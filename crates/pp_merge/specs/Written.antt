@@ -11,7 +11,7 @@ use Rattle.pp_model.specs.declared.profile.Line.{Line}
 use Rattle.pp_model.specs.declared.profile.Location.{Location}
 use Rattle.pp_model.specs.declared.profile.Function.{Function}
 use Rattle.pp_model.specs.declared.profile.Profile.{Profile}
-use Rattle.pp_merge.specs.FirstSight.{distinct, place_of}
+use Rattle.pp_model.specs.FirstSight.{distinct, place_of}
 use Rattle.pp_merge.specs.Described.{FunctionText, MappingText, LineText, LocationText, LabelText, SampleText, plus}
 use Rattle.pp_merge.specs.Alike.{same_function, equal_mapping, same_location}
 use Rattle.pp_merge.specs.Header.{TypeText, HeaderText}

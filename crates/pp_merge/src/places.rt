@@ -1,6 +1,6 @@
 //! Mappings and locations that stand once.
 ghost use Rattle.std.specs.Prelude.{◌≡◌, map, IfOk};
-ghost use Rattle.pp_merge.specs.FirstSight.{distinct, ids};
+ghost use Rattle.pp_model.specs.FirstSight.{distinct, ids};
 ghost use Rattle.pp_merge.specs.Shared.{with_shared_places, by_locations};
 ghost use Rattle.pp_merge.specs.Renumbered.{renumbered_sample};
 ghost use Rattle.pp_merge.specs.PlaceKeys.{mapping_key, start_at, distant, near, same_place, place_of_key};

@@ -3,7 +3,7 @@ ghost use Rattle.std.specs.Prelude.{◌≡◌, ℕ, ◌-◌, ◌^◌, ◌<◌, �
 ghost use Rattle.std.specs.List.{sum_by};
 ghost use Rattle.std.specs.Ordering.{int_eq};
 ghost use Rattle.pp_model.specs.Sizes.{value_in};
-ghost use Rattle.pp_merge.specs.FirstSight.{distinct};
+ghost use Rattle.pp_model.specs.FirstSight.{distinct};
 ghost use Rattle.pp_merge.specs.Placed.{gist, totalled};
 ghost use Rattle.pp_merge.specs.Written.{written};
 ghost use Rattle.pp_merge.specs.SampleKeys.{summed_samples};

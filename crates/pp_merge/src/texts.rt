@@ -1,7 +1,7 @@
 //! Texts that stand once.
 ghost use Rattle.std.specs.Prelude.{◌≡◌, map, IfOk};
 ghost use Rattle.std.specs.Str.{bytes_eq};
-ghost use Rattle.pp_merge.specs.FirstSight.{distinct, ids};
+ghost use Rattle.pp_model.specs.FirstSight.{distinct, ids};
 ghost use Rattle.pp_merge.specs.Shared.{with_shared_texts};
 
 use crate::first_sight::number_each;

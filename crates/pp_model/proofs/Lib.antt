@@ -1,5 +1,6 @@
 pub mod CompactLemmas
 pub mod ConfigLemmas
+pub mod FirstSightLemmas
 pub mod FrameLemmas
 pub mod LoadedLemmas
 pub mod LookupLemmas

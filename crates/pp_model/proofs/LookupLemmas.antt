@@ -16,11 +16,11 @@ use Rattle.pp_model.specs.Frames.{line_at, function_at}
 use Rattle.pp_model.proofs.CompactLemmas.{find_by_place}
 
 -- nothing but zeros
-no_function : Function
+pub no_function : Function
 no_function = record { id = 0; name = pos 0; system_name = pos 0; filename = pos 0; start_line = pos 0 }
 
 -- nothing but zeros
-no_mapping : Mapping
+pub no_mapping : Mapping
 no_mapping = record {
   id = 0;
   start = 0;

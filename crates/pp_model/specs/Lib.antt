@@ -2,6 +2,7 @@ pub mod Changes
 pub mod Conditions
 pub mod Defaults
 pub mod Finders
+pub mod FirstSight
 pub mod FrameTexts
 pub mod Frames
 pub mod Judged

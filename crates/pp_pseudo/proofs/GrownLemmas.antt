@@ -23,39 +23,21 @@ use Rattle.pp_model.proofs.RuleLemmas.{passes, contains_from}
 use Rattle.pp_model.proofs.CompactLemmas.{find_by_place, id_at, place_of}
 use Rattle.pp_merge.specs.Described.{FunctionText, MappingText, LocationText, SampleText, less, start_of, function_text, mapping_text, function_found, mapping_found, line_text, label_text}
 use Rattle.pp_merge.specs.Alike.{first_alike}
-use Rattle.pp_merge.specs.FirstSight.{distinct}
+use Rattle.pp_model.specs.FirstSight.{distinct}
 use Rattle.pp_merge.specs.Header.{type_text, header_of, first_nonempty}
 use Rattle.std.specs.Str.{bytes_eq}
 use Rattle.pp_merge.specs.Merge.{all_mappings}
-use Rattle.pp_merge.proofs.FirstSightLemmas.{map_agree}
+use Rattle.pp_model.proofs.FirstSightLemmas.{map_agree}
 use Rattle.pp_merge.proofs.NumberedLemmas.{all_by, all_mapped, all_pass, nowhere, nonzero, unrepeated, stands_at}
 use Rattle.pp_merge.proofs.NegatedLemmas.{still_valid}
 use Rattle.pp_merge.proofs.Prefix.{map_same}
 use Rattle.pp_restack.specs.Stacks.{made_contents, patternless}
 use Rattle.pp_restack.specs.Places.{HasTables, line_location, located}
+use Rattle.pp_model.proofs.LookupLemmas.{no_function, no_mapping}
 use Rattle.pp_restack.proofs.CutValid.{held, first_text, text_zero}
 use Rattle.pp_restack.proofs.Placing.{all_append}
 use Rattle.pp_pseudo.specs.Grown.{name_id, name_function, name_functions, name_line, grown}
 use Rattle.pp_pseudo.specs.WithTags.{tag_function, tag_location}
-
--- what stands for no function
-no_function : Function
-no_function = record { id = 0; name = pos 0; system_name = pos 0; filename = pos 0; start_line = pos 0 }
-
--- what stands for no mapping
-no_mapping : Mapping
-no_mapping = record {
-  id = 0;
-  start = 0;
-  limit = 0;
-  offset = 0;
-  file = pos 0;
-  build_id = pos 0;
-  has_functions = false;
-  has_filenames = false;
-  has_line_numbers = false;
-  has_inline_frames = false;
-}
 
 -- ids that are places plus 1, and further ones
 numbered_with : (ids more : List ℕ) → AreNumbered ids → ((k : ℕ) → k < length more → slice_index_or more k 0 ≡ length ids + k + 1) → AreNumbered (ids ++ more)

@@ -28,7 +28,7 @@ use Rattle.pp_merge.specs.Settled.{IsSettled}
 use Rattle.pp_merge.specs.Totals.{value_sum, sum_passing}
 use Rattle.pp_merge.specs.Written.{Contents, written, locations, location_id, written_location, written_sample}
 use Rattle.pp_merge.proofs.Deciding.{sample_decides}
-use Rattle.pp_merge.proofs.FirstSightLemmas.{IsSeen}
+use Rattle.pp_model.proofs.FirstSightLemmas.{IsSeen}
 use Rattle.pp_merge.proofs.KeptSums.{sum_stays}
 use Rattle.pp_merge.proofs.NumberedLemmas.{all_front, all_behind, all_by, all_mapped}
 use Rattle.pp_merge.proofs.WrittenPlaces.{location_there, lines_there}

@@ -11,7 +11,7 @@ use Rattle.pp_model.specs.Finders.{Finders}
 use Rattle.pp_count.specs.Seeing.{filtered_stack}
 use Rattle.pp_merge.specs.Alike.{same_sample, same_location}
 use Rattle.pp_merge.specs.Described.{LocationText, SampleText}
-use Rattle.pp_merge.specs.FirstSight.{distinct}
+use Rattle.pp_model.specs.FirstSight.{distinct}
 use Rattle.pp_merge.specs.Sums.{counts, keys_of, rows_of, summed, sum_of}
 use Rattle.pp_merge.specs.Written.{Contents, locations}
 use Rattle.pp_merge.proofs.NumberedLemmas.{all_mapped}

@@ -11,7 +11,7 @@ use Rattle.pp_model.specs.Finders.{Finders}
 use Rattle.pp_model.specs.Lookup.{text_of}
 use Rattle.pp_merge.specs.Alike.{equal_mapping, first_alike}
 use Rattle.pp_merge.specs.Described.{MappingText, LocationText, mapping_text}
-use Rattle.pp_merge.specs.FirstSight.{distinct, seen_after}
+use Rattle.pp_model.specs.FirstSight.{distinct, seen_after}
 use Rattle.pp_merge.specs.Header.{HeaderText, header_of}
 use Rattle.pp_merge.specs.Merge.{all_mappings, merged}
 use Rattle.pp_merge.specs.Written.{Contents, written, written_mapping, mappings, locations}

@@ -17,7 +17,7 @@ use Rattle.pp_model.specs.declared.profile.Profile.{Profile}
 use Rattle.pp_model.specs.Finders.{Finders}
 use Rattle.pp_merge.specs.Alike.{same_mapping, equal_mapping, same_sample}
 use Rattle.pp_merge.specs.Described.{MappingText, LocationText, SampleText, mapping_text, mapping_found, less}
-use Rattle.pp_merge.specs.FirstSight.{distinct}
+use Rattle.pp_model.specs.FirstSight.{distinct}
 use Rattle.pp_merge.specs.Header.{type_text}
 use Rattle.pp_merge.specs.Merge.{all_mappings, contents, merged}
 use Rattle.pp_merge.specs.Settled.{IsSettled}
@@ -25,7 +25,7 @@ use Rattle.pp_merge.specs.Sums.{counts, keys_of, summed, sum_of}
 use Rattle.pp_merge.specs.Written.{Contents, mappings, locations}
 use Rattle.pp_merge.proofs.Deciding.{mapping_decides, sample_decides}
 use Rattle.pp_merge.proofs.DistinctLemmas.{deciding_laws}
-use Rattle.pp_merge.proofs.FirstSightLemmas.{IsSeen, distinct_apart}
+use Rattle.pp_model.proofs.FirstSightLemmas.{IsSeen, distinct_apart}
 use Rattle.pp_merge.proofs.MergedMapping.{mapping_laws, IsFound, alike_tells}
 use Rattle.pp_merge.proofs.NumberedLemmas.{all_by, all_both}
 use Rattle.pp_merge.proofs.SettledLemmas.{all_any, all_distinct, all_join, all_some, all_unmapped, found_holds, no_column, self_found, settled_contents}

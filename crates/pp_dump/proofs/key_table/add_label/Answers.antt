@@ -1,6 +1,6 @@
 use Rattle.std.proofs.Common.{◌≡◌, ◌++◌, [], ◌∷◌, List, map, ap, sym, subst, ◌∙◌, rules, w64, FitsSigned, ℤ}
 use Rattle.std.proofs.lemmas.Int.{to_z-of_z}
-use Rattle.pp_merge.specs.FirstSight.{place_of}
+use Rattle.pp_model.specs.FirstSight.{place_of}
 use Rattle.pp_dump.specs.TagLines.{TagTexts, same_tag}
 use Rattle.pp_dump.specs.Names.{name_texts, key_tag}
 use Rattle.pp_dump.specs.Tables.{Event, key_event, IsTableOf, AddsAt}

@@ -1,8 +1,8 @@
 use Rattle.std.proofs.Common.{◌≡◌, ◌+◌, ◌++◌, ◌∷◌, [], take, not, arith, sym, ap, ◌∙◌, subst}
 use Rattle.std.specs.List.{list_any}
 use Rattle.std.proofs.lemmas.List.{take_more}
-use Rattle.pp_merge.specs.FirstSight.{seen_with, place_of}
-use Rattle.pp_merge.proofs.FirstSightLemmas.{AreFirsts, firsts_step}
+use Rattle.pp_model.specs.FirstSight.{seen_with, place_of}
+use Rattle.pp_model.proofs.FirstSightLemmas.{AreFirsts, firsts_step}
 use Rattle.pp_merge.proofs.first_sight.keep_firsts.Goals as goal
 
 pub loop-item-preserved : goal.loop-item-preserved

@@ -1,5 +1,5 @@
 use Rattle.std.proofs.Common.{take}
-use Rattle.pp_merge.proofs.FirstSightLemmas.{AreFirsts}
+use Rattle.pp_model.proofs.FirstSightLemmas.{AreFirsts}
 use Rattle.pp_merge.proofs.first_sight.keep_firsts.Given as goal
 
 abbrev pub invariant-loop-item : goal.invariant-loop-item

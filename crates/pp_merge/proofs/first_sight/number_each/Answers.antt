@@ -1,5 +1,5 @@
 use Rattle.std.proofs.Common.{rules}
-use Rattle.pp_merge.proofs.FirstSightLemmas.{distinct_push, ids_push}
+use Rattle.pp_model.proofs.FirstSightLemmas.{distinct_push, ids_push}
 use Rattle.pp_merge.proofs.first_sight.number_each.Goals as goal
 
 pub loop-key-preserved : goal.loop-key-preserved

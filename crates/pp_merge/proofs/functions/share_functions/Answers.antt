@@ -1,5 +1,5 @@
 use Rattle.std.proofs.Common.{◌≡◌, map, ap, ◌∙◌}
-use Rattle.pp_merge.specs.FirstSight.{distinct, ids}
+use Rattle.pp_model.specs.FirstSight.{distinct, ids}
 use Rattle.pp_merge.specs.Renumbered.{renumbered_location}
 use Rattle.pp_merge.specs.Shared.{by_functions, alike_functions, with_shared_functions}
 use Rattle.pp_merge.proofs.functions.share_functions.Goals as goal

@@ -1,6 +1,6 @@
 use Rattle.std.proofs.Common.{◌≡◌, map, ap, ◌∙◌}
 use Rattle.pp_merge.specs.declared.ids.Ids.TheVariants.{By}
-use Rattle.pp_merge.specs.FirstSight.{distinct, ids}
+use Rattle.pp_model.specs.FirstSight.{distinct, ids}
 use Rattle.pp_merge.specs.Renumbered.{renumbered_sample}
 use Rattle.pp_merge.specs.PlaceKeys.{distant, near, same_place, place_of_key}
 use Rattle.pp_merge.specs.Shared.{alike_mappings, distant_locations, by_locations, with_shared_places}

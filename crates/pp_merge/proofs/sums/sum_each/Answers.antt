@@ -5,9 +5,9 @@ use Rattle.pp_merge.proofs.Pairs.{zip-map}
 use Rattle.std.proofs.Common.{ℕ, not, ◌≡◌, ◌<◌, length, sym, ap, ◌∙◌, if◌then◌else◌, arith}
 use Rattle.std.proofs.lemmas.Iterator.Adapters.{YieldsList-from_vec}
 use Rattle.std.proofs.lemmas.Iterator.Consumers.{YieldsList-so_far, YieldsList-turn, YieldsList-end}
-use Rattle.pp_merge.specs.FirstSight.{distinct, seen_with, place_of}
+use Rattle.pp_model.specs.FirstSight.{distinct, seen_with, place_of}
 use Rattle.pp_merge.specs.Sums.{keys_of, sum_of, summed, rows_with}
-use Rattle.pp_merge.proofs.FirstSightLemmas.{distinct_apart}
+use Rattle.pp_model.proofs.FirstSightLemmas.{distinct_apart}
 use Rattle.pp_merge.proofs.Prefix.{IsNext, next_holds, map_same}
 use Rattle.pp_merge.proofs.Grouping.{sums_push, keys_push, put_wide, put_fits}
 use Rattle.pp_merge.proofs.sums.sum_each.Goals as goal

@@ -1,6 +1,6 @@
 use Rattle.std.proofs.Common.{◌≡◌, ap, ◌∙◌}
 use Rattle.std.specs.Str.{bytes_eq}
-use Rattle.pp_merge.specs.FirstSight.{distinct, ids}
+use Rattle.pp_model.specs.FirstSight.{distinct, ids}
 use Rattle.pp_merge.specs.Renumbered.{renumbered}
 use Rattle.pp_merge.specs.Shared.{by_texts}
 use Rattle.pp_merge.proofs.texts.share_texts.Goals as goal

@@ -1,5 +1,5 @@
 use Rattle.std.proofs.Common.{refl, ap, sym, ◌∙◌, map, List}
-use Rattle.pp_merge.specs.FirstSight.{place_of, seen_with}
+use Rattle.pp_model.specs.FirstSight.{place_of, seen_with}
 use Rattle.pp_dump.specs.TagLines.{TagTexts, same_tag}
 use Rattle.pp_dump.specs.Names.{name_texts}
 use Rattle.pp_dump.proofs.TagNamesLemmas.{place_told, seen_told}

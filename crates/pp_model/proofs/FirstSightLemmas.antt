@@ -4,8 +4,7 @@ use Rattle.std.proofs.lemmas.List.{map-append}
 use Rattle.std.proofs.lemmas.List.Sums.{fold-append}
 use Rattle.std.specs.List.{list_any, AllByRecursion, IsDistinct}
 use Rattle.std.specs.Cmp.{IsEquivalence}
-use Rattle.indexmap.proofs.SetLemmas.{set_all_distinct}
-use Rattle.pp_merge.specs.FirstSight.{seen_with, seen_after, distinct, place_of, numbers, ids}
+use Rattle.pp_model.specs.FirstSight.{seen_with, seen_after, distinct, place_of, numbers, ids}
 
 pub all_push : {A : Type 0} (P : A → Type 0) (xs : List A) (x : A) → AllByRecursion P xs → P x → AllByRecursion P (xs ++ x ∷ [])
 all_push P [] x all p = (p, tt)
@@ -109,6 +108,11 @@ module _ {A : Type 0} (same : A → A → Bool) where
   seen-seen_after seen [] y h = h
   seen-seen_after seen (x ∷ xs) y h = seen-seen_after (seen_with same seen x) xs y (seen-seen_with seen x y h)
 
+  -- and those that are numbered keep their numbers
+  pub place-seen_after : (seen xs : List A) (y : A) → IsSeen seen y → place_of same (seen_after same seen xs) y ≡ place_of same seen y
+  place-seen_after seen [] y h = refl
+  place-seen_after seen (x ∷ xs) y h = place-seen_after (seen_with same seen x) xs y (seen-seen_with seen x y h) ∙ place-seen_with seen x y h
+
   module _ (same_self : (x : A) → same x x ≡ true) where
     place_new : (seen : List A) (x : A) → place_of same (seen ++ x ∷ []) x ≡ place_of same seen x
     place_new [] x = ap (λ b. cond (not b) 1 0) (same_self x)
@@ -182,10 +186,6 @@ module _ {A : Type 0} (same : A → A → Bool) (laws : IsEquivalence same) wher
 
   pub distinct_apart : (xs : List A) → IsDistinct same (distinct same xs)
   distinct_apart xs = apart_seen_after [] xs no_items
-
-  -- Distinct items stay as they are: making them distinct again changes nothing.
-  pub distinct_same : (xs : List A) → IsDistinct same xs → distinct same xs ≡ xs
-  distinct_same xs apart = set_all_distinct laws [] xs apart
 
   length-seen_with : (seen : List A) (x : A) → length (seen_with same seen x) ≤ length seen + 1
   length-seen_with seen x = by (list_any (same x) seen)
