@@ -68,7 +68,8 @@ fn stack_in(alloc: Global, p: &Profile, s: &Sample) -> Result<Stack, Memory>
     ensures texts { IfOk result (λ stack. StandsFor p.now stack s.now) }
     ensures of_profile { IfOk result (λ stack. IsStackOf p.now stack) }
 {
-    let mut stack = List::new(alloc);
+    // Most locations have one line.
+    let mut stack = List::from_vec(Vec::with_capacity(alloc, s.location_id.len())?);
     for (place, id) in s.location_id.as_slice().iter().enumerate() {
         push_rows(p, place as u64, *id - 1, &mut stack)?;
     }
