@@ -31,7 +31,7 @@ use Rattle.pp_merge.specs.Merging.{join_from}
 use Rattle.pp_merge.proofs.Renaming.{maps_agree, same_type_text}
 use Rattle.pp_merge.proofs.JoinLemmas.{get_or-front, behind_in, behind_past}
 use Rattle.pp_merge.proofs.JoinedTables.{HasIds, Holds, words, own_samples, own_mappings}
-use Rattle.pp_merge.proofs.WalkedLemmas.{index_next}
+use Rattle.pp_merge.proofs.EntryLemmas.{index_next}
 use Rattle.pp_merge.proofs.ShareLemmas.{rows}
 
 pub joined_is : (a : Profile) (qs : List Profile) → fold (λ j p. Some (joined_next j p)) (Some a) qs ≡ Some (join_from a qs)

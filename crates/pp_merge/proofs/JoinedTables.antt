@@ -15,7 +15,7 @@ use Rattle.pp_merge.specs.Described.{MappingText, LocationText, function_text, m
 use Rattle.pp_merge.specs.Placed.{functions_of, mappings_of, function_placed, mapping_placed, locations_of, location_placed}
 use Rattle.pp_merge.specs.Renumbered.{NewIds, renumbered_sample, renumbered_function, renumbered_mapping, renumbered_location}
 use Rattle.pp_merge.specs.Joined.{behind_ids}
-use Rattle.pp_merge.proofs.WalkedLemmas.{index_next}
+use Rattle.pp_merge.proofs.EntryLemmas.{index_next}
 use Rattle.pp_merge.proofs.Renaming.{maps_agree, same_function_text, same_mapping_text, same_location_text, same_sample_text}
 use Rattle.pp_merge.proofs.JoinLemmas.{NoneZero, found_behind, get_or-behind, behind_in, behind_past}
 

@@ -7,6 +7,7 @@ pub mod KeptIds
 pub mod Tables
 pub mod Lists
 pub mod Ready
+pub mod EntryLemmas
 pub mod WalkedLemmas
 pub mod Renaming
 pub mod Once

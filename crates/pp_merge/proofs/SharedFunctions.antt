@@ -32,7 +32,7 @@ use Rattle.pp_merge.proofs.Lists.{all_mapped}
 use Rattle.pp_merge.proofs.Renaming.{maps_agree, same_location_text}
 use Rattle.pp_merge.proofs.Once.{read_same, ref_kept}
 use Rattle.pp_merge.proofs.Ready.{InTexts, FunctionIn}
-use Rattle.pp_merge.proofs.WalkedLemmas.{no_function, none_text}
+use Rattle.pp_merge.proofs.EntryLemmas.{no_function, none_text}
 
 laws_T : IsEquivalence bytes_eq
 laws_T = lists_equiv nat_eq_equiv

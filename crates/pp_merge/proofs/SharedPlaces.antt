@@ -37,7 +37,7 @@ use Rattle.pp_merge.proofs.Renaming.{maps_agree, same_sample_text}
 use Rattle.pp_merge.proofs.Once.{read_same, read_kept, id_kept, ref_kept, place_below, seen_at, find_distinct, first_distinct, apart_finer, refs_tell}
 use Rattle.pp_merge.proofs.Ready.{InTexts, LabelIn, MappingIn, LocationIn, SampleIn}
 use Rattle.pp_merge.proofs.SharedFunctions.{text_tells, int_same}
-use Rattle.pp_merge.proofs.WalkedLemmas.{none_text, none_mapping, no_mapping}
+use Rattle.pp_merge.proofs.EntryLemmas.{none_text, none_mapping, no_mapping}
 
 -- how far a place lies behind another, that far behind it
 pub less_plus : (d s : ℕ) → d < 18446744073709551616 → less (plus d s) s ≡ d

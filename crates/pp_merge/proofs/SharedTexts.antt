@@ -23,7 +23,7 @@ use Rattle.pp_merge.specs.Shared.{by_texts, with_shared_texts}
 use Rattle.pp_merge.proofs.Prefix.{all_tt}
 use Rattle.pp_model.proofs.FirstSightLemmas.{length-distinct}
 use Rattle.pp_merge.proofs.Deciding.{place_gets}
-use Rattle.pp_merge.proofs.WalkedLemmas.{index_next}
+use Rattle.pp_merge.proofs.EntryLemmas.{index_next}
 use Rattle.pp_merge.proofs.Lists.{all_mapped}
 use Rattle.pp_merge.proofs.Renaming.{maps_agree, same_type_text, same_function_text, same_mapping_text, same_sample_text, same_location_text}
 use Rattle.pp_merge.proofs.Once.{head_distinct, some_distinct, seen_at, id_at, length-ids, place_below}

@@ -1,15 +1,12 @@
 -- A profile whose tables stand once, written in the order of a walk, is what is written of what it says.
-use Rattle.std.proofs.Common.{◌≡◌, ℕ, ◌+◌, ◌-◌, ◌<◌, ◌≤◌, Bool, true, false, not, ◌||◌, nat_le, ℤ, pos, List, [], ◌∷◌, ◌++◌, map, length, get_or, None, Some, refl, sym, ap, subst, ◌∙◌, arith, if◌then◌else◌}
+use Rattle.std.proofs.Common.{◌≡◌, ℕ, ◌+◌, ◌-◌, ◌<◌, ◌≤◌, ℤ, pos, List, [], ◌∷◌, ◌++◌, map, length, get_or, refl, sym, ap, subst, ◌∙◌, arith, if◌then◌else◌}
 use Rattle.std.specs.Prelude.{◌==◌, slice_get}
-use Rattle.std.specs.Bool.{Decides}
 use Rattle.std.specs.List.{AllByRecursion, filter_map, flat_map, cons_option}
 use Rattle.std.specs.Option.{option_map_or, option_to_list, unwrap_or}
 use Rattle.std.specs.Str.{bytes_eq}
 use Rattle.std.specs.Cmp.{IsEquivalence, nat_eq_equiv, decided}
 use Rattle.std.specs.Cmp.Lexicographic.{lists_equiv}
-use Rattle.std.proofs.lemmas.Bool.{ne_eqb, cond-false, lt-leb}
 use Rattle.std.proofs.lemmas.List.{length-map, map-append, append-nil}
-use Rattle.std.proofs.lemmas.Slice.Eq.{bytes_eq-Decides}
 use Rattle.pp_model.specs.declared.profile.ValueType.{ValueType}
 use Rattle.pp_model.specs.declared.profile.Label.{Label}
 use Rattle.pp_model.specs.declared.profile.Sample.{Sample}
@@ -22,7 +19,7 @@ use Rattle.pp_model.specs.Conditions.{no_location}
 use Rattle.pp_model.specs.Lookup.{text_number, text_of, place_read}
 use Rattle.pp_merge.specs.Described.{FunctionText, MappingText, LocationText, less, plus, function_text, mapping_text, line_text, location_text, label_text, sample_text, nowhere}
 use Rattle.pp_merge.specs.Alike.{same_function, equal_mapping, same_location}
-use Rattle.pp_merge.specs.Header.{type_text, first_nonempty}
+use Rattle.pp_merge.specs.Header.{type_text}
 use Rattle.pp_model.specs.FirstSight.{distinct, place_of}
 use Rattle.pp_merge.specs.Ids.{place_id, index_of_id}
 use Rattle.pp_merge.specs.Walk.{met_after, location_refs, mapping_ref, function_refs, text_ids, type_text_ids, label_text_ids, sample_text_ids, mapping_text_ids, function_text_ids, header_text_ids, profile_text_ids}
@@ -38,86 +35,7 @@ use Rattle.pp_merge.proofs.IdLemmas.{place_within}
 use Rattle.pp_merge.proofs.Tables.{Names, IsRef, named, read_named, walk_entries, walk_names, walk_place, walk_ref, gathered_is}
 use Rattle.pp_merge.proofs.Lists.{map_as, flat_map-map, flat_map_as, filter_map_as, flat_filter_as, filter_map-map, all_both, all_flat, all_named, named-map, option_map-same, option_cons}
 use Rattle.pp_merge.proofs.Ready.{InTexts, TypeIn, LabelIn, MappingIn, FunctionIn, LocationIn, SampleIn, IsReady}
-
--- the index of the text with an id
-pub index_next : (n : ℕ) → n < 4611686018427387904 → index_of_id (n + 1) ≡ pos n
-index_next n few =
-    let back : n + 1 - 1 ≡ n = omega arith in
-    cond-false _ _ _ (λ j. ne_eqb (n + 1) 0 (λ e. let none : n + 1 ≡ 0 = e in omega (arith, none)) j || within j) ∙ ap pos back
-  where
-    within : nat_le 9223372036854775808 (n + 1) ≡ false
-    within = lt-leb 9223372036854775808 (n + 1) (omega (arith, few))
-
-first_read : {A : Type 0} (xs : List A) (n : ℕ) → n ≡ length xs → place_read xs (if n == 0 then 0 else 1) ≡ slice_get xs 0
-first_read {A} [] n is = subst (λ m. place_read {X = A} [] (if m == 0 then 0 else 1) ≡ None) (sym is) refl
-first_read (x ∷ xs) n is = ap (λ b. place_read (x ∷ xs) (if b then 0 else 1)) (ne_eqb n 0 (λ e. let none : n ≡ 0 = e in omega (arith, none, is)))
-
-first_within : {A : Type 0} (xs : List A) (n : ℕ) → n ≡ length xs → (if n == 0 then 0 else 1) ≤ length xs
-first_within [] n is = subst (λ m. (if m == 0 then 0 else 1) ≤ 0) (sym is) (omega arith)
-first_within (x ∷ xs) n is = by (n == 0)
-  where
-    by : (b : Bool) → (if b then 0 else 1) ≤ length (x ∷ xs)
-    by true = omega arith
-    by false = omega arith
-
--- an address is where it lies behind a place, from there on
-pub plus_less : (a s : ℕ) → a < 18446744073709551616 → plus (less a s) s ≡ a
-plus_less a s within = omega (arith, within)
-
--- a text is the first one of itself that isn't empty
-pub nonempty_same : (t : List ℕ) → first_nonempty (t ∷ []) ≡ t
-nonempty_same t = by (bytes_eq [] t) (bytes_eq-Decides [] t)
-  where
-    by : (b : Bool) → Decides b ([] ≡ t) → unwrap_or (if not b then Some t else None) [] ≡ t
-    by true is = is.0 refl
-    by false is = refl
-
--- entries that ids name are what is read there
-names_read : {A : Type 0} (xs : List A) (d : A) (ids : List ℕ) → AllByRecursion (Names (length xs)) ids → map (named xs d) ids ≡ filter_map (place_read xs) ids
-names_read xs d [] all = refl
-names_read xs d (id ∷ ids) all =
-    ap (λ l. named xs d id ∷ l) (names_read xs d ids all.1) ∙ ap (λ o. cons_option o (filter_map (place_read xs) ids)) (sym (read_named xs d id all.0))
-
-refs_named : (n : ℕ) (ids : List ℕ) → AllByRecursion (Names n) ids → AllByRecursion (IsRef n) ids
-refs_named n [] all = tt
-refs_named n (id ∷ ids) all = (all.0.1, refs_named n ids all.1)
-
-singles : (ids : List ℕ) → flat_map (λ id. id ∷ []) ids ≡ ids
-singles [] = refl
-singles (id ∷ ids) = ap (λ l. id ∷ l) (singles ids)
-
-pub none_text : FunctionText
-none_text = record { name = []; system_name = []; file = []; start_line = pos 0 }
-
-pub none_mapping : MappingText
-none_mapping = record {
-  start = 0;
-  limit = 0;
-  offset = 0;
-  file = [];
-  build_id = [];
-  has_functions = false;
-  has_filenames = false;
-  has_line_numbers = false;
-  has_inline_frames = false;
-}
-
-pub no_function : Function
-no_function = record { id = 0; name = pos 0; system_name = pos 0; filename = pos 0; start_line = pos 0 }
-
-pub no_mapping : Mapping
-no_mapping = record {
-  id = 0;
-  start = 0;
-  limit = 0;
-  offset = 0;
-  file = pos 0;
-  build_id = pos 0;
-  has_functions = false;
-  has_filenames = false;
-  has_line_numbers = false;
-  has_inline_frames = false;
-}
+use Rattle.pp_merge.proofs.EntryLemmas.{index_next, first_read, first_within, plus_less, nonempty_same, names_read, refs_named, singles, none_text, none_mapping, no_function, no_mapping}
 
 module _ (p : Profile) (ready : IsReady p) where
   abbrev c : Contents
