@@ -56,7 +56,7 @@ none_zero : {A : Type 0} (f : A → ℕ) (xs : List A) → NoneZero f xs → fin
 none_zero f [] none = refl
 none_zero f (x ∷ xs) none = ap (λ b. if b then Some x else find (λ y. f y == 0) xs) (ne_eqb (f x) 0 none.0) ∙ none_zero f xs none.1
 
-behind_none : (after len id : ℕ) → id ≡ 0 → behind_id after len id ≡ 0
+pub behind_none : (after len id : ℕ) → id ≡ 0 → behind_id after len id ≡ 0
 behind_none after len id none = ap (λ b. if b || nat_lt len id then 0 else after + id) (eq-eqb id 0 none)
 
 pub behind_past : (after len id : ℕ) → len < id → behind_id after len id ≡ 0

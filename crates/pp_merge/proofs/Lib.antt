@@ -21,6 +21,7 @@ pub mod JoinedTables
 pub mod JoinedAll
 pub mod MergeLemmas
 pub mod KnownIds
+pub mod InPlace
 pub mod SumLemmas
 pub mod Grouping
 pub mod Prefix

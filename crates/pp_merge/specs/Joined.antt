@@ -3,7 +3,7 @@ use Rattle.std.specs.Prelude.{◌+◌, ◌<◌, ◌^◌, ⊤, ℤ, List, [], ◌
 use Rattle.std.specs.Str.{bytes_eq}
 use Rattle.pp_model.specs.declared.profile.Profile.{Profile}
 use Rattle.pp_model.specs.Lookup.{text_of, text_number}
-use Rattle.pp_model.specs.Rules.{mapping_ids, function_ids, location_ids}
+use Rattle.pp_model.specs.Rules.{AreNumbered, mapping_ids, function_ids, location_ids}
 use Rattle.pp_merge.specs.declared.join.Sizes.{Sizes}
 use Rattle.pp_merge.specs.Behind.{behind_id}
 use Rattle.pp_merge.specs.Ids.{place_id, index_of_id}
@@ -22,6 +22,13 @@ behind_ids after p = record {
 -- the profile with its references by place, as its tables stand behind others of these sizes
 abbrev pub moved_behind : Sizes → Profile → Profile
 moved_behind after p = renumbered (behind_ids after p) p
+
+-- The references of the profile are by place as they stand, and its texts can be counted.
+pub record IsInPlace (p : Profile) : Type 0 where
+  pub few : length p.text < 2 ^ 62
+  pub mappings : AreNumbered (mapping_ids p)
+  pub functions : AreNumbered (function_ids p)
+  pub locations : AreNumbered (location_ids p)
 
 -- the sizes of the profile's tables
 abbrev pub sizes_of : Profile → Sizes

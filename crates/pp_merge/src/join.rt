@@ -1,16 +1,17 @@
 //! Profiles one behind the other, as one.
 ghost use Rattle.std.specs.Prelude.{◌≡◌, ℕ, ◌+◌, ◌<◌, ◌^◌, ◌++◌, None, length, IfOk, OnOk};
+ghost use Rattle.std.specs.Bool.{OnTrue};
 ghost use Rattle.std.specs.List.{AllByRecursion};
 ghost use Rattle.pp_model.specs.Rules.{NoRuleFails, first_repeated, mapping_ids, function_ids, location_ids};
 ghost use Rattle.pp_merge.specs.Behind.{behind_id};
 ghost use Rattle.pp_merge.specs.Ids.{place_id, new_id};
 ghost use Rattle.pp_merge.specs.Renumbered.{new_ids};
-ghost use Rattle.pp_merge.specs.Joined.{behind_ids, moved_behind, chained, with_header_of, first_text, no_sizes, sizes_of, joined_next, joined, IsFew};
+ghost use Rattle.pp_merge.specs.Joined.{behind_ids, moved_behind, chained, with_header_of, first_text, no_sizes, sizes_of, joined_next, joined, IsFew, IsInPlace};
 ghost use Rattle.pp_merge.specs.Header.{greater, earlier};
 
 use crate::behind::Behind;
 use crate::ids::{Ids, Known};
-use crate::known::known_ids;
+use crate::known::{are_numbered, known_ids};
 use crate::renumber::{Renumbering, renumber};
 use pp_base::{List, Memory};
 use pp_model::{Profile, Valid, text_of};
@@ -46,15 +47,34 @@ fn join_next(alloc: Global, joined: Option<Profile>, p: Profile) -> Result<Profi
     }
 }
 
-// The profile as the first one.
+// The profile as the first one. Samples name many locations, so they are not gone through where all references are by
+// place already, as most writers leave them.
+#[tactic(auto, using(crate::proofs::InPlace::stays_in_place))]
 fn first_joined(alloc: Global, p: Profile) -> Result<Profile, Memory>
     requires { NoRuleFails p }
     ensures same { IfOk result (λ r. r ≡ moved_behind no_sizes p) }
     ensures few { IfOk result (λ r. length r.text < 2 ^ 62) }
 {
+    if is_in_place(alloc, &p)? {
+        return Ok(p);
+    }
     let sizes = no_sizes();
     let moved = moved_behind(alloc, &sizes, p)?;
     Ok(moved)
+}
+
+// Whether all references are by place as they stand.
+fn is_in_place(alloc: Global, p: &Profile) -> Result<bool, Memory>
+    ensures { IfOk result (λ is. OnTrue is (IsInPlace p.now)) }
+{
+    let mappings = mapping_ids(alloc, p)?;
+    let functions = function_ids(alloc, p)?;
+    let locations = location_ids(alloc, p)?;
+    let are_in_place = p.text.len() < 1 << 62
+        && are_numbered(mappings.as_slice())
+        && are_numbered(functions.as_slice())
+        && are_numbered(locations.as_slice());
+    Ok(are_in_place)
 }
 
 // The profile behind others.

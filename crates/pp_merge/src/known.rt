@@ -35,8 +35,8 @@ fn listed_ids(alloc: Global, ids: &[u64]) -> Result<IndexSet<u64>, Memory>
     Ok(listed)
 }
 
-// Whether each id is its place plus 1.
-fn are_numbered(ids: &[u64]) -> bool
+/// Whether each id is its place plus 1.
+pub fn are_numbered(ids: &[u64]) -> bool
     ensures { OnTrue result (AreNumbered ids.now) }
 {
     for (place, id) in ids.iter().enumerate() {
