@@ -45,9 +45,9 @@ module _ (columns : ℕ) (items : List (SampleKey × List ℤ)) (samples : List 
 
   -- keys are one where the locations and the labels are
   abbrev pub same_key : SampleKey → SampleKey → Bool
-  same_key a b = same_stack (a.locations.items, a.labels.items) (b.locations.items, b.labels.items)
+  same_key a b = same_stack (a.locations.ids.items, a.labels.items) (b.locations.ids.items, b.labels.items)
 
   pub described_sums : map item_of_key (summed same_key columns items) ≡ summed same_stack columns (map sample_item samples)
   described_sums =
-      sym (summed-map same_key same_stack (λ key. (key.locations.items, key.labels.items)) (λ _. Unit {0}) (λ a b _ _. refl) columns items (all_tt items))
+      sym (summed-map same_key same_stack (λ key. (key.locations.ids.items, key.labels.items)) (λ _. Unit {0}) (λ a b _ _. refl) columns items (all_tt items))
       ∙ ap (summed same_stack columns) are

@@ -13,6 +13,7 @@ pub mod Renumbered
 pub mod FunctionKeys
 pub mod PlaceKeys
 pub mod SampleKeys
+pub mod Stacks
 pub mod Shared
 pub mod Walk
 pub mod Gathered

@@ -17,7 +17,7 @@ sample_of item = record { location_id = item.0.0; value = item.1; label = item.0
 
 -- the key as locations and labels, with its values
 abbrev pub item_of_key : SampleKey × List ℤ → (List ℕ × List Label) × List ℤ
-item_of_key item = ((item.0.locations.items, item.0.labels.items), item.1)
+item_of_key item = ((item.0.locations.ids.items, item.0.labels.items), item.1)
 
 -- labels have the same fields
 abbrev pub equal_label : Label → Label → Bool

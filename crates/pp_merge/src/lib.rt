@@ -21,6 +21,7 @@ mod renumber;
 mod samples;
 mod scaling;
 mod share;
+mod stack;
 mod subtracting;
 mod sums;
 mod texts;

@@ -6,6 +6,7 @@ ghost use Rattle.pp_model.specs.Sizes.{value_in};
 ghost use Rattle.pp_merge.specs.Sums.{counts};
 ghost use Rattle.pp_merge.specs.SampleKeys.{sample_item, item_of_key, sample_of, summed_samples};
 
+use crate::stack::Stack;
 use crate::sums::sum_each;
 use pp_base::{List, Memory};
 use pp_model::{Label, Sample};
@@ -14,7 +15,7 @@ use std::alloc::Global;
 /// What tells a sample apart where texts and locations stand once: its locations, leaf first, and its labels, in order.
 #[derive(Debug, Drop, PartialEq, Eq, Hash)]
 pub struct SampleKey {
-    pub locations: Vec<u64>,
+    pub locations: Stack,
     pub labels: Vec<Label>,
 }
 
@@ -42,7 +43,9 @@ fn sample_items(alloc: Global, samples: List<Sample>) -> Result<Vec<(SampleKey, 
     let mut items = Vec::with_capacity(alloc, samples.len())?;
     for sample in samples.into_vec() {
         let key = SampleKey {
-            locations: sample.location_id.into_vec(),
+            locations: Stack {
+                ids: sample.location_id.into_vec(),
+            },
             labels: sample.label.into_vec(),
         };
         items.push((key, sample.value))?;
@@ -71,7 +74,7 @@ fn push_counting(samples: &mut List<Sample>, key: SampleKey, value: List<i64>) -
         return Ok(());
     }
     samples.push(Sample {
-        location_id: List::from_vec(key.locations),
+        location_id: List::from_vec(key.locations.ids),
         value,
         label: List::from_vec(key.labels),
     })

@@ -1,0 +1,20 @@
+-- What a hasher takes for the locations of a sample.
+use Rattle.std.specs.Prelude.{◌≡◌, ℕ, ◌+◌, ◌*◌, ◌%◌, ◌^◌, ◌==◌, true, List, fold}
+use Rattle.std.specs.Hash.{u64}
+use Rattle.std.specs.Cmp.Lexicographic.{pointwise}
+use Rattle.std.proofs.Common.{refl, ap}
+use Rattle.std.proofs.lemmas.Bool.Decides.{Decides-eqb}
+use Rattle.std.proofs.lemmas.Slice.Eq.{slice_eq-Decides}
+
+-- the number of the ids before, with one id more
+abbrev pub with_id : ℕ → ℕ → ℕ
+with_id number id = (number * 11400714819323198485 % 2 ^ 64 + id) % 2 ^ 64
+
+-- A number in which each id counts, and its place.
+abbrev pub number_of : List ℕ → ℕ
+number_of ids = fold with_id 0 ids
+
+-- Equal ids have the same number.
+pub same_number : (xs ys : List ℕ) → pointwise (λ i j. i == j) xs ys ≡ true → u64 (number_of xs) ≡ u64 (number_of ys)
+same_number xs ys same =
+    ap (λ ids. u64 (number_of ids)) ((slice_eq-Decides Decides-eqb xs ys (pointwise (λ i j. i == j) xs ys) refl).0 same)
