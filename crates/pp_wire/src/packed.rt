@@ -41,6 +41,7 @@ impl<'a> Packed<'a> {
 
     /// The next number, or `None` exactly at the end of the bytes. A fault has the place of the field's tag. A faulty
     /// varint is never passed: its fault is the answer from then on.
+    #[inline(always)]
     pub fn next(&mut self) -> Option<Result<u64, WireFault>>
         ensures given { result ≡ first self.old }
         ensures left { self.new ≡ after self.old }
