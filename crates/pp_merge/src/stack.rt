@@ -1,6 +1,6 @@
 //! The locations of a sample, by which it is told apart.
 ghost use Rattle.std.specs.Prelude.{◌≡◌};
-ghost use Rattle.pp_merge.specs.Stacks.{number_of};
+ghost use Rattle.pp_merge.specs.Stacks.{number_of, with_id};
 
 use std::hash::{Hash, Hasher};
 
@@ -28,11 +28,17 @@ impl Hash for Stack {
 fn number_of(ids: &[u64]) -> u64
     ensures { result ≡ number_of ids.now }
 {
-    let mut number = 0u64;
+    let mut number = 0;
     for id in ids {
-        number = number
-            .wrapping_mul(11_400_714_819_323_198_485)
-            .wrapping_add(*id);
+        number = with_id(number, *id);
     }
     number
+}
+
+// The number of the ids before, with one id more. Folding keeps stacks apart that differ by multiples alone.
+fn with_id(number: u64, id: u64) -> u64
+    ensures { result ≡ with_id number id }
+{
+    let mixed = (number ^ id).wrapping_mul(11_400_714_819_323_198_485);
+    mixed ^ (mixed >> 32)
 }
