@@ -1,8 +1,19 @@
--- For crates above: the keys of a report's samples are those of their frames.
-use Rattle.std.proofs.Common.{◌≡◌, true, false, cond, not, pos, ℕ, List, [], ◌∷◌, map, Option, Some, None, option_map, refl, sym, ap, ◌∙◌}
-use Rattle.std.specs.List.{cons_option}
+-- For crates above: the keys of a report's samples are those of their frames, and the parts of consecutive ranges can be
+-- joined.
+use Rattle.std.proofs.Common.{◌≡◌, ◌+◌, ◌==◌, ◌<◌, ◌^◌, true, false, cond, not, pos, nat_abs, ℕ, List, [], ◌∷◌, ◌++◌, length, map, Option, Some, None, option_map, refl, sym, ap, ◌∙◌, arith}
+use Rattle.std.specs.List.{cons_option, sum_by}
 use Rattle.std.specs.Ordering.{int_eq}
+use Rattle.std.proofs.lemmas.List.Elements.{filter-append}
+use Rattle.std.proofs.lemmas.List.Sums.{sum_by-append}
 use Rattle.pp_model.specs.declared.config.Config.{Config}
+use Rattle.pp_model.specs.declared.loaded.Loaded.{Loaded}
+use Rattle.pp_model.specs.declared.verdicts.Verdicts.{Verdicts}
+use Rattle.pp_grain.specs.declared.key.Key.{Key}
+use Rattle.pp_count.specs.declared.part.KeySum.{KeySum}
+use Rattle.pp_count.specs.declared.part.Part.{Part}
+use Rattle.pp_count.specs.Column.{selected}
+use Rattle.pp_count.specs.Joined.{AreWithin, AreConsecutive, CanJoin, all_samples, all_sums}
+use Rattle.pp_count.specs.Parts.{sums_of}
 use Rattle.pp_model.specs.declared.frame.Frame.{Frame}
 use Rattle.pp_model.specs.declared.profile.Sample.{Sample}
 use Rattle.pp_model.specs.declared.profile.Profile.{Profile}
@@ -10,7 +21,7 @@ use Rattle.pp_model.specs.Finders.{Finders}
 use Rattle.pp_model.specs.FrameTexts.{Written, written}
 use Rattle.pp_grain.specs.Keys.{key_texts}
 use Rattle.pp_count.specs.Sums.{Seen, weighed, renamed}
-use Rattle.pp_count.specs.Seeing.{counted_frames, framed_with, framed_samples, filtered_stack, key_of_frame, seen_with, seen_samples}
+use Rattle.pp_count.specs.Seeing.{counted_frames, framed_with, framed_samples, filtered_stack, key_of_frame, seen_with, seen_samples, absolute_all}
 use Rattle.pp_count.specs.Counted.{report_samples, report_frames}
 
 -- what a frame that counts is in a report: its key
@@ -51,3 +62,42 @@ module _ (p : Profile) (f : Finders) (config : Config) (column : Option ℕ) whe
   pub keyed_report : map (renamed (key_of_written config)) (report_frames p f config column) ≡ report_samples p f config column
   keyed_report =
       sym (weighed-renamed (key_of_written config) (framed_samples p f config column p.sample)) ∙ ap weighed (keyed_frames p.sample)
+
+module _ (l : Loaded) (v : Verdicts) (config : Config) (column : Option ℕ) (names : List Key) where
+  -- the sums of consecutive ranges are within the values of their samples
+  consecutive_within : (ranges : List (List Sample)) (parts : List Part) (number : ℕ) → AreConsecutive l v config column names number ranges parts
+      → (k : ℕ) → AreWithin (absolute_all column config.divide_by (all_samples ranges)) (sums_of k (all_sums parts))
+  consecutive_within [] [] number are k = record { flat = omega arith; cum = omega arith }
+  consecutive_within [] (part ∷ parts) number are k = absurd are
+  consecutive_within (samples ∷ ranges) [] number are k = absurd are
+  consecutive_within (samples ∷ ranges) (part ∷ parts) number are k =
+      let size : Sample → ℕ = λ s. nat_abs (selected column config.divide_by s) in
+      let rest = consecutive_within ranges parts (number + length samples) are.1 k in
+      let split : sums_of k (part.sums ++ all_sums parts) ≡ sums_of k part.sums ++ sums_of k (all_sums parts) =
+      filter-append (λ (e : KeySum). e.key == k) part.sums (all_sums parts) in
+      let flat_of : KeySum → ℕ = λ e. nat_abs e.flat in
+      let cum_of : KeySum → ℕ = λ e. nat_abs e.cum in
+      record {
+        flat = omega (
+          arith,
+          (are.0.within k).flat,
+          rest.flat,
+          ap (sum_by flat_of) split ∙ sum_by-append flat_of (sums_of k part.sums) (sums_of k (all_sums parts)),
+          sum_by-append size samples (all_samples ranges),
+        );
+        cum = omega (
+          arith,
+          (are.0.within k).cum,
+          rest.cum,
+          ap (sum_by cum_of) split ∙ sum_by-append cum_of (sums_of k part.sums) (sums_of k (all_sums parts)),
+          sum_by-append size samples (all_samples ranges),
+        );
+      }
+
+  -- The parts of consecutive ranges can be joined where the values of the samples can be added up.
+  pub can_join : (ranges : List (List Sample)) (parts : List Part) (number : ℕ) → AreConsecutive l v config column names number ranges parts
+      → absolute_all column config.divide_by (all_samples ranges) < 2 ^ 63 → CanJoin parts
+  can_join ranges parts number are fits = record {
+    flat = λ k. omega (arith, fits, (consecutive_within ranges parts number are k).flat);
+    cum = λ k. omega (arith, fits, (consecutive_within ranges parts number are k).cum);
+  }

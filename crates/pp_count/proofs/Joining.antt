@@ -1,6 +1,7 @@
 -- Tallies with the entries of the samples that follow.
-use Rattle.std.proofs.Common.{◌≡◌, ℕ, ◌+◌, ◌<◌, ◌≤◌, Bool, true, false, cond, ◌||◌, ◌==◌, pos, ◌+ℤ◌, nat_abs, List, [], ◌∷◌, ◌++◌, length, take, drop, get_or, ◌≢◌, sum_by, refl, sym, ap, ◌∙◌, subst, ⊎_elim, arith}
+use Rattle.std.proofs.Common.{◌≡◌, ℕ, ◌+◌, ◌<◌, ◌≤◌, Bool, true, false, cond, ltb, ◌||◌, ◌==◌, pos, ◌+ℤ◌, nat_abs, List, [], ◌∷◌, ◌++◌, length, take, drop, get_or, ◌≢◌, sum_by, refl, sym, ap, ◌∙◌, subst, ⊎_elim, arith}
 use Rattle.std.specs.Ordering.{nat_cmp}
+use Rattle.std.specs.declared.cmp.Ordering.{Ordering}
 use Rattle.std.proofs.Math.IntN.{+ℤ_assoc, +ℤ_idl, +ℤ_idr}
 use Rattle.std.proofs.lemmas.Bool.{cases_eq, eq-eqb, ne_eqb}
 use Rattle.std.proofs.lemmas.List.{take_more, take-append-drop, append-nil}
@@ -11,12 +12,16 @@ use Rattle.pp_count.specs.declared.tally.Tally.{Tally}
 use Rattle.pp_count.specs.declared.part.KeySum.{KeySum}
 use Rattle.pp_count.specs.Sums.{Seen, sum_where, has, leads, cum, flat, occurs}
 use Rattle.pp_count.specs.Tally.{plus, added, IsTallyOf}
-use Rattle.pp_count.specs.Parts.{sums_of, key_sum, AreSums, flat_size, cum_size}
+use Rattle.pp_count.specs.Parts.{sums_of, AreSums, flat_size, cum_size}
 use Rattle.pp_count.proofs.Adding.{triangle, or-true, or-false}
 
+-- the entries of two ranges, one after the other
+pub added-append : (t : Tally) (xs ys : List KeySum) → added t (xs ++ ys) ≡ added (added t xs) ys
+added-append t [] ys = refl
+added-append t (x ∷ xs) ys = added-append (plus t x) xs ys
+
 added-push : (t : Tally) (es : List KeySum) (e : KeySum) → added t (es ++ e ∷ []) ≡ plus (added t es) e
-added-push t [] e = refl
-added-push t (x ∷ es) e = added-push (plus t x) es e
+added-push t es e = added-append t es (e ∷ [])
 
 -- the entries of a key among one more
 pub more_of : (k : ℕ) (sums : List KeySum) (i : ℕ) (d : KeySum) → i < length sums
@@ -82,41 +87,54 @@ either_false : (a b : Bool) → (a || b) ≡ false → (a ≡ false) × (b ≡ f
 either_false true b e = cc
 either_false false b e = (refl, e)
 
-leads_has : (k : ℕ) (keys : List ℕ) → has nat_cmp k keys ≡ false → leads nat_cmp k keys ≡ false
-leads_has k [] none = refl
-leads_has k (q ∷ keys) none = (either_false _ _ none).0
+module _ {K : Type 0} (order : K → K → Ordering) where
+  leads_has : (k : K) (keys : List K) → has order k keys ≡ false → leads order k keys ≡ false
+  leads_has k [] none = refl
+  leads_has k (q ∷ keys) none = (either_false _ _ none).0
 
--- a key that does not occur has no sums
-pub cum_none : (b : List (Seen ℕ)) (k : ℕ) → occurs nat_cmp b k ≡ false → cum nat_cmp b k ≡ pos 0
-cum_none [] k none = refl
-cum_none (s ∷ b) k none =
-    let parts = either_false (has nat_cmp k s.keys) (occurs nat_cmp b k) none in
-    ap (λ w. cond w s.value (pos 0) +ℤ cum nat_cmp b k) parts.0 ∙ +ℤ_idl (cum nat_cmp b k) ∙ cum_none b k parts.1
+  -- a key that does not occur has no sums
+  cum_none : (b : List (Seen K)) (k : K) → occurs order b k ≡ false → cum order b k ≡ pos 0
+  cum_none [] k none = refl
+  cum_none (s ∷ b) k none =
+      let parts = either_false (has order k s.keys) (occurs order b k) none in
+      ap (λ w. cond w s.value (pos 0) +ℤ cum order b k) parts.0 ∙ +ℤ_idl (cum order b k) ∙ cum_none b k parts.1
 
-flat_none : (b : List (Seen ℕ)) (k : ℕ) → occurs nat_cmp b k ≡ false → flat nat_cmp b k ≡ pos 0
-flat_none [] k none = refl
-flat_none (s ∷ b) k none =
-    let parts = either_false (has nat_cmp k s.keys) (occurs nat_cmp b k) none in
-    ap (λ w. cond w s.value (pos 0) +ℤ flat nat_cmp b k) (leads_has k s.keys parts.0) ∙ +ℤ_idl (flat nat_cmp b k) ∙ flat_none b k parts.1
+  flat_none : (b : List (Seen K)) (k : K) → occurs order b k ≡ false → flat order b k ≡ pos 0
+  flat_none [] k none = refl
+  flat_none (s ∷ b) k none =
+      let parts = either_false (has order k s.keys) (occurs order b k) none in
+      ap (λ w. cond w s.value (pos 0) +ℤ flat order b k) (leads_has k s.keys parts.0) ∙ +ℤ_idl (flat order b k) ∙ flat_none b k parts.1
 
--- the tally of a key over two ranges
-tally_joined : (a b : List (Seen ℕ)) (k : ℕ) (t : Tally) (w : Bool) → occurs nat_cmp b k ≡ w → IsTallyOf a k t
-    → IsTallyOf (a ++ b) k (added t (cond w (key_sum b k ∷ []) []))
-tally_joined a b k t true some is = record {
-  flat = ap (λ z. z +ℤ flat nat_cmp b k) is.flat ∙ sym (sum_where-append (leads nat_cmp k) a b);
-  cum = ap (λ z. z +ℤ cum nat_cmp b k) is.cum ∙ sym (sum_where-append (has nat_cmp k) a b);
-  occurs = sym (or-true (occurs nat_cmp a k)) ∙ ap (λ x. occurs nat_cmp a k || x) (sym some) ∙ sym (list_any-append (λ (s : Seen ℕ). has nat_cmp k s.keys) a b);
-}
-tally_joined a b k t false none is = record {
-  flat = is.flat ∙ sym (+ℤ_idr (flat nat_cmp a k)) ∙ ap (λ z. flat nat_cmp a k +ℤ z) (sym (flat_none b k none)) ∙ sym (sum_where-append (leads nat_cmp k) a b);
-  cum = is.cum ∙ sym (+ℤ_idr (cum nat_cmp a k)) ∙ ap (λ z. cum nat_cmp a k +ℤ z) (sym (cum_none b k none)) ∙ sym (sum_where-append (has nat_cmp k) a b);
-  occurs = is.occurs ∙ sym (or-false (occurs nat_cmp a k)) ∙ ap (λ x. occurs nat_cmp a k || x) (sym none) ∙ sym (list_any-append (λ (s : Seen ℕ). has nat_cmp k s.keys) a b);
-}
+  -- The tally is that of the key over these samples.
+  pub record IsTallyBy (samples : List (Seen K)) (k : K) (t : Tally) : Type 0 where
+    pub flat_is : t.flat ≡ flat order samples k
+    pub cum_is : t.cum ≡ cum order samples k
+    pub occurs_is : ltb 0 t.last ≡ occurs order samples k
+
+  -- the entry of a key over these samples, by its number
+  abbrev pub entry_by : List (Seen K) → K → ℕ → KeySum
+  entry_by samples k number = record { key = number; flat = flat order samples k; cum = cum order samples k }
+
+  -- the tally of a key over two ranges
+  pub tally_joined : (a b : List (Seen K)) (k : K) (number : ℕ) (t : Tally) (w : Bool) → occurs order b k ≡ w → IsTallyBy a k t
+      → IsTallyBy (a ++ b) k (added t (cond w (entry_by b k number ∷ []) []))
+  tally_joined a b k number t true some is = record {
+    flat_is = ap (λ z. z +ℤ flat order b k) is.flat_is ∙ sym (sum_where-append (leads order k) a b);
+    cum_is = ap (λ z. z +ℤ cum order b k) is.cum_is ∙ sym (sum_where-append (has order k) a b);
+    occurs_is = sym (or-true (occurs order a k)) ∙ ap (λ x. occurs order a k || x) (sym some) ∙ sym (list_any-append (λ (s : Seen K). has order k s.keys) a b);
+  }
+  tally_joined a b k number t false none is = record {
+    flat_is = is.flat_is ∙ sym (+ℤ_idr (flat order a k)) ∙ ap (λ z. flat order a k +ℤ z) (sym (flat_none b k none)) ∙ sym (sum_where-append (leads order k) a b);
+    cum_is = is.cum_is ∙ sym (+ℤ_idr (cum order a k)) ∙ ap (λ z. cum order a k +ℤ z) (sym (cum_none b k none)) ∙ sym (sum_where-append (has order k) a b);
+    occurs_is = is.occurs_is ∙ sym (or-false (occurs order a k)) ∙ ap (λ x. occurs order a k || x) (sym none) ∙ sym (list_any-append (λ (s : Seen K). has order k s.keys) a b);
+  }
 
 -- the tallies over two ranges
 pub tallies_joined : (a b : List (Seen ℕ)) (at new : ℕ → Tally) (sums : List KeySum) → ((k : ℕ) → IsTallyOf a k (at k)) → AreSums b sums
     → ((k : ℕ) → new k ≡ added (at k) (sums_of k sums))
     → (k : ℕ) → IsTallyOf (a ++ b) k (new k)
 tallies_joined a b at new sums before part each k =
+    let t = before k in
+    let is = tally_joined nat_cmp a b k k (at k) (occurs nat_cmp b k) refl (record { flat_is = t.flat; cum_is = t.cum; occurs_is = t.occurs }) in
     subst (λ (t : Tally). IsTallyOf (a ++ b) k t) (sym (each k ∙ ap (added (at k)) (part k)))
-    (tally_joined a b k (at k) (occurs nat_cmp b k) refl (before k))
+    (record { flat = is.flat_is; cum = is.cum_is; occurs = is.occurs_is })

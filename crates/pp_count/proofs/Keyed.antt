@@ -178,7 +178,7 @@ module _ (p : Profile) (compact : IsCompact p) (names : List Key) (keys : All (I
         }
 
 -- where keys are counted, the keys of a sample are what is counted of it
-plain : (scope : Scope) → scope.over ≡ None → (ss : List (Seen ℕ)) → map (counted_as scope) ss ≡ ss
+pub plain : (scope : Scope) → scope.over ≡ None → (ss : List (Seen ℕ)) → map (counted_as scope) ss ≡ ss
 plain scope none [] = refl
 plain scope none (s ∷ ss) = λ i. record { value = s.value; keys = counted_keys (option_map (λ keep. keep.now) (none i)) s.keys } ∷ plain scope none ss i
 

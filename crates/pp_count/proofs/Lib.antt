@@ -19,3 +19,4 @@ pub mod Pairing
 pub mod Edged
 pub mod EachOnce
 pub mod Ties
+pub mod Joined

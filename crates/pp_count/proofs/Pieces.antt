@@ -99,7 +99,8 @@ counted_more scope number m a b at new old_kept new_kept part next before is kep
       ∙ sym (numbers-append (λ x. is_some (filtered_stack (profile_of scope) f (config_of scope) x)) number m a b next);
 }
 
-size_if : (f : KeySum → ℕ) (e : KeySum) (w : Bool) → sum_by f (cond w (e ∷ []) []) ≤ f e
+-- the size of an entry that may be missing
+pub size_if : (f : KeySum → ℕ) (e : KeySum) (w : Bool) → sum_by f (cond w (e ∷ []) []) ≤ f e
 size_if f e true = omega (arith, sum_by-cons f e [])
 size_if f e false = omega arith
 

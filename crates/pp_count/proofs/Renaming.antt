@@ -105,3 +105,9 @@ module _ {K : Type 0} (order : K → K → Ordering) (f : ℕ → K) where
     flat-renamed k (s ∷ ss) in_n below =
         λ i. cond (leads-renamed k s.keys in_n (All-head (λ (t : Seen ℕ). All (λ j. j < n) t.keys) s ss below) i) s.value (pos 0)
         +ℤ flat-renamed k ss in_n (All-tail (λ (t : Seen ℕ). All (λ j. j < n) t.keys) s ss below) i
+
+    pub occurs_named : (k : ℕ) (ss : List (Seen ℕ)) → k < n → AllBelow n ss → occurs order (map (renamed f) ss) (f k) ≡ occurs nat_cmp ss k
+    occurs_named k [] in_n below = refl
+    occurs_named k (s ∷ ss) in_n below =
+        λ i. has-renamed k s.keys in_n (All-head (λ (t : Seen ℕ). All (λ j. j < n) t.keys) s ss below) i
+        || occurs_named k ss in_n (All-tail (λ (t : Seen ℕ). All (λ j. j < n) t.keys) s ss below) i

@@ -11,3 +11,4 @@ pub mod EdgeSums
 pub mod Counted
 pub mod Matches
 pub mod Ranks
+pub mod Joined

@@ -1,0 +1,96 @@
+//! The part of one piece, and the part of pieces joined, for callers that run the pieces themselves.
+ghost use Rattle.std.specs.Prelude.{◌≡◌, ◌*◌, ◌<◌, length, IfOk};
+ghost use Rattle.pp_model.specs.Conditions.{HasVerdicts, IsColumnOf};
+ghost use Rattle.pp_model.specs.Sizes.{IsCountable};
+ghost use Rattle.pp_tags.specs.TagFilters.{HasItsTags, filter_in_force};
+ghost use Rattle.pp_count.specs.Counted.{CanCount};
+ghost use Rattle.pp_count.specs.Joined.{IsRangePart, CanJoin, IsJoined};
+ghost use Rattle.pp_count.specs.Parts.{piece_samples};
+ghost use Rattle.pp_count.specs.Table.{IsKeyTable};
+
+use crate::counting::count_piece_of;
+use crate::part::Part;
+use crate::scope::Scope;
+use crate::sofar::Sofar;
+use crate::table::KeyTable;
+use pp_base::{List, Memory};
+use pp_model::{Config, Loaded, Verdicts};
+use pp_tags::TagFilter;
+use std::alloc::Global;
+
+/// Counts the samples from number `1024 * piece` up to the next piece, or to the last sample. `table` is the key table of
+/// `l` and `config`. `Err` is want of memory.
+pub fn count_piece(
+    alloc: Global,
+    l: &Loaded,
+    v: &Verdicts,
+    config: &Config,
+    column: Option<u32>,
+    table: &KeyTable,
+    piece: u32,
+) -> Result<Part, Memory>
+    requires can { CanCount l.now.profile v.now config.now column }
+    requires table { IsKeyTable l.now.profile config.now table.now }
+    requires starts { 1024 * piece < length l.now.profile.sample }
+    ensures { IfOk result (IsRangePart l.now v.now config.now column table.now.names
+        (1024 * piece) (piece_samples l.now.profile.sample piece)) }
+{
+    let focus = TagFilter::in_force(alloc, config.tagfocus.as_slice())?;
+    let ignore = TagFilter::in_force(alloc, config.tagignore.as_slice())?;
+    let part = count_piece_by(alloc, l, v, config, &focus, &ignore, column, table, piece)?;
+    Ok(part)
+}
+
+// The part of the piece, by these tag filters of the configuration.
+fn count_piece_by<'x>(
+    alloc: Global,
+    l: &'x Loaded,
+    v: &'x Verdicts,
+    config: &'x Config,
+    focus: &'x Option<TagFilter>,
+    ignore: &'x Option<TagFilter>,
+    column: Option<u32>,
+    table: &'x KeyTable,
+    piece: u32,
+) -> Result<Part, Memory>
+    requires countable { IsCountable l.now.profile }
+    requires column { IsColumnOf l.now.profile column }
+    requires verdicts { HasVerdicts l.now.profile v.now }
+    requires focus { focus.now ≡ filter_in_force config.now.tagfocus }
+    requires ignore { ignore.now ≡ filter_in_force config.now.tagignore }
+    requires focus_tags { HasItsTags l.now.profile v.now.tag focus.now }
+    requires ignore_tags { HasItsTags l.now.profile v.now.tag ignore.now }
+    requires table { IsKeyTable l.now.profile config.now table.now }
+    requires starts { 1024 * piece < length l.now.profile.sample }
+    ensures { IfOk result (IsRangePart l.now v.now config.now column table.now.names
+        (1024 * piece) (piece_samples l.now.profile.sample piece)) }
+{
+    let _compact = l.profile.get();
+    let scope = Scope {
+        l,
+        v,
+        config,
+        focus,
+        ignore,
+        column,
+        table,
+        over: None,
+    };
+    let part = count_piece_of(alloc, &scope, piece)?;
+    Ok(part)
+}
+
+/// Joins the parts of consecutive ranges of samples, in order. They are spent, also where memory is wanting. `Err` is want
+/// of memory.
+pub fn join_parts(alloc: Global, parts: List<Part>) -> Result<Part, Memory>
+    requires { CanJoin parts }
+    ensures { IfOk result (IsJoined parts) }
+{
+    // The parts don't tell how many key numbers there are.
+    let mut sofar = Sofar::new(alloc, 0)?;
+    for part in parts.as_slice() {
+        sofar.add(part)?;
+    }
+    let whole = sofar.into_part(alloc)?;
+    Ok(whole)
+}
