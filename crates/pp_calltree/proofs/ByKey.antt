@@ -16,14 +16,19 @@ use Rattle.std.proofs.lemmas.Int.{ints}
 use Rattle.std.proofs.lemmas.List.Concat.{flat_map-cons}
 use Rattle.std.proofs.lemmas.List.Elements.{All-nil, All-cons, All-head, All-tail}
 use Rattle.std.proofs.lemmas.List.Sums.{get_or-le-sum_by}
+use Rattle.pp_model.specs.declared.profile.Profile.{Profile}
 use Rattle.pp_model.specs.FrameTexts.{Written}
 use Rattle.pp_grain.specs.Keys.{key_cmp}
 use Rattle.pp_grain.proofs.CallerLemmas.{key_cmp_total, key_cmp_ties}
 use Rattle.pp_count.specs.Sums.{Seen, sum_where, leads, flat}
 use Rattle.pp_count.specs.Ranks.{set_entry}
+use Rattle.pp_count.specs.declared.sums.Sums.{Sums}
+use Rattle.pp_count.specs.Counts.{AreSumsOf, written_names}
 use Rattle.pp_count.proofs.EachOnce.{keys-items}
 use Rattle.pp_calltree.specs.CallTree.{TreeRow, rooted, any_row, is_end, first_key, first_keys, below_key, under, path_flat, siblings, sibling_order, row_of, rows_below, tree_rows, all_lengths}
-use Rattle.pp_calltree.specs.Tree.{flats_with}
+use Rattle.pp_calltree.specs.declared.tree.PathNode.{PathNode}
+use Rattle.pp_calltree.specs.Laid.{node_row}
+use Rattle.pp_calltree.specs.Tree.{flats_with, flats_at}
 use Rattle.pp_calltree.proofs.Children.{order_total, order_ties, ties}
 
 abbrev eq : Written → Written → Bool
@@ -233,7 +238,15 @@ last_rooted : (k : Written) (S : List (Seen Written)) → last_sum k (map rooted
 last_rooted k [] = refl
 last_rooted k (s ∷ S) = λ i. cond (ends_rooted k s.keys i) s.value (pos 0) +ℤ last_rooted k S i
 
--- The flats of a key's nodes add up to its flat.
-pub flats_add_up : (k : Written) (S : List (Seen Written)) → flats_with k (tree_rows key_cmp any_row (map rooted S)) ≡ flat key_cmp S k
+-- the flats of a key's nodes add up to its flat
+flats_add_up : (k : Written) (S : List (Seen Written)) → flats_with k (tree_rows key_cmp any_row (map rooted S)) ≡ flat key_cmp S k
 flats_add_up k S =
     by_key_below k (all_lengths (map rooted S)) 0 (map rooted S) (λ i d here. get_or-le-sum_by (λ (s : Seen Written). length s.keys) (map rooted S) i d here) ∙ last_rooted k S
+
+-- For each name of a report's sums, the flats of its nodes add up to its flat.
+pub flats_are : (p : Profile) (sums : Sums) (nodes : List PathNode) (S : List (Seen Written)) → map (node_row p) nodes ≡ tree_rows key_cmp any_row (map rooted S) → AreSumsOf p S sums
+    → map (flats_at p nodes) (written_names p sums) ≡ sums.flat
+flats_are p sums nodes S rows are = each (written_names p sums) ∙ sym are.flat where
+  each : (ks : List Written) → map (flats_at p nodes) ks ≡ map (flat key_cmp S) ks
+  each [] = refl
+  each (k ∷ ks) = λ i. (ap (flats_with k) rows ∙ flats_add_up k S) i ∷ each ks i

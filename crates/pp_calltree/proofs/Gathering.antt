@@ -1,18 +1,26 @@
--- The paths of samples, with one more sample.
-use Rattle.std.proofs.Common.{◌≡◌, ℕ, ◌+◌, ◌<◌, true, false, cond, not, ℤ, pos, List, [], ◌∷◌, ◌++◌, length, take, get_or, map, All, refl, sym, ap, ◌∙◌, subst}
+-- The paths of the counted samples, with one more sample.
+use Rattle.std.proofs.Common.{◌≡◌, ℕ, zero, suc, ◌+◌, ◌<◌, ◌≤◌, ◌==◌, Bool, true, false, cond, not, ℤ, pos, List, [], ◌∷◌, ◌++◌, length, take, drop, get_or, map, All, Option, Some, None, option_map, refl, sym, ap, ◌∙◌, subst, arith}
+use Rattle.std.specs.List.{slice_get}
+use Rattle.std.specs.Option.{is_some, option_map_or}
 use Rattle.std.specs.Ordering.{int_eq}
-use Rattle.std.proofs.lemmas.List.{take_more, map-append}
-use Rattle.std.proofs.lemmas.List.Elements.{filter-append}
+use Rattle.std.proofs.lemmas.Bool.{false≢true, eq-eqb, ne_eqb}
+use Rattle.std.proofs.lemmas.List.{take_more, take_all, drop_more, drop-drop, map-append}
+use Rattle.std.proofs.lemmas.List.Elements.{filter-append, All-nil}
+use Rattle.pp_model.specs.declared.frame.Frame.{Frame}
 use Rattle.pp_model.specs.declared.profile.Sample.{Sample}
+use Rattle.pp_model.specs.Finders.{Finders}
+use Rattle.pp_stack.specs.Runs.{kept_if}
 use Rattle.pp_count.specs.declared.scope.Scope.{Scope}
 use Rattle.pp_count.specs.Column.{selected}
 use Rattle.pp_count.specs.Sums.{Seen, weighed}
-use Rattle.pp_count.specs.Scope.{config_of, AreSeen}
-use Rattle.pp_count.proofs.Ranges.{IsSeen, by_numbers, seen_more, seen_same}
+use Rattle.pp_count.specs.Parts.{HasBelow}
+use Rattle.pp_count.specs.Scope.{profile_of, config_of, AreSeen}
+use Rattle.pp_count.specs.Seeing.{HoldsFilters, keys_of_stack, filtered_stack, numbers_from, filtered_from}
+use Rattle.pp_count.proofs.Ranges.{IsSeen, name_of, by_numbers, seen_more, seen_same}
 use Rattle.pp_calltree.specs.declared.path.Path.{Path}
 use Rattle.pp_calltree.specs.declared.path.Rest.{Rest}
 use Rattle.pp_calltree.specs.CallTree.{rooted}
-use Rattle.pp_calltree.specs.Paths.{path_seen, rest_seen, rooted_if, ArePaths}
+use Rattle.pp_calltree.specs.Paths.{path_seen, rest_seen, rooted_if, stands_at, ArePaths}
 
 take_one : (samples : List Sample) (i : ℕ) (s : Sample) → i < length samples → s ≡ get_or samples i s → take i samples ++ s ∷ [] ≡ take (i + 1) samples
 take_one samples i s here is = ap (λ r. take i samples ++ r ∷ []) is ∙ sym (take_more samples i s here)
@@ -51,6 +59,94 @@ paths_same scope samples i s keys paths here at_i is so_far = record {
       (seen_same scope (take i samples) so_far.seen s keys is so_far.are);
   paths_are = so_far.paths_are;
 }
+
+-- The paths of the first samples are those of the numbers before this place, and the numbers from there on are those of
+-- the samples that the filters leave of the others.
+pub record GatheredTo (scope : Scope) (samples : List Sample) (kept : List ℕ) (met i : ℕ) (paths : List Path) : Type 0 where
+  pub paths_are : ArePaths scope (take i samples) paths
+  pub left_are : (f : Finders) → HoldsFilters scope.l.now scope.v.now (config_of scope) f
+      → drop met kept ≡ filtered_from (profile_of scope) f (config_of scope) i (drop i samples)
+
+slice_get-first : (xs : List ℕ) (n : ℕ) → slice_get xs n ≡ slice_get (drop n xs) 0
+slice_get-first xs zero = refl
+slice_get-first [] (suc n) = refl
+slice_get-first (x ∷ xs) (suc n) = slice_get-first xs n
+
+-- numbers begin no earlier than where they are counted from
+begins_late : (test : Sample → Bool) (n m : ℕ) (samples : List Sample) → m < n → stands_at (numbers_from test n samples) 0 m ≡ false
+begins_late test n m [] less = refl
+begins_late test n m (s ∷ samples) less =
+    elim (test s) as (λ b. stands_at (cond b (n ∷ numbers_from test (n + 1) samples) (numbers_from test (n + 1) samples)) 0 m ≡ false) [
+      | true ↦ ne_eqb n m (omega (arith, less))
+      | false ↦ begins_late test (n + 1) m samples (omega (arith, less))
+    ]
+
+-- whether the next number is that of the next sample
+at_first : (kept : List ℕ) (met i : ℕ) (test : Bool) (later left : List ℕ) → left ≡ cond test (i ∷ later) later → drop met kept ≡ left → stands_at later 0 i ≡ false
+    → stands_at kept met i ≡ test
+at_first kept met i test later left is so_far late =
+    ap (λ o. option_map_or (λ other. other == i) o false) (slice_get-first kept met ∙ ap (λ xs. slice_get xs 0) (so_far ∙ is))
+    ∙ elim test as (λ b. stands_at (cond b (i ∷ later) later) 0 i ≡ b) [
+      | true ↦ eq-eqb i i refl
+      | false ↦ late
+    ]
+
+module _ (scope : Scope) (samples : List Sample) (kept : List ℕ) (met i : ℕ) (s : Sample) (here : i < length samples) (at_i : s ≡ get_or samples i s) where
+  -- whether the filters leave the next sample
+  abbrev left_by : Finders → Sample → Bool
+  left_by f x = is_some (filtered_stack (profile_of scope) f (config_of scope) x)
+
+  abbrev later : Finders → List ℕ
+  later f = filtered_from (profile_of scope) f (config_of scope) (i + 1) (drop (i + 1) samples)
+
+  step : (f : Finders) → filtered_from (profile_of scope) f (config_of scope) i (drop i samples) ≡ cond (left_by f s) (i ∷ later f) (later f)
+  step f =
+      ap (numbers_from (left_by f) i) (drop_more samples i s here ∙ ap (λ x. x ∷ drop (i + 1) samples) (sym at_i))
+
+  meets : (f : Finders) → drop met kept ≡ filtered_from (profile_of scope) f (config_of scope) i (drop i samples) → stands_at kept met i ≡ left_by f s
+  meets f so_far = at_first kept met i (left_by f s) (later f) _ (step f) so_far (begins_late (left_by f) (i + 1) i (drop (i + 1) samples) (omega arith))
+
+  dropped : (stack : Option (List Frame)) (keys : List ℕ) → is_some stack ≡ false
+      → option_map (keys_of_stack (profile_of scope) (config_of scope)) stack ≡ kept_if false (map (name_of scope) keys)
+  dropped None keys none = refl
+  dropped (Some x) keys none = absurd (false≢true (sym none))
+
+  -- the next number is another sample's
+  pub passed_over : (paths : List Path) → stands_at kept met i ≡ false → GatheredTo scope samples kept met i paths → GatheredTo scope samples kept met (i + 1) paths
+  passed_over paths other so_far = record {
+    paths_are = paths_same scope samples i s [] paths here at_i
+        (λ f holds. dropped (filtered_stack (profile_of scope) f (config_of scope) s) [] (sym (meets f (so_far.left_are f holds)) ∙ other)) so_far.paths_are;
+    left_are = λ f holds.
+        so_far.left_are f holds ∙ step f ∙ ap (λ b. cond b (i ∷ later f) (later f)) (sym (meets f (so_far.left_are f holds)) ∙ other);
+  }
+
+  -- the next number is this sample's
+  pub met_next : (paths new : List Path) → stands_at kept met i ≡ true → (ArePaths scope (take i samples) paths → ArePaths scope (take (i + 1) samples) new)
+      → GatheredTo scope samples kept met i paths → GatheredTo scope samples kept (met + 1) (i + 1) new
+  met_next paths new own more so_far = record {
+    paths_are = more so_far.paths_are;
+    left_are = λ f holds.
+        sym (drop-drop 1 met kept)
+        ∙ ap (drop 1) (so_far.left_are f holds ∙ step f ∙ ap (λ b. cond b (i ∷ later f) (later f)) (sym (meets f (so_far.left_are f holds)) ∙ own));
+  }
+
+-- before the first sample
+pub gathered_none : (scope : Scope) (samples : List Sample) (kept : List ℕ) (paths : List Path) → paths ≡ []
+    → ((f : Finders) → HoldsFilters scope.l.now scope.v.now (config_of scope) f → kept ≡ filtered_from (profile_of scope) f (config_of scope) 0 samples)
+    → GatheredTo scope samples kept 0 0 paths
+gathered_none scope samples kept paths none are = record {
+  paths_are = record {
+    seen = [];
+    are = record { below = All-nil (HasBelow (length scope.table.now.names)); within = omega arith; are = λ f holds. refl };
+    paths_are = ap (map path_seen) none;
+  };
+  left_are = are;
+}
+
+-- past the last one
+pub gathered_all : (scope : Scope) (samples : List Sample) (kept : List ℕ) (met i : ℕ) (paths : List Path) → length samples ≤ i
+    → GatheredTo scope samples kept met i paths → ArePaths scope samples paths
+gathered_all scope samples kept met i paths past so_far = subst (λ (r : List Sample). ArePaths scope r paths) (take_all i samples past) so_far.paths_are
 
 -- what there is of one more path
 pub rests_more : (paths : List Path) (i : ℕ) (path : Path) (old new : List Rest) (rest : Rest) → i < length paths → path ≡ get_or paths i path

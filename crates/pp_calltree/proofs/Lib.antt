@@ -6,7 +6,7 @@ pub mod Under
 pub mod Children
 pub mod LaidOut
 pub mod Built
-pub mod Walks
+pub mod LinkLemmas
 pub mod Summing
 pub mod Pruning
 pub mod Written

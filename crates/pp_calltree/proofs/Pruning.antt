@@ -1,12 +1,14 @@
 -- The nodes that are shown are those of the tree without its light branches.
 use Rattle.std.proofs.Common.{◌≡◌, ℕ, zero, suc, ◌+◌, ◌<◌, ◌≤◌, Bool, true, false, cond, nat_abs, List, [], ◌∷◌, ◌++◌, length, map, drop, get_or, All, Option, Some, None, refl, sym, ap, subst, ◌∙◌, append_assoc, arith, length-append}
 use Rattle.std.specs.Prelude.{flat_map}
+use Rattle.std.specs.List.{slice_get}
 use Rattle.std.specs.declared.cmp.Ordering.{Ordering}
 use Rattle.std.proofs.lemmas.Bool.{lt-ltb, le-ltb}
 use Rattle.std.proofs.lemmas.List.{append-nil, drop_more, drop_all, map-append}
 use Rattle.std.proofs.lemmas.List.Concat.{flat_map-cons}
 use Rattle.std.proofs.lemmas.List.Elements.{All-nil, All-push}
 use Rattle.std.proofs.lemmas.List.Sums.{sum_by-cons, sum_by_push}
+use Rattle.std.proofs.lemmas.Option.{slice_get_within, get_or_from_slice_get}
 use Rattle.pp_model.specs.declared.profile.Profile.{Profile}
 use Rattle.pp_model.specs.FrameTexts.{Written}
 use Rattle.pp_grain.specs.Keys.{IsKeyOf}
@@ -114,7 +116,7 @@ module _ (total b : ℕ) (nodes : List PathNode) (i : ℕ) (d : PathNode) (here 
 
   module _ (cut : Option ℕ) (shown : List PathNode) (so_far : ShownTo total b i cut nodes shown) where
     -- a node below a cut
-    pub shown_cut : is_cut cut x.depth ≡ true → ShownTo total b (i + 1) cut nodes shown
+    shown_cut : is_cut cut x.depth ≡ true → ShownTo total b (i + 1) cut nodes shown
     shown_cut is = record {
       rows = λ p. sym (ap (λ r. map (node_row p) shown ++ r) (step p cut
           ∙ ap (λ c. cond c (pruned (is_heavy_row total b) cut (after p)) (cond (is_heavy total b x.cum) (node_row p x ∷ pruned (is_heavy_row total b) None (after p)) (pruned (is_heavy_row total b) (Some x.depth) (after p)))) is))
@@ -125,7 +127,7 @@ module _ (total b : ℕ) (nodes : List PathNode) (i : ℕ) (d : PathNode) (here 
     }
 
     -- a heavy node
-    pub shown_more : (new : List PathNode) → is_cut cut x.depth ≡ false → is_heavy total b x.cum ≡ true → new ≡ shown ++ x ∷ [] → ShownTo total b (i + 1) None nodes new
+    shown_more : (new : List PathNode) → is_cut cut x.depth ≡ false → is_heavy total b x.cum ≡ true → new ≡ shown ++ x ∷ [] → ShownTo total b (i + 1) None nodes new
     shown_more new is heavy more = record {
       rows = λ p. ap (λ ns. map (node_row p) ns ++ pruned (is_heavy_row total b) None (after p)) more
           ∙ ap (λ r. r ++ pruned (is_heavy_row total b) None (after p)) (map-append (node_row p) shown (x ∷ []))
@@ -139,7 +141,7 @@ module _ (total b : ℕ) (nodes : List PathNode) (i : ℕ) (d : PathNode) (here 
     }
 
     -- a light node
-    pub shown_light : is_cut cut x.depth ≡ false → is_heavy total b x.cum ≡ false → ShownTo total b (i + 1) (Some x.depth) nodes shown
+    shown_light : is_cut cut x.depth ≡ false → is_heavy total b x.cum ≡ false → ShownTo total b (i + 1) (Some x.depth) nodes shown
     shown_light is light = record {
       rows = λ p. sym (ap (λ r. map (node_row p) shown ++ r) (step p cut
           ∙ (λ j. cond (is j) (pruned (is_heavy_row total b) cut (after p)) (cond (light j) (node_row p x ∷ pruned (is_heavy_row total b) None (after p)) (pruned (is_heavy_row total b) (Some x.depth) (after p))))))
@@ -148,6 +150,31 @@ module _ (total b : ℕ) (nodes : List PathNode) (i : ℕ) (d : PathNode) (here 
       fewer = omega (arith, so_far.fewer, fewer_step);
       keys = so_far.keys;
     }
+
+-- A node that was read: it stands at its place.
+module _ (total b : ℕ) (nodes : List PathNode) (i : ℕ) (x : PathNode) (found : slice_get nodes i ≡ Some x) (cut : Option ℕ) (shown : List PathNode)
+    (so_far : ShownTo total b i cut nodes shown) where
+  here : i < length nodes
+  here = slice_get_within nodes i x found
+
+  is_x : get_or nodes i x ≡ x
+  is_x = get_or_from_slice_get nodes i x x found
+
+  -- below a cut
+  pub read_cut : is_cut cut x.depth ≡ true → ShownTo total b (i + 1) cut nodes shown
+  read_cut is = shown_cut total b nodes i x here cut shown so_far (ap (λ (y : PathNode). is_cut cut y.depth) is_x ∙ is)
+
+  -- heavy
+  pub read_more : (new : List PathNode) → is_cut cut x.depth ≡ false → is_heavy total b x.cum ≡ true → new ≡ shown ++ x ∷ [] → ShownTo total b (i + 1) None nodes new
+  read_more new is heavy more =
+      shown_more total b nodes i x here cut shown so_far new (ap (λ (y : PathNode). is_cut cut y.depth) is_x ∙ is)
+      (ap (λ (y : PathNode). is_heavy total b y.cum) is_x ∙ heavy) (more ∙ ap (λ y. shown ++ y ∷ []) (sym is_x))
+
+  -- light
+  pub read_light : is_cut cut x.depth ≡ false → is_heavy total b x.cum ≡ false → ShownTo total b (i + 1) (Some x.depth) nodes shown
+  read_light is light =
+      subst (λ (y : PathNode). ShownTo total b (i + 1) (Some y.depth) nodes shown) is_x
+      (shown_light total b nodes i x here cut shown so_far (ap (λ (y : PathNode). is_cut cut y.depth) is_x ∙ is) (ap (λ (y : PathNode). is_heavy total b y.cum) is_x ∙ light))
 
 -- before the first node
 pub shown_none : (total b : ℕ) (nodes shown : List PathNode) → shown ≡ [] → ShownTo total b 0 None nodes shown

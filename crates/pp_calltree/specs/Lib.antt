@@ -4,5 +4,6 @@ pub mod Branches
 pub mod Siblings
 pub mod Laid
 pub mod Tree
+pub mod Links
 pub mod Shown
 pub mod Text

@@ -1,5 +1,7 @@
 -- The paths of samples as the code holds them, by key numbers. No public clause cites it.
-use Rattle.std.specs.Prelude.{◌≡◌, ℕ, ℤ, pos, List, [], ◌∷◌, map, if◌then◌else◌}
+use Rattle.std.specs.Prelude.{◌≡◌, ℕ, ◌==◌, Bool, false, ℤ, pos, List, [], ◌∷◌, map, if◌then◌else◌}
+use Rattle.std.specs.List.{slice_get}
+use Rattle.std.specs.Option.{option_map_or}
 use Rattle.std.specs.Ordering.{int_eq}
 use Rattle.pp_model.specs.declared.profile.Sample.{Sample}
 use Rattle.pp_count.specs.declared.scope.Scope.{Scope}
@@ -21,6 +23,10 @@ rest_seen rest = record { value = rest.value; keys = rest.keys.now }
 abbrev pub rooted_if : ℤ → List ℕ → List (Seen ℕ)
 rooted_if value keys =
     if int_eq value (pos 0) then [] else rooted (record { value = value; keys = keys }) ∷ []
+
+-- the number stands at the place
+abbrev pub stands_at : List ℕ → ℕ → ℕ → Bool
+stands_at numbers place number = option_map_or (λ other. other == number) (slice_get numbers place) false
 
 -- The paths are those of what the report sees of the samples, by key numbers.
 pub record ArePaths (scope : Scope) (samples : List Sample) (paths : List Path) : Type 0 where

@@ -1,18 +1,16 @@
 -- A call tree as a list of its nodes, parents before children.
-use Rattle.std.specs.Prelude.{◌≡◌, ℕ, ◌+◌, ◌<◌, ◌==◌, ◌^◌, nat_lt, nat_abs, ℤ, pos, ◌+ℤ◌, List, [], ◌∷◌, drop, map, All, Option, Some, None, if◌then◌else◌}
+use Rattle.std.specs.Prelude.{◌≡◌, ℕ, ◌+◌, ◌<◌, ◌==◌, ◌^◌, nat_lt, nat_abs, ℤ, pos, ◌+ℤ◌, List, [], ◌∷◌, take, drop, map, All, Option, Some, None, if◌then◌else◌}
 use Rattle.std.specs.List.{sum_by, slice_get}
 use Rattle.std.specs.Option.{option_map_or}
 use Rattle.std.specs.Ordering.{eq_by_cmp}
 use Rattle.pp_model.specs.declared.config.Config.{Config}
 use Rattle.pp_model.specs.declared.loaded.Loaded.{Loaded}
+use Rattle.pp_model.specs.declared.profile.Profile.{Profile}
 use Rattle.pp_model.specs.declared.verdicts.Verdicts.{Verdicts}
 use Rattle.pp_model.specs.Finders.{Finders}
 use Rattle.pp_model.specs.FrameTexts.{Written}
 use Rattle.pp_grain.specs.Keys.{key_cmp, IsKeyOf}
-use Rattle.pp_count.specs.Counted.{report_samples}
 use Rattle.pp_count.specs.Seeing.{HoldsFilters}
-use Rattle.pp_count.specs.Sums.{flat}
-use Rattle.pp_calltree.specs.declared.tree.CallTree.{CallTree}
 use Rattle.pp_calltree.specs.declared.tree.PathNode.{PathNode}
 use Rattle.pp_calltree.specs.CallTree.{TreeRow, tree_nodes}
 use Rattle.pp_calltree.specs.Laid.{node_row}
@@ -44,20 +42,31 @@ sibling_in depth place (node ∷ nodes) =
 abbrev pub next_sibling : List PathNode → ℕ → Option ℕ
 next_sibling nodes n = sibling_in (depth_at nodes n) (n + 1) (drop (n + 1) nodes)
 
+-- the place of the last of these nodes that is less deep, and the other one where none is, where these stand from that
+-- place on
+abbrev pub above_in : ℕ → ℕ → Option ℕ → List PathNode → Option ℕ
+above_in depth place other [] = other
+above_in depth place other (node ∷ nodes) =
+    above_in depth (place + 1) (if nat_lt node.depth depth then Some place else other) nodes
+
+-- the last node before this one that is less deep
+abbrev pub parent : List PathNode → ℕ → Option ℕ
+parent nodes n = above_in (depth_at nodes n) 0 None (take n nodes)
+
 -- the sum of the flats of the nodes with this key
 abbrev pub flats_with : Written → List (TreeRow Written) → ℤ
 flats_with k [] = pos 0
 flats_with k (row ∷ rows) =
     (if eq_by_cmp key_cmp k row.key then row.flat else pos 0) +ℤ flats_with k rows
 
--- The tree is that of the report. For each key, the flats of its nodes add up to its flat. All keys are keys of the
--- profile, and the flats can be added up.
-pub record IsTreeOf (l : Loaded) (v : Verdicts) (config : Config) (column : Option ℕ) (t : CallTree)
-    : Type 0 where
+-- the sum of the flats of the tree's nodes with this key
+abbrev pub flats_at : Profile → List PathNode → Written → ℤ
+flats_at p nodes k = flats_with k (map (node_row p) nodes)
+
+-- The nodes are those of the report's call tree. All keys are keys of the profile, and the flats can be added up.
+pub record IsTreeOf (l : Loaded) (v : Verdicts) (config : Config) (column : Option ℕ)
+    (nodes : List PathNode) : Type 0 where
   pub rows : (f : Finders) → HoldsFilters l v config f
-      → map (node_row l.profile) t.list ≡ tree_nodes l.profile f config column
-  pub by_key : (f : Finders) → HoldsFilters l v config f → (k : Written)
-      → flats_with k (map (node_row l.profile) t.list)
-      ≡ flat key_cmp (report_samples l.profile f config column) k
-  pub keys : All (λ n. IsKeyOf l.profile n.key) t.list
-  pub fits : sum_by (λ n. nat_abs n.flat) t.list < 2 ^ 63
+      → map (node_row l.profile) nodes ≡ tree_nodes l.profile f config column
+  pub keys : All (λ n. IsKeyOf l.profile n.key) nodes
+  pub fits : sum_by (λ n. nat_abs n.flat) nodes < 2 ^ 63

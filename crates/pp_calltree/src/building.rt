@@ -3,51 +3,65 @@ ghost use Rattle.std.specs.Prelude.{◌≡◌, ◌<◌, ◌^◌, nat_abs, None, 
 ghost use Rattle.std.specs.List.{sum_by};
 ghost use Rattle.pp_model.specs.Finders.{Finders};
 ghost use Rattle.pp_grain.specs.Keys.{IsKeyOf};
-ghost use Rattle.pp_count.specs.Seeing.{HoldsFilters};
+ghost use Rattle.pp_count.specs.Seeing.{HoldsFilters, filtered_from};
 ghost use Rattle.pp_count.specs.Scope.{IsSound, size_of};
 ghost use Rattle.pp_tags.specs.TagFilters.{filter_in_force};
 ghost use Rattle.pp_count.specs.Table.{IsKeyTable};
-ghost use Rattle.pp_count.specs.Counted.{CanCount};
+ghost use Rattle.pp_count.specs.Counts.{written_names};
+ghost use Rattle.pp_count.specs.Counted.{CanCount, IsCountedOf};
 ghost use Rattle.pp_calltree.specs.CallTree.{tree_nodes};
 ghost use Rattle.pp_calltree.specs.Laid.{node_row};
-ghost use Rattle.pp_calltree.specs.Tree.{IsTreeOf};
+ghost use Rattle.pp_calltree.specs.Tree.{IsTreeOf, flats_at};
 
 use crate::laying::lay_out;
+use crate::linking::link;
 use crate::path::{gather_paths, whole_paths};
 use crate::tree::{CallTree, PathNode};
 use pp_base::{List, Memory};
-use pp_count::{KeyTable, Scope, key_table};
+use pp_count::{Counted, KeyTable, Scope, key_table};
 use pp_model::{Config, Loaded, Verdicts};
 use pp_tags::TagFilter;
 use std::alloc::Global;
 
 impl CallTree {
-    /// Builds the tree of the samples that put keys into the report. `Err` is want of memory.
+    /// Builds the tree of the counted samples that put keys into the report, of which `c` has the numbers. `Err` is want
+    /// of memory.
     ///
     /// Siblings, and roots, stand by absolute cum falling, then by absolute flat falling, then by the order of keys.
     pub fn build(
         alloc: Global,
         l: &Loaded,
         v: &Verdicts,
+        c: &Counted,
         config: &Config,
         column: Option<u32>,
     ) -> Result<CallTree, Memory>
-        requires { CanCount l.now.profile v.now config.now column }
-        ensures { IfOk result (IsTreeOf l.now v.now config.now column) }
+        requires can { CanCount l.now.profile v.now config.now column }
+        requires counted { IsCountedOf l.now v.now config.now column c.now }
+        ensures tree { IfOk result (IsTreeOf l.now v.now config.now column) }
+
+        // For each name of the sums, the flats of its nodes add up to its flat.
+        ensures flats { (f : Finders) → HoldsFilters l.now v.now config.now f →
+            IfOk result (λ t. map (flats_at l.now.profile t) (written_names l.now.profile c.now.sums)
+            ≡ c.now.sums.flat) }
     {
         let table = key_table(alloc, l, config)?;
         let focus = TagFilter::in_force(alloc, config.tagfocus.as_slice())?;
         let ignore = TagFilter::in_force(alloc, config.tagignore.as_slice())?;
-        let list = list_by(alloc, l, v, config, &focus, &ignore, column, &table)?;
+        let kept = c.kept.as_slice();
+        let nodes = list_by(alloc, l, v, kept, config, &focus, &ignore, column, &table)?;
+        let list = link(alloc, nodes.as_slice())?;
         Ok(CallTree { list })
     }
 }
 
-// The nodes of all samples, by this table of the profile's keys and these tag filters of the configuration.
+// The nodes of the samples with these numbers, by this table of the profile's keys and these tag filters of the
+// configuration.
 fn list_by<'x>(
     alloc: Global,
     l: &'x Loaded,
     v: &'x Verdicts,
+    kept: &[u32],
     config: &'x Config,
     focus: &'x Option<TagFilter>,
     ignore: &'x Option<TagFilter>,
@@ -58,6 +72,8 @@ fn list_by<'x>(
     requires focus { focus.now ≡ filter_in_force config.now.tagfocus }
     requires ignore { ignore.now ≡ filter_in_force config.now.tagignore }
     requires table { IsKeyTable l.now.profile config.now table.now }
+    requires kept { (f : Finders) → HoldsFilters l.now v.now config.now f →
+        kept.now ≡ filtered_from l.now.profile f config.now 0 l.now.profile.sample }
     ensures rows { (f : Finders) → HoldsFilters l.now v.now config.now f →
         IfOk result (λ nodes. map (node_row l.now.profile) nodes
         ≡ tree_nodes l.now.profile f config.now column) }
@@ -74,13 +90,17 @@ fn list_by<'x>(
         table,
         over: None,
     };
-    nodes_of(alloc, &scope)
+    nodes_by(alloc, &scope, kept)
 }
 
-// The nodes of all samples.
-fn nodes_of(alloc: Global, scope: &Scope) -> Result<List<PathNode>, Memory>
+// The nodes of the samples with these numbers.
+fn nodes_by(alloc: Global, scope: &Scope, kept: &[u32]) -> Result<List<PathNode>, Memory>
     requires sound { IsSound scope.now }
     requires fits { size_of scope.now scope.now.l.now.profile.sample < 2 ^ 63 }
+    requires kept { (f : Finders) →
+        HoldsFilters scope.now.l.now scope.now.v.now scope.now.config.now f →
+        kept.now ≡ filtered_from scope.now.l.now.profile f scope.now.config.now 0
+        scope.now.l.now.profile.sample }
     ensures rows { (f : Finders) →
         HoldsFilters scope.now.l.now scope.now.v.now scope.now.config.now f →
         IfOk result (λ nodes. map (node_row scope.now.l.now.profile) nodes
@@ -89,7 +109,7 @@ fn nodes_of(alloc: Global, scope: &Scope) -> Result<List<PathNode>, Memory>
     ensures fits { IfOk result (λ nodes. sum_by (λ n. nat_abs n.flat) nodes < 2 ^ 63) }
 {
     let p = scope.l.profile.get();
-    let paths = gather_paths(alloc, scope, p.sample.as_slice())?;
+    let paths = gather_paths(alloc, scope, p.sample.as_slice(), kept)?;
     let rests = whole_paths(alloc, paths.as_slice())?;
     let nodes = lay_out(alloc, p, &scope.table.names, &rests)?;
     Ok(nodes)

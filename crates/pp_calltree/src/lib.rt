@@ -4,6 +4,7 @@
 mod branch;
 mod building;
 mod laying;
+mod linking;
 mod path;
 mod shown;
 mod siblings;

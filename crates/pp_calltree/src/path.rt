@@ -1,9 +1,11 @@
 //! The paths of a report's samples, by key numbers.
-ghost use Rattle.std.specs.Prelude.{◌≡◌, ◌++◌, ◌<◌, ◌^◌, length, map, All, IfOk};
+ghost use Rattle.std.specs.Prelude.{◌≡◌, ◌++◌, ◌<◌, ◌^◌, true, length, map, All, IfOk};
 ghost use Rattle.pp_model.specs.Conditions.{RefersTo, IsSampleOf};
+ghost use Rattle.pp_model.specs.Finders.{Finders};
 ghost use Rattle.pp_count.specs.Column.{selected};
 ghost use Rattle.pp_count.specs.Scope.{IsSound};
-ghost use Rattle.pp_calltree.specs.Paths.{path_seen, rest_seen, rooted_if, ArePaths};
+ghost use Rattle.pp_count.specs.Seeing.{HoldsFilters, filtered_from};
+ghost use Rattle.pp_calltree.specs.Paths.{path_seen, rest_seen, rooted_if, stands_at, ArePaths};
 
 use pp_base::{List, Memory};
 use pp_count::{Scope, see, selected};
@@ -27,21 +29,45 @@ pub struct Rest<'a> {
     pub keys: &'a [u64],
 }
 
-/// The paths of the samples that the filters leave, but for samples of value 0, in order.
-pub fn gather_paths(alloc: Global, scope: &Scope, samples: &[Sample]) -> Result<List<Path>, Memory>
+/// The paths of the samples with these numbers, which rise, but for samples of value 0, in order.
+pub fn gather_paths(
+    alloc: Global,
+    scope: &Scope,
+    samples: &[Sample],
+    kept: &[u32],
+) -> Result<List<Path>, Memory>
     requires sound { IsSound scope.now }
     requires members { All (IsSampleOf scope.now.l.now.profile) samples.now }
     requires refers { All (RefersTo scope.now.l.now.profile) samples.now }
+    requires kept { (f : Finders) →
+        HoldsFilters scope.now.l.now scope.now.v.now scope.now.config.now f →
+        kept.now ≡ filtered_from scope.now.l.now.profile f scope.now.config.now 0 samples.now }
     ensures { IfOk result (ArePaths scope.now samples.now) }
 {
     let mut keys = Vec::new(alloc);
     let mut paths = List::new(alloc);
-    for sample in samples {
+    let mut met = 0;
+    for (number, sample) in samples.iter().enumerate() {
+        if !stands_at(kept, met, number) {
+            continue;
+        }
+        met += 1;
         if see(alloc, scope, sample, &mut keys)? {
             add_path(alloc, scope, &mut paths, sample, &keys)?;
         }
     }
     Ok(paths)
+}
+
+// Whether the number stands at the place.
+fn stands_at(numbers: &[u32], place: usize, number: usize) -> bool
+    ensures value { result ≡ stands_at numbers.now place number }
+    ensures within { result ≡ true → place < length numbers.now }
+{
+    match numbers.get(place) {
+        Some(other) => *other as usize == number,
+        None => false,
+    }
 }
 
 // Adds the path of a sample with these keys, leaf first.

@@ -1,9 +1,11 @@
 //! A call tree, and the walk of its nodes.
-ghost use Rattle.std.specs.Prelude.{◌≡◌, ◌<◌, ◌==◌, nat_lt, Some, None, length, slice_get, if◌then◌else◌};
-ghost use Rattle.pp_calltree.specs.Tree.{first_root, first_child, next_sibling};
+ghost use Rattle.std.specs.Prelude.{◌≡◌, ◌<◌, Some, length, slice_get};
+ghost use Rattle.pp_calltree.specs.Tree.{first_root, first_child, next_sibling, parent};
+ghost use Rattle.pp_calltree.specs.Links.{linked};
 
 use pp_base::List;
 use pp_grain::Key;
+use std::marker::Model;
 
 /// A node of a call tree.
 #[derive(Clone, Copy, Debug, PartialEq, Eq, Drop)]
@@ -17,24 +19,48 @@ pub struct PathNode {
     pub depth: u64,
 }
 
-/// The call tree of a report.
+/// A node, with the places of those that it is linked to.
+#[derive(Clone, Copy, Debug, PartialEq, Eq, Drop)]
+pub struct LinkedNode {
+    pub node: PathNode,
+    /// None where it has no children.
+    pub first_child: Option<u64>,
+    /// The sibling after it, None for the last one.
+    pub next_sibling: Option<u64>,
+    /// None for a root.
+    pub parent: Option<u64>,
+}
+
+/// The call tree of a report. Contracts see the list of its nodes, parents before children.
 #[derive(Debug, Drop)]
 pub struct CallTree {
-    /// All nodes, parents before children.
-    pub(crate) list: List<PathNode>,
+    pub(crate) list: List<LinkedNode>,
+}
+
+impl Model for CallTree {
+    ghost use Rattle.std.specs.Prelude.{List as Seq};
+    ghost use Rattle.pp_calltree.specs.declared.tree.PathNode.{PathNode};
+
+    ghost Value = { Seq PathNode };
+
+    ghost use Rattle.pp_calltree.specs.Links.{nodes_of, AreLinked};
+
+    ghost view = { λ t. nodes_of t.list };
+
+    ghost invariant = { λ t. AreLinked t.list };
 }
 
 impl CallTree {
     /// The number of nodes.
     pub fn nodes(&self) -> u64
-        ensures { result ≡ length self.now.list }
+        ensures { result ≡ length self.now }
     {
         self.list.len() as u64
     }
 
     /// The first root, None where there is no node.
     pub fn first_root(&self) -> Option<u64>
-        ensures { result ≡ first_root self.now.list }
+        ensures { result ≡ first_root self.now }
     {
         match self.list.as_slice() {
             [] => None,
@@ -44,51 +70,42 @@ impl CallTree {
 
     /// The first of the node's children, None where it has none.
     pub fn first_child(&self, n: u64) -> Option<u64>
-        requires { n < length self.now.list }
-        ensures { result ≡ first_child self.now.list n }
+        requires { n < length self.now }
+        ensures { result ≡ first_child self.now n }
     {
-        let nodes = self.list.as_slice();
-        match nodes.get(n as usize + 1) {
-            None => None,
-            Some(next) => child_if(next.depth, nodes[n as usize].depth, n + 1),
-        }
+        self.linked_node(n).first_child
     }
 
     /// The sibling after the node, None where it is the last one.
     pub fn next_sibling(&self, n: u64) -> Option<u64>
-        requires { n < length self.now.list }
-        ensures { result ≡ next_sibling self.now.list n }
+        requires { n < length self.now }
+        ensures { result ≡ next_sibling self.now n }
     {
-        let nodes = self.list.as_slice();
-        let depth = nodes[n as usize].depth;
-        for place in n as usize + 1..nodes.len() {
-            let other = nodes[place].depth;
-            if other <= depth {
-                return sibling_if(other, depth, place as u64);
-            }
-        }
-        None
+        self.linked_node(n).next_sibling
+    }
+
+    /// The node whose child this one is, None where it is a root.
+    pub fn parent(&self, n: u64) -> Option<u64>
+        requires { n < length self.now }
+        ensures { result ≡ parent self.now n }
+    {
+        self.linked_node(n).parent
     }
 
     /// The node with the number.
     pub fn node(&self, n: u64) -> PathNode
-        requires { n < length self.now.list }
-        ensures { slice_get self.now.list n ≡ Some result }
+        requires { n < length self.now }
+        ensures { slice_get self.now n ≡ Some result }
+    {
+        self.linked_node(n).node
+    }
+
+    // The node with its links.
+    fn linked_node(&self, n: u64) -> LinkedNode
+        requires { n < length self.now }
+        ensures node { slice_get self.now n ≡ Some result.node }
+        ensures links { result ≡ linked self.now n result.node }
     {
         self.list.as_slice()[n as usize]
     }
-}
-
-// The place, where a node stands there that is a child of one of the other depth.
-fn child_if(depth: u64, above: u64, place: u64) -> Option<u64>
-    ensures { result ≡ (if nat_lt above depth then Some place else None) }
-{
-    if depth > above { Some(place) } else { None }
-}
-
-// The place, where both depths are the same.
-fn sibling_if(depth: u64, other: u64, place: u64) -> Option<u64>
-    ensures { result ≡ (if depth == other then Some place else None) }
-{
-    if depth == other { Some(place) } else { None }
 }

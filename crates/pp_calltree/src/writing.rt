@@ -33,8 +33,8 @@ pub fn write_calltree(
     head: &Head,
     out: &mut Text,
 ) -> Result<(), Memory>
-    requires keys { All (λ n. IsKeyOf l.now.profile n.key) t.now.list }
-    requires fits { flat_sizes t.now.list < 2 ^ 63 }
+    requires keys { All (λ n. IsKeyOf l.now.profile n.key) t.now }
+    requires fits { flat_sizes t.now < 2 ^ 63 }
     requires total { head.now.total < 2 ^ 63 }
     ensures ok { (v : Verdicts) (column : Option ℕ) (f : Finders) →
         IsTreeOf l.now v config.now column t.now → HoldsFilters l.now v config.now f →
@@ -42,9 +42,8 @@ pub fn write_calltree(
         ≡ out.old ++ calltree_text l.now.profile f config.now column (facts head.now)) }
     ensures err { OnErr result (out.new ≡ out.old) }
 {
-    let nodes = t.list.as_slice();
-    let shown = shown_nodes(alloc, nodes, head.total, config.nodefraction)?;
-    let dropped = (nodes.len() - shown.len()) as u64;
+    let shown = shown_nodes(alloc, t, head.total, config.nodefraction)?;
+    let dropped = t.nodes() - shown.len() as u64;
     let mut text = Text::new(alloc);
     put_tree(alloc, l, shown.as_slice(), dropped, head, &mut text)?;
     out.append(text)

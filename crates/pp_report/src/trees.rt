@@ -52,12 +52,13 @@ fn call_tree(
     head: &Head,
 ) -> Result<Text, Memory>
     requires can { CanCount l.now.profile counts.now.verdicts config.now column }
+    requires counted { IsCountedOf l.now counts.now.verdicts config.now column counts.now.counted }
     requires small { head.now.total < 2 ^ 63 }
     ensures { (f : Finders) → HoldsFilters l.now counts.now.verdicts config.now f →
         IfOk result (λ text. text
         ≡ calltree_text l.now.profile f config.now column (facts head.now)) }
 {
-    let tree = CallTree::build(alloc, l, &counts.verdicts, config, column)?;
+    let tree = CallTree::build(alloc, l, &counts.verdicts, &counts.counted, config, column)?;
     let mut text = Text::new(alloc);
     write_calltree(alloc, l, &tree, config, head, &mut text)?;
     Ok(text)

@@ -6,6 +6,6 @@ use Rattle.pp_calltree.proofs.writing.write_calltree.Goals as goal
 pub returns-clause-ok : goal.returns-clause-ok
 returns-clause-ok c = λ v column f tree holds.
     appended c.append.result c.append.new.self c.args.out.now c.put_tree.new.out _
-    ((rw (c.new-text.ensures, c.as_slice.ensures, c.as_slice-nodes.ensures, c.len.ensures) at c.in_ok-put_tree.ensures)
-    ∙ text_is c.args.l.now v c.args.config.now column f c.args.t.now c.in_ok-shown.shown (facts c.args.head.now) tree holds
-    (rw c.as_slice-nodes.ensures at c.in_ok-shown.ensures)) c.append.ensures.ok
+    ((rw (c.new-text.ensures, c.as_slice.ensures, c.nodes.ensures, c.len.ensures) at c.in_ok-put_tree.ensures)
+    ∙ text_is c.args.l.now v c.args.config.now column f c.args.t.now c.in_ok-shown.shown (facts c.args.head.now) tree holds c.in_ok-shown.ensures)
+    c.append.ensures.ok

@@ -4,7 +4,7 @@ use Rattle.pp_count.proofs.Pieces.{all_refer}
 use Rattle.pp_calltree.specs.Paths.{rest_seen}
 use Rattle.pp_calltree.specs.CallTree.{any_row, tree_rows}
 use Rattle.pp_calltree.proofs.Built.{all_members, paths_have_room, paths_written}
-use Rattle.pp_calltree.proofs.building.nodes_of.Goals as goal
+use Rattle.pp_calltree.proofs.building.nodes_by.Goals as goal
 
 pub gather_paths-requires-clause-members : goal.gather_paths-requires-clause-members
 gather_paths-requires-clause-members c = rw c.as_slice.ensures (all_members c.args.scope.now.l.now.profile c.get-p.result.now c.get-p.ensures.same)
@@ -12,6 +12,9 @@ gather_paths-requires-clause-members c = rw c.as_slice.ensures (all_members c.ar
 pub gather_paths-requires-clause-refers : goal.gather_paths-requires-clause-refers
 gather_paths-requires-clause-refers c =
     rw c.as_slice.ensures (all_refer c.args.scope.now.l.now.profile c.get-p.result.now c.get-p.ensures.same c.get-p.ensures.valid)
+
+pub gather_paths-requires-clause-kept : goal.gather_paths-requires-clause-kept
+gather_paths-requires-clause-kept c = rw (c.as_slice.ensures, c.get-p.ensures.same) c.requires.kept
 
 pub lay_out-requires-clause-room : goal.lay_out-requires-clause-room
 lay_out-requires-clause-room c =

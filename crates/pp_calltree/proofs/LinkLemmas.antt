@@ -1,0 +1,220 @@
+-- The links of nodes, from how deep these stand.
+use Rattle.std.proofs.Common.{◌≡◌, ℕ, zero, suc, ◌+◌, ◌-◌, ◌<◌, ◌≤◌, ◌==◌, ◌⊎◌, inl, inr, nat_lt, true, false, cond, List, [], ◌∷◌, ◌++◌, length, map, reverse, take, drop, get_or, replicate, Option, Some, None, refl, sym, ap, subst, ◌∙◌, arith, length-append, length-take}
+use Rattle.std.specs.List.{slice_get}
+use Rattle.std.specs.Option.{option_map, option_map_or, unwrap_or}
+use Rattle.std.proofs.lemmas.Bool.{cases_lt, lt-ltb, le-ltb, eq-eqb, ne_eqb}
+use Rattle.std.proofs.lemmas.Grind.{common_steps, reverse_onto}
+use Rattle.std.proofs.lemmas.List.{drop_more, drop_all, take_more, take_all, get_or_append_left, get_or-append_right, get_or_past, get_or-take, get_or-replicate, get_or_default, length-map, length-replicate, reverse-reverse}
+use Rattle.std.proofs.Math.Seq.{get_or-append_seam}
+use Rattle.std.proofs.lemmas.Option.{slice_get-map, slice_get-get_or}
+use Rattle.pp_calltree.specs.declared.tree.PathNode.{PathNode}
+use Rattle.pp_calltree.specs.declared.tree.LinkedNode.{LinkedNode}
+use Rattle.pp_calltree.specs.Tree.{depth_at, first_child, next_sibling, sibling_in, above_in, parent}
+use Rattle.pp_calltree.specs.Links.{nodes_of, linked, linked_from, AreLinked, AreParents}
+
+-- the depth of a node that is there
+pub depth_is : (nodes : List PathNode) (n : ℕ) (d : PathNode) → n < length nodes → depth_at nodes n ≡ (get_or nodes n d).depth
+depth_is nodes n d here = ap (λ o. option_map_or (λ (x : PathNode). x.depth) o 0) (slice_get-get_or nodes n d here)
+
+-- links leave the nodes as they are
+nodes_of-linked : (nodes rest : List PathNode) (place : ℕ) → nodes_of (linked_from nodes place rest) ≡ rest
+nodes_of-linked nodes [] place = refl
+nodes_of-linked nodes (x ∷ rest) place = ap (λ r. x ∷ r) (nodes_of-linked nodes rest (place + 1))
+
+slice_get-linked : (nodes rest : List PathNode) (place k : ℕ) → slice_get (linked_from nodes place rest) k ≡ option_map (linked nodes (place + k)) (slice_get rest k)
+slice_get-linked nodes [] place k = refl
+slice_get-linked nodes (x ∷ rest) place zero = ap (λ n. Some (linked nodes n x)) (omega arith)
+slice_get-linked nodes (x ∷ rest) place (suc k) =
+    let same : (place + 1) + k ≡ place + suc k = omega arith in
+    slice_get-linked nodes rest (place + 1) k ∙ ap (λ n. option_map (linked nodes n) (slice_get rest k)) same
+
+both_some : (a b : LinkedNode) → Some a ≡ Some b → a ≡ b
+both_some a b same = ap (λ o. unwrap_or o a) same
+
+-- the one that is read at a place
+pub linked_read : (list seen : List LinkedNode) (nodes : List PathNode) (n : ℕ) (d : LinkedNode) → seen ≡ list → AreLinked list → nodes_of list ≡ nodes → n < length nodes
+    → get_or seen n d ≡ linked nodes n (get_or seen n d).node
+linked_read list seen nodes n d seen_is are same here =
+    let N : List PathNode = nodes_of list in
+    let s : LinkedNode = get_or list n d in
+    let within : n < length list = omega (arith, here, ap length same, length-map list (λ (x : LinkedNode). x.node)) in
+    let found : slice_get list n ≡ Some s = slice_get-get_or list n d within in
+    let node : slice_get N n ≡ Some s.node = slice_get-map (λ (x : LinkedNode). x.node) list n ∙ ap (option_map (λ (x : LinkedNode). x.node)) found in
+    let whole : 0 + n ≡ n = omega arith in
+    subst (λ (xs : List LinkedNode). get_or xs n d ≡ linked nodes n (get_or xs n d).node) (sym seen_is)
+    (both_some s (linked nodes n s.node)
+    (sym found ∙ ap (λ xs. slice_get xs n) are.are ∙ slice_get-linked N N 0 n ∙ ap (option_map (linked N (0 + n))) node
+    ∙ (λ i. Some (linked (same i) (whole i) s.node))))
+
+-- The nodes from this place on have their links, the last of them first. The table has the next sibling of a node to the
+-- left, by its depth.
+pub record LinkedBack (nodes : List PathNode) (place : ℕ) (list : List LinkedNode) (right : List (Option ℕ)) : Type 0 where
+  pub within : place ≤ length nodes
+  pub list_is : list ≡ reverse (linked_from nodes place (drop place nodes))
+  pub right_are : (depth : ℕ) → get_or right depth None ≡ sibling_in depth place (drop place nodes)
+
+-- at the end
+pub linked_none : (nodes : List PathNode) (list : List LinkedNode) (right : List (Option ℕ)) → list ≡ [] → right ≡ []
+    → LinkedBack nodes (length nodes) list right
+linked_none nodes list right none empty =
+    let past : drop (length nodes) nodes ≡ [] = drop_all (length nodes) nodes (omega arith) in
+    record {
+      within = omega arith;
+      list_is = none ∙ sym (ap (λ r. reverse (linked_from nodes (length nodes) r)) past);
+      right_are = λ depth. ap (λ r. get_or r depth None) empty ∙ sym (ap (sibling_in depth (length nodes)) past);
+    }
+
+-- the next sibling of the node before
+pub sibling_is : (nodes : List PathNode) (place next : ℕ) (x d : PathNode) (list : List LinkedNode) (right : List (Option ℕ)) → next + 1 ≡ place → x ≡ get_or nodes next d
+    → LinkedBack nodes place list right → get_or right x.depth None ≡ next_sibling nodes next
+sibling_is nodes place next x d list right before is so_far =
+    let here : next < length nodes = omega (arith, before, so_far.within) in
+    so_far.right_are x.depth
+    ∙ (λ i. sibling_in ((ap (λ (y : PathNode). y.depth) is ∙ sym (depth_is nodes next d here)) i) (sym before i) (drop (sym before i) nodes))
+
+-- one more node, to the left
+pub linked_more : (nodes : List PathNode) (place next : ℕ) (x d : PathNode) (one : LinkedNode) (list new : List LinkedNode) (right after : List (Option ℕ)) → next + 1 ≡ place → x ≡ get_or nodes next d
+    → one ≡ linked nodes next x → new ≡ list ++ one ∷ []
+    → ((depth : ℕ) → get_or after depth None ≡ cond (nat_lt depth x.depth) (get_or right depth None) (cond (x.depth == depth) (Some next) None))
+    → LinkedBack nodes place list right → LinkedBack nodes next new after
+linked_more nodes place next x d one list new right after before is linked_is more table so_far =
+    let at : LinkedBack nodes (next + 1) list right = subst (λ p. LinkedBack nodes p list right) (sym before) so_far in
+    let here : next < length nodes = omega (arith, at.within) in
+    let rest : List PathNode = drop (next + 1) nodes in
+    let whole : drop next nodes ≡ x ∷ rest = drop_more nodes next d here ∙ ap (λ y. y ∷ rest) (sym is) in
+    record {
+      within = omega (arith, here);
+      list_is = more ∙ (λ i. at.list_is i ++ linked_is i ∷ [])
+          ∙ sym (ap (λ r. reverse (linked_from nodes next r)) whole ∙ reverse_onto (linked_from nodes (next + 1) rest) (linked nodes next x) []);
+      right_are = λ depth.
+          table depth ∙ ap (λ o. cond (nat_lt depth x.depth) o (cond (x.depth == depth) (Some next) None)) (at.right_are depth)
+          ∙ sym (ap (sibling_in depth next) whole);
+    }
+
+-- all nodes
+pub linked_all : (nodes : List PathNode) (place : ℕ) (list all : List LinkedNode) (right : List (Option ℕ)) → place ≤ 0 → all ≡ reverse list → LinkedBack nodes place list right
+    → all ≡ linked_from nodes 0 nodes
+linked_all nodes place list all right first turned so_far =
+    let none : place ≡ 0 = omega (arith, first) in
+    turned ∙ ap reverse so_far.list_is ∙ reverse-reverse (linked_from nodes place (drop place nodes))
+    ∙ (λ i. linked_from nodes (none i) (drop (none i) nodes))
+
+pub their_nodes : (nodes : List PathNode) (list : List LinkedNode) → list ≡ linked_from nodes 0 nodes → nodes_of list ≡ nodes
+their_nodes nodes list are = ap nodes_of are ∙ nodes_of-linked nodes nodes 0
+
+pub are_linked : (nodes : List PathNode) (list : List LinkedNode) → list ≡ linked_from nodes 0 nodes → AreLinked list
+are_linked nodes list are = record { are = are ∙ (λ i. linked_from (sym (their_nodes nodes list are) i) 0 (sym (their_nodes nodes list are) i)) }
+
+-- a table that is cut or filled up with what stands past its end
+pub fitted : (n k : ℕ) (xs : List (Option ℕ)) (past d : Option ℕ) → k < n → get_or (take n xs ++ replicate (n - length xs) past) k d ≡ get_or xs k past
+fitted n k xs past d here = elim (cases_lt k (length xs)) as (λ _. get_or (take n xs ++ replicate (n - length xs) past) k d ≡ get_or xs k past) [
+  | inl within ↦
+      get_or_append_left (take n xs) (replicate (n - length xs) past) d k (omega (arith, within, here, length-take n xs))
+      ∙ get_or-take n xs k d here ∙ get_or_default xs k d past within
+  | inr beyond ↦
+      get_or-append_right (take n xs) (replicate (n - length xs) past) (length xs) k d (omega (arith, here, beyond, length-take n xs)) beyond
+      ∙ get_or-replicate (n - length xs) (k - length xs) past d (omega (arith, here, beyond)) ∙ sym (get_or_past xs k past beyond)
+]
+
+fitted_length : (n : ℕ) (xs : List (Option ℕ)) (past : Option ℕ) → length (take n xs ++ replicate (n - length xs) past) ≡ n
+fitted_length n xs past = omega (arith, length-append (take n xs) (replicate (n - length xs) past), length-take n xs, length-replicate (n - length xs) past)
+
+-- the table with the place of a node of this depth
+pub put_is : (old new : List (Option ℕ)) (depth place other : ℕ) → new ≡ (take depth old ++ replicate (depth - length old) None) ++ Some place ∷ []
+    → get_or new other None ≡ cond (nat_lt other depth) (get_or old other None) (cond (depth == other) (Some place) None)
+put_is old new depth place other is =
+    let front : List (Option ℕ) = take depth old ++ replicate (depth - length old) None in
+    let long : length front ≡ depth = fitted_length depth old None in
+    let rest : ℕ → Option ℕ = λ o. get_or (front ++ Some place ∷ []) o None in
+    ap (λ xs. get_or xs other None) is ∙ elim (cases_lt other depth) as (λ _. rest other ≡ cond (nat_lt other depth) (get_or old other None) (cond (depth == other) (Some place) None)) [
+      | inl less ↦
+          get_or_append_left front (Some place ∷ []) None other (omega (arith, less, long)) ∙ fitted depth other old None None less
+          ∙ sym (ap (λ b. cond b (get_or old other None) (cond (depth == other) (Some place) None)) (lt-ltb other depth less))
+      | inr more ↦ elim (cases_lt depth other) as (λ _. rest other ≡ cond (nat_lt other depth) (get_or old other None) (cond (depth == other) (Some place) None)) [
+        | inl greater ↦
+            get_or_past (front ++ Some place ∷ []) other None (omega (arith, greater, long, length-append front (Some place ∷ [])))
+            ∙ sym ((λ i. cond (le-ltb other depth more i) (get_or old other None) (cond (ne_eqb depth other (omega (arith, greater)) i) (Some place) None)))
+        | inr least ↦
+            let same : other ≡ depth = omega (arith, more, least) in
+            ap rest (same ∙ sym long) ∙ get_or-append_seam front (Some place) [] None
+            ∙ sym (λ i. cond (le-ltb other depth more i) (get_or old other None) (cond (eq-eqb depth other (sym same) i) (Some place) None))
+      ]
+    ]
+
+-- no node is less deep than a root
+above_root : (nodes : List PathNode) (place : ℕ) → above_in 0 place None nodes ≡ None
+above_root [] place = refl
+above_root (x ∷ nodes) place = ap (λ b. above_in 0 (place + 1) (cond b (Some place) None) nodes) (le-ltb x.depth 0 (omega arith)) ∙ above_root nodes (place + 1)
+
+above_push : (depth place : ℕ) (other : Option ℕ) (nodes : List PathNode) (x : PathNode)
+    → above_in depth place other (nodes ++ x ∷ []) ≡ cond (nat_lt x.depth depth) (Some (place + length nodes)) (above_in depth place other nodes)
+above_push depth place other [] x = ap (λ n. cond (nat_lt x.depth depth) (Some n) other) (omega arith)
+above_push depth place other (y ∷ nodes) x =
+    let next : Option ℕ = cond (nat_lt y.depth depth) (Some place) other in
+    let same : (place + 1) + length nodes ≡ place + length (y ∷ nodes) = omega arith in
+    above_push depth (place + 1) next nodes x ∙ ap (λ n. cond (nat_lt x.depth depth) (Some n) (above_in depth (place + 1) next nodes)) same
+
+-- The parents of the first nodes. By depth, the table has the last of them that is at most so deep, and past its end the
+-- last one.
+pub record ParentsTo (nodes : List PathNode) (i : ℕ) (parents above : List (Option ℕ)) (last : Option ℕ) : Type 0 where
+  pub count : length parents ≡ i
+  pub each : (n : ℕ) → n < i → get_or parents n None ≡ parent nodes n
+  pub above_are : (depth : ℕ) → get_or above depth last ≡ above_in (depth + 1) 0 None (take i nodes)
+
+pub parents_none : (nodes : List PathNode) (parents above : List (Option ℕ)) → parents ≡ [] → above ≡ [] → ParentsTo nodes 0 parents above None
+parents_none nodes parents above none empty = record {
+  count = ap length none;
+  each = λ n here. absurd (omega (arith, here));
+  above_are = λ depth. ap (λ xs. get_or xs depth None) empty;
+}
+
+-- the parent of a node, which the end of the table has
+parent_by : (nodes : List PathNode) (i depth : ℕ) (above fit : List (Option ℕ)) (last found : Option ℕ)
+    → fit ≡ take depth above ++ replicate (depth - length above) last
+    → (length fit ≡ 0 → found ≡ None) → ((n : ℕ) → length fit ≡ n + 1 → found ≡ get_or fit n None)
+    → ((k : ℕ) → get_or above k last ≡ above_in (k + 1) 0 None (take i nodes)) → found ≡ above_in depth 0 None (take i nodes)
+parent_by nodes i zero above fit last found is none some table =
+    none (ap length is ∙ fitted_length 0 above last) ∙ sym (above_root (take i nodes) 0)
+parent_by nodes i (suc k) above fit last found is none some table =
+    let next : suc k ≡ k + 1 = omega arith in
+    some k (ap length is ∙ fitted_length (suc k) above last ∙ next) ∙ ap (λ xs. get_or xs k None) is ∙ fitted (suc k) k above last None (omega arith)
+    ∙ table k ∙ ap (λ n. above_in n 0 None (take i nodes)) (sym next)
+
+pub parents_more : (nodes : List PathNode) (i : ℕ) (x d : PathNode) (parents new above fit : List (Option ℕ)) (last found : Option ℕ) → i < length nodes → x ≡ get_or nodes i d
+    → fit ≡ take x.depth above ++ replicate (x.depth - length above) last
+    → (length fit ≡ 0 → found ≡ None) → ((n : ℕ) → length fit ≡ n + 1 → found ≡ get_or fit n None) → new ≡ parents ++ found ∷ []
+    → ParentsTo nodes i parents above last → ParentsTo nodes (i + 1) new fit (Some i)
+parents_more nodes i x d parents new above fit last found here is fit_is none some more so_far =
+    let long : length fit ≡ x.depth = ap length fit_is ∙ fitted_length x.depth above last in
+    let found_is : found ≡ parent nodes i =
+    parent_by nodes i x.depth above fit last found fit_is none some so_far.above_are
+    ∙ ap (λ n. above_in n 0 None (take i nodes)) (ap (λ (y : PathNode). y.depth) is ∙ sym (depth_is nodes i d here)) in
+    let whole : take (i + 1) nodes ≡ take i nodes ++ x ∷ [] = take_more nodes i d here ∙ ap (λ y. take i nodes ++ y ∷ []) (sym is) in
+    let place : 0 + length (take i nodes) ≡ i = omega (arith, here, length-take i nodes) in
+    let step : (depth : ℕ) → above_in (depth + 1) 0 None (take (i + 1) nodes) ≡ cond (nat_lt x.depth (depth + 1)) (Some i) (above_in (depth + 1) 0 None (take i nodes)) =
+    λ depth. ap (above_in (depth + 1) 0 None) whole ∙ above_push (depth + 1) 0 None (take i nodes) x
+    ∙ ap (λ n. cond (nat_lt x.depth (depth + 1)) (Some n) (above_in (depth + 1) 0 None (take i nodes))) place in
+    record {
+      count = omega (arith, ap length more, length-append parents (found ∷ []), so_far.count);
+      each = λ n less. ap (λ xs. get_or xs n None) more ∙ elim (cases_lt n i) as (λ _. get_or (parents ++ found ∷ []) n None ≡ parent nodes n) [
+        | inl before ↦ get_or_append_left parents (found ∷ []) None n (omega (arith, before, so_far.count)) ∙ so_far.each n before
+        | inr after ↦
+            let same : n ≡ i = omega (arith, less, after) in
+            ap (λ m. get_or (parents ++ found ∷ []) m None) (same ∙ sym so_far.count) ∙ get_or-append_seam parents found [] None ∙ found_is ∙ ap (parent nodes) (sym same)
+      ];
+      above_are = λ depth. elim (cases_lt depth x.depth) as (λ _. get_or fit depth (Some i) ≡ above_in (depth + 1) 0 None (take (i + 1) nodes)) [
+        | inl less ↦
+            ap (λ xs. get_or xs depth (Some i)) fit_is ∙ fitted x.depth depth above last (Some i) less ∙ so_far.above_are depth
+            ∙ sym (step depth ∙ ap (λ b. cond b (Some i) (above_in (depth + 1) 0 None (take i nodes))) (le-ltb x.depth (depth + 1) (omega (arith, less))))
+        | inr more_deep ↦
+            get_or_past fit depth (Some i) (omega (arith, long, more_deep))
+            ∙ sym (step depth ∙ ap (λ b. cond b (Some i) (above_in (depth + 1) 0 None (take i nodes))) (lt-ltb x.depth (depth + 1) (omega (arith, more_deep))))
+      ];
+    }
+
+pub parents_all : (nodes : List PathNode) (i : ℕ) (parents above : List (Option ℕ)) (last : Option ℕ) → i ≡ length nodes → ParentsTo nodes i parents above last
+    → AreParents nodes parents
+parents_all nodes i parents above last all so_far = record {
+  count = so_far.count ∙ all;
+  each = λ n here. so_far.each n (omega (arith, here, all));
+}

@@ -1,0 +1,100 @@
+//! The links of the nodes, from how deep these stand.
+ghost use Rattle.std.specs.Prelude.{◌≡◌, ◌<◌, ◌+◌, ◌==◌, ℕ, nat_lt, Some, None, length, slice_index_or, IfOk, if◌then◌else◌};
+ghost use Rattle.pp_calltree.specs.Tree.{first_child};
+ghost use Rattle.pp_calltree.specs.Links.{nodes_of, AreLinked, AreParents};
+
+use crate::tree::{LinkedNode, PathNode};
+use pp_base::{List, Memory};
+use std::alloc::Global;
+
+/// The nodes with their links. Parents stand before their children, and these before the parent's next sibling.
+pub fn link(alloc: Global, nodes: &[PathNode]) -> Result<List<LinkedNode>, Memory>
+    ensures nodes { IfOk result (λ list. nodes_of list ≡ nodes.now) }
+    ensures linked { IfOk result AreLinked }
+{
+    let parents = parents_of(alloc, nodes)?;
+    let mut list = Vec::new(alloc);
+    // By depth, the place of the node that the next one to the left has for a sibling.
+    let mut right = Vec::new(alloc);
+    let mut place = nodes.len();
+    while place > 0 {
+        place -= 1;
+        let node = nodes[place];
+        list.push(LinkedNode {
+            node,
+            first_child: child_at(nodes, place),
+            next_sibling: entry(&right, node.depth),
+            parent: parents[place],
+        })?;
+        put_right(&mut right, node.depth, place as u64)?;
+    }
+    list.reverse();
+    Ok(List::from_vec(list))
+}
+
+// The parent of each node.
+fn parents_of(alloc: Global, nodes: &[PathNode]) -> Result<Vec<Option<u64>>, Memory>
+    ensures { IfOk result (λ parents. AreParents nodes.now parents.items) }
+{
+    let mut parents = Vec::new(alloc);
+    // By depth, the place of the last node so far that is at most so deep. The last node of all stands past the end.
+    let mut above = Vec::new(alloc);
+    let mut last = None;
+    for (place, node) in nodes.iter().enumerate() {
+        above.resize(node.depth as usize, last)?;
+        parents.push(last_of(&above))?;
+        last = Some(place as u64);
+    }
+    Ok(parents)
+}
+
+// The last entry, None where there is none.
+fn last_of(table: &[Option<u64>]) -> Option<u64>
+    ensures none { length table.now ≡ 0 → result ≡ None }
+    ensures some { (n : ℕ) → length table.now ≡ n + 1 → result ≡ slice_index_or table.now n None }
+{
+    match table.last() {
+        Some(entry) => *entry,
+        None => None,
+    }
+}
+
+// The entry of the depth, None past the end.
+fn entry(table: &[Option<u64>], depth: u64) -> Option<u64>
+    ensures { result ≡ slice_index_or table.now depth None }
+{
+    match table.get(depth as usize) {
+        Some(entry) => *entry,
+        None => None,
+    }
+}
+
+// The place after this one, where the node there is deeper.
+fn child_at(nodes: &[PathNode], place: usize) -> Option<u64>
+    requires { place < length nodes.now }
+    ensures { result ≡ first_child nodes.now place }
+{
+    match nodes.get(place + 1) {
+        None => None,
+        Some(next) => child_if(next.depth, nodes[place].depth, place as u64 + 1),
+    }
+}
+
+// The place, where a node stands there that is a child of one of the other depth.
+fn child_if(depth: u64, above: u64, place: u64) -> Option<u64>
+    ensures { result ≡ (if nat_lt above depth then Some place else None) }
+{
+    if depth > above { Some(place) } else { None }
+}
+
+// Puts the place of a node of this depth into the table. What stands deeper to its right is no sibling of what stands
+// to its left.
+fn put_right(right: &mut Vec<Option<u64>>, depth: u64, place: u64) -> Result<(), Memory>
+    ensures { IfOk result (λ _. (other : ℕ) → slice_index_or right.new.items other None
+        ≡ (if nat_lt other depth then slice_index_or right.old.items other None
+        else (if depth == other then Some place else None))) }
+{
+    right.resize(depth as usize, None)?;
+    right.push(Some(place))?;
+    Ok(())
+}
