@@ -2,6 +2,7 @@ pub mod Relisted
 pub mod Printed
 pub mod FramedStacks
 pub mod SavedTotals
+pub mod SavedSizes
 pub mod SavedHead
 pub mod OwnAlone
 pub mod CutSamples

@@ -19,6 +19,7 @@ use Rattle.pp_count.specs.Counts.{total_of}
 use Rattle.pp_count.specs.Counted.{report_samples, report_frames, is_own}
 use Rattle.pp_count.specs.Ranks.{each_once}
 use Rattle.pp_count.proofs.Renaming.{all_keys_occur}
+use Rattle.pp_merge.specs.Header.{HeaderText}
 use Rattle.pp_merge.specs.Merge.{contents}
 use Rattle.pp_merge.proofs.WrittenCompact.{compact_written}
 use Rattle.pp_dump.specs.Saved.{saved}
@@ -165,4 +166,11 @@ saved_columns p f config text can = (saving p f config can).header.columns text
 
 -- and what was saved is valid and merged.
 pub saved_lasts : SavedLasts
-saved_lasts p f config can = let is = saving p f config can in record { valid = is.valid; settled = is.again }
+saved_lasts p f config can =
+    let is = saving p f config can in
+    record {
+      valid = is.valid;
+      settled = is.again;
+      drop = ap (λ (h : HeaderText). h.drop_frames) is.header.header;
+      keep = ap (λ (h : HeaderText). h.keep_frames) is.header.header;
+    }

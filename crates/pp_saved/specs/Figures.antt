@@ -1,5 +1,5 @@
 -- The figures of a report: all that the layouts of top, tree and peek read of a profile.
-use Rattle.std.specs.Prelude.{ℕ, ℤ, ◌&&◌, Bool, List, [], map, slice_get, Option}
+use Rattle.std.specs.Prelude.{ℕ, ℤ, ◌&&◌, Bool, List, [], map, slice_get, Option, option_map}
 use Rattle.std.specs.List.{list_any}
 use Rattle.std.specs.Option.{option_and_then, option_map_or}
 use Rattle.std.specs.Ordering.{eq_by_cmp}
@@ -10,6 +10,7 @@ use Rattle.pp_model.specs.Lookup.{text_of}
 use Rattle.pp_model.specs.FrameTexts.{Written}
 use Rattle.pp_grain.specs.Keys.{key_cmp, key_texts}
 use Rattle.pp_merge.specs.Header.{TypeText, type_text}
+use Rattle.pp_count.specs.Column.{column_of}
 use Rattle.pp_count.specs.Sums.{Seen, all_keys, flat, cum}
 use Rattle.pp_count.specs.EdgeSums.{edge_occurs, edge_sum}
 use Rattle.pp_count.specs.Counts.{total_of}
@@ -67,3 +68,8 @@ figures p f config column =
       occurs_pair = λ kept. edge_occurs key_cmp kept samples;
       sum_of_pair = λ kept. edge_sum key_cmp kept samples;
     }
+
+-- The figures of a report on the column that the configuration asks for. Where it asks for no sample type, None is all
+-- that there is.
+abbrev pub asked_figures : Profile → Finders → Config → Option Figures
+asked_figures p f config = option_map (figures p f config) (column_of p config.sample_index)

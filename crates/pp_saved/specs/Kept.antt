@@ -1,11 +1,13 @@
 -- A saved profile reports as its filters did.
-use Rattle.std.specs.Prelude.{◌≡◌, ℕ, List, [], Option}
+use Rattle.std.specs.Prelude.{◌≡◌, ◌<◌, ◌≤◌, ℕ, List, [], length, Option}
 use Rattle.pp_model.specs.declared.config.Config.{Config}
 use Rattle.pp_model.specs.declared.profile.Profile.{Profile}
 use Rattle.pp_model.specs.Conditions.{IsColumnOf}
 use Rattle.pp_model.specs.Finders.{Finders}
+use Rattle.pp_model.specs.Lookup.{text_of}
 use Rattle.pp_units.specs.Head.{Facts}
 use Rattle.pp_model.specs.Rules.{NoRuleFails}
+use Rattle.pp_model.specs.Sizes.{absolute_sum}
 use Rattle.pp_merge.specs.Merge.{merged}
 use Rattle.pp_count.specs.Column.{column_of}
 use Rattle.pp_count.specs.Counted.{has_own_match}
@@ -46,12 +48,20 @@ SavedColumns =
     (p : Profile) (f : Finders) (config : Config) (text : List ℕ)
     → CanSave p config → column_of (saved p f config) text ≡ column_of p text
 
--- The profile keeps the table rules, and stays as it is when it is merged alone.
+-- The profile keeps the table rules, stays as it is when it is merged alone, and has no pattern of its own.
 pub record IsLasting (q : Profile) : Type 0 where
   pub valid : NoRuleFails q
   pub settled : merged q [] ≡ q
+  pub drop : text_of q q.drop_frames ≡ []
+  pub keep : text_of q q.keep_frames ≡ []
 
 -- So it is with each saved profile.
 abbrev pub SavedLasts : Type 0
 SavedLasts =
     (p : Profile) (f : Finders) (config : Config) → CanSave p config → IsLasting (saved p f config)
+
+-- The absolute values of a column add up to no more in the saved profile, so it can be merged where the other one can.
+abbrev pub SavedSizes : Type 0
+SavedSizes =
+    (p : Profile) (f : Finders) (config : Config) (column : ℕ) → NoRuleFails p → column < length p.sample_type
+    → absolute_sum (saved p f config) column ≤ absolute_sum p column

@@ -24,9 +24,34 @@ unfiltered config =
       taghide = [];
     }
 
+-- The second configuration has the ten variables that filter of the first one.
+pub record HasFiltersOf (config c : Config) : Type 0 where
+  pub focus : c.focus ≡ config.focus
+  pub ignore : c.ignore ≡ config.ignore
+  pub hide : c.hide ≡ config.hide
+  pub show : c.show ≡ config.show
+  pub show_from : c.show_from ≡ config.show_from
+  pub prune_from : c.prune_from ≡ config.prune_from
+  pub tagfocus : c.tagfocus ≡ config.tagfocus
+  pub tagignore : c.tagignore ≡ config.tagignore
+  pub tagshow : c.tagshow ≡ config.tagshow
+  pub taghide : c.taghide ≡ config.taghide
+
 -- the report's own pattern alone
 abbrev pub own_alone : Finders → Finders
 own_alone f = record no_finders { own = f.own }
+
+-- The profile stays as it is when it is merged alone, as each loaded one does. No value is below 0, and no sample is one
+-- of a base.
+pub record IsSource (p : Profile) : Type 0 where
+  pub settled : merged p [] ≡ p
+  pub least : All (λ s. All (λ v. pos 0 ≤ℤ v) s.value) p.sample
+  pub plain : list_any (is_base p) p.sample ≡ false
+
+-- Total is that of the filtered samples, and values are not divided.
+pub record CountsFiltered (config : Config) : Type 0 where
+  pub relative : config.relative_percentages ≡ true
+  pub divide_by : config.divide_by ≡ 1
 
 -- The profile keeps the table rules, its mappings start below 2^64, and it stays as it is when it is merged alone: so
 -- it is with each that was loaded. No value is below 0, and no sample is one of a base. Total is that of the filtered

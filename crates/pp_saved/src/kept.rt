@@ -1,5 +1,5 @@
 //! A saved profile reports without filters as the profile did with them.
-ghost use Rattle.pp_saved.specs.Kept.{SavedFigures, SavedTexts, SavedColumns, SavedLasts};
+ghost use Rattle.pp_saved.specs.Kept.{SavedFigures, SavedTexts, SavedColumns, SavedLasts, SavedSizes};
 
 // What would break it: a saved location with the lines that were cut, labels that are not shown, one column alone, a
 // mapping table in another order.
@@ -22,9 +22,11 @@ pub fn saved_texts()
 {}
 
 // What would break it: a sample of 0 that is kept, two equal samples, a location in no mapping's place.
-/// A saved profile keeps the table rules and stays as it is when it is merged alone, so it can be saved again.
+/// A saved profile keeps the table rules, stays as it is when it is merged alone, so it can be saved again, and has no
+/// patterns of its own. The absolute values of its columns add up to no more than the profile's.
 ///
-/// The premises are those of `saved_figures`.
+/// The premises are those of `saved_figures`; for the sums, that the profile keeps the table rules.
 pub fn saved_lasts()
-    ensures { SavedLasts }
+    ensures lasts { SavedLasts }
+    ensures sizes { SavedSizes }
 {}

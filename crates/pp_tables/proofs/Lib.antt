@@ -6,3 +6,4 @@ pub mod Written
 pub mod Followed
 pub mod Payloads
 pub mod Ranges
+pub mod Numbers

@@ -84,3 +84,33 @@ pub record ProfileFits (p : Profile) : Type 0 where
   pub comment : AllByRecursion IsInt p.comment
   pub default_sample_type : IsInt p.default_sample_type
   pub doc_url : IsInt p.doc_url
+
+-- the values and labels of the sample fit
+pub record RowFits (s : Sample) : Type 0 where
+  pub value : AllByRecursion IsInt s.value
+  pub label : AllByRecursion LabelFits s.label
+
+-- all tables of the profile fit, but for the location ids of its samples
+pub record TablesFit (p : Profile) : Type 0 where
+  pub sample_type : AllByRecursion ValueTypeFits p.sample_type
+  pub sample : AllByRecursion RowFits p.sample
+  pub mapping : AllByRecursion MappingFits p.mapping
+  pub location : AllByRecursion LocationFits p.location
+  pub function : AllByRecursion FunctionFits p.function
+
+-- all numbers of the profile fit that stand in no table of messages
+pub record HeaderFits (p : Profile) : Type 0 where
+  pub drop_frames : IsInt p.drop_frames
+  pub keep_frames : IsInt p.keep_frames
+  pub time_nanos : IsInt p.time_nanos
+  pub duration_nanos : IsInt p.duration_nanos
+  pub period_type : ValueTypeFits p.period_type
+  pub period : IsInt p.period
+  pub comment : AllByRecursion IsInt p.comment
+  pub default_sample_type : IsInt p.default_sample_type
+  pub doc_url : IsInt p.doc_url
+
+-- Both: the location ids of samples are those of locations, where no table rule fails.
+pub record NumbersFit (p : Profile) : Type 0 where
+  pub tables : TablesFit p
+  pub header : HeaderFits p

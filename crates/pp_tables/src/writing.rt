@@ -1,6 +1,8 @@
 //! The canonical bytes of a profile.
-ghost use Rattle.std.specs.Prelude.{◌≡◌, ◌++◌, OnOk, IfOk};
+ghost use Rattle.std.specs.Prelude.{◌≡◌, ◌++◌, Ok, OnOk, IfOk};
 ghost use Rattle.pp_tables.specs.Encode.{period_type_field, table_bytes, header_bytes, encode};
+ghost use Rattle.pp_tables.specs.Fits.{ValueTypeFits, TablesFit, HeaderFits, NumbersFit};
+ghost use Rattle.pp_tables.specs.Read.{read};
 
 use crate::spelled::{Spelled, put_bool, put_int, put_message, put_messages, put_packed_ints};
 use pp_base::{Memory, Text};
@@ -10,8 +12,11 @@ use std::alloc::Global;
 
 impl Spelled for ValueType {
     ghost use Rattle.pp_tables.specs.Encode.{value_type_bytes};
+    ghost use Rattle.pp_tables.specs.Fits.{ValueTypeFits};
 
     ghost bytes = { value_type_bytes };
+
+    ghost fits = { ValueTypeFits };
 
     fn put(&self, _: Global, out: &mut Text) -> Result<(), Memory> {
         // int64 type = 1;
@@ -24,8 +29,11 @@ impl Spelled for ValueType {
 
 impl Spelled for Label {
     ghost use Rattle.pp_tables.specs.Encode.{label_bytes};
+    ghost use Rattle.pp_tables.specs.Fits.{LabelFits};
 
     ghost bytes = { label_bytes };
+
+    ghost fits = { LabelFits };
 
     #[tactic(auto, using(crate::proofs::Joins::then_part))]
     fn put(&self, _: Global, out: &mut Text) -> Result<(), Memory> {
@@ -43,8 +51,11 @@ impl Spelled for Label {
 
 impl Spelled for Sample {
     ghost use Rattle.pp_tables.specs.Encode.{sample_bytes};
+    ghost use Rattle.pp_tables.specs.Fits.{RowFits};
 
     ghost bytes = { sample_bytes };
+
+    ghost fits = { RowFits };
 
     fn put(&self, alloc: Global, out: &mut Text) -> Result<(), Memory> {
         // repeated uint64 location_id = 1;
@@ -59,8 +70,11 @@ impl Spelled for Sample {
 
 impl Spelled for Mapping {
     ghost use Rattle.pp_tables.specs.Encode.{mapping_bytes};
+    ghost use Rattle.pp_tables.specs.Fits.{MappingFits};
 
     ghost bytes = { mapping_bytes };
+
+    ghost fits = { MappingFits };
 
     #[tactic(auto, using(crate::proofs::Joins::then_part))]
     fn put(&self, _: Global, out: &mut Text) -> Result<(), Memory> {
@@ -90,8 +104,11 @@ impl Spelled for Mapping {
 
 impl Spelled for Line {
     ghost use Rattle.pp_tables.specs.Encode.{line_bytes};
+    ghost use Rattle.pp_tables.specs.Fits.{LineFits};
 
     ghost bytes = { line_bytes };
+
+    ghost fits = { LineFits };
 
     fn put(&self, _: Global, out: &mut Text) -> Result<(), Memory> {
         // uint64 function_id = 1;
@@ -106,8 +123,11 @@ impl Spelled for Line {
 
 impl Spelled for Location {
     ghost use Rattle.pp_tables.specs.Encode.{location_bytes};
+    ghost use Rattle.pp_tables.specs.Fits.{LocationFits};
 
     ghost bytes = { location_bytes };
+
+    ghost fits = { LocationFits };
 
     fn put(&self, alloc: Global, out: &mut Text) -> Result<(), Memory> {
         // uint64 id = 1;
@@ -126,8 +146,11 @@ impl Spelled for Location {
 
 impl Spelled for Function {
     ghost use Rattle.pp_tables.specs.Encode.{function_bytes};
+    ghost use Rattle.pp_tables.specs.Fits.{FunctionFits};
 
     ghost bytes = { function_bytes };
+
+    ghost fits = { FunctionFits };
 
     #[tactic(auto, using(crate::proofs::Joins::then_part))]
     fn put(&self, _: Global, out: &mut Text) -> Result<(), Memory> {
@@ -146,7 +169,11 @@ impl Spelled for Function {
 }
 
 impl Spelled for Text {
+    ghost use Rattle.std.specs.Prelude.{⊤};
+
     ghost bytes = { λ text. text };
+
+    ghost fits = { λ text. ⊤ };
 
     fn put(&self, _: Global, out: &mut Text) -> Result<(), Memory> {
         out.extend(self.as_slice())
@@ -154,15 +181,21 @@ impl Spelled for Text {
 }
 
 /// The canonical bytes of the profile: fields in the order of their numbers, repeated ones in list order. Scalars that
-/// are 0 or false, empty packed lists and a period type of two zeros are left out.
+/// are 0 or false, empty packed lists and a period type of two zeros are left out. Read, they are the profile again.
+#[tactic(auto, using(crate::proofs::Numbers::written_back))]
 pub fn write_profile(alloc: Global, p: &Valid) -> Result<Text, Memory>
-    ensures { IfOk result (λ text. text ≡ encode p.now) }
+    ensures bytes { IfOk result (λ text. text ≡ encode p.now) }
+    ensures again { IfOk result (λ text. read text ≡ Ok p.now) }
 {
-    bytes_of(alloc, p.get())
+    let text = bytes_of(alloc, p.get())?;
+    // No text has 2^64 bytes.
+    let _len = text.len();
+    Ok(text)
 }
 
-pub(crate) fn bytes_of(alloc: Global, p: &Profile) -> Result<Text, Memory>
-    ensures { IfOk result (λ text. text ≡ encode p.now) }
+fn bytes_of(alloc: Global, p: &Profile) -> Result<Text, Memory>
+    ensures bytes { IfOk result (λ text. text ≡ encode p.now) }
+    ensures numbers { IfOk result (λ _. NumbersFit p.now) }
 {
     let mut out = Text::new(alloc);
     put_tables(alloc, &mut out, p)?;
@@ -171,7 +204,8 @@ pub(crate) fn bytes_of(alloc: Global, p: &Profile) -> Result<Text, Memory>
 }
 
 fn put_tables(alloc: Global, out: &mut Text, p: &Profile) -> Result<(), Memory>
-    ensures { OnOk result (out.new ≡ out.old ++ table_bytes p.now) }
+    ensures written { OnOk result (out.new ≡ out.old ++ table_bytes p.now) }
+    ensures numbers { OnOk result (TablesFit p.now) }
 {
     // repeated ValueType sample_type = 1;
     put_messages(alloc, out, 1, p.sample_type.as_slice())?;
@@ -190,7 +224,8 @@ fn put_tables(alloc: Global, out: &mut Text, p: &Profile) -> Result<(), Memory>
 
 #[tactic(auto, using(crate::proofs::Joins::then_part))]
 fn put_header(alloc: Global, out: &mut Text, p: &Profile) -> Result<(), Memory>
-    ensures { OnOk result (out.new ≡ out.old ++ header_bytes p.now) }
+    ensures written { OnOk result (out.new ≡ out.old ++ header_bytes p.now) }
+    ensures numbers { OnOk result (HeaderFits p.now) }
 {
     // int64 drop_frames = 7;
     put_int(out, 7, &p.drop_frames)?;
@@ -214,7 +249,8 @@ fn put_header(alloc: Global, out: &mut Text, p: &Profile) -> Result<(), Memory>
 }
 
 fn put_period_type(alloc: Global, out: &mut Text, v: &ValueType) -> Result<(), Memory>
-    ensures { OnOk result (out.new ≡ out.old ++ period_type_field v.now) }
+    ensures written { OnOk result (out.new ≡ out.old ++ period_type_field v.now) }
+    ensures numbers { OnOk result (ValueTypeFits v.now) }
 {
     if v.kind.cast_unsigned() == 0 && v.unit.cast_unsigned() == 0 {
         return Ok(());

@@ -24,4 +24,4 @@ unfolding generated
 returns-in-Ok c =
     let only : c.push.new.self ≡ made c.args.samples ∷ [] =
     c.in_ok-push.ensures.ok ∙ ap (λ list. list ++ c.claim.result ∷ []) c.new-list.ensures ∙ ap (λ p. p ∷ []) (c.claim.ensures ∙ c.in_ok-made.ensures) in
-    subst (λ p. IfOk c.write_profile.result (λ bytes. bytes ≡ encode p)) (c.valid.ensures.same ∙ made_merged c.args.samples c.push.new.self c.in-Ok.merged only c.in-Ok.ensures) c.write_profile.ensures
+    subst (λ p. IfOk c.write_profile.result (λ bytes. bytes ≡ encode p)) (c.valid.ensures.same ∙ made_merged c.args.samples c.push.new.self c.in-Ok.merged only c.in-Ok.ensures) c.write_profile.ensures.bytes
