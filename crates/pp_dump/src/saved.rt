@@ -51,6 +51,9 @@ pub fn saved_profile(
     ensures header { IfOk result (KeepsHeader l.now.profile) }
     ensures valid { IfOk result (λ q. NoRuleFails q) }
     ensures again { IfOk result (λ q. merged q [] ≡ q) }
+
+    // The mappings were read, and no number that was read has more than 64 bits.
+    ensures starts { IfOk result (λ _. AllByRecursion (λ m. m.start < 2 ^ 64) l.now.profile.mapping) }
 {
     let cut = cut_profile(alloc, l, v, c.kept.as_slice())?;
     let q = merge_alone(alloc, cut)?;

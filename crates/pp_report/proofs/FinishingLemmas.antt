@@ -18,6 +18,8 @@ use Rattle.pp_model.specs.declared.verdicts.Verdicts.{Verdicts}
 use Rattle.pp_model.specs.Conditions.{IsColumnOf}
 use Rattle.pp_model.specs.Finders.{Finders}
 use Rattle.pp_model.specs.Sizes.{IsCountable}
+use Rattle.pp_units.specs.Head.{Facts}
+use Rattle.pp_tables.specs.Encode.{encode}
 use Rattle.pp_pattern.specs.Report.{Finds}
 use Rattle.pp_count.specs.declared.counted.Counted.{Counted}
 use Rattle.pp_count.specs.Column.{selected}
@@ -32,6 +34,7 @@ use Rattle.pp_graph.specs.Trimmed.{IsRankedOf, IsTrimmedOf}
 use Rattle.pp_source.specs.declared.refusal.ListRefusal.{ListRefusal}
 use Rattle.pp_source.specs.Listing.{with_report, added_report}
 use Rattle.pp_dump.specs.Comments.{comments_text}
+use Rattle.pp_dump.specs.Saved.{saved}
 use Rattle.pp_top.specs.Top.{CanShow}
 use Rattle.pp_tree.specs.Ends.{CanWalk}
 use Rattle.pp_report.specs.declared.prepared.Counts.{Counts}
@@ -156,3 +159,11 @@ module _ (finds : Finds) (l : Loaded) (report : Report) (config : Config) where
   -- nothing is counted for comments alone
   pub is_comments : (column : Option ℕ) (all : Option Counts) → all ≡ None → HasCounts finds l report config column all → report ≡ reports.Comments
   is_comments column all is has = subst (λ c. HasCounts finds l report config column c) is has
+
+-- the text of a saved profile
+pub finish_proto : (w : World) (p : Profile) (f : Finders) (config : Config) (column : Option ℕ) (h : Facts) (report : Report) (text : List ℕ) → report ≡ reports.Proto
+    → text ≡ encode (saved p f config) → Went w w (text_by p f config column h report) (Ok (Ok text))
+unfolding text_by
+finish_proto w p f config column h report text proto is =
+    subst (λ r. Went {T = Result (List ℕ) ReportRefusal} w w (text_by p f config column h r) (Ok (Ok text))) (sym proto)
+    (subst (λ t. Went {T = Result (List ℕ) ReportRefusal} w w (Give (Ok (encode (saved p f config)))) (Ok (Ok t))) (sym is) (gives w (Ok (encode (saved p f config)))))

@@ -4,4 +4,6 @@ pub mod PreparingLemmas
 pub mod FinishingLemmas
 pub mod GeneratingLemmas
 pub mod SavedLemmas
+pub mod Taken
+pub mod SavedTextLemmas
 mod Rows

@@ -39,7 +39,7 @@ use Rattle.pp_stack.specs.LoadFinders.{finder_by}
 use Rattle.pp_report.specs.Prepared.{Showing, showing_for}
 use Rattle.pp_report.specs.Reports.{finish, finish_on, finish_by, text_by}
 use Rattle.pp_report.specs.Tagged.{basis_of, is_comments, tagged_by}
-use Rattle.pp_report.specs.SavedReports.{SavedReports, IsSavedOf, IsPlain, reads_figures}
+use Rattle.pp_report.specs.SavedReports.{SavedReports, IsSavedOf, NamesNoKey, reads_figures}
 use Rattle.pp_report.proofs.TypesLemmas.{HasTypesOf, same_showing, types_by_header}
 
 -- a text of the column's type
@@ -75,9 +75,9 @@ head_is p f config column wanted =
     }
 
 -- without keys no frames are made from labels
-plain_basis : (report : Report) (l : Loaded) (config : Config) → IsPlain config → basis_of report l config ≡ l
+pub plain_basis : (report : Report) (l : Loaded) (config : Config) → NamesNoKey config → basis_of report l config ≡ l
 unfolding basis_of
-plain_basis report l config plain = (λ i. if is_comments report then l else tagged_by l (plain.roots i) (plain.leaves i)) ∙ by (is_comments report)
+plain_basis report l config keyless = (λ i. if is_comments report then l else tagged_by l (keyless.roots i) (keyless.leaves i)) ∙ by (is_comments report)
   where
     by : (b : Bool) → (if b then l else l) ≡ l
     by true = refl
@@ -97,13 +97,13 @@ module _ (finds : Finds) (l r : Loaded) (report : Report) (config : Config) (can
   finders_are : g ≡ own_alone f
   finders_are = λ i. finders_of finds (unfiltered config) (own_pattern report) (option_map (finder_by r.profile) (is.drop i)) (option_map (finder_by r.profile) (is.keep i))
 
-  types_are : HasTypesOf l.profile r.profile
+  pub types_are : HasTypesOf l.profile r.profile
   types_are =
       subst (HasTypesOf l.profile) (sym profile_is)
       (types_by_header l.profile (saved l.profile f config) (is_saved l.profile f config can.valid can.starts can.settled).header.header)
 
   module _ (column : Option ℕ) (within : IsColumnOf l.profile column) (wanted : Option Shown) where
-    figures_are : figures r.profile g (unfiltered config) column ≡ figures l.profile f config column
+    pub figures_are : figures r.profile g (unfiltered config) column ≡ figures l.profile f config column
     figures_are = (λ i. figures (profile_is i) (finders_are i) (unfiltered config) column) ∙ saved_figures l.profile f config column can within
 
     texts_are : PrintAlike l.profile f config r.profile g (unfiltered config) column
@@ -179,7 +179,7 @@ saved_reports finds l r report config reads can plain is = record {
   shows = unfiltered_shows report r.profile config reads ∙ same_showing l.profile r.profile (types_are finds l r report config can is) report config;
   comes_to = λ showing within.
       ap (λ (x : Loaded). finish_on finds x report (unfiltered config) showing)
-      (plain_basis report r (unfiltered config) (record { path_tree = plain.path_tree; roots = plain.roots; leaves = plain.leaves }))
+      (plain_basis report r (unfiltered config) (record { roots = plain.keyless.roots; leaves = plain.keyless.leaves }))
       ∙ text_same finds l r report config can is plain.path_tree reads showing within
-      ∙ ap (λ (x : Loaded). finish_on finds x report config showing) (sym (plain_basis report l config plain));
+      ∙ ap (λ (x : Loaded). finish_on finds x report config showing) (sym (plain_basis report l config plain.keyless));
 }

@@ -69,7 +69,8 @@ module _ (p q : Profile) (same : HasTypesOf p q) where
   same_unit : (column : Option ℕ) → unit_text q column ≡ unit_text p column
   same_unit column = sym (unit_by q column) ∙ ap (λ types. unit_in types column) same.types ∙ unit_by p column
 
-  same_column : (text : List ℕ) → column_of q text ≡ column_of p text
+  -- a text asks for the same column of both
+  pub same_column : (text : List ℕ) → column_of q text ≡ column_of p text
   same_column [] = λ i. Some (first_else ((same_named (text_of q q.default_sample_type) ∙ ap (type_named p) same.default) i) (last_of (same_length i)))
   same_column (b ∷ text) =
       let digits = b ∷ text in

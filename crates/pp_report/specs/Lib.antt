@@ -7,3 +7,4 @@ pub mod Tagged
 pub mod Prepared
 pub mod Reports
 pub mod SavedReports
+pub mod SavedText

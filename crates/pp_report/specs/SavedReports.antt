@@ -2,6 +2,7 @@
 use Rattle.std.specs.Prelude.{◌≡◌, Bool, true, false, [], None, Result, Ok}
 use Rattle.pp_model.specs.declared.config.Config.{Config}
 use Rattle.pp_model.specs.declared.loaded.Loaded.{Loaded}
+use Rattle.pp_model.specs.declared.profile.Profile.{Profile}
 use Rattle.pp_model.specs.declared.report.Report.{Report}
 use Rattle.pp_model.specs.declared.report.Report.TheVariants as reports
 use Rattle.pp_model.specs.Conditions.{IsColumnOf}
@@ -20,17 +21,25 @@ reads_figures reports.Tree = true
 reads_figures (reports.Peek pattern) = true
 reads_figures report = false
 
+-- the profile that a proto report writes
+abbrev pub saved_by : Finds → Loaded → Config → Profile
+saved_by finds l config = saved l.profile (report_finders finds l reports.Proto config) config
+
 -- The profile is what a proto report of the other one writes, loaded without any pattern of its own.
 pub record IsSavedOf (finds : Finds) (l : Loaded) (config : Config) (r : Loaded) : Type 0 where
-  pub profile : r.profile ≡ saved l.profile (report_finders finds l reports.Proto config) config
+  pub profile : r.profile ≡ saved_by finds l config
   pub drop : r.drop ≡ None
   pub keep : r.keep ≡ None
+
+-- No frames are made from labels.
+pub record NamesNoKey (config : Config) : Type 0 where
+  pub roots : key_list config.tagroot ≡ []
+  pub leaves : key_list config.tagleaf ≡ []
 
 -- The tree is by keys, and no frames are made from labels.
 pub record IsPlain (config : Config) : Type 0 where
   pub path_tree : config.path_tree ≡ false
-  pub roots : key_list config.tagroot ≡ []
-  pub leaves : key_list config.tagleaf ≡ []
+  pub keyless : NamesNoKey config
 
 -- Under the second configuration the report of r shows what that of l shows under the first, or is refused likewise;
 -- and it comes to the same text, or finds no function as well.

@@ -1,12 +1,15 @@
 //! The text of a report.
 ghost use Rattle.std.specs.Prelude.{◌≡◌, ◌<◌, ◌^◌};
 ghost use Rattle.pp_desk.specs.Went.{Went};
+ghost use Rattle.pp_model.specs.declared.report.Report.TheVariants.{Proto};
 ghost use Rattle.pp_model.specs.Finders.{Finders};
 ghost use Rattle.pp_units.specs.Head.{facts};
 ghost use Rattle.pp_count.specs.Counted.{CanCount, IsCountedOf};
 ghost use Rattle.pp_count.specs.Seeing.{HoldsFilters};
 ghost use Rattle.pp_report.specs.Prepared.{showing, HasCounts, IsPrepared};
 ghost use Rattle.pp_report.specs.Reports.{finish, finish_on, text_by, list_text};
+ghost use Rattle.pp_report.specs.SavedText.{OnText, IsProtoOf, IsProtoBy};
+ghost use Rattle.pp_report.specs.Tagged.{basis_of};
 
 use crate::ReportRefusal;
 use crate::heads::head_of;
@@ -36,8 +39,10 @@ pub fn finish<R: Threads + Sync, D: Desk, G: Gate>(
     gate: &G,
 ) -> Result<Result<Text, ReportRefusal>, Stop>
     requires { IsPrepared D.finds l.now report.now config.now prepared }
-    ensures { Went (D.world desk.old) (D.world desk.new)
+    ensures went { Went (D.world desk.old) (D.world desk.new)
         (finish D.finds l.now report.now config.now (showing prepared.shows)) result }
+    ensures saved { report.now ≡ Proto → OnText result
+        (IsProtoBy D.finds (basis_of report.now l.now config.now) config.now) }
 {
     let Prepared {
         shows,
@@ -63,8 +68,9 @@ fn finish_on<R: Threads + Sync, D: Desk, G: Gate>(
     gate: &G,
 ) -> Result<Result<Text, ReportRefusal>, Stop>
     requires { HasCounts D.finds l.now report.now config.now shows.column counts }
-    ensures { Went (D.world desk.old) (D.world desk.new)
+    ensures went { Went (D.world desk.old) (D.world desk.new)
         (finish_on D.finds l.now report.now config.now (showing shows)) result }
+    ensures saved { report.now ≡ Proto → OnText result (IsProtoBy D.finds l.now config.now) }
 {
     let column = shows.column;
     let Some(counts) = counts else {
@@ -93,9 +99,11 @@ fn text_by<R: Threads + Sync, D: Desk, G: Gate>(
     requires can { CanCount l.now.profile counts.now.verdicts config.now column }
     requires counted { IsCountedOf l.now counts.now.verdicts config.now column counts.now.counted }
     requires small { head.now.total < 2 ^ 63 }
-    ensures { (f : Finders) → HoldsFilters l.now counts.now.verdicts config.now f →
+    ensures went { (f : Finders) → HoldsFilters l.now counts.now.verdicts config.now f →
         Went (D.world desk.old) (D.world desk.new)
         (text_by l.now.profile f config.now column (facts head.now) report.now) result }
+    ensures saved { (f : Finders) → HoldsFilters l.now counts.now.verdicts config.now f →
+        report.now ≡ Proto → OnText result (IsProtoOf l.now.profile f config.now) }
 {
     match report {
         Report::Top => Ok(Ok(top(alloc, l, config, column, counts, head)?)),

@@ -2,10 +2,13 @@
 ghost use Rattle.std.specs.Prelude.{◌≡◌, ◌++◌, OnErr};
 ghost use Rattle.pp_base.specs.Front.{IsFront};
 ghost use Rattle.pp_desk.specs.Went.{Went};
+ghost use Rattle.pp_model.specs.declared.report.Report.TheVariants.{Proto};
 ghost use Rattle.pp_model.specs.Sizes.{IsCountable};
 ghost use Rattle.pp_report.specs.Prepared.{notes_of};
 ghost use Rattle.pp_report.specs.Tagged.{basis_of};
 ghost use Rattle.pp_report.specs.Reports.{report_of, reported, added};
+ghost use Rattle.pp_report.specs.SavedReports.{NamesNoKey};
+ghost use Rattle.pp_report.specs.SavedText.{OnText, IsSavedText};
 
 use crate::ReportRefusal;
 use crate::finishing::finish;
@@ -25,6 +28,13 @@ use std::thread::Threads;
 /// It is refused for its column, then for its unit, both before any pattern is asked, then for the first pattern that
 /// the matcher refuses, and last where the pattern of a peek or list report finds no function that could be shown.
 /// `Err` is the failure of a file that a list report reads, or want of memory; a front of the notes is appended then.
+///
+/// Where no frames are made from labels, the text of a proto report is read as the profile that was saved. That profile
+/// keeps the table rules, stays as it is when it is merged alone, and has no patterns of its own. Without filters it
+/// has the figures that the loaded one has with them, and its top, tree and peek come to the same text or refusal. This
+/// holds under each configuration with the same filters that has relative_percentages on, path_tree off and divide_by 1
+/// and makes no frames from labels, where the loaded profile stays as it is when it is merged alone, none of its values
+/// is below 0, no sample carries `pprof::base` of the text `true`, and the matcher refuses no pattern.
 pub fn generate<R: Threads + Sync, D: Desk, G: Gate>(
     rt: &R,
     alloc: Global,
@@ -42,6 +52,10 @@ pub fn generate<R: Threads + Sync, D: Desk, G: Gate>(
     ensures notes { notes.new ≡ notes.old ++ added notes.old notes.new }
     ensures stopped { OnErr result (IsFront (added notes.old notes.new)
         (notes_of D.finds (basis_of report.now l.now config.now) report.now config.now)) }
+
+    // A saved profile loads, and reports as its filters did.
+    ensures saved { report.now ≡ Proto → NamesNoKey config.now →
+        OnText result (IsSavedText D.finds l.now config.now) }
 {
     match prepare(rt, alloc, l, report, config, desk, gate)? {
         Err(refusal) => Ok(Err(refusal)),

@@ -1,7 +1,7 @@
 //! The texts of the reports that read no file.
-ghost use Rattle.std.specs.Prelude.{◌≡◌, IfOk};
+ghost use Rattle.std.specs.Prelude.{◌≡◌, ◌<◌, ◌^◌, IfOk};
+ghost use Rattle.std.specs.List.{AllByRecursion};
 ghost use Rattle.pp_model.specs.Finders.{Finders};
-ghost use Rattle.pp_tables.specs.Encode.{encode};
 ghost use Rattle.pp_units.specs.Head.{facts};
 ghost use Rattle.pp_count.specs.Counted.{CanCount, IsCountedOf};
 ghost use Rattle.pp_count.specs.Seeing.{HoldsFilters};
@@ -13,7 +13,9 @@ ghost use Rattle.pp_dump.specs.TagLines.{tags_text};
 ghost use Rattle.pp_dump.specs.Raw.{raw_text};
 ghost use Rattle.pp_dump.specs.Comments.{comments_text};
 ghost use Rattle.pp_dump.specs.Saved.{saved};
+ghost use Rattle.pp_saved.specs.Kept.{IsLasting};
 ghost use Rattle.pp_report.specs.Reports.{peek_outcome};
+ghost use Rattle.pp_report.specs.SavedText.{IsProtoOf};
 
 use crate::ReportRefusal;
 use crate::prepared::Counts;
@@ -163,8 +165,10 @@ fn saved(
 ) -> Result<Compact, Memory>
     requires can { CanCount l.now.profile counts.now.verdicts config.now column }
     requires counted { IsCountedOf l.now counts.now.verdicts config.now column counts.now.counted }
-    ensures { (f : Finders) → HoldsFilters l.now counts.now.verdicts config.now f →
+    ensures saved { (f : Finders) → HoldsFilters l.now counts.now.verdicts config.now f →
         IfOk result (λ q. q ≡ saved l.now.profile f config.now) }
+    ensures lasts { IfOk result IsLasting }
+    ensures starts { IfOk result (λ _. AllByRecursion (λ m. m.start < 2 ^ 64) l.now.profile.mapping) }
 {
     saved_profile(alloc, l, &counts.verdicts, &counts.counted)
 }
@@ -197,7 +201,7 @@ pub fn comments(alloc: Global, l: &Loaded) -> Result<Text, Memory>
     Ok(text)
 }
 
-/// The bytes of the saved profile.
+/// The bytes of the saved profile, which load as that profile.
 pub fn proto(
     alloc: Global,
     l: &Loaded,
@@ -208,8 +212,10 @@ pub fn proto(
     requires can { CanCount l.now.profile counts.now.verdicts config.now column }
     requires counted { IsCountedOf l.now counts.now.verdicts config.now column counts.now.counted }
     ensures { (f : Finders) → HoldsFilters l.now counts.now.verdicts config.now f →
-        IfOk result (λ text. text ≡ encode (saved l.now.profile f config.now)) }
+        IfOk result (IsProtoOf l.now.profile f config.now) }
 {
+    // The profile keeps the table rules.
+    let _profile = l.profile.get();
     let saved = saved(alloc, l, config, column, counts)?;
     write_profile(alloc, saved.valid())
 }

@@ -96,3 +96,7 @@ returns-clause-header c =
     ∙ ap (λ (what : Contents). what.header) (contents_again (contents cut []) (settled_contents cut [] starts))
     ∙ header_cut p is.samples is.locations is.valid in
     record { header = header; columns = same_column p c.in_ok-q.q header }
+
+-- each mapping was read
+pub returns-clause-starts : goal.returns-clause-starts
+returns-clause-starts c = c.in_ok-cut.ensures.starts

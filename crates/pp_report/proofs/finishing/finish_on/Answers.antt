@@ -1,20 +1,24 @@
+use Rattle.std.proofs.Common.{subst}
 use Rattle.std.proofs.lemmas.Result.{err_from_is_err_and}
 use Rattle.pp_desk.proofs.Going.{wants}
+use Rattle.pp_model.specs.declared.report.Report.{Report}
+use Rattle.pp_report.specs.Patterns.{report_finders}
 use Rattle.pp_report.specs.Prepared.{showing}
+use Rattle.pp_report.specs.SavedText.{IsProtoOf, OnText}
 use Rattle.pp_report.proofs.FinishingLemmas.{finish_comments, is_comments, counts_small, counts_at, same_small}
 use Rattle.pp_report.proofs.finishing.finish_on.Goals as goal
 
 -- a comments report counts nothing
-pub returns-in_default : goal.returns-in_default
-returns-in_default g c =
+pub returns-in_default-clause-went : goal.returns-in_default-clause-went
+returns-in_default-clause-went g c =
     finish_comments g.D.Desk.finds c.args.l.now c.args.report.now c.args.config.now _ (showing c.args.shows) c.in_ok-comments.field-0
     (is_comments g.D.Desk.finds c.args.l.now c.args.report.now c.args.config.now c.args.shows.column c.args.counts
     c.in_default.is c.requires)
     c.in_ok-comments.ensures
 
 -- memory was wanting for the head
-pub returns-in_err-head : goal.returns-in_err-head
-returns-in_err-head g c =
+pub returns-in_err-head-clause-went : goal.returns-in_err-head-clause-went
+returns-in_err-head-clause-went g c =
     let p = err_from_is_err_and c.from_residual-in_err-head.result c.from_residual-in_err-head.ensures.1 in rw (p.1, p.2) (wants _ _)
 
 -- its total is that of the counts
@@ -24,3 +28,13 @@ text_by-requires-clause-small g c = λ _ _.
     (counts_small g.D.Desk.finds c.args.l.now c.args.report.now c.args.config.now c.args.shows.column c.in-Some.counts
     (counts_at g.D.Desk.finds c.args.l.now c.args.report.now c.args.config.now c.args.shows.column c.args.counts
     c.in-Some.counts c.in-Some.is c.requires))
+
+-- what was saved is what the report's own patterns leave
+pub returns-clause-saved : goal.returns-clause-saved
+returns-clause-saved g c proto =
+    let finds = g.D.Desk.finds in
+    let l = c.args.l.now in
+    let config = c.args.config.now in
+    let are = counts_at finds l c.args.report.now config c.args.shows.column c.args.counts c.in-Some.counts c.in-Some.is c.requires in
+    subst (λ (r : Report). OnText c.text_by.result (IsProtoOf l.profile (report_finders finds l r config) config)) proto
+    (c.text_by.ensures.saved (report_finders finds l c.args.report.now config) are.holds proto)

@@ -7,4 +7,4 @@ use Rattle.pp_report.proofs.texts.raw.Goals as goal
 pub returns : goal.returns
 returns c = λ f holds.
     made_text c.write_raw.new.out c.new-text.result _ c.new-text.ensures c.in_ok-write_raw.ensures.ok
-    ∙ ap raw_text (c.in_ok-saved.ensures f holds)
+    ∙ ap raw_text (c.in_ok-saved.ensures.saved f holds)

@@ -1,0 +1,6 @@
+use Rattle.pp_report.proofs.SavedTextLemmas.{lasting}
+use Rattle.pp_report.proofs.texts.saved.Goals as goal
+
+-- what was saved lasts
+pub returns-clause-lasts : goal.returns-clause-lasts
+returns-clause-lasts c = lasting c.args.l.now.profile c.saved_profile.result c.saved_profile.ensures.valid c.saved_profile.ensures.again c.saved_profile.ensures.header
