@@ -80,7 +80,7 @@ pub record IsSavedText (finds : Finds) (l : Loaded) (config : Config) (text : Li
   -- it reports as its filters did
   pub reports : IsSource l.profile → ReportsAsFiltered finds l config
 
--- What is known of the text of a saved profile as it is written. No public clause cites it.
+-- What is known of the text of a saved profile as it is written. The last two are of the profile that it was saved of.
 pub record IsProtoOf (p : Profile) (f : Finders) (config : Config) (text : List ℕ) : Type 0 where
   pub bytes : text ≡ encode (saved p f config)
   pub again : read text ≡ Ok (saved p f config)
