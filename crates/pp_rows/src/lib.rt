@@ -8,6 +8,8 @@ mod dumps;
 #[cfg(test)]
 mod faults;
 #[cfg(test)]
+mod figures;
+#[cfg(test)]
 mod filters;
 #[cfg(test)]
 mod fixtures;
@@ -37,6 +39,8 @@ mod pool;
 mod rules;
 #[cfg(test)]
 mod running;
+#[cfg(test)]
+mod saved;
 #[cfg(test)]
 mod shared;
 #[cfg(test)]

@@ -3,7 +3,7 @@ ghost use Rattle.std.specs.Prelude.{None};
 
 use crate::fixtures::P1;
 use crate::running::ending_of;
-use crate::transcripts::{answer_to, put_file, shown};
+use crate::transcripts::{answer_to, numbered_lines, put_file, shown};
 use pp_base::{
     CalmSink, CalmSource, FileRead, FileWrite, Files, List, Memory, OpenGate, Sink, SinkWrite,
     Source, SourceRead, Text,
@@ -54,7 +54,6 @@ impl Files for LongFile {
 // The words, the length of the file, and the last line of standard output or standard error.
 const LONG_FILES: &str = "-top d|268435456|pprof: d: no such file
 -top d|268435457|pprof: d: longer than 268435456 bytes
--list=work p|134217728| Error: work.c: no such file
 -list=work p|134217729| Error: work.c: longer than 134217728 bytes";
 
 fn last_line_over_long<R: Threads + Sync + Abort>(
@@ -111,11 +110,55 @@ fn files_have_a_greatest_length(rt: HostRuntime) -> Result<(), Fail> {
 
 // So many times the byte.
 fn repeated(alloc: Global, byte: u8, count: usize) -> Result<Text, Memory> {
+    let block = [byte; 4096];
     let mut text = Text::new(alloc);
-    for _ in 0..count {
-        text.extend(&[byte])?;
+    let mut left = count;
+    for _block in 0..count / 4096 + 1 {
+        let length = left.min(4096);
+        text.extend(&block[..length])?;
+        left -= length;
     }
     Ok(text)
+}
+
+// The greatest length of a source file that is listed.
+const LISTED: usize = 134_217_728;
+
+const LIST_OF_WORK: &str = "Total: 60ms
+ROUTINE ======================== work in work.c
+      20ms       50ms (flat, cum) 83.33% of Total
+         .          .     15:w15
+         .          .     16:w16
+         .          .     17:w17
+         .          .     18:w18
+         .          .     19:w19
+         .       30ms     20:w20
+      20ms       20ms     21:w21
+         .          .     22:w22
+";
+
+// P1 as `p`, and its source file of the greatest length. The first line is as long as that takes.
+fn listed_files(alloc: Global) -> Result<List<(Text, Text)>, Fail> {
+    let lines = numbered_lines(alloc, 22)?;
+    let mut source = repeated(alloc, b'x', LISTED.saturating_sub(lines.len()))?;
+    source.extend(lines.as_slice())?;
+    let mut files = one_file(alloc, b"p", Text::from_slice(alloc, P1)?)?;
+    put_file(alloc, &mut files, b"work.c", source)?;
+    Ok(files)
+}
+
+#[test]
+fn the_longest_source_is_listed(rt: HostRuntime) -> Result<(), Fail> {
+    let files = listed_files(rt.alloc())?;
+    let input = Text::new(rt.alloc());
+    let answer = answer_to(&rt, rt.alloc(), "-list=work p", files, input)?;
+    assert_eq!(rt; answer.out(), list_of_work());
+    assert_eq!(rt; answer.status, 0);
+    Ok(())
+}
+
+fn list_of_work() -> &'static str {
+    LIST_OF_WORK
 }
 
 // The location of a sample of `main` written so many times: bytes before, the locations, and bytes after.

@@ -1,9 +1,10 @@
 // Samples counted by many workers, and by the ends of pieces.
 
+use crate::figures::Figures;
 use crate::running::ending_of;
 use crate::transcripts::{hold, shown};
 use pp_base::{CalmFiles, CalmSink, CalmSource, Gate, List, Memory, OpenGate, Text};
-use std::alloc::Global;
+use std::alloc::{AllocError, Global};
 use std::process::Abort;
 use std::sync::atomic::{AtomicU64, Ordering};
 use std::test::Fail;
@@ -52,81 +53,157 @@ $ -top -gen=200000
 |      25ms    2.78%  100.00%      900ms  100.00%  fn0
 |         0    0.00%  100.00%      900ms  100.00%  main";
 
-// Pieces of 1,024 samples: one sample, a piece less one, a piece, and one more.
-const SIZES: &str = "$ -top -sample_index=samples -gen=1 -workers=1
-$ -top -sample_index=samples -gen=1 -workers=4
-|Type: samples
-|Showing nodes accounting for 1, 100.00% of 1 total
-|      flat    flat%     sum%        cum     cum%
-|         1  100.00%  100.00%          1  100.00%  fn0
-|         0    0.00%  100.00%          1  100.00%  main
-
-$ -top -sample_index=samples -gen=1023 -workers=2
-|Type: samples
-|Showing nodes accounting for 1023, 100.00% of 1023 total
-|      flat    flat%     sum%        cum     cum%
-|       128   12.51%   12.51%       1023  100.00%  fn0
-|       128   12.51%   25.02%        895   87.49%  fn1
-|       128   12.51%   37.54%        767   74.98%  fn2
-|       128   12.51%   50.05%        639   62.46%  fn3
-|       128   12.51%   62.56%        511   49.95%  fn4
-|       128   12.51%   75.07%        383   37.44%  fn5
-|       128   12.51%   87.59%        255   24.93%  fn6
-|       127   12.41%  100.00%        127   12.41%  fn7
-|         0    0.00%  100.00%       1023  100.00%  main
-
-$ -top -sample_index=samples -gen=1024 -workers=2
-|Type: samples
-|Showing nodes accounting for 1024, 100.00% of 1024 total
-|      flat    flat%     sum%        cum     cum%
-|       128   12.50%   12.50%       1024  100.00%  fn0
-|       128   12.50%   25.00%        896   87.50%  fn1
-|       128   12.50%   37.50%        768   75.00%  fn2
-|       128   12.50%   50.00%        640   62.50%  fn3
-|       128   12.50%   62.50%        512   50.00%  fn4
-|       128   12.50%   75.00%        384   37.50%  fn5
-|       128   12.50%   87.50%        256   25.00%  fn6
-|       128   12.50%  100.00%        128   12.50%  fn7
-|         0    0.00%  100.00%       1024  100.00%  main
-
-$ -top -sample_index=samples -gen=1025 -workers=1
-$ -top -sample_index=samples -gen=1025 -workers=2
-$ -top -sample_index=samples -gen=1025 -workers=64
-|Type: samples
-|Showing nodes accounting for 1025, 100.00% of 1025 total
-|      flat    flat%     sum%        cum     cum%
-|       129   12.59%   12.59%       1025  100.00%  fn0
-|       128   12.49%   25.07%        896   87.41%  fn1
-|       128   12.49%   37.56%        768   74.93%  fn2
-|       128   12.49%   50.05%        640   62.44%  fn3
-|       128   12.49%   62.54%        512   49.95%  fn4
-|       128   12.49%   75.02%        384   37.46%  fn5
-|       128   12.49%   87.51%        256   24.98%  fn6
-|       128   12.49%  100.00%        128   12.49%  fn7
-|         0    0.00%  100.00%       1025  100.00%  main
-
-$ -top -sample_index=samples -gen=2049 -workers=3
-|Type: samples
-|Showing nodes accounting for 2049, 100.00% of 2049 total
-|      flat    flat%     sum%        cum     cum%
-|       257   12.54%   12.54%       2049  100.00%  fn0
-|       256   12.49%   25.04%       1792   87.46%  fn1
-|       256   12.49%   37.53%       1536   74.96%  fn2
-|       256   12.49%   50.02%       1280   62.47%  fn3
-|       256   12.49%   62.52%       1024   49.98%  fn4
-|       256   12.49%   75.01%        768   37.48%  fn5
-|       256   12.49%   87.51%        512   24.99%  fn6
-|       256   12.49%  100.00%        256   12.49%  fn7
-|         0    0.00%  100.00%       2049  100.00%  main";
-
 #[test]
 fn workers_print_the_same(rt: HostRuntime) -> Result<(), Fail> {
     hold(&rt, rt.alloc(), WORKERS)
 }
 
+// Numbers of samples about the end of a piece of 1,024 samples, and of a wave of 64 pieces.
+const SIZES: &str = "1 1023 1024 1025 65536 65537";
+
 #[test]
 fn each_sample_is_counted(rt: HostRuntime) -> Result<(), Fail> {
-    hold(&rt, rt.alloc(), SIZES)
+    are_counted(&rt, rt.alloc(), SIZES)
+}
+
+fn are_counted<R: Threads + Sync + Abort>(rt: &R, alloc: Global, sizes: &str) -> Result<(), Fail> {
+    for samples in sizes.split(' ') {
+        let sums = Sums::of(samples.parse::<u64>().ok().ok_or("no number")?);
+        is_counted(rt, alloc, samples, 1, &sums)?;
+        is_counted(rt, alloc, samples, 3, &sums)?;
+    }
+    Ok(())
+}
+
+fn is_counted<R: Threads + Sync + Abort>(
+    rt: &R,
+    alloc: Global,
+    samples: &str,
+    workers: u32,
+    sums: &Sums,
+) -> Result<(), Fail> {
+    let words = format!(in alloc; "-gen={samples} -workers={workers}")?;
+    let top = format!(in alloc; "-top {words}")?;
+    let top = printed(rt, alloc, top.as_str(), &OpenGate)?;
+    let owed = sums.top(alloc)?;
+    assert_eq!(rt; shown(top.bytes()), owed.as_str(), "{words}");
+    let tree = format!(in alloc; "-tree -unit=ns {words}")?;
+    let tree = printed(rt, alloc, tree.as_str(), &OpenGate)?;
+    let figures = Figures::read(alloc, shown(tree.bytes()))?;
+    assert!(rt; sums.are_edges_of(alloc, &figures)?, "{words}");
+    Ok(())
+}
+
+// What the samples of a generated profile add up to in nanoseconds, each sample by itself: flats and cums of fn0 to
+// fn7, and the cum of main.
+#[derive(Drop)]
+struct Sums {
+    flat: [u64; 8],
+    cum: [u64; 8],
+    total: u64,
+}
+
+impl Sums {
+    // Sample number i has fnd as its leaf, with d = i mod 8, and the callers fn(d - 1) to fn0 and main.
+    fn of(samples: u64) -> Sums {
+        let mut sums = Sums {
+            flat: [0; 8],
+            cum: [0; 8],
+            total: 0,
+        };
+        for sample in 0..samples {
+            let leaf = (sample % 8) as usize;
+            let value = (sample % 8 + 1) * 1000;
+            sums.flat[leaf] = sums.flat[leaf].wrapping_add(value);
+            for function in 0..leaf + 1 {
+                sums.cum[function] = sums.cum[function].wrapping_add(value);
+            }
+            sums.total = sums.total.wrapping_add(value);
+        }
+        sums
+    }
+
+    // The report of these sums: the more a function's number, the larger its flat, and main has none.
+    fn top(&self, alloc: Global) -> Result<String, AllocError> {
+        let all = value_text(alloc, self.total, self.total)?;
+        let mut text = format!(in alloc;
+            "Type: cpu\nShowing nodes accounting for {all}, 100.00% of {all} total\n{HEADING}"
+        )?;
+        let mut so_far: u64 = 0;
+        for function in (0..8).rev() {
+            let flat = self.flat[function];
+            if flat > 0 {
+                so_far = so_far.wrapping_add(flat);
+                let name = format!(in alloc; "fn{function}")?;
+                let row = self.row(alloc, flat, so_far, self.cum[function], name.as_str())?;
+                text.push_str(row.as_str())?;
+            }
+        }
+        let row = self.row(alloc, 0, so_far, self.total, "main")?;
+        text.push_str(row.as_str())?;
+        Ok(text)
+    }
+
+    fn row(
+        &self,
+        alloc: Global,
+        flat: u64,
+        so_far: u64,
+        cum: u64,
+        name: &str,
+    ) -> Result<String, AllocError> {
+        let flat_text = value_text(alloc, flat, self.total)?;
+        let flat_share = share_text(alloc, flat, self.total)?;
+        let sum_share = share_text(alloc, so_far, self.total)?;
+        let cum_text = value_text(alloc, cum, self.total)?;
+        let cum_share = share_text(alloc, cum, self.total)?;
+        format!(in alloc;
+            "{flat_text:>10} {flat_share:>8} {sum_share:>8} {cum_text:>10} {cum_share:>8}  {name}\n"
+        )
+    }
+
+    // Each function is called by the one before it, in the samples that have it.
+    fn are_edges_of(&self, alloc: Global, figures: &Figures) -> Result<bool, AllocError> {
+        let mut caller = format!(in alloc; "main")?;
+        for function in 0..8 {
+            let name = format!(in alloc; "fn{function}")?;
+            let value = figures.edge(caller.as_bytes(), name.as_bytes());
+            if value.unsigned_abs() != self.cum[function].wrapping_mul(100) {
+                return Ok(false);
+            }
+            caller = name;
+        }
+        Ok(true)
+    }
+}
+
+const HEADING: &str = "      flat    flat%     sum%        cum     cum%\n";
+
+// The value in the largest unit in which the total is at least 1.
+fn value_text(alloc: Global, value: u64, total: u64) -> Result<String, AllocError> {
+    let (unit, name) = if total >= 1_000_000 {
+        (1_000_000, "ms")
+    } else {
+        (1000, "us")
+    };
+    let hundredths = rounded(value.wrapping_mul(100), unit);
+    if hundredths == 0 {
+        format!(in alloc; "0")
+    } else if hundredths % 100 == 0 {
+        format!(in alloc; "{}{name}", hundredths / 100)
+    } else {
+        format!(in alloc; "{}.{:02}{name}", hundredths / 100, hundredths % 100)
+    }
+}
+
+fn share_text(alloc: Global, value: u64, total: u64) -> Result<String, AllocError> {
+    let hundredths = rounded(value.wrapping_mul(10_000), total);
+    format!(in alloc; "{}.{:02}%", hundredths / 100, hundredths % 100)
+}
+
+// The quotient, where a half is rounded up.
+fn rounded(value: u64, divisor: u64) -> u64 {
+    value.wrapping_mul(2).wrapping_add(divisor) / divisor.wrapping_mul(2).max(1)
 }
 
 // Holds the piece that enters first until another was left, for so many turns at most.

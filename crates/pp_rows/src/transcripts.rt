@@ -156,7 +156,7 @@ fn content_of(alloc: Global, tag: &str, content: &str) -> Result<Text, Fail> {
 }
 
 // The lines w1, w2 and so on.
-fn numbered_lines(alloc: Global, count: u64) -> Result<Text, Fail> {
+pub(crate) fn numbered_lines(alloc: Global, count: u64) -> Result<Text, Fail> {
     let mut text = Text::new(alloc);
     for number in 0..count {
         let line = format!(in alloc; "w{}\n", number.wrapping_add(1))?;
@@ -165,7 +165,8 @@ fn numbered_lines(alloc: Global, count: u64) -> Result<Text, Fail> {
     Ok(text)
 }
 
-fn text_of(alloc: Global, content: &str) -> Result<Text, Memory> {
+// The text, where `;` ends a line.
+pub(crate) fn text_of(alloc: Global, content: &str) -> Result<Text, Memory> {
     let mut text = Text::new(alloc);
     for byte in content.as_bytes() {
         let byte = if *byte == b';' { b'\n' } else { *byte };
