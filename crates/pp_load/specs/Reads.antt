@@ -10,6 +10,7 @@ use Rattle.pp_model.specs.Judged.{loaded_of}
 use Rattle.pp_pattern.specs.declared.load.FramesRefused.{FramesRefused}
 use Rattle.pp_pattern.specs.declared.load.FramesRefused.TheVariants as frames
 use Rattle.pp_pattern.specs.Load.{judge_load, drop_finder, keep_finder}
+use Rattle.pp_load.specs.declared.reading.TheConstants.{SIZE_LIMIT}
 use Rattle.pp_load.specs.declared.refusal.LoadRefusal.{LoadRefusal}
 use Rattle.pp_load.specs.declared.refusal.LoadRefusal.TheVariants as refusals
 use Rattle.pp_load.specs.Steps.{Loading}
@@ -20,7 +21,7 @@ Finds = List ℕ → List ℕ → Bool
 
 -- the most bytes of one file, and of all sources and bases together
 abbrev pub size_limit : ℕ
-size_limit = 268435456
+size_limit = SIZE_LIMIT
 
 -- the bytes that were read of a source's path
 abbrev pub whole_of : ℕ → FileContent → Loading (List ℕ)

@@ -131,7 +131,7 @@ fn made_location(alloc: Global, place: u64) -> Result<Location, Memory>
 fn made_samples(alloc: Global, samples: u32) -> Result<List<Sample>, Memory>
     ensures { IfOk result (λ list. list ≡ map made_sample (range_with_len 0 samples)) }
 {
-    let mut list = List::new(alloc);
+    let mut list = List::from_vec(Vec::with_capacity(alloc, samples as usize)?);
     for number in 0..samples {
         list.push(made_sample(alloc, number)?)?;
     }
@@ -160,7 +160,7 @@ fn ids_down(alloc: Global, first: u64) -> Result<List<u64>, Memory>
     requires { first < 16 }
     ensures { IfOk result (λ ids. ids ≡ ids_down first) }
 {
-    let mut ids = List::new(alloc);
+    let mut ids = List::from_vec(Vec::with_capacity(alloc, first as usize)?);
     let mut id = first;
     while id > 0 {
         ids.push(id)?;

@@ -7,7 +7,7 @@ ghost use Rattle.pp_tables.specs.Read.{HasAtMost};
 ghost use Rattle.pp_options.specs.Conditions.{is_fair};
 ghost use Rattle.pp_load.specs.Steps.{Gives};
 ghost use Rattle.pp_load.specs.Joining.{HasStarts};
-ghost use Rattle.pp_load.specs.Reads.{read_path, whole_of};
+ghost use Rattle.pp_load.specs.Reads.{size_limit, read_path, whole_of};
 ghost use Rattle.pp_load.specs.Sources.{fitting, with_profile, with_bytes, IsFew};
 ghost use Rattle.pp_load.specs.Load.{read_bytes, read_next, read_base, read_all, read_plan};
 
@@ -191,10 +191,10 @@ fn add(alloc: Global, read: Read, bytes: Text) -> Result<Read, Halt<LoadRefusal>
 // So many bytes more are not too many.
 #[tactic(auto, unfolding(crate::specs::Steps::Gives))]
 fn fit(read: &Read, len: u64) -> Result<(), Halt<LoadRefusal>>
-    requires few { read.now.size ≤ 268435456 }
+    requires few { read.now.size ≤ size_limit }
     requires room { length read.now.profiles + 1 < 2 ^ 32 }
     ensures is { Gives (fitting read.now len) result }
-    ensures fits { IsOk result → read.now.size + len ≤ 268435456 }
+    ensures fits { IsOk result → read.now.size + len ≤ size_limit }
 {
     if len > SIZE_LIMIT - read.size {
         let source = read.profiles.len() as u32;
@@ -206,7 +206,7 @@ fn fit(read: &Read, len: u64) -> Result<(), Halt<LoadRefusal>>
 // The profile behind those that were read.
 fn push(mut read: Read, profile: Valid, len: u64) -> Result<Read, Memory>
     requires few { IsFew read }
-    requires fits { read.size + len ≤ 268435456 }
+    requires fits { read.size + len ≤ size_limit }
     requires own { HasAtMost len profile }
     requires starts { HasStarts profile }
     ensures is { IfOk result (λ more. more ≡ with_profile read len profile) }
