@@ -1,7 +1,7 @@
 -- What the objects in memory answer, and what each answer leaves.
 use Rattle.std.specs.Prelude.{◌≡◌, ◌/◌, ◌++◌, [], ◌∷◌, List, ℕ, Bool, true, false, length, take, drop, min, map}
 use Rattle.pp_base.specs.FileMap.{with_file, among}
-use Rattle.pp_base.specs.Judges.{occurs}
+use Rattle.pp_base.specs.Judges.{occurs_in}
 use Rattle.pp_base.specs.Calls.{fails_next, after_call}
 use Rattle.pp_base.specs.Held.{SourceHeld, MemSourceHeld, SinkHeld, MemSinkHeld, FilesHeld, MemFilesHeld, LiteralHeld}
 use Rattle.pp_base.specs.declared.source.SourceRead.{SourceRead}
@@ -84,7 +84,7 @@ MemWrites old new path bytes writes.Memory =
 abbrev pub LiteralJudges : LiteralHeld → LiteralHeld → List ℕ → List (List ℕ) → Judgement → Type 0
 LiteralJudges old new pattern subjects (judgement.Found verdicts) =
     (among old.refused pattern ≡ false)
-    × (verdicts ≡ map (occurs pattern) subjects)
+    × (verdicts ≡ map (occurs_in pattern) subjects)
     × (new ≡ record { refused = old.refused; answers = old.answers ++ (pattern, true) ∷ [] })
 LiteralJudges old new pattern subjects judgement.Refused = (among old.refused pattern ≡ true)
     × (new ≡ record { refused = old.refused; answers = old.answers ++ (pattern, false) ∷ [] })

@@ -44,6 +44,7 @@ pub fn gather_paths(
         kept.now ≡ filtered_from scope.now.l.now.profile f scope.now.config.now 0 samples.now }
     ensures { IfOk result (ArePaths scope.now samples.now) }
 {
+    let mut stack = List::new(alloc);
     let mut keys = Vec::new(alloc);
     let mut paths = List::new(alloc);
     let mut met = 0;
@@ -52,7 +53,7 @@ pub fn gather_paths(
             continue;
         }
         met += 1;
-        if see(alloc, scope, sample, &mut keys)? {
+        if see(scope, sample, &mut stack, &mut keys)? {
             add_path(alloc, scope, &mut paths, sample, &keys)?;
         }
     }

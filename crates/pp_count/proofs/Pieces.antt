@@ -24,7 +24,7 @@ use Rattle.pp_count.specs.Sums.{Seen, weighed, renamed, has, leads, occurs}
 use Rattle.pp_count.specs.Seeing.{filtered_stack, seen}
 use Rattle.pp_count.specs.Tally.{added, plus, no_tally, IsTallyOf}
 use Rattle.pp_count.specs.Parts.{piece_samples, sums_of, key_sum, flat_size, cum_size, HasBelow}
-use Rattle.pp_count.specs.Scope.{profile_of, config_of, size_of, counted_as, AreSeen, IsCountable, IsPartOf, CountedTo}
+use Rattle.pp_count.specs.Scope.{profile_of, config_of, size_of, counted_as, AreSeen, AreCountable, IsPartOf, CountedTo}
 use Rattle.pp_count.proofs.Adding.{sum_bound}
 use Rattle.pp_count.proofs.Joining.{tallies_joined}
 use Rattle.pp_count.proofs.Ranges.{name_of, numbers-append, counted_size, counted_none}
@@ -38,7 +38,7 @@ range_is samples piece end e =
     ∙ ap (λ n. take 1024 (drop n samples)) (omega arith)
 
 -- what can be counted can be counted in pieces
-pub countable_piece : (scope : Scope) (samples : List Sample) (piece : ℕ) → IsCountable scope samples → IsCountable scope (piece_samples samples piece)
+pub countable_piece : (scope : Scope) (samples : List Sample) (piece : ℕ) → AreCountable scope samples → AreCountable scope (piece_samples samples piece)
 countable_piece scope samples piece is =
     let size : Sample → ℕ = λ x. nat_abs (selected scope.column (config_of scope).divide_by x) in
     record {

@@ -75,8 +75,8 @@ pub record CanJoin (parts : List Part) : Type 0 where
   pub cum : (k : ℕ) → cum_size (sums_of k (all_sums parts)) < 2 ^ 63
 
 -- Wherever the parts are of consecutive ranges, the part is that of all their samples.
-abbrev pub IsJoined : List Part → Part → Type 0
-IsJoined parts whole =
+abbrev pub IsJoinedPart : List Part → Part → Type 0
+IsJoinedPart parts whole =
     (l : Loaded) (v : Verdicts) (config : Config) (column : Option ℕ) (names : List Key) (number : ℕ)
     (ranges : List (List Sample))
     → AreConsecutive l v config column names number ranges parts

@@ -43,7 +43,7 @@ abbrev pub size_of : Scope → List Sample → ℕ
 size_of scope samples = absolute_all scope.column scope.config.now.divide_by samples
 
 -- The samples can be numbered, and their values added up.
-pub record IsCountable (scope : Scope) (samples : List Sample) : Type 0 where
+pub record AreCountable (scope : Scope) (samples : List Sample) : Type 0 where
   pub fits : size_of scope samples < 2 ^ 63
   pub few : length samples < 2 ^ 32
 

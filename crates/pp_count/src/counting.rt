@@ -2,7 +2,7 @@
 ghost use Rattle.std.specs.Prelude.{◌≡◌, ◌+◌, ◌*◌, ◌<◌, ◌^◌, length, IfOk};
 ghost use Rattle.std.proofs.Props.{props};
 ghost use Rattle.pp_count.specs.Parts.{piece_samples};
-ghost use Rattle.pp_count.specs.Scope.{IsSound, IsCountable, IsPartOf};
+ghost use Rattle.pp_count.specs.Scope.{IsSound, AreCountable, IsPartOf};
 
 use crate::part::{Part, count_range};
 use crate::scope::Scope;
@@ -23,7 +23,7 @@ pub struct Counting<'a> {
     /// How many pieces the wave has.
     pub pieces: u32,
     pub ghost sound: { IsSound scope } by { Prim.hlevel props },
-    pub ghost countable: { IsCountable scope scope.l.now.profile.sample },
+    pub ghost countable: { AreCountable scope scope.l.now.profile.sample },
     pub ghost within: { 1024 * (first + pieces) < length scope.l.now.profile.sample + 1024 },
 }
 
@@ -47,7 +47,7 @@ impl Job for Counting<'_> {
 /// The part of the piece's samples.
 pub fn count_piece_of(alloc: Global, scope: &Scope, piece: u32) -> Result<Part, Memory>
     requires sound { IsSound scope.now }
-    requires countable { IsCountable scope.now scope.now.l.now.profile.sample }
+    requires countable { AreCountable scope.now scope.now.l.now.profile.sample }
     requires starts { 1024 * piece < length scope.now.l.now.profile.sample }
     ensures { IfOk result (IsPartOf scope.now (piece * 1024)
         (piece_samples scope.now.l.now.profile.sample piece)) }

@@ -10,10 +10,10 @@ ghost use Rattle.pp_tags.specs.TagFilters.{AreTagVerdicts, HasItsTags, filter_in
 ghost use Rattle.pp_count.specs.Seeing.{HoldsFilters};
 ghost use Rattle.pp_count.specs.Matches.{stack_has, label_has, frame_match, key_match, matches_of};
 
-use crate::finding::{finds_key, finds_some};
+use crate::finding::finds_key;
 use pp_base::{List, Memory};
-use pp_model::{Config, Loaded, Sample, Tag, Verdicts, frames};
-use pp_stack::load_prune;
+use pp_model::{Config, Loaded, Sample, Stack, Tag, Verdicts, frames_into};
+use pp_stack::{finds_some, load_prune};
 use pp_tags::{TagFilter, selects};
 use std::alloc::Global;
 
@@ -84,15 +84,22 @@ fn some_stack(
         (find : Finder) → AreVerdicts l.now.profile found.now find →
         IfOk result (λ some. some ≡ list_any (stack_has l.now.profile f find) samples.now) }
 {
+    let mut stack = List::new(alloc);
     for s in samples {
-        if has_frame(alloc, l, found, s)? {
+        if has_frame(l, found, s, &mut stack)? {
             return Ok(true);
         }
     }
     Ok(false)
 }
 
-fn has_frame(alloc: Global, l: &Loaded, found: &List<bool>, s: &Sample) -> Result<bool, Memory>
+// Whether it finds a frame of the sample. The stack is room for its frames, to be used again for the next sample.
+fn has_frame(
+    l: &Loaded,
+    found: &List<bool>,
+    s: &Sample,
+    stack: &mut Stack,
+) -> Result<bool, Memory>
     requires refers { RefersTo l.now.profile s.now }
     requires fits { length found.now ≡ length l.now.profile.text }
     ensures { (f : Finders) → l.now.drop ≡ judged l.now.profile f.drop →
@@ -100,8 +107,8 @@ fn has_frame(alloc: Global, l: &Loaded, found: &List<bool>, s: &Sample) -> Resul
         (find : Finder) → AreVerdicts l.now.profile found.now find →
         IfOk result (λ some. some ≡ stack_has l.now.profile f find s.now) }
 {
-    let mut stack = frames(alloc, l, s)?;
-    load_prune(l, &mut stack);
+    frames_into(l, s, stack)?;
+    load_prune(l, stack);
     Ok(finds_some(l, found, stack.as_slice()))
 }
 

@@ -4,7 +4,7 @@ ghost use Rattle.pp_model.specs.Conditions.{RefersTo, IsSampleOf};
 ghost use Rattle.pp_count.specs.Column.{selected};
 ghost use Rattle.pp_count.specs.Edges.{counted_keys};
 ghost use Rattle.pp_count.specs.Tally.{tally_at, no_tally, with_seen};
-ghost use Rattle.pp_count.specs.Scope.{keep_of, IsSound, IsCountable, IsPartOf, CountedTo};
+ghost use Rattle.pp_count.specs.Scope.{keep_of, IsSound, AreCountable, IsPartOf, CountedTo};
 
 use crate::pairs::gather_pairs;
 use crate::scope::Scope;
@@ -43,7 +43,7 @@ pub fn count_range(
     number: u32,
 ) -> Result<Part, Memory>
     requires sound { IsSound scope.now }
-    requires countable { IsCountable scope.now samples.now }
+    requires countable { AreCountable scope.now samples.now }
     requires members { All (IsSampleOf scope.now.l.now.profile) samples.now }
     requires refers { All (RefersTo scope.now.l.now.profile) samples.now }
     requires few { number + length samples.now < 2 ^ 32 }
@@ -64,7 +64,7 @@ fn add_samples(
     number: u32,
 ) -> Result<List<u32>, Memory>
     requires sound { IsSound scope.now }
-    requires countable { IsCountable scope.now samples.now }
+    requires countable { AreCountable scope.now samples.now }
     requires members { All (IsSampleOf scope.now.l.now.profile) samples.now }
     requires refers { All (RefersTo scope.now.l.now.profile) samples.now }
     requires few { number + length samples.now < 2 ^ 32 }
@@ -72,11 +72,12 @@ fn add_samples(
     ensures { IfOk result (λ kept. CountedTo scope.now number (length samples.now) samples.now
         (tally_at tallies.new) kept) }
 {
+    let mut stack = List::new(alloc);
     let mut keys = Vec::new(alloc);
     let mut pairs = Vec::new(alloc);
     let mut kept = List::new(alloc);
     for (index, sample) in samples.iter().enumerate() {
-        if see(alloc, scope, sample, &mut keys)? {
+        if see(scope, sample, &mut stack, &mut keys)? {
             let turn = index as u64 + 1;
             add_seen(scope, tallies, sample, &keys, &mut pairs, turn)?;
             kept.push(number + index as u32)?;

@@ -4,7 +4,7 @@ ghost use Rattle.pp_model.specs.Conditions.{HasVerdicts, IsColumnOf};
 ghost use Rattle.pp_model.specs.Sizes.{IsCountable};
 ghost use Rattle.pp_tags.specs.TagFilters.{HasItsTags, filter_in_force};
 ghost use Rattle.pp_count.specs.Counted.{CanCount};
-ghost use Rattle.pp_count.specs.Joined.{IsRangePart, CanJoin, IsJoined};
+ghost use Rattle.pp_count.specs.Joined.{IsRangePart, CanJoin, IsJoinedPart};
 ghost use Rattle.pp_count.specs.Parts.{piece_samples};
 ghost use Rattle.pp_count.specs.Table.{IsKeyTable};
 
@@ -84,7 +84,7 @@ fn count_piece_by<'x>(
 /// of memory.
 pub fn join_parts(alloc: Global, parts: List<Part>) -> Result<Part, Memory>
     requires { CanJoin parts }
-    ensures { IfOk result (IsJoined parts) }
+    ensures { IfOk result (IsJoinedPart parts) }
 {
     // The parts don't tell how many key numbers there are.
     let mut sofar = Sofar::new(alloc, 0)?;

@@ -12,13 +12,17 @@ use crate::scope::Scope;
 use pp_base::{List, Memory};
 use pp_grain::counted;
 use pp_model::{Frame, Sample, Stack};
-use pp_stack::{filter_stack, keeps_all};
+use pp_stack::{filter_into, keeps_all};
 use pp_tags::tag_kept;
-use std::alloc::Global;
 
 /// The key numbers of the sample's counted frames, leaf first, in the place of what `keys` held. False says that the
-/// filters drop the sample.
-pub fn see(alloc: Global, scope: &Scope, s: &Sample, keys: &mut Vec<u64>) -> Result<bool, Memory>
+/// filters drop the sample. `stack` is room for its frames, to be used again for the next sample.
+pub fn see(
+    scope: &Scope,
+    s: &Sample,
+    stack: &mut Stack,
+    keys: &mut Vec<u64>,
+) -> Result<bool, Memory>
     requires sound { IsSound scope.now }
     requires member { IsSampleOf scope.now.l.now.profile s.now }
     requires refers { RefersTo scope.now.l.now.profile s.now }
@@ -39,10 +43,10 @@ pub fn see(alloc: Global, scope: &Scope, s: &Sample, keys: &mut Vec<u64>) -> Res
         number_all(scope, s, keys)?;
         return Ok(true);
     }
-    let Some(stack) = filter_stack(alloc, scope.l, scope.v, s)? else {
+    if !filter_into(scope.l, scope.v, s, stack)? {
         return Ok(false);
-    };
-    number_stack(scope, &stack, keys)?;
+    }
+    number_stack(scope, stack, keys)?;
     Ok(true)
 }
 

@@ -1,7 +1,7 @@
 //! All samples, counted in waves of pieces on the lanes.
 ghost use Rattle.std.specs.Prelude.{◌≡◌, ◌+◌, ◌*◌, ◌<◌, take, IfOk};
 ghost use Rattle.pp_count.specs.Tally.{tally_at};
-ghost use Rattle.pp_count.specs.Scope.{IsSound, IsCountable, CountedTo};
+ghost use Rattle.pp_count.specs.Scope.{IsSound, AreCountable, CountedTo};
 
 use crate::counting::{Counting, PIECE};
 use crate::scope::Scope;
@@ -22,7 +22,7 @@ pub fn count_all<'x, R: Threads + Sync, G: Gate>(
     gate: &G,
 ) -> Result<Sofar, Memory>
     requires sound { IsSound scope.now }
-    requires countable { IsCountable scope.now scope.now.l.now.profile.sample }
+    requires countable { AreCountable scope.now scope.now.l.now.profile.sample }
     ensures { IfOk result (λ sofar. CountedTo scope.now 0 1 scope.now.l.now.profile.sample
         (tally_at sofar.tallies) sofar.kept) }
 {

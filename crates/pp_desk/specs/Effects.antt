@@ -55,17 +55,17 @@ pub record Did (old new : Outside) (effects : List Effect) : Type 0 where
   pub files : new.files ≡ files_after old.files effects
 
 -- the first effect is the second as far as it came
-abbrev pub IsPartOf : Effect → Effect → Type 0
-IsPartOf (ToOut part) (ToOut whole) = IsFront part whole
-IsPartOf (ToErr part) (ToErr whole) = IsFront part whole
-IsPartOf (ToFile at part) (ToFile path whole) = (at ≡ path) × IsFront part whole
-IsPartOf part whole = ⊥
+abbrev pub IsPartOfEffect : Effect → Effect → Type 0
+IsPartOfEffect (ToOut part) (ToOut whole) = IsFront part whole
+IsPartOfEffect (ToErr part) (ToErr whole) = IsFront part whole
+IsPartOfEffect (ToFile at part) (ToFile path whole) = (at ≡ path) × IsFront part whole
+IsPartOfEffect part whole = ⊥
 
 -- what was done is the front of all effects, the last of them perhaps in part
 abbrev pub IsFrontOf : List Effect → List Effect → Type 0
 IsFrontOf [] effects = ⊤
 IsFrontOf (d ∷ ds) [] = ⊥
-IsFrontOf (d ∷ ds) (e ∷ es) = ((d ≡ e) × IsFrontOf ds es) ⊎ (IsPartOf d e × (ds ≡ []))
+IsFrontOf (d ∷ ds) (e ∷ es) = ((d ≡ e) × IsFrontOf ds es) ⊎ (IsPartOfEffect d e × (ds ≡ []))
 
 -- A front of these effects was done, and nothing else.
 pub record DidFront (old new : Outside) (effects : List Effect) : Type 0 where

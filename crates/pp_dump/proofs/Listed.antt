@@ -26,7 +26,7 @@ use Rattle.pp_dump.specs.declared.tag_lines.TagLine.{TagLine}
 use Rattle.pp_dump.specs.TagLines.{TagTexts, bytes_cmp, tag_cmp, same_tag, has_key, all_tags, all_keys, key_sum, key_size, tag_sum, line_cmp, key_tags, value_line}
 use Rattle.pp_dump.specs.Names.{name_texts, key_tag}
 use Rattle.pp_dump.specs.Tables.{Event, AreKeys, key_event, events_of_key, events_from}
-use Rattle.pp_dump.specs.Ranked.{Entry, line_entry, line_key, event_entry, table_tags, entry_cmp, key_cmp, entry_line, IsKeyLine}
+use Rattle.pp_dump.specs.Ranked.{RankedTag, line_entry, line_key, event_entry, table_tags, entry_cmp, key_cmp, entry_line, IsKeyLine}
 use Rattle.pp_dump.proofs.TagNamesLemmas.{tag_decides}
 use Rattle.pp_dump.proofs.EventSums.{tag_sums, key_sums, key_sizes, key_same, tags_are}
 use Rattle.pp_dump.proofs.Ranking.{tag_cmp_total, tag_cmp_ties, bytes_cmp_ties, tag_symm, tags_apart, place_at, at_all, sorted_as}
@@ -75,7 +75,7 @@ all_unmapped P f [] all = All-nil (λ x. P (f x))
 all_unmapped P f (x ∷ xs) all = All-cons (λ y. P (f y)) x xs (All-head P (f x) (map f xs) all) (all_unmapped P f xs (All-tail P (f x) (map f xs) all))
 
 -- the lines of a table in another order
-module _ (P : Entry → Type 0) (before lines : List TagLine) (entries : List Entry) (are : map line_entry before ≡ entries) (moved : IsPermutation before lines) where
+module _ (P : RankedTag → Type 0) (before lines : List TagLine) (entries : List RankedTag) (are : map line_entry before ≡ entries) (moved : IsPermutation before lines) where
   pub all_lines : All P entries → All (λ line. P (line_entry line)) lines
   all_lines all =
       all_unmapped P line_entry lines
@@ -104,7 +104,7 @@ module _ (samples : List (Seen TagTexts)) where
   line_ties a b tie = tag_cmp_ties a b (both_equal _ _ tie).1
 
   -- The entry has the sum of its tag.
-  abbrev pub HasTagSum : Entry → Type 0
+  abbrev pub HasTagSum : RankedTag → Type 0
   HasTagSum e = e.sum.sum ≡ tag_sum samples e.tag
 
   module _ (key : List ℕ) where
@@ -199,7 +199,7 @@ module _ (samples : List (Seen TagTexts)) where
   keys_are = sym (map_twice (λ e. e.tag) (λ tag. tag.key) events) ∙ ap (map (λ tag. tag.key)) (tags_are samples 0)
 
   -- The entry has the sums of its key, and its number is the key's.
-  pub record IsKeyEntry (names : List TagTexts) (e : Entry) : Type 0 where
+  pub record IsKeyEntry (names : List TagTexts) (e : RankedTag) : Type 0 where
     pub sum : e.sum.sum ≡ key_sum samples e.tag.key
     pub size : e.sum.size ≡ key_size samples e.tag.key
     pub number : e.number ≡ place_of same_tag names (key_tag e.tag.key)

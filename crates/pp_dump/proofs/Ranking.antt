@@ -21,7 +21,7 @@ use Rattle.pp_count.proofs.Renaming.{same_bool}
 use Rattle.pp_dump.specs.declared.tag_table.TagSum.{TagSum}
 use Rattle.pp_dump.specs.TagLines.{TagTexts, bytes_cmp, tag_cmp, same_tag}
 use Rattle.pp_dump.specs.Tables.{Event, IsTable, no_sum, sum_of, events_with}
-use Rattle.pp_dump.specs.Ranked.{Entry, no_tag, table_tags, event_entry, entry_cmp}
+use Rattle.pp_dump.specs.Ranked.{RankedTag, no_tag, table_tags, event_entry, entry_cmp}
 use Rattle.pp_dump.proofs.TagNamesLemmas.{tag_decides}
 
 -- one line more
@@ -65,7 +65,7 @@ tag_cmp_ties a b tie =
 
 -- entries are ordered by their sums and tags
 pub entry_total : IsTotalOrder entry_cmp
-entry_total = then_total (back_total (on_total (λ (e : Entry). nat_abs e.sum.sum) nat_cmp_total)) (on_total (λ (e : Entry). e.tag) tag_cmp_total)
+entry_total = then_total (back_total (on_total (λ (e : RankedTag). nat_abs e.sum.sum) nat_cmp_total)) (on_total (λ (e : RankedTag). e.tag) tag_cmp_total)
 
 pub bytes_cmp_ties : finite.IsAntisymmetric bytes_cmp
 bytes_cmp_ties a b tie = slice_cmp-IsAntisymmetric nat_cmp-IsAntisymmetric a b tie

@@ -13,13 +13,13 @@ use Rattle.pp_dump.specs.Names.{name_texts, key_tag}
 use Rattle.pp_dump.specs.Tables.{Event, IsTableOf, sum_of, events_with, events_of_key, events_from}
 
 -- A tag with its sum, and its number in its table.
-pub record Entry : Type 0 where
+pub record RankedTag : Type 0 where
   pub tag : TagTexts
   pub sum : TagSum
   pub number : ℕ
 
 -- what the line says
-abbrev pub line_entry : TagLine → Entry
+abbrev pub line_entry : TagLine → RankedTag
 line_entry line = record { tag = name_texts line.name.now; sum = line.sum; number = line.number }
 
 -- the key of the line
@@ -35,7 +35,7 @@ abbrev pub table_tags : List Event → List TagTexts
 table_tags events = distinct same_tag (map (λ e. e.tag) events)
 
 -- what the table of these events says of the tag
-abbrev pub event_entry : List Event → TagTexts → Entry
+abbrev pub event_entry : List Event → TagTexts → RankedTag
 event_entry events tag = record {
   tag = tag;
   sum = sum_of (events_with tag events);
@@ -47,12 +47,12 @@ abbrev pub key_cmp : TagLine → TagLine → Ordering
 key_cmp a b = bytes_cmp (line_key a) (line_key b)
 
 -- the greater absolute sum first, then by value
-abbrev pub entry_cmp : Entry → Entry → Ordering
+abbrev pub entry_cmp : RankedTag → RankedTag → Ordering
 entry_cmp a b =
     ordering_then (nat_cmp (nat_abs b.sum.sum) (nat_abs a.sum.sum)) (tag_cmp a.tag b.tag)
 
 -- the line of a tag, of a key of this size
-abbrev pub entry_line : Shown → ℕ → Entry → List ℕ
+abbrev pub entry_line : Shown → ℕ → RankedTag → List ℕ
 entry_line unit size entry = value_line unit size entry.sum.sum entry.tag
 
 -- The line has the sums of its key, and the table of its number has the key's tags.

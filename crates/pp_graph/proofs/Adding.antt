@@ -15,7 +15,7 @@ use Rattle.pp_graph.specs.declared.slot.Side.TheVariants.{Out, In}
 use Rattle.pp_graph.specs.Lists.{once_if, times}
 use Rattle.pp_graph.specs.Links.{Links, AreLinked, edge_at}
 use Rattle.pp_graph.specs.Chains.{walk, is_number, IsChain}
-use Rattle.pp_graph.specs.Slots.{hooks, hooks_at, next_at, prev_at, first, first_at, end_of, end_at, slot_at, spot_at, slot_edge, no_slot, no_spot, list_of, list_at, seen, has_end, IsSound, HasPlace, linked_slots, linked_spots, new_slot, with_prev, with_first}
+use Rattle.pp_graph.specs.Slots.{hooks, hooks_at, next_at, prev_at, first, first_at, end_of, end_at, slot_at, spot_at, slot_edge, no_slot, no_spot, list_of, list_at, links_of, has_end, AreSoundSlots, HasPlace, linked_slots, linked_spots, new_slot, with_prev, with_first}
 use Rattle.pp_graph.proofs.Chaining.{IsApart, eqb-not, first_in, same_chain, pushed_chain, walk_chain, times-here, times-there, number_is, number_not}
 use Rattle.pp_graph.proofs.Setting.{read_kept, kept-prev_set, prev-prev_set, length-prev_set, edges-prev_set, next-with_prev, other-with_prev, edge-with_prev, other-with_first, first-first_set, nodes-first_set, IsWithin, other}
 use Rattle.pp_graph.proofs.Seeing.{at_end, has_end_is, list_seen, edge_seen, counts, apart_at, listed_end, listed_within, same_end, length-list}
@@ -47,7 +47,7 @@ module _ (side : Side) (spots : List Spot) (slots : List Slot) (e : ℕ) (has : 
   linked_firsts : (m : ℕ) → first_at (other side) (linked_spots side e slots spots) m ≡ first_at (other side) spots m
   linked_firsts m = read_kept (first (other side)) no_spot spots (end_at side slots e) m (with_first side (Some e) (spot_at spots (end_at side slots e))) has.spot (other-with_first side (Some e) (spot_at spots (end_at side slots e)))
 
-module _ (spots : List Spot) (slots : List Slot) (s : IsSound spots slots) (edge : Edge) (from : edge.from < length spots) (to : edge.to < length spots) where
+module _ (spots : List Spot) (slots : List Slot) (s : AreSoundSlots spots slots) (edge : Edge) (from : edge.from < length spots) (to : edge.to < length spots) where
   -- the number of the new edge
   abbrev e : ℕ
   e = length slots
@@ -87,7 +87,7 @@ module _ (spots : List Spot) (slots : List Slot) (s : IsSound spots slots) (edge
   -- the first edge so far is one of the slots
   first_slot : (side : Side) (n k : ℕ) → n < length spots → first_at side spots n ≡ Some k → k < length slots
   first_slot side n k within is = listed_within spots slots s side n k within
-      (first_in (next_at side slots) (prev_at side slots) None (first_at side spots n) (list_at side (seen spots slots) n) k (s.chains side n within) is)
+      (first_in (next_at side slots) (prev_at side slots) None (first_at side spots n) (list_at side (links_of spots slots) n) k (s.chains side n within) is)
 
   pub out_place : HasPlace Out spots slots0 e
   out_place = record {
@@ -154,7 +154,7 @@ module _ (spots : List Spot) (slots : List Slot) (s : IsSound spots slots) (edge
   all_first In m = linked_first In spots1 slots1 e in_place m ∙ (λ i. cond (eqb (end1 i) m) (Some e) (linked_firsts Out spots slots0 e out_place m i))
 
   abbrev list : Side → ℕ → List ℕ
-  list side n = list_at side (seen spots slots) n
+  list side n = list_at side (links_of spots slots) n
 
   old_number : (side : Side) (n k : ℕ) → n < length spots → 0 < times k (list side n) → k ≢ e
   old_number side n k within some is = omega (arith, listed_within spots slots s side n k within some, is)
@@ -219,7 +219,7 @@ module _ (spots : List Spot) (slots : List Slot) (s : IsSound spots slots) (edge
     | false ↦ omega (arith, length-list spots slots s side n within, length-slots2)
   ]
 
-  list_added : (side : Side) (n : ℕ) → n < length spots → list_at side (seen spots2 slots2) n ≡ added side n
+  list_added : (side : Side) (n : ℕ) → n < length spots → list_at side (links_of spots2 slots2) n ≡ added side n
   list_added side n within =
       list_seen spots2 slots2 side n (omega (arith, within, length-spots2))
       ∙ walk_chain (next_at side slots2) (prev_at side slots2) (length slots2) None (first_at side spots2 n) (added side n) (chain_added side n within) (short side n within)
@@ -233,20 +233,20 @@ module _ (spots : List Spot) (slots : List Slot) (s : IsSound spots slots) (edge
   edges_are : map slot_edge slots2 ≡ map slot_edge slots ++ Some edge ∷ []
   edges_are = edges_added ∙ map-append slot_edge slots (new_slot spots edge ∷ [])
 
-  edge_added : (k : ℕ) → edge_at (seen spots2 slots2) k ≡ cond (eqb k e) (Some edge) (edge_at (seen spots slots) k)
+  edge_added : (k : ℕ) → edge_at (links_of spots2 slots2) k ≡ cond (eqb k e) (Some edge) (edge_at (links_of spots slots) k)
   edge_added k =
       ap (λ es. get_or es k None) edges_are ∙ read_push (λ x. x) (map slot_edge slots) (Some edge) None k
-      ∙ ap (λ n. cond (eqb k n) (Some edge) (edge_at (seen spots slots) k)) (length-map slots slot_edge)
+      ∙ ap (λ n. cond (eqb k n) (Some edge) (edge_at (links_of spots slots) k)) (length-map slots slot_edge)
 
-  count_added : (side : Side) (n k : ℕ) → n < length spots → times k (list_at side (seen spots2 slots2) n) ≡ once_if (has_end side (seen spots2 slots2) n k)
+  count_added : (side : Side) (n k : ℕ) → n < length spots → times k (list_at side (links_of spots2 slots2) n) ≡ once_if (has_end side (links_of spots2 slots2) n k)
   count_added side n k within =
       ap (times k) (list_added side n within)
       ∙ elim (cases_eq k e) [
-        | inl is ↦ ap (λ j. times j (added side n)) is ∙ new_count ∙ sym (ap (λ b. once_if (at_end side (cond b (Some edge) (edge_at (seen spots slots) k)) n)) (eq-eqb k e is))
-        | inr apart ↦ old_count apart ∙ counts spots slots s side n k within ∙ ap once_if (has_end_is side (seen spots slots) n k)
-            ∙ sym (ap (λ b. once_if (at_end side (cond b (Some edge) (edge_at (seen spots slots) k)) n)) (eqb-not k e apart))
+        | inl is ↦ ap (λ j. times j (added side n)) is ∙ new_count ∙ sym (ap (λ b. once_if (at_end side (cond b (Some edge) (edge_at (links_of spots slots) k)) n)) (eq-eqb k e is))
+        | inr apart ↦ old_count apart ∙ counts spots slots s side n k within ∙ ap once_if (has_end_is side (links_of spots slots) n k)
+            ∙ sym (ap (λ b. once_if (at_end side (cond b (Some edge) (edge_at (links_of spots slots) k)) n)) (eqb-not k e apart))
       ]
-      ∙ ap (λ o. once_if (at_end side o n)) (sym (edge_added k)) ∙ ap once_if (sym (has_end_is side (seen spots2 slots2) n k)) where
+      ∙ ap (λ o. once_if (at_end side o n)) (sym (edge_added k)) ∙ ap once_if (sym (has_end_is side (links_of spots2 slots2) n k)) where
         new_count : times e (added side n) ≡ once_if (eqb (end_of side edge) n)
         new_count = elim (cases_eq n (end_of side edge)) [
           | inl is ↦ ap (λ b. times e (cond b (e ∷ list side n) (list side n))) (eq-eqb n (end_of side edge) is)
@@ -276,7 +276,7 @@ module _ (spots : List Spot) (slots : List Slot) (s : IsSound spots slots) (edge
       ]
 
   -- the graph with the edge is sound
-  pub sound_added : IsSound spots2 slots2
+  pub sound_added : AreSoundSlots spots2 slots2
   sound_added = record {
     linked = record {
       outs = length-map spots2 (list_of Out slots2) ∙ sym (length-map spots2 (λ (x : Spot). x.node));

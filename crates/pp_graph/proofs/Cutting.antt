@@ -15,7 +15,7 @@ use Rattle.pp_graph.specs.declared.slot.Side.TheVariants.{Out, In}
 use Rattle.pp_graph.specs.Lists.{once_if, times, leave_out}
 use Rattle.pp_graph.specs.Links.{Links, AreLinked, IsLive, edge_at, out_at, in_at, leaves, enters, without}
 use Rattle.pp_graph.specs.Chains.{walk, is_number, IsChain}
-use Rattle.pp_graph.specs.Slots.{hooks, hooks_at, next_at, prev_at, first, first_at, end_of, end_at, slot_at, spot_at, slot_edge, no_slot, no_spot, list_of, list_at, seen, has_end, IsSound, HasPlace, unlinked_slots, unlinked_spots}
+use Rattle.pp_graph.specs.Slots.{hooks, hooks_at, next_at, prev_at, first, first_at, end_of, end_at, slot_at, spot_at, slot_edge, no_slot, no_spot, list_of, list_at, links_of, has_end, AreSoundSlots, HasPlace, unlinked_slots, unlinked_spots}
 use Rattle.pp_graph.proofs.Chaining.{IsApart, Bridges, eqb-not, prev_of_first, first_by_prev, cut_chain, same_chain, walk_chain, leave_out_absent, length-leave_out, times-leave_out}
 use Rattle.pp_graph.proofs.Setting.{Passed, read_set, read_kept, unlinked_passed, unlinked_hooks, unlinked_edge, unlinked_firsts, unlinked_edges, unlinked_nodes, length-unlinked, length_unlinked_spots}
 use Rattle.pp_graph.proofs.Seeing.{at_end, has_end_is, get_or-map_default, once_true, once_most, list_seen, edge_seen, live_within, counts, apart_at, listed_end, same_end, length-list, its_end, end_spot, its_list, next_listed, prev_listed, has_place}
@@ -67,7 +67,7 @@ module _ (g : Links) (e : ℕ) where
           | inr apart ↦ sym (get_or-set_other g.edges e k None None apart) ∙ read
         ])
 
-module _ (spots : List Spot) (slots : List Slot) (s : IsSound spots slots) (e : ℕ) (live : IsLive (seen spots slots) e) where
+module _ (spots : List Spot) (slots : List Slot) (s : AreSoundSlots spots slots) (e : ℕ) (live : IsLive (links_of spots slots) e) where
   -- the slots and nodes after each step
   abbrev slots1 : List Slot
   slots1 = unlinked_slots Out e slots
@@ -136,7 +136,7 @@ module _ (spots : List Spot) (slots : List Slot) (s : IsSound spots slots) (e : 
 
   -- the list of a node on a side
   abbrev list : Side → ℕ → List ℕ
-  list side n = list_at side (seen spots slots) n
+  list side n = list_at side (links_of spots slots) n
 
   apart_from : (side : Side) (n k : ℕ) → n < length spots → n ≢ end_at side slots e → 0 < times k (list side n) → 0 < times k (list side (end_at side slots e)) → ⊥
   apart_from side n k within other here there = other (same_end spots slots side n (end_at side slots e) k (listed_end spots slots s side n k within here) (listed_end spots slots s side (end_at side slots e) k (end_spot spots slots s e live side) there))
@@ -172,7 +172,7 @@ module _ (spots : List Spot) (slots : List Slot) (s : IsSound spots slots) (e : 
     | inr other ↦ chain_elsewhere side n within other
   ]
 
-  list_left : (side : Side) (n : ℕ) → n < length spots → list_at side (seen spots2 slots3) n ≡ leave_out e (list side n)
+  list_left : (side : Side) (n : ℕ) → n < length spots → list_at side (links_of spots2 slots3) n ≡ leave_out e (list side n)
   list_left side n within =
       list_seen spots2 slots3 side n (omega (arith, within, length-spots2))
       ∙ walk_chain (next_at side slots3) (prev_at side slots3) (length slots3) None (first_at side spots2 n) (leave_out e (list side n)) (chain_left side n within)
@@ -187,11 +187,11 @@ module _ (spots : List Spot) (slots : List Slot) (s : IsSound spots slots) (e : 
       ∙ sym (get_or-map (list_of side slots3) spots2 k no_spot [] (omega (arith, inside, length-spots2)))
       ∙ by_side side k ∙ list_left side k inside ∙ ap (leave_out e) (sym (by_old side k))
       ∙ sym (get_or-map (leave_out e) (map (list_of side slots) spots) k [] d (omega (arith, inside, length-map spots (list_of side slots))))) where
-        by_side : (side : Side) (k : ℕ) → get_or (map (list_of side slots3) spots2) k [] ≡ list_at side (seen spots2 slots3) k
+        by_side : (side : Side) (k : ℕ) → get_or (map (list_of side slots3) spots2) k [] ≡ list_at side (links_of spots2 slots3) k
         by_side Out k = refl
         by_side In k = refl
 
-        by_old : (side : Side) (k : ℕ) → get_or (map (list_of side slots) spots) k [] ≡ list_at side (seen spots slots) k
+        by_old : (side : Side) (k : ℕ) → get_or (map (list_of side slots) spots) k [] ≡ list_at side (links_of spots slots) k
         by_old Out k = refl
         by_old In k = refl
 
@@ -199,7 +199,7 @@ module _ (spots : List Spot) (slots : List Slot) (s : IsSound spots slots) (e : 
   edges_left = map-set slot_edge slots2 e (cut_slot (slot_at slots2 e)) ∙ ap (λ es. set es e None) (unlinked_edges In slots1 e ∙ unlinked_edges Out slots e)
 
   -- the graph is the old one without the edge
-  pub seen_cut : seen spots2 slots3 ≡ without e (seen spots slots)
+  pub seen_cut : links_of spots2 slots3 ≡ without e (links_of spots slots)
   seen_cut = λ i. record {
     nodes = (unlinked_nodes In slots1 spots1 e ∙ unlinked_nodes Out slots spots e) i;
     edges = edges_left i;
@@ -208,9 +208,9 @@ module _ (spots : List Spot) (slots : List Slot) (s : IsSound spots slots) (e : 
   }
 
   -- and it is sound
-  pub sound_cut : IsSound spots2 slots3
+  pub sound_cut : AreSoundSlots spots2 slots3
   sound_cut = record {
-    linked = subst AreLinked (sym seen_cut) (linked-without (seen spots slots) e (omega (arith, live_within spots slots e live, length-map slots slot_edge)) s.linked);
+    linked = subst AreLinked (sym seen_cut) (linked-without (links_of spots slots) e (omega (arith, live_within spots slots e live, length-map slots slot_edge)) s.linked);
     chains = λ side n within.
         let inside : n < length spots = omega (arith, within, length-spots2) in
         subst (λ l. IsChain (next_at side slots3) (prev_at side slots3) None (first_at side spots2 n) l) (sym (list_left side n inside)) (chain_left side n inside);

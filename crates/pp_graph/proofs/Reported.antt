@@ -29,7 +29,7 @@ use Rattle.pp_graph.specs.declared.heavy.Row.{Row}
 use Rattle.pp_graph.specs.declared.ranking.Ranked.{Ranked}
 use Rattle.pp_graph.specs.Trim.{shown_keys, report_keys, candidate_keys, dropped_nodes, heavy_keys, light_count}
 use Rattle.pp_graph.specs.Trimmed.{int_sum, written_order, IsRankedOf}
-use Rattle.pp_graph.specs.Ranks.{sum_at, IsRowOf, is_heavy_number, heavy_numbers, AreRanked}
+use Rattle.pp_graph.specs.Ranks.{sum_at, IsRankedRow, is_heavy_number, heavy_numbers, AreRanked}
 use Rattle.pp_graph.proofs.Shown.{All-with, All-map, shown_all, order_is, candidates_are, flats_are, light_is}
 
 sum_by-map : {A B : Type 0} (g : B → ℕ) (f : A → B) (xs : List A) → sum_by g (map f xs) ≡ sum_by (λ x. g (f x)) xs
@@ -61,7 +61,7 @@ module _ (p : Profile) (sort : Sort) (sums : Sums) (fits : FitSums sums) (total 
 
   pub numbers_below : All (λ n. n < length sums.names) shown_numbers
   numbers_below = All-map (λ n. n < length sums.names) (λ (r : Row). r.number) (shown_keys limit rows)
-      (All-with {P = IsRowOf p sort sums} (λ r w. w.below) (shown_keys limit rows) (shown_all (IsRowOf p sort sums) limit rows ranked.rows_are))
+      (All-with {P = IsRankedRow p sort sums} (λ r w. w.below) (shown_keys limit rows) (shown_all (IsRankedRow p sort sums) limit rows ranked.rows_are))
 
   all_flats : sum_by (λ n. nat_abs (sum_at sums.flat n)) (range_with_len 0 (length sums.names)) ≡ sum_by nat_abs sums.flat
   all_flats =

@@ -31,7 +31,7 @@ use Rattle.pp_count.proofs.EachOnce.{each_once_is}
 use Rattle.pp_count.proofs.Ties.{tied, key_decides}
 use Rattle.pp_graph.specs.declared.heavy.Row.{Row}
 use Rattle.pp_graph.specs.Trim.{is_heavy_key, report_order, heavy_keys, light_count, shown_keys}
-use Rattle.pp_graph.specs.Ranks.{row_cmp, row_key, size_cmp, sum_at, major, minor, IsRowOf, is_heavy_number, heavy_numbers, light_numbers, AreRanked}
+use Rattle.pp_graph.specs.Ranks.{row_cmp, row_key, size_cmp, sum_at, major, minor, IsRankedRow, is_heavy_number, heavy_numbers, light_numbers, AreRanked}
 use Rattle.pp_graph.proofs.Ordering.{report_total, report_same}
 
 -- a filter of what stands for items is what stands for a filter of them
@@ -137,22 +137,22 @@ module _ (p : Profile) (samples : List (Seen Written)) (sums : Sums) (fits : Fit
       (distinct_names (λ k. not (is_heavy_key key_cmp total billionths samples k))) (λ q. sym (members (λ k. not (is_heavy_key key_cmp total billionths samples k)) q))
 
   -- rows are ordered as their keys are
-  rows_order : (sort : Sort) (a b : Row) → IsRowOf p sort sums a → IsRowOf p sort sums b → report_order key_cmp sort samples (row_key a) (row_key b) ≡ row_cmp a b
+  rows_order : (sort : Sort) (a b : Row) → IsRankedRow p sort sums a → IsRankedRow p sort sums b → report_order key_cmp sort samples (row_key a) (row_key b) ≡ row_cmp a b
   rows_order sorts.Flat a b x y =
       then_assoc (size_cmp (nat_abs (flat key_cmp samples (row_key a))) (nat_abs (flat key_cmp samples (row_key b)))) (size_cmp (nat_abs (cum key_cmp samples (row_key a))) (nat_abs (cum key_cmp samples (row_key b)))) (key_cmp (row_key a) (row_key b))
       ∙ (λ i. ordering_then (ordering_then (size_cmp (of_flat a x i) (of_flat b y i)) (size_cmp (of_cum a x i) (of_cum b y i))) (key_cmp (row_key a) (row_key b))) where
-        of_flat : (r : Row) → IsRowOf p sorts.Flat sums r → nat_abs (flat key_cmp samples (row_key r)) ≡ r.major
+        of_flat : (r : Row) → IsRankedRow p sorts.Flat sums r → nat_abs (flat key_cmp samples (row_key r)) ≡ r.major
         of_flat r w = ap (λ k. nat_abs (flat key_cmp samples k)) w.key ∙ ap nat_abs (sym (flat_at r.number w.below)) ∙ sym w.major
 
-        of_cum : (r : Row) → IsRowOf p sorts.Flat sums r → nat_abs (cum key_cmp samples (row_key r)) ≡ r.minor
+        of_cum : (r : Row) → IsRankedRow p sorts.Flat sums r → nat_abs (cum key_cmp samples (row_key r)) ≡ r.minor
         of_cum r w = ap (λ k. nat_abs (cum key_cmp samples k)) w.key ∙ ap nat_abs (sym (cum_at r.number w.below)) ∙ sym w.minor
   rows_order sorts.Cum a b x y =
       then_assoc (size_cmp (nat_abs (cum key_cmp samples (row_key a))) (nat_abs (cum key_cmp samples (row_key b)))) (size_cmp (nat_abs (flat key_cmp samples (row_key a))) (nat_abs (flat key_cmp samples (row_key b)))) (key_cmp (row_key a) (row_key b))
       ∙ (λ i. ordering_then (ordering_then (size_cmp (of_cum a x i) (of_cum b y i)) (size_cmp (of_flat a x i) (of_flat b y i))) (key_cmp (row_key a) (row_key b))) where
-        of_flat : (r : Row) → IsRowOf p sorts.Cum sums r → nat_abs (flat key_cmp samples (row_key r)) ≡ r.minor
+        of_flat : (r : Row) → IsRankedRow p sorts.Cum sums r → nat_abs (flat key_cmp samples (row_key r)) ≡ r.minor
         of_flat r w = ap (λ k. nat_abs (flat key_cmp samples k)) w.key ∙ ap nat_abs (sym (flat_at r.number w.below)) ∙ sym w.minor
 
-        of_cum : (r : Row) → IsRowOf p sorts.Cum sums r → nat_abs (cum key_cmp samples (row_key r)) ≡ r.major
+        of_cum : (r : Row) → IsRankedRow p sorts.Cum sums r → nat_abs (cum key_cmp samples (row_key r)) ≡ r.major
         of_cum r w = ap (λ k. nat_abs (cum key_cmp samples k)) w.key ∙ ap nat_abs (sym (cum_at r.number w.below)) ∙ sym w.major
 
   module _ (sort : Sort) (total billionths : ℕ) (rows : List Row) (light : ℕ) (ranked : AreRanked p sort sums total billionths rows light) where
@@ -161,19 +161,19 @@ module _ (p : Profile) (samples : List (Seen Written)) (sums : Sums) (fits : Fit
 
     keys_sorted : IsSorted (report_order key_cmp sort samples) (map row_key rows)
     keys_sorted = go rows ranked.sorted ranked.rows_are where
-      go : (rs : List Row) → IsSortedBy (λ a b. is_lt (row_cmp a b)) rs → All (IsRowOf p sort sums) rs → IsSorted (report_order key_cmp sort samples) (map row_key rs)
+      go : (rs : List Row) → IsSortedBy (λ a b. is_lt (row_cmp a b)) rs → All (IsRankedRow p sort sums) rs → IsSorted (report_order key_cmp sort samples) (map row_key rs)
       go [] sorted of = λ k d low high. absurd (omega (arith, high))
       go (r ∷ rs) sorted of = λ k d low high.
           let within : k + 1 < length (r ∷ rs) = omega (arith, high, length-map (r ∷ rs) row_key) in
           let at : (j : ℕ) → j < length (r ∷ rs) → get_or (map row_key (r ∷ rs)) j d ≡ row_key (get_or (r ∷ rs) j r) = λ j h. get_or-map row_key (r ∷ rs) j r d h in
-          let is : (j : ℕ) → j < length (r ∷ rs) → IsRowOf p sort sums (get_or (r ∷ rs) j r) = λ j h. All-get_or (IsRowOf p sort sums) (r ∷ rs) j r h of in
+          let is : (j : ℕ) → j < length (r ∷ rs) → IsRankedRow p sort sums (get_or (r ∷ rs) j r) = λ j h. All-get_or (IsRankedRow p sort sums) (r ∷ rs) j r h of in
           (λ i. is_lt (report_order key_cmp sort samples (at (k + 1) within i) (at k (omega (arith, within)) i)))
           ∙ ap is_lt (rows_order sort (get_or (r ∷ rs) (k + 1) r) (get_or (r ∷ rs) k r) (is (k + 1) within) (is k (omega (arith, within))))
           ∙ sorted k r low within
 
     -- the keys of the rows are those of their numbers
-    keys_of_rows : (rs : List Row) → All (IsRowOf p sort sums) rs → map row_key rs ≡ map key_at (map (λ (r : Row). r.number) rs)
-    keys_of_rows rs of = map-same row_key (λ (r : Row). key_at r.number) rs (All-with {P = IsRowOf p sort sums} (λ r w. w.key) rs of) ∙ sym (map-both (λ (r : Row). r.number) key_at rs)
+    keys_of_rows : (rs : List Row) → All (IsRankedRow p sort sums) rs → map row_key rs ≡ map key_at (map (λ (r : Row). r.number) rs)
+    keys_of_rows rs of = map-same row_key (λ (r : Row). key_at r.number) rs (All-with {P = IsRankedRow p sort sums} (λ r w. w.key) rs of) ∙ sym (map-both (λ (r : Row). r.number) key_at rs)
 
     permuted : IsPermutation (filter (is_heavy_key key_cmp total billionths samples) names) (map row_key rows)
     permuted =
@@ -199,7 +199,7 @@ module _ (p : Profile) (samples : List (Seen Written)) (sums : Sums) (fits : Fit
     -- the rows that are shown are those of the keys that are
     pub order_is : (limit : ℕ) → map key_at (map (λ (r : Row). r.number) (shown_keys limit rows)) ≡ shown_keys limit (heavy_keys key_cmp sort total billionths samples)
     order_is limit =
-        sym (keys_of_rows (shown_keys limit rows) (shown_all (IsRowOf p sort sums) limit rows ranked.rows_are))
+        sym (keys_of_rows (shown_keys limit rows) (shown_all (IsRankedRow p sort sums) limit rows ranked.rows_are))
         ∙ sym (shown-map row_key limit rows) ∙ ap (shown_keys limit) (sym heavy_are)
 
     pub candidates_are : length rows ≡ length (heavy_keys key_cmp sort total billionths samples)
@@ -210,6 +210,6 @@ module _ (p : Profile) (samples : List (Seen Written)) (sums : Sums) (fits : Fit
     flats_are limit =
         map-both (λ (r : Row). r.number) (sum_at sums.flat) (shown_keys limit rows)
         ∙ map-same (λ (r : Row). sum_at sums.flat r.number) (λ (r : Row). flat key_cmp samples (key_at r.number)) (shown_keys limit rows)
-        (All-with {P = IsRowOf p sort sums} (λ r w. flat_at r.number w.below) (shown_keys limit rows) (shown_all (IsRowOf p sort sums) limit rows ranked.rows_are))
+        (All-with {P = IsRankedRow p sort sums} (λ r w. flat_at r.number w.below) (shown_keys limit rows) (shown_all (IsRankedRow p sort sums) limit rows ranked.rows_are))
         ∙ sym (map-both (λ (r : Row). key_at r.number) (flat key_cmp samples) (shown_keys limit rows))
         ∙ ap (map (flat key_cmp samples)) (sym (map-both (λ (r : Row). r.number) key_at (shown_keys limit rows)) ∙ order_is limit)

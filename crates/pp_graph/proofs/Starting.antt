@@ -12,7 +12,7 @@ use Rattle.pp_graph.specs.declared.slot.Side.TheVariants.{Out, In}
 use Rattle.pp_graph.specs.Chains.{IsChain}
 use Rattle.pp_graph.specs.Links.{Links}
 use Rattle.pp_graph.specs.Lists.{times}
-use Rattle.pp_graph.specs.Slots.{bare_spot, bare_spots, no_spot, first_at, next_at, prev_at, list_at, seen, list_of, IsSound}
+use Rattle.pp_graph.specs.Slots.{bare_spot, bare_spots, no_spot, first_at, next_at, prev_at, list_at, links_of, list_of, AreSoundSlots}
 use Rattle.pp_graph.specs.Trimmed.{HasNodes, node_of}
 use Rattle.pp_graph.proofs.Seeing.{list_seen}
 
@@ -35,7 +35,7 @@ module _ (sums : Sums) (n : ℕ) where
   first_none : (k : ℕ) → k < n → get_or (bare_spots sums n) k no_spot ≡ bare_spot sums k
   first_none k within = get_or-map-range_with_len (bare_spot sums) 0 n k k no_spot within (omega arith)
 
-  pub sound_bare : IsSound (bare_spots sums n) []
+  pub sound_bare : AreSoundSlots (bare_spots sums n) []
   sound_bare = record {
     linked = record {
       outs = length-map (bare_spots sums n) (list_of Out []) ∙ sym (length-map (bare_spots sums n) (λ (x : Spot). x.node));
@@ -51,11 +51,11 @@ module _ (sums : Sums) (n : ℕ) where
     no_first Out k within = ap (λ (x : Spot). x.first_out) (first_none k within)
     no_first In k within = ap (λ (x : Spot). x.first_in) (first_none k within)
 
-    chain : (side : Side) (k : ℕ) → k < n → IsChain (next_at side []) (prev_at side []) None (first_at side (bare_spots sums n) k) (list_at side (seen (bare_spots sums n) []) k)
+    chain : (side : Side) (k : ℕ) → k < n → IsChain (next_at side []) (prev_at side []) None (first_at side (bare_spots sums n) k) (list_at side (links_of (bare_spots sums n) []) k)
     chain side k within = subst (λ l. IsChain (next_at side []) (prev_at side []) None (first_at side (bare_spots sums n) k) l)
         (sym (list_seen (bare_spots sums n) [] side k (omega (arith, within, length-bare)))) (no_first side k within)
 
-  pub nodes_bare : n ≡ length sums.names → length sums.flat ≡ length sums.names → length sums.cum ≡ length sums.names → HasNodes sums (seen (bare_spots sums n) [])
+  pub nodes_bare : n ≡ length sums.names → length sums.flat ≡ length sums.names → length sums.cum ≡ length sums.names → HasNodes sums (links_of (bare_spots sums n) [])
   nodes_bare names flats cums = record {
     count = length-nodes ∙ names;
     each = λ k node is.

@@ -44,7 +44,7 @@ minor sorts.Flat sums n = nat_abs (sum_at sums.cum n)
 minor sorts.Cum sums n = nat_abs (sum_at sums.flat n)
 
 -- the row is that of its number
-pub record IsRowOf (p : Profile) (sort : Sort) (sums : Sums) (row : Row) : Type 0 where
+pub record IsRankedRow (p : Profile) (sort : Sort) (sums : Sums) (row : Row) : Type 0 where
   pub below : row.number < length sums.names
   pub key : row_key row ≡ written_key p sums.names row.number
   pub major : row.major ≡ major sort sums row.number
@@ -67,7 +67,7 @@ light_numbers total billionths sums n =
 -- The rows are those of the heavy numbers below n, in order, and so many are light.
 pub record Collected (p : Profile) (sort : Sort) (sums : Sums) (total billionths n : ℕ)
     (rows : List Row) (light : ℕ) : Type 0 where
-  pub rows_are : All (IsRowOf p sort sums) rows
+  pub rows_are : All (IsRankedRow p sort sums) rows
   pub numbers : map (λ row. row.number) rows ≡ heavy_numbers total billionths sums n
   pub too_light : light ≡ length (light_numbers total billionths sums n)
 
@@ -75,7 +75,7 @@ pub record Collected (p : Profile) (sort : Sort) (sums : Sums) (total billionths
 pub record AreRanked (p : Profile) (sort : Sort) (sums : Sums) (total billionths : ℕ)
     (rows : List Row) (light : ℕ) : Type 0 where
   pub sorted : IsSortedBy (λ a b. is_lt (row_cmp a b)) rows
-  pub rows_are : All (IsRowOf p sort sums) rows
+  pub rows_are : All (IsRankedRow p sort sums) rows
   pub numbers : IsPermutation (heavy_numbers total billionths sums (length sums.names))
       (map (λ row. row.number) rows)
   pub too_light : light ≡ length (light_numbers total billionths sums (length sums.names))

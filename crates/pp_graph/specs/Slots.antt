@@ -73,8 +73,8 @@ abbrev pub list_of : Side → List Slot → Spot → List ℕ
 list_of side slots spot = walk (next_at side slots) (length slots) (first side spot)
 
 -- the graph that the slots hold
-abbrev pub seen : List Spot → List Slot → Links
-seen spots slots = record {
+abbrev pub links_of : List Spot → List Slot → Links
+links_of spots slots = record {
   nodes = map (λ spot. spot.node) spots;
   edges = map slot_edge slots;
   outs = map (list_of Out slots) spots;
@@ -92,11 +92,11 @@ has_end Out g n e = leaves g n e
 has_end In g n e = enters g n e
 
 -- Each live edge stands once in both its lists, and the links of each list agree forward and back.
-pub record IsSound (spots : List Spot) (slots : List Slot) : Type 0 where
-  pub linked : AreLinked (seen spots slots)
+pub record AreSoundSlots (spots : List Spot) (slots : List Slot) : Type 0 where
+  pub linked : AreLinked (links_of spots slots)
   pub chains : (side : Side) (n : ℕ) → n < length spots
       → IsChain (next_at side slots) (prev_at side slots) None (first_at side spots n)
-      (list_at side (seen spots slots) n)
+      (list_at side (links_of spots slots) n)
 
 -- the slot at the place
 abbrev pub slot_at : List Slot → ℕ → Slot
@@ -180,7 +180,7 @@ new_slot spots edge = record {
 pub record IsNewest (spots : List Spot) (slots : List Slot) (e : ℕ) : Type 0 where
   pub before : List Slot
   pub edge : Edge
-  pub sound : IsSound spots before
+  pub sound : AreSoundSlots spots before
   pub slots_are : slots ≡ before ++ new_slot spots edge ∷ []
   pub last : e ≡ length before
   pub from : edge.from < length spots

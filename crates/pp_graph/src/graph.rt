@@ -23,13 +23,13 @@ pub struct Graph {
 
 impl Model for Graph {
     ghost use Rattle.pp_graph.specs.Links.{Links};
-    ghost use Rattle.pp_graph.specs.Slots.{seen, IsSound};
+    ghost use Rattle.pp_graph.specs.Slots.{links_of, AreSoundSlots};
 
     ghost Value = { Links };
 
-    ghost view = { λ g. seen g.spots.items g.slots.items };
+    ghost view = { λ g. links_of g.spots.items g.slots.items };
 
-    ghost invariant = { λ g. IsSound g.spots.items g.slots.items };
+    ghost invariant = { λ g. AreSoundSlots g.spots.items g.slots.items };
 }
 
 impl Graph {

@@ -1,7 +1,7 @@
 //! The keys that are heavy enough for a report, in report order.
 ghost use Rattle.std.specs.Prelude.{◌≡◌, ◌<◌, ◌^◌, length, nat_abs, All, IfOk};
 ghost use Rattle.pp_grain.specs.Keys.{IsKeyOf};
-ghost use Rattle.pp_graph.specs.Ranks.{row_cmp, sum_at, is_heavy_number, IsRowOf, Collected, AreRanked};
+ghost use Rattle.pp_graph.specs.Ranks.{row_cmp, sum_at, is_heavy_number, IsRankedRow, Collected, AreRanked};
 
 use pp_base::{Fraction, List, Memory};
 use pp_count::{Sums, is_heavy};
@@ -91,7 +91,7 @@ fn row_of<'a>(p: &'a Profile, sort: Sort, sums: &Sums, number: u64) -> Row<'a>
     requires flats { length sums.now.flat ≡ length sums.now.names }
     requires cums { length sums.now.cum ≡ length sums.now.names }
     requires within { number < length sums.now.names }
-    ensures row { IsRowOf p.now sort sums.now result }
+    ensures row { IsRankedRow p.now sort sums.now result }
     ensures number { result.number ≡ number }
 {
     let flat = size_at(&sums.flat, number);

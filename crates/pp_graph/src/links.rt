@@ -1,6 +1,6 @@
 //! How an edge is linked into a list, and taken out of it.
 ghost use Rattle.std.specs.Prelude.{◌≡◌, ℕ, ◌<◌, length, map};
-ghost use Rattle.pp_graph.specs.Slots.{hooks, end_of, no_slot, next_set, prev_set, first_set, HasPlace, linked_slots, linked_spots, unlinked_slots, unlinked_spots, seen, slot_edge, IsSound, IsNewest};
+ghost use Rattle.pp_graph.specs.Slots.{hooks, end_of, no_slot, next_set, prev_set, first_set, HasPlace, linked_slots, linked_spots, unlinked_slots, unlinked_spots, links_of, slot_edge, AreSoundSlots, IsNewest};
 ghost use Rattle.pp_graph.specs.Links.{IsLive, without};
 
 use crate::slot::{Hooks, Side, Slot, Spot};
@@ -65,10 +65,10 @@ fn set_prev(slots: &mut [Slot], place: Option<u64>, side: Side, prev: Option<u64
 
 /// Cuts the edge: takes it out of both its lists, and marks it.
 pub fn cut(spots: &mut [Spot], slots: &mut [Slot], e: u64)
-    requires sound { IsSound spots.old slots.old }
-    requires live { IsLive (seen spots.old slots.old) e }
-    ensures sound { IsSound spots.new slots.new }
-    ensures seen { seen spots.new slots.new ≡ without e (seen spots.old slots.old) }
+    requires sound { AreSoundSlots spots.old slots.old }
+    requires live { IsLive (links_of spots.old slots.old) e }
+    ensures sound { AreSoundSlots spots.new slots.new }
+    ensures links_of { links_of spots.new slots.new ≡ without e (links_of spots.old slots.old) }
 {
     unlink(spots, slots, Side::Out, e);
     unlink(spots, slots, Side::In, e);
@@ -78,7 +78,7 @@ pub fn cut(spots: &mut [Spot], slots: &mut [Slot], e: u64)
 /// Links the edge of the last slot into both its lists.
 pub fn hang(spots: &mut [Spot], slots: &mut [Slot], e: u64)
     requires { IsNewest spots.old slots.old e }
-    ensures sound { IsSound spots.new slots.new }
+    ensures sound { AreSoundSlots spots.new slots.new }
     ensures nodes { map (λ x. x.node) spots.new ≡ map (λ x. x.node) spots.old }
     ensures edges { map slot_edge slots.new ≡ map slot_edge slots.old }
 {

@@ -15,7 +15,7 @@ use Rattle.pp_count.specs.Counted.{report_samples}
 use Rattle.pp_laws.specs.Figures.{whole, NoneNegative}
 
 -- The key's figures over these samples are in this order, and within the sum of all that were seen.
-pub record AreWithin (samples seen : List (Seen Written)) (k : Written) : Type 0 where
+pub record AreBounded (samples seen : List (Seen Written)) (k : Written) : Type 0 where
   pub above : pos 0 ≤ℤ flat key_cmp samples k
   pub within : flat key_cmp samples k ≤ℤ cum key_cmp samples k
   pub under : cum key_cmp samples k ≤ℤ whole seen
@@ -25,7 +25,7 @@ abbrev pub FiguresWithin : Type 0
 FiguresWithin =
     (p : Profile) (f : Finders) (config : Config) (column : Option ℕ) (k : Written)
     → NoneNegative (seen_samples p f config column p.sample)
-    → AreWithin (report_samples p f config column) (seen_samples p f config column p.sample) k
+    → AreBounded (report_samples p f config column) (seen_samples p f config column p.sample) k
 
 -- No filtered sample has a negative value where none of the profile's values in the column is negative.
 abbrev pub ValuesWithin : Type 0

@@ -48,7 +48,7 @@ abbrev pub over_sources : (Profile → ℤ) → List Profile → ℤ
 over_sources figure sources = int_sum (map (λ q. figure (merged q [])) sources)
 
 -- Each figure of the merged profile is the sum of those of the sources, each reported alone.
-pub record AreSums (p : Profile) (ps : List Profile) (f : Finders) (config : Config) (column : ℕ) : Type 0 where
+pub record AreSumsOfSources (p : Profile) (ps : List Profile) (f : Finders) (config : Config) (column : ℕ) : Type 0 where
   pub flat : (k : Written)
       → flat key_cmp (report_samples (merged p ps) f config (Some column)) k
       ≡ over_sources (λ q. flat key_cmp (report_samples q f config (Some column)) k) (p ∷ ps)
@@ -63,4 +63,4 @@ pub record AreSums (p : Profile) (ps : List Profile) (f : Finders) (config : Con
 abbrev pub MergedAreSums : Type 0
 MergedAreSums =
     (p : Profile) (ps : List Profile) (f : Finders) (config : Config) (column : ℕ)
-    → AddUp p ps config column → AreSums p ps f config column
+    → AddUp p ps config column → AreSumsOfSources p ps f config column

@@ -16,7 +16,7 @@ use Rattle.std.proofs.lemmas.Option.{none-some, same_Some}
 use Rattle.std.proofs.Math.Bool.{or-false}
 use Rattle.pp_model.specs.declared.profile.Mapping.{Mapping}
 use Rattle.pp_legacy.specs.Tables.{holds, holder_of}
-use Rattle.pp_legacy.specs.Free.{Places, place_in, HasPlaces, Takes}
+use Rattle.pp_legacy.specs.Free.{Places, place_in, HasPlaces, TakesAddress}
 
 -- two numbers are the same or not
 same_or_not : (m n : ℕ) → (m ≡ n) ⊎ (m ≢ n)
@@ -111,7 +111,7 @@ module _ (ms : List Mapping) (addresses : List ℕ) (i : ℕ) (d : Mapping) (wit
         ap (λ o. option_map_or (λ m. m.id) o 0) (first_holder q ms i d within none here)
 
     -- a mapping takes an address
-    pub one_taken : (p : ℕ) → Takes (get_or ms i d) old new (Some p) → IsPlaced ms addresses new (slice_set holders p (get_or ms i d).id) i
+    pub one_taken : (p : ℕ) → TakesAddress (get_or ms i d) old new (Some p) → IsPlaced ms addresses new (slice_set holders p (get_or ms i d).id) i
     one_taken p (q, is, here, others) =
         let known = is_placed.only q p is in
         record {
@@ -143,7 +143,7 @@ module _ (ms : List Mapping) (addresses : List ℕ) (i : ℕ) (d : Mapping) (wit
         }
 
     -- a mapping holds no address that is free
-    pub all_taken : Takes (get_or ms i d) old new None → IsPlaced ms addresses new holders (i + 1)
+    pub all_taken : TakesAddress (get_or ms i d) old new None → IsPlaced ms addresses new holders (i + 1)
     all_taken (same, none) = record {
       len = is_placed.len;
       each = λ k below. elim (is_placed.each k below) [

@@ -11,7 +11,7 @@ use Rattle.pp_legacy.specs.declared.fault.LegacyFault.{LegacyFault}
 use Rattle.pp_legacy.specs.declared.header.Header.{Header}
 use Rattle.pp_legacy.specs.Words.{words}
 use Rattle.pp_legacy.specs.Header.{header}
-use Rattle.pp_legacy.specs.Records.{Entry, Entries, entries_from}
+use Rattle.pp_legacy.specs.Records.{StackRecord, Entries, entries_from}
 use Rattle.pp_legacy.specs.Regions.{Region, code_in, is_line_end, regions}
 use Rattle.pp_legacy.specs.Tables.{addresses_of, sample_of, mapping_of, mappings_of, location_of, locations_of, fixed_texts, texts_of, profile_of}
 use Rattle.pp_legacy.specs.Sizes.{HasAtMost, HasFew}
@@ -53,7 +53,7 @@ regions_len text =
     omega (arith, kept_len code_in (slice_split is_line_end text), length-slice_split is_line_end text, count_by-le-length is_line_end text)
 
 -- the tables have no more entries than the file has bytes
-pub few_entries : (nanos : ℕ) (entries : List Entry) (text : ℕ) (bytes : List ℕ) → HasFew text entries → 3 ≤ text → 8 * text ≤ length bytes
+pub few_entries : (nanos : ℕ) (entries : List StackRecord) (text : ℕ) (bytes : List ℕ) → HasFew text entries → 3 ≤ text → 8 * text ≤ length bytes
     → HasAtMost (length bytes) (profile_of nanos entries (regions (drop (8 * text) bytes)))
 unfolding profile_of
 few_entries nanos entries text bytes few behind within =
@@ -68,7 +68,7 @@ few_entries nanos entries text bytes few behind within =
           omega (
             arith,
             few.addresses_len,
-            length-distinct nat_eq nat_eq_equiv (flat_map (λ (e : Entry). e.stack) entries),
+            length-distinct nat_eq nat_eq_equiv (flat_map (λ (e : StackRecord). e.stack) entries),
             length-map (enumerate_from 0 (addresses_of entries)) (λ p. location_of (mappings_of found) p.0 p.1),
             length-enumerate_from 0 (addresses_of entries),
           );

@@ -9,14 +9,14 @@ use Rattle.pp_legacy.specs.declared.records.Cursor.{Cursor}
 use Rattle.pp_legacy.specs.declared.records.Record.{Record}
 use Rattle.pp_legacy.specs.Steps.{Reading, ◌>>=◌}
 use Rattle.pp_legacy.specs.Sizes.{HasFew}
-use Rattle.pp_legacy.specs.Records.{Entry, Entries, in_front, record_at, entries_in, entries_from}
+use Rattle.pp_legacy.specs.Records.{StackRecord, Entries, in_front, record_at, entries_in, entries_from}
 
 -- these entries in front of those that are read
-abbrev pub behind : List Entry → Reading Entries → Reading Entries
+abbrev pub behind : List StackRecord → Reading Entries → Reading Entries
 behind done read = read >>= λ found. Ok (record { entries = done ++ found.entries; text = found.text })
 
 -- what is read from the cursor on, behind the entries that are done, is the whole
-pub record IsUnderWay (ws : List ℕ) (nanos : ℕ) (whole : Reading Entries) (done : List Entry) (at : Cursor) : Type 0 where
+pub record IsUnderWay (ws : List ℕ) (nanos : ℕ) (whole : Reading Entries) (done : List StackRecord) (at : Cursor) : Type 0 where
   pub fuel : ℕ
   pub enough : length ws - at.word < fuel
   pub rest : behind done (entries_in fuel ws nanos at) ≡ whole
@@ -34,13 +34,13 @@ begins ws nanos at = record {
 }
 
 -- one more is done
-behind_more : (done : List Entry) (e : Entry) (read : Reading Entries)
+behind_more : (done : List StackRecord) (e : StackRecord) (read : Reading Entries)
     → behind (done ++ e ∷ []) read ≡ behind done (in_front e read)
 behind_more done e (Ok found) = ap (λ es. Ok (record { entries = es; text = found.text })) (append_assoc done (e ∷ []) found.entries)
 behind_more done e (Err fault) = refl
 
-module _ (ws : List ℕ) (nanos : ℕ) (whole : Reading Entries) (done : List Entry) (at : Cursor) where
-  goes_on_in : (fuel : ℕ) (e : Entry) (next : Cursor) → length ws - at.word < fuel → behind done (entries_in fuel ws nanos at) ≡ whole
+module _ (ws : List ℕ) (nanos : ℕ) (whole : Reading Entries) (done : List StackRecord) (at : Cursor) where
+  goes_on_in : (fuel : ℕ) (e : StackRecord) (next : Cursor) → length ws - at.word < fuel → behind done (entries_in fuel ws nanos at) ≡ whole
       → record_at ws nanos at ≡ Ok (Some (e, next)) → at.word < next.word → next.word ≤ length ws
       → IsUnderWay ws nanos whole (done ++ e ∷ []) next
   unfolding entries_in
@@ -52,7 +52,7 @@ module _ (ws : List ℕ) (nanos : ℕ) (whole : Reading Entries) (done : List En
   }
 
   -- an entry is read
-  pub goes_on : (e : Entry) (next : Cursor) → IsUnderWay ws nanos whole done at
+  pub goes_on : (e : StackRecord) (next : Cursor) → IsUnderWay ws nanos whole done at
       → record_at ws nanos at ≡ Ok (Some (e, next)) → at.word < next.word → next.word ≤ length ws
       → IsUnderWay ws nanos whole (done ++ e ∷ []) next
   goes_on e next way = goes_on_in way.fuel e next way.enough way.rest
@@ -78,10 +78,10 @@ module _ (ws : List ℕ) (nanos : ℕ) (whole : Reading Entries) (done : List En
   fails fault way = fails_in way.fuel fault way.enough way.rest
 
 -- one entry more, and at least a word more than it has addresses
-pub few_more : (n m : ℕ) (entries : List Entry) (e : Entry) → HasFew n entries → n + length e.stack < m → HasFew m (entries ++ e ∷ [])
+pub few_more : (n m : ℕ) (entries : List StackRecord) (e : StackRecord) → HasFew n entries → n + length e.stack < m → HasFew m (entries ++ e ∷ [])
 few_more n m entries e few longer = record {
   entries_len = omega (arith, few.entries_len, length_push entries e);
   addresses_len =
-      let joined = ap length (flat_map-append (λ (f : Entry). f.stack) entries (e ∷ []) ∙ ap (λ l. flat_map (λ (f : Entry). f.stack) entries ++ l) (append-nil e.stack)) in
-      omega (arith, few.addresses_len, joined, length-append (flat_map (λ (f : Entry). f.stack) entries) e.stack);
+      let joined = ap length (flat_map-append (λ (f : StackRecord). f.stack) entries (e ∷ []) ∙ ap (λ l. flat_map (λ (f : StackRecord). f.stack) entries ++ l) (append-nil e.stack)) in
+      omega (arith, few.addresses_len, joined, length-append (flat_map (λ (f : StackRecord). f.stack) entries) e.stack);
 }

@@ -8,7 +8,7 @@ use Rattle.std.proofs.lemmas.List.{map-append, map_push, append-nil, take_more}
 use Rattle.std.proofs.lemmas.List.Sums.{fold-append}
 use Rattle.pp_model.specs.declared.profile.Sample.{Sample}
 use Rattle.pp_model.specs.FirstSight.{seen_with, seen_after, distinct, place_of}
-use Rattle.pp_legacy.specs.Records.{Entry}
+use Rattle.pp_legacy.specs.Records.{StackRecord}
 use Rattle.pp_legacy.specs.Tables.{addresses_of, location_id, sample_of}
 use Rattle.pp_model.proofs.FirstSightLemmas.{IsSeen, all_as, map_agree, all_seen, place-seen_with, place-seen_after, place_when_seen}
 
@@ -71,14 +71,14 @@ all_right : {A : Type 0} (P : A → Type 0) (xs ys : List A) → AllByRecursion 
 all_right P [] ys all = all
 all_right P (x ∷ xs) ys all = all_right P xs ys all.1
 
-pub all_parts : (P : ℕ → Type 0) (entries : List Entry) → AllByRecursion P (flat_map (λ e. e.stack) entries) → AllByRecursion (λ (e : Entry). AllByRecursion P e.stack) entries
+pub all_parts : (P : ℕ → Type 0) (entries : List StackRecord) → AllByRecursion P (flat_map (λ e. e.stack) entries) → AllByRecursion (λ (e : StackRecord). AllByRecursion P e.stack) entries
 all_parts P [] all = tt
 all_parts P (e ∷ entries) all = (
   all_left P e.stack (flat_map (λ f. f.stack) entries) all,
   all_parts P entries (all_right P e.stack (flat_map (λ f. f.stack) entries) all),
 )
 
-module _ (entries : List Entry) (e : Entry) where
+module _ (entries : List StackRecord) (e : StackRecord) where
   -- the addresses with those of one entry more
   pub addresses_more : addresses_of (entries ++ e ∷ []) ≡ seen_after nat_eq (addresses_of entries) e.stack
   addresses_more =
@@ -86,7 +86,7 @@ module _ (entries : List Entry) (e : Entry) where
       ∙ fold-append (seen_with nat_eq) [] (flat_map (λ f. f.stack) entries) e.stack
 
   -- a sample whose addresses are all seen
-  sample_stays : (f : Entry) → AllByRecursion (IsSeen nat_eq (addresses_of entries)) f.stack
+  sample_stays : (f : StackRecord) → AllByRecursion (IsSeen nat_eq (addresses_of entries)) f.stack
       → sample_of (seen_after nat_eq (addresses_of entries) e.stack) f ≡ sample_of (addresses_of entries) f
   sample_stays f all =
       ap (λ ids. let s : Sample = record { location_id = ids; value = f.count ∷ f.nanos ∷ []; label = [] } in s)
@@ -104,7 +104,7 @@ module _ (entries : List Entry) (e : Entry) where
       (all_parts (IsSeen nat_eq (addresses_of entries)) entries (all_seen nat_eq same_self [] (flat_map (λ f. f.stack) entries)))))
 
 -- one entry more is sampled
-module _ (entries more : List Entry) (e : Entry) (next : more ≡ entries ++ e ∷ []) (keys keys' : List ℕ)
+module _ (entries more : List StackRecord) (e : StackRecord) (next : more ≡ entries ++ e ∷ []) (keys keys' : List ℕ)
     (keys_are : keys ≡ addresses_of entries) (next_keys : keys' ≡ seen_after nat_eq keys e.stack) where
   pub entry_seen : keys' ≡ addresses_of more
   entry_seen = next_keys ∙ ap (λ k. seen_after nat_eq k e.stack) keys_are ∙ sym (addresses_more entries e) ∙ ap addresses_of (sym next)

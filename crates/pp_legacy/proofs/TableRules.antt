@@ -15,7 +15,7 @@ use Rattle.pp_model.specs.declared.profile.Location.{Location}
 use Rattle.pp_model.specs.declared.profile.Profile.{Profile}
 use Rattle.pp_model.specs.Rules.{NoRuleFails, first_failing, first_repeated, stands_in, is_zero_or_in, is_text_of, mapping_ids, location_ids}
 use Rattle.pp_model.specs.FirstSight.{place_of}
-use Rattle.pp_legacy.specs.Records.{Entry}
+use Rattle.pp_legacy.specs.Records.{StackRecord}
 use Rattle.pp_legacy.specs.Regions.{Region}
 use Rattle.pp_legacy.specs.Tables.{addresses_of, location_id, sample_of, mapping_of, mappings_of, holds, holder_of, location_of, locations_of, fixed_texts, texts_of, samples_type, cpu_type, profile_of}
 use Rattle.pp_model.proofs.FirstSightLemmas.{IsSeen, all_as, all_seen}
@@ -150,7 +150,7 @@ fixed_are_texts n enough =
     and_from _ _ (is 0 (omega arith)) (and_from _ _ (is 0 (omega arith)) (and_from _ _ (is 3 (omega arith)) (and_from _ _ (is 4 (omega arith))
     (and_from _ _ (is 0 (omega arith)) (and_from _ _ (is 0 (omega arith)) refl)))))
 
-module _ (nanos : ℕ) (entries : List Entry) (regions : List Region) where
+module _ (nanos : ℕ) (entries : List StackRecord) (regions : List Region) where
   -- the texts
   texts_len : length (texts_of regions) ≡ length regions + 5
   texts_len = let h = length-append fixed_texts (map (λ (r : Region). r.path) regions) in omega (arith, h, length-map regions (λ (r : Region). r.path))

@@ -11,7 +11,7 @@ use Rattle.pp_legacy.specs.declared.fault.LegacyKind.TheVariants.{BadRecord, Too
 use Rattle.pp_legacy.specs.declared.records.Cursor.{Cursor}
 use Rattle.pp_legacy.specs.Steps.{Reading, ◌>>=◌, fault_unless, fault_at}
 use Rattle.pp_legacy.specs.Words.{word_at, behind_words, truncated}
-use Rattle.pp_legacy.specs.Records.{Entry, Entries, Found, in_front, trailer_at, entry_at, nanos_with, record_at, entries_in, entries_from}
+use Rattle.pp_legacy.specs.Records.{StackRecord, Entries, Found, in_front, trailer_at, entry_at, nanos_with, record_at, entries_in, entries_from}
 
 -- what was read comes from what was read first
 first_read : {A B : Type 0} (r : Reading A) (f : A → Reading B) (y : B) → (r >>= f) ≡ Ok y → (x : A) × (r ≡ Ok x) × (f x ≡ Ok y)
@@ -35,7 +35,7 @@ behind_is ws i count next is = by (nat_le (i + count) (length ws)) refl is
     by false fits read = cc
 
 -- the trailer is no entry
-no_entry : (ws : List ℕ) (r depth : ℕ) (p : Entry × Cursor) → trailer_at ws r depth ≡ Ok (Some p) → ⊥
+no_entry : (ws : List ℕ) (r depth : ℕ) (p : StackRecord × Cursor) → trailer_at ws r depth ≡ Ok (Some p) → ⊥
 no_entry ws r depth p is =
     let depth_read = first_read (fault_unless (depth == 1) BadRecord r) _ (Some p) is in
     let last_read = first_read (word_at ws (r + 2)) _ (Some p) depth_read.2 in
@@ -44,7 +44,7 @@ no_entry ws r depth p is =
     cc
 
 -- the same entry and the same cursor
-same_parts : (e f : Entry) (c d : Cursor) → (let r : Reading Found = Ok (Some (e, c)) in r) ≡ Ok (Some (f, d)) → (e.stack ≡ f.stack) × (c.word ≡ d.word)
+same_parts : (e f : StackRecord) (c d : Cursor) → (let r : Reading Found = Ok (Some (e, c)) in r) ≡ Ok (Some (f, d)) → (e.stack ≡ f.stack) × (c.word ≡ d.word)
 same_parts e f c d same = (ap stack_in same, ap word_in same)
   where
     stack_in : Reading Found → List ℕ
@@ -58,7 +58,7 @@ same_parts e f c d same = (ap stack_in same, ap word_in same)
     word_in (Err fault) = 0
 
 -- an entry is its count, its depth and its addresses
-behind_entry : (ws : List ℕ) (nanos : ℕ) (at : Cursor) (count depth : ℕ) (next : Cursor) (entry : Entry)
+behind_entry : (ws : List ℕ) (nanos : ℕ) (at : Cursor) (count depth : ℕ) (next : Cursor) (entry : StackRecord)
     → entry_at ws nanos at count depth ≡ Ok (Some (entry, next)) → (at.word + 2 + length entry.stack ≡ next.word) × (next.word ≤ length ws)
 behind_entry ws nanos at count depth next entry is =
     let deep = first_read (fault_unless (nat_lt 0 depth) BadRecord (at.word + 1)) _ (Some (entry, next)) is in
@@ -75,7 +75,7 @@ behind_entry ws nanos at count depth next entry is =
         (omega (arith, len, length-take (to - from) (drop from xs), length-drop from xs), omega arith)
 
 -- the same of any record
-pub entry_behind : (ws : List ℕ) (nanos : ℕ) (at next : Cursor) (entry : Entry)
+pub entry_behind : (ws : List ℕ) (nanos : ℕ) (at next : Cursor) (entry : StackRecord)
     → record_at ws nanos at ≡ Ok (Some (entry, next)) → (at.word + 2 + length entry.stack ≡ next.word) × (next.word ≤ length ws)
 unfolding record_at
 entry_behind ws nanos at next entry is =
@@ -129,7 +129,7 @@ module _ (ws : List ℕ) (nanos : ℕ) (at : Cursor) where
   turn_ends is = turn_is ws nanos at ∙ ap (λ r. r >>= followed (length ws - at.word) ws nanos at) is
 
   -- an entry
-  pub turn_goes_on : (next : Cursor) (entry : Entry) → record_at ws nanos at ≡ Ok (Some (entry, next))
+  pub turn_goes_on : (next : Cursor) (entry : StackRecord) → record_at ws nanos at ≡ Ok (Some (entry, next))
       → entries_from ws nanos at ≡ in_front entry (entries_from ws nanos next)
   turn_goes_on next entry is =
       let after = entry_behind ws nanos at next entry is in

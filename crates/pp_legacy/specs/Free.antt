@@ -26,10 +26,10 @@ IsLeastFrom free from (Some least) =
     × ((address : ℕ) → from ≤ address → address < least → place_in free address ≡ None)
 
 -- An address that the mapping holds is taken out, and its place is answered. None where no such address is free.
-abbrev pub Takes : Mapping → Places → Places → Option ℕ → Type 0
-Takes mapping old new None =
+abbrev pub TakesAddress : Mapping → Places → Places → Option ℕ → Type 0
+TakesAddress mapping old new None =
     ((address : ℕ) → place_in new address ≡ place_in old address)
     × ((address : ℕ) → holds address mapping ≡ true → place_in old address ≡ None)
-Takes mapping old new (Some place) =
+TakesAddress mapping old new (Some place) =
     (address : ℕ) × (place_in old address ≡ Some place) × (holds address mapping ≡ true)
     × ((other : ℕ) → place_in new other ≡ (if nat_eq other address then None else place_in old other))

@@ -8,14 +8,14 @@ use Rattle.pp_legacy.specs.Steps.{Reading, ◌>>=◌, fault_unless, fault_at}
 use Rattle.pp_legacy.specs.Words.{word_at, behind_words, truncated}
 
 -- a stack: how often it was seen, that number times the period in nanoseconds, and its addresses, leaf first
-pub record Entry : Type 0 where
+pub record StackRecord : Type 0 where
   pub count : ℤ
   pub nanos : ℤ
   pub stack : List ℕ
 
 -- what stands at a word: an entry, and where the next record is, or none, which is the trailer
 abbrev pub Found : Type 0
-Found = Option (Entry × Cursor)
+Found = Option (StackRecord × Cursor)
 
 -- a record whose count is 0, at word r: it has to be the trailer
 abbrev pub trailer_at : List ℕ → ℕ → ℕ → Reading Found
@@ -53,15 +53,15 @@ record_at ws nanos at = do
 
 -- the entries up to the trailer, and the number of the word behind it
 pub record Entries : Type 0 where
-  pub entries : List Entry
+  pub entries : List StackRecord
   pub text : ℕ
 
 -- one entry in front of others
-abbrev pub onto : Entry → Entries → Entries
+abbrev pub onto : StackRecord → Entries → Entries
 onto entry found = record { entries = entry ∷ found.entries; text = found.text }
 
 -- one entry in front of those that are read
-abbrev pub in_front : Entry → Reading Entries → Reading Entries
+abbrev pub in_front : StackRecord → Reading Entries → Reading Entries
 in_front entry read = read >>= λ found. Ok (onto entry found)
 
 -- the entries from the cursor on, at most so many

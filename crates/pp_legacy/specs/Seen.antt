@@ -7,11 +7,11 @@ use Rattle.pp_legacy.specs.declared.line.Region.{Region}
 use Rattle.pp_legacy.specs.declared.line.Span.{Span}
 use Rattle.pp_legacy.specs.Words.{words}
 use Rattle.pp_legacy.specs.Records as spec
-use Rattle.pp_legacy.specs.Records.{Entry, Entries, Found}
+use Rattle.pp_legacy.specs.Records.{StackRecord, Entries, Found}
 use Rattle.pp_legacy.specs.Regions as text
 
 -- a record
-abbrev pub entry_of : Record → Entry
+abbrev pub entry_of : Record → StackRecord
 entry_of r = record { count = r.count; nanos = r.nanos; stack = words r.stack.now }
 
 -- a record and where the next one is, or none

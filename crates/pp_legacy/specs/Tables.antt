@@ -7,12 +7,12 @@ use Rattle.pp_model.specs.declared.profile.Sample.{Sample}
 use Rattle.pp_model.specs.declared.profile.Mapping.{Mapping}
 use Rattle.pp_model.specs.declared.profile.Location.{Location}
 use Rattle.pp_model.specs.declared.profile.Profile.{Profile}
-use Rattle.pp_legacy.specs.Records.{Entry}
+use Rattle.pp_legacy.specs.Records.{StackRecord}
 use Rattle.pp_legacy.specs.Regions.{Region}
 use Rattle.pp_model.specs.FirstSight.{distinct, place_of}
 
 -- the addresses of all stacks, each once, in the order of first sight
-abbrev pub addresses_of : List Entry → List ℕ
+abbrev pub addresses_of : List StackRecord → List ℕ
 addresses_of entries = distinct nat_eq (flat_map (λ e. e.stack) entries)
 
 -- the id of the location of an address: its place among all addresses, plus 1
@@ -20,7 +20,7 @@ abbrev pub location_id : List ℕ → ℕ → ℕ
 location_id addresses address = place_of nat_eq addresses address + 1
 
 -- a sample of two values, the count and the nanoseconds
-abbrev pub sample_of : List ℕ → Entry → Sample
+abbrev pub sample_of : List ℕ → StackRecord → Sample
 sample_of addresses entry = record {
   location_id = map (location_id addresses) entry.stack;
   value = entry.count ∷ entry.nanos ∷ [];
@@ -91,7 +91,7 @@ abbrev pub cpu_type : ValueType
 cpu_type = record { kind = pos 3; unit = pos 4 }
 
 -- the profile of the entries and of the regions, where a period has so many nanoseconds
-unfoldable pub profile_of : ℕ → List Entry → List Region → Profile
+unfoldable pub profile_of : ℕ → List StackRecord → List Region → Profile
 profile_of nanos entries regions = record {
   sample_type = samples_type ∷ cpu_type ∷ [];
   sample = map (sample_of (addresses_of entries)) entries;

@@ -4,7 +4,7 @@
 //! addresses that it holds of a sorted table of those that no mapping has taken yet: each address is taken out once.
 ghost use Rattle.std.specs.Prelude.{◌≡◌, ◌≢◌, ◌+◌, ◌<◌, ◌^◌, length, map, AllPairs, IfOk, OnSome};
 ghost use Rattle.std.specs.BTreeMap.{btree_map_len};
-ghost use Rattle.pp_legacy.specs.Free.{HasPlaces, IsLeastFrom, Takes};
+ghost use Rattle.pp_legacy.specs.Free.{HasPlaces, IsLeastFrom, TakesAddress};
 ghost use Rattle.pp_legacy.specs.Tables.{holder_of, location_at, locations_of};
 
 use pp_base::{List, Memory};
@@ -72,7 +72,7 @@ fn places_of(alloc: Global, addresses: &[u64]) -> Result<BTreeMap<u64, usize>, M
 
 // Takes out the least free address that the mapping holds, and answers its place.
 fn take_held(free: &mut BTreeMap<u64, usize>, mapping: &Mapping) -> Option<usize>
-    ensures taken { Takes mapping.now free.old free.new result }
+    ensures taken { TakesAddress mapping.now free.old free.new result }
     ensures fewer { OnSome result (btree_map_len free.new + 1 ≡ btree_map_len free.old) }
 {
     let address = least_from(free, mapping.start)?;

@@ -20,7 +20,7 @@ use Rattle.pp_load.specs.declared.refusal.LoadRefusal.{LoadRefusal}
 use Rattle.pp_load.specs.declared.refusal.LoadRefusal.TheVariants as refusals
 use Rattle.pp_load.specs.Steps.{unless, Gives}
 use Rattle.pp_load.specs.Combine.{merging}
-use Rattle.pp_load.specs.Joining.{Kinds, kinds, first_kinds, AreOf, AreFew, CanJoin, IsOneOf, CanTakeOff, IsPair, HasStarts, halt_of}
+use Rattle.pp_load.specs.Joining.{Kinds, kinds, first_kinds, AreOf, AreFew, AreMergeable, IsOneOf, CanTakeOff, IsPair, HasStarts, halt_of}
 use Rattle.pp_load.proofs.KindLemmas.{kinds_agree, agreed_kinds, none_disagree, nothing_found}
 use Rattle.pp_load.proofs.CountLemmas.{as_many, merged_is_one, normalized_countable}
 
@@ -68,7 +68,7 @@ first_of own [] same some = absurd (omega (arith, some))
 first_of own (p ∷ ps) same some = same.0
 
 -- the first profiles can be merged
-pub front_joins : (n : ℕ) (list : List Profile) → AreFew list → AreOf (first_kinds list) list → 0 < n → n ≤ length list → CanJoin (take n list)
+pub front_joins : (n : ℕ) (list : List Profile) → AreFew list → AreOf (first_kinds list) list → 0 < n → n ≤ length list → AreMergeable (take n list)
 front_joins n list few alike some within = record {
   some = omega (arith, some, within, length-take n list);
   few = few_front n list few;
@@ -98,7 +98,7 @@ bases_taken None n list source few alike some bases one = tt
 bases_taken (Some kind) n list source few alike some bases one = rest_taken n list source few alike some (ltb-true n (length list) (sym bases)) one
 
 -- What merging gives of profiles that can be merged is one of them.
-pub one_of : (list : List Profile) (r : Profile) → CanJoin list → merging list ≡ Ok r → IsOneOf list r
+pub one_of : (list : List Profile) (r : Profile) → AreMergeable list → merging list ≡ Ok r → IsOneOf list r
 unfolding merging
 one_of [] r can is = absurd (omega (arith, can.some))
 one_of (p ∷ ps) r can is =
@@ -106,12 +106,12 @@ one_of (p ∷ ps) r can is =
     subst (IsOneOf (p ∷ ps)) found.1 (merged_is_one p ps can.few can.alike found.0)
 
 -- the profiles were merged
-pub merge_gives : (list : List Profile) (r : Profile) → CanJoin list → Merges list (Ok r) → Gives (merging list) (Ok r)
+pub merge_gives : (list : List Profile) (r : Profile) → AreMergeable list → Merges list (Ok r) → Gives (merging list) (Ok r)
 unfolding merging Gives
 merge_gives [] r can is = absurd (omega (arith, can.some))
 merge_gives (p ∷ ps) r can is = ap (λ o. unless o refusals.TotalTooLarge (merged p ps)) is.1.0 ∙ ap (λ q. Ok q) (sym is.1.1)
 
-pub merge_one : (list : List Profile) (r : Profile) → CanJoin list → Merges list (Ok r) → IsOneOf list r
+pub merge_one : (list : List Profile) (r : Profile) → AreMergeable list → Merges list (Ok r) → IsOneOf list r
 unfolding Gives
 merge_one list r can is = one_of list r can (merge_gives list r can is)
 
@@ -126,7 +126,7 @@ refused (p ∷ ps) (merge.TotalTooLarge column) some alike is = ap (λ o. unless
 refused (p ∷ ps) merge.Memory some alike is = refl
 
 -- the profiles were not merged
-pub merge_halts : (list : List Profile) (e : MergeRefusal) (h : Halt LoadRefusal) → CanJoin list → Merges list (Err e) → h ≡ halt_of e → Gives (merging list) (Err h)
+pub merge_halts : (list : List Profile) (e : MergeRefusal) (h : Halt LoadRefusal) → AreMergeable list → Merges list (Err e) → h ≡ halt_of e → Gives (merging list) (Err h)
 merge_halts list e h can is same = subst (λ k. Gives (merging list) (Err k)) (sym same) (refused list e can.some can.alike is)
 
 -- what is needed where profiles are merged
@@ -167,7 +167,7 @@ negated_starts Base p starts = starts
 negated_starts DiffBase p starts = starts
 
 -- the source and the negated base can be merged
-pub pair_joins : (kind : BaseKind) (source base : Profile) → NoRuleFails source → NoRuleFails base → IsPair source base → CanJoin (source ∷ negated kind base ∷ [])
+pub pair_joins : (kind : BaseKind) (source base : Profile) → NoRuleFails source → NoRuleFails base → IsPair source base → AreMergeable (source ∷ negated kind base ∷ [])
 pair_joins kind source base valid base_valid pair =
     let negative = negated kind base in
     let own : kinds negative ≡ kinds base = agreed_kinds base negative (negated_agrees kind base base base_valid ∙ kinds_agree base base refl) in

@@ -17,7 +17,7 @@ use Rattle.pp_tables.specs.Read.{HasAtMost}
 use Rattle.pp_merge.proofs.SettledLemmas.{all_join}
 use Rattle.pp_load.specs.Reads.{size_limit}
 use Rattle.pp_load.specs.Joining.{HasStarts}
-use Rattle.pp_load.specs.Sources.{IsFew, with_profile}
+use Rattle.pp_load.specs.Sources.{IsCountableRead, with_profile}
 use Rattle.pp_load.specs.declared.reading.Read.{Read}
 use Rattle.pp_load.specs.declared.refusal.LoadRefusal.{LoadRefusal}
 use Rattle.pp_load.specs.Load.{read_all}
@@ -51,7 +51,7 @@ module _ {A : Type 0} (next : Read → A → Asking LoadRefusal Read) (xs : List
     read_ends past = arrives a b b _ _ (Ok (Ok read)) (rw (at_drop_all (read_all next read) xs i past) at on_way) (gives b (Ok read))
 
 -- one profile more can still be counted
-pub pushed_few : (read : Read) (p : Profile) (len : ℕ) → IsFew read → read.size + len ≤ size_limit → HasAtMost len p → NoRuleFails p → HasStarts p → IsFew (with_profile read len p)
+pub pushed_few : (read : Read) (p : Profile) (len : ℕ) → IsCountableRead read → read.size + len ≤ size_limit → HasAtMost len p → NoRuleFails p → HasStarts p → IsCountableRead (with_profile read len p)
 pushed_few read p len few fits own valid starts = record {
   bytes = fits;
   valid = all_join NoRuleFails read.profiles (p ∷ []) few.valid (valid, tt);

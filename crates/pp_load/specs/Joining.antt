@@ -57,7 +57,7 @@ pub record AreFew (list : List Profile) : Type 0 where
   pub samples : samples_of list < 2 ^ 32
 
 -- The profiles can be merged, unless the sum of a column is too large.
-pub record CanJoin (list : List Profile) : Type 0 where
+pub record AreMergeable (list : List Profile) : Type 0 where
   pub some : 0 < length list
   pub few : AreFew list
   pub alike : AreOf (first_kinds list) list
@@ -71,7 +71,7 @@ pub record IsOneOf (list : List Profile) (p : Profile) : Type 0 where
 
 -- The bases can be merged and taken off the profile.
 pub record CanTakeOff (source : Profile) (bases : List Profile) : Type 0 where
-  pub joins : CanJoin bases
+  pub joins : AreMergeable bases
   pub countable : IsCountable source
   pub starts : HasStarts source
   pub of_kinds : kinds source ≡ first_kinds bases

@@ -33,7 +33,7 @@ with_bytes read bytes = do
 
 -- What was read can be counted: its profiles are valid, their mappings lie in the address space, their samples are
 -- together at most as many as their bytes, and these are within the limit. No public clause cites it.
-pub record IsFew (read : Read) : Type 0 where
+pub record IsCountableRead (read : Read) : Type 0 where
   pub bytes : read.size ≤ size_limit
   pub valid : AllByRecursion NoRuleFails read.profiles
   pub starts : AllByRecursion HasStarts read.profiles

@@ -2,7 +2,7 @@
 ghost use Rattle.std.specs.Prelude.{◌≡◌, ◌+◌, ◌<◌, ◌≤◌, ◌^◌, [], ◌∷◌, Ok, take, drop, length, IfOk, IfSome, is_some, nat_lt};
 ghost use Rattle.pp_merge.specs.Scale.{negated};
 ghost use Rattle.pp_load.specs.Steps.{Gives};
-ghost use Rattle.pp_load.specs.Joining.{AreFew, CanJoin, IsOneOf, CanTakeOff, IsPair, IsReady, halt_of};
+ghost use Rattle.pp_load.specs.Joining.{AreFew, AreMergeable, IsOneOf, CanTakeOff, IsPair, IsReady, halt_of};
 ghost use Rattle.pp_load.specs.Combine.{agreeing, agreeing_with, merging, scaling_if, subtracting, less_bases, joining, combined};
 
 use crate::refusal::LoadRefusal;
@@ -96,7 +96,7 @@ fn split(profiles: List<Valid>, place: usize) -> Result<(List<Valid>, List<Valid
 // The profiles as one.
 #[tactic(auto, using(crate::proofs::JoiningLemmas::joins))]
 fn merge_all(alloc: Global, profiles: List<Valid>) -> Result<Compact, Halt<LoadRefusal>>
-    requires { CanJoin profiles }
+    requires { AreMergeable profiles }
     ensures is { Gives (merging profiles) result }
     ensures one { IfOk result (IsOneOf profiles) }
 {

@@ -8,7 +8,7 @@ ghost use Rattle.pp_merge.specs.Merge.{merged};
 ghost use Rattle.pp_load.specs.Steps.{Gives};
 ghost use Rattle.pp_load.specs.Joining.{IsReady};
 ghost use Rattle.pp_load.specs.Combine.{combined};
-ghost use Rattle.pp_load.specs.Sources.{IsFew};
+ghost use Rattle.pp_load.specs.Sources.{IsCountableRead};
 ghost use Rattle.pp_load.specs.Reads.{judged, loaded_or};
 ghost use Rattle.pp_load.specs.Load.{load};
 
@@ -58,7 +58,7 @@ fn load_plan<D: Desk>(alloc: Global, plan: &Plan, desk: &mut D) -> Result<Loaded
 
 // The profiles of a plan as one.
 fn combine_read(alloc: Global, plan: &Plan, read: Read) -> Result<Compact, Halt<LoadRefusal>>
-    requires few { IsFew read }
+    requires few { IsCountableRead read }
     requires all { length read.profiles ≡ length plan.now.origins + length plan.now.bases }
     ensures is { Gives (combined (length plan.now.origins) plan.now.base_kind
         plan.now.normalize read.profiles) result }

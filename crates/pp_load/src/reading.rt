@@ -8,7 +8,7 @@ ghost use Rattle.pp_options.specs.Conditions.{is_fair};
 ghost use Rattle.pp_load.specs.Steps.{Gives};
 ghost use Rattle.pp_load.specs.Joining.{HasStarts};
 ghost use Rattle.pp_load.specs.Reads.{size_limit, read_path, whole_of};
-ghost use Rattle.pp_load.specs.Sources.{fitting, with_profile, with_bytes, IsFew};
+ghost use Rattle.pp_load.specs.Sources.{fitting, with_profile, with_bytes, IsCountableRead};
 ghost use Rattle.pp_load.specs.Load.{read_bytes, read_next, read_base, read_all, read_plan};
 
 use crate::decode::decode;
@@ -41,7 +41,7 @@ pub fn read_plan<D: Desk>(
 ) -> Result<Read, Halt<LoadRefusal>>
     ensures went { Went (D.world desk.old) (D.world desk.new)
         (read_plan plan.now) (settled result) }
-    ensures few { IfOk result IsFew }
+    ensures few { IfOk result IsCountableRead }
     ensures all { IfOk result (λ read.
         length read.profiles ≡ length plan.now.origins + length plan.now.bases) }
 {
@@ -59,12 +59,12 @@ fn read_origins<D: Desk>(
     origins: &[Origin],
     desk: &mut D,
 ) -> Result<Read, Halt<LoadRefusal>>
-    requires few { IsFew read }
+    requires few { IsCountableRead read }
     requires fair { IsTrue (list_all is_fair origins.now) }
     requires room { length read.profiles + length origins.now < 2 ^ 32 }
     ensures went { Went (D.world desk.old) (D.world desk.new)
         (read_all read_next read origins.now) (settled result) }
-    ensures few { IfOk result IsFew }
+    ensures few { IfOk result IsCountableRead }
     ensures all { IfOk result (λ more.
         length more.profiles ≡ length read.profiles + length origins.now) }
 {
@@ -80,11 +80,11 @@ fn read_bases<D: Desk>(
     bases: &[Text],
     desk: &mut D,
 ) -> Result<Read, Halt<LoadRefusal>>
-    requires few { IsFew read }
+    requires few { IsCountableRead read }
     requires room { length read.profiles + length bases.now < 2 ^ 32 }
     ensures went { Went (D.world desk.old) (D.world desk.new)
         (read_all read_base read bases.now) (settled result) }
-    ensures few { IfOk result IsFew }
+    ensures few { IfOk result IsCountableRead }
     ensures all { IfOk result (λ more.
         length more.profiles ≡ length read.profiles + length bases.now) }
 {
@@ -102,12 +102,12 @@ fn read_next<D: Desk>(
     origin: &Origin,
     desk: &mut D,
 ) -> Result<Read, Halt<LoadRefusal>>
-    requires few { IsFew read }
+    requires few { IsCountableRead read }
     requires fair { IsTrue (is_fair origin.now) }
     requires room { length read.profiles + 1 < 2 ^ 32 }
     ensures went { Went (D.world desk.old) (D.world desk.new)
         (read_next read origin.now) (settled result) }
-    ensures few { IfOk result IsFew }
+    ensures few { IfOk result IsCountableRead }
     ensures all { IfOk result (λ more. length more.profiles ≡ length read.profiles + 1) }
 {
     let bytes = read_bytes(alloc, read.profiles.len() as u32, origin, desk)?;
@@ -122,11 +122,11 @@ fn read_base<D: Desk>(
     path: &Text,
     desk: &mut D,
 ) -> Result<Read, Halt<LoadRefusal>>
-    requires few { IsFew read }
+    requires few { IsCountableRead read }
     requires room { length read.profiles + 1 < 2 ^ 32 }
     ensures went { Went (D.world desk.old) (D.world desk.new)
         (read_base read path.now) (settled result) }
-    ensures few { IfOk result IsFew }
+    ensures few { IfOk result IsCountableRead }
     ensures all { IfOk result (λ more. length more.profiles ≡ length read.profiles + 1) }
 {
     let bytes = read_path(read.profiles.len() as u32, path, desk)?;
@@ -176,10 +176,10 @@ fn whole_of(source: u32, content: FileContent) -> Result<Text, Halt<LoadRefusal>
 // The profile of the bytes, behind those that were read. The bytes are given up.
 #[tactic(auto, using(crate::proofs::Giving::giving, crate::proofs::StartLemmas::decoded_has), unfolding(crate::specs::Sources::with_bytes))]
 fn add(alloc: Global, read: Read, bytes: Text) -> Result<Read, Halt<LoadRefusal>>
-    requires few { IsFew read }
+    requires few { IsCountableRead read }
     requires room { length read.profiles + 1 < 2 ^ 32 }
     ensures is { Gives (with_bytes read bytes) result }
-    ensures few { IfOk result IsFew }
+    ensures few { IfOk result IsCountableRead }
     ensures all { IfOk result (λ more. length more.profiles ≡ length read.profiles + 1) }
 {
     let len = bytes.len() as u64;
@@ -205,12 +205,12 @@ fn fit(read: &Read, len: u64) -> Result<(), Halt<LoadRefusal>>
 
 // The profile behind those that were read.
 fn push(mut read: Read, profile: Valid, len: u64) -> Result<Read, Memory>
-    requires few { IsFew read }
+    requires few { IsCountableRead read }
     requires fits { read.size + len ≤ size_limit }
     requires own { HasAtMost len profile }
     requires starts { HasStarts profile }
     ensures is { IfOk result (λ more. more ≡ with_profile read len profile) }
-    ensures few { IfOk result IsFew }
+    ensures few { IfOk result IsCountableRead }
 {
     let _valid = profile.get();
     read.profiles.push(profile)?;

@@ -35,7 +35,7 @@ use Rattle.pp_merge.specs.Written.{FitsTypes, written}
 use Rattle.pp_merge.specs.Placed.{gist, totalled}
 use Rattle.pp_merge.specs.Renumbered.{renumbered_sample, renumbered_location}
 use Rattle.pp_merge.specs.Share.{NamesLocations, IsJoined}
-use Rattle.pp_merge.specs.Joined.{behind_ids, moved_behind, sizes_of, no_sizes, chained, joined, IsFew}
+use Rattle.pp_merge.specs.Joined.{behind_ids, moved_behind, sizes_of, no_sizes, chained, joined, HasFewTexts}
 use Rattle.pp_merge.specs.Merging.{CanMerge, Admits, join_from, IsWhole, IsMerged}
 use Rattle.pp_merge.proofs.Prefix.{by_recursion, all_tt}
 use Rattle.pp_merge.proofs.IdLemmas.{place_missed}
@@ -330,12 +330,12 @@ whole_left (p ∷ ps) duration r m can is done =
     }
 
 -- the joined profile with the duration of all
-pub whole_is : (list : List Profile) (duration : ℤ) (o : Option Profile) (found r : Profile) → CanMerge list duration → o ≡ Some found → o ≡ joined list → IsFew o
+pub whole_is : (list : List Profile) (duration : ℤ) (o : Option Profile) (found r : Profile) → CanMerge list duration → o ≡ Some found → o ≡ joined list → HasFewTexts o
     → AllByRecursion NoRuleFails list → r ≡ record found { duration_nanos = duration } → IsWhole list r
 whole_is [] duration o found r can some is few valid done = absurd can
 whole_is (p ∷ ps) duration o found r can some is few valid done =
     let same : found ≡ join_from (moved_behind no_sizes p) ps = same_Some _ _ (sym some ∙ is ∙ joined_is (moved_behind no_sizes p) ps) in
-    let short = subst IsFew some few in
+    let short = subst HasFewTexts some few in
     (done ∙ (λ j. record (same j) { duration_nanos = can.1.1 j }), (subst (λ (q : Profile). length q.text < 4611686018427387904) (sym done) short, valid))
 
 -- What the stages answer is what merging answers.

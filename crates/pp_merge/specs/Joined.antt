@@ -81,6 +81,6 @@ abbrev pub joined : List Profile → Option Profile
 joined list = fold (λ joined p. Some (joined_next joined p)) None list
 
 -- the texts of the joined profile can be counted
-abbrev pub IsFew : Option Profile → Type 0
-IsFew None = ⊤
-IsFew (Some joined) = length joined.text < 2 ^ 62
+abbrev pub HasFewTexts : Option Profile → Type 0
+HasFewTexts None = ⊤
+HasFewTexts (Some joined) = length joined.text < 2 ^ 62

@@ -73,22 +73,6 @@ contents p ps = record {
 abbrev pub merged : Profile → List Profile → Profile
 merged p ps = written (contents p ps)
 
--- Whether the profiles can be merged: the first one that does not agree with p, or else the least column
--- whose sum is too large.
-abbrev pub Admits : Profile → List Profile → List Profile → Result (Unit {0}) MergeRefusal → Type 0
-Admits p ps list (Ok done) =
-    (disagreeing p 1 ps ≡ None) × (too_large (length p.sample_type) list ≡ None)
-Admits p ps list (Err (Incompatible source what)) = disagreeing p 1 ps ≡ Some (source, what)
-Admits p ps list (Err (TotalTooLarge column)) =
-    (disagreeing p 1 ps ≡ None) × (too_large (length p.sample_type) list ≡ Some column)
-Admits p ps list (Err Memory) = ⊤
-
--- the refusal of the column; want of memory may come in its place
-abbrev pub RefusesColumn : ℕ → MergeRefusal → Type 0
-RefusesColumn column (Incompatible source what) = ⊥
-RefusesColumn column (TotalTooLarge found) = found ≡ column
-RefusesColumn column Memory = ⊤
-
 -- What `merge` answers: the first profile that does not agree with the first one, or else the least
 -- column whose sum is too large, or else the profiles as one. Want of memory may come at any time.
 abbrev pub Merges : List Profile → Result Profile MergeRefusal → Type 0

@@ -6,7 +6,7 @@ ghost use Rattle.pp_model.specs.Rules.{NoRuleFails, first_repeated, mapping_ids,
 ghost use Rattle.pp_merge.specs.Behind.{behind_id};
 ghost use Rattle.pp_merge.specs.Ids.{place_id, new_id};
 ghost use Rattle.pp_merge.specs.Renumbered.{new_ids};
-ghost use Rattle.pp_merge.specs.Joined.{behind_ids, moved_behind, chained, with_header_of, first_text, no_sizes, sizes_of, joined_next, joined, IsFew, IsInPlace};
+ghost use Rattle.pp_merge.specs.Joined.{behind_ids, moved_behind, chained, with_header_of, first_text, no_sizes, sizes_of, joined_next, joined, HasFewTexts, IsInPlace};
 ghost use Rattle.pp_merge.specs.Header.{greater, earlier};
 
 use crate::behind::Behind;
@@ -23,7 +23,7 @@ use std::mem;
 /// profiles.
 pub fn join(alloc: Global, list: List<Valid>) -> Result<Option<Profile>, Memory>
     ensures same { IfOk result (λ r. r ≡ joined list) }
-    ensures few { IfOk result IsFew }
+    ensures few { IfOk result HasFewTexts }
     ensures valid { IfOk result (λ r. AllByRecursion NoRuleFails list) }
 {
     let mut joined = None;

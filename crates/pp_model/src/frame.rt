@@ -1,5 +1,5 @@
 //! The frames of a sample's stack.
-ghost use Rattle.std.specs.Prelude.{◌≡◌, ◌++◌, ◌+◌, ◌<◌, length, map, IfOk};
+ghost use Rattle.std.specs.Prelude.{◌≡◌, ◌++◌, ◌+◌, ◌<◌, [], length, map, IfOk};
 ghost use Rattle.pp_model.specs.Rules.{IsCompact};
 ghost use Rattle.pp_model.specs.Conditions.{RefersTo, IsStackOf};
 ghost use Rattle.pp_model.specs.Frames.{stack_of, rows, lines_at};
@@ -32,7 +32,21 @@ pub fn frames(alloc: Global, l: &Loaded, s: &Sample) -> Result<Stack, Memory>
     ensures texts { IfOk result (λ stack. StandsFor l.now.profile stack s.now) }
     ensures of_profile { IfOk result (λ stack. IsStackOf l.now.profile stack) }
 {
-    stack_in(alloc, l.profile.get(), s)
+    // Most locations have one line.
+    let mut stack = List::from_vec(Vec::with_capacity(alloc, s.location_id.len())?);
+    frames_into(l, s, &mut stack)?;
+    Ok(stack)
+}
+
+/// The same, in the place of what the stack held.
+pub fn frames_into(l: &Loaded, s: &Sample, stack: &mut Stack) -> Result<(), Memory>
+    requires { RefersTo l.now.profile s.now }
+    ensures places { IfOk result (λ _. stack.new ≡ stack_of l.now.profile s.now) }
+    ensures texts { IfOk result (λ _. StandsFor l.now.profile stack.new s.now) }
+    ensures of_profile { IfOk result (λ _. IsStackOf l.now.profile stack.new) }
+{
+    stack.truncate(0);
+    push_frames(l.profile.get(), s, stack)
 }
 
 /// The frames of one location, as a sample has them whose leaf is the location. `Err` is want of memory.
@@ -60,20 +74,19 @@ fn rows_at(alloc: Global, p: &Profile, location: u64) -> Result<Stack, Memory>
     Ok(stack)
 }
 
-// The stack of a sample, of the profile's tables.
-fn stack_in(alloc: Global, p: &Profile, s: &Sample) -> Result<Stack, Memory>
+// Adds the frames of the sample, by the profile's tables.
+fn push_frames(p: &Profile, s: &Sample, stack: &mut Stack) -> Result<(), Memory>
     requires compact { IsCompact p.now }
     requires refers { RefersTo p.now s.now }
-    ensures places { IfOk result (λ stack. stack ≡ stack_of p.now s.now) }
-    ensures texts { IfOk result (λ stack. StandsFor p.now stack s.now) }
-    ensures of_profile { IfOk result (λ stack. IsStackOf p.now stack) }
+    requires none { stack.old ≡ [] }
+    ensures places { IfOk result (λ _. stack.new ≡ stack_of p.now s.now) }
+    ensures texts { IfOk result (λ _. StandsFor p.now stack.new s.now) }
+    ensures of_profile { IfOk result (λ _. IsStackOf p.now stack.new) }
 {
-    // Most locations have one line.
-    let mut stack = List::from_vec(Vec::with_capacity(alloc, s.location_id.len())?);
     for (place, id) in s.location_id.as_slice().iter().enumerate() {
-        push_rows(p, place as u64, *id - 1, &mut stack)?;
+        push_rows(p, place as u64, *id - 1, stack)?;
     }
-    Ok(stack)
+    Ok(())
 }
 
 // Adds the frames of the location that stands at this place of the sample.

@@ -12,11 +12,12 @@ mod valid;
 mod verdicts;
 
 pub use config::{Config, EDGE_FRACTION, Grain, NODE_FRACTION, Sort, WORKERS};
-pub use frame::{Frame, Stack, frames, frames_at};
+pub use frame::{Frame, Stack, frames, frames_at, frames_into};
 pub use ids::HasId;
 pub use loaded::Loaded;
 pub use lookup::{
-    address_of, column_in, file_of, function_of, line_of, object_of, text_of, value_in,
+    FrameTexts, address_of, column_in, file_of, function_of, line_of, object_of, text_of, texts_of,
+    value_in,
 };
 pub use profile::{Function, Label, Line, Location, Mapping, Profile, Sample, ValueType};
 pub use report::{BaseKind, Report};

@@ -51,6 +51,45 @@ pub fn object_of(l: &Loaded, f: &Frame) -> u64
     }
 }
 
+/// The text indices of what patterns are asked of: each as the call of its own gives it.
+#[derive(Clone, Copy, Debug, PartialEq, Eq)]
+pub struct FrameTexts {
+    /// Of the function's name, 0 where it isn't known.
+    pub function: u64,
+    /// Of the file's name, 0 where it isn't known.
+    pub file: u64,
+    /// Of the mapping's file, 0 where it isn't known.
+    pub object: u64,
+}
+
+/// The frame's text indices, in one look-up of its function.
+pub fn texts_of(l: &Loaded, f: &Frame) -> FrameTexts
+    requires { IsFrameOf l.now.profile f.now }
+    ensures function { result.function ≡ function_index l.now.profile f.now }
+    ensures file { result.file ≡ file_index l.now.profile f.now }
+    ensures object { result.object ≡ object_index l.now.profile f.now }
+    ensures function_text { text_at l.now.profile result.function ≡ (written l.now.profile f.now).function }
+    ensures file_text { text_at l.now.profile result.file ≡ (written l.now.profile f.now).file }
+    ensures object_text { text_at l.now.profile result.object ≡ (written l.now.profile f.now).object }
+    ensures function_range { result.function < length l.now.profile.text }
+    ensures file_range { result.file < length l.now.profile.text }
+    ensures object_range { result.object < length l.now.profile.text }
+{
+    let object = object_of(l, f);
+    match function_in(l.profile.get(), f) {
+        Some(function) => FrameTexts {
+            function: text_index(function.name),
+            file: text_index(function.filename),
+            object,
+        },
+        None => FrameTexts {
+            function: 0,
+            file: 0,
+            object,
+        },
+    }
+}
+
 /// The line's number, 0 where the frame has no line.
 pub fn line_of(l: &Loaded, f: &Frame) -> i64
     requires { IsFrameOf l.now.profile f.now }

@@ -14,7 +14,7 @@ use Rattle.pp_options.specs.Items.{fault_at}
 use Rattle.pp_options.specs.Spelling.{takes_next}
 use Rattle.pp_options.specs.Words.{Entry, Request, entry, entries, sources, ends_options, request, normalized_at, item_fault, entry_fault, first_fault, late_fault, unless_fault, words}
 use Rattle.pp_options.specs.Plans.{request_of, Reads}
-use Rattle.pp_options.specs.Drafts.{request_in, with_item, noted, Took, Takes, TookEntry, TakesEntry, IsDraftOf, IsReading, ReadsAll, Finishes, next_of, left_after}
+use Rattle.pp_options.specs.Drafts.{request_in, with_item, noted, Took, TakesItem, TookEntry, TakesEntry, IsDraftOf, IsReading, ReadsAll, Finishes, next_of, left_after}
 use Rattle.pp_options.proofs.RequestLemmas.{request_push, noted_push}
 
 -- before the first word nothing is read
@@ -138,7 +138,7 @@ words_fault ws fault first =
 -- an item that was refused has the first fault, unless memory ran out
 pub item_refused :
     (A B : Type 0) (old new after : Draft) (whole left : List Entry) (at : ℕ) (item : Item) (e : UsageRefusal) (r : Result B UsageRefusal)
-    → IsReading old whole (record { at = at; asked = Ok item } ∷ left) → Takes {A = A} old new at item (Err e) → r ≡ Err e → ReadsAll whole after r
+    → IsReading old whole (record { at = at; asked = Ok item } ∷ left) → TakesItem {A = A} old new at item (Err e) → r ≡ Err e → ReadsAll whole after r
 item_refused A B old new after whole left at item (Fault fault) r reading refused is =
     let same : fault_at fault.kind at ≡ fault = λ i. record { kind = fault.kind; word = sym refused.1 i } in
     let first : first_fault [] whole ≡ Some fault = read_fault old whole left _ fault reading (ap (option_map (λ kind. fault_at kind at)) refused.0 ∙ ap Some same) in

@@ -64,11 +64,11 @@ pub record Took (old new : Draft) (at : ℕ) (item : Item) : Type 0 where
   pub noted : new.normalized_at ≡ noted old.normalized_at at item
 
 -- the item of the word was taken, or has the fault, unless memory ran out
-abbrev pub Takes : {A : Type 0} → Draft → Draft → ℕ → Item → Result A UsageRefusal → Type 0
-Takes old new at item (Ok done) = Took old new at item
-Takes old new at item (Err (Fault fault)) =
+abbrev pub TakesItem : {A : Type 0} → Draft → Draft → ℕ → Item → Result A UsageRefusal → Type 0
+TakesItem old new at item (Ok done) = Took old new at item
+TakesItem old new at item (Err (Fault fault)) =
     (item_fault (request_in old) item ≡ Some fault.kind) × (fault.word ≡ at)
-Takes old new at item (Err Memory) = ⊤
+TakesItem old new at item (Err Memory) = ⊤
 
 -- the entry asks for an item, which was taken
 pub record TookEntry (old new : Draft) (e : Entry) : Type 0 where

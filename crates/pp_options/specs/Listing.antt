@@ -101,9 +101,9 @@ value_text c DivideBy = decimal c.divide_by
 value_text c Workers = decimal c.workers
 
 -- a line `NAME=VALUE`
-abbrev pub line_text : Config → Row Variable → List ℕ
-line_text c row = row.name ++ codes "=" ++ value_text c row.value ++ codes "\n"
+abbrev pub option_line : Config → Row Variable → List ℕ
+option_line c row = row.name ++ codes "=" ++ value_text c row.value ++ codes "\n"
 
 -- a line for each variable, in their order
 unfoldable pub options_text : Config → List ℕ
-options_text c = flat_map (line_text c) variables
+options_text c = flat_map (option_line c) variables

@@ -5,7 +5,7 @@ ghost use Rattle.pp_model.specs.declared.report.Report.TheVariants as reports;
 ghost use Rattle.pp_options.specs.Conditions.{is_fair, is_patterned};
 ghost use Rattle.pp_options.specs.Items.{is_fair_item};
 ghost use Rattle.pp_options.specs.Words.{has_other_kind, is_full};
-ghost use Rattle.pp_options.specs.Drafts.{request_in, TakesOrigin, Took, Takes, IsDraftOf};
+ghost use Rattle.pp_options.specs.Drafts.{request_in, TakesOrigin, Took, TakesItem, IsDraftOf};
 ghost use Rattle.pp_options.specs.declared.item.Item.TheVariants as items;
 
 use crate::draft::Draft;
@@ -38,7 +38,7 @@ impl Draft {
     // Takes what the word of the number asks for.
     pub fn take(&mut self, at: u64, item: Item) -> Result<(), UsageRefusal>
         requires { IsTrue (is_fair_item item) }
-        ensures { Takes self.old self.new at item result }
+        ensures { TakesItem self.old self.new at item result }
     {
         match item {
             Item::Source(path) => self.take_origin(at, Origin::Path(path)),
@@ -68,7 +68,7 @@ impl Draft {
     }
 
     fn take_base(&mut self, at: u64, kind: BaseKind, path: Text) -> Result<(), UsageRefusal>
-        ensures { Takes self.old self.new at (items.Base kind path) result }
+        ensures { TakesItem self.old self.new at (items.Base kind path) result }
     {
         if self.has_other_kind(kind) {
             return refuse(UsageKind::BaseTwice, at);
@@ -109,7 +109,7 @@ impl Draft {
 
     fn take_report(&mut self, at: u64, report: Report) -> Result<(), UsageRefusal>
         requires { IsTrue (is_patterned report) }
-        ensures { Takes self.old self.new at (items.Format report) result }
+        ensures { TakesItem self.old self.new at (items.Format report) result }
     {
         if self.report.is_some() {
             return refuse(UsageKind::TwoFormats, at);

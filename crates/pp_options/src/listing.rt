@@ -4,7 +4,7 @@ ghost use Rattle.std.specs.Fmt.{signed_decimal};
 ghost use Rattle.std.specs.List.{flat_map};
 ghost use Rattle.pp_base.specs.Grew.{Grew};
 ghost use Rattle.pp_options.specs.Tables.{row_of};
-ghost use Rattle.pp_options.specs.Listing.{options_text, line_text, value_text, sort_text, grain_text, truth_text, flag_in, fraction_in, text_in, fraction_text, decimals_text, without_zeros};
+ghost use Rattle.pp_options.specs.Listing.{options_text, option_line, value_text, sort_text, grain_text, truth_text, flag_in, fraction_in, text_in, fraction_text, decimals_text, without_zeros};
 
 use crate::table::Named;
 use crate::{FlagVariable, FractionVariable, TextVariable, VARIABLES, Variable};
@@ -26,7 +26,7 @@ pub fn write_options(config: &Config, out: &mut Text) -> Result<(), Memory>
 // Without memory the text has gained some of it.
 fn put_lines(config: &Config, variables: &[Named<Variable>], out: &mut Text) -> Result<(), Memory>
     ensures ok { OnOk result
-        (out.new ≡ out.old ++ flat_map (line_text config.now) (map row_of variables.now)) }
+        (out.new ≡ out.old ++ flat_map (option_line config.now) (map row_of variables.now)) }
     ensures err { OnErr result (Grew out.old out.new) }
 {
     for variable in variables {
@@ -37,7 +37,7 @@ fn put_lines(config: &Config, variables: &[Named<Variable>], out: &mut Text) -> 
 
 // Without memory the text has gained some of it.
 fn put_line(config: &Config, variable: &Named<Variable>, out: &mut Text) -> Result<(), Memory>
-    ensures ok { OnOk result (out.new ≡ out.old ++ line_text config.now (row_of variable.now)) }
+    ensures ok { OnOk result (out.new ≡ out.old ++ option_line config.now (row_of variable.now)) }
     ensures err { OnErr result (Grew out.old out.new) }
 {
     out.extend(variable.name)?;

@@ -2,7 +2,7 @@
 use Rattle.std.proofs.Common.{◌≡◌, true, false, [], ◌∷◌, refl}
 use Rattle.std.specs.Prelude.{pos, codes, Option, Some, None, Err}
 use Rattle.pp_base.specs.FileMap.{FileMap}
-use Rattle.pp_base.specs.Judges.{occurs}
+use Rattle.pp_base.specs.Judges.{occurs_in}
 use Rattle.pp_model.specs.declared.config.Config.{Config}
 use Rattle.pp_model.specs.declared.profile.Profile.{Profile}
 use Rattle.pp_model.specs.declared.verdicts.Slot.TheVariants.{Hide}
@@ -49,21 +49,21 @@ abbrev filter : Option TagFilter
 filter = Some (record { name = []; range = None; parts = codes "x" ∷ [] ∷ codes "y" ∷ [] })
 
 -- the patterns in the order of asking
-in_order : (files : FileMap) → (course (judge_with occurs config (Some (codes "o")) p filter None) files [] [] []).asked
+in_order : (files : FileMap) → (course (judge_with occurs_in config (Some (codes "o")) p filter None) files [] [] []).asked
     ≡ codes "f" ∷ codes "h" ∷ codes "x" ∷ codes "y" ∷ codes "p" ∷ codes "t" ∷ codes "o" ∷ []
 unfolding ◌>>=◌ scripts.◌>>=◌ judge_with judge_frames judge_tags judge_filter judge_names judge_option judge_parts judge_part judge_pattern
 in_order files = refl
 
 -- after a refusal nothing is asked, and its option is named
-refused : (files : FileMap) → (course (judge_with occurs config None p filter None) files [] [] ((codes "f", true) ∷ (codes "h", false) ∷ [])).value ≡ Err (at Hide)
+refused : (files : FileMap) → (course (judge_with occurs_in config None p filter None) files [] [] ((codes "f", true) ∷ (codes "h", false) ∷ [])).value ≡ Err (at Hide)
 unfolding ◌>>=◌ scripts.◌>>=◌ judge_with judge_frames judge_tags judge_filter judge_names judge_option judge_parts judge_part judge_pattern
 refused files = refl
 
-no_more : (files : FileMap) → (course (judge_with occurs config None p filter None) files [] [] ((codes "f", true) ∷ (codes "h", false) ∷ [])).asked ≡ codes "f" ∷ codes "h" ∷ []
+no_more : (files : FileMap) → (course (judge_with occurs_in config None p filter None) files [] [] ((codes "f", true) ∷ (codes "h", false) ∷ [])).asked ≡ codes "f" ∷ codes "h" ∷ []
 unfolding ◌>>=◌ scripts.◌>>=◌ judge_with judge_frames judge_tags judge_filter judge_names judge_option judge_parts judge_part judge_pattern
 no_more files = refl
 
 -- a profile's own pattern is one of whole names
-whole_names : (files : FileMap) → (course (judge_load occurs p) files [] [] []).asked ≡ codes "^(?:malloc)$" ∷ []
+whole_names : (files : FileMap) → (course (judge_load occurs_in p) files [] [] []).asked ≡ codes "^(?:malloc)$" ∷ []
 unfolding ◌>>=◌ scripts.◌>>=◌ judge_load judge_option judge_pattern
 whole_names files = refl

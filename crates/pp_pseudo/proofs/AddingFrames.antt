@@ -29,7 +29,7 @@ use Rattle.pp_restack.proofs.PlacesLemmas.{all_with, group_refers}
 use Rattle.pp_restack.proofs.CutValid.{some_type}
 use Rattle.pp_restack.proofs.Placing.{entries_still, all_within_still, samples_still, spreads_still, front_front, all_append}
 use Rattle.pp_pseudo.specs.Grown.{grown, name_id}
-use Rattle.pp_pseudo.specs.Names.{IsNumbered}
+use Rattle.pp_pseudo.specs.Names.{IsNumberedName}
 use Rattle.pp_pseudo.specs.Values.{frame_name, frame_names}
 use Rattle.pp_pseudo.specs.WithTags.{tag_location, tag_locations, pruned_stack, tagged_sample}
 use Rattle.pp_pseudo.specs.Framed.{Placing, Extends, AddsFrames, AreTagged}
@@ -83,7 +83,7 @@ start_of function = line_location (record { function_id = function; line = pos 0
 
 -- the frame of a name is added
 pub adds_name : (p : Profile) → NoRuleFails p → IsCompact p → (before after : Placing) (name : List ℕ) (number function id : ℕ) → function ≡ name_id p number
-    → IsNumbered before.names after.names name number → TakesPlace (start_of function) before.locations after.locations → IsFront before.locations after.locations
+    → IsNumberedName before.names after.names name number → TakesPlace (start_of function) before.locations after.locations → IsFront before.locations after.locations
     → IsEntry after.locations (start_of function) id → after.ids ≡ before.ids ++ id ∷ [] → AddsFrames p before after (tag_location name ∷ [])
 adds_name p valid compact before after name number function id own numbered takes front entry is =
     let at_name = (λ (final : List (List ℕ)) (ahead : IsFront after.names final). front_at after.names final number name ahead numbered.named) in

@@ -8,7 +8,7 @@ use Rattle.pp_model.specs.declared.profile.Label.{Label}
 use Rattle.pp_model.specs.declared.profile.Profile.{Profile}
 use Rattle.pp_stack.specs.Runs.{kept_if}
 use Rattle.pp_tags.specs.Labels.{key_text}
-use Rattle.pp_pseudo.specs.Values.{label_value, key_values, joined, tag_name, frame_name, separator}
+use Rattle.pp_pseudo.specs.Values.{label_value, key_values, joined_values, tag_name, frame_name, separator}
 
 -- whether there are values
 abbrev are_there : List (List ℕ) → Bool
@@ -81,6 +81,6 @@ pub name_whole : (p : Profile) (key : List ℕ) (labels : List Label) (found : B
     → kept_if found name ≡ frame_name p labels key
 name_whole p key labels found name whole = (λ i. kept_if (whole.found i) (whole.name i)) ∙ by (key_values p key labels)
   where
-    by : (values : List (List ℕ)) → kept_if (are_there values) (key ++ after_key values) ≡ option_map (tag_name key) (joined values)
+    by : (values : List (List ℕ)) → kept_if (are_there values) (key ++ after_key values) ≡ option_map (tag_name key) (joined_values values)
     by [] = refl
     by (value ∷ values) = refl

@@ -6,7 +6,7 @@ use Rattle.std.proofs.lemmas.List.Quantifiers.{position-Some}
 use Rattle.std.proofs.lemmas.Option.{none-some, slice_get-get_or, slice_get-map}
 use Rattle.std.proofs.lemmas.Slice.Eq.{bytes_eq-Decides}
 use Rattle.pp_base.specs.Front.{IsFront}
-use Rattle.pp_pseudo.specs.Names.{IsNumbered}
+use Rattle.pp_pseudo.specs.Names.{IsNumberedName}
 
 -- the bytes of a key
 abbrev bytes_of : Vec ℕ Global → List ℕ
@@ -23,7 +23,7 @@ found_at (key ∷ keys) name n is =
 
 -- A name that was met keeps its number.
 pub known : (keys : List (Vec ℕ Global)) (names : List (List ℕ)) (name : List ℕ) (n : ℕ) → map bytes_of keys ≡ names
-    → position (λ (key : Vec ℕ Global). bytes_eq name key.items) keys ≡ Some n → IsNumbered names names name n
+    → position (λ (key : Vec ℕ Global). bytes_eq name key.items) keys ≡ Some n → IsNumberedName names names name n
 known keys names name n same is = record {
   front = ([], sym (append-nil names));
   named = ap (λ ns. slice_get ns n) (sym same) ∙ found_at keys name n is;
@@ -32,7 +32,7 @@ known keys names name n same is = record {
 -- A name that is new stands behind the others.
 pub added : (old new : List (Vec ℕ Global)) (names : List (List ℕ)) (key stored : Vec ℕ Global) (name : List ℕ) (n : ℕ) (there : Bool) → map bytes_of old ≡ names
     → new ≡ cond there old (old ++ key ∷ []) → slice_get new n ≡ Some stored → bytes_eq key.items stored.items ≡ true → key.items ≡ name
-    → IsNumbered names (map bytes_of new) name n
+    → IsNumberedName names (map bytes_of new) name n
 added old new names key stored name n there same is at alike own = record {
   front = front there is;
   named =

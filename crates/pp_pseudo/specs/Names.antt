@@ -3,6 +3,6 @@ use Rattle.std.specs.Prelude.{◌≡◌, ℕ, Some, List, slice_get}
 use Rattle.pp_base.specs.Front.{IsFront}
 
 -- the name has the number, and names that were there keep theirs
-pub record IsNumbered (before after : List (List ℕ)) (name : List ℕ) (number : ℕ) : Type 0 where
+pub record IsNumberedName (before after : List (List ℕ)) (name : List ℕ) (number : ℕ) : Type 0 where
   pub front : IsFront before after
   pub named : slice_get after number ≡ Some name

@@ -17,14 +17,14 @@ label_value p label =
 abbrev pub key_values : Profile → List ℕ → List Label → List (List ℕ)
 key_values p key labels = map (label_value p) (filter (λ label. bytes_eq (key_text p label) key) labels)
 
--- the values joined by commas, none where there is no value
-abbrev pub joined : List (List ℕ) → Option (List ℕ)
-joined [] = None
-joined (value ∷ values) = Some (join_with_byte 44 (value ∷ values))
+-- the values joined_values by commas, none where there is no value
+abbrev pub joined_values : List (List ℕ) → Option (List ℕ)
+joined_values [] = None
+joined_values (value ∷ values) = Some (join_with_byte 44 (value ∷ values))
 
 -- The value text of the key, none where no label has the key.
 abbrev pub value_text_of : Profile → List ℕ → List Label → Option (List ℕ)
-value_text_of p key labels = joined (key_values p key labels)
+value_text_of p key labels = joined_values (key_values p key labels)
 
 -- the name of the function that stands for a key and a value text
 abbrev pub tag_name : List ℕ → List ℕ → List ℕ

@@ -22,7 +22,7 @@ impl Model for Names {
 
 impl Names {
     ghost use Rattle.std.specs.Prelude.{◌≡◌, [], length, IfOk};
-    ghost use Rattle.pp_pseudo.specs.Names.{IsNumbered};
+    ghost use Rattle.pp_pseudo.specs.Names.{IsNumberedName};
 
     /// No names.
     pub fn new(alloc: Global) -> Names
@@ -35,7 +35,7 @@ impl Names {
 
     /// The name's number. A name that is new gets the next one; one that is known takes no memory.
     pub fn number(&mut self, alloc: Global, name: &[u8]) -> Result<u64, Memory>
-        ensures { IfOk result (λ n. IsNumbered self.old self.new name.now n) }
+        ensures { IfOk result (λ n. IsNumberedName self.old self.new name.now n) }
     {
         if let Some(n) = self.seen.get_index_of(name) {
             return Ok(n as u64);

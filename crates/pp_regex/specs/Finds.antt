@@ -45,8 +45,8 @@ pub record RegexHeld : Type 0 where
 
 -- Why a matcher gave its answer, with the counts of unbuilt patterns before and after. Only a text that is no pattern
 -- is refused without the count rising, and only a pattern raises it. The count stays at its counter's last value.
-abbrev pub HasCause : ℕ → ℕ → List ℕ → Judgement → Type 0
-HasCause old new text (Found verdicts) = IsPattern text × (new ≡ old)
-HasCause old new text Refused =
+abbrev pub HasMatchCause : ℕ → ℕ → List ℕ → Judgement → Type 0
+HasMatchCause old new text (Found verdicts) = IsPattern text × (new ≡ old)
+HasMatchCause old new text Refused =
     (IsNoPattern text × (new ≡ old)) ⊎ (IsPattern text × (new ≡ one_more old))
-HasCause old new text Memory = new ≡ old
+HasMatchCause old new text Memory = new ≡ old

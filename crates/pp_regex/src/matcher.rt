@@ -2,7 +2,7 @@
 
 ghost use Rattle.std.specs.Prelude.{◌≡◌, [], Some};
 ghost use Rattle.pp_base.specs.Judges.{Judges};
-ghost use Rattle.pp_regex.specs.Finds.{finds, HasCause};
+ghost use Rattle.pp_regex.specs.Finds.{finds, HasMatchCause};
 
 use crate::building::{BuildRefusal, build};
 use crate::searching::verdicts_of;
@@ -57,7 +57,7 @@ impl Matcher for RegexMatcher {
     fn judge(&mut self, pattern: &Text, subjects: &List<Text>) -> Judgement
         ensures judges { Judges finds (Some self.old.answers) (Some self.new.answers)
             pattern.now subjects.now result }
-        ensures cause { HasCause self.old.unbuilt self.new.unbuilt pattern.now result }
+        ensures cause { HasMatchCause self.old.unbuilt self.new.unbuilt pattern.now result }
     {
         let Ok(name) = Text::from_slice(self.alloc, pattern.as_slice()) else {
             return Judgement::Memory;

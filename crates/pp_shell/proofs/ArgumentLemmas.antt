@@ -15,7 +15,7 @@ use Rattle.pp_shell.specs.declared.argument.Argument.{Argument}
 use Rattle.pp_shell.specs.declared.argument.Argument.TheVariants.{Rows, Output, ByCum, Ignore, Focus}
 use Rattle.pp_shell.specs.declared.narrowing.Narrowing.{Narrowing}
 use Rattle.pp_shell.specs.Answers.{Answers}
-use Rattle.pp_shell.specs.Arguments.{argument_of, is_redirect, onto, arguments, nonempty, rows_of, output_of, is_by_cum, focus_of, ignore_of, joined, narrowing, together}
+use Rattle.pp_shell.specs.Arguments.{argument_of, is_redirect, onto, arguments, nonempty, rows_of, output_of, is_by_cum, focus_of, ignore_of, one_pattern, narrowing, together}
 use Rattle.pp_shell.specs.Taking.{added, with_argument, redirected, next_argument, taken_after, left_after, TookArgument, TakesArgument, prepended, IsNarrowing}
 
 -- two with the same fields are the same
@@ -34,10 +34,10 @@ last_push known [] None = refl
 last_push known [] (Some x) = refl
 last_push known (y ∷ ys) o = last_push (Some y) ys o
 
--- patterns that are joined, and one more
-joined_more : (x : List ℕ) (xs : List (List ℕ)) (p : List ℕ) → joined (x ∷ xs ++ p ∷ []) ≡ joined (x ∷ xs) ++ 124 ∷ p
+-- patterns that are one_pattern, and one more
+joined_more : (x : List ℕ) (xs : List (List ℕ)) (p : List ℕ) → one_pattern (x ∷ xs ++ p ∷ []) ≡ one_pattern (x ∷ xs) ++ 124 ∷ p
 joined_more x [] p = refl
-joined_more x (y ∷ ys) p = ap (λ rest. x ++ 124 ∷ rest) (joined_more y ys p) ∙ sym (append_assoc x (124 ∷ joined (y ∷ ys)) (124 ∷ p))
+joined_more x (y ∷ ys) p = ap (λ rest. x ++ 124 ∷ rest) (joined_more y ys p) ∙ sym (append_assoc x (124 ∷ one_pattern (y ∷ ys)) (124 ∷ p))
 
 -- the first pattern isn't empty
 abbrev StartsNonempty : List (List ℕ) → Type 0
@@ -46,8 +46,8 @@ StartsNonempty ([] ∷ xs) = ⊥
 StartsNonempty ((b ∷ bs) ∷ xs) = Unit {0}
 
 -- the same, as `added` says it
-joined_push : (xs : List (List ℕ)) (p : List ℕ) → StartsNonempty xs → joined (xs ++ cons_option (nonempty p) []) ≡ added (joined xs) p
-joined_push xs [] starts = ap joined (append-nil xs)
+joined_push : (xs : List (List ℕ)) (p : List ℕ) → StartsNonempty xs → one_pattern (xs ++ cons_option (nonempty p) []) ≡ added (one_pattern xs) p
+joined_push xs [] starts = ap one_pattern (append-nil xs)
 joined_push [] (b ∷ bs) starts = refl
 joined_push ([] ∷ ys) (b ∷ bs) starts = absurd starts
 joined_push ((c ∷ cs) ∷ []) (b ∷ bs) starts = refl
@@ -83,10 +83,10 @@ last_of part args a = ap (last_or None) (filter_map-append part args (a ∷ []))
 -- the patterns of arguments, with one more
 joined_of :
     (part : Argument → Option (List ℕ)) (args : List Argument) (a : Argument) (p : List ℕ) → StartsNonempty (filter_map part args) → part a ≡ nonempty p
-    → joined (filter_map part (args ++ a ∷ [])) ≡ added (joined (filter_map part args)) p
+    → one_pattern (filter_map part (args ++ a ∷ [])) ≡ added (one_pattern (filter_map part args)) p
 joined_of part args a p h is =
-    ap joined (filter_map-append part args (a ∷ []))
-    ∙ ap (λ o. joined (filter_map part args ++ cons_option o [])) is
+    ap one_pattern (filter_map-append part args (a ∷ []))
+    ∙ ap (λ o. one_pattern (filter_map part args ++ cons_option o [])) is
     ∙ joined_push (filter_map part args) p h
 
 -- whether an argument asks for the order by cum, with one more

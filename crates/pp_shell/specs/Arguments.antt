@@ -83,16 +83,16 @@ ignore_of (Ignore pattern) = nonempty pattern
 ignore_of argument = None
 
 -- patterns as one: `|` stands between each two
-abbrev pub joined : List (List ℕ) → List ℕ
-joined patterns = join_with_byte 124 patterns
+abbrev pub one_pattern : List (List ℕ) → List ℕ
+one_pattern patterns = join_with_byte 124 patterns
 
 -- What arguments ask for together: the last number and the last path count, and patterns add up.
 abbrev pub narrowing : List Argument → Narrowing
 narrowing args = record {
   rows = last_or None (filter_map rows_of args);
   by_cum = list_any is_by_cum args;
-  focus = joined (filter_map focus_of args);
-  ignore = joined (filter_map ignore_of args);
+  focus = one_pattern (filter_map focus_of args);
+  ignore = one_pattern (filter_map ignore_of args);
   output = last_or None (filter_map output_of args);
 }
 

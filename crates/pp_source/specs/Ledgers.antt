@@ -69,7 +69,7 @@ pub record AddsStack (p : Profile) (noinlines : Bool) (stack : List Frame) (valu
       ≡ with_sample value turn (map routine_key keys) k (tally_at old.routines k)
 
 -- A sample can be added at this turn.
-pub record IsReady (turn : ℕ) (at : Key → Tally) : Type 0 where
+pub record IsReadyAt (turn : ℕ) (at : Key → Tally) : Type 0 where
   pub earlier : (k : Key) → (at k).last < turn
   pub cums : (k : Key) → nat_abs (at k).cum + 2 ^ 63 < 2 ^ 127
   pub flats : (k : Key) → nat_abs (at k).flat + 2 ^ 63 < 2 ^ 127

@@ -10,7 +10,7 @@ ghost use Rattle.pp_count.specs.Counted.{CanCount, IsCountedOf, report_frames};
 ghost use Rattle.pp_count.specs.Counts.{samples_at};
 ghost use Rattle.pp_count.specs.Seeing.{HoldsFilters, counted_frames};
 ghost use Rattle.pp_source.specs.Amounts.{line_of, routine_of};
-ghost use Rattle.pp_source.specs.Ledgers.{AddsStack, IsLedgerOf, IsReady, Walked, routine_key};
+ghost use Rattle.pp_source.specs.Ledgers.{AddsStack, IsLedgerOf, IsReadyAt, Walked, routine_key};
 ghost use Rattle.pp_source.specs.Tally.{tally_at};
 
 use crate::tallies::{Tallies, add_sample};
@@ -144,8 +144,8 @@ fn add_stack(
     ledger: &mut Ledger,
 ) -> Result<(), Memory>
     requires frames { IsStackOf l.now.profile stack.now }
-    requires lines { IsReady turn (tally_at ledger.old.lines) }
-    requires routines { IsReady turn (tally_at ledger.old.routines) }
+    requires lines { IsReadyAt turn (tally_at ledger.old.lines) }
+    requires routines { IsReadyAt turn (tally_at ledger.old.routines) }
     ensures { IfOk result (λ _.
         AddsStack l.now.profile noinlines stack.now value turn ledger.old ledger.new) }
 {

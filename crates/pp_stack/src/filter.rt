@@ -10,7 +10,7 @@ ghost use Rattle.pp_stack.specs.Filters.{filtered, passed, shortened, frames_of_
 
 use crate::stages::{cut, kept, load_prune, prune_from, show_from};
 use pp_base::Memory;
-use pp_model::{Loaded, Sample, Stack, Verdicts, frames};
+use pp_model::{Loaded, Sample, Stack, Verdicts, frames, frames_into};
 use std::alloc::Global;
 
 /// What all stack filters leave of the sample's stack, leaf first. None says that the sample is dropped, `Err` is want
@@ -36,6 +36,27 @@ pub fn filter_stack(
     } else {
         Ok(None)
     }
+}
+
+/// The same, in the place of what the stack held. False says that the sample is dropped.
+pub fn filter_into(
+    l: &Loaded,
+    v: &Verdicts,
+    s: &Sample,
+    stack: &mut Stack,
+) -> Result<bool, Memory>
+    requires sample { RefersTo l.now.profile s.now }
+    requires verdicts { HasVerdicts l.now.profile v.now }
+    ensures places { (f : Finders) → HoldsFinders l.now v.now f →
+        IfOk result (λ kept. kept_if kept stack.new ≡ frames_of_sample l.now.profile f s.now) }
+    ensures texts { (f : Finders) → HoldsFinders l.now v.now f →
+        IfOk result (λ kept. option_map (map (written l.now.profile)) (kept_if kept stack.new)
+        ≡ stack_of_sample l.now.profile f s.now) }
+    ensures of_profile { IfOk result (λ _. IsStackOf l.now.profile stack.new) }
+{
+    frames_into(l, s, stack)?;
+    let kept = filter_frames(l, v, stack);
+    Ok(kept)
 }
 
 /// The same of frames that are there already, cut in place: load pruning, ignore and focus, hide, show, show_from,

@@ -9,7 +9,7 @@ ghost use Rattle.pp_model.specs.Judged.{judged};
 ghost use Rattle.pp_stack.specs.Filters.{AreVerdicts, finds_frame, finds_function, is_prunable};
 
 use pp_base::List;
-use pp_model::{Frame, Loaded, file_of, function_of, object_of};
+use pp_model::{Frame, Loaded, function_of, texts_of};
 
 /// Whether the pattern finds the frame's function.
 pub fn finds_function(l: &Loaded, found: &List<bool>, frame: &Frame) -> bool
@@ -29,9 +29,10 @@ pub fn finds_frame(l: &Loaded, found: &List<bool>, frame: &Frame) -> bool
         result ≡ finds_frame find (written l.now.profile frame.now) }
 {
     let verdicts = found.as_slice();
-    verdicts[function_of(l, frame) as usize]
-        || verdicts[file_of(l, frame) as usize]
-        || verdicts[object_of(l, frame) as usize]
+    let texts = texts_of(l, frame);
+    verdicts[texts.function as usize]
+        || verdicts[texts.file as usize]
+        || verdicts[texts.object as usize]
 }
 
 /// Whether load pruning may take the frame off: `drop` finds its function, and `keep_frames` doesn't.

@@ -8,5 +8,6 @@ mod retain;
 mod runs;
 mod stages;
 
-pub use filter::{filter_frames, filter_stack, keeps_all};
+pub use filter::{filter_frames, filter_into, filter_stack, keeps_all};
+pub use runs::finds_some;
 pub use stages::{cut, kept, load_prune, prune_from, show_from};

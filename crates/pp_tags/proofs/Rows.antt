@@ -1,7 +1,7 @@
 -- The worked tag filters, over a profile with the labels thread=a, thread=b and bytes=1024 on one sample each.
 use Rattle.std.proofs.Common.{◌≡◌, ℕ, Bool, true, false, List, [], ◌∷◌, map, refl}
 use Rattle.std.specs.Prelude.{pos, codes}
-use Rattle.pp_base.specs.Judges.{occurs}
+use Rattle.pp_base.specs.Judges.{occurs_in}
 use Rattle.pp_units.specs.Ranges.{range_of, bound_of, in_range}
 use Rattle.pp_units.specs.Shown.{is_same_kind}
 use Rattle.pp_units.specs.Scales.{scale_of, is_named}
@@ -50,7 +50,7 @@ p = record {
 
 -- which samples the filter selects, its parts being plain texts that are found where they stand
 chosen : List ℕ → List Bool
-chosen text = map (selects p (filter_of text) (map occurs (filter_of text).parts)) p.sample
+chosen text = map (selects p (filter_of text) (map occurs_in (filter_of text).parts)) p.sample
 
 in_bytes : chosen (codes "512b:2kb") ≡ false ∷ false ∷ true ∷ []
 unfolding chosen range_of bound_of in_range is_same_kind scale_of is_named

@@ -1,6 +1,6 @@
 use Rattle.std.proofs.Common.{subst, sym}
 use Rattle.std.specs.Prelude.{IfSome}
-use Rattle.pp_load.specs.Joining.{CanJoin, IsOneOf, CanTakeOff}
+use Rattle.pp_load.specs.Joining.{AreMergeable, IsOneOf, CanTakeOff}
 use Rattle.pp_load.proofs.KindLemmas.{agreed}
 use Rattle.pp_load.proofs.JoiningLemmas.{front_joins, bases_taken}
 use Rattle.pp_load.proofs.combine.join.Goals as goal
@@ -8,7 +8,7 @@ use Rattle.pp_load.proofs.combine.join.Goals as goal
 -- the sources can be merged
 pub merge_all-requires : goal.merge_all-requires
 merge_all-requires c =
-    subst CanJoin (sym c.in_ok-sources.ensures.front)
+    subst AreMergeable (sym c.in_ok-sources.ensures.front)
     (front_joins c.args.sources c.args.profiles c.requires.few (agreed c.args.profiles c.requires.agree) c.requires.some c.requires.all)
 
 -- the bases can be taken off them

@@ -1,12 +1,12 @@
 use Rattle.std.proofs.Common.{◌≡◌}
 use Rattle.std.specs.List.{AllByRecursion}
 use Rattle.pp_model.specs.Rules.{NoRuleFails}
-use Rattle.pp_merge.specs.Joined.{joined, IsFew}
+use Rattle.pp_merge.specs.Joined.{joined, HasFewTexts}
 use Rattle.pp_merge.proofs.join.join.Given as goal
 
 abbrev pub invariant-loop-valid : goal.invariant-loop-valid
 invariant-loop-valid l = record {
   same : l.joined ≡ joined l.yielded;
-  few : IsFew l.joined;
+  few : HasFewTexts l.joined;
   valid : AllByRecursion NoRuleFails l.yielded;
 }

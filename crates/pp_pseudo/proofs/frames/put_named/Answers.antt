@@ -1,6 +1,6 @@
 use Rattle.std.proofs.Common.{List, ℕ, subst}
 use Rattle.pp_restack.proofs.Placing.{then_ok}
-use Rattle.pp_pseudo.specs.Names.{IsNumbered}
+use Rattle.pp_pseudo.specs.Names.{IsNumberedName}
 use Rattle.pp_pseudo.specs.Framed.{placing}
 use Rattle.pp_pseudo.proofs.AddingFrames.{adds_name}
 use Rattle.pp_pseudo.proofs.frames.put_named.Goals as goal
@@ -13,6 +13,6 @@ returns c =
     (adds_name c.args.p.now c.requires.valid c.requires.compact (placing frames c.args.ids.now)
     (placing (record frames { names = c.number.new.self; places = c.place_line.new.places }) c.push.new.self)
     frames.name c.in_ok-number.number c.in_ok-function_id.function_id c.in_ok-id.id c.in_ok-function_id.ensures
-    (subst (λ (name : List ℕ). IsNumbered frames.names c.number.new.self name c.in_ok-number.number) c.as_slice.ensures c.in_ok-number.ensures)
+    (subst (λ (name : List ℕ). IsNumberedName frames.names c.number.new.self name c.in_ok-number.number) c.as_slice.ensures c.in_ok-number.ensures)
     c.in_ok-id.ensures.places c.in_ok-id.ensures.front c.in_ok-id.ensures.entry)
     c.push.ensures.ok

@@ -1,6 +1,6 @@
 use Rattle.std.proofs.Common.{◌≡◌, ◌++◌, drop}
 use Rattle.pp_model.specs.Frames.{frames_from}
-use Rattle.pp_model.proofs.frame.stack_in.Given as goal
+use Rattle.pp_model.proofs.frame.push_frames.Given as goal
 
 -- the frames so far and those of the locations that are left
 abbrev pub invariant-loop-place : goal.invariant-loop-place

@@ -1,5 +1,5 @@
 use Rattle.pp_model.proofs.FrameLemmas.{frames_more, stack_read, frames_of_profile, frames_written, one_le_read, within_read}
-use Rattle.pp_model.proofs.frame.stack_in.Goals as goal
+use Rattle.pp_model.proofs.frame.push_frames.Goals as goal
 
 pub overflow_sub-id : goal.overflow_sub-id
 overflow_sub-id c =
