@@ -94,12 +94,7 @@ fn some_stack(
 }
 
 // Whether it finds a frame of the sample. The stack is room for its frames, to be used again for the next sample.
-fn has_frame(
-    l: &Loaded,
-    found: &List<bool>,
-    s: &Sample,
-    stack: &mut Stack,
-) -> Result<bool, Memory>
+fn has_frame(l: &Loaded, found: &List<bool>, s: &Sample, stack: &mut Stack) -> Result<bool, Memory>
     requires refers { RefersTo l.now.profile s.now }
     requires fits { length found.now ≡ length l.now.profile.text }
     ensures { (f : Finders) → l.now.drop ≡ judged l.now.profile f.drop →

@@ -1,5 +1,5 @@
 //! A sample as a report sees it, by key numbers.
-ghost use Rattle.std.specs.Prelude.{◌≡◌, ◌<◌, [], false, length, map, slice_index_or, All, IfOk, option_map};
+ghost use Rattle.std.specs.Prelude.{◌≡◌, ◌++◌, ◌<◌, [], false, length, map, slice_index_or, All, IfOk, option_map};
 ghost use Rattle.pp_model.specs.Conditions.{IsFrameOf, IsStackOf, IsSampleOf, RefersTo};
 ghost use Rattle.pp_model.specs.Finders.{Finders};
 ghost use Rattle.pp_model.specs.Frames.{stack_of};
@@ -68,7 +68,18 @@ fn number_all(scope: &Scope, s: &Sample, keys: &mut Vec<u64>) -> Result<(), Memo
     let rows = scope.table.location.as_slice();
     for id in s.location_id.as_slice() {
         let row = row_at(rows, *id - 1);
-        keys.extend_from_slice(row.as_slice())?;
+        add_numbers(keys, row.as_slice())?;
+    }
+    Ok(())
+}
+
+fn add_numbers(keys: &mut Vec<u64>, numbers: &[u64]) -> Result<(), Memory>
+    ensures { IfOk result (λ _. keys.new.items ≡ keys.old.items ++ numbers.now) }
+{
+    // Most locations have one line, and a push is less than a copy.
+    match numbers {
+        [number] => keys.push(*number)?,
+        _ => keys.extend_from_slice(numbers)?,
     }
     Ok(())
 }

@@ -39,12 +39,7 @@ pub fn filter_stack(
 }
 
 /// The same, in the place of what the stack held. False says that the sample is dropped.
-pub fn filter_into(
-    l: &Loaded,
-    v: &Verdicts,
-    s: &Sample,
-    stack: &mut Stack,
-) -> Result<bool, Memory>
+pub fn filter_into(l: &Loaded, v: &Verdicts, s: &Sample, stack: &mut Stack) -> Result<bool, Memory>
     requires sample { RefersTo l.now.profile s.now }
     requires verdicts { HasVerdicts l.now.profile v.now }
     ensures places { (f : Finders) → HoldsFinders l.now v.now f →

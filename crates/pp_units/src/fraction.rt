@@ -5,7 +5,8 @@ ghost use Rattle.pp_units.specs.Fractions.{fraction_of, at_most_one};
 use crate::scan::{cut_at, number_within};
 use pp_base::Fraction;
 
-const BILLION: u64 = 1_000_000_000;
+/// How many billionths are 1.
+pub const BILLION: u64 = 1_000_000_000;
 
 /// The fraction that the text spells. `None` where it spells none, or one above 1.
 ///

@@ -20,7 +20,7 @@ mod unit;
 
 pub use family::{Family, family_of};
 pub use forced::forced_unit;
-pub use fraction::read_fraction;
+pub use fraction::{BILLION, read_fraction};
 pub use head::{Head, write_head};
 pub use number::{put_value, suffix_after, write_percent, write_value};
 pub use picked::pick_unit;

@@ -28,7 +28,7 @@ pub loop-id-preserved : goal.loop-id-preserved
 loop-id-preserved c =
     let p = c.args.scope.now.l.now.profile in
     let compact : IsCompact p = subst IsCompact c.get-compact.ensures.same c.get-compact.ensures.compact in
-    rw c.in_ok-extend_from_slice.ensures.items
+    rw c.in_ok-add_numbers.ensures
     (located_more p c.args.scope.now.config.now c.args.scope.now.table.now c.as_slice-id-items.result.now c.loop-id.id-index c.loop-id.keys.items
     c.as_slice.result.now c.as_slice-rows.result.now c.requires.table c.loop-id-test.true
     (omega (
