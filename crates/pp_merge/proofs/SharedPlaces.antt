@@ -63,6 +63,22 @@ pub record KeyIn (m f : ℕ) (k : Location) : Type 0 where
   pub lines : AllByRecursion (λ (line : Line). IsRef f line.function_id) k.line
   pub distance : k.address < 18446744073709551616
 
+-- a location is equal to itself
+pub place_self : (k : Location) → same_place k k ≡ true
+place_self k =
+    (λ t. nat_eq_equiv.refl k.mapping_id t && (nat_eq_equiv.refl k.address t && (lines_self k.line t && folded_self k.folded t)))
+  where
+    line_self : (l : Line) → equal_line l l ≡ true
+    line_self l = (λ t. nat_eq_equiv.refl l.function_id t && (int_same l.line t && int_same l.column t))
+
+    lines_self : (ls : List Line) → pointwise equal_line ls ls ≡ true
+    lines_self [] = refl
+    lines_self (l ∷ ls) = (λ t. line_self l t && lines_self ls t)
+
+    folded_self : (b : Bool) → beq b b ≡ true
+    folded_self true = refl
+    folded_self false = refl
+
 -- what a profile keeps to whose texts and functions stand once
 pub record HasFunctions (p : Profile) : Type 0 where
   pub texts_apart : IsDistinct bytes_eq p.text
@@ -286,21 +302,6 @@ module _ (p : Profile) (has : HasFunctions p) where
   locations_in =
       all_mapped (LocationIn (length r.mapping) (length r.function)) (near r.mapping) Key
       (λ k is. record { mapping = is.mapping; lines = is.lines; address = plus_below k.address (start_at r.mapping k.mapping_id) }) kept kept_in
-
-  place_self : (k : Location) → same_place k k ≡ true
-  place_self k =
-      (λ t. nat_eq_equiv.refl k.mapping_id t && (nat_eq_equiv.refl k.address t && (lines_self k.line t && folded_self k.folded t)))
-    where
-      line_self : (l : Line) → equal_line l l ≡ true
-      line_self l = (λ t. nat_eq_equiv.refl l.function_id t && (int_same l.line t && int_same l.column t))
-
-      lines_self : (ls : List Line) → pointwise equal_line ls ls ≡ true
-      lines_self [] = refl
-      lines_self (l ∷ ls) = (λ t. line_self l t && lines_self ls t)
-
-      folded_self : (b : Bool) → beq b b ≡ true
-      folded_self true = refl
-      folded_self false = refl
 
   pub samples_in : AllByRecursion (SampleIn n (length r.location)) r.sample
   samples_in =
