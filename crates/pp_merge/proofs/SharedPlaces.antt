@@ -27,6 +27,7 @@ use Rattle.pp_merge.specs.Placed.{functions_of, mappings_of, function_placed, ma
 use Rattle.pp_merge.specs.PlaceKeys.{mapping_key, start_at, distant, near, equal_line, same_place}
 use Rattle.pp_merge.specs.Renumbered.{renumbered_sample, renumbered_label}
 use Rattle.pp_merge.specs.Shared.{by_locations, alike_mappings, distant_locations, with_shared_places}
+use Rattle.pp_model.proofs.LookupLemmas.{no_mapping}
 use Rattle.pp_model.proofs.FirstSightLemmas.{distinct-map, all-seen_after, distinct_apart}
 use Rattle.pp_merge.proofs.Agreement.{map_map, numbers-map}
 use Rattle.pp_merge.proofs.Deciding.{function_decides, mapping_decides, location_decides}
@@ -37,11 +38,7 @@ use Rattle.pp_merge.proofs.Renaming.{maps_agree, same_sample_text}
 use Rattle.pp_merge.proofs.Once.{read_same, read_kept, id_kept, ref_kept, place_below, seen_at, find_distinct, first_distinct, apart_finer, refs_tell}
 use Rattle.pp_merge.proofs.Ready.{InTexts, LabelIn, MappingIn, LocationIn, SampleIn}
 use Rattle.pp_merge.proofs.SharedFunctions.{text_tells, int_same}
-use Rattle.pp_merge.proofs.EntryLemmas.{none_text, none_mapping, no_mapping}
-
--- how far a place lies behind another, that far behind it
-pub less_plus : (d s : ℕ) → d < 18446744073709551616 → less (plus d s) s ≡ d
-less_plus d s within = omega (arith, within)
+use Rattle.pp_merge.proofs.EntryLemmas.{less_plus, none_text, none_mapping}
 
 pub less_below : (a s : ℕ) → less a s < 18446744073709551616
 less_below a s = omega arith
