@@ -7,8 +7,6 @@ use Rattle.std.specs.Option.{unwrap_or}
 use Rattle.std.specs.Str.{bytes_eq}
 use Rattle.std.proofs.lemmas.Bool.{ne_eqb, cond-false, lt-leb}
 use Rattle.std.proofs.lemmas.Slice.Eq.{bytes_eq-Decides}
-use Rattle.pp_model.specs.declared.profile.Mapping.{Mapping}
-use Rattle.pp_model.specs.declared.profile.Function.{Function}
 use Rattle.pp_model.specs.Lookup.{place_read}
 use Rattle.pp_merge.specs.Described.{FunctionText, MappingText, less, plus}
 use Rattle.pp_merge.specs.Header.{first_nonempty}
@@ -38,6 +36,10 @@ first_within (x ∷ xs) n is = by (n == 0)
     by true = omega arith
     by false = omega arith
 
+-- how far a place lies behind another, that far behind it
+pub less_plus : (d s : ℕ) → d < 18446744073709551616 → less (plus d s) s ≡ d
+less_plus d s within = omega (arith, within)
+
 -- an address is where it lies behind a place, from there on
 pub plus_less : (a s : ℕ) → a < 18446744073709551616 → plus (less a s) s ≡ a
 plus_less a s within = omega (arith, within)
@@ -66,10 +68,11 @@ pub singles : (ids : List ℕ) → flat_map (λ id. id ∷ []) ids ≡ ids
 singles [] = refl
 singles (id ∷ ids) = ap (λ l. id ∷ l) (singles ids)
 
--- what stands where no function is known, no mapping, and where an id names none
+-- a function of which nothing is known
 pub none_text : FunctionText
 none_text = record { name = []; system_name = []; file = []; start_line = pos 0 }
 
+-- a mapping of which nothing is known
 pub none_mapping : MappingText
 none_mapping = record {
   start = 0;
@@ -77,23 +80,6 @@ none_mapping = record {
   offset = 0;
   file = [];
   build_id = [];
-  has_functions = false;
-  has_filenames = false;
-  has_line_numbers = false;
-  has_inline_frames = false;
-}
-
-pub no_function : Function
-no_function = record { id = 0; name = pos 0; system_name = pos 0; filename = pos 0; start_line = pos 0 }
-
-pub no_mapping : Mapping
-no_mapping = record {
-  id = 0;
-  start = 0;
-  limit = 0;
-  offset = 0;
-  file = pos 0;
-  build_id = pos 0;
   has_functions = false;
   has_filenames = false;
   has_line_numbers = false;

@@ -10,17 +10,18 @@ use Rattle.std.proofs.lemmas.Option.{slice_get_past, slice_get-map}
 use Rattle.pp_model.specs.Lookup.{place_read}
 use Rattle.pp_merge.specs.Behind.{behind_id}
 use Rattle.pp_merge.specs.Ids.{place_id}
+use Rattle.pp_merge.proofs.Tables.{read_none}
+
+pub flipped : (a b : ℕ) → (a == b) ≡ (b == a)
+flipped a b = elim (cases_eq a b) [
+  | inl is ↦ eq-eqb a b is ∙ sym (eq-eqb b a (sym is))
+  | inr other ↦ ne_eqb a b other ∙ sym (ne_eqb b a (λ e. other (sym e)))
+]
 
 -- the place of an id among the ids is that of its entry
 place-map : {A : Type 0} (f : A → ℕ) (xs : List A) (id : ℕ) → position_or_len (λ other. id == other) (map f xs) ≡ position_or_len (λ x. f x == id) xs
 place-map f [] id = refl
 place-map f (x ∷ xs) id = (λ j. cond (not (flipped id (f x) j)) (1 + place-map f xs id j) 0)
-  where
-    flipped : (a b : ℕ) → (a == b) ≡ (b == a)
-    flipped a b = elim (cases_eq a b) [
-      | inl is ↦ eq-eqb a b is ∙ sym (eq-eqb b a (sym is))
-      | inr other ↦ ne_eqb a b other ∙ sym (ne_eqb b a (λ e. other (sym e)))
-    ]
 
 slice_get-front : {A : Type 0} (xs more : List A) (k : ℕ) → k < length xs → slice_get (xs ++ more) k ≡ slice_get xs k
 slice_get-front [] more k within = absurd (omega (arith, within))
@@ -67,16 +68,13 @@ pub behind_in : (after len id : ℕ) → id ≢ 0 → id ≤ len → behind_id a
 behind_in after len id other within =
     (λ j. if ne_eqb id 0 other j || le-ltb len id within j then 0 else after + id)
 
-read_zero : {A : Type 0} (xs : List A) (id : ℕ) → id ≡ 0 → place_read xs id ≡ None
-read_zero xs id none = cond-true _ _ _ (eq-eqb id 0 none)
-
 -- What is read at a place behind others is what has the id, as it is written out.
 pub found_behind : {A D : Type 0} (f : A → ℕ) (items : List A) (text : A → D) (front more : List D) → NoneZero f items → (id : ℕ)
     → place_read (front ++ (map text items ++ more)) (behind_id (length front) (length (map f items)) (place_id (map f items) id))
     ≡ option_map text (find (λ x. f x == id) items)
 found_behind {A} {D} f items text front more none id = elim (cases_eq id 0) as (λ _. place_read (front ++ (map text items ++ more)) (behind_id (length front) (length (map f items)) (place_id (map f items) id)) ≡ option_map text (find (λ x. f x == id) items)) [
   | inl zero_id ↦
-      read_zero table _ (behind_none (length front) n (place_id (map f items) id) (cond-true _ _ _ (eq-eqb id 0 zero_id)))
+      read_none table _ (behind_none (length front) n (place_id (map f items) id) (cond-true _ _ _ (eq-eqb id 0 zero_id)))
       ∙ ap (option_map text) (sym (none_zero f items none) ∙ ap (λ i. find (λ x. f x == i) items) (sym zero_id))
   | inr other ↦
       let k = position_or_len (λ x. f x == id) items in
@@ -104,6 +102,6 @@ found_behind {A} {D} f items text front more none id = elim (cases_eq id 0) as (
           ∙ slice_get-behind front (map text items) more k (omega (arith, within, length-map items text))
           ∙ slice_get-map text items k
       | inr past ↦
-          read_zero (front ++ (map text items ++ more)) _ (behind_past (length front) (length (map f items)) (k + 1) (omega (arith, past, length-map items f)))
+          read_none (front ++ (map text items ++ more)) _ (behind_past (length front) (length (map f items)) (k + 1) (omega (arith, past, length-map items f)))
           ∙ ap (option_map text) (sym (slice_get_past items k past))
     ]

@@ -10,13 +10,7 @@ use Rattle.pp_model.specs.Rules.{first_repeated, stands_in, AreNumbered}
 use Rattle.pp_merge.specs.Behind.{behind_id}
 use Rattle.pp_merge.specs.Ids.{place_id}
 use Rattle.pp_merge.proofs.IdLemmas.{place_missed}
-use Rattle.pp_merge.proofs.JoinLemmas.{behind_past}
-
-flipped : (a b : ℕ) → (a == b) ≡ (b == a)
-flipped a b = elim (cases_eq a b) [
-  | inl is ↦ eq-eqb a b is ∙ sym (eq-eqb b a (sym is))
-  | inr other ↦ ne_eqb a b other ∙ sym (ne_eqb b a (λ e. other (sym e)))
-]
+use Rattle.pp_merge.proofs.JoinLemmas.{flipped, behind_past}
 
 any_flipped : (id : ℕ) (xs : List ℕ) → list_any (λ other. id == other) xs ≡ list_any (λ other. other == id) xs
 any_flipped id [] = refl

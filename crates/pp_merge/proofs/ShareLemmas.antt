@@ -24,6 +24,7 @@ use Rattle.pp_model.proofs.FirstSightLemmas.{distinct_apart}
 use Rattle.pp_merge.proofs.SampleKeyLemmas.{all_of_map, sum_by-map}
 use Rattle.pp_merge.proofs.Tables.{Names}
 use Rattle.pp_merge.proofs.Lists.{all_mapped}
+use Rattle.pp_merge.proofs.NumberedLemmas.{all_by}
 use Rattle.pp_merge.proofs.Renaming.{maps_agree}
 use Rattle.pp_merge.proofs.Ready.{LabelIn, SampleIn, HeaderIn, IsReady}
 use Rattle.pp_merge.proofs.SharedTexts.{HasTexts, shared_empty, shared_some, texts_gist, in_range, functions_in, mappings_in, header_in}
@@ -109,6 +110,12 @@ module _ (p : Profile) (joined : IsJoined p) where
     where
       long : length noted.location ≡ length called.location
       long = sym (length-map noted.location (renumbered_location (by_functions (ids alike_functions noted.function))))
+
+  -- samples name locations of the table until those stand once
+  pub called_names : AllByRecursion (NamesLocations (length called.location)) called.sample
+  called_names =
+      all_by (SampleIn (length called.text) (length called.location)) (NamesLocations (length called.location)) (λ s is. is.locations)
+      called.sample has_functions.samples
 
   columns : ℕ
   columns = length p.sample_type

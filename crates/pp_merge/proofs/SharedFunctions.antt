@@ -23,6 +23,7 @@ use Rattle.pp_merge.specs.Placed.{functions_of, mappings_of, function_placed, ma
 use Rattle.pp_merge.specs.Renumbered.{renumbered_location, renumbered_line}
 use Rattle.pp_merge.specs.Shared.{by_functions, alike_functions, with_shared_functions}
 use Rattle.pp_merge.proofs.Prefix.{all_tt}
+use Rattle.pp_model.proofs.LookupLemmas.{no_function}
 use Rattle.pp_model.proofs.FirstSightLemmas.{distinct-map, all-seen_after, distinct_apart}
 use Rattle.pp_merge.proofs.DistinctLemmas.{distinct_same}
 use Rattle.pp_merge.proofs.Agreement.{numbers-map}
@@ -32,7 +33,7 @@ use Rattle.pp_merge.proofs.Lists.{all_mapped}
 use Rattle.pp_merge.proofs.Renaming.{maps_agree, same_location_text}
 use Rattle.pp_merge.proofs.Once.{read_same, ref_kept}
 use Rattle.pp_merge.proofs.Ready.{InTexts, FunctionIn}
-use Rattle.pp_merge.proofs.EntryLemmas.{no_function, none_text}
+use Rattle.pp_merge.proofs.EntryLemmas.{none_text}
 
 laws_T : IsEquivalence bytes_eq
 laws_T = lists_equiv nat_eq_equiv

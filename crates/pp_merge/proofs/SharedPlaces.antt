@@ -27,6 +27,7 @@ use Rattle.pp_merge.specs.Placed.{functions_of, mappings_of, function_placed, ma
 use Rattle.pp_merge.specs.PlaceKeys.{mapping_key, start_at, distant, near, equal_line, same_place}
 use Rattle.pp_merge.specs.Renumbered.{renumbered_sample, renumbered_label}
 use Rattle.pp_merge.specs.Shared.{by_locations, alike_mappings, distant_locations, with_shared_places}
+use Rattle.pp_model.proofs.LookupLemmas.{no_mapping}
 use Rattle.pp_model.proofs.FirstSightLemmas.{distinct-map, all-seen_after, distinct_apart}
 use Rattle.pp_merge.proofs.Agreement.{map_map, numbers-map}
 use Rattle.pp_merge.proofs.Deciding.{function_decides, mapping_decides, location_decides}
@@ -37,11 +38,7 @@ use Rattle.pp_merge.proofs.Renaming.{maps_agree, same_sample_text}
 use Rattle.pp_merge.proofs.Once.{read_same, read_kept, id_kept, ref_kept, place_below, seen_at, find_distinct, first_distinct, apart_finer, refs_tell}
 use Rattle.pp_merge.proofs.Ready.{InTexts, LabelIn, MappingIn, LocationIn, SampleIn}
 use Rattle.pp_merge.proofs.SharedFunctions.{text_tells, int_same}
-use Rattle.pp_merge.proofs.EntryLemmas.{none_text, none_mapping, no_mapping}
-
--- how far a place lies behind another, that far behind it
-pub less_plus : (d s : ℕ) → d < 18446744073709551616 → less (plus d s) s ≡ d
-less_plus d s within = omega (arith, within)
+use Rattle.pp_merge.proofs.EntryLemmas.{less_plus, none_text, none_mapping}
 
 pub less_below : (a s : ℕ) → less a s < 18446744073709551616
 less_below a s = omega arith
@@ -62,6 +59,22 @@ pub record KeyIn (m f : ℕ) (k : Location) : Type 0 where
   pub mapping : IsRef m k.mapping_id
   pub lines : AllByRecursion (λ (line : Line). IsRef f line.function_id) k.line
   pub distance : k.address < 18446744073709551616
+
+-- a location is equal to itself
+pub place_self : (k : Location) → same_place k k ≡ true
+place_self k =
+    (λ t. nat_eq_equiv.refl k.mapping_id t && (nat_eq_equiv.refl k.address t && (lines_self k.line t && folded_self k.folded t)))
+  where
+    line_self : (l : Line) → equal_line l l ≡ true
+    line_self l = (λ t. nat_eq_equiv.refl l.function_id t && (int_same l.line t && int_same l.column t))
+
+    lines_self : (ls : List Line) → pointwise equal_line ls ls ≡ true
+    lines_self [] = refl
+    lines_self (l ∷ ls) = (λ t. line_self l t && lines_self ls t)
+
+    folded_self : (b : Bool) → beq b b ≡ true
+    folded_self true = refl
+    folded_self false = refl
 
 -- what a profile keeps to whose texts and functions stand once
 pub record HasFunctions (p : Profile) : Type 0 where
@@ -286,21 +299,6 @@ module _ (p : Profile) (has : HasFunctions p) where
   locations_in =
       all_mapped (LocationIn (length r.mapping) (length r.function)) (near r.mapping) Key
       (λ k is. record { mapping = is.mapping; lines = is.lines; address = plus_below k.address (start_at r.mapping k.mapping_id) }) kept kept_in
-
-  place_self : (k : Location) → same_place k k ≡ true
-  place_self k =
-      (λ t. nat_eq_equiv.refl k.mapping_id t && (nat_eq_equiv.refl k.address t && (lines_self k.line t && folded_self k.folded t)))
-    where
-      line_self : (l : Line) → equal_line l l ≡ true
-      line_self l = (λ t. nat_eq_equiv.refl l.function_id t && (int_same l.line t && int_same l.column t))
-
-      lines_self : (ls : List Line) → pointwise equal_line ls ls ≡ true
-      lines_self [] = refl
-      lines_self (l ∷ ls) = (λ t. line_self l t && lines_self ls t)
-
-      folded_self : (b : Bool) → beq b b ≡ true
-      folded_self true = refl
-      folded_self false = refl
 
   pub samples_in : AllByRecursion (SampleIn n (length r.location)) r.sample
   samples_in =

@@ -28,6 +28,7 @@ use Rattle.pp_merge.specs.Renumbered.{NewIds, renumbered_type, renumbered_label,
 use Rattle.pp_merge.specs.Walked.{locations_met, with_locations, first_id, with_mappings, with_functions, by_places, walked}
 use Rattle.pp_merge.specs.Placed.{functions_of, mappings_of, function_placed, mapping_placed, locations_of, location_placed, plain}
 use Rattle.pp_merge.specs.Written.{Contents, written, locations, mappings, functions, walked_texts, texts, index_of, type_texts, label_texts, written_type, written_label, written_line, written_function, written_mapping, written_location, written_sample}
+use Rattle.pp_model.proofs.LookupLemmas.{no_function, no_mapping}
 use Rattle.pp_merge.proofs.Prefix.{all_tt}
 use Rattle.pp_merge.proofs.Agreement.{map_map}
 use Rattle.pp_merge.proofs.Deciding.{function_decides, mapping_decides, location_decides}
@@ -35,7 +36,7 @@ use Rattle.pp_merge.proofs.IdLemmas.{place_within}
 use Rattle.pp_merge.proofs.Tables.{Names, IsRef, named, read_named, walk_entries, walk_names, walk_place, walk_ref, gathered_is}
 use Rattle.pp_merge.proofs.Lists.{map_as, flat_map-map, flat_map_as, filter_map_as, flat_filter_as, filter_map-map, all_both, all_flat, all_named, named-map, option_map-same, option_cons}
 use Rattle.pp_merge.proofs.Ready.{InTexts, TypeIn, LabelIn, MappingIn, FunctionIn, LocationIn, SampleIn, IsReady}
-use Rattle.pp_merge.proofs.EntryLemmas.{index_next, first_read, first_within, plus_less, nonempty_same, names_read, refs_named, singles, none_text, none_mapping, no_function, no_mapping}
+use Rattle.pp_merge.proofs.EntryLemmas.{index_next, first_read, first_within, plus_less, nonempty_same, names_read, refs_named, singles, none_text, none_mapping}
 
 module _ (p : Profile) (ready : IsReady p) where
   abbrev c : Contents

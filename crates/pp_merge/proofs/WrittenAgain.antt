@@ -24,17 +24,14 @@ use Rattle.pp_merge.specs.Sums.{counts, summed}
 use Rattle.pp_merge.specs.Written.{Contents, written, locations, mappings, functions, type_texts, label_texts, index_of, mapping_id, function_id, location_id, written_type, written_label, written_mapping, written_function, written_line, written_location, written_sample}
 use Rattle.pp_model.proofs.FirstSightLemmas.{IsSeen}
 use Rattle.pp_merge.proofs.Deciding.{function_decides, mapping_decides, location_decides, sample_decides, place_gets}
+use Rattle.pp_merge.proofs.EntryLemmas.{less_plus, none_text, none_mapping, nonempty_same}
 use Rattle.pp_merge.proofs.DistinctLemmas.{deciding_laws, place_below, distinct_same}
 use Rattle.pp_merge.proofs.MergedMapping.{mapping_laws}
 use Rattle.pp_merge.proofs.SummedLemmas.{summed_same}
 use Rattle.pp_merge.proofs.NumberedLemmas.{all_by, all_both}
 use Rattle.pp_merge.proofs.RoundTrip.{IsText, text_again, function_again}
-use Rattle.pp_merge.proofs.WrittenCompact.{compact_written, no_function, no_mapping, no_place}
+use Rattle.pp_merge.proofs.WrittenCompact.{compact_written}
 use Rattle.pp_merge.proofs.WrittenValid.{texts_of_types, texts_of_samples, texts_of_mappings, texts_of_functions, texts_of_comments, texts_of_patterns, texts_of_period, last_texts, seen_mappings, seen_functions, seen_locations}
-
--- a number that was added is taken off again
-pub back_by : (d s : ℕ) → d < 2 ^ 64 → s < 2 ^ 64 → less (plus d s) s ≡ d
-back_by d s small start = omega arith
 
 -- what is read back from what each item was written as
 pub map_back : {A B : Type 0} (f : B → A) (g : A → B) (xs : List A) → AllByRecursion (λ x. f (g x) ≡ x) xs → map f (map g xs) ≡ xs
@@ -86,22 +83,17 @@ first_stays same x seen (y ∷ ys) = by (list_any (same y) (x ∷ seen)) (λ mor
     by true go = go seen
     by false go = go (seen ++ y ∷ [])
 
--- of one text the first that isn't empty is that text
-first_of_one : (text : List ℕ) → first_nonempty (text ∷ []) ≡ text
-first_of_one [] = refl
-first_of_one (b ∷ bs) = refl
-
 module _ (c : Contents) (settled : IsSettled c) where
   -- a function that is seen is written out as it was, and found again
   function_back : (f : Option FunctionText) → ((x : FunctionText) → f ≡ Some x → IsSeen same_function (functions c) x) → function_found (written c) (option_map_or (function_id c) f 0) ≡ f
   function_back None seen =
       ap (option_map (function_text (written c)))
-      (sym (find_by_place (λ (x : Function). x.id) (written c).function 0 (written_function c no_function) (compact_written c).functions))
+      (sym (find_by_place (λ (x : Function). x.id) (written c).function 0 (written_function c none_text) (compact_written c).functions))
   function_back (Some f) seen =
       let there = seen f refl in
       let all = at_seen (λ x. AllByRecursion (IsText c) (x.name ∷ x.system_name ∷ x.file ∷ [])) same_function function_decides (functions c) (texts_of_functions c) f there in
       ap (option_map (function_text (written c)))
-      (found_at same_function function_decides (functions c) no_function (λ (x : Function). x.id) (written_function c) (compact_written c).functions f there)
+      (found_at same_function function_decides (functions c) none_text (λ (x : Function). x.id) (written_function c) (compact_written c).functions f there)
       ∙ ap Some (function_again c f all.0 all.1.0 all.1.1.0)
 
   pub mapping_again : (m : MappingText) → AllByRecursion (IsText c) (m.file ∷ m.build_id ∷ []) → mapping_text (written c) (written_mapping c m) ≡ m
@@ -121,11 +113,11 @@ module _ (c : Contents) (settled : IsSettled c) where
   pub mapping_back : (m : Option MappingText) → ((x : MappingText) → m ≡ Some x → IsSeen equal_mapping (mappings c) x) → mapping_found (written c) (option_map_or (mapping_id c) m 0) ≡ m
   mapping_back None seen =
       ap (option_map (mapping_text (written c)))
-      (sym (find_by_place (λ (x : Mapping). x.id) (written c).mapping 0 (written_mapping c no_mapping) (compact_written c).mappings))
+      (sym (find_by_place (λ (x : Mapping). x.id) (written c).mapping 0 (written_mapping c none_mapping) (compact_written c).mappings))
   mapping_back (Some m) seen =
       let there = seen m refl in
       ap (option_map (mapping_text (written c)))
-      (found_at equal_mapping mapping_decides (mappings c) no_mapping (λ (x : Mapping). x.id) (written_mapping c) (compact_written c).mappings m there)
+      (found_at equal_mapping mapping_decides (mappings c) none_mapping (λ (x : Mapping). x.id) (written_mapping c) (compact_written c).mappings m there)
       ∙ ap Some (mapping_again m (at_seen (λ x. AllByRecursion (IsText c) (x.file ∷ x.build_id ∷ [])) equal_mapping mapping_decides (mappings c) (texts_of_mappings c) m there))
 
   -- all mappings are those that were written
@@ -136,10 +128,6 @@ module _ (c : Contents) (settled : IsSettled c) where
       → option_map (first_alike (all_mappings (written c ∷ []))) m ≡ m
   becomes_itself None seen = refl
   becomes_itself (Some m) seen = ap Some (ap (λ all. first_alike all m) mappings_back ∙ alike_self (mappings c) settled.mapped m (seen m refl))
-
-  pub start_small : (m : Option MappingText) → ((x : MappingText) → m ≡ Some x → IsSeen equal_mapping (mappings c) x) → start_of m < 2 ^ 64
-  start_small None seen = omega arith
-  start_small (Some m) seen = at_seen (λ x. x.start < 2 ^ 64) equal_mapping mapping_decides (mappings c) settled.starts m (seen m refl)
 
   -- what is known of a location that was walked
   abbrev pub Known : LocationText → Type 0
@@ -161,7 +149,7 @@ module _ (c : Contents) (settled : IsSettled c) where
       let own = mapping_back l.mapping k.0 in
       (λ i. record {
         mapping = (ap (option_map (first_alike (all_mappings (written c ∷ [])))) own ∙ becomes_itself l.mapping k.0) i;
-        distance = (ap (λ m. less (plus l.distance (start_of l.mapping)) (start_of m)) own ∙ back_by l.distance (start_of l.mapping) k.2 (start_small l.mapping k.0)) i;
+        distance = (ap (λ m. less (plus l.distance (start_of l.mapping)) (start_of m)) own ∙ less_plus l.distance (start_of l.mapping) k.2) i;
         lines = lines_back l.lines k.1 i;
         folded = l.folded;
       })
@@ -170,7 +158,7 @@ module _ (c : Contents) (settled : IsSettled c) where
   found_back : (l : LocationText) → IsSeen same_location (locations c) l → location_found (first_alike (all_mappings (written c ∷ []))) (written c) (location_id c l) ≡ l
   found_back l there =
       ap (λ o. option_map_or (location_text (first_alike (all_mappings (written c ∷ []))) (function_found (written c)) (mapping_found (written c))) o nowhere)
-      (found_at same_location location_decides (locations c) no_place (λ (x : Location). x.id) (written_location c) (compact_written c).locations l there)
+      (found_at same_location location_decides (locations c) nowhere (λ (x : Location). x.id) (written_location c) (compact_written c).locations l there)
       ∙ location_back l (at_seen Known same_location location_decides (locations c) known l there)
 
   pub labels_back : (labels : List LabelText) → AllByRecursion (λ l. AllByRecursion (IsText c) (label_texts l)) labels → map (label_text (text_of (written c))) (map (written_label c) labels) ≡ labels
@@ -214,8 +202,8 @@ module _ (c : Contents) (settled : IsSettled c) where
     period = c.header.period;
     time_nanos = c.header.time_nanos;
     duration_nanos = settled.duration i;
-    default_sample_type = (ap (λ t. first_nonempty (t ∷ [])) (text_again c c.header.default_sample_type (last_texts c).0) ∙ first_of_one c.header.default_sample_type) i;
-    doc_url = (ap (λ t. first_nonempty (t ∷ [])) (text_again c c.header.doc_url (last_texts c).1.0) ∙ first_of_one c.header.doc_url) i;
+    default_sample_type = (ap (λ t. first_nonempty (t ∷ [])) (text_again c c.header.default_sample_type (last_texts c).0) ∙ nonempty_same c.header.default_sample_type) i;
+    doc_url = (ap (λ t. first_nonempty (t ∷ [])) (text_again c c.header.doc_url (last_texts c).1.0) ∙ nonempty_same c.header.doc_url) i;
     comments = comments_back i;
   })
 

@@ -1,5 +1,5 @@
 -- A written profile is compact: each id is its place plus 1, and its texts are distinct.
-use Rattle.std.proofs.Common.{◌≡◌, ℕ, ◌+◌, ◌<◌, Bool, false, List, [], ◌++◌, pos, None, map, length, get_or, refl, ap, ◌∙◌, arith}
+use Rattle.std.proofs.Common.{◌≡◌, ℕ, ◌+◌, ◌<◌, Bool, List, ◌++◌, map, length, get_or, refl, ap, ◌∙◌, arith}
 use Rattle.std.proofs.lemmas.List.{get_or-map, length-map}
 use Rattle.std.proofs.lemmas.Map.Made.{AllPairs-from_IsDistinct}
 use Rattle.std.proofs.lemmas.Slice.Eq.{bytes_eq-Decides}
@@ -13,11 +13,12 @@ use Rattle.pp_merge.specs.Alike.{same_function, equal_mapping, same_location}
 use Rattle.pp_model.specs.declared.profile.Mapping.{Mapping}
 use Rattle.pp_model.specs.declared.profile.Location.{Location}
 use Rattle.pp_model.specs.declared.profile.Function.{Function}
-use Rattle.pp_merge.specs.Described.{FunctionText, MappingText, LocationText}
+use Rattle.pp_merge.specs.Described.{FunctionText, MappingText, LocationText, nowhere}
 use Rattle.pp_merge.specs.Written.{Contents, written, locations, walked_texts, written_mapping, written_function, written_location}
 use Rattle.pp_model.proofs.FirstSightLemmas.{distinct_apart}
 use Rattle.pp_merge.proofs.Deciding.{function_decides, mapping_decides, location_decides}
 use Rattle.pp_merge.proofs.DistinctLemmas.{deciding_laws, place_at}
+use Rattle.pp_merge.proofs.EntryLemmas.{none_text, none_mapping}
 
 -- the entries made of distinct items, whose ids are their places plus 1
 pub numbered : {A E : Type 0} (same : A → A → Bool) (decides : (a b : A) → Decides (same a b) (a ≡ b)) (walk : List A) (d : A) (id : E → ℕ) (entry : A → E)
@@ -28,28 +29,6 @@ numbered {A} same decides walk d id entry is = λ k within.
     get_or-map id (map entry xs) k (entry d) 0 (omega (arith, inside, length-map xs entry))
     ∙ ap id (get_or-map entry xs k d (entry d) inside) ∙ is (get_or xs k d)
     ∙ ap (λ n. n + 1) (place_at same decides xs k d (distinct_apart same (deciding_laws same decides) walk) inside)
-
--- a function of which nothing is known
-pub no_function : FunctionText
-no_function = record { name = []; system_name = []; file = []; start_line = pos 0 }
-
--- a mapping of which nothing is known
-pub no_mapping : MappingText
-no_mapping = record {
-  start = 0;
-  limit = 0;
-  offset = 0;
-  file = [];
-  build_id = [];
-  has_functions = false;
-  has_filenames = false;
-  has_line_numbers = false;
-  has_inline_frames = false;
-}
-
--- a location of which nothing is known
-pub no_place : LocationText
-no_place = record { mapping = None; distance = 0; lines = []; folded = false }
 
 module _ (c : Contents) where
   -- the locations as the samples are walked, each as often as it stands there
@@ -67,8 +46,8 @@ module _ (c : Contents) where
 -- the ids, tables and texts of a written profile
 pub compact_written : (c : Contents) → IsCompact (written c)
 compact_written c = record {
-  mappings = numbered equal_mapping mapping_decides (mapping_walk c) no_mapping (λ (m : Mapping). m.id) (written_mapping c) (λ _. refl);
-  functions = numbered same_function function_decides (function_walk c) no_function (λ (f : Function). f.id) (written_function c) (λ _. refl);
-  locations = numbered same_location location_decides (location_walk c) no_place (λ (l : Location). l.id) (written_location c) (λ _. refl);
+  mappings = numbered equal_mapping mapping_decides (mapping_walk c) none_mapping (λ (m : Mapping). m.id) (written_mapping c) (λ _. refl);
+  functions = numbered same_function function_decides (function_walk c) none_text (λ (f : Function). f.id) (written_function c) (λ _. refl);
+  locations = numbered same_location location_decides (location_walk c) nowhere (λ (l : Location). l.id) (written_location c) (λ _. refl);
   texts = AllPairs-from_IsDistinct bytes_eq-Decides _ (distinct_apart bytes_eq (deciding_laws bytes_eq bytes_eq-Decides) (walked_texts c));
 }

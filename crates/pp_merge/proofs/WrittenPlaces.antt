@@ -7,7 +7,7 @@ use Rattle.pp_model.specs.declared.profile.Mapping.{Mapping}
 use Rattle.pp_model.specs.declared.profile.Location.{Location}
 use Rattle.pp_model.specs.declared.profile.Profile.{Profile}
 use Rattle.pp_model.specs.Lookup.{mapping_with, location_with}
-use Rattle.pp_merge.specs.Described.{MappingText, LocationText, mapping_text, function_found, mapping_found, line_text, less, plus, start_of}
+use Rattle.pp_merge.specs.Described.{MappingText, LocationText, mapping_text, function_found, mapping_found, line_text, less, plus, start_of, nowhere}
 use Rattle.pp_merge.specs.Alike.{equal_mapping, same_location, first_alike}
 use Rattle.pp_merge.specs.Merge.{contents, merged, all_mappings}
 use Rattle.pp_merge.specs.Settled.{IsSettled}
@@ -18,8 +18,9 @@ use Rattle.pp_model.proofs.FirstSightLemmas.{IsSeen, all_seen}
 use Rattle.pp_merge.proofs.NumberedLemmas.{all_by, all_both, all_mapped}
 use Rattle.pp_merge.proofs.RoundTrip.{IsText}
 use Rattle.pp_merge.proofs.SettledLemmas.{all_any, all_distinct, found_holds, settled_contents}
-use Rattle.pp_merge.proofs.WrittenAgain.{found_at, at_seen, back_by, alike_self, mapping_again, mapping_back, mappings_back, start_small, Known, known, lines_back}
-use Rattle.pp_merge.proofs.WrittenCompact.{compact_written, mapping_walk, no_place}
+use Rattle.pp_merge.proofs.EntryLemmas.{less_plus}
+use Rattle.pp_merge.proofs.WrittenAgain.{found_at, at_seen, alike_self, mapping_again, mapping_back, mappings_back, Known, known, lines_back}
+use Rattle.pp_merge.proofs.WrittenCompact.{compact_written, mapping_walk}
 use Rattle.pp_merge.proofs.WrittenValid.{texts_of_mappings}
 
 -- no address is past 64 bits
@@ -60,7 +61,7 @@ module _ (c : Contents) (settled : IsSettled c) where
 
     -- the location with the id of one that is there
     pub location_there : location_with (written c) (location_id c l) ≡ Some (written_location c l)
-    location_there = found_at same_location location_decides (locations c) no_place (λ (x : Location). x.id) (written_location c) (compact_written c).locations l there
+    location_there = found_at same_location location_decides (locations c) nowhere (λ (x : Location). x.id) (written_location c) (compact_written c).locations l there
 
     -- its mapping and its lines are those that were described
     pub mapping_there : mapping_found (written c) (written_location c l).mapping_id ≡ l.mapping
@@ -71,7 +72,7 @@ module _ (c : Contents) (settled : IsSettled c) where
 
     -- and its address tells how far behind the mapping's start it lies
     pub distance_there : less (plus l.distance (start_of l.mapping)) (start_of l.mapping) ≡ l.distance
-    distance_there = back_by l.distance (start_of l.mapping) known_there.2 (start_small c settled l.mapping known_there.0)
+    distance_there = less_plus l.distance (start_of l.mapping) known_there.2
 
 -- In a profile that stays as it is when it is merged alone, each mapping is the first that is one with it,
 pub mappings_stay : (p : Profile) → AllByRecursion (λ m. m.start < 2 ^ 64) (all_mappings (p ∷ [])) → merged p [] ≡ p

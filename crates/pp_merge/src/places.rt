@@ -1,13 +1,16 @@
 //! Mappings and locations that stand once.
-ghost use Rattle.std.specs.Prelude.{◌≡◌, map, IfOk};
+ghost use Rattle.std.specs.Prelude.{◌≡◌, map, length, IfOk};
+ghost use Rattle.std.specs.List.{AllByRecursion};
 ghost use Rattle.pp_model.specs.FirstSight.{distinct, ids};
 ghost use Rattle.pp_merge.specs.Shared.{with_shared_places, by_locations};
 ghost use Rattle.pp_merge.specs.Renumbered.{renumbered_sample};
 ghost use Rattle.pp_merge.specs.PlaceKeys.{mapping_key, start_at, distant, near, same_place, place_of_key};
+ghost use Rattle.pp_merge.specs.Share.{NamesLocations};
 
 use crate::change::change_each;
 use crate::first_sight::{Keyed, keep_firsts, number_each};
 use crate::ids::Ids;
+use crate::known::are_numbered;
 use crate::renumber::Renumbering;
 use pp_base::{List, Memory};
 use pp_model::{Line, Location, Mapping, Profile, Sample};
@@ -53,6 +56,7 @@ pub struct LocationKey {
 /// The profile, whose texts and functions stand once, with each mapping and each location once, in the order of first
 /// sight.
 pub fn share_places(alloc: Global, mut p: Profile) -> Result<Profile, Memory>
+    requires { AllByRecursion (NamesLocations (length p.location)) p.sample }
     ensures { IfOk result (λ r. r ≡ with_shared_places p) }
 {
     let (mappings, mapping_ids) = keep_firsts(alloc, p.mapping.as_slice())?;
@@ -80,10 +84,15 @@ fn share_locations(
     Ok((locations, ids))
 }
 
-// Gives the samples these ids of their locations.
+// Gives the samples these ids of their locations. Where no location repeats, all ids stay: samples name many, so they
+// are not gone through then.
 fn move_samples(samples: &mut List<Sample>, ids: List<u64>)
+    requires { AllByRecursion (NamesLocations (length ids)) samples.old }
     ensures { samples.new ≡ map (renumbered_sample (by_locations ids)) samples.old }
 {
+    if are_numbered(ids.as_slice()) {
+        return;
+    }
     let by = Renumbering {
         text: Ids::Same,
         mapping: Ids::Same,

@@ -1,10 +1,25 @@
-use Rattle.std.proofs.Common.{◌≡◌, map, ap, ◌∙◌}
+use Rattle.std.proofs.Common.{◌≡◌, map, length, sym, ap, subst, ◌∙◌}
+use Rattle.std.specs.List.{AllByRecursion}
+use Rattle.std.proofs.lemmas.List.{length-map}
 use Rattle.pp_merge.specs.declared.ids.Ids.TheVariants.{By}
+use Rattle.pp_model.specs.Conditions.{no_location}
 use Rattle.pp_model.specs.FirstSight.{distinct, ids}
 use Rattle.pp_merge.specs.Renumbered.{renumbered_sample}
 use Rattle.pp_merge.specs.PlaceKeys.{distant, near, same_place, place_of_key}
 use Rattle.pp_merge.specs.Shared.{alike_mappings, distant_locations, by_locations, with_shared_places}
+use Rattle.pp_merge.specs.Share.{NamesLocations}
+use Rattle.pp_merge.proofs.Once.{length-ids}
+use Rattle.pp_merge.proofs.SharedPlaces.{place_self}
 use Rattle.pp_merge.proofs.places.share_places.Goals as goal
+
+-- there is an id for each location
+pub move_samples-requires : goal.move_samples-requires
+move_samples-requires c =
+    let keys = map place_of_key c.in_ok-keys.keys.items in
+    let long : length c.in_ok-locations.ids ≡ length c.args.p.location =
+    ap length c.in_ok-locations.ensures.ids ∙ length-ids same_place place_self keys no_location ∙ ap length c.in_ok-keys.ensures
+    ∙ length-map c.replace-locations.result _ ∙ ap length c.replace-locations.ensures.value in
+    subst (λ n. AllByRecursion (NamesLocations n) c.args.p.sample) (sym long) c.requires
 
 pub returns : goal.returns
 returns c =

@@ -1,13 +1,20 @@
 use Rattle.std.proofs.Common.{◌≡◌, ◌<◌, length, sym, ap, subst, ◌∙◌, arith}
 use Rattle.std.proofs.lemmas.Result.{IfOk-weaker}
 use Rattle.pp_model.specs.declared.profile.Profile.{Profile}
-use Rattle.std.specs.List.{All}
+use Rattle.std.specs.List.{All, AllByRecursion}
 use Rattle.pp_model.specs.declared.profile.Sample.{Sample}
-use Rattle.pp_merge.specs.Share.{with_comments_once, with_samples_once}
+use Rattle.pp_merge.specs.Share.{NamesLocations, with_comments_once, with_samples_once}
 use Rattle.pp_merge.specs.Shared.{with_shared_functions, with_shared_places}
 use Rattle.pp_merge.specs.Walked.{walked, walked_texts_of}
-use Rattle.pp_merge.proofs.ShareLemmas.{placed, summed_up, same_columns, placed_rows, rows, wide_from, weight_from, shared_written}
+use Rattle.pp_merge.proofs.ShareLemmas.{called, called_names, placed, summed_up, same_columns, placed_rows, rows, wide_from, weight_from, shared_written}
 use Rattle.pp_merge.proofs.share.share.Goals as goal
+
+-- the samples name locations of the table
+pub share_places-requires : goal.share_places-requires
+share_places-requires c =
+    let is : c.in_ok-called.called ≡ called c.args.p c.requires.joined =
+    c.in_ok-called.ensures ∙ ap with_shared_functions (c.in_ok-noted.ensures ∙ ap with_comments_once c.in_ok-worded.ensures) in
+    subst (λ (q : Profile). AllByRecursion (NamesLocations (length q.location)) q.sample) (sym is) (called_names c.args.p c.requires.joined)
 
 -- the samples that are added up are as wide as they were
 pub share_samples-requires-clause-wide : goal.share_samples-requires-clause-wide
