@@ -15,8 +15,9 @@ ghost use Rattle.pp_calltree.specs.Tree.{IsTreeOf, flats_at};
 
 use crate::laying::lay_out;
 use crate::linking::link;
-use crate::path::{gather_paths, whole_paths};
+use crate::paths::gather_paths;
 use crate::tree::{CallTree, PathNode};
+use crate::twigs::Twigs;
 use pp_base::{List, Memory};
 use pp_count::{Counted, KeyTable, Scope, key_table};
 use pp_model::{Config, Loaded, Verdicts};
@@ -109,8 +110,8 @@ fn nodes_by(alloc: Global, scope: &Scope, kept: &[u32]) -> Result<List<PathNode>
     ensures fits { IfOk result (λ nodes. sum_by (λ n. nat_abs n.flat) nodes < 2 ^ 63) }
 {
     let p = scope.l.profile.get();
-    let paths = gather_paths(alloc, scope, p.sample.as_slice(), kept)?;
-    let rests = whole_paths(alloc, paths.as_slice())?;
-    let nodes = lay_out(alloc, p, &scope.table.names, &rests)?;
+    let trie = gather_paths(alloc, scope, p.sample.as_slice(), kept)?;
+    let twigs = Twigs::new(alloc, trie)?;
+    let nodes = lay_out(alloc, p, &scope.table.names, &twigs)?;
     Ok(nodes)
 }

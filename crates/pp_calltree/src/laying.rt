@@ -5,17 +5,16 @@ ghost use Rattle.pp_model.specs.declared.profile.Profile.{Profile as Tables};
 ghost use Rattle.pp_model.specs.Rules.{IsCompact};
 ghost use Rattle.pp_grain.specs.declared.key.Key.{Key};
 ghost use Rattle.pp_grain.specs.Keys.{IsKeyOf, key_cmp};
-ghost use Rattle.pp_count.specs.Sums.{absolute};
-ghost use Rattle.pp_calltree.specs.CallTree.{all_lengths, any_row, tree_rows};
-ghost use Rattle.pp_calltree.specs.Paths.{rest_seen};
-ghost use Rattle.pp_calltree.specs.Laid.{CanLay, HasRoom, WaitBelow, branch_row, node_row, written_out};
+ghost use Rattle.pp_count.specs.Sums.{Seen};
+ghost use Rattle.pp_calltree.specs.CallTree.{any_row, tree_rows};
+ghost use Rattle.pp_calltree.specs.Laid.{CanLay, HasRoom, IsLaidFrom, WaitBelow, branch_row, node_row, written_out};
+ghost use Rattle.pp_calltree.specs.Twigs.{Bear};
 
 use crate::branch::Branch;
-use crate::path::Rest;
 use crate::siblings::sort_branches;
-use crate::splitting::split;
 use crate::texts::Texts;
 use crate::tree::PathNode;
+use crate::twigs::Twigs;
 use pp_base::{List, Memory};
 use pp_grain::Names;
 use pp_model::Profile;
@@ -26,21 +25,22 @@ pub fn lay_out(
     alloc: Global,
     p: &Profile,
     names: &Names,
-    rests: &[Rest],
+    twigs: &Twigs,
 ) -> Result<List<PathNode>, Memory>
     requires compact { IsCompact p.now }
     requires keys { All (IsKeyOf p.now) names.now }
     requires distinct { AllPairs (λ a b. a ≢ b) names.now }
-    requires room { HasRoom names.now (all_lengths (map rest_seen rests.now)) (map rest_seen rests.now) }
-    ensures rows { IfOk result (λ nodes. map (node_row p.now) nodes
-        ≡ tree_rows key_cmp any_row (written_out p.now names.now (map rest_seen rests.now))) }
+    requires room { (samples : Seq (Seen ℕ)) × IsLaidFrom names.now twigs.now samples }
+    ensures rows { (samples : Seq (Seen ℕ)) → IsLaidFrom names.now twigs.now samples →
+        IfOk result (λ nodes. map (node_row p.now) nodes
+        ≡ tree_rows key_cmp any_row (written_out p.now names.now samples)) }
     ensures keys { IfOk result (λ nodes. All (λ n. IsKeyOf p.now n.key) nodes) }
     ensures fits { IfOk result (λ nodes. sum_by (λ n. nat_abs n.flat) nodes < 2 ^ 63) }
 {
     let texts = Texts::new(alloc, p, names)?;
     let mut nodes = List::new(alloc);
     let mut waiting = Vec::new(alloc);
-    push_branches(alloc, &texts, rests, 0, &mut waiting)?;
+    push_branches(alloc, &texts, twigs, 0, 0, &mut waiting)?;
     for _turn in 0..u64::MAX {
         let Some(branch) = waiting.pop() else {
             return Ok(nodes);
@@ -49,28 +49,28 @@ pub fn lay_out(
             return Err(Memory);
         };
         nodes.push(node_of(names, &branch))?;
-        push_branches(alloc, &texts, branch.rests.as_slice(), depth, &mut waiting)?;
+        push_branches(alloc, &texts, twigs, branch.node, depth, &mut waiting)?;
     }
     // No tree has so many nodes.
     Err(Memory)
 }
 
-// Adds the branches below so many keys, the last one first.
-fn push_branches<'a>(
+// Adds the branches of the node, which are below so many keys, the last one first.
+fn push_branches(
     alloc: Global,
     texts: &Texts,
-    rests: &[Rest<'a>],
-    depth: u64,
-    waiting: &mut Vec<Branch<'a>>,
+    twigs: &Twigs,
+    node: u32,
+    depth: u32,
+    waiting: &mut Vec<Branch>,
 ) -> Result<(), Memory>
-    requires { absolute (map rest_seen rests.now) < 2 ^ 63 }
-    ensures { (p : Tables) (names : Seq Key) (most left : ℕ) →
-        CanLay p names texts.now → HasRoom names left (map rest_seen rests.now) →
-        most ≡ depth + left → IfOk result (λ _. WaitBelow p names most depth left
-        (map rest_seen rests.now) waiting.old.items waiting.new.items) }
+    ensures { (p : Tables) (names : Seq Key) (at : ℕ → Seq (Seen ℕ)) (most left : ℕ) →
+        CanLay p names texts.now → Bear twigs.now at → HasRoom names left (at node) →
+        most ≡ depth + left → IfOk result (λ _. WaitBelow p names at most depth left (at node)
+        waiting.old.items waiting.new.items) }
 {
-    let branches = split(alloc, rests, depth)?;
-    let mut list = sort_branches(alloc, texts, branches)?;
+    let branches = twigs.branches(alloc, node, depth)?;
+    let mut list = sort_branches(texts, branches)?;
     list.reverse();
     waiting.append(&mut list)?;
     Ok(())
@@ -82,9 +82,9 @@ fn node_of(names: &Names, branch: &Branch) -> PathNode
     ensures key { (p : Tables) → All (IsKeyOf p) names.now → IsKeyOf p result.key }
 {
     PathNode {
-        key: names.key(branch.key),
+        key: names.key(branch.key as u64),
         flat: branch.flat,
         cum: branch.cum,
-        depth: branch.depth,
+        depth: branch.depth as u64,
     }
 }
