@@ -1,13 +1,17 @@
-use Rattle.std.proofs.Common.{◌≡◌, ℕ, ◌+◌, ◌-◌, subst, sym, arith, List, []}
+use Rattle.std.proofs.Common.{◌≡◌, ℕ, ◌+◌, ◌-◌, ◌∙◌, take, ap, subst, sym, arith, List, []}
 use Rattle.pp_model.specs.declared.profile.Profile.{Profile as Tables}
 use Rattle.pp_grain.specs.declared.key.Key.{Key}
 use Rattle.pp_count.specs.Sums.{Seen}
+use Rattle.pp_grain.specs.Keys.{key_cmp}
+use Rattle.pp_count.specs.Table.{written_key}
 use Rattle.pp_count.proofs.Keyed.{apart}
 use Rattle.pp_calltree.specs.declared.branch.Branch.{Branch}
-use Rattle.pp_calltree.specs.CallTree.{all_lengths}
-use Rattle.pp_calltree.specs.Laid.{CanLay, HasRoom, IsLayable, WaitBelow, samples_of}
+use Rattle.pp_calltree.specs.CallTree.{all_lengths, any_row, rows_below}
+use Rattle.pp_calltree.specs.Laid.{CanLay, HasRoom, IsLayable, WaitBelow, samples_of, written_out}
+use Rattle.std.proofs.lemmas.List.{append-nil}
 use Rattle.pp_calltree.proofs.Naming.{texts_are}
-use Rattle.pp_calltree.proofs.LaidOut.{laying_start, laying_more, last_layable}
+use Rattle.pp_calltree.proofs.Under.{all_lengths-renamed}
+use Rattle.pp_calltree.proofs.LaidOut.{laying_start, laying_more, laying_end, last_layable}
 use Rattle.pp_calltree.proofs.laying.lay_out.Goals as goal
 
 pub loop-turn-init : goal.loop-turn-init
@@ -43,3 +47,17 @@ loop-turn-preserved c = λ samples from.
     so_far c.in_ok-push.ensures.ok (c.node_of.ensures.row p) (c.node_of.ensures.key p c.requires.keys) layable.flat_is
     (subst (λ (d : ℕ). WaitBelow p names at most d (most - (b.depth + 1)) (samples_of at b) c.pop.new.self.items c.push_branches-in-loop-turn.new.waiting.items) depth_is
     (c.in_ok-push_branches-2.ensures p names at most (most - (b.depth + 1)) can from.twigs.bear layable.room (omega (arith, depth_is, layable.depth_fits))))
+
+-- no branch waits any more
+pub returns-in_default-clause-rows : goal.returns-in_default-clause-rows
+returns-in_default-clause-rows c = λ samples from.
+    laying_end c.args.p.now c.args.names.now from.twigs.at (all_lengths samples) samples c.loop-turn.nodes c.loop-turn.waiting.items (c.loop-turn.invariant samples from)
+    (c.in_default.ensures.items ∙ append-nil c.pop.new.self.items ∙ c.in_default.ensures.rest ∙ ap (λ n. take (n - 1) c.loop-turn.waiting.items) c.in_default.ensures.cases.0)
+    ∙ ap (λ n. rows_below key_cmp any_row n 0 (written_out c.args.p.now c.args.names.now samples)) (sym (all_lengths-renamed (written_key c.args.p.now c.args.names.now) samples))
+
+pub returns-in_default-clause-keys : goal.returns-in_default-clause-keys
+returns-in_default-clause-keys c = (c.loop-turn.invariant c.requires.room.0 c.requires.room.1).keys
+
+pub returns-in_default-clause-fits : goal.returns-in_default-clause-fits
+returns-in_default-clause-fits c =
+    omega (arith, (c.loop-turn.invariant c.requires.room.0 c.requires.room.1).sizes, c.requires.room.1.room.fits)
