@@ -1,5 +1,5 @@
 -- From the samples of a profile to the nodes of its call tree.
-use Rattle.std.proofs.Common.{◌≡◌, ℕ, ◌<◌, ◌^◌, not, pos, nat_abs, List, [], ◌∷◌, ◌++◌, length, map, reverse, get_or, All, refl, sym, ap, subst, ◌∙◌, arith}
+use Rattle.std.proofs.Common.{◌≡◌, ℕ, ◌<◌, ◌^◌, not, pos, List, [], ◌∷◌, ◌++◌, length, map, reverse, get_or, All, refl, sym, ap, subst, ◌∙◌, arith}
 use Rattle.std.specs.Ordering.{int_eq}
 use Rattle.std.proofs.lemmas.Grind.{reverse_onto}
 use Rattle.std.proofs.lemmas.List.{map-append}

@@ -1,8 +1,8 @@
 -- The children of each node, chained edge by edge.
-use Rattle.std.proofs.Common.{◌≡◌, ◌≢◌, ◌⊎◌, ⊎_elim, ℕ, zero, suc, ◌+◌, ◌-◌, ◌<◌, ◌≤◌, ◌==◌, ◌&&◌, nat_eq, Bool, true, false, cond, ◌||◌, List, [], ◌∷◌, ◌++◌, length, take, get_or, map, set, replicate, All, Option, Some, None, refl, sym, ap, subst, ◌∙◌, arith}
+use Rattle.std.proofs.Common.{◌≡◌, ⊎_elim, ℕ, zero, suc, ◌+◌, ◌-◌, ◌<◌, ◌≤◌, ◌==◌, ◌&&◌, nat_eq, true, false, cond, ◌||◌, List, [], ◌∷◌, ◌++◌, length, take, get_or, map, set, replicate, All, Option, Some, None, refl, sym, ap, subst, ◌∙◌, arith}
 use Rattle.std.specs.List.{slice_get, list_any, IsDistinct, AllByRecursion}
 use Rattle.std.specs.Ordering.{nat_cmp, eq_by_cmp}
-use Rattle.std.proofs.lemmas.Bool.{false≢true, cases_lt, cases_Bool, eqb-true, eqb-false, cond_both, ne_eqb, eq-eqb, false_from_ne_true, or_parts, or_from}
+use Rattle.std.proofs.lemmas.Bool.{false≢true, cases_lt, eqb-true, eqb-false, cond_both, false_from_ne_true, or_parts, or_from}
 use Rattle.std.proofs.lemmas.List.{append-nil, append_assoc, map-append, take_more, take_all, length-append, length-set, length-replicate, get_or-replicate, get_or-set_same, get_or-set_other, get_or_append_left, get_or_past}
 use Rattle.std.proofs.lemmas.List.Elements.{All-nil, All-cons, All-head, All-tail, All-map}
 use Rattle.std.proofs.lemmas.List.Folds.{list_any-append}
@@ -48,9 +48,11 @@ chain_stays : (edges : List Edge) (older : List (Option ℕ)) (more head : Optio
 chain_stays edges older more head first node [] fits all chain = chain
 chain_stays edges older more head first node (n ∷ kids) fits all chain =
     let child : IsChild edges first node n = All-head (IsChild edges first node) n kids all in
-    let within : n - 1 < length older = omega (arith, child.number_is, child.within, fits) in
-    (chain.0, subst (λ (h : Option ℕ). IsChain (older ++ more ∷ []) h kids) (sym (get_or_append_left older (more ∷ []) None (n - 1) within))
-    (chain_stays edges older more (number_at older (n - 1)) first node kids fits (All-tail (IsChild edges first node) n kids all) chain.1))
+    let within : n - 1 < length older = omega (arith, child.number_is, child.within, fits) in (
+      chain.0,
+      subst (λ (h : Option ℕ). IsChain (older ++ more ∷ []) h kids) (sym (get_or_append_left older (more ∷ []) None (n - 1) within))
+          (chain_stays edges older more (number_at older (n - 1)) first node kids fits (All-tail (IsChild edges first node) n kids all) chain.1),
+    )
 
 -- one more edge
 module _ (edges : List Edge) (i : ℕ) (e : Edge) (newest new_newest older new_older : List (Option ℕ)) (at_i : slice_get edges i ≡ Some e)
@@ -72,17 +74,16 @@ module _ (edges : List Edge) (i : ℕ) (e : Edge) (newest new_newest older new_o
 
   next_chain : (node : ℕ) → IsChain new_older (number_at new_newest node) (next_kids node)
   next_chain node = cond_both (node == e.above) ((i + 1) ∷ so_far.kids node) (so_far.kids node) (λ ks. IsChain new_older (number_at new_newest node) ks)
-      (λ own. let same : node ≡ e.above = eqb-true node e.above own in
-        (
-          (λ j. number_at (newest_is j) (same j)) ∙ get_or-set_same newest e.above (Some (i + 1)) None (omega (arith, above_fits, so_far.newest_count)),
-          subst (λ (h : Option ℕ). IsChain new_older h (so_far.kids node)) (ap (number_at newest) same ∙ sym older_read) (stays node),
-        ))
+      (λ own. let same : node ≡ e.above = eqb-true node e.above own in (
+        (λ j. number_at (newest_is j) (same j)) ∙ get_or-set_same newest e.above (Some (i + 1)) None (omega (arith, above_fits, so_far.newest_count)),
+        subst (λ (h : Option ℕ). IsChain new_older h (so_far.kids node)) (ap (number_at newest) same ∙ sym older_read) (stays node),
+      ))
       (λ far. subst (λ (h : Option ℕ). IsChain new_older h (so_far.kids node))
-        (sym (ap (λ o. number_at o node) newest_is ∙ get_or-set_other newest e.above node (Some (i + 1)) None (eqb-false node e.above far))) (stays node)) where
-          older_read : number_at new_older (i + 1 - 1) ≡ number_at newest e.above
-          older_read =
-              let back : i + 1 - 1 ≡ length older = omega (arith, so_far.older_count) in
-              (λ j. number_at (older_is j) (back j)) ∙ get_or-append_seam older (number_at newest e.above) [] None
+      (sym (ap (λ o. number_at o node) newest_is ∙ get_or-set_other newest e.above node (Some (i + 1)) None (eqb-false node e.above far))) (stays node)) where
+        older_read : number_at new_older (i + 1 - 1) ≡ number_at newest e.above
+        older_read =
+            let back : i + 1 - 1 ≡ length older = omega (arith, so_far.older_count) in
+            (λ j. number_at (older_is j) (back j)) ∙ get_or-append_seam older (number_at newest e.above) [] None
 
   later : (node n : ℕ) → IsChild edges i node n → IsChild edges (i + 1) node n
   later node n child = record { place = child.place; number_is = child.number_is; within = omega (arith, child.within); edge_is = child.edge_is }
@@ -92,7 +93,7 @@ module _ (edges : List Edge) (i : ℕ) (e : Edge) (newest new_newest older new_o
       let old : All (IsChild edges (i + 1) node) (so_far.kids node) = λ n d at_n. later node (get_or (so_far.kids node) n d) (so_far.own node n d at_n) in
       cond_both (node == e.above) ((i + 1) ∷ so_far.kids node) (so_far.kids node) (All (IsChild edges (i + 1) node))
       (λ own. All-cons (IsChild edges (i + 1) node) (i + 1) (so_far.kids node)
-        (record { place = i; number_is = refl; within = omega arith; edge_is = at_i ∙ ap Some (λ j. record { above = sym (eqb-true node e.above own) j; key = sym key_is j }) }) old)
+      (record { place = i; number_is = refl; within = omega arith; edge_is = at_i ∙ ap Some (λ j. record { above = sym (eqb-true node e.above own) j; key = sym key_is j }) }) old)
       (λ far. old)
 
   next_found : (node k : ℕ) → list_any (nat_eq k) (map (key_at edges) (next_kids node)) ≡ list_any (edge_eq (record { above = node; key = k })) (take (i + 1) edges)
@@ -100,10 +101,10 @@ module _ (edges : List Edge) (i : ℕ) (e : Edge) (newest new_newest older new_o
       cond_both (node == e.above) ((i + 1) ∷ so_far.kids node) (so_far.kids node)
       (λ ks. list_any (nat_eq k) (map (key_at edges) ks) ≡ (list_any (edge_eq (record { above = node; key = k })) (take i edges) || edge_eq (record { above = node; key = k }) e))
       (λ own. (λ j. nat_eq k (key_is j) || so_far.found node k j)
-        ∙ or_swap (nat_eq k e.key) (list_any (edge_eq (record { above = node; key = k })) (take i edges))
-        ∙ ap (λ b. list_any (edge_eq (record { above = node; key = k })) (take i edges) || (b && (k == e.key))) (sym own))
+      ∙ or_swap (nat_eq k e.key) (list_any (edge_eq (record { above = node; key = k })) (take i edges))
+      ∙ ap (λ b. list_any (edge_eq (record { above = node; key = k })) (take i edges) || (b && (k == e.key))) (sym own))
       (λ far. so_far.found node k ∙ sym (or-false (list_any (edge_eq (record { above = node; key = k })) (take i edges)))
-        ∙ ap (λ b. list_any (edge_eq (record { above = node; key = k })) (take i edges) || (b && (k == e.key))) (sym far))
+      ∙ ap (λ b. list_any (edge_eq (record { above = node; key = k })) (take i edges) || (b && (k == e.key))) (sym far))
       ∙ sym (ap (list_any (edge_eq (record { above = node; key = k }))) (take_more edges i e here ∙ ap (λ x. take i edges ++ x ∷ []) (get_or_from_slice_get edges i e e at_i))
       ∙ list_any-append (edge_eq (record { above = node; key = k })) (take i edges) (e ∷ [])
       ∙ ap (λ b. list_any (edge_eq (record { above = node; key = k })) (take i edges) || b) (or-false (edge_eq (record { above = node; key = k }) e)))
@@ -112,10 +113,10 @@ module _ (edges : List Edge) (i : ℕ) (e : Edge) (newest new_newest older new_o
   next_distinct node =
       cond_both (node == e.above) ((i + 1) ∷ so_far.kids node) (so_far.kids node) (λ ks. IsDistinct nat_eq (map (key_at edges) ks))
       (λ own. IsDistinct-cons nat_eq (key_at edges (i + 1)) (map (key_at edges) (so_far.kids node))
-        (none_all (key_at edges (i + 1)) (map (key_at edges) (so_far.kids node))
-        (ap (λ k. list_any (nat_eq k) (map (key_at edges) (so_far.kids node))) key_is
-        ∙ so_far.found node e.key ∙ ap (λ n. list_any (edge_eq (record { above = n; key = e.key })) (take i edges)) (eqb-true node e.above own)
-        ∙ fresh edges i e distinct at_i)) (so_far.distinct node))
+      (none_all (key_at edges (i + 1)) (map (key_at edges) (so_far.kids node))
+      (ap (λ k. list_any (nat_eq k) (map (key_at edges) (so_far.kids node))) key_is
+      ∙ so_far.found node e.key ∙ ap (λ n. list_any (edge_eq (record { above = n; key = e.key })) (take i edges)) (eqb-true node e.above own)
+      ∙ fresh edges i e distinct at_i)) (so_far.distinct node))
       (λ far. so_far.distinct node)
 
   pub chained_more : ChainedTo edges (take (i + 1) edges) (i + 1) new_newest new_older

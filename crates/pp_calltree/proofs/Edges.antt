@@ -1,5 +1,5 @@
 -- Edges of the tree of paths, and where they stand.
-use Rattle.std.proofs.Common.{◌≡◌, ◌≢◌, ◌⊎◌, inl, inr, ⊎_elim, ℕ, zero, suc, ◌+◌, ◌<◌, ◌==◌, Bool, true, false, cond, if◌then◌else◌, ◌&&◌, ◌||◌, List, [], ◌∷◌, ◌++◌, length, get_or, Some, None, refl, sym, ap, subst, ◌∙◌, arith}
+use Rattle.std.proofs.Common.{◌≡◌, ◌≢◌, inl, inr, ⊎_elim, ℕ, zero, suc, ◌<◌, ◌==◌, Bool, true, false, cond, if◌then◌else◌, ◌||◌, List, [], ◌∷◌, ◌++◌, length, Some, refl, sym, ap, ◌∙◌}
 use Rattle.std.specs.List.{slice_get, list_any, IsDistinct}
 use Rattle.std.proofs.lemmas.Bool.{cases_Bool, cases_order, and_parts, and_from, or_left, or_right, true≢false, eq-eqb, eqb-true}
 use Rattle.std.proofs.lemmas.List.Folds.{list_any-append}
@@ -65,7 +65,7 @@ module _ (old new : List Edge) (edge : Edge) (place : ℕ) where
       ⊎_elim
       (λ there. let kept : new ≡ old = made ∙ ap (λ b. cond b old (old ++ edge ∷ [])) there in inl (kept, ap (λ es. slice_get es place) (sym kept) ∙ at_place))
       (λ none. let added : new ≡ old ++ edge ∷ [] = made ∙ ap (λ b. cond b old (old ++ edge ∷ [])) none in
-        inr (added, none, one_place new place (length old) edge distinct at_place (ap (λ es. slice_get es (length old)) added ∙ last_of old edge)))
+      inr (added, none, one_place new place (length old) edge distinct at_place (ap (λ es. slice_get es (length old)) added ∙ last_of old edge)))
       (cases_Bool (list_any (edge_eq edge) old))
 
   pub placed_here : IsPlaced old new edge place → slice_get new place ≡ Some edge

@@ -1,15 +1,15 @@
 -- The links of nodes, from how deep these stand.
-use Rattle.std.proofs.Common.{◌≡◌, ℕ, zero, suc, ◌+◌, ◌-◌, ◌<◌, ◌≤◌, ◌==◌, ◌⊎◌, inl, inr, nat_lt, true, false, cond, List, [], ◌∷◌, ◌++◌, length, map, reverse, take, drop, get_or, replicate, Option, Some, None, refl, sym, ap, subst, ◌∙◌, arith, length-append, length-take}
+use Rattle.std.proofs.Common.{◌≡◌, ℕ, zero, suc, ◌+◌, ◌-◌, ◌<◌, ◌≤◌, ◌==◌, inl, inr, nat_lt, cond, List, [], ◌∷◌, ◌++◌, length, reverse, take, drop, get_or, replicate, Option, Some, None, refl, sym, ap, subst, ◌∙◌, arith, length-append, length-take}
 use Rattle.std.specs.List.{slice_get}
 use Rattle.std.specs.Option.{option_map, option_map_or, unwrap_or}
 use Rattle.std.proofs.lemmas.Bool.{cases_lt, lt-ltb, le-ltb, eq-eqb, ne_eqb}
-use Rattle.std.proofs.lemmas.Grind.{common_steps, reverse_onto}
-use Rattle.std.proofs.lemmas.List.{drop_more, drop_all, take_more, take_all, get_or_append_left, get_or-append_right, get_or_past, get_or-take, get_or-replicate, get_or_default, length-map, length-replicate, reverse-reverse}
+use Rattle.std.proofs.lemmas.Grind.{reverse_onto}
+use Rattle.std.proofs.lemmas.List.{drop_more, drop_all, take_more, get_or_append_left, get_or-append_right, get_or_past, get_or-take, get_or-replicate, get_or_default, length-map, length-replicate, reverse-reverse}
 use Rattle.std.proofs.Math.Seq.{get_or-append_seam}
 use Rattle.std.proofs.lemmas.Option.{slice_get-map, slice_get-get_or}
 use Rattle.pp_calltree.specs.declared.tree.PathNode.{PathNode}
 use Rattle.pp_calltree.specs.declared.tree.LinkedNode.{LinkedNode}
-use Rattle.pp_calltree.specs.Tree.{depth_at, first_child, next_sibling, sibling_in, above_in, parent}
+use Rattle.pp_calltree.specs.Tree.{depth_at, next_sibling, sibling_in, above_in, parent}
 use Rattle.pp_calltree.specs.Links.{nodes_of, linked, linked_from, AreLinked, AreParents}
 
 -- the depth of a node that is there

@@ -1,9 +1,9 @@
 -- A sample is put into the tree of paths key by key, from the root.
-use Rattle.std.proofs.Common.{◌≡◌, ◌≢◌, ◌⊎◌, ⊎_elim, ℕ, zero, suc, ◌+◌, ◌<◌, ◌≤◌, ◌^◌, ◌==◌, ◌&&◌, Bool, true, false, cond, ◌||◌, ℤ, pos, ◌+ℤ◌, nat_abs, List, [], ◌∷◌, ◌++◌, length, reverse, take, get_or, Some, None, refl, sym, ap, subst, ◌∙◌, arith}
+use Rattle.std.proofs.Common.{◌≡◌, ◌≢◌, ⊎_elim, ℕ, zero, suc, ◌+◌, ◌<◌, ◌≤◌, ◌^◌, ◌==◌, ◌&&◌, Bool, true, false, cond, ◌||◌, ℤ, pos, ◌+ℤ◌, nat_abs, List, [], ◌∷◌, ◌++◌, length, reverse, take, get_or, Some, None, refl, sym, ap, subst, ◌∙◌, arith}
 use Rattle.std.specs.List.{slice_get, cons_option, list_any, IsDistinct}
 use Rattle.std.specs.Ordering.{nat_cmp, eq_by_cmp}
 use Rattle.std.specs.Cmp.{unsigned_tied}
-use Rattle.std.proofs.lemmas.Bool.{false≢true, cases_eq, cases_Bool, and_from, eq-eqb, ne_eqb}
+use Rattle.std.proofs.lemmas.Bool.{false≢true, cases_eq, cases_Bool, eq-eqb, ne_eqb}
 use Rattle.std.proofs.lemmas.Int.{ints}
 use Rattle.std.proofs.lemmas.List.{append-nil, reverse-append, take_all, take_more}
 use Rattle.std.proofs.lemmas.List.Elements.{filter_map-append}
@@ -19,7 +19,7 @@ use Rattle.pp_calltree.specs.declared.trie.Trie.{Trie}
 use Rattle.pp_calltree.specs.CallTree.{any_path, is_end, below_key, first_key, first_keys, rooted, under}
 use Rattle.pp_calltree.specs.Trie.{edge_eq, no_weight, weight_at, passed, ended, none_waits, waits_at, Holds, IsPlaced, IsStep, IsTrieOf}
 use Rattle.pp_calltree.proofs.Under.{under_size}
-use Rattle.pp_calltree.proofs.Edges.{or_swap, edge_same, one_place, placed_here, placed_others, placed_found}
+use Rattle.pp_calltree.proofs.Edges.{or_swap, one_place, placed_here, placed_others, placed_found}
 
 -- The sample waits at the node, and there is room for its value at each of the nodes below.
 pub record Walking (edges : List Edge) (weights : List Weight) (samples : List (Seen ℕ)) (node : ℕ) (sample : Seen ℕ) : Type 0 where
@@ -128,23 +128,23 @@ module _ (edges new_edges : List Edge) (weights new_weights : List Weight) (samp
   next_each : (i : ℕ) (e : Edge) → slice_get new_edges i ≡ Some e → next_at (i + 1) ++ waits_at (place + 1) left (i + 1) ≡ under nat_cmp e.key (next_at e.above)
   next_each i e at_i = ⊎_elim
       (λ same.
-        let edge_is : edge ≡ e = own i same at_i in
-        (λ j. next_at (same j + 1) ++ waits_at (place + 1) left (same j + 1))
-        ∙ (λ j. sym before_is j ++ own_child j)
-        ∙ ap (λ R. under nat_cmp k (H.at node) ++ R) (sym under_whole)
-        ∙ sym (under-append k (H.at node) (waits_at node whole node))
-        ∙ ap (λ (x : Edge). under nat_cmp x.key (next_at x.above)) edge_is)
+      let edge_is : edge ≡ e = own i same at_i in
+      (λ j. next_at (same j + 1) ++ waits_at (place + 1) left (same j + 1))
+      ∙ (λ j. sym before_is j ++ own_child j)
+      ∙ ap (λ R. under nat_cmp k (H.at node) ++ R) (sym under_whole)
+      ∙ sym (under-append k (H.at node) (waits_at node whole node))
+      ∙ ap (λ (x : Edge). under nat_cmp x.key (next_at x.above)) edge_is)
       (λ apart.
-        ap (λ R. next_at (i + 1) ++ R) (other_child i apart) ∙ append-nil (next_at (i + 1))
-        ∙ H.each i e (sym (placed_others edges new_edges edge place placed i apart) ∙ at_i)
-        ∙ sym (append-nil (under nat_cmp e.key (H.at e.above)))
-        ∙ ap (λ R. under nat_cmp e.key (H.at e.above) ++ R) (sym (none_there i e at_i apart))
-        ∙ sym (under-append e.key (H.at e.above) (waits_at node whole e.above))) (cases_eq i place) where
-          own : (n : ℕ) → n ≡ place → slice_get new_edges n ≡ Some e → edge ≡ e
-          own n same at_n = let both : Some edge ≡ Some e = sym here ∙ ap (slice_get new_edges) (sym same) ∙ at_n in (cc)
+      ap (λ R. next_at (i + 1) ++ R) (other_child i apart) ∙ append-nil (next_at (i + 1))
+      ∙ H.each i e (sym (placed_others edges new_edges edge place placed i apart) ∙ at_i)
+      ∙ sym (append-nil (under nat_cmp e.key (H.at e.above)))
+      ∙ ap (λ R. under nat_cmp e.key (H.at e.above) ++ R) (sym (none_there i e at_i apart))
+      ∙ sym (under-append e.key (H.at e.above) (waits_at node whole e.above))) (cases_eq i place) where
+        own : (n : ℕ) → n ≡ place → slice_get new_edges n ≡ Some e → edge ≡ e
+        own n same at_n = let both : Some edge ≡ Some e = sym here ∙ ap (slice_get new_edges) (sym same) ∙ at_n in (cc)
 
-          under_whole : under nat_cmp k (waits_at node whole node) ≡ left ∷ []
-          under_whole = ap (under nat_cmp k) (waits_own node whole) ∙ under_one k k v rest ∙ ap (λ b. cond b (left ∷ []) []) (unsigned_tied k k ∙ eq-eqb k k refl)
+        under_whole : under nat_cmp k (waits_at node whole node) ≡ left ∷ []
+        under_whole = ap (under nat_cmp k) (waits_own node whole) ∙ under_one k k v rest ∙ ap (λ b. cond b (left ∷ []) []) (unsigned_tied k k ∙ eq-eqb k k refl)
 
   next_past : (i : ℕ) → slice_get new_edges i ≡ None → next_at (i + 1) ++ waits_at (place + 1) left (i + 1) ≡ []
   next_past i none =
@@ -171,9 +171,9 @@ module _ (edges new_edges : List Edge) (weights new_weights : List Weight) (samp
   next_cums : (i : ℕ) → (weight_at new_weights i).cum ≡ sum_where any_path (next_at (i + 1) ++ waits_at (place + 1) left (i + 1))
   next_cums i = ⊎_elim
       (λ same. subst (λ n. (weight_at new_weights n).cum ≡ sum_where any_path (next_at (n + 1) ++ waits_at (place + 1) left (n + 1))) (sym same)
-        (ap (λ (x : Weight). x.cum) gains ∙ ap (λ z. z +ℤ v) (H.cums place) ∙ sym (sum_waits any_path (next_at (place + 1)) left (place + 1))))
+      (ap (λ (x : Weight). x.cum) gains ∙ ap (λ z. z +ℤ v) (H.cums place) ∙ sym (sum_waits any_path (next_at (place + 1)) left (place + 1))))
       (λ apart. ap (λ (x : Weight). x.cum) (keeps i apart) ∙ H.cums i
-        ∙ sym (sum_other any_path (next_at (i + 1)) left (place + 1) (i + 1) (λ same. apart (omega (arith, same))))) (cases_eq i place)
+      ∙ sym (sum_other any_path (next_at (i + 1)) left (place + 1) (i + 1) (λ same. apart (omega (arith, same))))) (cases_eq i place)
 
   ends_later : (m : ℕ) (S : List (Seen ℕ)) → sum_where is_end (S ++ waits_at node whole m) ≡ sum_where is_end S
   ends_later m S = elim (m == node) as (λ b. sum_where is_end (S ++ cond b (whole ∷ []) []) ≡ sum_where is_end S) [
@@ -258,7 +258,7 @@ module _ (edges : List Edge) (weights new_weights : List Weight) (samples : List
   end_flats i =
       ⊎_elim
       (λ own. ap (λ (x : Weight). x.flat) (gains i own) ∙ ap (λ z. z +ℤ v) (E.flats i)
-        ∙ subst (λ n. sum_where is_end (E.at (i + 1)) +ℤ v ≡ sum_where is_end (E.at (i + 1) ++ waits_at node s n)) own (sym (sum_waits is_end (E.at (i + 1)) s node)))
+      ∙ subst (λ n. sum_where is_end (E.at (i + 1)) +ℤ v ≡ sum_where is_end (E.at (i + 1) ++ waits_at node s n)) own (sym (sum_waits is_end (E.at (i + 1)) s node)))
       (λ apart. ap (λ (x : Weight). x.flat) (keeps i apart) ∙ E.flats i ∙ sym (sum_other is_end (E.at (i + 1)) s node (i + 1) (λ same. apart (sym same)))) (cases_eq node (i + 1))
 
   pub walk_ends : Holds edges new_weights none_waits samples
@@ -367,8 +367,12 @@ module _ (samples : List (Seen ℕ)) (v : ℤ) (keys : List ℕ) where
     pub add_fits : absolute samples + nat_abs v < 2 ^ 63 → (place : ℕ) → slice_get trie.edges.keys place ≡ Some (record { above = node; key = get_or keys next d })
         → nat_abs (weight_at trie.weights.items place).cum + nat_abs v < 2 ^ 63
     add_fits fits place at_place =
-        omega (arith, fits, whole_size,
-          child_fits trie.edges.keys trie.weights.items (samples ++ rooted_one ∷ []) node (get_or keys next d) v (reverse (take next keys)) place stands at_place)
+        omega (
+          arith,
+          fits,
+          whole_size,
+          child_fits trie.edges.keys trie.weights.items (samples ++ rooted_one ∷ []) node (get_or keys next d) v (reverse (take next keys)) place stands at_place,
+        )
 
   pub ends_fit : (trie : Trie) (node left : ℕ) → Walking trie.edges.keys trie.weights.items (samples ++ rooted_one ∷ []) node (left_of left) → absolute samples + nat_abs v < 2 ^ 63
       → (place : ℕ) → node ≡ place + 1 → nat_abs (weight_at trie.weights.items place).flat + nat_abs v < 2 ^ 63

@@ -1,5 +1,5 @@
 -- The paths of samples as the tree of them by key numbers holds them. No public clause cites it.
-use Rattle.std.specs.Prelude.{◌≡◌, ◌≢◌, ◌⊎◌, ℕ, ◌+◌, ◌-◌, ◌==◌, ◌&&◌, Bool, false, ℤ, pos, ◌+ℤ◌, List, [], ◌∷◌, ◌++◌, length, Some, None, slice_index_or, if◌then◌else◌}
+use Rattle.std.specs.Prelude.{◌≡◌, ◌≢◌, ◌⊎◌, ℕ, ◌+◌, ◌==◌, ◌&&◌, Bool, false, ℤ, pos, ◌+ℤ◌, List, [], ◌∷◌, ◌++◌, length, Some, None, slice_index_or, if◌then◌else◌}
 use Rattle.std.specs.List.{slice_get, list_any, IsDistinct}
 use Rattle.std.specs.Ordering.{nat_cmp, eq_by_cmp}
 use Rattle.pp_count.specs.Sums.{Seen, sum_where}

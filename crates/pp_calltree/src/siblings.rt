@@ -25,8 +25,5 @@ fn branch_order(texts: &Texts, a: &Branch, b: &Branch) -> Ordering
         .unsigned_abs()
         .cmp(&a.cum.unsigned_abs())
         .then(b.flat.unsigned_abs().cmp(&a.flat.unsigned_abs()))
-        .then(texts_order(
-            &texts.at(a.key as u64),
-            &texts.at(b.key as u64),
-        ))
+        .then(texts_order(&texts.at(a.key as u64), &texts.at(b.key as u64)))
 }

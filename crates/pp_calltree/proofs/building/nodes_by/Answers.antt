@@ -24,11 +24,13 @@ new-requires c = (map rooted (weighed c.in_ok-trie.ensures.seen), c.in_ok-trie.e
 
 pub lay_out-requires-clause-room : goal.lay_out-requires-clause-room
 lay_out-requires-clause-room c =
-    let paths = rw (c.as_slice.ensures, c.get-p.ensures.same) at c.in_ok-trie.ensures in
-    (map rooted (weighed paths.seen), record {
-      twigs = c.in_ok-twigs.ensures (map rooted (weighed paths.seen)) paths.stands;
-      room = paths_have_room c.args.scope.now c.args.scope.now.l.now.profile.sample paths.seen paths.are c.requires.fits;
-    })
+    let paths = rw (c.as_slice.ensures, c.get-p.ensures.same) at c.in_ok-trie.ensures in (
+      map rooted (weighed paths.seen),
+      record {
+        twigs = c.in_ok-twigs.ensures (map rooted (weighed paths.seen)) paths.stands;
+        room = paths_have_room c.args.scope.now c.args.scope.now.l.now.profile.sample paths.seen paths.are c.requires.fits;
+      },
+    )
 
 pub returns-clause-rows : goal.returns-clause-rows
 returns-clause-rows c = λ f holds.

@@ -1,7 +1,6 @@
 use Rattle.std.proofs.Common.{◌≡◌, ℕ, ◌+◌, ◌-◌, ◌<◌, pos, length, get_or, None, refl, ◌∙◌, arith}
 use Rattle.std.proofs.lemmas.List.{get_or_default}
 use Rattle.pp_calltree.specs.declared.tree.PathNode.{PathNode}
-use Rattle.pp_calltree.specs.Links.{linked_from}
 use Rattle.pp_calltree.proofs.LinkLemmas.{sibling_is, linked_more, linked_all, their_nodes, are_linked}
 use Rattle.pp_calltree.proofs.linking.link.Goals as goal
 

@@ -1,4 +1,4 @@
-use Rattle.std.proofs.Common.{pos, ap, refl, ◌++◌, ◌-◌, ℕ, take, replicate, get_or, ◌∙◌, arith}
+use Rattle.std.proofs.Common.{pos, ap, refl, ◌++◌, ◌-◌, take, replicate, get_or, ◌∙◌, arith}
 use Rattle.pp_calltree.specs.declared.tree.PathNode.{PathNode}
 use Rattle.pp_calltree.proofs.LinkLemmas.{parents_none, parents_more, parents_all}
 use Rattle.pp_calltree.proofs.linking.parents_of.Goals as goal

@@ -1,4 +1,4 @@
-use Rattle.std.proofs.Common.{map, refl, sym, ◌∙◌, ap, subst}
+use Rattle.std.proofs.Common.{map, sym, ◌∙◌, ap, subst}
 use Rattle.pp_model.specs.Conditions.{RefersTo, IsSampleOf}
 use Rattle.pp_stack.specs.Runs.{kept_if}
 use Rattle.pp_count.specs.Sums.{weighed}
@@ -25,9 +25,11 @@ see-requires-clause-refers c =
 
 pub add_sample-requires-clause-fits : goal.add_sample-requires-clause-fits
 add_sample-requires-clause-fits c =
-    let so_far = c.loop-number.invariant.paths_are in
-    (map rooted (weighed so_far.seen), so_far.stands,
-      sample_fits c.args.scope.now c.args.samples.now c.loop-number.number c.index-samples-number.result c.loop-number.trie c.loop-number-test.true c.index-samples-number.is c.requires.fits so_far)
+    let so_far = c.loop-number.invariant.paths_are in (
+      map rooted (weighed so_far.seen),
+      so_far.stands,
+      sample_fits c.args.scope.now c.args.samples.now c.loop-number.number c.index-samples-number.result c.loop-number.trie c.loop-number-test.true c.index-samples-number.is c.requires.fits so_far,
+    )
 
 -- another sample's number
 pub loop-number-preserved-then-not-stands_at : goal.loop-number-preserved-then-not-stands_at

@@ -1,6 +1,6 @@
-use Rattle.std.proofs.Common.{◌≡◌, ◌<◌, ◌^◌, ◌+◌, ◌-◌, ℕ, ℤ, List, [], ◌∷◌, ◌++◌, length, nat_abs, ap, subst, w64, to_z, of_z, arith}
+use Rattle.std.proofs.Common.{◌≡◌, ◌<◌, ◌^◌, ◌+◌, ◌-◌, ℕ, ℤ, [], ◌∷◌, ◌++◌, length, nat_abs, ap, subst, w64, to_z, of_z, arith}
 use Rattle.std.proofs.lemmas.Int.{to_z-of_z}
-use Rattle.pp_count.specs.Sums.{Seen, absolute}
+use Rattle.pp_count.specs.Sums.{absolute}
 use Rattle.pp_calltree.specs.Trie.{IsTrieOf}
 use Rattle.pp_calltree.proofs.Walking.{rooted_one, add_starts, add_more, add_fits, add_ends, ends_fit}
 use Rattle.pp_calltree.proofs.trie.Trie.add.Goals as goal

@@ -1,4 +1,4 @@
-use Rattle.std.proofs.Common.{ap, subst, ◌++◌, ◌∷◌, [], ◌-◌, ◌∙◌}
+use Rattle.std.proofs.Common.{ap, subst, ◌++◌, ◌∷◌, [], ◌∙◌}
 use Rattle.pp_calltree.specs.Twigs.{number_at}
 use Rattle.pp_calltree.proofs.Chaining.{ReadTo, read_more, read_all}
 use Rattle.pp_calltree.proofs.twigs.Twigs.branches.Goals as goal
