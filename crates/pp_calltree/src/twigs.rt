@@ -98,7 +98,7 @@ fn chain(alloc: Global, edges: &[Edge]) -> Result<Chains, Memory>
 {
     let mut newest = Vec::new(alloc);
     newest.resize(edges.len() + 1, None)?;
-    let mut older = Vec::new(alloc);
+    let mut older = Vec::with_capacity(alloc, edges.len())?;
     for (place, edge) in edges.iter().enumerate() {
         let child = number(place as u64 + 1)?;
         older.push(put(&mut newest, edge.above, child))?;

@@ -9,9 +9,9 @@ pub loop-place-init : goal.loop-place-init
 loop-place-init c =
     let n : ℕ = length c.args.edges.now + 1 in
     let whole : n - 0 ≡ n = omega arith in
-    chained_none c.args.edges.now c.resize.new.self.items c.new-older.result.items
+    chained_none c.args.edges.now c.resize.new.self.items c.in_ok-older.older.items
     (c.in_ok-resize.ensures.items ∙ (λ j. take n (c.new-newest.ensures.items j) ++ replicate (n - c.new-newest.ensures.len j) None)
-    ∙ (λ j. nothing_taken n j ++ replicate (whole j) None)) c.new-older.ensures.items
+    ∙ (λ j. nothing_taken n j ++ replicate (whole j) None)) c.in_ok-older.ensures.items
 
 pub put-requires : goal.put-requires
 put-requires c =
