@@ -1,10 +1,10 @@
 -- From the samples of a profile to the nodes of its call tree.
-use Rattle.std.proofs.Common.{◌≡◌, ℕ, ◌<◌, ◌^◌, not, pos, nat_abs, List, [], ◌∷◌, ◌++◌, length, map, reverse, get_or, All, refl, sym, ap, subst, ◌∙◌, arith}
+use Rattle.std.proofs.Common.{◌≡◌, ℕ, ◌<◌, ◌^◌, not, pos, List, [], ◌∷◌, ◌++◌, length, map, reverse, get_or, All, refl, sym, ap, subst, ◌∙◌, arith}
 use Rattle.std.specs.Ordering.{int_eq}
 use Rattle.std.proofs.lemmas.Grind.{reverse_onto}
 use Rattle.std.proofs.lemmas.List.{map-append}
 use Rattle.std.proofs.lemmas.List.Elements.{All-map, All-filter, All-from_get_or}
-use Rattle.std.proofs.lemmas.List.Sums.{sum_by-cons, get_or-le-sum_by}
+use Rattle.std.proofs.lemmas.List.Sums.{get_or-le-sum_by}
 use Rattle.pp_model.specs.declared.profile.Sample.{Sample}
 use Rattle.pp_model.specs.declared.profile.Profile.{Profile}
 use Rattle.pp_model.specs.Conditions.{IsSampleOf}
@@ -12,16 +12,14 @@ use Rattle.pp_model.specs.Finders.{Finders}
 use Rattle.pp_model.specs.Values.{no_sample}
 use Rattle.pp_model.proofs.RuleLemmas.{sample_at}
 use Rattle.pp_count.specs.declared.scope.Scope.{Scope}
-use Rattle.pp_count.specs.Sums.{Seen, weighed, absolute, renamed}
+use Rattle.pp_count.specs.Sums.{Seen, weighed, renamed}
 use Rattle.pp_count.specs.Parts.{HasBelow}
 use Rattle.pp_count.specs.Seeing.{HoldsFilters}
-use Rattle.pp_count.specs.Scope.{profile_of, config_of, size_of}
+use Rattle.pp_count.specs.Scope.{profile_of, config_of, size_of, AreSeen}
 use Rattle.pp_count.proofs.CallerLemmas.{weighed-renamed}
-use Rattle.pp_count.proofs.Sizes.{part_within}
-use Rattle.pp_calltree.specs.declared.path.Path.{Path}
 use Rattle.pp_calltree.specs.CallTree.{rooted, all_lengths, path_samples}
-use Rattle.pp_calltree.specs.Paths.{path_seen, ArePaths}
 use Rattle.pp_calltree.specs.Laid.{written_out, HasRoom}
+use Rattle.pp_calltree.proofs.Gathering.{paths_within}
 use Rattle.pp_calltree.proofs.LaidOut.{all_reversed}
 
 -- the samples of a profile are its own
@@ -41,38 +39,22 @@ rooted-renamed : {J K : Type 0} (f : J → K) (S : List (Seen J)) → map (renam
 rooted-renamed f [] = refl
 rooted-renamed f (s ∷ S) = λ i. record { value = s.value; keys = map-reversed f s.keys i } ∷ rooted-renamed f S i
 
-rooted_size : (S : List (Seen ℕ)) → absolute (map rooted S) ≡ absolute S
-rooted_size [] = refl
-rooted_size (s ∷ S) =
-    omega (arith, rooted_size S, sum_by-cons (λ (t : Seen ℕ). nat_abs t.value) s S, sum_by-cons (λ (t : Seen ℕ). nat_abs t.value) (rooted s) (map rooted S))
-
 -- the paths can be laid out
-pub paths_have_room : (scope : Scope) (samples : List Sample) (paths : List Path) (R : List (Seen ℕ)) → R ≡ map path_seen paths → ArePaths scope samples paths
-    → size_of scope samples < 2 ^ 63 → HasRoom scope.table.now.names (all_lengths R) R
-paths_have_room scope samples paths R same are fits =
+pub paths_have_room : (scope : Scope) (samples : List Sample) (S : List (Seen ℕ)) → AreSeen scope samples S → size_of scope samples < 2 ^ 63
+    → HasRoom scope.table.now.names (all_lengths (map rooted (weighed S))) (map rooted (weighed S))
+paths_have_room scope samples S are fits =
     let n : ℕ = length scope.table.now.names in
-    let whole : R ≡ map rooted (weighed are.seen) = same ∙ are.paths_are in
     record {
-      below = subst (All (HasBelow n)) (sym whole)
-          (All-map (HasBelow n) rooted (weighed are.seen)
-          (λ i d here. all_reversed (λ k. k < n) (get_or (weighed are.seen) i d).keys
-          (All-filter (λ (s : Seen ℕ). not (int_eq s.value (pos 0))) (HasBelow n) are.seen are.are.below i d here)));
-      short = λ i d here. get_or-le-sum_by (λ (s : Seen ℕ). length s.keys) R i d here;
-      fits = omega (
-        arith,
-        fits,
-        are.are.within,
-        ap absolute whole,
-        rooted_size (weighed are.seen),
-        part_within (λ (s : Seen ℕ). nat_abs s.value) (λ (s : Seen ℕ). not (int_eq s.value (pos 0))) are.seen,
-      );
+      below = All-map (HasBelow n) rooted (weighed S)
+          (λ i d here. all_reversed (λ k. k < n) (get_or (weighed S) i d).keys
+          (All-filter (λ (s : Seen ℕ). not (int_eq s.value (pos 0))) (HasBelow n) S are.below i d here));
+      short = λ i d here. get_or-le-sum_by (λ (s : Seen ℕ). length s.keys) (map rooted (weighed S)) i d here;
+      fits = omega (arith, fits, are.within, paths_within S);
     }
 
 -- written out, they are the paths of the report's samples
-pub paths_written : (scope : Scope) (paths : List Path) (R : List (Seen ℕ)) (f : Finders) → HoldsFilters scope.l.now scope.v.now (config_of scope) f
-    → R ≡ map path_seen paths → ArePaths scope (profile_of scope).sample paths
-    → written_out (profile_of scope) scope.table.now.names R ≡ path_samples (profile_of scope) f (config_of scope) scope.column
-paths_written scope paths R f holds same are =
-    ap (written_out (profile_of scope) scope.table.now.names) (same ∙ are.paths_are)
-    ∙ rooted-renamed _ (weighed are.seen)
-    ∙ ap (map rooted) (sym (weighed-renamed _ are.seen) ∙ ap weighed (are.are.are f holds))
+pub paths_written : (scope : Scope) (S : List (Seen ℕ)) (f : Finders) → HoldsFilters scope.l.now scope.v.now (config_of scope) f
+    → AreSeen scope (profile_of scope).sample S
+    → written_out (profile_of scope) scope.table.now.names (map rooted (weighed S)) ≡ path_samples (profile_of scope) f (config_of scope) scope.column
+paths_written scope S f holds are =
+    rooted-renamed _ (weighed S) ∙ ap (map rooted) (sym (weighed-renamed _ S) ∙ ap weighed (are.are f holds))

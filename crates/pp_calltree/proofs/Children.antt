@@ -1,9 +1,7 @@
 -- The sorted branches of a node are its children in the call tree.
-use Rattle.std.proofs.Common.{◌≡◌, ℕ, zero, suc, ◌+◌, ◌<◌, Bool, true, false, ◌||◌, nat_eq, nat_abs, List, [], ◌∷◌, length, map, get_or, All, Some, refl, sym, ap, subst, ◌∙◌, arith}
+use Rattle.std.proofs.Common.{◌≡◌, ℕ, zero, suc, ◌+◌, ◌<◌, Bool, true, false, ◌||◌, nat_eq, nat_abs, pos, List, [], ◌∷◌, length, map, get_or, All, refl, sym, ap, subst, ◌∙◌, arith}
 use Rattle.std.specs.List.{list_any, IsDistinct, AllByRecursion}
 use Rattle.std.specs.List.Sorted.{IsPermutation, IsSorted}
-use Rattle.std.specs.Map.{lookup, keys_of}
-use Rattle.std.specs.Option.{unwrap_or, is_some}
 use Rattle.std.specs.Ordering.{nat_cmp, eq_by_cmp, is_lt, is_eq, ordering_then}
 use Rattle.std.specs.Cmp.{IsTotalOrder, nat_cmp_total, tied_itself, unsigned_tied}
 use Rattle.std.specs.declared.cmp.Ordering.{Ordering}
@@ -14,10 +12,7 @@ use Rattle.std.proofs.lemmas.Cmp.{nat_eq_equiv, on_total, then_total, back_total
 use Rattle.std.proofs.lemmas.List.{length-map}
 use Rattle.std.proofs.lemmas.List.Elements.{All-head, All-tail, All-map}
 use Rattle.std.proofs.lemmas.List.Sorted.{IsPermutation-map, All-permutation, list_any-IsPermutation}
-use Rattle.std.proofs.lemmas.Map.Entries.{lookup_from_place}
 use Rattle.std.proofs.lemmas.Map.Keys.{IsDistinct-IsPermutation}
-use Rattle.std.proofs.lemmas.Map.Made.{is_some-lookup}
-use Rattle.std.proofs.lemmas.Option.{slice_get-get_or}
 use Rattle.pp_model.specs.FrameTexts.{Written}
 use Rattle.pp_grain.specs.Keys.{key_cmp}
 use Rattle.pp_grain.proofs.CallerLemmas.{key_cmp_total, both_equal, key_cmp_ties}
@@ -28,46 +23,19 @@ use Rattle.pp_count.proofs.Renaming.{same_bool, same_found, list_any-renamed}
 use Rattle.pp_calltree.specs.declared.branch.Branch.{Branch}
 use Rattle.pp_calltree.specs.declared.texts.Texts.{Texts}
 use Rattle.pp_calltree.specs.CallTree.{first_keys, path_cum, path_flat, sibling_order, siblings}
-use Rattle.pp_calltree.specs.Branches.{Said, said, branch_of, no_branch}
+use Rattle.pp_calltree.specs.Branches.{Said, said, branch_of, AreBranches}
 use Rattle.pp_calltree.specs.Siblings.{texts_at, size_cmp, branch_cmp}
 use Rattle.pp_calltree.proofs.Under.{first_keys-renamed, path_cum-renamed, path_flat-renamed, first_below}
 
--- The list has the branches of these samples below so many keys, each once.
-pub record AreBranches (depth : ℕ) (S : List (Seen ℕ)) (list : List Branch) : Type 0 where
-  pub said_are : All (λ b. said b ≡ branch_of depth S b.key) list
-  pub present : (m : ℕ) → list_any (nat_eq m) (map (λ b. b.key) list) ≡ list_any (eq_by_cmp nat_cmp m) (first_keys S)
-  pub distinct : IsDistinct nat_eq (map (λ b. b.key) list)
-
--- an entry of a table says what the branch of its key does
-module _ (depth : ℕ) (S : List (Seen ℕ)) (es : List (ℕ × Branch)) (distinct : IsDistinct nat_eq (keys_of es))
-    (says : (k : ℕ) → said (unwrap_or (lookup (nat_eq k) es) (no_branch depth k)) ≡ branch_of depth S k) where
-  entries_say : All (λ (e : ℕ × Branch). said e.1 ≡ branch_of depth S e.0) es
-  entries_say i d here =
-      let e : ℕ × Branch = get_or es i d in
-      let found : lookup (nat_eq e.0) es ≡ Some e.1 = lookup_from_place nat_eq_equiv es i e.0 e.1 distinct (slice_get-get_or es i d here) in
-      sym (ap (λ o. said (unwrap_or o (no_branch depth e.0))) found) ∙ says e.0
-
-  branches_say : All (λ b. said b ≡ branch_of depth S b.key) (map (λ (e : ℕ × Branch). e.1) es)
-  branches_say = All-map (λ (b : Branch). said b ≡ branch_of depth S b.key) (λ (e : ℕ × Branch). e.1) es
-      (λ i d here. let is = entries_say i d here in is ∙ ap (branch_of depth S) (sym (ap (λ (s : Said). s.key) is)))
-
-  keys_same : (xs : List (ℕ × Branch)) → All (λ (e : ℕ × Branch). said e.1 ≡ branch_of depth S e.0) xs → map (λ (b : Branch). b.key) (map (λ (e : ℕ × Branch). e.1) xs) ≡ keys_of xs
-  keys_same [] all = refl
-  keys_same (x ∷ xs) all = λ i.
-      (All-head (λ (e : ℕ × Branch). said e.1 ≡ branch_of depth S e.0) x xs all i).key
-      ∷ keys_same xs (All-tail (λ (e : ℕ × Branch). said e.1 ≡ branch_of depth S e.0) x xs all) i
-
-  -- the branches of a table, in any order
-  pub listed : (list : List Branch) → ((k : ℕ) → is_some (lookup (nat_eq k) es) ≡ list_any (eq_by_cmp nat_cmp k) (first_keys S))
-      → IsPermutation (map (λ (e : ℕ × Branch). e.1) es) list → AreBranches depth S list
-  listed list present moved =
-      let keys : IsPermutation (map (λ (b : Branch). b.key) (map (λ (e : ℕ × Branch). e.1) es)) (map (λ (b : Branch). b.key) list) =
-      IsPermutation-map (λ (b : Branch). b.key) _ _ moved in
-      record {
-        said_are = All-permutation (λ (b : Branch). said b ≡ branch_of depth S b.key) _ _ moved branches_say;
-        present = λ m. sym (list_any-IsPermutation (nat_eq m) _ _ keys) ∙ ap (list_any (nat_eq m)) (keys_same es entries_say) ∙ sym (is_some-lookup (nat_eq m) es) ∙ present m;
-        distinct = IsDistinct-IsPermutation nat_eq nat_eq_equiv.symm _ _ keys (subst (IsDistinct nat_eq) (sym (keys_same es entries_say)) distinct);
-      }
+-- the branches of samples, in any order
+pub listed : (at : ℕ → List (Seen ℕ)) (depth : ℕ) (S : List (Seen ℕ)) (xs list : List Branch) → AreBranches at depth S xs → IsPermutation xs list → AreBranches at depth S list
+listed at depth S xs list are moved =
+    let keys : IsPermutation (map (λ (b : Branch). b.key) xs) (map (λ (b : Branch). b.key) list) = IsPermutation-map (λ (b : Branch). b.key) _ _ moved in
+    record {
+      said_are = All-permutation (λ (b : Branch). said at b ≡ branch_of depth S b.key) _ _ moved are.said_are;
+      present = λ m. sym (list_any-IsPermutation (nat_eq m) _ _ keys) ∙ are.present m;
+      distinct = IsDistinct-IsPermutation nat_eq nat_eq_equiv.symm _ _ keys are.distinct;
+    }
 
 -- what an order says where it says that two tie
 pub ties : (o : Ordering) → is_eq o ≡ true → o ≡ Equal
@@ -115,7 +83,7 @@ has_at p (k ∷ ks) zero d here e = ap (λ b. b || list_any p ks) e
 has_at p (k ∷ ks) (suc i) d here e = or_later (p k) (list_any p ks) (has_at p ks i d (omega arith) e)
 
 module _ (texts : Texts) (name : ℕ → Written) (n : ℕ) (apart : (a b : ℕ) → a < n → b < n → eq_by_cmp key_cmp (name a) (name b) ≡ eq_by_cmp nat_cmp a b)
-    (texts_are : (k : ℕ) → k < n → texts_at texts k ≡ name k) (depth : ℕ) (S : List (Seen ℕ)) (below : All (HasBelow n) S) (list : List Branch) (are : AreBranches depth S list) where
+    (texts_are : (k : ℕ) → k < n → texts_at texts k ≡ name k) (at : ℕ → List (Seen ℕ)) (depth : ℕ) (S : List (Seen ℕ)) (below : All (HasBelow n) S) (list : List Branch) (are : AreBranches at depth S list) where
   abbrev W : List (Seen Written)
   W = map (renamed name) S
 
@@ -135,7 +103,7 @@ module _ (texts : Texts) (name : ℕ → Written) (n : ℕ) (apart : (a b : ℕ)
   nodes_are i d here =
       let b : Branch = get_or list i d in
       let in_n : b.key < n = keys_below i d here in
-      let is : said b ≡ branch_of depth S b.key = are.said_are i d here in
+      let is : said at b ≡ branch_of depth S b.key = are.said_are i d here in
       record {
         in_n = in_n;
         cum_is = path_cum-renamed key_cmp name n apart b.key S in_n below ∙ sym (ap (λ (s : Said). s.cum) is);
@@ -153,7 +121,7 @@ module _ (texts : Texts) (name : ℕ → Written) (n : ℕ) (apart : (a b : ℕ)
       let len : length (map (λ (b : Branch). name b.key) list) ≡ length list = length-map list (λ (b : Branch). name b.key) in
       let here : k < length list = omega (arith, len, high) in
       let next : k + 1 < length list = omega (arith, len, high) in
-      let e : Branch = no_branch 0 0 in
+      let e : Branch = record { depth = 0; key = 0; flat = pos 0; cum = pos 0; node = 0 } in
       (λ i. is_lt (sibling_order key_cmp W (get_or-mapped (λ (b : Branch). name b.key) list (k + 1) d e next i) (get_or-mapped (λ (b : Branch). name b.key) list k d e here i)))
       ∙ ap is_lt (nodes_order (get_or list (k + 1) e) (get_or list k e) (nodes_are (k + 1) e next) (nodes_are k e here)) ∙ sorted k e low next
 

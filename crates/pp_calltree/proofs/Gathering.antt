@@ -1,26 +1,28 @@
 -- The paths of the counted samples, with one more sample.
-use Rattle.std.proofs.Common.{◌≡◌, ℕ, zero, suc, ◌+◌, ◌<◌, ◌≤◌, ◌==◌, Bool, true, false, cond, not, ℤ, pos, List, [], ◌∷◌, ◌++◌, length, take, drop, get_or, map, All, Option, Some, None, option_map, refl, sym, ap, ◌∙◌, subst, arith}
-use Rattle.std.specs.List.{slice_get}
+use Rattle.std.proofs.Common.{◌≡◌, ℕ, zero, suc, ◌+◌, ◌<◌, ◌≤◌, ◌^◌, ◌==◌, nat_abs, Bool, true, false, cond, not, ℤ, pos, List, [], ◌∷◌, ◌++◌, length, take, drop, get_or, map, All, Option, Some, None, option_map, refl, sym, ap, ◌∙◌, subst, arith}
+use Rattle.std.specs.List.{slice_get, sum_by}
 use Rattle.std.specs.Option.{is_some, option_map_or}
 use Rattle.std.specs.Ordering.{int_eq}
 use Rattle.std.proofs.lemmas.Bool.{false≢true, eq-eqb, ne_eqb}
 use Rattle.std.proofs.lemmas.List.{take_more, take_all, drop_more, drop-drop, map-append}
 use Rattle.std.proofs.lemmas.List.Elements.{filter-append, All-nil}
+use Rattle.std.proofs.lemmas.List.Sums.{sum_by-cons, sum_by_push, sum_by-take-le}
 use Rattle.pp_model.specs.declared.frame.Frame.{Frame}
 use Rattle.pp_model.specs.declared.profile.Sample.{Sample}
 use Rattle.pp_model.specs.Finders.{Finders}
 use Rattle.pp_stack.specs.Runs.{kept_if}
 use Rattle.pp_count.specs.declared.scope.Scope.{Scope}
 use Rattle.pp_count.specs.Column.{selected}
-use Rattle.pp_count.specs.Sums.{Seen, weighed}
+use Rattle.pp_count.specs.Sums.{Seen, absolute, weighed}
 use Rattle.pp_count.specs.Parts.{HasBelow}
-use Rattle.pp_count.specs.Scope.{profile_of, config_of, AreSeen}
+use Rattle.pp_count.specs.Scope.{profile_of, config_of, size_of, AreSeen}
 use Rattle.pp_count.specs.Seeing.{HoldsFilters, keys_of_stack, filtered_stack, numbers_from, filtered_from}
+use Rattle.pp_count.proofs.Sizes.{part_within}
 use Rattle.pp_count.proofs.Ranges.{IsSeen, name_of, by_numbers, seen_more, seen_same}
-use Rattle.pp_calltree.specs.declared.path.Path.{Path}
-use Rattle.pp_calltree.specs.declared.path.Rest.{Rest}
+use Rattle.pp_calltree.specs.declared.trie.Trie.{Trie}
 use Rattle.pp_calltree.specs.CallTree.{rooted}
-use Rattle.pp_calltree.specs.Paths.{path_seen, rest_seen, rooted_if, stands_at, ArePaths}
+use Rattle.pp_calltree.specs.Paths.{rooted_if, stands_at, HasPaths}
+use Rattle.pp_calltree.specs.Trie.{none_waits, Holds, IsTrieOf}
 
 take_one : (samples : List Sample) (i : ℕ) (s : Sample) → i < length samples → s ≡ get_or samples i s → take i samples ++ s ∷ [] ≡ take (i + 1) samples
 take_one samples i s here is = ap (λ r. take i samples ++ r ∷ []) is ∙ sym (take_more samples i s here)
@@ -33,37 +35,65 @@ rooted_one v keys =
       | false ↦ refl
     ]
 
+rooted_size : (S : List (Seen ℕ)) → absolute (map rooted S) ≡ absolute S
+rooted_size [] = refl
+rooted_size (s ∷ S) =
+    omega (arith, rooted_size S, sum_by-cons (λ (t : Seen ℕ). nat_abs t.value) s S, sum_by-cons (λ (t : Seen ℕ). nat_abs t.value) (rooted s) (map rooted S))
+
+-- the values of paths are within those of their samples
+pub paths_within : (S : List (Seen ℕ)) → absolute (map rooted (weighed S)) ≤ absolute S
+paths_within S =
+    omega (arith, rooted_size (weighed S), part_within (λ (s : Seen ℕ). nat_abs s.value) (λ (s : Seen ℕ). not (int_eq s.value (pos 0))) S)
+
+-- there is room for the value of one more sample
+pub sample_fits : (scope : Scope) (samples : List Sample) (i : ℕ) (s : Sample) (trie : Trie) → i < length samples → s ≡ get_or samples i s → size_of scope samples < 2 ^ 63
+    → (so_far : HasPaths scope (take i samples) trie) → absolute (map rooted (weighed so_far.seen)) + nat_abs (selected scope.column (config_of scope).divide_by s) < 2 ^ 63
+sample_fits scope samples i s trie here at_i fits so_far =
+    let size : Sample → ℕ = λ x. nat_abs (selected scope.column (config_of scope).divide_by x) in
+    omega (
+      arith,
+      fits,
+      paths_within so_far.seen,
+      so_far.are.within,
+      ap (sum_by size) (take_one samples i s here at_i),
+      sum_by_push size (take i samples) s,
+      sum_by-take-le size samples (i + 1),
+    )
+
 -- one more sample, which the filters keep
-pub paths_more : (scope : Scope) (samples : List Sample) (i : ℕ) (s : Sample) (keys : List ℕ) (value : ℤ) (paths new : List Path)
-    → i < length samples → s ≡ get_or samples i s → IsSeen scope s true keys → All (λ k. k < length scope.table.now.names) keys
-    → value ≡ selected scope.column (config_of scope).divide_by s → map path_seen new ≡ map path_seen paths ++ rooted_if value keys
-    → ArePaths scope (take i samples) paths → ArePaths scope (take (i + 1) samples) new
-paths_more scope samples i s keys value paths new here at_i is below value_is more so_far =
+pub paths_more : (scope : Scope) (samples : List Sample) (i : ℕ) (s : Sample) (keys : List ℕ) (trie new : Trie)
+    → i < length samples → s ≡ get_or samples i s → IsSeen scope s true keys → All (λ k. k < length scope.table.now.names) keys → size_of scope samples < 2 ^ 63
+    → ((paths : List (Seen ℕ)) → IsTrieOf trie paths → absolute paths + nat_abs (selected scope.column (config_of scope).divide_by s) < 2 ^ 63
+    → IsTrieOf new (paths ++ rooted_if (selected scope.column (config_of scope).divide_by s) keys))
+    → HasPaths scope (take i samples) trie → HasPaths scope (take (i + 1) samples) new
+paths_more scope samples i s keys trie new here at_i is below fits more so_far =
     let one : Seen ℕ = by_numbers scope s keys in
     record {
       seen = so_far.seen ++ one ∷ [];
       are = subst (λ (r : List Sample). AreSeen scope r (so_far.seen ++ one ∷ [])) (take_one samples i s here at_i)
           (seen_more scope (take i samples) so_far.seen s keys is below so_far.are);
-      paths_are = more ∙ (λ j. so_far.paths_are j ++ rooted_if (value_is j) keys) ∙ ap (λ r. map rooted (weighed so_far.seen) ++ r) (sym (rooted_one one.value keys))
+      stands = subst (IsTrieOf new)
+          (ap (λ r. map rooted (weighed so_far.seen) ++ r) (sym (rooted_one one.value keys))
           ∙ sym (ap (map rooted) (filter-append (λ (x : Seen ℕ). not (int_eq x.value (pos 0))) so_far.seen (one ∷ []))
-          ∙ map-append rooted (weighed so_far.seen) (weighed (one ∷ [])));
+          ∙ map-append rooted (weighed so_far.seen) (weighed (one ∷ []))))
+          (more (map rooted (weighed so_far.seen)) so_far.stands (sample_fits scope samples i s trie here at_i fits so_far));
     }
 
 -- one more sample, which they drop
-pub paths_same : (scope : Scope) (samples : List Sample) (i : ℕ) (s : Sample) (keys : List ℕ) (paths : List Path)
+pub paths_same : (scope : Scope) (samples : List Sample) (i : ℕ) (s : Sample) (keys : List ℕ) (trie : Trie)
     → i < length samples → s ≡ get_or samples i s → IsSeen scope s false keys
-    → ArePaths scope (take i samples) paths → ArePaths scope (take (i + 1) samples) paths
-paths_same scope samples i s keys paths here at_i is so_far = record {
+    → HasPaths scope (take i samples) trie → HasPaths scope (take (i + 1) samples) trie
+paths_same scope samples i s keys trie here at_i is so_far = record {
   seen = so_far.seen;
   are = subst (λ (r : List Sample). AreSeen scope r so_far.seen) (take_one samples i s here at_i)
       (seen_same scope (take i samples) so_far.seen s keys is so_far.are);
-  paths_are = so_far.paths_are;
+  stands = so_far.stands;
 }
 
 -- The paths of the first samples are those of the numbers before this place, and the numbers from there on are those of
 -- the samples that the filters leave of the others.
-pub record GatheredTo (scope : Scope) (samples : List Sample) (kept : List ℕ) (met i : ℕ) (paths : List Path) : Type 0 where
-  pub paths_are : ArePaths scope (take i samples) paths
+pub record GatheredTo (scope : Scope) (samples : List Sample) (kept : List ℕ) (met i : ℕ) (trie : Trie) : Type 0 where
+  pub paths_are : HasPaths scope (take i samples) trie
   pub left_are : (f : Finders) → HoldsFilters scope.l.now scope.v.now (config_of scope) f
       → drop met kept ≡ filtered_from (profile_of scope) f (config_of scope) i (drop i samples)
 
@@ -112,18 +142,18 @@ module _ (scope : Scope) (samples : List Sample) (kept : List ℕ) (met i : ℕ)
   dropped (Some x) keys none = absurd (false≢true (sym none))
 
   -- the next number is another sample's
-  pub passed_over : (paths : List Path) → stands_at kept met i ≡ false → GatheredTo scope samples kept met i paths → GatheredTo scope samples kept met (i + 1) paths
-  passed_over paths other so_far = record {
-    paths_are = paths_same scope samples i s [] paths here at_i
+  pub passed_over : (trie : Trie) → stands_at kept met i ≡ false → GatheredTo scope samples kept met i trie → GatheredTo scope samples kept met (i + 1) trie
+  passed_over trie other so_far = record {
+    paths_are = paths_same scope samples i s [] trie here at_i
         (λ f holds. dropped (filtered_stack (profile_of scope) f (config_of scope) s) [] (sym (meets f (so_far.left_are f holds)) ∙ other)) so_far.paths_are;
     left_are = λ f holds.
         so_far.left_are f holds ∙ step f ∙ ap (λ b. cond b (i ∷ later f) (later f)) (sym (meets f (so_far.left_are f holds)) ∙ other);
   }
 
   -- the next number is this sample's
-  pub met_next : (paths new : List Path) → stands_at kept met i ≡ true → (ArePaths scope (take i samples) paths → ArePaths scope (take (i + 1) samples) new)
-      → GatheredTo scope samples kept met i paths → GatheredTo scope samples kept (met + 1) (i + 1) new
-  met_next paths new own more so_far = record {
+  pub met_next : (trie new : Trie) → stands_at kept met i ≡ true → (HasPaths scope (take i samples) trie → HasPaths scope (take (i + 1) samples) new)
+      → GatheredTo scope samples kept met i trie → GatheredTo scope samples kept (met + 1) (i + 1) new
+  met_next trie new own more so_far = record {
     paths_are = more so_far.paths_are;
     left_are = λ f holds.
         sym (drop-drop 1 met kept)
@@ -131,27 +161,19 @@ module _ (scope : Scope) (samples : List Sample) (kept : List ℕ) (met i : ℕ)
   }
 
 -- before the first sample
-pub gathered_none : (scope : Scope) (samples : List Sample) (kept : List ℕ) (paths : List Path) → paths ≡ []
+pub gathered_none : (scope : Scope) (samples : List Sample) (kept : List ℕ) (trie : Trie) → Holds trie.edges.keys trie.weights.items none_waits []
     → ((f : Finders) → HoldsFilters scope.l.now scope.v.now (config_of scope) f → kept ≡ filtered_from (profile_of scope) f (config_of scope) 0 samples)
-    → GatheredTo scope samples kept 0 0 paths
-gathered_none scope samples kept paths none are = record {
+    → GatheredTo scope samples kept 0 0 trie
+gathered_none scope samples kept trie none are = record {
   paths_are = record {
     seen = [];
     are = record { below = All-nil (HasBelow (length scope.table.now.names)); within = omega arith; are = λ f holds. refl };
-    paths_are = ap (map path_seen) none;
+    stands = none;
   };
   left_are = are;
 }
 
 -- past the last one
-pub gathered_all : (scope : Scope) (samples : List Sample) (kept : List ℕ) (met i : ℕ) (paths : List Path) → length samples ≤ i
-    → GatheredTo scope samples kept met i paths → ArePaths scope samples paths
-gathered_all scope samples kept met i paths past so_far = subst (λ (r : List Sample). ArePaths scope r paths) (take_all i samples past) so_far.paths_are
-
--- what there is of one more path
-pub rests_more : (paths : List Path) (i : ℕ) (path : Path) (old new : List Rest) (rest : Rest) → i < length paths → path ≡ get_or paths i path
-    → rest_seen rest ≡ path_seen path → new ≡ old ++ rest ∷ []
-    → map rest_seen old ≡ map path_seen (take i paths) → map rest_seen new ≡ map path_seen (take (i + 1) paths)
-rests_more paths i path old new rest here is same more so_far =
-    ap (map rest_seen) more ∙ map-append rest_seen old (rest ∷ []) ∙ (λ j. so_far j ++ (same ∙ ap path_seen is) j ∷ [])
-    ∙ sym (ap (map path_seen) (take_more paths i path here) ∙ map-append path_seen (take i paths) (get_or paths i path ∷ []))
+pub gathered_all : (scope : Scope) (samples : List Sample) (kept : List ℕ) (met i : ℕ) (trie : Trie) → length samples ≤ i
+    → GatheredTo scope samples kept met i trie → HasPaths scope samples trie
+gathered_all scope samples kept met i trie past so_far = subst (λ (r : List Sample). HasPaths scope r trie) (take_all i samples past) so_far.paths_are

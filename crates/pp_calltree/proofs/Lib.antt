@@ -1,4 +1,6 @@
-pub mod Splits
+pub mod Edges
+pub mod Walking
+pub mod Chaining
 pub mod SiblingOrder
 pub mod Gathering
 pub mod Naming

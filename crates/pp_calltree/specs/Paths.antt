@@ -1,5 +1,5 @@
--- The paths of samples as the code holds them, by key numbers. No public clause cites it.
-use Rattle.std.specs.Prelude.{◌≡◌, ℕ, ◌==◌, Bool, false, ℤ, pos, List, [], ◌∷◌, map, if◌then◌else◌}
+-- The paths of a report's samples. No public clause cites it.
+use Rattle.std.specs.Prelude.{ℕ, ◌==◌, Bool, false, ℤ, pos, List, [], ◌∷◌, map, if◌then◌else◌}
 use Rattle.std.specs.List.{slice_get}
 use Rattle.std.specs.Option.{option_map_or}
 use Rattle.std.specs.Ordering.{int_eq}
@@ -7,17 +7,9 @@ use Rattle.pp_model.specs.declared.profile.Sample.{Sample}
 use Rattle.pp_count.specs.declared.scope.Scope.{Scope}
 use Rattle.pp_count.specs.Sums.{Seen, weighed}
 use Rattle.pp_count.specs.Scope.{AreSeen}
-use Rattle.pp_calltree.specs.declared.path.Path.{Path}
-use Rattle.pp_calltree.specs.declared.path.Rest.{Rest}
+use Rattle.pp_calltree.specs.declared.trie.Trie.{Trie}
 use Rattle.pp_calltree.specs.CallTree.{rooted}
-
--- the sample of a path
-abbrev pub path_seen : Path → Seen ℕ
-path_seen path = record { value = path.value; keys = path.keys }
-
--- the sample of what is left of a path
-abbrev pub rest_seen : Rest → Seen ℕ
-rest_seen rest = record { value = rest.value; keys = rest.keys.now }
+use Rattle.pp_calltree.specs.Trie.{IsTrieOf}
 
 -- the sample with its keys root first, unless its value is 0
 abbrev pub rooted_if : ℤ → List ℕ → List (Seen ℕ)
@@ -28,8 +20,8 @@ rooted_if value keys =
 abbrev pub stands_at : List ℕ → ℕ → ℕ → Bool
 stands_at numbers place number = option_map_or (λ other. other == number) (slice_get numbers place) false
 
--- The paths are those of what the report sees of the samples, by key numbers.
-pub record ArePaths (scope : Scope) (samples : List Sample) (paths : List Path) : Type 0 where
+-- The trie is that of what the report sees of the samples, by key numbers.
+pub record HasPaths (scope : Scope) (samples : List Sample) (trie : Trie) : Type 0 where
   pub seen : List (Seen ℕ)
   pub are : AreSeen scope samples seen
-  pub paths_are : map path_seen paths ≡ map rooted (weighed seen)
+  pub stands : IsTrieOf trie (map rooted (weighed seen))

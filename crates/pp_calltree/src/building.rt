@@ -11,14 +11,17 @@ ghost use Rattle.pp_count.specs.Counts.{written_names};
 ghost use Rattle.pp_count.specs.Counted.{CanCount, IsCountedOf};
 ghost use Rattle.pp_calltree.specs.CallTree.{tree_nodes};
 ghost use Rattle.pp_calltree.specs.Laid.{node_row};
+ghost use Rattle.pp_calltree.specs.Links.{nodes_by};
 ghost use Rattle.pp_calltree.specs.Tree.{IsTreeOf, flats_at};
 
 use crate::laying::lay_out;
 use crate::linking::link;
-use crate::path::{gather_paths, whole_paths};
-use crate::tree::{CallTree, PathNode};
+use crate::paths::gather_paths;
+use crate::tree::{CallTree, NumberedNode};
+use crate::twigs::Twigs;
 use pp_base::{List, Memory};
 use pp_count::{Counted, KeyTable, Scope, key_table};
+use pp_grain::{Key, Names};
 use pp_model::{Config, Loaded, Verdicts};
 use pp_tags::TagFilter;
 use std::alloc::Global;
@@ -51,8 +54,20 @@ impl CallTree {
         let kept = c.kept.as_slice();
         let nodes = list_by(alloc, l, v, kept, config, &focus, &ignore, column, &table)?;
         let list = link(alloc, nodes.as_slice())?;
-        Ok(CallTree { list })
+        let names = listed(alloc, &table.names)?;
+        Ok(CallTree { names, list })
     }
+}
+
+// The keys by number.
+fn listed(alloc: Global, names: &Names) -> Result<List<Key>, Memory>
+    ensures { IfOk result (λ list. list ≡ names.now) }
+{
+    let mut list = List::new(alloc);
+    for number in 0..names.len() {
+        list.push(names.key(number))?;
+    }
+    Ok(list)
 }
 
 // The nodes of the samples with these numbers, by this table of the profile's keys and these tag filters of the
@@ -67,7 +82,7 @@ fn list_by<'x>(
     ignore: &'x Option<TagFilter>,
     column: Option<u32>,
     table: &'x KeyTable,
-) -> Result<List<PathNode>, Memory>
+) -> Result<List<NumberedNode>, Memory>
     requires can { CanCount l.now.profile v.now config.now column }
     requires focus { focus.now ≡ filter_in_force config.now.tagfocus }
     requires ignore { ignore.now ≡ filter_in_force config.now.tagignore }
@@ -75,10 +90,12 @@ fn list_by<'x>(
     requires kept { (f : Finders) → HoldsFilters l.now v.now config.now f →
         kept.now ≡ filtered_from l.now.profile f config.now 0 l.now.profile.sample }
     ensures rows { (f : Finders) → HoldsFilters l.now v.now config.now f →
-        IfOk result (λ nodes. map (node_row l.now.profile) nodes
+        IfOk result (λ nodes. map (node_row l.now.profile) (nodes_by table.now.names nodes)
         ≡ tree_nodes l.now.profile f config.now column) }
-    ensures keys { IfOk result (λ nodes. All (λ n. IsKeyOf l.now.profile n.key) nodes) }
-    ensures fits { IfOk result (λ nodes. sum_by (λ n. nat_abs n.flat) nodes < 2 ^ 63) }
+    ensures keys { IfOk result (λ nodes.
+        All (λ n. IsKeyOf l.now.profile n.key) (nodes_by table.now.names nodes)) }
+    ensures fits { IfOk result (λ nodes.
+        sum_by (λ n. nat_abs n.flat) (nodes_by table.now.names nodes) < 2 ^ 63) }
 {
     let scope = Scope {
         l,
@@ -94,7 +111,7 @@ fn list_by<'x>(
 }
 
 // The nodes of the samples with these numbers.
-fn nodes_by(alloc: Global, scope: &Scope, kept: &[u32]) -> Result<List<PathNode>, Memory>
+fn nodes_by(alloc: Global, scope: &Scope, kept: &[u32]) -> Result<List<NumberedNode>, Memory>
     requires sound { IsSound scope.now }
     requires fits { size_of scope.now scope.now.l.now.profile.sample < 2 ^ 63 }
     requires kept { (f : Finders) →
@@ -103,14 +120,17 @@ fn nodes_by(alloc: Global, scope: &Scope, kept: &[u32]) -> Result<List<PathNode>
         scope.now.l.now.profile.sample }
     ensures rows { (f : Finders) →
         HoldsFilters scope.now.l.now scope.now.v.now scope.now.config.now f →
-        IfOk result (λ nodes. map (node_row scope.now.l.now.profile) nodes
+        IfOk result (λ nodes.
+        map (node_row scope.now.l.now.profile) (nodes_by scope.now.table.now.names nodes)
         ≡ tree_nodes scope.now.l.now.profile f scope.now.config.now scope.now.column) }
-    ensures keys { IfOk result (λ nodes. All (λ n. IsKeyOf scope.now.l.now.profile n.key) nodes) }
-    ensures fits { IfOk result (λ nodes. sum_by (λ n. nat_abs n.flat) nodes < 2 ^ 63) }
+    ensures keys { IfOk result (λ nodes. All (λ n. IsKeyOf scope.now.l.now.profile n.key)
+        (nodes_by scope.now.table.now.names nodes)) }
+    ensures fits { IfOk result (λ nodes.
+        sum_by (λ n. nat_abs n.flat) (nodes_by scope.now.table.now.names nodes) < 2 ^ 63) }
 {
     let p = scope.l.profile.get();
-    let paths = gather_paths(alloc, scope, p.sample.as_slice(), kept)?;
-    let rests = whole_paths(alloc, paths.as_slice())?;
-    let nodes = lay_out(alloc, p, &scope.table.names, &rests)?;
+    let trie = gather_paths(alloc, scope, p.sample.as_slice(), kept)?;
+    let twigs = Twigs::new(alloc, trie)?;
+    let nodes = lay_out(alloc, p, &scope.table.names, &twigs)?;
     Ok(nodes)
 }

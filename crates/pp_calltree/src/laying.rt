@@ -1,21 +1,21 @@
 //! The nodes of a call tree, laid out parents before children.
-ghost use Rattle.std.specs.Prelude.{◌≡◌, ◌≢◌, ℕ, ◌+◌, ◌<◌, ◌^◌, nat_abs, List as Seq, length, map, All, AllPairs, IfOk};
+ghost use Rattle.std.specs.Prelude.{◌≡◌, ◌≢◌, ℕ, ◌+◌, ◌<◌, ◌^◌, nat_abs, List as Seq, map, All, AllPairs, IfOk};
 ghost use Rattle.std.specs.List.{sum_by};
 ghost use Rattle.pp_model.specs.declared.profile.Profile.{Profile as Tables};
 ghost use Rattle.pp_model.specs.Rules.{IsCompact};
 ghost use Rattle.pp_grain.specs.declared.key.Key.{Key};
 ghost use Rattle.pp_grain.specs.Keys.{IsKeyOf, key_cmp};
-ghost use Rattle.pp_count.specs.Sums.{absolute};
-ghost use Rattle.pp_calltree.specs.CallTree.{all_lengths, any_row, tree_rows};
-ghost use Rattle.pp_calltree.specs.Paths.{rest_seen};
-ghost use Rattle.pp_calltree.specs.Laid.{CanLay, HasRoom, WaitBelow, branch_row, node_row, written_out};
+ghost use Rattle.pp_count.specs.Sums.{Seen};
+ghost use Rattle.pp_calltree.specs.CallTree.{any_row, tree_rows};
+ghost use Rattle.pp_calltree.specs.Laid.{CanLay, HasRoom, IsLaidFrom, WaitBelow, node_row, written_out};
+ghost use Rattle.pp_calltree.specs.Links.{nodes_by};
+ghost use Rattle.pp_calltree.specs.Twigs.{Bear};
 
 use crate::branch::Branch;
-use crate::path::Rest;
 use crate::siblings::sort_branches;
-use crate::splitting::split;
 use crate::texts::Texts;
-use crate::tree::PathNode;
+use crate::tree::NumberedNode;
+use crate::twigs::Twigs;
 use pp_base::{List, Memory};
 use pp_grain::Names;
 use pp_model::Profile;
@@ -26,21 +26,23 @@ pub fn lay_out(
     alloc: Global,
     p: &Profile,
     names: &Names,
-    rests: &[Rest],
-) -> Result<List<PathNode>, Memory>
+    twigs: &Twigs,
+) -> Result<List<NumberedNode>, Memory>
     requires compact { IsCompact p.now }
     requires keys { All (IsKeyOf p.now) names.now }
     requires distinct { AllPairs (λ a b. a ≢ b) names.now }
-    requires room { HasRoom names.now (all_lengths (map rest_seen rests.now)) (map rest_seen rests.now) }
-    ensures rows { IfOk result (λ nodes. map (node_row p.now) nodes
-        ≡ tree_rows key_cmp any_row (written_out p.now names.now (map rest_seen rests.now))) }
-    ensures keys { IfOk result (λ nodes. All (λ n. IsKeyOf p.now n.key) nodes) }
-    ensures fits { IfOk result (λ nodes. sum_by (λ n. nat_abs n.flat) nodes < 2 ^ 63) }
+    requires room { (samples : Seq (Seen ℕ)) × IsLaidFrom names.now twigs.now samples }
+    ensures rows { (samples : Seq (Seen ℕ)) → IsLaidFrom names.now twigs.now samples →
+        IfOk result (λ nodes. map (node_row p.now) (nodes_by names.now nodes)
+        ≡ tree_rows key_cmp any_row (written_out p.now names.now samples)) }
+    ensures keys { IfOk result (λ nodes. All (λ n. IsKeyOf p.now n.key) (nodes_by names.now nodes)) }
+    ensures fits { IfOk result (λ nodes.
+        sum_by (λ n. nat_abs n.flat) (nodes_by names.now nodes) < 2 ^ 63) }
 {
     let texts = Texts::new(alloc, p, names)?;
-    let mut nodes = List::new(alloc);
+    let mut nodes = List::from_vec(Vec::with_capacity(alloc, twigs.edges.len())?);
     let mut waiting = Vec::new(alloc);
-    push_branches(alloc, &texts, rests, 0, &mut waiting)?;
+    push_branches(alloc, &texts, twigs, 0, 0, &mut waiting)?;
     for _turn in 0..u64::MAX {
         let Some(branch) = waiting.pop() else {
             return Ok(nodes);
@@ -48,43 +50,46 @@ pub fn lay_out(
         let Some(depth) = branch.depth.checked_add(1) else {
             return Err(Memory);
         };
-        nodes.push(node_of(names, &branch))?;
-        push_branches(alloc, &texts, branch.rests.as_slice(), depth, &mut waiting)?;
+        nodes.push(node_of(&branch))?;
+        push_branches(alloc, &texts, twigs, branch.node, depth, &mut waiting)?;
     }
     // No tree has so many nodes.
     Err(Memory)
 }
 
-// Adds the branches below so many keys, the last one first.
-fn push_branches<'a>(
+// Adds the branches of the node, which are below so many keys, the last one first.
+fn push_branches(
     alloc: Global,
     texts: &Texts,
-    rests: &[Rest<'a>],
-    depth: u64,
-    waiting: &mut Vec<Branch<'a>>,
+    twigs: &Twigs,
+    node: u32,
+    depth: u32,
+    waiting: &mut Vec<Branch>,
 ) -> Result<(), Memory>
-    requires { absolute (map rest_seen rests.now) < 2 ^ 63 }
-    ensures { (p : Tables) (names : Seq Key) (most left : ℕ) →
-        CanLay p names texts.now → HasRoom names left (map rest_seen rests.now) →
-        most ≡ depth + left → IfOk result (λ _. WaitBelow p names most depth left
-        (map rest_seen rests.now) waiting.old.items waiting.new.items) }
+    ensures { (p : Tables) (names : Seq Key) (at : ℕ → Seq (Seen ℕ)) (most left : ℕ) →
+        CanLay p names texts.now → Bear twigs.now at → HasRoom names left (at node) →
+        most ≡ depth + left → IfOk result (λ _. WaitBelow p names at most depth left (at node)
+        waiting.old.items waiting.new.items) }
 {
-    let branches = split(alloc, rests, depth)?;
-    let mut list = sort_branches(alloc, texts, branches)?;
+    let branches = twigs.branches(alloc, node, depth)?;
+    let mut list = sort_branches(texts, branches)?;
     list.reverse();
     waiting.append(&mut list)?;
     Ok(())
 }
 
-fn node_of(names: &Names, branch: &Branch) -> PathNode
-    requires { branch.now.key < length names.now }
-    ensures row { (p : Tables) → node_row p result ≡ branch_row p names.now branch.now }
-    ensures key { (p : Tables) → All (IsKeyOf p) names.now → IsKeyOf p result.key }
+fn node_of(branch: &Branch) -> NumberedNode
+    ensures { result ≡ record {
+      key = branch.now.key;
+      depth = branch.now.depth;
+      flat = branch.now.flat;
+      cum = branch.now.cum;
+    } }
 {
-    PathNode {
-        key: names.key(branch.key),
+    NumberedNode {
+        key: branch.key,
+        depth: branch.depth,
         flat: branch.flat,
         cum: branch.cum,
-        depth: branch.depth,
     }
 }

@@ -5,12 +5,13 @@ mod branch;
 mod building;
 mod laying;
 mod linking;
-mod path;
+mod paths;
 mod shown;
 mod siblings;
-mod splitting;
 mod texts;
 mod tree;
+mod trie;
+mod twigs;
 mod writing;
 
 pub use tree::{CallTree, PathNode};

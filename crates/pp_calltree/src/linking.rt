@@ -1,19 +1,21 @@
 //! The links of the nodes, from how deep these stand.
-ghost use Rattle.std.specs.Prelude.{◌≡◌, ◌<◌, ◌+◌, ◌==◌, ℕ, nat_lt, Some, None, length, slice_index_or, IfOk, if◌then◌else◌};
+ghost use Rattle.std.specs.Prelude.{◌≡◌, ◌<◌, ◌+◌, ◌==◌, ℕ, nat_lt, List as Seq, Some, None, length, map, slice_index_or, IfOk, if◌then◌else◌};
+ghost use Rattle.pp_grain.specs.declared.key.Key.{Key};
 ghost use Rattle.pp_calltree.specs.Tree.{first_child};
-ghost use Rattle.pp_calltree.specs.Links.{nodes_of, AreLinked, AreParents};
+ghost use Rattle.pp_calltree.specs.Links.{nodes_by, AreLinked, AreParents};
 
-use crate::tree::{LinkedNode, PathNode};
+use crate::tree::{LinkedNode, NumberedNode};
+use crate::trie::number;
 use pp_base::{List, Memory};
 use std::alloc::Global;
 
 /// The nodes with their links. Parents stand before their children, and these before the parent's next sibling.
-pub fn link(alloc: Global, nodes: &[PathNode]) -> Result<List<LinkedNode>, Memory>
-    ensures nodes { IfOk result (λ list. nodes_of list ≡ nodes.now) }
-    ensures linked { IfOk result AreLinked }
+pub fn link(alloc: Global, nodes: &[NumberedNode]) -> Result<List<LinkedNode>, Memory>
+    ensures nodes { IfOk result (λ list. map (λ s. s.node) list ≡ nodes.now) }
+    ensures linked { (names : Seq Key) → IfOk result (AreLinked names) }
 {
     let parents = parents_of(alloc, nodes)?;
-    let mut list = Vec::new(alloc);
+    let mut list = Vec::with_capacity(alloc, nodes.len())?;
     // By depth, the place of the node that the next one to the left has for a sibling.
     let mut right = Vec::new(alloc);
     let mut place = nodes.len();
@@ -22,34 +24,35 @@ pub fn link(alloc: Global, nodes: &[PathNode]) -> Result<List<LinkedNode>, Memor
         let node = nodes[place];
         list.push(LinkedNode {
             node,
-            first_child: child_at(nodes, place),
+            first_child: child_at(nodes, place)?,
             next_sibling: entry(&right, node.depth),
             parent: parents[place],
         })?;
-        put_right(&mut right, node.depth, place as u64)?;
+        put_right(&mut right, node.depth, number(place as u64)?)?;
     }
     list.reverse();
     Ok(List::from_vec(list))
 }
 
 // The parent of each node.
-fn parents_of(alloc: Global, nodes: &[PathNode]) -> Result<Vec<Option<u64>>, Memory>
-    ensures { IfOk result (λ parents. AreParents nodes.now parents.items) }
+fn parents_of(alloc: Global, nodes: &[NumberedNode]) -> Result<Vec<Option<u32>>, Memory>
+    ensures { (names : Seq Key) →
+        IfOk result (λ parents. AreParents (nodes_by names nodes.now) parents.items) }
 {
-    let mut parents = Vec::new(alloc);
+    let mut parents = Vec::with_capacity(alloc, nodes.len())?;
     // By depth, the place of the last node so far that is at most so deep. The last node of all stands past the end.
     let mut above = Vec::new(alloc);
     let mut last = None;
     for (place, node) in nodes.iter().enumerate() {
         above.resize(node.depth as usize, last)?;
         parents.push(last_of(&above))?;
-        last = Some(place as u64);
+        last = Some(number(place as u64)?);
     }
     Ok(parents)
 }
 
 // The last entry, None where there is none.
-fn last_of(table: &[Option<u64>]) -> Option<u64>
+fn last_of(table: &[Option<u32>]) -> Option<u32>
     ensures none { length table.now ≡ 0 → result ≡ None }
     ensures some { (n : ℕ) → length table.now ≡ n + 1 → result ≡ slice_index_or table.now n None }
 {
@@ -60,7 +63,7 @@ fn last_of(table: &[Option<u64>]) -> Option<u64>
 }
 
 // The entry of the depth, None past the end.
-fn entry(table: &[Option<u64>], depth: u64) -> Option<u64>
+fn entry(table: &[Option<u32>], depth: u32) -> Option<u32>
     ensures { result ≡ slice_index_or table.now depth None }
 {
     match table.get(depth as usize) {
@@ -70,26 +73,31 @@ fn entry(table: &[Option<u64>], depth: u64) -> Option<u64>
 }
 
 // The place after this one, where the node there is deeper.
-fn child_at(nodes: &[PathNode], place: usize) -> Option<u64>
+fn child_at(nodes: &[NumberedNode], place: usize) -> Result<Option<u32>, Memory>
     requires { place < length nodes.now }
-    ensures { result ≡ first_child nodes.now place }
+    ensures { (names : Seq Key) →
+        IfOk result (λ child. child ≡ first_child (nodes_by names nodes.now) place) }
 {
     match nodes.get(place + 1) {
-        None => None,
+        None => Ok(None),
         Some(next) => child_if(next.depth, nodes[place].depth, place as u64 + 1),
     }
 }
 
 // The place, where a node stands there that is a child of one of the other depth.
-fn child_if(depth: u64, above: u64, place: u64) -> Option<u64>
-    ensures { result ≡ (if nat_lt above depth then Some place else None) }
+fn child_if(depth: u32, above: u32, place: u64) -> Result<Option<u32>, Memory>
+    ensures { IfOk result (λ child. child ≡ (if nat_lt above depth then Some place else None)) }
 {
-    if depth > above { Some(place) } else { None }
+    if depth <= above {
+        return Ok(None);
+    }
+    let child = number(place)?;
+    Ok(Some(child))
 }
 
 // Puts the place of a node of this depth into the table. What stands deeper to its right is no sibling of what stands
 // to its left.
-fn put_right(right: &mut Vec<Option<u64>>, depth: u64, place: u64) -> Result<(), Memory>
+fn put_right(right: &mut Vec<Option<u32>>, depth: u32, place: u32) -> Result<(), Memory>
     ensures { IfOk result (λ _. (other : ℕ) → slice_index_or right.new.items other None
         ≡ (if nat_lt other depth then slice_index_or right.old.items other None
         else (if depth == other then Some place else None))) }

@@ -1,8 +1,8 @@
 use Rattle.std.proofs.Common.{map, ap, ◌∙◌}
 use Rattle.pp_grain.specs.Keys.{key_cmp}
+use Rattle.pp_count.specs.Sums.{weighed}
 use Rattle.pp_count.proofs.Pieces.{all_refer}
-use Rattle.pp_calltree.specs.Paths.{rest_seen}
-use Rattle.pp_calltree.specs.CallTree.{any_row, tree_rows}
+use Rattle.pp_calltree.specs.CallTree.{any_row, rooted, tree_rows}
 use Rattle.pp_calltree.proofs.Built.{all_members, paths_have_room, paths_written}
 use Rattle.pp_calltree.proofs.building.nodes_by.Goals as goal
 
@@ -16,16 +16,27 @@ gather_paths-requires-clause-refers c =
 pub gather_paths-requires-clause-kept : goal.gather_paths-requires-clause-kept
 gather_paths-requires-clause-kept c = rw (c.as_slice.ensures, c.get-p.ensures.same) c.requires.kept
 
+pub gather_paths-requires-clause-fits : goal.gather_paths-requires-clause-fits
+gather_paths-requires-clause-fits c = rw (c.as_slice.ensures, c.get-p.ensures.same) c.requires.fits
+
+pub new-requires : goal.new-requires
+new-requires c = (map rooted (weighed c.in_ok-trie.ensures.seen), c.in_ok-trie.ensures.stands)
+
 pub lay_out-requires-clause-room : goal.lay_out-requires-clause-room
 lay_out-requires-clause-room c =
-    paths_have_room c.args.scope.now c.args.scope.now.l.now.profile.sample c.in_ok-paths.paths (map rest_seen c.deref.result.now)
-    (ap (map rest_seen) c.deref.ensures.value ∙ c.in_ok-rests.ensures ∙ ap (map _) c.as_slice-2.ensures)
-    (rw (c.as_slice.ensures, c.get-p.ensures.same) at c.in_ok-paths.ensures) c.requires.fits
+    let paths = rw (c.as_slice.ensures, c.get-p.ensures.same) at c.in_ok-trie.ensures in (
+      map rooted (weighed paths.seen),
+      record {
+        twigs = c.in_ok-twigs.ensures (map rooted (weighed paths.seen)) paths.stands;
+        room = paths_have_room c.args.scope.now c.args.scope.now.l.now.profile.sample paths.seen paths.are c.requires.fits;
+      },
+    )
 
 pub returns-clause-rows : goal.returns-clause-rows
 returns-clause-rows c = λ f holds.
-    (rw c.get-p.ensures.same at c.in_ok-nodes.ensures.rows)
-    ∙ ap (tree_rows key_cmp any_row)
-    (paths_written c.args.scope.now c.in_ok-paths.paths (map rest_seen c.deref.result.now) f holds
-    (ap (map rest_seen) c.deref.ensures.value ∙ c.in_ok-rests.ensures ∙ ap (map _) c.as_slice-2.ensures)
-    (rw (c.as_slice.ensures, c.get-p.ensures.same) at c.in_ok-paths.ensures))
+    let paths = rw (c.as_slice.ensures, c.get-p.ensures.same) at c.in_ok-trie.ensures in
+    (rw c.get-p.ensures.same at c.in_ok-nodes.ensures.rows (map rooted (weighed paths.seen)) (record {
+      twigs = c.in_ok-twigs.ensures (map rooted (weighed paths.seen)) paths.stands;
+      room = paths_have_room c.args.scope.now c.args.scope.now.l.now.profile.sample paths.seen paths.are c.requires.fits;
+    }))
+    ∙ ap (tree_rows key_cmp any_row) (paths_written c.args.scope.now paths.seen f holds paths.are)
