@@ -68,7 +68,7 @@ pub fn cut(spots: &mut [Spot], slots: &mut [Slot], e: u64)
     requires sound { AreSoundSlots spots.old slots.old }
     requires live { IsLive (links_of spots.old slots.old) e }
     ensures sound { AreSoundSlots spots.new slots.new }
-    ensures links_of { links_of spots.new slots.new ≡ without e (links_of spots.old slots.old) }
+    ensures seen { links_of spots.new slots.new ≡ without e (links_of spots.old slots.old) }
 {
     unlink(spots, slots, Side::Out, e);
     unlink(spots, slots, Side::In, e);
