@@ -16,7 +16,7 @@ use Rattle.pp_calltree.specs.declared.trie.Edge.{Edge}
 use Rattle.pp_calltree.specs.declared.twigs.Twigs.{Twigs}
 use Rattle.pp_calltree.specs.CallTree.{any_path, is_end, first_keys, under}
 use Rattle.pp_calltree.specs.Branches.{said, branch_of, AreBranches}
-use Rattle.pp_calltree.specs.Trie.{edge_at, edge_eq, weight_at, none_waits, Holds}
+use Rattle.pp_calltree.specs.Trie.{edge_at, edge_eq, sum_at, none_waits, Holds}
 use Rattle.pp_calltree.specs.Twigs.{number_at, IsChain, key_at, IsChild, ChainedTo, branch_at, AreTwigsOf}
 use Rattle.pp_calltree.proofs.Edges.{or_swap, edge_same, edge_itself, edge_found}
 
@@ -153,8 +153,8 @@ chained_all edges i newest older past fits so_far =
     subst (λ n. ChainedTo edges edges n newest older) same (subst (λ es. ChainedTo edges es i newest older) (take_all i edges past) so_far)
 
 -- no edge leads from past the nodes
-pub edges_within : (edges : List Edge) (weights : List _) (S : List (Seen ℕ)) → Holds edges weights none_waits S → All (λ e. e.above ≤ length edges) edges
-edges_within edges weights S H i d here =
+pub edges_within : (edges : List Edge) (sums : List _) (S : List (Seen ℕ)) → Holds edges sums none_waits S → All (λ e. e.above ≤ length edges) edges
+edges_within edges sums S H i d here =
     let e : Edge = get_or edges i d in
     ⊎_elim (λ past. absurd (outside e.above past (sym (H.found e.above e.key) ∙ edge_found edges i e (slice_get-get_or edges i d here))))
     (λ fits. fits) (cases_lt (length edges) e.above) where
@@ -165,7 +165,7 @@ edges_within edges weights S H i d here =
           false≢true (sym (ap (λ R. list_any (eq_by_cmp nat_cmp (get_or edges i d).key) (first_keys R)) none) ∙ found)
 
 -- the branches of a node are its children
-module _ (t : Twigs) (S : List (Seen ℕ)) (H : Holds t.edges.items t.weights.items none_waits S)
+module _ (t : Twigs) (S : List (Seen ℕ)) (H : Holds t.edges.items t.sums.items none_waits S)
     (chained : ChainedTo t.edges.items t.edges.items (length t.edges.items) t.chains.newest.items t.chains.older.items) where
   child_says : (node depth n : ℕ) → IsChild t.edges.items (length t.edges.items) node n → said H.at (branch_at t depth n) ≡ branch_of depth (H.at node) (branch_at t depth n).key
   child_says node depth n child =
@@ -173,10 +173,10 @@ module _ (t : Twigs) (S : List (Seen ℕ)) (H : Holds t.edges.items t.weights.it
       let back : n - 1 ≡ child.place = omega (arith, child.number_is) in
       let at_is : H.at n ≡ under nat_cmp k (H.at node) =
       ap H.at child.number_is ∙ sym (append-nil (H.at (child.place + 1))) ∙ H.each child.place (record { above = node; key = k }) child.edge_is in
-      let flat_is : (weight_at t.weights.items (n - 1)).flat ≡ sum_where is_end (under nat_cmp k (H.at node)) =
-      ap (λ m. (weight_at t.weights.items m).flat) back ∙ H.flats child.place ∙ ap (λ m. sum_where is_end (H.at m)) (sym child.number_is) ∙ ap (sum_where is_end) at_is in
-      let cum_is : (weight_at t.weights.items (n - 1)).cum ≡ sum_where any_path (under nat_cmp k (H.at node)) =
-      ap (λ m. (weight_at t.weights.items m).cum) back ∙ H.cums child.place ∙ ap (sum_where any_path) (H.each child.place (record { above = node; key = k }) child.edge_is) in
+      let flat_is : (sum_at t.sums.items (n - 1)).flat ≡ sum_where is_end (under nat_cmp k (H.at node)) =
+      ap (λ m. (sum_at t.sums.items m).flat) back ∙ H.flats child.place ∙ ap (λ m. sum_where is_end (H.at m)) (sym child.number_is) ∙ ap (sum_where is_end) at_is in
+      let cum_is : (sum_at t.sums.items (n - 1)).cum ≡ sum_where any_path (under nat_cmp k (H.at node)) =
+      ap (λ m. (sum_at t.sums.items m).cum) back ∙ H.cums child.place ∙ ap (sum_where any_path) (H.each child.place (record { above = node; key = k }) child.edge_is) in
       λ j. record { depth = depth; key = k; flat = flat_is j; cum = cum_is j; samples = at_is j }
 
   keys_are : (depth : ℕ) (ks : List ℕ) → map (λ (b : Branch). b.key) (map (branch_at t depth) ks) ≡ map (key_at t.edges.items) ks
@@ -195,7 +195,7 @@ module _ (t : Twigs) (S : List (Seen ℕ)) (H : Holds t.edges.items t.weights.it
   twigs_are = record {
     at = H.at;
     root = sym (append-nil (H.at 0)) ∙ H.root;
-    bear = record { kids = chained.kids; chain = chained.chain; are = children_are };
+    has = record { kids = chained.kids; chain = chained.chain; are = children_are };
   }
 
 -- The first of the numbers are read.

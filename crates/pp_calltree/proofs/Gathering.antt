@@ -161,7 +161,7 @@ module _ (scope : Scope) (samples : List Sample) (kept : List ℕ) (met i : ℕ)
   }
 
 -- before the first sample
-pub gathered_none : (scope : Scope) (samples : List Sample) (kept : List ℕ) (trie : Trie) → Holds trie.edges.keys trie.weights.items none_waits []
+pub gathered_none : (scope : Scope) (samples : List Sample) (kept : List ℕ) (trie : Trie) → Holds trie.edges.keys trie.sums.items none_waits []
     → ((f : Finders) → HoldsFilters scope.l.now scope.v.now (config_of scope) f → kept ≡ filtered_from (profile_of scope) f (config_of scope) 0 samples)
     → GatheredTo scope samples kept 0 0 trie
 gathered_none scope samples kept trie none are = record {

@@ -14,16 +14,16 @@ use Rattle.pp_count.specs.Sums.{Seen, sum_where, absolute}
 use Rattle.pp_count.proofs.Adding.{or-false, triangle, sum_where_push}
 use Rattle.pp_count.proofs.Renaming.{tied_is}
 use Rattle.pp_calltree.specs.declared.trie.Edge.{Edge}
-use Rattle.pp_calltree.specs.declared.trie.Weight.{Weight}
+use Rattle.pp_calltree.specs.declared.trie.PathSum.{PathSum}
 use Rattle.pp_calltree.specs.declared.trie.Trie.{Trie}
 use Rattle.pp_calltree.specs.CallTree.{any_path, is_end, below_key, first_key, first_keys, rooted, under}
-use Rattle.pp_calltree.specs.Trie.{edge_eq, no_weight, weight_at, passed, ended, none_waits, waits_at, Holds, IsPlaced, IsStep, IsTrieOf}
+use Rattle.pp_calltree.specs.Trie.{edge_eq, no_sum, sum_at, passed, ended, none_waits, waits_at, Holds, IsPlaced, IsStep, IsTrieOf}
 use Rattle.pp_calltree.proofs.Under.{under_size}
 use Rattle.pp_calltree.proofs.Edges.{or_swap, one_place, placed_here, placed_others, placed_found}
 
 -- The sample waits at the node, and there is room for its value at each of the nodes below.
-pub record Walking (edges : List Edge) (weights : List Weight) (samples : List (Seen ℕ)) (node : ℕ) (sample : Seen ℕ) : Type 0 where
-  pub holds : Holds edges weights (waits_at node sample) samples
+pub record Walking (edges : List Edge) (sums : List PathSum) (samples : List (Seen ℕ)) (node : ℕ) (sample : Seen ℕ) : Type 0 where
+  pub holds : Holds edges sums (waits_at node sample) samples
   pub room : absolute (holds.at node) + nat_abs sample.value ≤ absolute samples
   pub within : node ≤ length edges
 
@@ -79,12 +79,12 @@ sum_other : (p : List ℕ → Bool) (S : List (Seen ℕ)) (s : Seen ℕ) (node m
 sum_other p S s node m apart = ap (λ R. sum_where p (S ++ R)) (waits_other node m s apart) ∙ ap (sum_where p) (append-nil S)
 
 -- One more key.
-module _ (edges new_edges : List Edge) (weights new_weights : List Weight) (samples : List (Seen ℕ)) (node k : ℕ) (v : ℤ) (rest : List ℕ) (place : ℕ)
-    (w : Walking edges weights samples node (record { value = v; keys = k ∷ rest }))
+module _ (edges new_edges : List Edge) (sums new_sums : List PathSum) (samples : List (Seen ℕ)) (node k : ℕ) (v : ℤ) (rest : List ℕ) (place : ℕ)
+    (w : Walking edges sums samples node (record { value = v; keys = k ∷ rest }))
     (placed : IsPlaced edges new_edges (record { above = node; key = k }) place)
-    (gains : weight_at new_weights place ≡ passed v (weight_at weights place))
-    (keeps : (other : ℕ) → other ≢ place → weight_at new_weights other ≡ weight_at weights other)
-    (count : length new_weights ≡ length new_edges) (distinct : IsDistinct edge_eq new_edges) where
+    (gains : sum_at new_sums place ≡ passed v (sum_at sums place))
+    (keeps : (other : ℕ) → other ≢ place → sum_at new_sums other ≡ sum_at sums other)
+    (count : length new_sums ≡ length new_edges) (distinct : IsDistinct edge_eq new_edges) where
   abbrev edge : Edge
   edge = record { above = node; key = k }
 
@@ -94,7 +94,7 @@ module _ (edges new_edges : List Edge) (weights new_weights : List Weight) (samp
   abbrev left : Seen ℕ
   left = record { value = v; keys = rest }
 
-  abbrev H : Holds edges weights (waits_at node whole) samples
+  abbrev H : Holds edges sums (waits_at node whole) samples
   H = w.holds
 
   abbrev next_at : ℕ → List (Seen ℕ)
@@ -168,11 +168,11 @@ module _ (edges new_edges : List Edge) (weights new_weights : List Weight) (samp
       ∙ sym (ap (list_any (eq_by_cmp nat_cmp q)) (first_keys-append (H.at m) (waits_at node whole m))
       ∙ list_any-append (eq_by_cmp nat_cmp q) (first_keys (H.at m)) (first_keys (waits_at node whole m)))
 
-  next_cums : (i : ℕ) → (weight_at new_weights i).cum ≡ sum_where any_path (next_at (i + 1) ++ waits_at (place + 1) left (i + 1))
+  next_cums : (i : ℕ) → (sum_at new_sums i).cum ≡ sum_where any_path (next_at (i + 1) ++ waits_at (place + 1) left (i + 1))
   next_cums i = ⊎_elim
-      (λ same. subst (λ n. (weight_at new_weights n).cum ≡ sum_where any_path (next_at (n + 1) ++ waits_at (place + 1) left (n + 1))) (sym same)
-      (ap (λ (x : Weight). x.cum) gains ∙ ap (λ z. z +ℤ v) (H.cums place) ∙ sym (sum_waits any_path (next_at (place + 1)) left (place + 1))))
-      (λ apart. ap (λ (x : Weight). x.cum) (keeps i apart) ∙ H.cums i
+      (λ same. subst (λ n. (sum_at new_sums n).cum ≡ sum_where any_path (next_at (n + 1) ++ waits_at (place + 1) left (n + 1))) (sym same)
+      (ap (λ (x : PathSum). x.cum) gains ∙ ap (λ z. z +ℤ v) (H.cums place) ∙ sym (sum_waits any_path (next_at (place + 1)) left (place + 1))))
+      (λ apart. ap (λ (x : PathSum). x.cum) (keeps i apart) ∙ H.cums i
       ∙ sym (sum_other any_path (next_at (i + 1)) left (place + 1) (i + 1) (λ same. apart (omega (arith, same))))) (cases_eq i place)
 
   ends_later : (m : ℕ) (S : List (Seen ℕ)) → sum_where is_end (S ++ waits_at node whole m) ≡ sum_where is_end S
@@ -181,17 +181,17 @@ module _ (edges new_edges : List Edge) (weights new_weights : List Weight) (samp
     | false ↦ ap (sum_where is_end) (append-nil S)
   ]
 
-  next_flats : (i : ℕ) → (weight_at new_weights i).flat ≡ sum_where is_end (next_at (i + 1))
+  next_flats : (i : ℕ) → (sum_at new_sums i).flat ≡ sum_where is_end (next_at (i + 1))
   next_flats i =
       ⊎_elim
-      (λ same. subst (λ n. (weight_at new_weights n).flat ≡ (weight_at weights n).flat) (sym same) (ap (λ (x : Weight). x.flat) gains))
-      (λ apart. ap (λ (x : Weight). x.flat) (keeps i apart)) (cases_eq i place)
+      (λ same. subst (λ n. (sum_at new_sums n).flat ≡ (sum_at sums n).flat) (sym same) (ap (λ (x : PathSum). x.flat) gains))
+      (λ apart. ap (λ (x : PathSum). x.flat) (keeps i apart)) (cases_eq i place)
       ∙ H.flats i ∙ sym (ends_later (i + 1) (H.at (i + 1)))
 
   next_root : next_at 0 ++ waits_at (place + 1) left 0 ≡ samples
   next_root = ap (λ R. next_at 0 ++ R) (waits_other (place + 1) 0 left (λ same. omega (arith, same))) ∙ append-nil (next_at 0) ∙ H.root
 
-  pub walked : Walking new_edges new_weights samples (place + 1) left
+  pub walked : Walking new_edges new_sums samples (place + 1) left
   walked = record {
     holds = record { at = next_at; root = next_root; each = next_each; past = next_past; found = next_found; cums = next_cums; flats = next_flats; count = count; distinct = distinct };
     room = omega (arith, w.room, ap absolute (sym before_is), under_size k (H.at node));
@@ -199,10 +199,10 @@ module _ (edges new_edges : List Edge) (weights new_weights : List Weight) (samp
   }
 
 -- there is room for the value at the child
-pub child_fits : (edges : List Edge) (weights : List Weight) (samples : List (Seen ℕ)) (node k : ℕ) (v : ℤ) (rest : List ℕ) (place : ℕ)
-    → Walking edges weights samples node (record { value = v; keys = k ∷ rest }) → slice_get edges place ≡ Some (record { above = node; key = k })
-    → nat_abs (weight_at weights place).cum + nat_abs v ≤ absolute samples
-child_fits edges weights samples node k v rest place w at_place =
+pub child_fits : (edges : List Edge) (sums : List PathSum) (samples : List (Seen ℕ)) (node k : ℕ) (v : ℤ) (rest : List ℕ) (place : ℕ)
+    → Walking edges sums samples node (record { value = v; keys = k ∷ rest }) → slice_get edges place ≡ Some (record { above = node; key = k })
+    → nat_abs (sum_at sums place).cum + nat_abs v ≤ absolute samples
+child_fits edges sums samples node k v rest place w at_place =
     omega (
       arith,
       w.room,
@@ -212,15 +212,15 @@ child_fits edges weights samples node k v rest place w at_place =
     )
 
 -- No key is left.
-module _ (edges : List Edge) (weights new_weights : List Weight) (samples : List (Seen ℕ)) (node : ℕ) (v : ℤ)
-    (w : Walking edges weights samples node (record { value = v; keys = [] }))
-    (gains : (place : ℕ) → node ≡ place + 1 → weight_at new_weights place ≡ ended v (weight_at weights place))
-    (keeps : (place : ℕ) → node ≢ place + 1 → weight_at new_weights place ≡ weight_at weights place)
-    (count : length new_weights ≡ length weights) where
+module _ (edges : List Edge) (sums new_sums : List PathSum) (samples : List (Seen ℕ)) (node : ℕ) (v : ℤ)
+    (w : Walking edges sums samples node (record { value = v; keys = [] }))
+    (gains : (place : ℕ) → node ≡ place + 1 → sum_at new_sums place ≡ ended v (sum_at sums place))
+    (keeps : (place : ℕ) → node ≢ place + 1 → sum_at new_sums place ≡ sum_at sums place)
+    (count : length new_sums ≡ length sums) where
   abbrev s : Seen ℕ
   s = record { value = v; keys = [] }
 
-  abbrev E : Holds edges weights (waits_at node s) samples
+  abbrev E : Holds edges sums (waits_at node s) samples
   E = w.holds
 
   abbrev end_at : ℕ → List (Seen ℕ)
@@ -247,21 +247,21 @@ module _ (edges : List Edge) (weights new_weights : List Weight) (samples : List
   end_found m q =
       E.found m q ∙ ap (list_any (eq_by_cmp nat_cmp q)) (sym (first_keys-append (E.at m) (waits_at node s m) ∙ ap (λ R. first_keys (E.at m) ++ R) (none_first m) ∙ append-nil (first_keys (E.at m))))
 
-  end_cums : (i : ℕ) → (weight_at new_weights i).cum ≡ sum_where any_path (end_at (i + 1) ++ [])
+  end_cums : (i : ℕ) → (sum_at new_sums i).cum ≡ sum_where any_path (end_at (i + 1) ++ [])
   end_cums i =
       ⊎_elim
-      (λ own. ap (λ (x : Weight). x.cum) (gains i own))
-      (λ apart. ap (λ (x : Weight). x.cum) (keeps i apart)) (cases_eq node (i + 1))
+      (λ own. ap (λ (x : PathSum). x.cum) (gains i own))
+      (λ apart. ap (λ (x : PathSum). x.cum) (keeps i apart)) (cases_eq node (i + 1))
       ∙ E.cums i ∙ ap (sum_where any_path) (sym (append-nil (end_at (i + 1))))
 
-  end_flats : (i : ℕ) → (weight_at new_weights i).flat ≡ sum_where is_end (end_at (i + 1))
+  end_flats : (i : ℕ) → (sum_at new_sums i).flat ≡ sum_where is_end (end_at (i + 1))
   end_flats i =
       ⊎_elim
-      (λ own. ap (λ (x : Weight). x.flat) (gains i own) ∙ ap (λ z. z +ℤ v) (E.flats i)
+      (λ own. ap (λ (x : PathSum). x.flat) (gains i own) ∙ ap (λ z. z +ℤ v) (E.flats i)
       ∙ subst (λ n. sum_where is_end (E.at (i + 1)) +ℤ v ≡ sum_where is_end (E.at (i + 1) ++ waits_at node s n)) own (sym (sum_waits is_end (E.at (i + 1)) s node)))
-      (λ apart. ap (λ (x : Weight). x.flat) (keeps i apart) ∙ E.flats i ∙ sym (sum_other is_end (E.at (i + 1)) s node (i + 1) (λ same. apart (sym same)))) (cases_eq node (i + 1))
+      (λ apart. ap (λ (x : PathSum). x.flat) (keeps i apart) ∙ E.flats i ∙ sym (sum_other is_end (E.at (i + 1)) s node (i + 1) (λ same. apart (sym same)))) (cases_eq node (i + 1))
 
-  pub walk_ends : Holds edges new_weights none_waits samples
+  pub walk_ends : Holds edges new_sums none_waits samples
   walk_ends = record {
     at = end_at;
     root = append-nil (end_at 0) ∙ E.root;
@@ -275,15 +275,15 @@ module _ (edges : List Edge) (weights new_weights : List Weight) (samples : List
   }
 
 -- there is room for the value at the node where the path ends
-pub end_fits : (edges : List Edge) (weights : List Weight) (samples : List (Seen ℕ)) (node : ℕ) (s : Seen ℕ) (place : ℕ)
-    → Walking edges weights samples node s → node ≡ place + 1 → nat_abs (weight_at weights place).flat + nat_abs s.value ≤ absolute samples
-end_fits edges weights samples node s place w is =
+pub end_fits : (edges : List Edge) (sums : List PathSum) (samples : List (Seen ℕ)) (node : ℕ) (s : Seen ℕ) (place : ℕ)
+    → Walking edges sums samples node s → node ≡ place + 1 → nat_abs (sum_at sums place).flat + nat_abs s.value ≤ absolute samples
+end_fits edges sums samples node s place w is =
     omega (arith, w.room, ap nat_abs (w.holds.flats place), within_all is_end (w.holds.at (place + 1)), ap (λ n. absolute (w.holds.at n)) is)
 
 -- Before the first key.
-pub walk_starts : (edges : List Edge) (weights : List Weight) (samples : List (Seen ℕ)) (s : Seen ℕ) → Holds edges weights none_waits samples
-    → Walking edges weights (samples ++ s ∷ []) 0 s
-walk_starts edges weights samples s H = record {
+pub walk_starts : (edges : List Edge) (sums : List PathSum) (samples : List (Seen ℕ)) (s : Seen ℕ) → Holds edges sums none_waits samples
+    → Walking edges sums (samples ++ s ∷ []) 0 s
+walk_starts edges sums samples s H = record {
   holds = record {
     at = H.at;
     root = (λ i. root_is i ++ waits_own 0 s i);
@@ -305,15 +305,15 @@ walk_starts edges weights samples s H = record {
   none i = waits_other 0 (i + 1) s (λ same. omega (arith, same))
 
 -- without edges
-pub bare_trie : (edges : List Edge) (weights : List Weight) → edges ≡ [] → weights ≡ [] → Holds edges weights none_waits []
+pub bare_trie : (edges : List Edge) (sums : List PathSum) → edges ≡ [] → sums ≡ [] → Holds edges sums none_waits []
 unfolding IsDistinct
-bare_trie edges weights no_edges no_weights =
-    subst (λ es. Holds es weights none_waits []) (sym no_edges) (subst (λ ws. Holds [] ws none_waits []) (sym no_weights) bare) where
+bare_trie edges sums no_edges no_sums =
+    subst (λ es. Holds es sums none_waits []) (sym no_edges) (subst (λ ws. Holds [] ws none_waits []) (sym no_sums) bare) where
       unread : (i : ℕ) (e : Edge) → slice_get [] i ≡ Some e → ⊥
       unread zero e h = (cc)
       unread (suc i) e h = (cc)
 
-      empty : (i : ℕ) → weight_at [] i ≡ no_weight
+      empty : (i : ℕ) → sum_at [] i ≡ no_sum
       empty zero = refl
       empty (suc i) = refl
 
@@ -324,8 +324,8 @@ bare_trie edges weights no_edges no_weights =
         each = λ i e at_i. absurd (unread i e at_i);
         past = λ i none. refl;
         found = λ n k. refl;
-        cums = λ i. ap (λ (w : Weight). w.cum) (empty i);
-        flats = λ i. ap (λ (w : Weight). w.flat) (empty i);
+        cums = λ i. ap (λ (w : PathSum). w.cum) (empty i);
+        flats = λ i. ap (λ (w : PathSum). w.flat) (empty i);
         count = refl;
         distinct = tt;
       }
@@ -347,46 +347,46 @@ module _ (samples : List (Seen ℕ)) (v : ℤ) (keys : List ℕ) where
       ap (λ n. reverse (take n keys)) (sym same) ∙ ap reverse (take_more keys next d here) ∙ reverse-append (take next keys) (get_or keys next d ∷ [])
 
   pub add_starts : (trie : Trie) (left : ℕ) → length keys ≤ left → IsTrieOf trie samples
-      → Walking trie.edges.keys trie.weights.items (samples ++ rooted_one ∷ []) 0 (left_of left)
+      → Walking trie.edges.keys trie.sums.items (samples ++ rooted_one ∷ []) 0 (left_of left)
   add_starts trie left all is =
-      subst (λ ks. Walking trie.edges.keys trie.weights.items (samples ++ rooted_one ∷ []) 0 (record { value = v; keys = reverse ks })) (sym (take_all left keys all))
-      (walk_starts trie.edges.keys trie.weights.items samples rooted_one is)
+      subst (λ ks. Walking trie.edges.keys trie.sums.items (samples ++ rooted_one ∷ []) 0 (record { value = v; keys = reverse ks })) (sym (take_all left keys all))
+      (walk_starts trie.edges.keys trie.sums.items samples rooted_one is)
 
   module _ (trie : Trie) (node left next d : ℕ) (same : next + 1 ≡ left) (here : next < length keys)
-      (w : Walking trie.edges.keys trie.weights.items (samples ++ rooted_one ∷ []) node (left_of left)) where
-    stands : Walking trie.edges.keys trie.weights.items (samples ++ rooted_one ∷ []) node (record { value = v; keys = get_or keys next d ∷ reverse (take next keys) })
-    stands = subst (λ ks. Walking trie.edges.keys trie.weights.items (samples ++ rooted_one ∷ []) node (record { value = v; keys = ks })) (left_is left next d same here) w
+      (w : Walking trie.edges.keys trie.sums.items (samples ++ rooted_one ∷ []) node (left_of left)) where
+    stands : Walking trie.edges.keys trie.sums.items (samples ++ rooted_one ∷ []) node (record { value = v; keys = get_or keys next d ∷ reverse (take next keys) })
+    stands = subst (λ ks. Walking trie.edges.keys trie.sums.items (samples ++ rooted_one ∷ []) node (record { value = v; keys = ks })) (left_is left next d same here) w
 
     pub add_more : (new : Trie) (child : ℕ) → IsStep trie new (record { above = node; key = get_or keys next d }) v child
-        → Walking new.edges.keys new.weights.items (samples ++ rooted_one ∷ []) child (left_of next)
+        → Walking new.edges.keys new.sums.items (samples ++ rooted_one ∷ []) child (left_of next)
     add_more new child step =
-        subst (λ n. Walking new.edges.keys new.weights.items (samples ++ rooted_one ∷ []) n (left_of next)) (sym step.child_is)
-        (walked trie.edges.keys new.edges.keys trie.weights.items new.weights.items (samples ++ rooted_one ∷ []) node (get_or keys next d) v (reverse (take next keys)) step.place
+        subst (λ n. Walking new.edges.keys new.sums.items (samples ++ rooted_one ∷ []) n (left_of next)) (sym step.child_is)
+        (walked trie.edges.keys new.edges.keys trie.sums.items new.sums.items (samples ++ rooted_one ∷ []) node (get_or keys next d) v (reverse (take next keys)) step.place
         stands step.placed step.here step.others step.count step.distinct)
 
     pub add_fits : absolute samples + nat_abs v < 2 ^ 63 → (place : ℕ) → slice_get trie.edges.keys place ≡ Some (record { above = node; key = get_or keys next d })
-        → nat_abs (weight_at trie.weights.items place).cum + nat_abs v < 2 ^ 63
+        → nat_abs (sum_at trie.sums.items place).cum + nat_abs v < 2 ^ 63
     add_fits fits place at_place =
         omega (
           arith,
           fits,
           whole_size,
-          child_fits trie.edges.keys trie.weights.items (samples ++ rooted_one ∷ []) node (get_or keys next d) v (reverse (take next keys)) place stands at_place,
+          child_fits trie.edges.keys trie.sums.items (samples ++ rooted_one ∷ []) node (get_or keys next d) v (reverse (take next keys)) place stands at_place,
         )
 
-  pub ends_fit : (trie : Trie) (node left : ℕ) → Walking trie.edges.keys trie.weights.items (samples ++ rooted_one ∷ []) node (left_of left) → absolute samples + nat_abs v < 2 ^ 63
-      → (place : ℕ) → node ≡ place + 1 → nat_abs (weight_at trie.weights.items place).flat + nat_abs v < 2 ^ 63
+  pub ends_fit : (trie : Trie) (node left : ℕ) → Walking trie.edges.keys trie.sums.items (samples ++ rooted_one ∷ []) node (left_of left) → absolute samples + nat_abs v < 2 ^ 63
+      → (place : ℕ) → node ≡ place + 1 → nat_abs (sum_at trie.sums.items place).flat + nat_abs v < 2 ^ 63
   ends_fit trie node left w fits place is =
-      omega (arith, fits, whole_size, end_fits trie.edges.keys trie.weights.items (samples ++ rooted_one ∷ []) node (left_of left) place w is)
+      omega (arith, fits, whole_size, end_fits trie.edges.keys trie.sums.items (samples ++ rooted_one ∷ []) node (left_of left) place w is)
 
-  pub add_ends : (trie new : Trie) (node left : ℕ) → left ≤ 0 → Walking trie.edges.keys trie.weights.items (samples ++ rooted_one ∷ []) node (left_of left)
+  pub add_ends : (trie new : Trie) (node left : ℕ) → left ≤ 0 → Walking trie.edges.keys trie.sums.items (samples ++ rooted_one ∷ []) node (left_of left)
       → new.edges ≡ trie.edges
-      → ((place : ℕ) → node ≡ place + 1 → weight_at new.weights.items place ≡ ended v (weight_at trie.weights.items place))
-      → ((place : ℕ) → node ≢ place + 1 → weight_at new.weights.items place ≡ weight_at trie.weights.items place)
-      → length new.weights.items ≡ length trie.weights.items → IsTrieOf new (samples ++ rooted_one ∷ [])
+      → ((place : ℕ) → node ≡ place + 1 → sum_at new.sums.items place ≡ ended v (sum_at trie.sums.items place))
+      → ((place : ℕ) → node ≢ place + 1 → sum_at new.sums.items place ≡ sum_at trie.sums.items place)
+      → length new.sums.items ≡ length trie.sums.items → IsTrieOf new (samples ++ rooted_one ∷ [])
   add_ends trie new node left none w edges_same gains keeps count =
       let nothing : left ≡ 0 = omega (arith, none) in
-      let at_end : Walking trie.edges.keys trie.weights.items (samples ++ rooted_one ∷ []) node (record { value = v; keys = [] }) =
-      subst (λ n. Walking trie.edges.keys trie.weights.items (samples ++ rooted_one ∷ []) node (left_of n)) nothing w in
-      subst (λ es. Holds es.keys new.weights.items none_waits (samples ++ rooted_one ∷ [])) (sym edges_same)
-      (walk_ends trie.edges.keys trie.weights.items new.weights.items (samples ++ rooted_one ∷ []) node v at_end gains keeps count)
+      let at_end : Walking trie.edges.keys trie.sums.items (samples ++ rooted_one ∷ []) node (record { value = v; keys = [] }) =
+      subst (λ n. Walking trie.edges.keys trie.sums.items (samples ++ rooted_one ∷ []) node (left_of n)) nothing w in
+      subst (λ es. Holds es.keys new.sums.items none_waits (samples ++ rooted_one ∷ [])) (sym edges_same)
+      (walk_ends trie.edges.keys trie.sums.items new.sums.items (samples ++ rooted_one ∷ []) node v at_end gains keeps count)

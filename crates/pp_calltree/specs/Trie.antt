@@ -4,7 +4,7 @@ use Rattle.std.specs.List.{slice_get, list_any, IsDistinct}
 use Rattle.std.specs.Ordering.{nat_cmp, eq_by_cmp}
 use Rattle.pp_count.specs.Sums.{Seen, sum_where}
 use Rattle.pp_calltree.specs.declared.trie.Edge.{Edge}
-use Rattle.pp_calltree.specs.declared.trie.Weight.{Weight}
+use Rattle.pp_calltree.specs.declared.trie.PathSum.{PathSum}
 use Rattle.pp_calltree.specs.declared.trie.Trie.{Trie}
 use Rattle.pp_calltree.specs.CallTree.{any_path, is_end, first_keys, under}
 
@@ -17,19 +17,19 @@ abbrev pub edge_at : List Edge → ℕ → Edge
 edge_at edges place = slice_index_or edges place (record { above = 0; key = 0 })
 
 -- no sample
-abbrev pub no_weight : Weight
-no_weight = record { flat = pos 0; cum = pos 0 }
+abbrev pub no_sum : PathSum
+no_sum = record { flat = pos 0; cum = pos 0 }
 
--- the weight at the place
-abbrev pub weight_at : List Weight → ℕ → Weight
-weight_at weights place = slice_index_or weights place no_weight
+-- the sums at the place
+abbrev pub sum_at : List PathSum → ℕ → PathSum
+sum_at sums place = slice_index_or sums place no_sum
 
--- the weight with the value of a sample that goes through the node
-abbrev pub passed : ℤ → Weight → Weight
+-- the sums with the value of a sample that goes through the node
+abbrev pub passed : ℤ → PathSum → PathSum
 passed value w = record { flat = w.flat; cum = w.cum +ℤ value }
 
--- the weight with the value of a sample that ends at the node
-abbrev pub ended : ℤ → Weight → Weight
+-- the sums with the value of a sample that ends at the node
+abbrev pub ended : ℤ → PathSum → PathSum
 ended value w = record { flat = w.flat +ℤ value; cum = w.cum }
 
 -- The edge stands at the place, or it was not there and is put at the end.
@@ -43,10 +43,10 @@ pub record IsStep (old new : Trie) (edge : Edge) (value : ℤ) (child : ℕ) : T
   pub place : ℕ
   pub child_is : child ≡ place + 1
   pub placed : IsPlaced old.edges.keys new.edges.keys edge place
-  pub here : weight_at new.weights.items place ≡ passed value (weight_at old.weights.items place)
+  pub here : sum_at new.sums.items place ≡ passed value (sum_at old.sums.items place)
   pub others : (other : ℕ) → other ≢ place
-      → weight_at new.weights.items other ≡ weight_at old.weights.items other
-  pub count : length new.weights.items ≡ length new.edges.keys
+      → sum_at new.sums.items other ≡ sum_at old.sums.items other
+  pub count : length new.sums.items ≡ length new.edges.keys
   pub distinct : IsDistinct edge_eq new.edges.keys
 
 -- at no node a sample waits
@@ -59,7 +59,7 @@ waits_at other sample node = if node == other then sample ∷ [] else []
 
 -- Each node stands for the samples whose path goes through it, which here are without the keys above it. Of one that
 -- waits at a node nothing is put below that node so far, nor does it count as one that ends there.
-pub record Holds (edges : List Edge) (weights : List Weight) (waits : ℕ → List (Seen ℕ))
+pub record Holds (edges : List Edge) (sums : List PathSum) (waits : ℕ → List (Seen ℕ))
     (samples : List (Seen ℕ)) : Type 0 where
   pub at : ℕ → List (Seen ℕ)
   pub root : at 0 ++ waits 0 ≡ samples
@@ -68,12 +68,12 @@ pub record Holds (edges : List Edge) (weights : List Weight) (waits : ℕ → Li
   pub past : (place : ℕ) → slice_get edges place ≡ None → at (place + 1) ++ waits (place + 1) ≡ []
   pub found : (node k : ℕ) → list_any (edge_eq (record { above = node; key = k })) edges
       ≡ list_any (eq_by_cmp nat_cmp k) (first_keys (at node))
-  pub cums : (place : ℕ) → (weight_at weights place).cum
+  pub cums : (place : ℕ) → (sum_at sums place).cum
       ≡ sum_where any_path (at (place + 1) ++ waits (place + 1))
-  pub flats : (place : ℕ) → (weight_at weights place).flat ≡ sum_where is_end (at (place + 1))
-  pub count : length weights ≡ length edges
+  pub flats : (place : ℕ) → (sum_at sums place).flat ≡ sum_where is_end (at (place + 1))
+  pub count : length sums ≡ length edges
   pub distinct : IsDistinct edge_eq edges
 
 -- The trie is that of the samples.
 abbrev pub IsTrieOf : Trie → List (Seen ℕ) → Type 0
-IsTrieOf trie samples = Holds trie.edges.keys trie.weights.items none_waits samples
+IsTrieOf trie samples = Holds trie.edges.keys trie.sums.items none_waits samples

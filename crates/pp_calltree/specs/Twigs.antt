@@ -7,7 +7,7 @@ use Rattle.pp_calltree.specs.declared.trie.Edge.{Edge}
 use Rattle.pp_calltree.specs.declared.twigs.Chains.{Chains}
 use Rattle.pp_calltree.specs.declared.twigs.Twigs.{Twigs}
 use Rattle.pp_calltree.specs.Branches.{AreBranches}
-use Rattle.pp_calltree.specs.Trie.{edge_at, edge_eq, weight_at}
+use Rattle.pp_calltree.specs.Trie.{edge_at, edge_eq, sum_at}
 
 -- the entry, None past the end
 abbrev pub number_at : List (Option ℕ) → ℕ → Option ℕ
@@ -49,19 +49,19 @@ abbrev pub branch_at : Twigs → ℕ → ℕ → Branch
 branch_at t depth number = record {
   depth = depth;
   key = key_at t.edges.items number;
-  flat = (weight_at t.weights.items (number - 1)).flat;
-  cum = (weight_at t.weights.items (number - 1)).cum;
+  flat = (sum_at t.sums.items (number - 1)).flat;
+  cum = (sum_at t.sums.items (number - 1)).cum;
   node = number;
 }
 
 -- The children of each node are the branches of the samples at it.
-pub record Bear (t : Twigs) (at : ℕ → List (Seen ℕ)) : Type 0 where
+pub record HasBranches (t : Twigs) (at : ℕ → List (Seen ℕ)) : Type 0 where
   pub kids : ℕ → List ℕ
   pub chain : (node : ℕ) → IsChain t.chains.older.items (number_at t.chains.newest.items node) (kids node)
   pub are : (node depth : ℕ) → AreBranches at depth (at node) (map (branch_at t depth) (kids node))
 
--- They are those of the samples.
+-- The nodes are those of the samples.
 pub record AreTwigsOf (t : Twigs) (samples : List (Seen ℕ)) : Type 0 where
   pub at : ℕ → List (Seen ℕ)
   pub root : at 0 ≡ samples
-  pub bear : Bear t at
+  pub has : HasBranches t at

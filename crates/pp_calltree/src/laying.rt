@@ -9,7 +9,7 @@ ghost use Rattle.pp_count.specs.Sums.{Seen};
 ghost use Rattle.pp_calltree.specs.CallTree.{any_row, tree_rows};
 ghost use Rattle.pp_calltree.specs.Laid.{CanLay, HasRoom, IsLaidFrom, WaitBelow, node_row, written_out};
 ghost use Rattle.pp_calltree.specs.Links.{nodes_by};
-ghost use Rattle.pp_calltree.specs.Twigs.{Bear};
+ghost use Rattle.pp_calltree.specs.Twigs.{HasBranches};
 
 use crate::branch::Branch;
 use crate::siblings::sort_branches;
@@ -67,7 +67,7 @@ fn push_branches(
     waiting: &mut Vec<Branch>,
 ) -> Result<(), Memory>
     ensures { (p : Tables) (names : Seq Key) (at : ℕ → Seq (Seen ℕ)) (most left : ℕ) →
-        CanLay p names texts.now → Bear twigs.now at → HasRoom names left (at node) →
+        CanLay p names texts.now → HasBranches twigs.now at → HasRoom names left (at node) →
         most ≡ depth + left → IfOk result (λ _. WaitBelow p names at most depth left (at node)
         waiting.old.items waiting.new.items) }
 {

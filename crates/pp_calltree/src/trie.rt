@@ -3,7 +3,7 @@ ghost use Rattle.std.specs.Prelude.{◌≡◌, ◌≢◌, ℕ, ◌+◌, ◌+ℤ�
 ghost use Rattle.std.specs.List.{IsDistinct};
 ghost use Rattle.pp_count.specs.Sums.{Seen, absolute};
 ghost use Rattle.pp_calltree.specs.CallTree.{rooted};
-ghost use Rattle.pp_calltree.specs.Trie.{edge_eq, weight_at, passed, ended, IsPlaced, IsStep, IsTrieOf};
+ghost use Rattle.pp_calltree.specs.Trie.{edge_eq, sum_at, passed, ended, IsPlaced, IsStep, IsTrieOf};
 
 use indexmap::IndexSet;
 use pp_base::Memory;
@@ -20,14 +20,14 @@ pub struct Edge {
 
 /// What samples come to at a node.
 #[derive(Clone, Copy, Debug, PartialEq, Eq)]
-pub struct Weight {
+pub struct PathSum {
     /// The sum over the samples whose path ends here.
     pub flat: i64,
     /// The sum over the samples whose path goes through here.
     pub cum: i64,
 }
 
-impl Weight {
+impl PathSum {
     // Adds to the cum.
     fn pass(&mut self, value: i64)
         requires { nat_abs self.old.cum + nat_abs value < 2 ^ 63 }
@@ -50,18 +50,18 @@ impl Weight {
 pub struct Trie {
     pub edges: IndexSet<Edge>,
     /// Those of the nodes below the root, in the order of their edges.
-    pub weights: Vec<Weight>,
+    pub sums: Vec<PathSum>,
 }
 
 impl Trie {
     /// The root alone.
     pub fn new(alloc: Global) -> Self
         ensures edges { result.edges.keys ≡ [] }
-        ensures weights { result.weights.items ≡ [] }
+        ensures sums { result.sums.items ≡ [] }
     {
         Trie {
             edges: IndexSet::new(alloc),
-            weights: Vec::new(alloc),
+            sums: Vec::new(alloc),
         }
     }
 
@@ -85,11 +85,11 @@ impl Trie {
 
     // The node's child by the key, through which a sample of this value goes.
     fn step(&mut self, node: u32, key: u64, value: i64) -> Result<u32, Memory>
-        requires count { length self.old.weights.items ≡ length self.old.edges.keys }
+        requires count { length self.old.sums.items ≡ length self.old.edges.keys }
         requires small { nat_abs value < 2 ^ 63 }
         requires fits { (place : ℕ) →
             slice_get self.old.edges.keys place ≡ Some (record { above = node; key = key }) →
-            nat_abs (weight_at self.old.weights.items place).cum + nat_abs value < 2 ^ 63 }
+            nat_abs (sum_at self.old.sums.items place).cum + nat_abs value < 2 ^ 63 }
         ensures { IfOk result (IsStep self.old self.new (record { above = node; key = key }) value) }
     {
         let edge = Edge {
@@ -97,24 +97,24 @@ impl Trie {
             key: number(key)?,
         };
         let place = place_of(&mut self.edges, edge)?;
-        pass_at(&mut self.weights, place, value)?;
+        pass_at(&mut self.sums, place, value)?;
         number(place as u64 + 1)
     }
 
     // A sample of this value ends at the node.
     fn end(&mut self, node: u32, value: i64)
-        requires within { node ≤ length self.old.weights.items }
+        requires within { node ≤ length self.old.sums.items }
         requires fits { (place : ℕ) → node ≡ place + 1 →
-            nat_abs (weight_at self.old.weights.items place).flat + nat_abs value < 2 ^ 63 }
+            nat_abs (sum_at self.old.sums.items place).flat + nat_abs value < 2 ^ 63 }
         ensures edges { self.new.edges ≡ self.old.edges }
-        ensures here { (place : ℕ) → node ≡ place + 1 → weight_at self.new.weights.items place
-            ≡ ended value (weight_at self.old.weights.items place) }
+        ensures here { (place : ℕ) → node ≡ place + 1 → sum_at self.new.sums.items place
+            ≡ ended value (sum_at self.old.sums.items place) }
         ensures others { (place : ℕ) → node ≢ place + 1 →
-            weight_at self.new.weights.items place ≡ weight_at self.old.weights.items place }
-        ensures count { length self.new.weights.items ≡ length self.old.weights.items }
+            sum_at self.new.sums.items place ≡ sum_at self.old.sums.items place }
+        ensures count { length self.new.sums.items ≡ length self.old.sums.items }
     {
         if node > 0 {
-            self.weights[node as usize - 1].end(value);
+            self.sums[node as usize - 1].end(value);
         }
     }
 }
@@ -132,21 +132,21 @@ fn place_of(edges: &mut IndexSet<Edge>, edge: Edge) -> Result<usize, Memory>
 }
 
 // Adds the value to the cum at the place, which may be the one after the last.
-fn pass_at(weights: &mut Vec<Weight>, place: usize, value: i64) -> Result<(), Memory>
-    requires within { place ≤ length weights.old.items }
-    requires fits { nat_abs (weight_at weights.old.items place).cum + nat_abs value < 2 ^ 63 }
-    ensures here { OnOk result (weight_at weights.new.items place
-        ≡ passed value (weight_at weights.old.items place)) }
+fn pass_at(sums: &mut Vec<PathSum>, place: usize, value: i64) -> Result<(), Memory>
+    requires within { place ≤ length sums.old.items }
+    requires fits { nat_abs (sum_at sums.old.items place).cum + nat_abs value < 2 ^ 63 }
+    ensures here { OnOk result (sum_at sums.new.items place
+        ≡ passed value (sum_at sums.old.items place)) }
     ensures others { IfOk result (λ _. (other : ℕ) → other ≢ place →
-        weight_at weights.new.items other ≡ weight_at weights.old.items other) }
-    ensures count { OnOk result (length weights.new.items ≡ (if nat_lt place (length weights.old.items)
-        then length weights.old.items else length weights.old.items + 1)) }
+        sum_at sums.new.items other ≡ sum_at sums.old.items other) }
+    ensures count { OnOk result (length sums.new.items ≡ (if nat_lt place (length sums.old.items)
+        then length sums.old.items else length sums.old.items + 1)) }
 {
-    if place < weights.len() {
-        weights[place].pass(value);
+    if place < sums.len() {
+        sums[place].pass(value);
         return Ok(());
     }
-    weights.push(Weight {
+    sums.push(PathSum {
         flat: 0,
         cum: value,
     })?;

@@ -2,11 +2,11 @@
 ghost use Rattle.std.specs.Prelude.{◌≡◌, ℕ, ◌-◌, ◌<◌, ◌≤◌, map, length, slice_set, List as Seq, All, Some, IfOk};
 ghost use Rattle.std.specs.List.{IsDistinct};
 ghost use Rattle.pp_count.specs.Sums.{Seen};
-ghost use Rattle.pp_calltree.specs.Trie.{edge_at, edge_eq, weight_at, IsTrieOf};
+ghost use Rattle.pp_calltree.specs.Trie.{edge_at, edge_eq, sum_at, IsTrieOf};
 ghost use Rattle.pp_calltree.specs.Twigs.{branch_at, number_at, IsChain, AreChained, AreTwigsOf};
 
 use crate::branch::Branch;
-use crate::trie::{Edge, Trie, Weight, number};
+use crate::trie::{Edge, PathSum, Trie, number};
 use indexmap::IndexSet;
 use pp_base::Memory;
 use std::alloc::Global;
@@ -25,7 +25,7 @@ pub struct Chains {
 pub struct Twigs {
     pub edges: Vec<Edge>,
     /// Those of the nodes below the root, in the order of their edges.
-    pub weights: Vec<Weight>,
+    pub sums: Vec<PathSum>,
     pub chains: Chains,
 }
 
@@ -36,17 +36,17 @@ impl Twigs {
         ensures { (samples : Seq (Seen ℕ)) → IsTrieOf trie samples →
             IfOk result (λ twigs. AreTwigsOf twigs samples) }
     {
-        let Trie { edges, weights } = trie;
+        let Trie { edges, sums } = trie;
         let edges = listed(alloc, edges)?;
         let chains = chain(alloc, &edges)?;
         Ok(Twigs {
             edges,
-            weights,
+            sums,
             chains,
         })
     }
 
-    /// The children of the node, which stands below so many keys less 1.
+    /// The branches of the node's children, which stand below so many keys, the newest first.
     pub fn branches(&self, alloc: Global, node: u32, depth: u32) -> Result<Vec<Branch>, Memory>
         ensures { (kids : Seq ℕ) →
             IsChain self.now.chains.older.items (number_at self.now.chains.newest.items node) kids →
@@ -71,12 +71,12 @@ impl Twigs {
         ensures { result ≡ branch_at self.now depth number }
     {
         let place = number.saturating_sub(1);
-        let weight = weight_of(&self.weights, place);
+        let sum = sum_of(&self.sums, place);
         Branch {
             depth,
             key: edge_of(&self.edges, place).key,
-            flat: weight.flat,
-            cum: weight.cum,
+            flat: sum.flat,
+            cum: sum.cum,
             node: number,
         }
     }
@@ -138,12 +138,12 @@ fn edge_of(edges: &[Edge], place: u32) -> Edge
     }
 }
 
-// The weight at the place.
-fn weight_of(weights: &[Weight], place: u32) -> Weight
-    ensures { result ≡ weight_at weights.now place }
+// The sums at the place.
+fn sum_of(sums: &[PathSum], place: u32) -> PathSum
+    ensures { result ≡ sum_at sums.now place }
 {
-    match weights.get(place as usize) {
-        Some(weight) => *weight,
-        None => Weight { flat: 0, cum: 0 },
+    match sums.get(place as usize) {
+        Some(sum) => *sum,
+        None => PathSum { flat: 0, cum: 0 },
     }
 }

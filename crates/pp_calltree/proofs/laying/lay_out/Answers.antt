@@ -23,7 +23,7 @@ loop-turn-init c = λ samples from.
     record { apart = apart p c.requires.compact names c.requires.keys c.requires.distinct; texts_are = texts_are p names c.in_ok-texts.texts c.in_ok-texts.ensures } in
     laying_start p names from.twigs.at (all_lengths samples) samples (nodes_by names c.from_vec-nodes.result) c.push_branches.new.waiting.items
     (subst (λ S. WaitBelow p names from.twigs.at (all_lengths samples) 0 (all_lengths samples) S [] c.push_branches.new.waiting.items) from.twigs.root
-    (rw c.new-waiting.ensures.items at c.in_ok-push_branches.ensures p names from.twigs.at (all_lengths samples) (all_lengths samples) can from.twigs.bear
+    (rw c.new-waiting.ensures.items at c.in_ok-push_branches.ensures p names from.twigs.at (all_lengths samples) (all_lengths samples) can from.twigs.has
     (subst (HasRoom names (all_lengths samples)) (sym from.twigs.root) from.room) (omega arith))) (ap (nodes_by names) (c.from_vec-nodes.ensures ∙ c.in_ok-with_capacity.ensures.items))
 
 pub loop-turn-preserved : goal.loop-turn-preserved
@@ -43,7 +43,7 @@ loop-turn-preserved c = λ samples from.
     (ap (λ n. node_row p (node_by names n)) c.node_of.ensures)
     (subst (λ n. IsKeyOf p (node_by names n).key) (sym c.node_of.ensures) (c.requires.keys b.key no_key layable.key_below)) layable.flat_is
     (subst (λ (d : ℕ). WaitBelow p names at most d (most - (b.depth + 1)) (samples_of at b) c.pop.new.self.items c.push_branches-in-loop-turn.new.waiting.items) depth_is
-    (c.in_ok-push_branches-2.ensures p names at most (most - (b.depth + 1)) can from.twigs.bear layable.room (omega (arith, depth_is, layable.depth_fits))))
+    (c.in_ok-push_branches-2.ensures p names at most (most - (b.depth + 1)) can from.twigs.has layable.room (omega (arith, depth_is, layable.depth_fits))))
 
 -- no branch waits any more
 pub returns-in_default-clause-rows : goal.returns-in_default-clause-rows

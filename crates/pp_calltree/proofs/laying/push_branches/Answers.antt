@@ -8,11 +8,11 @@ use Rattle.pp_calltree.proofs.LaidOut.{laid, branch_sizes}
 use Rattle.pp_calltree.proofs.laying.push_branches.Goals as goal
 
 pub returns : goal.returns
-returns c = λ p names at most left can bear room same.
-    let kids : List ℕ = bear.kids c.args.node in
+returns c = λ p names at most left can has room same.
+    let kids : List ℕ = has.kids c.args.node in
     let items : List Branch = c.in_ok-list.list.items in
-    let own : c.in_ok-branches.branches.items ≡ map (branch_at c.args.twigs.now c.args.depth) kids = c.in_ok-branches.ensures kids (bear.chain c.args.node) in
-    let are : AreBranches at c.args.depth (at c.args.node) items = listed at c.args.depth (at c.args.node) (map (branch_at c.args.twigs.now c.args.depth) kids) items (bear.are c.args.node c.args.depth)
+    let own : c.in_ok-branches.branches.items ≡ map (branch_at c.args.twigs.now c.args.depth) kids = c.in_ok-branches.ensures kids (has.chain c.args.node) in
+    let are : AreBranches at c.args.depth (at c.args.node) items = listed at c.args.depth (at c.args.node) (map (branch_at c.args.twigs.now c.args.depth) kids) items (has.are c.args.node c.args.depth)
     (subst (λ (xs : List Branch). IsPermutation xs items) own c.in_ok-list.ensures.same) in
     let is = laid p names c.args.texts.now can at most c.args.depth (at c.args.node) items are c.in_ok-list.ensures.sorted left room same in
     record {

@@ -13,7 +13,7 @@ use Rattle.pp_calltree.proofs.paths.gather_paths.Goals as goal
 pub loop-number-init : goal.loop-number-init
 loop-number-init c =
     gathered_none c.args.scope.now c.args.samples.now c.args.kept.now c.new-trie.result
-    (bare_trie c.new-trie.result.edges.keys c.new-trie.result.weights.items c.new-trie.ensures.edges c.new-trie.ensures.weights) c.requires.kept
+    (bare_trie c.new-trie.result.edges.keys c.new-trie.result.sums.items c.new-trie.ensures.edges c.new-trie.ensures.sums) c.requires.kept
 
 pub see-requires-clause-member : goal.see-requires-clause-member
 see-requires-clause-member c =

@@ -10,7 +10,7 @@ abbrev pub invariant-loop-left : goal.invariant-loop-left
 invariant-loop-left l = record {
   in_range : l.left ≤ length l.keys;
   walking : (samples : List (Seen ℕ)) → IsTrieOf l.initial.self samples → absolute samples + nat_abs l.value < 2 ^ 63
-      → Walking l.self.edges.keys l.self.weights.items (samples ++ rooted (record { value = l.value; keys = l.keys }) ∷ []) l.node (left_of samples l.value l.keys l.left);
+      → Walking l.self.edges.keys l.self.sums.items (samples ++ rooted (record { value = l.value; keys = l.keys }) ∷ []) l.node (left_of samples l.value l.keys l.left);
 }
 
 abbrev pub decreases-loop-left : goal.decreases-loop-left
