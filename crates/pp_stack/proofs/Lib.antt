@@ -1,6 +1,8 @@
 pub mod ForceLemmas
 pub mod LoadFinderLemmas
 mod Rows
+pub mod RowLemmas
 pub mod RunLemmas
 pub mod StageLemmas
+pub mod TableLemmas
 pub mod ToldLemmas

@@ -1,3 +1,4 @@
 pub mod Filters
 pub mod LoadFinders
 pub mod Runs
+pub mod Tables

@@ -7,8 +7,10 @@ ghost use Rattle.pp_model.specs.Frames.{stack_of};
 ghost use Rattle.pp_model.specs.FrameTexts.{written};
 ghost use Rattle.pp_stack.specs.Runs.{kept_if};
 ghost use Rattle.pp_stack.specs.Filters.{filtered, passed, shortened, frames_of_sample, stack_of_sample};
+ghost use Rattle.pp_stack.specs.Tables.{AreTables};
 
-use crate::stages::{cut, kept, load_prune, prune_from, show_from};
+use crate::stages::{cut_by, kept_by, load_prune, prune_from, show_from_by};
+use crate::tables::VerdictTables;
 use pp_base::Memory;
 use pp_model::{Loaded, Sample, Stack, Verdicts, frames, frames_into};
 use std::alloc::Global;
@@ -31,17 +33,24 @@ pub fn filter_stack(
     ensures of_profile { IfOk result (λ stack. IfSome stack (IsStackOf l.now.profile)) }
 {
     let mut stack = frames(alloc, l, s)?;
-    if filter_frames(l, v, &mut stack) {
+    if filter_frames(l, v, &VerdictTables::none(), &mut stack) {
         Ok(Some(stack))
     } else {
         Ok(None)
     }
 }
 
-/// The same, in the place of what the stack held. False says that the sample is dropped.
-pub fn filter_into(l: &Loaded, v: &Verdicts, s: &Sample, stack: &mut Stack) -> Result<bool, Memory>
+/// The same, in the place of what the stack held, by tables of the patterns. False says that the sample is dropped.
+pub fn filter_into(
+    l: &Loaded,
+    v: &Verdicts,
+    tables: &VerdictTables,
+    s: &Sample,
+    stack: &mut Stack,
+) -> Result<bool, Memory>
     requires sample { RefersTo l.now.profile s.now }
     requires verdicts { HasVerdicts l.now.profile v.now }
+    requires tables { AreTables l.now.profile v.now tables.now }
     ensures places { (f : Finders) → HoldsFinders l.now v.now f →
         IfOk result (λ kept. kept_if kept stack.new ≡ frames_of_sample l.now.profile f s.now) }
     ensures texts { (f : Finders) → HoldsFinders l.now v.now f →
@@ -50,15 +59,16 @@ pub fn filter_into(l: &Loaded, v: &Verdicts, s: &Sample, stack: &mut Stack) -> R
     ensures of_profile { IfOk result (λ _. IsStackOf l.now.profile stack.new) }
 {
     frames_into(l, s, stack)?;
-    let kept = filter_frames(l, v, stack);
+    let kept = filter_frames(l, v, tables, stack);
     Ok(kept)
 }
 
-/// The same of frames that are there already, cut in place: load pruning, ignore and focus, hide, show, show_from,
-/// prune_from. False says that the sample is dropped.
-pub fn filter_frames(l: &Loaded, v: &Verdicts, stack: &mut Stack) -> bool
+// The same of frames that are there already, cut in place: load pruning, ignore and focus, hide, show, show_from,
+// prune_from. False says that the sample is dropped.
+fn filter_frames(l: &Loaded, v: &Verdicts, tables: &VerdictTables, stack: &mut Stack) -> bool
     requires frames { IsStackOf l.now.profile stack.old }
     requires verdicts { HasVerdicts l.now.profile v.now }
+    requires tables { AreTables l.now.profile v.now tables.now }
     ensures places { (f : Finders) → HoldsFinders l.now v.now f →
         kept_if result stack.new ≡ filtered (written l.now.profile) f stack.old }
     ensures texts { (f : Finders) → HoldsFinders l.now v.now f →
@@ -67,34 +77,36 @@ pub fn filter_frames(l: &Loaded, v: &Verdicts, stack: &mut Stack) -> bool
     ensures of_profile { IsStackOf l.now.profile stack.new }
 {
     load_prune(l, stack);
-    pass(l, v, stack)
+    pass(l, v, tables, stack)
 }
 
 // The filters of the report, after load pruning.
-fn pass(l: &Loaded, v: &Verdicts, stack: &mut Stack) -> bool
+fn pass(l: &Loaded, v: &Verdicts, tables: &VerdictTables, stack: &mut Stack) -> bool
     requires frames { IsStackOf l.now.profile stack.old }
     requires verdicts { HasVerdicts l.now.profile v.now }
+    requires tables { AreTables l.now.profile v.now tables.now }
     ensures places { (f : Finders) → HoldsFinders l.now v.now f →
         kept_if result stack.new ≡ passed (written l.now.profile) f stack.old }
     ensures of_profile { IsStackOf l.now.profile stack.new }
 {
-    kept(l, v, stack) && shorten(l, v, stack)
+    kept_by(l, v, tables, stack) && shorten(l, v, tables, stack)
 }
 
 // The filters that take frames off a stack that stays, unless they leave nothing of it.
-fn shorten(l: &Loaded, v: &Verdicts, stack: &mut Stack) -> bool
+fn shorten(l: &Loaded, v: &Verdicts, tables: &VerdictTables, stack: &mut Stack) -> bool
     requires frames { IsStackOf l.now.profile stack.old }
     requires verdicts { HasVerdicts l.now.profile v.now }
+    requires tables { AreTables l.now.profile v.now tables.now }
     ensures places { (f : Finders) → HoldsFinders l.now v.now f →
         kept_if result stack.new ≡ shortened (written l.now.profile) f stack.old }
     ensures of_profile { IsStackOf l.now.profile stack.new }
 {
     let was_empty = stack.len() == 0;
-    cut(l, v, stack);
+    cut_by(l, v, tables, stack);
     if !was_empty && stack.len() == 0 {
         return false;
     }
-    if !show_from(l, v, stack) {
+    if !show_from_by(l, v, tables, stack) {
         return false;
     }
     prune_from(l, v, stack);

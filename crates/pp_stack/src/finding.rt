@@ -1,13 +1,15 @@
 //! Whether a pattern finds a frame, by the verdicts of the texts that the frame stands for.
 
 ghost use Rattle.std.specs.Prelude.{◌≡◌, length, Some, false};
-ghost use Rattle.std.specs.Option.{option_map_or};
+ghost use Rattle.std.specs.Option.{ForSome, option_map_or};
 ghost use Rattle.pp_model.specs.Conditions.{IsFrameOf};
 ghost use Rattle.pp_model.specs.Finders.{Finder, Finders};
 ghost use Rattle.pp_model.specs.FrameTexts.{written};
 ghost use Rattle.pp_model.specs.Judged.{judged};
 ghost use Rattle.pp_stack.specs.Filters.{AreVerdicts, finds_frame, finds_function, is_prunable};
+ghost use Rattle.pp_stack.specs.Tables.{IsVerdictTable};
 
+use crate::table::VerdictTable;
 use pp_base::List;
 use pp_model::{Frame, Loaded, function_of, texts_of};
 
@@ -21,8 +23,27 @@ pub fn finds_function(l: &Loaded, found: &List<bool>, frame: &Frame) -> bool
     found.as_slice()[function_of(l, frame) as usize]
 }
 
-/// Whether the pattern finds the frame's function, its file or its mapping's file.
-pub fn finds_frame(l: &Loaded, found: &List<bool>, frame: &Frame) -> bool
+/// Whether the pattern finds the frame's function, its file or its mapping's file: by its table, where it has one.
+pub fn finds_frame(
+    l: &Loaded,
+    found: &List<bool>,
+    table: &Option<VerdictTable>,
+    frame: &Frame,
+) -> bool
+    requires frame { IsFrameOf l.now.profile frame.now }
+    requires fits { length found.now ≡ length l.now.profile.text }
+    requires table { ForSome table.now (IsVerdictTable l.now.profile found.now) }
+    ensures { (find : Finder) → AreVerdicts l.now.profile found.now find →
+        result ≡ finds_frame find (written l.now.profile frame.now) }
+{
+    match table {
+        None => finds_by_texts(l, found, frame),
+        Some(table) => table.finds(frame),
+    }
+}
+
+/// The same, by the verdicts on the frame's texts.
+pub fn finds_by_texts(l: &Loaded, found: &List<bool>, frame: &Frame) -> bool
     requires frame { IsFrameOf l.now.profile frame.now }
     requires fits { length found.now ≡ length l.now.profile.text }
     ensures { (find : Finder) → AreVerdicts l.now.profile found.now find →

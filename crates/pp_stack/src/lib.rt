@@ -7,7 +7,11 @@ mod finding;
 mod retain;
 mod runs;
 mod stages;
+mod table;
+mod tables;
 
-pub use filter::{filter_frames, filter_into, filter_stack, keeps_all};
+pub use filter::{filter_into, filter_stack, keeps_all};
 pub use runs::finds_some;
 pub use stages::{cut, kept, load_prune, prune_from, show_from};
+pub use table::VerdictTable;
+pub use tables::VerdictTables;

@@ -4,30 +4,47 @@ ghost use Rattle.std.specs.Prelude.{◌≡◌, ◌≤◌, length, take, drop, fi
 ghost use Rattle.pp_model.specs.Conditions.{IsStackOf};
 ghost use Rattle.pp_model.specs.Finders.{Finder};
 ghost use Rattle.pp_model.specs.FrameTexts.{written};
+ghost use Rattle.std.specs.Option.{ForSome};
 ghost use Rattle.pp_stack.specs.Runs.{as_wanted};
 ghost use Rattle.pp_stack.specs.Filters.{AreVerdicts, finds_frame};
+ghost use Rattle.pp_stack.specs.Tables.{IsVerdictTable};
 
 use crate::finding::finds_frame;
+use crate::table::VerdictTable;
 use pp_base::List;
 use pp_model::{Frame, Loaded, Stack};
 
 /// Keeps, in their order, the frames that the pattern finds, or those that it doesn't, as it is wanted.
-pub fn retain(l: &Loaded, found: &List<bool>, wanted: bool, stack: &mut Stack)
+pub fn retain(
+    l: &Loaded,
+    found: &List<bool>,
+    table: &Option<VerdictTable>,
+    wanted: bool,
+    stack: &mut Stack,
+)
     requires frames { IsStackOf l.now.profile stack.old }
     requires fits { length found.now ≡ length l.now.profile.text }
+    requires table { ForSome table.now (IsVerdictTable l.now.profile found.now) }
     ensures items { (find : Finder) → AreVerdicts l.now.profile found.now find →
         stack.new ≡ filter (λ x. as_wanted wanted (finds_frame find (written l.now.profile x)))
         stack.old }
     ensures of_profile { IsStackOf l.now.profile stack.new }
 {
-    let kept = move_front(l, found, wanted, stack.as_mut_slice());
+    let kept = move_front(l, found, table, wanted, stack.as_mut_slice());
     stack.truncate(kept);
 }
 
 // Moves what is kept to the front, and counts it.
-fn move_front(l: &Loaded, found: &List<bool>, wanted: bool, stack: &mut [Frame]) -> usize
+fn move_front(
+    l: &Loaded,
+    found: &List<bool>,
+    table: &Option<VerdictTable>,
+    wanted: bool,
+    stack: &mut [Frame],
+) -> usize
     requires frames { IsStackOf l.now.profile stack.old }
     requires fits { length found.now ≡ length l.now.profile.text }
+    requires table { ForSome table.now (IsVerdictTable l.now.profile found.now) }
     ensures items { (find : Finder) → AreVerdicts l.now.profile found.now find →
         take result stack.new
         ≡ filter (λ x. as_wanted wanted (finds_frame find (written l.now.profile x)))
@@ -37,7 +54,7 @@ fn move_front(l: &Loaded, found: &List<bool>, wanted: bool, stack: &mut [Frame])
     let mut kept = 0;
     for i in 0..stack.len() {
         let frame = stack[i];
-        if finds_frame(l, found, &frame) == wanted {
+        if finds_frame(l, found, table, &frame) == wanted {
             stack[kept] = frame;
             kept += 1;
         }

@@ -2,26 +2,35 @@
 
 ghost use Rattle.std.specs.Prelude.{◌≡◌, ◌<◌, ◌≤◌, length, position, IfSome};
 ghost use Rattle.std.specs.List.{list_any};
+ghost use Rattle.std.specs.Option.{ForSome};
 ghost use Rattle.pp_model.specs.Conditions.{IsStackOf};
 ghost use Rattle.pp_model.specs.Finders.{Finder, Finders};
 ghost use Rattle.pp_model.specs.FrameTexts.{written};
 ghost use Rattle.pp_model.specs.Judged.{judged};
 ghost use Rattle.pp_stack.specs.Runs.{through_last, as_wanted, pruned_len};
 ghost use Rattle.pp_stack.specs.Filters.{AreVerdicts, finds_frame, finds_function, is_prunable};
+ghost use Rattle.pp_stack.specs.Tables.{IsVerdictTable};
 
 use crate::finding::{finds_frame, finds_function, is_prunable};
+use crate::table::VerdictTable;
 use pp_base::List;
 use pp_model::{Frame, Loaded};
 
 /// Whether the pattern finds a frame of the stack.
-pub fn finds_some(l: &Loaded, found: &List<bool>, stack: &[Frame]) -> bool
+pub fn finds_some(
+    l: &Loaded,
+    found: &List<bool>,
+    table: &Option<VerdictTable>,
+    stack: &[Frame],
+) -> bool
     requires frames { IsStackOf l.now.profile stack.now }
     requires fits { length found.now ≡ length l.now.profile.text }
+    requires table { ForSome table.now (IsVerdictTable l.now.profile found.now) }
     ensures { (find : Finder) → AreVerdicts l.now.profile found.now find →
         result ≡ list_any (λ x. finds_frame find (written l.now.profile x)) stack.now }
 {
     for frame in stack {
-        if finds_frame(l, found, frame) {
+        if finds_frame(l, found, table, frame) {
             return true;
         }
     }
@@ -45,14 +54,20 @@ pub fn first_function(l: &Loaded, found: &List<bool>, stack: &[Frame]) -> Option
 }
 
 /// How many frames there are up to and with the last that the pattern finds, 0 where it finds none.
-pub fn through_last_found(l: &Loaded, found: &List<bool>, stack: &[Frame]) -> usize
+pub fn through_last_found(
+    l: &Loaded,
+    found: &List<bool>,
+    table: &Option<VerdictTable>,
+    stack: &[Frame],
+) -> usize
     requires frames { IsStackOf l.now.profile stack.now }
     requires fits { length found.now ≡ length l.now.profile.text }
+    requires table { ForSome table.now (IsVerdictTable l.now.profile found.now) }
     ensures { (find : Finder) → AreVerdicts l.now.profile found.now find →
         result ≡ through_last (λ x. finds_frame find (written l.now.profile x)) stack.now }
 {
     let mut count = stack.len();
-    while count > 0 && !finds_frame(l, found, &stack[count - 1]) {
+    while count > 0 && !finds_frame(l, found, table, &stack[count - 1]) {
         count -= 1;
     }
     count

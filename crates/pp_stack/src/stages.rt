@@ -9,9 +9,12 @@ ghost use Rattle.pp_model.specs.FrameTexts.{written};
 ghost use Rattle.pp_model.specs.Judged.{judged};
 ghost use Rattle.pp_stack.specs.Runs.{as_wanted};
 ghost use Rattle.pp_stack.specs.Filters.{finds_frame, load_pruned, is_kept, cut, shown_from, pruned_from};
+ghost use Rattle.pp_stack.specs.Tables.{AreTables, IsTableOf};
 
 use crate::retain::{drop_front, retain};
 use crate::runs::{finds_some, first_function, pruned_len, through_last_found};
+use crate::table::VerdictTable;
+use crate::tables::VerdictTables;
 use pp_base::List;
 use pp_model::{Frame, Loaded, Stack, Verdicts};
 
@@ -39,8 +42,19 @@ pub fn kept(l: &Loaded, v: &Verdicts, stack: &Stack) -> bool
     ensures places { (f : Finders) → HoldsFinders l.now v.now f →
         result ≡ is_kept (written l.now.profile) f stack.now }
 {
-    !finds_or(l, &v.ignore, stack.as_slice(), false)
-        && finds_or(l, &v.focus, stack.as_slice(), true)
+    kept_by(l, v, &VerdictTables::none(), stack)
+}
+
+/// The same, by these tables.
+pub(crate) fn kept_by(l: &Loaded, v: &Verdicts, tables: &VerdictTables, stack: &Stack) -> bool
+    requires frames { IsStackOf l.now.profile stack.now }
+    requires verdicts { HasVerdicts l.now.profile v.now }
+    requires tables { AreTables l.now.profile v.now tables.now }
+    ensures places { (f : Finders) → HoldsFinders l.now v.now f →
+        result ≡ is_kept (written l.now.profile) f stack.now }
+{
+    !finds_or(l, &v.ignore, &tables.ignore, stack.as_slice(), false)
+        && finds_or(l, &v.focus, &tables.focus, stack.as_slice(), true)
 }
 
 /// Takes off the frames that hide finds, and then those that show doesn't find, each where it is in force. The stack
@@ -52,8 +66,20 @@ pub fn cut(l: &Loaded, v: &Verdicts, stack: &mut Stack)
         stack.new ≡ cut (written l.now.profile) f stack.old }
     ensures of_profile { IsStackOf l.now.profile stack.new }
 {
-    retain_if(l, &v.hide, false, stack);
-    retain_if(l, &v.show, true, stack);
+    cut_by(l, v, &VerdictTables::none(), stack);
+}
+
+/// The same, by these tables.
+pub(crate) fn cut_by(l: &Loaded, v: &Verdicts, tables: &VerdictTables, stack: &mut Stack)
+    requires frames { IsStackOf l.now.profile stack.old }
+    requires verdicts { HasVerdicts l.now.profile v.now }
+    requires tables { AreTables l.now.profile v.now tables.now }
+    ensures places { (f : Finders) → HoldsFinders l.now v.now f →
+        stack.new ≡ cut (written l.now.profile) f stack.old }
+    ensures of_profile { IsStackOf l.now.profile stack.new }
+{
+    retain_if(l, &v.hide, &tables.hide, false, stack);
+    retain_if(l, &v.show, &tables.show, true, stack);
 }
 
 /// Takes off all frames above the root-most frame that show_from finds. False says that it finds no frame, so that the
@@ -69,10 +95,29 @@ pub fn show_from(l: &Loaded, v: &Verdicts, stack: &mut Stack) -> bool
         stack.new ≡ unwrap_or (shown_from (written l.now.profile) f stack.old) [] }
     ensures of_profile { IsStackOf l.now.profile stack.new }
 {
+    show_from_by(l, v, &VerdictTables::none(), stack)
+}
+
+/// The same, by these tables.
+pub(crate) fn show_from_by(
+    l: &Loaded,
+    v: &Verdicts,
+    tables: &VerdictTables,
+    stack: &mut Stack,
+) -> bool
+    requires frames { IsStackOf l.now.profile stack.old }
+    requires verdicts { HasVerdicts l.now.profile v.now }
+    requires tables { AreTables l.now.profile v.now tables.now }
+    ensures answer { (f : Finders) → HoldsFinders l.now v.now f →
+        result ≡ is_some (shown_from (written l.now.profile) f stack.old) }
+    ensures places { (f : Finders) → HoldsFinders l.now v.now f →
+        stack.new ≡ unwrap_or (shown_from (written l.now.profile) f stack.old) [] }
+    ensures of_profile { IsStackOf l.now.profile stack.new }
+{
     let Some(found) = &v.show_from else {
         return true;
     };
-    let count = through_last_found(l, found, stack.as_slice());
+    let count = through_last_found(l, found, &tables.show_from, stack.as_slice());
     stack.truncate(count);
     count > 0
 }
@@ -96,9 +141,16 @@ pub fn prune_from(l: &Loaded, v: &Verdicts, stack: &mut Stack)
 }
 
 // Whether the pattern finds a frame of the stack; the other answer where it isn't in force.
-fn finds_or(l: &Loaded, found: &Option<List<bool>>, stack: &[Frame], otherwise: bool) -> bool
+fn finds_or(
+    l: &Loaded,
+    found: &Option<List<bool>>,
+    table: &Option<VerdictTable>,
+    stack: &[Frame],
+    otherwise: bool,
+) -> bool
     requires frames { IsStackOf l.now.profile stack.now }
     requires fits { HasOnePerText l.now.profile found.now }
+    requires table { IsTableOf l.now.profile found.now table.now }
     ensures { (pattern : Option Finder) → found.now ≡ judged l.now.profile pattern →
         result ≡ option_map_or
         (λ find. list_any (λ x. finds_frame find (written l.now.profile x)) stack.now)
@@ -106,14 +158,21 @@ fn finds_or(l: &Loaded, found: &Option<List<bool>>, stack: &[Frame], otherwise: 
 {
     match found {
         None => otherwise,
-        Some(found) => finds_some(l, found, stack),
+        Some(found) => finds_some(l, found, table, stack),
     }
 }
 
 // Keeps what the pattern finds, or what it doesn't find, as it is wanted, where it is in force.
-fn retain_if(l: &Loaded, found: &Option<List<bool>>, wanted: bool, stack: &mut Stack)
+fn retain_if(
+    l: &Loaded,
+    found: &Option<List<bool>>,
+    table: &Option<VerdictTable>,
+    wanted: bool,
+    stack: &mut Stack,
+)
     requires frames { IsStackOf l.now.profile stack.old }
     requires fits { HasOnePerText l.now.profile found.now }
+    requires table { IsTableOf l.now.profile found.now table.now }
     ensures items { (pattern : Option Finder) → found.now ≡ judged l.now.profile pattern →
         stack.new ≡ option_map_or
         (λ find. filter
@@ -122,6 +181,6 @@ fn retain_if(l: &Loaded, found: &Option<List<bool>>, wanted: bool, stack: &mut S
     ensures of_profile { IsStackOf l.now.profile stack.new }
 {
     if let Some(found) = found {
-        retain(l, found, wanted, stack);
+        retain(l, found, table, wanted, stack);
     }
 }

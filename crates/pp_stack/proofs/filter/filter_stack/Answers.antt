@@ -4,6 +4,10 @@ use Rattle.pp_stack.specs.Filters.{filtered}
 use Rattle.pp_stack.specs.Runs.{kept_if}
 use Rattle.pp_stack.proofs.filter.filter_stack.Goals as goal
 
+-- where there are no tables, each is of its pattern
+pub filter_frames-requires-clause-tables : goal.filter_frames-requires-clause-tables
+filter_frames-requires-clause-tables c = c.none.ensures c.args.l.now.profile c.args.v.now
+
 -- the sample is dropped
 pub returns-else-filter_frames-clause-places : goal.returns-else-filter_frames-clause-places
 returns-else-filter_frames-clause-places c f holds =
