@@ -7,7 +7,6 @@ pub mod Sights
 pub mod Located
 pub mod Ranges
 pub mod Pieces
-pub mod Tags
 pub mod Totals
 pub mod Finals
 pub mod Renaming

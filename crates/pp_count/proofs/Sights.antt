@@ -13,22 +13,11 @@ use Rattle.pp_model.specs.Conditions.{IsFrameOf, IsRowOf}
 use Rattle.pp_model.specs.Frames.{rows, row_frame, lines_at}
 use Rattle.pp_model.specs.FrameTexts.{Written, written}
 use Rattle.pp_grain.specs.Keys.{counts, key_texts}
+use Rattle.pp_stack.proofs.RowLemmas.{frame_in}
 use Rattle.pp_count.specs.declared.table.KeyTable.{KeyTable}
 use Rattle.pp_count.specs.Table.{written_key, IsKeyTable}
 use Rattle.pp_count.specs.Seeing.{key_of_frame, keys_of_stack}
 use Rattle.pp_count.proofs.CountedFrames.{one_more, no_more}
-
--- the frame of the row, which stands at that place of the location's rows
-frame_in : (location : ℕ) (lines : List Line) (row : Option ℕ) (d : Frame) → IsRowOf lines row
-    → (unwrap_or row 0 < length (rows 0 location lines))
-    × (get_or (rows 0 location lines) (unwrap_or row 0) d ≡ record { place = 0; location = location; row = row })
-frame_in location [] None d is = (omega arith, refl)
-frame_in location [] (Some r) d is = absurd (omega (arith, is))
-frame_in location (line ∷ lines) None d is = cc
-frame_in location (line ∷ lines) (Some r) d is = (
-  omega (arith, length-map-range_with_len (row_frame 0 location) 0 (length (line ∷ lines)), is),
-  get_or-map-range_with_len (row_frame 0 location) 0 (length (line ∷ lines)) r r d is (omega arith),
-)
 
 -- the number of a frame's key
 abbrev pub number_at : List (List ℕ) → Frame → ℕ

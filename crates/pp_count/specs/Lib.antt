@@ -8,6 +8,7 @@ pub mod Edges
 pub mod Scope
 pub mod Counts
 pub mod EdgeSums
+pub mod Filters
 pub mod Counted
 pub mod Matches
 pub mod Ranks

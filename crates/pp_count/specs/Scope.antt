@@ -5,10 +5,10 @@ use Rattle.pp_model.specs.declared.profile.Sample.{Sample}
 use Rattle.pp_model.specs.declared.profile.Profile.{Profile}
 use Rattle.pp_model.specs.Conditions.{HasVerdicts}
 use Rattle.pp_model.specs.Finders.{Finders}
-use Rattle.pp_tags.specs.TagFilters.{HasItsTags, filter_in_force}
 use Rattle.pp_count.specs.declared.scope.Scope.{Scope}
 use Rattle.pp_count.specs.declared.part.Part.{Part}
 use Rattle.pp_count.specs.declared.tally.Tally.{Tally}
+use Rattle.pp_count.specs.Filters.{AreFilters}
 use Rattle.pp_count.specs.Tally.{IsTallyOf}
 use Rattle.pp_count.specs.Table.{written_key, IsKeyTable}
 use Rattle.pp_count.specs.Sums.{Seen, weighed, absolute, renamed}
@@ -28,12 +28,9 @@ config_of scope = scope.config.now
 abbrev pub keep_of : Scope → Option (List Bool)
 keep_of scope = option_map (λ keep. keep.now) scope.over
 
--- The verdicts, the tag filters and the table are those of the profile and the configuration.
+-- The verdicts, the filters and the table are those of the profile and the configuration.
 pub record IsSound (scope : Scope) : Type 0 where
-  pub focus : scope.focus.now ≡ filter_in_force (config_of scope).tagfocus
-  pub ignore : scope.ignore.now ≡ filter_in_force (config_of scope).tagignore
-  pub focus_tags : HasItsTags (profile_of scope) scope.v.now.tag scope.focus.now
-  pub ignore_tags : HasItsTags (profile_of scope) scope.v.now.tag scope.ignore.now
+  pub filters : AreFilters (profile_of scope) scope.v.now (config_of scope) scope.filters.now
   pub verdicts : HasVerdicts (profile_of scope) scope.v.now
   pub table : IsKeyTable (profile_of scope) (config_of scope) scope.table.now
   pub few_kept : MatchOption (keep_of scope) ⊤ (λ keep. length keep < 2 ^ 32)

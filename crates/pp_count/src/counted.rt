@@ -4,15 +4,16 @@ ghost use Rattle.pp_model.specs.Conditions.{HasVerdicts, IsColumnOf};
 ghost use Rattle.pp_model.specs.Finders.{Finders};
 ghost use Rattle.pp_model.specs.Sizes.{IsCountable};
 ghost use Rattle.pp_grain.specs.Keys.{IsKeyOf};
-ghost use Rattle.pp_tags.specs.TagFilters.{HasItsTags, filter_in_force};
 ghost use Rattle.pp_count.specs.Seeing.{HoldsFilters, filtered_from, absolute_all};
 ghost use Rattle.pp_count.specs.Matches.{matches_of};
 ghost use Rattle.pp_count.specs.Counts.{AreSumsOf, total_of};
+ghost use Rattle.pp_count.specs.Filters.{AreFilters};
 ghost use Rattle.pp_count.specs.Counted.{CanCount, FitSums, IsCountedOf, report_samples};
 ghost use Rattle.pp_count.specs.Table.{IsKeyTable};
 ghost use Rattle.pp_count.specs.Scope.{IsSound, CountedTo, size_of};
 ghost use Rattle.pp_count.specs.Tally.{tally_at};
 
+use crate::filters::Filters;
 use crate::matched::{Matched, matches};
 use crate::scope::Scope;
 use crate::sofar::Sofar;
@@ -23,7 +24,6 @@ use crate::total::{total_kept, total_over};
 use crate::waves::count_all;
 use pp_base::{Gate, List, Memory};
 use pp_model::{Config, Loaded, Verdicts};
-use pp_tags::TagFilter;
 use std::alloc::Global;
 use std::thread::Threads;
 
@@ -57,12 +57,9 @@ pub fn count<R: Threads + Sync, G: Gate>(
     ensures { IfOk result (IsCountedOf l.now v.now config.now column) }
 {
     let table = key_table(alloc, l, config)?;
-    let focus = TagFilter::in_force(alloc, config.tagfocus.as_slice())?;
-    let ignore = TagFilter::in_force(alloc, config.tagignore.as_slice())?;
-    let (sofar, sums) = count_by(
-        rt, alloc, l, v, config, &focus, &ignore, column, &table, gate,
-    )?;
-    let matched = matches(alloc, l, v, config, &focus, &ignore)?;
+    let filters = Filters::new(alloc, l, v, config)?;
+    let (sofar, sums) = count_by(rt, alloc, l, v, config, &filters, column, &table, gate)?;
+    let matched = matches(alloc, l, v, config, &filters)?;
     let total = report_total(l, config, column, sofar.kept.as_slice());
     Ok(Counted {
         kept: sofar.kept,
@@ -72,15 +69,14 @@ pub fn count<R: Threads + Sync, G: Gate>(
     })
 }
 
-// What all samples come to, by this table of the profile's keys and these tag filters of the configuration.
+// What all samples come to, by this table of the profile's keys and these filters.
 fn count_by<'x, R: Threads + Sync, G: Gate>(
     rt: &R,
     alloc: Global,
     l: &'x Loaded,
     v: &'x Verdicts,
     config: &'x Config,
-    focus: &'x Option<TagFilter>,
-    ignore: &'x Option<TagFilter>,
+    filters: &'x Filters,
     column: Option<u32>,
     table: &'x KeyTable,
     gate: &G,
@@ -88,10 +84,7 @@ fn count_by<'x, R: Threads + Sync, G: Gate>(
     requires countable { IsCountable l.now.profile }
     requires column { IsColumnOf l.now.profile column }
     requires verdicts { HasVerdicts l.now.profile v.now }
-    requires focus { focus.now ≡ filter_in_force config.now.tagfocus }
-    requires ignore { ignore.now ≡ filter_in_force config.now.tagignore }
-    requires focus_tags { HasItsTags l.now.profile v.now.tag focus.now }
-    requires ignore_tags { HasItsTags l.now.profile v.now.tag ignore.now }
+    requires filters { AreFilters l.now.profile v.now config.now filters.now }
     requires table { IsKeyTable l.now.profile config.now table.now }
     ensures kept { (f : Finders) → HoldsFilters l.now v.now config.now f →
         IfOk result (λ c. c.0.kept ≡ filtered_from l.now.profile f config.now 0 l.now.profile.sample) }
@@ -105,8 +98,7 @@ fn count_by<'x, R: Threads + Sync, G: Gate>(
         l,
         v,
         config,
-        focus,
-        ignore,
+        filters,
         column,
         table,
         over: None,

@@ -1,19 +1,22 @@
 //! Which options of a report match something.
 ghost use Rattle.std.specs.Prelude.{◌≡◌, length, All, IfOk, Option, List as Seq, false};
 ghost use Rattle.std.specs.List.{list_any};
-ghost use Rattle.std.specs.Option.{option_map_or};
+ghost use Rattle.std.specs.Option.{ForSome, option_map_or};
 ghost use Rattle.pp_model.specs.Conditions.{HasOnePerText, HasVerdicts, IsSampleOf, RefersTo};
 ghost use Rattle.pp_model.specs.Finders.{Finder, Finders};
 ghost use Rattle.pp_model.specs.Judged.{judged};
 ghost use Rattle.pp_stack.specs.Filters.{AreVerdicts};
-ghost use Rattle.pp_tags.specs.TagFilters.{AreTagVerdicts, HasItsTags, filter_in_force, selects_or};
+ghost use Rattle.pp_stack.specs.Tables.{IsTableOf, IsVerdictTable};
+ghost use Rattle.pp_tags.specs.TagFilters.{AreTagVerdicts, HasItsTags, selects_or};
+ghost use Rattle.pp_count.specs.Filters.{AreFilters};
 ghost use Rattle.pp_count.specs.Seeing.{HoldsFilters};
 ghost use Rattle.pp_count.specs.Matches.{stack_has, label_has, frame_match, key_match, matches_of};
 
+use crate::filters::Filters;
 use crate::finding::finds_key;
 use pp_base::{List, Memory};
 use pp_model::{Config, Loaded, Sample, Stack, Tag, Verdicts, frames_into};
-use pp_stack::{finds_some, load_prune};
+use pp_stack::{VerdictTable, finds_some, load_prune};
 use pp_tags::{TagFilter, selects};
 use std::alloc::Global;
 
@@ -31,25 +34,22 @@ pub(crate) fn matches(
     l: &Loaded,
     v: &Verdicts,
     config: &Config,
-    focus: &Option<TagFilter>,
-    ignore: &Option<TagFilter>,
+    filters: &Filters,
 ) -> Result<Matched, Memory>
     requires verdicts { HasVerdicts l.now.profile v.now }
-    requires focus { focus.now ≡ filter_in_force config.now.tagfocus }
-    requires ignore { ignore.now ≡ filter_in_force config.now.tagignore }
-    requires focus_tags { HasItsTags l.now.profile v.now.tag focus.now }
-    requires ignore_tags { HasItsTags l.now.profile v.now.tag ignore.now }
+    requires filters { AreFilters l.now.profile v.now config.now filters.now }
     ensures { (f : Finders) → HoldsFilters l.now v.now config.now f →
         IfOk result (λ m. m.slots ≡ matches_of l.now.profile f config.now) }
 {
     let mut slots = List::new(alloc);
-    slots.push(some_frame(alloc, l, &v.focus)?)?;
-    slots.push(some_frame(alloc, l, &v.ignore)?)?;
-    slots.push(some_frame(alloc, l, &v.hide)?)?;
-    slots.push(some_frame(alloc, l, &v.show)?)?;
-    slots.push(some_frame(alloc, l, &v.show_from)?)?;
-    slots.push(some_selected(l, focus, &v.tag, &v.tagfocus))?;
-    slots.push(some_selected(l, ignore, &v.tag, &v.tagignore))?;
+    let tables = &filters.tables;
+    slots.push(some_frame(alloc, l, &v.focus, &tables.focus)?)?;
+    slots.push(some_frame(alloc, l, &v.ignore, &tables.ignore)?)?;
+    slots.push(some_frame(alloc, l, &v.hide, &tables.hide)?)?;
+    slots.push(some_frame(alloc, l, &v.show, &tables.show)?)?;
+    slots.push(some_frame(alloc, l, &v.show_from, &tables.show_from)?)?;
+    slots.push(some_selected(l, &filters.tagfocus, &v.tag, &v.tagfocus))?;
+    slots.push(some_selected(l, &filters.tagignore, &v.tag, &v.tagignore))?;
     slots.push(true)?;
     slots.push(some_key(l, &v.tagshow))?;
     slots.push(some_key(l, &v.taghide))?;
@@ -57,8 +57,14 @@ pub(crate) fn matches(
 }
 
 // Whether the pattern, where it is in force, finds a frame that load pruning left of some sample.
-fn some_frame(alloc: Global, l: &Loaded, found: &Option<List<bool>>) -> Result<bool, Memory>
-    requires { HasOnePerText l.now.profile found.now }
+fn some_frame(
+    alloc: Global,
+    l: &Loaded,
+    found: &Option<List<bool>>,
+    table: &Option<VerdictTable>,
+) -> Result<bool, Memory>
+    requires fits { HasOnePerText l.now.profile found.now }
+    requires table { IsTableOf l.now.profile found.now table.now }
     ensures { (f : Finders) → l.now.drop ≡ judged l.now.profile f.drop →
         l.now.keep ≡ judged l.now.profile f.keep →
         (pattern : Option Finder) → found.now ≡ judged l.now.profile pattern →
@@ -67,7 +73,7 @@ fn some_frame(alloc: Global, l: &Loaded, found: &Option<List<bool>>) -> Result<b
     let Some(found) = found else {
         return Ok(false);
     };
-    let some = some_stack(alloc, l, found, l.profile.get().sample.as_slice())?;
+    let some = some_stack(alloc, l, found, table, l.profile.get().sample.as_slice())?;
     Ok(some)
 }
 
@@ -75,10 +81,12 @@ fn some_stack(
     alloc: Global,
     l: &Loaded,
     found: &List<bool>,
+    table: &Option<VerdictTable>,
     samples: &[Sample],
 ) -> Result<bool, Memory>
     requires refers { All (RefersTo l.now.profile) samples.now }
     requires fits { length found.now ≡ length l.now.profile.text }
+    requires table { ForSome table.now (IsVerdictTable l.now.profile found.now) }
     ensures { (f : Finders) → l.now.drop ≡ judged l.now.profile f.drop →
         l.now.keep ≡ judged l.now.profile f.keep →
         (find : Finder) → AreVerdicts l.now.profile found.now find →
@@ -86,7 +94,7 @@ fn some_stack(
 {
     let mut stack = List::new(alloc);
     for s in samples {
-        if has_frame(l, found, s, &mut stack)? {
+        if has_frame(l, found, table, s, &mut stack)? {
             return Ok(true);
         }
     }
@@ -94,9 +102,16 @@ fn some_stack(
 }
 
 // Whether it finds a frame of the sample. The stack is room for its frames, to be used again for the next sample.
-fn has_frame(l: &Loaded, found: &List<bool>, s: &Sample, stack: &mut Stack) -> Result<bool, Memory>
+fn has_frame(
+    l: &Loaded,
+    found: &List<bool>,
+    table: &Option<VerdictTable>,
+    s: &Sample,
+    stack: &mut Stack,
+) -> Result<bool, Memory>
     requires refers { RefersTo l.now.profile s.now }
     requires fits { length found.now ≡ length l.now.profile.text }
+    requires table { ForSome table.now (IsVerdictTable l.now.profile found.now) }
     ensures { (f : Finders) → l.now.drop ≡ judged l.now.profile f.drop →
         l.now.keep ≡ judged l.now.profile f.keep →
         (find : Finder) → AreVerdicts l.now.profile found.now find →
@@ -104,7 +119,7 @@ fn has_frame(l: &Loaded, found: &List<bool>, s: &Sample, stack: &mut Stack) -> R
 {
     frames_into(l, s, stack)?;
     load_prune(l, stack);
-    Ok(finds_some(l, found, stack.as_slice()))
+    Ok(finds_some(l, found, table, stack.as_slice()))
 }
 
 // Whether the tag filter, where it is in force, selects some sample.

@@ -2,20 +2,20 @@
 ghost use Rattle.std.specs.Prelude.{◌≡◌, ◌*◌, ◌<◌, length, IfOk};
 ghost use Rattle.pp_model.specs.Conditions.{HasVerdicts, IsColumnOf};
 ghost use Rattle.pp_model.specs.Sizes.{IsCountable};
-ghost use Rattle.pp_tags.specs.TagFilters.{HasItsTags, filter_in_force};
 ghost use Rattle.pp_count.specs.Counted.{CanCount};
+ghost use Rattle.pp_count.specs.Filters.{AreFilters};
 ghost use Rattle.pp_count.specs.Joined.{IsRangePart, CanJoin, IsJoinedPart};
 ghost use Rattle.pp_count.specs.Parts.{piece_samples};
 ghost use Rattle.pp_count.specs.Table.{IsKeyTable};
 
 use crate::counting::count_piece_of;
+use crate::filters::Filters;
 use crate::part::Part;
 use crate::scope::Scope;
 use crate::sofar::Sofar;
 use crate::table::KeyTable;
 use pp_base::{List, Memory};
 use pp_model::{Config, Loaded, Verdicts};
-use pp_tags::TagFilter;
 use std::alloc::Global;
 
 /// Counts the samples from number `1024 * piece` up to the next piece, or to the last sample. `table` is the key table of
@@ -35,20 +35,18 @@ pub fn count_piece(
     ensures { IfOk result (IsRangePart l.now v.now config.now column table.now.names
         (1024 * piece) (piece_samples l.now.profile.sample piece)) }
 {
-    let focus = TagFilter::in_force(alloc, config.tagfocus.as_slice())?;
-    let ignore = TagFilter::in_force(alloc, config.tagignore.as_slice())?;
-    let part = count_piece_by(alloc, l, v, config, &focus, &ignore, column, table, piece)?;
+    let filters = Filters::without_tables(alloc, l, v, config)?;
+    let part = count_piece_by(alloc, l, v, config, &filters, column, table, piece)?;
     Ok(part)
 }
 
-// The part of the piece, by these tag filters of the configuration.
+// The part of the piece, by these filters.
 fn count_piece_by<'x>(
     alloc: Global,
     l: &'x Loaded,
     v: &'x Verdicts,
     config: &'x Config,
-    focus: &'x Option<TagFilter>,
-    ignore: &'x Option<TagFilter>,
+    filters: &'x Filters,
     column: Option<u32>,
     table: &'x KeyTable,
     piece: u32,
@@ -56,10 +54,7 @@ fn count_piece_by<'x>(
     requires countable { IsCountable l.now.profile }
     requires column { IsColumnOf l.now.profile column }
     requires verdicts { HasVerdicts l.now.profile v.now }
-    requires focus { focus.now ≡ filter_in_force config.now.tagfocus }
-    requires ignore { ignore.now ≡ filter_in_force config.now.tagignore }
-    requires focus_tags { HasItsTags l.now.profile v.now.tag focus.now }
-    requires ignore_tags { HasItsTags l.now.profile v.now.tag ignore.now }
+    requires filters { AreFilters l.now.profile v.now config.now filters.now }
     requires table { IsKeyTable l.now.profile config.now table.now }
     requires starts { 1024 * piece < length l.now.profile.sample }
     ensures { IfOk result (IsRangePart l.now v.now config.now column table.now.names
@@ -70,8 +65,7 @@ fn count_piece_by<'x>(
         l,
         v,
         config,
-        focus,
-        ignore,
+        filters,
         column,
         table,
         over: None,

@@ -4,15 +4,16 @@ ghost use Rattle.pp_model.specs.Conditions.{HasVerdicts, IsColumnOf};
 ghost use Rattle.pp_model.specs.Finders.{Finders};
 ghost use Rattle.pp_model.specs.Sizes.{IsCountable};
 ghost use Rattle.pp_grain.specs.Keys.{IsKeyOf};
-ghost use Rattle.pp_tags.specs.TagFilters.{HasItsTags, filter_in_force};
 ghost use Rattle.pp_count.specs.Seeing.{HoldsFilters};
 ghost use Rattle.pp_count.specs.Counted.{CanCount, report_samples};
 ghost use Rattle.pp_count.specs.Table.{IsKeyTable};
 ghost use Rattle.pp_count.specs.Edges.{edge_of_sum};
+ghost use Rattle.pp_count.specs.Filters.{AreFilters};
 ghost use Rattle.pp_count.specs.EdgeSums.{AreEdgesOf, HasPairSums};
 
 use crate::counted::Counted;
 use crate::edge::Edge;
+use crate::filters::Filters;
 use crate::part::KeySum;
 use crate::scope::Scope;
 use crate::table::{KeyTable, table_after};
@@ -21,7 +22,6 @@ use crate::waves::count_all;
 use pp_base::{Gate, List, Memory};
 use pp_grain::Names;
 use pp_model::{Config, Loaded, Verdicts};
-use pp_tags::TagFilter;
 use std::alloc::Global;
 use std::thread::Threads;
 
@@ -58,10 +58,9 @@ pub fn recount<R: Threads + Sync, G: Gate>(
     }
     let names = same_names(alloc, &counted.sums.names)?;
     let table = table_after(alloc, l, config, names)?;
-    let focus = TagFilter::in_force(alloc, config.tagfocus.as_slice())?;
-    let ignore = TagFilter::in_force(alloc, config.tagignore.as_slice())?;
+    let filters = Filters::new(alloc, l, v, config)?;
     let sums = pair_sums(
-        rt, alloc, l, v, config, &focus, &ignore, column, &table, keep, gate,
+        rt, alloc, l, v, config, &filters, column, &table, keep, gate,
     )?;
     let edges = edges_of(alloc, sums.as_slice(), keep.len() as u64)?;
     Ok(edges)
@@ -86,8 +85,7 @@ fn pair_sums<'x, R: Threads + Sync, G: Gate>(
     l: &'x Loaded,
     v: &'x Verdicts,
     config: &'x Config,
-    focus: &'x Option<TagFilter>,
-    ignore: &'x Option<TagFilter>,
+    filters: &'x Filters,
     column: Option<u32>,
     table: &'x KeyTable,
     keep: &'x [bool],
@@ -96,10 +94,7 @@ fn pair_sums<'x, R: Threads + Sync, G: Gate>(
     requires countable { IsCountable l.now.profile }
     requires column { IsColumnOf l.now.profile column }
     requires verdicts { HasVerdicts l.now.profile v.now }
-    requires focus { focus.now ≡ filter_in_force config.now.tagfocus }
-    requires ignore { ignore.now ≡ filter_in_force config.now.tagignore }
-    requires focus_tags { HasItsTags l.now.profile v.now.tag focus.now }
-    requires ignore_tags { HasItsTags l.now.profile v.now.tag ignore.now }
+    requires filters { AreFilters l.now.profile v.now config.now filters.now }
     requires table { IsKeyTable l.now.profile config.now table.now }
     requires few { length keep.now < 2 ^ 32 }
     ensures { IfOk result (HasPairSums l.now v.now config.now column table.now.names keep.now) }
@@ -108,8 +103,7 @@ fn pair_sums<'x, R: Threads + Sync, G: Gate>(
         l,
         v,
         config,
-        focus,
-        ignore,
+        filters,
         column,
         table,
         over: Some(keep),

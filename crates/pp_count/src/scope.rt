@@ -1,8 +1,8 @@
 //! How the samples of a count are seen.
 
+use crate::filters::Filters;
 use crate::table::KeyTable;
 use pp_model::{Config, Loaded, Verdicts};
-use pp_tags::TagFilter;
 
 /// What all pieces of a count share.
 #[derive(Clone, Copy)]
@@ -10,9 +10,8 @@ pub struct Scope<'a> {
     pub l: &'a Loaded,
     pub v: &'a Verdicts,
     pub config: &'a Config,
-    /// The tag filters of `config`.
-    pub focus: &'a Option<TagFilter>,
-    pub ignore: &'a Option<TagFilter>,
+    /// The filters of `v` and `config`.
+    pub filters: &'a Filters,
     /// The column of values that is counted.
     pub column: Option<u32>,
     /// The table of key numbers of `l` and `config`.

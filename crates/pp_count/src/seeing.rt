@@ -36,14 +36,15 @@ pub fn see(
         keys.new.items)) }
 {
     keys.clear();
-    if !tag_kept(scope.l, scope.v, scope.focus, scope.ignore, s) {
+    let filters = scope.filters;
+    if !tag_kept(scope.l, scope.v, &filters.tagfocus, &filters.tagignore, s) {
         return Ok(false);
     }
     if !scope.config.noinlines && keeps_all(scope.l, scope.v) {
         number_all(scope, s, keys)?;
         return Ok(true);
     }
-    if !filter_into(scope.l, scope.v, s, stack)? {
+    if !filter_into(scope.l, scope.v, &filters.tables, s, stack)? {
         return Ok(false);
     }
     number_stack(scope, stack, keys)?;

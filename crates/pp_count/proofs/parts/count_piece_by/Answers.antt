@@ -2,13 +2,11 @@ use Rattle.std.proofs.Common.{◌*◌, None, refl, subst, arith}
 use Rattle.pp_model.specs.Rules.{IsCompact}
 use Rattle.pp_count.proofs.Joined.{range_part}
 use Rattle.pp_count.proofs.Kept.{values_fit}
-use Rattle.pp_count.proofs.Tags.{is_sound}
 use Rattle.pp_count.proofs.parts.count_piece_by.Goals as goal
 
 pub count_piece_of-requires-clause-sound : goal.count_piece_of-requires-clause-sound
 count_piece_of-requires-clause-sound c =
-    is_sound (record { l = c.args.l; v = c.args.v; config = c.args.config; focus = c.args.focus; ignore = c.args.ignore; column = c.args.column; table = c.args.table; over = None })
-    c.requires.focus c.requires.ignore c.requires.focus_tags c.requires.ignore_tags c.requires.verdicts c.requires.table tt
+    record { filters = c.requires.filters; verdicts = c.requires.verdicts; table = c.requires.table; few_kept = tt }
 
 pub count_piece_of-requires-clause-countable : goal.count_piece_of-requires-clause-countable
 count_piece_of-requires-clause-countable c = record {
@@ -18,6 +16,6 @@ count_piece_of-requires-clause-countable c = record {
 
 pub returns : goal.returns
 returns c =
-    range_part (record { l = c.args.l; v = c.args.v; config = c.args.config; focus = c.args.focus; ignore = c.args.ignore; column = c.args.column; table = c.args.table; over = None })
+    range_part (record { l = c.args.l; v = c.args.v; config = c.args.config; filters = c.args.filters; column = c.args.column; table = c.args.table; over = None })
     (c.args.piece * 1024) (1024 * c.args.piece) _ c.in_ok-part.part refl (subst IsCompact c.get-compact.ensures.same c.get-compact.ensures.compact) c.requires.table (omega arith)
     c.in_ok-part.ensures

@@ -2,15 +2,13 @@ use Rattle.std.proofs.Common.{Some, map, ◌∙◌}
 use Rattle.pp_count.specs.Sums.{weighed}
 use Rattle.pp_count.specs.Edges.{paired}
 use Rattle.pp_count.specs.Tally.{tally_at}
-use Rattle.pp_count.proofs.Tags.{is_sound}
 use Rattle.pp_count.proofs.Kept.{values_fit}
 use Rattle.pp_count.proofs.Finals.{listed_as}
 use Rattle.pp_count.proofs.recounting.pair_sums.Goals as goal
 
 pub count_all-requires-clause-sound : goal.count_all-requires-clause-sound
 count_all-requires-clause-sound g c = λ _ _.
-    (is_sound (record { l = c.args.l; v = c.args.v; config = c.args.config; focus = c.args.focus; ignore = c.args.ignore; column = c.args.column; table = c.args.table; over = Some c.args.keep })
-    c.requires.focus c.requires.ignore c.requires.focus_tags c.requires.ignore_tags c.requires.verdicts c.requires.table c.requires.few)
+    record { filters = c.requires.filters; verdicts = c.requires.verdicts; table = c.requires.table; few_kept = c.requires.few }
 
 pub count_all-requires-clause-countable : goal.count_all-requires-clause-countable
 count_all-requires-clause-countable g c = λ _ _. record {

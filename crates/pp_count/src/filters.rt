@@ -1,0 +1,66 @@
+//! The filters of a report, made ready for its samples.
+ghost use Rattle.std.specs.Prelude.{◌≡◌, IfOk};
+ghost use Rattle.pp_model.specs.Conditions.{HasVerdicts};
+ghost use Rattle.pp_tags.specs.TagFilters.{HasItsTags, filter_in_force};
+ghost use Rattle.pp_count.specs.Filters.{AreFilters};
+
+use pp_base::Memory;
+use pp_model::{Config, Loaded, Verdicts};
+use pp_stack::VerdictTables;
+use pp_tags::TagFilter;
+use std::alloc::Global;
+
+/// What is read once of the options and the verdicts, and asked of each sample.
+#[derive(Debug, Drop)]
+pub struct Filters {
+    /// The filter of `tagfocus`, where it is in force.
+    pub tagfocus: Option<TagFilter>,
+    /// The filter of `tagignore`, where it is in force.
+    pub tagignore: Option<TagFilter>,
+    /// What the patterns on frames find of each line.
+    pub tables: VerdictTables,
+}
+
+impl Filters {
+    /// The filters with a table for each pattern in force, for all samples of the profile. `Err` is want of memory.
+    pub fn new(alloc: Global, l: &Loaded, v: &Verdicts, config: &Config) -> Result<Filters, Memory>
+        requires verdicts { HasVerdicts l.now.profile v.now }
+        requires focus { HasItsTags l.now.profile v.now.tag (filter_in_force config.now.tagfocus) }
+        requires ignore { HasItsTags l.now.profile v.now.tag (filter_in_force config.now.tagignore) }
+        ensures { IfOk result (AreFilters l.now.profile v.now config.now) }
+    {
+        let tables = VerdictTables::new(alloc, l, v)?;
+        let filters = with_tables(alloc, config, tables)?;
+        Ok(filters)
+    }
+
+    /// The filters without tables, which are not worth their making for a few samples. `Err` is want of memory.
+    pub fn without_tables(
+        alloc: Global,
+        l: &Loaded,
+        v: &Verdicts,
+        config: &Config,
+    ) -> Result<Filters, Memory>
+        requires focus { HasItsTags l.now.profile v.now.tag (filter_in_force config.now.tagfocus) }
+        requires ignore { HasItsTags l.now.profile v.now.tag (filter_in_force config.now.tagignore) }
+        ensures { IfOk result (AreFilters l.now.profile v.now config.now) }
+    {
+        let filters = with_tables(alloc, config, VerdictTables::none())?;
+        Ok(filters)
+    }
+}
+
+// The configuration's tag filters with these tables.
+fn with_tables(alloc: Global, config: &Config, tables: VerdictTables) -> Result<Filters, Memory>
+    ensures focus { IfOk result (λ filters. filters.tagfocus ≡ filter_in_force config.now.tagfocus) }
+    ensures ignore { IfOk result (λ filters. filters.tagignore ≡ filter_in_force config.now.tagignore) }
+    ensures tables { IfOk result (λ filters. filters.tables ≡ tables) }
+{
+    let tagfocus = TagFilter::in_force(alloc, config.tagfocus.as_slice())?;
+    let tagignore = TagFilter::in_force(alloc, config.tagignore.as_slice())?;
+    Ok(Filters {
+        tagfocus,
+        tagignore,
+        tables,
+    })
+}
