@@ -5,7 +5,7 @@ ghost use Rattle.pp_model.specs.Finders.{Finders};
 ghost use Rattle.pp_grain.specs.Keys.{IsKeyOf};
 ghost use Rattle.pp_count.specs.Seeing.{HoldsFilters, filtered_from};
 ghost use Rattle.pp_count.specs.Scope.{IsSound, size_of};
-ghost use Rattle.pp_tags.specs.TagFilters.{filter_in_force};
+ghost use Rattle.pp_count.specs.Filters.{AreFilters};
 ghost use Rattle.pp_count.specs.Table.{IsKeyTable};
 ghost use Rattle.pp_count.specs.Counts.{written_names};
 ghost use Rattle.pp_count.specs.Counted.{CanCount, IsCountedOf};
@@ -20,10 +20,9 @@ use crate::paths::gather_paths;
 use crate::tree::{CallTree, NumberedNode};
 use crate::twigs::Twigs;
 use pp_base::{List, Memory};
-use pp_count::{Counted, KeyTable, Scope, key_table};
+use pp_count::{Counted, Filters, KeyTable, Scope, key_table};
 use pp_grain::{Key, Names};
 use pp_model::{Config, Loaded, Verdicts};
-use pp_tags::TagFilter;
 use std::alloc::Global;
 
 impl CallTree {
@@ -49,10 +48,9 @@ impl CallTree {
             ≡ c.now.sums.flat) }
     {
         let table = key_table(alloc, l, config)?;
-        let focus = TagFilter::in_force(alloc, config.tagfocus.as_slice())?;
-        let ignore = TagFilter::in_force(alloc, config.tagignore.as_slice())?;
+        let filters = Filters::new(alloc, l, v, config)?;
         let kept = c.kept.as_slice();
-        let nodes = list_by(alloc, l, v, kept, config, &focus, &ignore, column, &table)?;
+        let nodes = list_by(alloc, l, v, kept, config, &filters, column, &table)?;
         let list = link(alloc, nodes.as_slice())?;
         let names = listed(alloc, &table.names)?;
         Ok(CallTree { names, list })
@@ -70,22 +68,19 @@ fn listed(alloc: Global, names: &Names) -> Result<List<Key>, Memory>
     Ok(list)
 }
 
-// The nodes of the samples with these numbers, by this table of the profile's keys and these tag filters of the
-// configuration.
+// The nodes of the samples with these numbers, by this table of the profile's keys and these filters.
 fn list_by<'x>(
     alloc: Global,
     l: &'x Loaded,
     v: &'x Verdicts,
     kept: &[u32],
     config: &'x Config,
-    focus: &'x Option<TagFilter>,
-    ignore: &'x Option<TagFilter>,
+    filters: &'x Filters,
     column: Option<u32>,
     table: &'x KeyTable,
 ) -> Result<List<NumberedNode>, Memory>
     requires can { CanCount l.now.profile v.now config.now column }
-    requires focus { focus.now ≡ filter_in_force config.now.tagfocus }
-    requires ignore { ignore.now ≡ filter_in_force config.now.tagignore }
+    requires filters { AreFilters l.now.profile v.now config.now filters.now }
     requires table { IsKeyTable l.now.profile config.now table.now }
     requires kept { (f : Finders) → HoldsFilters l.now v.now config.now f →
         kept.now ≡ filtered_from l.now.profile f config.now 0 l.now.profile.sample }
@@ -101,8 +96,7 @@ fn list_by<'x>(
         l,
         v,
         config,
-        focus,
-        ignore,
+        filters,
         column,
         table,
         over: None,

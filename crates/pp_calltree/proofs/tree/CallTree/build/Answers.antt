@@ -14,14 +14,14 @@ invariant_of-result c = c.in_ok-list.ensures.linked c.in_ok-names.names
 pub returns-clause-tree : goal.returns-clause-tree
 returns-clause-tree c =
     let same : nodes_of c.in_ok-names.names c.in_ok-list.list ≡ nodes_by c.in_ok-table.table.names c.in_ok-nodes.nodes =
-    nodes_twice c.in_ok-names.names c.in_ok-list.list ∙ (λ i. nodes_by (c.in_ok-names.ensures i) ((c.in_ok-list.ensures.nodes ∙ c.as_slice-3.ensures) i)) in
+    nodes_twice c.in_ok-names.names c.in_ok-list.list ∙ (λ i. nodes_by (c.in_ok-names.ensures i) ((c.in_ok-list.ensures.nodes ∙ c.as_slice.ensures) i)) in
     subst (IsTreeOf c.args.l.now c.args.v.now c.args.config.now c.args.column) (sym same)
     (record { rows = c.in_ok-nodes.ensures.rows; keys = c.in_ok-nodes.ensures.keys; fits = c.in_ok-nodes.ensures.fits })
 
 pub returns-clause-flats : goal.returns-clause-flats
 returns-clause-flats c = λ f holds.
     let same : nodes_of c.in_ok-names.names c.in_ok-list.list ≡ nodes_by c.in_ok-table.table.names c.in_ok-nodes.nodes =
-    nodes_twice c.in_ok-names.names c.in_ok-list.list ∙ (λ i. nodes_by (c.in_ok-names.ensures i) ((c.in_ok-list.ensures.nodes ∙ c.as_slice-3.ensures) i)) in
+    nodes_twice c.in_ok-names.names c.in_ok-list.list ∙ (λ i. nodes_by (c.in_ok-names.ensures i) ((c.in_ok-list.ensures.nodes ∙ c.as_slice.ensures) i)) in
     flats_are c.args.l.now.profile c.args.c.now.sums (nodes_of c.in_ok-names.names c.in_ok-list.list) (report_samples c.args.l.now.profile f c.args.config.now c.args.column)
     (ap (map (node_row c.args.l.now.profile)) same ∙ c.in_ok-nodes.ensures.rows f holds)
     (c.requires.counted.sums_are f holds)
