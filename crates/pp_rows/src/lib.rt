@@ -32,6 +32,8 @@ mod messages;
 #[cfg(test)]
 mod options;
 #[cfg(test)]
+mod parts;
+#[cfg(test)]
 mod paths;
 #[cfg(test)]
 mod pool;

@@ -97,7 +97,7 @@ fn is_counted<R: Threads + Sync + Abort>(
 // What the samples of a generated profile add up to in nanoseconds, each sample by itself: flats and cums of fn0 to
 // fn7, and the cum of main.
 #[derive(Drop)]
-struct Sums {
+pub(crate) struct Sums {
     flat: [u64; 8],
     cum: [u64; 8],
     total: u64,
@@ -105,7 +105,7 @@ struct Sums {
 
 impl Sums {
     // Sample number i has fnd as its leaf, with d = i mod 8, and the callers fn(d - 1) to fn0 and main.
-    fn of(samples: u64) -> Sums {
+    pub(crate) fn of(samples: u64) -> Sums {
         let mut sums = Sums {
             flat: [0; 8],
             cum: [0; 8],
@@ -121,6 +121,17 @@ impl Sums {
             sums.total = sums.total.wrapping_add(value);
         }
         sums
+    }
+
+    // Flat and cum of the function.
+    pub(crate) fn of_name(&self, name: &[u8]) -> (u64, u64) {
+        match name {
+            [b'f', b'n', digit @ b'0'..=b'7'] => {
+                let function = (*digit - b'0') as usize;
+                (self.flat[function], self.cum[function])
+            }
+            _ => (0, self.total),
+        }
     }
 
     // The report of these sums: the more a function's number, the larger its flat, and main has none.

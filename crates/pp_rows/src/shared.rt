@@ -1,5 +1,7 @@
 // What the threads of a job share: a loaded profile, verdicts and the configuration. What they give back: names.
 ghost use Rattle.std.specs.Prelude.{◌≡◌, IfOk};
+ghost use Rattle.pp_model.specs.declared.profile.Profile.{Profile};
+ghost use Rattle.pp_model.specs.Conditions.{HasVerdicts};
 
 use pp_base::{List, Memory, OpenGate, Text};
 use pp_grain::Names;
@@ -63,7 +65,10 @@ fn nothing(alloc: Global) -> Result<Loaded, Memory> {
     })
 }
 
-fn no_verdicts(alloc: Global) -> Verdicts {
+// No pattern is in force.
+pub(crate) fn no_verdicts(alloc: Global) -> Verdicts
+    ensures { (p : Profile) → HasVerdicts p result }
+{
     Verdicts {
         focus: None,
         ignore: None,
