@@ -6,7 +6,7 @@ ghost use Rattle.pp_model.specs.Conditions.{HasOnePerText, HasVerdicts, IsSample
 ghost use Rattle.pp_model.specs.Finders.{Finder, Finders};
 ghost use Rattle.pp_model.specs.Judged.{judged};
 ghost use Rattle.pp_stack.specs.Filters.{AreVerdicts};
-ghost use Rattle.pp_stack.specs.Tables.{IsTableOf, IsVerdictTable};
+ghost use Rattle.pp_stack.specs.Tables.{FitsPattern, IsVerdictTable};
 ghost use Rattle.pp_tags.specs.TagFilters.{AreTagVerdicts, HasItsTags, selects_or};
 ghost use Rattle.pp_count.specs.Filters.{AreFilters};
 ghost use Rattle.pp_count.specs.Seeing.{HoldsFilters};
@@ -64,7 +64,7 @@ fn some_frame(
     table: &Option<VerdictTable>,
 ) -> Result<bool, Memory>
     requires fits { HasOnePerText l.now.profile found.now }
-    requires table { IsTableOf l.now.profile found.now table.now }
+    requires table { FitsPattern l.now.profile found.now table.now }
     ensures { (f : Finders) → l.now.drop ≡ judged l.now.profile f.drop →
         l.now.keep ≡ judged l.now.profile f.keep →
         (pattern : Option Finder) → found.now ≡ judged l.now.profile pattern →

@@ -12,7 +12,7 @@ use Rattle.pp_model.specs.Frames.{rows, lines_at}
 use Rattle.pp_model.specs.FrameTexts.{written}
 use Rattle.pp_stack.specs.declared.table.VerdictTable.{VerdictTable}
 use Rattle.pp_stack.specs.Filters.{AreVerdicts, finds_frame}
-use Rattle.pp_stack.specs.Tables.{HasVerdict, place_of}
+use Rattle.pp_stack.specs.Tables.{HasVerdict, verdict_place}
 use Rattle.pp_stack.proofs.RowLemmas.{frame_in}
 
 -- the table of these lists
@@ -36,14 +36,14 @@ module _ (p : Profile) (texts : List Bool) where
       → IsFrameOf p f → f.location < k → HasVerdict p texts (table_of (first ++ length found ∷ []) new) f
   tabled_before k first found new f so_far adds is before =
       let old = so_far.each f is before in
-      let place : place_of (table_of (first ++ length found ∷ []) new) f ≡ place_of (table_of first found) f =
+      let place : verdict_place (table_of (first ++ length found ∷ []) new) f ≡ verdict_place (table_of first found) f =
       ap (λ n. n + unwrap_or f.row 0) (get_or_append_left first (length found ∷ []) 0 f.location old.location) in
       record {
         location = omega (arith, length-append first (length found ∷ []), old.location);
         line = omega (arith, place, old.line, adds.count);
         is = λ find are.
             ap₂ (λ xs n. get_or xs n false) (adds.items find are) place
-            ∙ get_or_append_left found _ false (place_of (table_of first found) f) old.line
+            ∙ get_or_append_left found _ false (verdict_place (table_of first found) f) old.line
             ∙ old.is find are;
       }
 
@@ -56,7 +56,7 @@ module _ (p : Profile) (texts : List Bool) where
       ap (λ n. length (rows 0 n (lines_at p n))) (sym here) in
       let begins : get_or (first ++ length found ∷ []) f.location 0 ≡ length found =
       ap (λ n. get_or (first ++ length found ∷ []) n 0) (here ∙ sym so_far.count) ∙ get_or-append_seam first (length found) [] 0 in
-      let place : place_of (table_of (first ++ length found ∷ []) new) f ≡ length found + unwrap_or f.row 0 =
+      let place : verdict_place (table_of (first ++ length found ∷ []) new) f ≡ length found + unwrap_or f.row 0 =
       ap (λ n. n + unwrap_or f.row 0) begins in
       record {
         location = omega (arith, length-append first (length found ∷ []), so_far.count, here);

@@ -12,28 +12,28 @@ use Rattle.pp_stack.specs.declared.tables.VerdictTables.{VerdictTables}
 use Rattle.pp_stack.specs.Filters.{AreVerdicts, finds_frame}
 
 -- the place of the frame's verdict: its line's, counted from the first of its location
-abbrev pub place_of : VerdictTable → Frame → ℕ
-place_of table f = slice_index_or table.first f.location 0 + unwrap_or f.row 0
+abbrev pub verdict_place : VerdictTable → Frame → ℕ
+verdict_place table f = slice_index_or table.first f.location 0 + unwrap_or f.row 0
 
 -- The table has a verdict on the frame, which is what each pattern with these verdicts on texts finds.
 pub record HasVerdict (p : Profile) (texts : List Bool) (table : VerdictTable) (f : Frame) : Type 0 where
   pub location : f.location < length table.first
-  pub line : place_of table f < length table.found
+  pub line : verdict_place table f < length table.found
   pub is : (find : Finder) → AreVerdicts p texts find
-      → slice_index_or table.found (place_of table f) false ≡ finds_frame find (written p f)
+      → slice_index_or table.found (verdict_place table f) false ≡ finds_frame find (written p f)
 
 -- the table has a verdict on each frame of the profile
 abbrev pub IsVerdictTable : Profile → List Bool → VerdictTable → Type 0
 IsVerdictTable p texts table = (f : Frame) → IsFrameOf p f → HasVerdict p texts table f
 
 -- where the pattern is in force and has a table, the table has its verdicts
-abbrev pub IsTableOf : Profile → Option (List Bool) → Option VerdictTable → Type 0
-IsTableOf p texts table = ForSome texts (λ found. ForSome table (IsVerdictTable p found))
+abbrev pub FitsPattern : Profile → Option (List Bool) → Option VerdictTable → Type 0
+FitsPattern p texts table = ForSome texts (λ found. ForSome table (IsVerdictTable p found))
 
 -- Each table that is there has the verdicts of its pattern.
 pub record AreTables (p : Profile) (v : Verdicts) (tables : VerdictTables) : Type 0 where
-  pub focus : IsTableOf p v.focus tables.focus
-  pub ignore : IsTableOf p v.ignore tables.ignore
-  pub hide : IsTableOf p v.hide tables.hide
-  pub show : IsTableOf p v.show tables.show
-  pub show_from : IsTableOf p v.show_from tables.show_from
+  pub focus : FitsPattern p v.focus tables.focus
+  pub ignore : FitsPattern p v.ignore tables.ignore
+  pub hide : FitsPattern p v.hide tables.hide
+  pub show : FitsPattern p v.show tables.show
+  pub show_from : FitsPattern p v.show_from tables.show_from

@@ -9,7 +9,7 @@ ghost use Rattle.pp_model.specs.FrameTexts.{written};
 ghost use Rattle.pp_model.specs.Judged.{judged};
 ghost use Rattle.pp_stack.specs.Runs.{as_wanted};
 ghost use Rattle.pp_stack.specs.Filters.{finds_frame, load_pruned, is_kept, cut, shown_from, pruned_from};
-ghost use Rattle.pp_stack.specs.Tables.{AreTables, IsTableOf};
+ghost use Rattle.pp_stack.specs.Tables.{AreTables, FitsPattern};
 
 use crate::retain::{drop_front, retain};
 use crate::runs::{finds_some, first_function, pruned_len, through_last_found};
@@ -150,7 +150,7 @@ fn finds_or(
 ) -> bool
     requires frames { IsStackOf l.now.profile stack.now }
     requires fits { HasOnePerText l.now.profile found.now }
-    requires table { IsTableOf l.now.profile found.now table.now }
+    requires table { FitsPattern l.now.profile found.now table.now }
     ensures { (pattern : Option Finder) → found.now ≡ judged l.now.profile pattern →
         result ≡ option_map_or
         (λ find. list_any (λ x. finds_frame find (written l.now.profile x)) stack.now)
@@ -172,7 +172,7 @@ fn retain_if(
 )
     requires frames { IsStackOf l.now.profile stack.old }
     requires fits { HasOnePerText l.now.profile found.now }
-    requires table { IsTableOf l.now.profile found.now table.now }
+    requires table { FitsPattern l.now.profile found.now table.now }
     ensures items { (pattern : Option Finder) → found.now ≡ judged l.now.profile pattern →
         stack.new ≡ option_map_or
         (λ find. filter

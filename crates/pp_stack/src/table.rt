@@ -5,7 +5,7 @@ ghost use Rattle.pp_model.specs.Finders.{Finder};
 ghost use Rattle.pp_model.specs.Frames.{rows, lines_at};
 ghost use Rattle.pp_model.specs.FrameTexts.{written};
 ghost use Rattle.pp_stack.specs.Filters.{AreVerdicts, finds_frame};
-ghost use Rattle.pp_stack.specs.Tables.{IsVerdictTable, place_of};
+ghost use Rattle.pp_stack.specs.Tables.{IsVerdictTable, verdict_place};
 
 use crate::finding::finds_by_texts;
 use pp_base::{List, Memory};
@@ -40,8 +40,8 @@ impl VerdictTable {
     /// The verdict on the frame.
     pub fn finds(&self, frame: &Frame) -> bool
         requires location { frame.now.location < length self.now.first }
-        requires line { place_of self.now frame.now < length self.now.found }
-        ensures { result ≡ slice_index_or self.now.found (place_of self.now frame.now) false }
+        requires line { verdict_place self.now frame.now < length self.now.found }
+        ensures { result ≡ slice_index_or self.now.found (verdict_place self.now frame.now) false }
     {
         let first = self.first.as_slice()[frame.location as usize];
         self.found.as_slice()[first as usize + frame.row.unwrap_or(0) as usize]

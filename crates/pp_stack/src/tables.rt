@@ -3,7 +3,7 @@ ghost use Rattle.std.specs.Prelude.{IfOk};
 ghost use Rattle.pp_model.specs.declared.verdicts.Verdicts.{Verdicts};
 ghost use Rattle.pp_model.specs.declared.profile.Profile.{Profile};
 ghost use Rattle.pp_model.specs.Conditions.{HasOnePerText, HasVerdicts};
-ghost use Rattle.pp_stack.specs.Tables.{AreTables, IsTableOf};
+ghost use Rattle.pp_stack.specs.Tables.{AreTables, FitsPattern};
 
 use crate::table::VerdictTable;
 use pp_base::{List, Memory};
@@ -57,7 +57,7 @@ fn table_of(
     texts: &Option<List<bool>>,
 ) -> Result<Option<VerdictTable>, Memory>
     requires { HasOnePerText l.now.profile texts.now }
-    ensures { IfOk result (IsTableOf l.now.profile texts.now) }
+    ensures { IfOk result (FitsPattern l.now.profile texts.now) }
 {
     match texts {
         None => Ok(None),
