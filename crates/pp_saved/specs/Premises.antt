@@ -41,8 +41,8 @@ pub record HasFiltersOf (config c : Config) : Type 0 where
 abbrev pub own_alone : Finders → Finders
 own_alone f = record no_finders { own = f.own }
 
--- The profile stays as it is when it is merged alone, as each loaded one does. No value is below 0, and no sample is one
--- of a base.
+-- The profile stays as it is when it is merged alone, as each loaded one does. No value is below 0, and no sample is of
+-- a base.
 pub record IsSource (p : Profile) : Type 0 where
   pub settled : merged p [] ≡ p
   pub least : All (λ s. All (λ v. pos 0 ≤ℤ v) s.value) p.sample
