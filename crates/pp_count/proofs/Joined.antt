@@ -1,5 +1,5 @@
 -- The part of a range by what its samples are, and the parts of consecutive ranges joined.
-use Rattle.std.proofs.Common.{◌≡◌, ◌==◌, ℕ, ◌+◌, ◌*◌, ◌<◌, ◌≤◌, ◌^◌, Bool, true, false, cond, ltb, not, pos, nat_abs, List, [], ◌∷◌, ◌++◌, length, take, drop, get_or, map, All, Option, None, sum_by, refl, sym, ap, ◌∙◌, subst, append_assoc, arith, length-append}
+use Rattle.std.proofs.Common.{◌≡◌, ◌==◌, ℕ, ◌+◌, ◌<◌, ◌≤◌, Bool, true, false, cond, ltb, not, pos, nat_abs, List, [], ◌∷◌, ◌++◌, length, take, drop, get_or, map, All, Option, None, refl, sym, ap, ◌∙◌, subst, append_assoc, arith, length-append}
 use Rattle.std.specs.Option.{is_some}
 use Rattle.std.specs.Ordering.{nat_cmp, int_eq}
 use Rattle.std.proofs.lemmas.Grind.{flat_map-append}
@@ -20,7 +20,7 @@ use Rattle.pp_count.specs.declared.part.Part.{Part}
 use Rattle.pp_count.specs.declared.scope.Scope.{Scope}
 use Rattle.pp_count.specs.declared.tally.Tally.{Tally}
 use Rattle.pp_count.specs.Column.{selected}
-use Rattle.pp_count.specs.Joined.{AreWithin, AreNamedSums, IsRangePart, AreConsecutive, CanJoin, all_samples, all_kept, all_sums}
+use Rattle.pp_count.specs.Joined.{IsRangePart, AreConsecutive, CanJoin, all_samples, all_kept, all_sums}
 use Rattle.pp_count.specs.Parts.{sums_of, key_sum, AreSums, flat_size, cum_size, HasBelow}
 use Rattle.pp_count.specs.Scope.{profile_of, config_of, IsPartOf}
 use Rattle.pp_count.specs.Seeing.{HoldsFilters, seen, seen_samples, filtered_stack, filtered_from, absolute_all}

@@ -1,5 +1,5 @@
 -- The key numbers of all frames of a sample, location by location.
-use Rattle.std.proofs.Common.{◌≡◌, ℕ, ◌+◌, ◌-◌, ◌<◌, ◌≤◌, append_assoc, Bool, false, List, [], ◌∷◌, ◌++◌, length, drop, get_or, map, All, refl, sym, ap, ◌∙◌, subst, arith}
+use Rattle.std.proofs.Common.{◌≡◌, ℕ, ◌+◌, ◌-◌, ◌<◌, ◌≤◌, append_assoc, false, List, [], ◌∷◌, ◌++◌, length, drop, get_or, map, All, refl, sym, ap, ◌∙◌, subst, arith}
 use Rattle.std.specs.List.{range_with_len}
 use Rattle.std.proofs.lemmas.Simd.{map-map}
 use Rattle.std.proofs.lemmas.List.{map-append, append-nil, drop_more, drop_all}
@@ -13,7 +13,7 @@ use Rattle.pp_model.specs.FrameTexts.{Written, written}
 use Rattle.pp_grain.specs.declared.key.Key.{Key}
 use Rattle.pp_grain.specs.Keys.{key_texts}
 use Rattle.pp_count.specs.declared.table.KeyTable.{KeyTable}
-use Rattle.pp_count.specs.Table.{written_key, frames_at, IsRow, IsKeyTable}
+use Rattle.pp_count.specs.Table.{written_key, IsRow, IsKeyTable}
 use Rattle.pp_count.specs.Seeing.{counted_frames, key_of_frame, keys_of_stack}
 
 -- the keys of all frames

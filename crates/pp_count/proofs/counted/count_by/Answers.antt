@@ -1,4 +1,3 @@
-use Rattle.std.proofs.Common.{None}
 use Rattle.pp_count.proofs.Kept.{values_fit}
 use Rattle.pp_count.proofs.counted.count_by.Goals as goal
 

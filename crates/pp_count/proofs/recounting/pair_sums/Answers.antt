@@ -1,4 +1,4 @@
-use Rattle.std.proofs.Common.{Some, map, ◌∙◌}
+use Rattle.std.proofs.Common.{map, ◌∙◌}
 use Rattle.pp_count.specs.Sums.{weighed}
 use Rattle.pp_count.specs.Edges.{paired}
 use Rattle.pp_count.specs.Tally.{tally_at}
