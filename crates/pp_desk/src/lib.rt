@@ -13,8 +13,6 @@ mod input_line;
 mod line_reader;
 mod objects;
 mod stop;
-#[cfg(test)]
-mod tests;
 mod window;
 
 pub use desk::Desk;

@@ -15,6 +15,3 @@ pub use names::Names;
 pub use naming::{write_name, write_texts_name};
 pub use order::{key_order, texts_order};
 pub use texts::{KeyTexts, texts_of};
-
-#[cfg(test)]
-mod tests;

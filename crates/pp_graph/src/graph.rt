@@ -10,9 +10,6 @@ use pp_count::{Edge, Sums};
 use std::alloc::Global;
 use std::marker::Model;
 
-#[cfg(test)]
-mod tests;
-
 /// A graph of names. Each edge stands in the list of those that leave its caller and in that of those that enter its
 /// callee. Edges have the numbers from 0 on, which stay theirs when others are cut.
 #[derive(Drop)]

@@ -23,6 +23,3 @@ pub use profile::{Function, Label, Line, Location, Mapping, Profile, Sample, Val
 pub use report::{BaseKind, Report};
 pub use valid::{Compact, Valid};
 pub use verdicts::{Slot, Tag, Verdicts};
-
-#[cfg(test)]
-mod tests;

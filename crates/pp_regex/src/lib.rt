@@ -4,7 +4,5 @@
 mod building;
 mod matcher;
 mod searching;
-#[cfg(test)]
-mod tests;
 
 pub use matcher::RegexMatcher;

@@ -32,6 +32,3 @@ pub use law::pool_law;
 pub use make::Lanes;
 pub use reach::{Reach, sweep};
 pub use run::run_pieces;
-
-#[cfg(test)]
-mod tests;

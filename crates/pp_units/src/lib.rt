@@ -14,8 +14,6 @@ mod row;
 mod scale;
 mod scan;
 mod small;
-#[cfg(test)]
-mod tests;
 mod unit;
 
 pub use family::{Family, family_of};

@@ -20,6 +20,3 @@ pub use packed::Packed;
 pub use varint::varint_len;
 pub use walker::Walker;
 pub use writing::{put_bytes, put_number, put_packed, put_varint};
-
-#[cfg(test)]
-mod tests;

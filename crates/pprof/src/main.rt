@@ -4,8 +4,6 @@
 mod files;
 mod input;
 mod streams;
-#[cfg(test)]
-mod tests;
 mod words;
 
 use files::RealFiles;
