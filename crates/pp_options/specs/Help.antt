@@ -10,6 +10,7 @@ abbrev pub topics : List (Row Topic)
 topics =
     row (codes "--help") Help
     ∷ row (codes "-help") Help
+    ∷ row (codes "-h") Help
     ∷ row (codes "--version") Version
     ∷ row (codes "-version") Version
     ∷ []

@@ -15,13 +15,17 @@ pub enum Topic {
 }
 
 /// The words that ask for a topic.
-pub static TOPICS: [Named<Topic>; 4] = [
+pub static TOPICS: [Named<Topic>; 5] = [
     Named {
         name: b"--help",
         value: Topic::Help,
     },
     Named {
         name: b"-help",
+        value: Topic::Help,
+    },
+    Named {
+        name: b"-h",
         value: Topic::Help,
     },
     Named {
@@ -39,6 +43,7 @@ pub const VERSION: &[u8] = b"pprof 0.1.0\n";
 
 /// How words are written, then the options by subject. Each subject ends with an example.
 pub const OPTIONS_HELP: &[u8] = b"Usage: pprof [options] SOURCE ...
+       pprof --help | -h | --version
 
 A SOURCE is the path of a profile. Options may stand anywhere, with one or two
 dashes. A value follows =, or is the next word. A flag alone is true; after = it
@@ -134,7 +139,7 @@ Set a variable by name=value; add a number, patterns, -patterns or >file to a co
 /// A command of the shell.
 pub const SHELL_EXAMPLE: &[u8] = b"Example: top 20 Handler -runtime >top.txt\n";
 
-/// The topic that the words ask for: one word alone, with one or two dashes.
+/// The topic that one word alone asks for.
 #[tactic(auto, unfolding(crate::specs::Help::topic_asked))]
 pub fn topic_asked(words: &[Text]) -> Option<Topic>
     ensures { result ≡ topic_asked words.now }
