@@ -1,0 +1,201 @@
+"""What the built program does where the machine takes part: words of any length, fifos, folders, full devices, closed
+pipes, missing rights. No transcript can say this."""
+
+import os
+import threading
+
+from running import DATA, SECONDS, run
+
+
+TOP_OF_P1 = b"""Type: cpu
+Showing nodes accounting for 60ms, 100.00% of 60ms total
+      flat    flat%     sum%        cum     cum%
+      40ms   66.67%   66.67%       40ms   66.67%  leaf
+      20ms   33.33%  100.00%       50ms   83.33%  work
+         0    0.00%  100.00%       60ms  100.00%  main
+"""
+TOP_OF_LEAF = b"""Type: cpu
+Showing nodes accounting for 40ms, 100.00% of 40ms total
+      flat    flat%     sum%        cum     cum%
+      40ms  100.00%  100.00%       40ms  100.00%  leaf
+         0    0.00%  100.00%       40ms  100.00%  main
+         0    0.00%  100.00%       30ms   75.00%  work
+"""
+PROMPT = b"(pprof) "
+FILE_FAULT = b"pprof: file fault\n"
+OUT_FAULT = b"pprof: output fault\n"
+# The lengths around the room that a word is given at first, and a long one.
+LENGTHS = (255, 256, 257, 511, 512, 513, 70_000)
+
+
+class Machine:
+    """A folder with P1, in which the program runs."""
+
+    def __init__(self, program, place):
+        self.command = [program]
+        self.place = os.fsencode(place)
+        self.profile = (DATA / "fixtures" / "P1").read_bytes()
+        self.write(b"P1", self.profile)
+
+    def path(self, name):
+        return os.path.join(self.place, name)
+
+    def write(self, name, content):
+        with open(self.path(name), "wb") as file:
+            file.write(content)
+
+    def run(self, *words, **how):
+        return run(self.command, list(words), self.place, **how)
+
+    def run_as_nobody(self, *words, given=b""):
+        """The run of a user without rights."""
+        os.chmod(self.place, 0o755)
+        lowered = ["setpriv", "--reuid=65534", "--regid=65534", "--clear-groups", "--"]
+        before = lowered if os.geteuid() == 0 else []
+        return run(before + self.command, list(words), self.place, given)
+
+
+def long_words(machine):
+    for length in LENGTHS:
+        # Only the whole word finds a function.
+        word = b"-focus=" + b"x" * (length - 12) + b"|leaf"
+        yield f"a word of {len(word)} bytes", machine.run(
+            b"-top", b"-relative_percentages", word, b"P1"
+        ), (TOP_OF_LEAF, b"", 0)
+
+
+def long_paths(machine):
+    for length in LENGTHS:
+        path = b"n" * length
+        yield f"a path of {length} bytes", machine.run(b"-top", path), (
+            b"",
+            b"pprof: " + path + b": no such file\n",
+            1,
+        )
+
+
+def words_in_order(machine):
+    yield "the last of two words", machine.run(b"-top", b"-nodecount=1", b"-nodecount=0", b"P1"), (
+        TOP_OF_P1,
+        b"",
+        0,
+    )
+    yield "no words", machine.run(), (b"", b"pprof: word 1: no source\n", 2)
+    yield "an empty word", machine.run(b"-top", b""), (b"", b"pprof: : no such file\n", 1)
+    yield "an empty word after a good one", machine.run(b"-top", b"P1", b""), (
+        b"",
+        b"pprof: : no such file\n",
+        1,
+    )
+
+
+def standard_input_as_source(machine):
+    yield "/dev/stdin as a source", machine.run(b"-top", b"/dev/stdin", given=machine.profile), (
+        TOP_OF_P1,
+        b"",
+        0,
+    )
+    yield "/dev/stdin before a shell", machine.run(b"/dev/stdin", given=machine.profile), (
+        PROMPT + b"\n",
+        b"",
+        0,
+    )
+
+
+def fifo_as_source(machine):
+    os.mkfifo(machine.path(b"fifo"))
+    writer = threading.Thread(target=machine.write, args=(b"fifo", machine.profile), daemon=True)
+    writer.start()
+    yield "a fifo as a source", machine.run(b"-top", b"fifo"), (TOP_OF_P1, b"", 0)
+    writer.join(SECONDS)
+
+
+def folders(machine):
+    os.mkdir(machine.path(b"folder"))
+    yield "a folder as a source", machine.run(b"-top", b"folder"), (b"", FILE_FAULT, 3)
+    yield "a folder behind >", machine.run(b"P1", given=b"top >folder\nq\n"), (
+        PROMPT * 2,
+        b"pprof: folder: cannot be written\n",
+        0,
+    )
+
+
+def full_devices(machine):
+    with open("/dev/full", "wb") as full:
+        out, err, status = machine.run(b"-top", b"P1", stdout=full)
+        yield "standard output is full", (err, status), (OUT_FAULT, 3)
+        out, err, status = machine.run(b"-frob", stderr=full)
+        yield "standard error is full", (out, status), (b"", 3)
+    yield "a full device behind >", machine.run(b"P1", given=b"top >/dev/full\nq\n"), (
+        PROMPT,
+        FILE_FAULT,
+        3,
+    )
+
+
+def closed_pipe(machine):
+    reading, writing = os.pipe()
+    os.close(reading)
+    try:
+        _, err, status = machine.run(b"-top", b"P1", stdout=writing)
+        yield "standard output is a closed pipe", (err, status), (OUT_FAULT, 3)
+        out, _, status = machine.run(b"-frob", stderr=writing)
+        yield "standard error is a closed pipe", (out, status), (b"", 3)
+    finally:
+        os.close(writing)
+
+
+def closed_streams(machine):
+    out, _, status = machine.run(b"-frob", stderr=None, preexec_fn=lambda: os.close(2))
+    yield "standard error is closed", (out, status), (b"", 3)
+    _, err, status = machine.run(b"-top", b"P1", stdout=None, preexec_fn=lambda: os.close(1))
+    yield "standard output is closed", (err, status), (OUT_FAULT, 3)
+    out, err, status = machine.run(b"P1", stdin=None, preexec_fn=lambda: os.close(0))
+    yield "standard input is closed", (out, err, status), (PROMPT, b"pprof: input fault\n", 3)
+
+
+def no_rights(machine):
+    machine.write(b"secret", machine.profile)
+    os.chmod(machine.path(b"secret"), 0)
+    yield "a source that may not be read", machine.run_as_nobody(b"-top", b"secret"), (
+        b"",
+        b"pprof: secret: no such file\n",
+        1,
+    )
+    os.mkdir(machine.path(b"closed"), 0o555)
+    given = b"top >closed/t\nq\n"
+    yield "a file that may not be made", machine.run_as_nobody(b"P1", given=given), (
+        PROMPT * 2,
+        b"pprof: closed/t: cannot be written\n",
+        0,
+    )
+
+
+def paths_of_any_bytes(machine):
+    name = b"p\xff"
+    machine.write(name, machine.profile)
+    yield "a path that is no UTF-8", machine.run(b"-top", name), (
+        b"",
+        b"pprof: " + name + b": no such file\n",
+        1,
+    )
+    yield "a path that is no UTF-8 behind >", machine.run(b"P1", given=b"top >t\xff\nq\n"), (
+        PROMPT * 2,
+        b"pprof: t\xff: cannot be written\n",
+        0,
+    )
+
+
+CHECKS = (
+    long_words,
+    long_paths,
+    words_in_order,
+    standard_input_as_source,
+    fifo_as_source,
+    folders,
+    full_devices,
+    closed_pipe,
+    closed_streams,
+    no_rights,
+    paths_of_any_bytes,
+)
