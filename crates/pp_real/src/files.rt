@@ -1,6 +1,6 @@
-// Real files. What they hold is not told, and their failures are counted.
-ghost use Rattle.std.specs.Prelude.{◌≤◌, length, None};
-ghost use Rattle.pprof.specs.Fits.{FitsLimit};
+//! The files of the machine.
+ghost use Rattle.std.specs.Prelude.{◌≡◌, ◌≤◌, length, None};
+ghost use Rattle.pp_real.specs.Reading.{FitsLimit, ReadsToEnd};
 
 use pp_base::{FileRead, FileWrite, Files, Text};
 use std::io::{self, ErrorKind, Read, Write};
@@ -9,7 +9,11 @@ use std::{fs, str};
 /// How many bytes are read at a time: 64 KiB.
 const PIECE: usize = 65_536;
 
-/// The files of the machine. A path that is no UTF-8 is missing to a read and locked to a write.
+/// The files of the machine, by paths as the system takes them: a relative one starts at the program's folder.
+///
+/// What they hold is not told, nor which can't be written. A path that is no UTF-8 is missing to a read and locked to a
+/// write, and so is each that the system does not open: no file, no permission, a folder to a write. A fault is an error
+/// that comes once a file is open: a folder that is read, a disk that is full.
 #[derive(Drop)]
 pub struct RealFiles<'a> {
     rt: &'a HostRuntime,
@@ -17,7 +21,10 @@ pub struct RealFiles<'a> {
 }
 
 impl<'a> RealFiles<'a> {
-    pub fn new(rt: &'a HostRuntime) -> Self {
+    /// The files that the runtime reaches. It takes no memory and opens none.
+    pub fn new(rt: &'a HostRuntime) -> Self
+        ensures faults { result.faults ≡ 0 }
+    {
         RealFiles { rt, faults: 0 }
     }
 }
@@ -43,9 +50,12 @@ fn read_content(rt: &HostRuntime, name: &str, into: &mut Text, limit: u64) -> Co
     }
 }
 
+// Adds all that the reader has left.
+#[tactic(auto, using(crate::proofs::ReadLemmas::whole_start, crate::proofs::ReadLemmas::whole_then, crate::proofs::ReadLemmas::whole_end, crate::proofs::ReadLemmas::whole_past))]
 fn read_to_end<R: Read>(reader: &mut R, into: &mut Text, limit: u64) -> Content
     requires { length into.old ≤ limit }
-    ensures { FitsLimit limit into.new result }
+    ensures fits { FitsLimit limit into.new result }
+    ensures whole { ReadsToEnd (R.remaining reader.old) limit into.old into.new result }
 {
     let mut piece = [0u8; PIECE];
     for _ in 0..u64::MAX {
@@ -77,6 +87,7 @@ impl<'a> Files for RealFiles<'a> {
 
     ghost faults = { λ s. s.faults };
 
+    /// Reads the whole file anew, `limit` in bytes. A file that grows meanwhile is read to its later end.
     fn read(&mut self, path: &Text, into: &mut Text, limit: u64) -> FileRead {
         into.clear();
         let Ok(name) = str::from_utf8(path.as_slice()) else {
@@ -104,6 +115,8 @@ impl<'a> Files for RealFiles<'a> {
         }
     }
 
+    /// Makes the file, or empties the one that is there, and then writes the bytes. An error once it is open leaves a
+    /// front of them.
     fn write(&mut self, path: &Text, bytes: &[u8]) -> FileWrite {
         let Ok(name) = str::from_utf8(path.as_slice()) else {
             return FileWrite::Locked;
