@@ -1,5 +1,6 @@
 //! The files of the machine.
 ghost use Rattle.std.specs.Prelude.{◌≡◌, ◌≤◌, length, None};
+ghost use Rattle.pp_base.specs.FileAnswers.{AnswersRead};
 ghost use Rattle.pp_real.specs.Reading.{FitsLimit, ReadsToEnd};
 
 use pp_base::{FileRead, FileWrite, Files, Text};
@@ -29,30 +30,36 @@ impl<'a> RealFiles<'a> {
     }
 }
 
-// How the content of a path was read.
-enum Content {
-    All,
-    Missing,
-    TooLong,
-    Failed,
-    Memory,
+// The answer to the read of a path.
+fn read_path(rt: &HostRuntime, path: &Text, into: &mut Text, limit: u64) -> FileRead
+    ensures { AnswersRead None path.now limit into.new result }
+{
+    into.clear();
+    let answer = match str::from_utf8(path.as_slice()) {
+        Ok(name) => read_name(rt, name, into, limit),
+        Err(_) => FileRead::Missing,
+    };
+    if !matches!(answer, FileRead::Read) {
+        into.clear();
+    }
+    answer
 }
 
-// Reads the file of the name, up to its end or past the limit.
-fn read_content(rt: &HostRuntime, name: &str, into: &mut Text, limit: u64) -> Content
+// Adds the content of the file of the name.
+fn read_name(rt: &HostRuntime, name: &str, into: &mut Text, limit: u64) -> FileRead
     requires { length into.old ≤ limit }
     ensures { FitsLimit limit into.new result }
 {
     match fs::open(rt, name) {
         Ok(mut file) => read_to_end(&mut file, into, limit),
-        Err(error) if is_memory(&error) => Content::Memory,
-        Err(_) => Content::Missing,
+        Err(error) if is_memory(&error) => FileRead::Memory,
+        Err(_) => FileRead::Missing,
     }
 }
 
-// Adds all that the reader has left.
+// Adds all that the reader has left, up to its end or until the limit is passed.
 #[tactic(auto, using(crate::proofs::ReadLemmas::whole_start, crate::proofs::ReadLemmas::whole_then, crate::proofs::ReadLemmas::whole_end, crate::proofs::ReadLemmas::whole_past))]
-fn read_to_end<R: Read>(reader: &mut R, into: &mut Text, limit: u64) -> Content
+fn read_to_end<R: Read>(reader: &mut R, into: &mut Text, limit: u64) -> FileRead
     requires { length into.old ≤ limit }
     ensures fits { FitsLimit limit into.new result }
     ensures whole { ReadsToEnd (R.remaining reader.old) limit into.old into.new result }
@@ -60,20 +67,20 @@ fn read_to_end<R: Read>(reader: &mut R, into: &mut Text, limit: u64) -> Content
     let mut piece = [0u8; PIECE];
     for _ in 0..u64::MAX {
         match reader.read(&mut piece) {
-            Ok(0) => return Content::All,
+            Ok(0) => return FileRead::Read,
             Ok(count) => {
                 if count as u64 > limit - into.len() as u64 {
-                    return Content::TooLong;
+                    return FileRead::TooLong;
                 }
                 let Ok(()) = into.extend(&piece[..count]) else {
-                    return Content::Memory;
+                    return FileRead::Memory;
                 };
             }
-            Err(error) if is_memory(&error) => return Content::Memory,
-            Err(_) => return Content::Failed,
+            Err(error) if is_memory(&error) => return FileRead::Memory,
+            Err(_) => return FileRead::Failed,
         }
     }
-    Content::Failed
+    FileRead::Failed
 }
 
 fn is_memory(error: &io::Error) -> bool {
@@ -89,30 +96,11 @@ impl<'a> Files for RealFiles<'a> {
 
     /// Reads the whole file anew, `limit` in bytes. A file that grows meanwhile is read to its later end.
     fn read(&mut self, path: &Text, into: &mut Text, limit: u64) -> FileRead {
-        into.clear();
-        let Ok(name) = str::from_utf8(path.as_slice()) else {
-            return FileRead::Missing;
-        };
-        match read_content(self.rt, name, into, limit) {
-            Content::All => FileRead::Read,
-            Content::Missing => {
-                into.clear();
-                FileRead::Missing
-            }
-            Content::TooLong => {
-                into.clear();
-                FileRead::TooLong
-            }
-            Content::Memory => {
-                into.clear();
-                FileRead::Memory
-            }
-            Content::Failed => {
-                into.clear();
-                self.faults = self.faults.saturating_add(1);
-                FileRead::Failed
-            }
+        let answer = read_path(self.rt, path, into, limit);
+        if let FileRead::Failed = answer {
+            self.faults = self.faults.saturating_add(1);
         }
+        answer
     }
 
     /// Makes the file, or empties the one that is there, and then writes the bytes. An error once it is open leaves a
