@@ -19,7 +19,7 @@ import tempfile
 import time
 
 from running import DATA, ROOT, run
-from sessions import files_under, make_files
+from sessions import differences, files_under, make_files
 from transcripts import sessions_of
 
 MESSAGE = b"pprof: out of memory\n"
@@ -94,7 +94,7 @@ def try_words(runner, session, words, pool, every):
     begun = time.time()
     left, count = runner.run(session, words, 0)
     if left != session.owed():
-        return [f"{session.title}: with ample memory: {left}"]
+        return [f"{session.title}: with ample memory:"] + differences(left, session.owed())
     numbers = range(1, count + SLACK, every)
     runs = pool.map(lambda number: runner.run(session, words, number), numbers)
     endings = collections.Counter()
@@ -103,7 +103,7 @@ def try_words(runner, session, words, pool, every):
         ending = ending_of(left, made, number, session)
         endings[ending] += 1
         if ending is None:
-            findings.append(f"{session.title}: {number} of {made} allocations: {left}")
+            findings += [f"{session.title}: {number} of {made} allocations:"] + differences(left, session.owed())
     tell(session.title, count, endings, time.time() - begun)
     return findings
 
