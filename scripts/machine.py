@@ -221,7 +221,7 @@ def long_sources(machine):
         1,
     )
     # A field that no reader knows, of 140,000,000 bytes.
-    front = machine.profile + b"\x82\x01\x80\xfb\xe0\x42"
+    front = machine.profile + b"\x82\x01\x80\xf6\xe0\x42"
     machine.write_long(b"half", front, len(front) + 140_000_000)
     yield "a source of half that length", machine.run(b"-top", b"half"), (TOP_OF_P1, b"", 0)
     yield "two sources of half that length", machine.run(b"-top", b"half", b"half"), (
