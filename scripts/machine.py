@@ -1,5 +1,6 @@
-"""What the built program does where the machine takes part: words of any length, fifos, folders, full devices, closed
-pipes, missing rights. No transcript can say this."""
+"""What the built program does where the machine takes part, and no transcript can say it: words of any length, fifos,
+folders, full devices, closed pipes, missing rights, files and input of the greatest lengths.
+"""
 
 import os
 import threading
