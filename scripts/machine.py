@@ -255,6 +255,33 @@ def long_input(machine):
     )
 
 
+def spoilings(content):
+    """The content cut at each place, and with each byte changed or doubled."""
+    for at, byte in enumerate(content):
+        front, back = content[:at], content[at + 1 :]
+        for middle in ((byte ^ 255,), (byte ^ 1,), (byte, byte)):
+            yield front + bytes(middle) + back
+        yield front
+
+
+def is_answered(out, err, status):
+    """Whether there is a report and no message, or one message and no report."""
+    if status == 0:
+        return out.endswith(b"\n") and not err
+    is_line = err.startswith(b"pprof: ") and err.endswith(b"\n") and err.count(b"\n") == 1
+    return status == 1 and not out and is_line
+
+
+def spoiled_profiles(machine):
+    for name in ("P1", "P5"):
+        unanswered = []
+        for content in spoilings((DATA / "fixtures" / name).read_bytes()):
+            machine.write(b"d", content)
+            if not is_answered(*machine.run(b"-top", b"-workers=1", b"d")):
+                unanswered.append(content)
+        yield f"{name}, spoiled at each place", unanswered, []
+
+
 CHECKS = (
     long_words,
     long_paths,
@@ -270,4 +297,5 @@ CHECKS = (
     long_sources,
     long_source_code,
     long_input,
+    spoiled_profiles,
 )
