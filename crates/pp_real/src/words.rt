@@ -1,4 +1,4 @@
-// The words after the program's name.
+//! The words that a program is given.
 
 use pp_base::{Memory, Text};
 use std::alloc::Global;
@@ -7,7 +7,7 @@ use std::env::{Env, FillError};
 /// How many bytes a word is given at first. The room is doubled until the word fits.
 const ROOM: usize = 256;
 
-/// The words after the program's name, whatever their bytes.
+/// The words after the program's name, in their order and whatever their bytes. An error is want of memory.
 pub fn read_words<E: Env>(env: &E, alloc: Global) -> Result<Vec<Text>, Memory> {
     let mut words = Vec::new(alloc);
     for number in 1..usize::MAX {
@@ -19,6 +19,7 @@ pub fn read_words<E: Env>(env: &E, alloc: Global) -> Result<Vec<Text>, Memory> {
     Ok(words)
 }
 
+// The word of a number, the program's name being 0, or `None` past the last.
 fn read_word<E: Env>(env: &E, alloc: Global, number: usize) -> Result<Option<Text>, Memory> {
     let mut room = ROOM;
     for _ in 0..usize::BITS {
