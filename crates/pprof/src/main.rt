@@ -34,6 +34,7 @@ fn main(rt: HostRuntime) -> ExitCode {
 }
 
 // Where there is no memory for the words: tells of it, as far as standard error takes it.
+#[tactic(auto, using(crate::proofs::Telling::is_front))]
 fn end_without_words<E: Sink>(err: &mut E) -> Ending
     ensures cause { result.cause ≡ Cause.Memory }
     ensures status { result.status ≡ status_of result.cause }
