@@ -100,7 +100,7 @@ fn edge_between(graph: &Graph, from: u64, to: u64) -> Option<u64>
         return None;
     }
     let mut next = graph.first_out(from);
-    for step in 0..4 {
+    for step in 0..4u64 {
         let Some(number) = next else {
             return None;
         };
