@@ -11,7 +11,7 @@ const CHAIN: [&[u8]; 9] = [
 ];
 
 // What the samples of a generated profile add up to in nanoseconds: flat and cum of each function of the chain.
-#[derive(Clone, Copy)]
+#[derive(Drop)]
 pub(crate) struct Sums {
     flat: [i64; 9],
     cum: [i64; 9],

@@ -85,13 +85,11 @@ fn key_of(function: u64) -> Key {
 
 // Cuts the edge from one node to another. Whether there is one.
 fn is_cut(graph: &mut Graph, from: u64, to: u64) -> bool {
-    match edge_between(graph, from, to) {
-        Some(number) => {
-            graph.cut_edge(number);
-            true
-        }
-        None => false,
-    }
+    let Some(number) = edge_between(graph, from, to) else {
+        return false;
+    };
+    graph.cut_edge(number);
+    true
 }
 
 // The number of the first edge from one node to another.
@@ -102,7 +100,7 @@ fn edge_between(graph: &Graph, from: u64, to: u64) -> Option<u64>
         return None;
     }
     let mut next = graph.first_out(from);
-    for step in 0..4 {
+    for step in 0..4u64 {
         let Some(number) = next else {
             return None;
         };

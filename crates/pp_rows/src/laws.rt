@@ -54,6 +54,7 @@ fn is_seen<R: Threads + Sync>(rt: &R, alloc: Global, law: &str) -> Result<bool, 
     )
 }
 
+// No words have no figures.
 fn all_figures<R: Threads + Sync>(rt: &R, alloc: Global, words: &str) -> Result<Figures, Fail> {
     if words.is_empty() {
         return Ok(Figures::none(alloc));

@@ -1,7 +1,7 @@
 // Pieces that are worked on at once, in each pass of a report over its samples.
 
 use crate::running::report_of;
-use pp_base::{Gate, List, OpenGate, Text};
+use pp_base::{Gate, List, OpenGate};
 use std::alloc::Global;
 use std::sync::atomic::{AtomicU64, Ordering};
 use std::test::Fail;
@@ -62,16 +62,13 @@ impl Gate for Held<'_> {
     }
 }
 
-// Five pieces in one pass.
-const TOP: &str = "-top -gen=5000 -workers=2";
-
-// Passes of 64 and 2 pieces that count, and the same of the edges.
-const TREE: &str = "-tree -unit=ns -gen=67584 -workers=2";
-
+// The top report has one pass of five pieces. The tree counts in passes of 64 and 2 pieces, and then its edges.
 #[test]
 fn two_pieces_at_once(rt: HostRuntime) -> Result<(), Fail> {
-    assert!(rt; is_met_in_a_round(&rt, rt.alloc(), TOP, &[0], 5)?);
-    assert!(rt; is_met_in_a_round(&rt, rt.alloc(), TREE, &[0, 64, 66, 130], 132)?);
+    let top = "-top -gen=5000 -workers=2";
+    assert!(rt; is_met_in_a_round(&rt, rt.alloc(), top, &[0], 5)?);
+    let tree = "-tree -gen=67584 -workers=2";
+    assert!(rt; is_met_in_a_round(&rt, rt.alloc(), tree, &[0, 64, 66, 130], 132)?);
     Ok(())
 }
 
@@ -87,7 +84,7 @@ fn is_met_in_a_round<R: Threads + Sync>(
     for _round in 0..8 {
         let gate = Held::new(firsts);
         let held = report_of(rt, alloc, words, List::new(alloc), &gate)?;
-        if !is_same(&held, &open) || !gate.is_passed_by(pieces) {
+        if held.as_slice() != open.as_slice() || !gate.is_passed_by(pieces) {
             return Err("another report".into());
         }
         if gate.is_met() {
@@ -95,8 +92,4 @@ fn is_met_in_a_round<R: Threads + Sync>(
         }
     }
     Ok(false)
-}
-
-fn is_same(held: &Text, open: &Text) -> bool {
-    held.as_slice() == open.as_slice()
 }
