@@ -37,7 +37,8 @@ fn main(rt: HostRuntime) -> ExitCode {
 fn end_without_words<E: Sink>(err: &mut E) -> Ending
     ensures cause { result.cause ≡ Cause.Memory }
     ensures status { result.status ≡ status_of result.cause }
-    ensures told { IfSome (fault_line Cause.Memory) (PutsFront (E.written err.old) (E.written err.new)) }
+    ensures told { IfSome (fault_line Cause.Memory)
+        (PutsFront (E.written err.old) (E.written err.new)) }
 {
     match write_all(err, b"pprof: out of memory\n") {
         Ok(()) => (),
