@@ -55,7 +55,19 @@ WORD = re.compile(rb"(?:'[^']*'|[^' ])+")
 
 def plain(text):
     """The bytes that a text stands for."""
-    return ESCAPE.sub(lambda found: NAMED.get(found[1]) or bytes.fromhex(found[1][1:].decode()), text)
+    return ESCAPE.sub(byte_named, text)
+
+
+def byte_named(found):
+    """The byte of an escape."""
+    name = found[1]
+    return NAMED.get(name) or bytes.fromhex(name[1:].decode())
+
+
+def spelled(content):
+    """A text that stands for the bytes."""
+    text = content.replace(b"\\", b"\\\\").decode("latin-1")
+    return "".join(char if " " <= char <= "~" else f"\\x{ord(char):02x}" for char in text)
 
 
 def line_of(text):
