@@ -14,6 +14,8 @@ pub enum Difference<'a> {
     Err,
     /// The file of the path.
     File(&'a Text),
+    /// A file was written at a path that the transcript does not name.
+    OtherFile,
     /// How many calls of the object were made.
     Calls,
 }
@@ -27,6 +29,8 @@ pub fn session_difference<'a>(session: &'a Session, left: &Left) -> Option<Diffe
         Some(Difference::Out)
     } else if left.status != owed.status {
         Some(Difference::Status)
+    } else if left.others > 0 {
+        Some(Difference::OtherFile)
     } else {
         different_file(session, left)
     }
@@ -79,7 +83,11 @@ fn failure_difference<'a>(
     } else {
         stop(session, left, fault)
     };
-    is_told.or_else(|| unowed_file(session, left))
+    match is_told {
+        Some(difference) => Some(difference),
+        None if left.others > 0 => Some(Difference::OtherFile),
+        None => unowed_file(session, left),
+    }
 }
 
 // A run that the failure ended: fronts of what the session owes, and the line of the failure.

@@ -3,6 +3,13 @@
 use pp_base::{List, Memory, Text};
 use std::alloc::Global;
 
+/// Whether the path is one of these.
+pub fn is_among(path: &Text, paths: &[Text]) -> bool {
+    paths
+        .iter()
+        .any(|other| other.as_slice() == path.as_slice())
+}
+
 /// The contents of some paths. No path stands twice.
 #[derive(Debug, Drop)]
 pub struct Contents {

@@ -2,6 +2,7 @@
 ghost use Rattle.std.specs.Prelude.{None};
 
 use crate::calls::{Calls, Failure};
+use crate::contents::is_among;
 use pp_base::{
     CalmFiles, CalmSink, CalmSource, FileRead, FileWrite, Files, Judgement, List, Matcher, Sink,
     SinkWrite, Source, SourceRead, Text,
@@ -12,6 +13,21 @@ use pp_base::{
 pub struct TrialFiles {
     pub calm: CalmFiles,
     pub calls: Calls,
+    /// The paths that a session may write.
+    pub known: List<Text>,
+    /// How often another path was written.
+    pub others: u64,
+}
+
+impl TrialFiles {
+    // Writes the bytes, and counts another path.
+    fn put(&mut self, path: &Text, bytes: &[u8]) -> FileWrite {
+        let answer = self.calm.write(path, bytes);
+        if answer == FileWrite::Written && !is_among(path, self.known.as_slice()) {
+            self.others = self.others.saturating_add(1);
+        }
+        answer
+    }
 }
 
 impl Files for TrialFiles {
@@ -32,9 +48,9 @@ impl Files for TrialFiles {
     /// A write that fails leaves the first half of the bytes.
     fn write(&mut self, path: &Text, bytes: &[u8]) -> FileWrite {
         match self.calls.count() {
-            None => self.calm.write(path, bytes),
+            None => self.put(path, bytes),
             Some(Failure::Fault) => {
-                let _ = self.calm.write(path, &bytes[..bytes.len() / 2]);
+                self.put(path, &bytes[..bytes.len() / 2]);
                 FileWrite::Failed
             }
             Some(_) => FileWrite::Memory,

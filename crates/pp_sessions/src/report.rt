@@ -149,6 +149,7 @@ impl Report {
                 }
                 None => Ok(()),
             },
+            Difference::OtherFile => self.text.extend(b"a file that no line names was written\n"),
             Difference::File(path) => {
                 self.put_file(b"owed", path, session.after.content(path))?;
                 self.put_file(b"left", path, left.files.content(path))

@@ -1,6 +1,6 @@
 //! A transcript with the contents of its files.
 
-use crate::contents::Contents;
+use crate::contents::{Contents, is_among};
 use crate::transcript::{Part, Transcript};
 use pp_base::{FileRead, Files, List, Memory, Text};
 use pp_real::RealFiles;
@@ -116,12 +116,6 @@ fn keep_others(before: &Contents, gone: &[Text], after: &mut Contents) -> Result
         }
     }
     Ok(())
-}
-
-fn is_among(path: &Text, paths: &[Text]) -> bool {
-    paths
-        .iter()
-        .any(|other| other.as_slice() == path.as_slice())
 }
 
 fn paths_of(

@@ -78,6 +78,8 @@ pub struct Left {
     pub err: TrialSink,
     /// The files at the paths of the session.
     pub files: Contents,
+    /// How often a file was written at another path.
+    pub others: u64,
     pub calls: AllCalls,
 }
 
@@ -139,6 +141,7 @@ fn left_in_memory<R: Threads + Sync, M: Matcher + Drop>(
     Ok(Left {
         status,
         files,
+        others: stage.files.others,
         calls: AllCalls {
             files: stage.files.calls,
             input: stage.input.calls,
@@ -172,6 +175,8 @@ fn files_in_memory(
     Ok(TrialFiles {
         calm: CalmFiles::new(alloc, session.before.copied()?, locked),
         calls: calls.files,
+        known: copied(alloc, &session.paths)?,
+        others: 0,
     })
 }
 
@@ -270,6 +275,7 @@ fn left_over_pipes<R: Threads + Sync>(
     Ok(Left {
         status,
         files: Contents::new(alloc),
+        others: 0,
         calls: AllCalls {
             files: calls.files,
             input: source.calls,
