@@ -1,5 +1,6 @@
-"""What the built program does where the machine takes part: words of any length, fifos, folders, full devices, closed
-pipes, missing rights. No transcript can say this."""
+"""What the built program does where the machine takes part, and no transcript can say it: words of any length, fifos,
+folders, full devices, closed pipes, missing rights, files and input of the greatest lengths.
+"""
 
 import os
 import threading
@@ -14,12 +15,17 @@ Showing nodes accounting for 60ms, 100.00% of 60ms total
       20ms   33.33%  100.00%       50ms   83.33%  work
          0    0.00%  100.00%       60ms  100.00%  main
 """
-TOP_OF_LEAF = b"""Type: cpu
-Showing nodes accounting for 40ms, 100.00% of 40ms total
-      flat    flat%     sum%        cum     cum%
-      40ms  100.00%  100.00%       40ms  100.00%  leaf
-         0    0.00%  100.00%       40ms  100.00%  main
-         0    0.00%  100.00%       30ms   75.00%  work
+LIST_OF_WORK = b"""Total: 60ms
+ROUTINE ======================== work in work.c
+      20ms       50ms (flat, cum) 83.33% of Total
+         .          .     15:w15
+         .          .     16:w16
+         .          .     17:w17
+         .          .     18:w18
+         .          .     19:w19
+         .       30ms     20:w20
+      20ms       20ms     21:w21
+         .          .     22:w22
 """
 PROMPT = b"(pprof) "
 FILE_FAULT = b"pprof: file fault\n"
@@ -44,6 +50,14 @@ class Machine:
         with open(self.path(name), "wb") as file:
             file.write(content)
 
+    def write_long(self, name, front, length, back=b""):
+        """A file of so many bytes, zeros between these, which take no place on the disk."""
+        with open(self.path(name), "wb") as file:
+            file.write(front)
+            file.truncate(length)
+            file.seek(length - len(back))
+            file.write(back)
+
     def run(self, *words, **how):
         return run(self.command, list(words), self.place, **how)
 
@@ -57,11 +71,10 @@ class Machine:
 
 def long_words(machine):
     for length in LENGTHS:
-        # Only the whole word finds a function.
-        word = b"-focus=" + b"x" * (length - 12) + b"|leaf"
-        yield f"a word of {len(word)} bytes", machine.run(
-            b"-top", b"-relative_percentages", word, b"P1"
-        ), (TOP_OF_LEAF, b"", 0)
+        value = b"x" * (length - 14) + b"y"
+        out, err, status = machine.run(b"-source_path=" + value, b"P1", given=b"o\nq\n")
+        is_kept = b"\nsource_path=" + value + b"\n" in out
+        yield f"a word of {length} bytes", (is_kept, err, status), (True, b"", 0)
 
 
 def long_paths(machine):
@@ -186,6 +199,81 @@ def paths_of_any_bytes(machine):
     )
 
 
+def long_sources(machine):
+    limit = 268_435_456
+    machine.write_long(b"longer", b"", limit + 1)
+    yield "a source of 2^28 + 1 bytes", machine.run(b"-top", b"longer"), (
+        b"",
+        b"pprof: longer: longer than 268435456 bytes\n",
+        1,
+    )
+    machine.write_long(b"longest", b"", limit)
+    yield "a source of 2^28 bytes", machine.run(b"-top", b"longest"), (
+        b"",
+        b"pprof: longest: bad header at word 1\n",
+        1,
+    )
+    # A field that no reader knows, of 140,000,000 bytes.
+    front = machine.profile + b"\x82\x01\x80\xf6\xe0\x42"
+    machine.write_long(b"half", front, len(front) + 140_000_000)
+    yield "a source of half that length", machine.run(b"-top", b"half"), (TOP_OF_P1, b"", 0)
+    yield "two sources of half that length", machine.run(b"-top", b"half", b"half"), (
+        b"",
+        b"pprof: half: all files together are longer than 268435456 bytes\n",
+        1,
+    )
+
+
+def long_source_code(machine):
+    limit = 134_217_728
+    back = b"".join(b"w%d\n" % number for number in range(1, 23))
+    machine.write_long(b"work.c", b"", limit, back)
+    yield "source code of 2^27 bytes", machine.run(b"-list=work", b"P1"), (LIST_OF_WORK, b"", 0)
+    machine.write_long(b"work.c", b"", limit + 1)
+    front = b"".join(LIST_OF_WORK.splitlines(keepends=True)[:3])
+    yield "source code of 2^27 + 1 bytes", machine.run(b"-list=work", b"P1"), (
+        front + b" Error: work.c: longer than 134217728 bytes\n",
+        b"",
+        0,
+    )
+
+
+def long_input(machine):
+    limit = 16_777_216
+    yield "input of 2^24 line ends", machine.run(b"P1", given=b"\n" * limit), (
+        PROMPT * (limit + 1),
+        b"pprof: standard input is longer than 16777216 bytes\n",
+        1,
+    )
+
+
+def spoilings(content):
+    """The content cut at each place, and with each byte changed or doubled."""
+    for at, byte in enumerate(content):
+        front, back = content[:at], content[at + 1 :]
+        for middle in ((byte ^ 255,), (byte ^ 1,), (byte, byte)):
+            yield front + bytes(middle) + back
+        yield front
+
+
+def is_answered(out, err, status):
+    """Whether there is a report and no message, or one message and no report."""
+    if status == 0:
+        return out.endswith(b"\n") and not err
+    is_line = err.startswith(b"pprof: ") and err.endswith(b"\n") and err.count(b"\n") == 1
+    return status == 1 and not out and is_line
+
+
+def spoiled_profiles(machine):
+    for name in ("P1", "P5"):
+        unanswered = []
+        for content in spoilings((DATA / "fixtures" / name).read_bytes()):
+            machine.write(b"d", content)
+            if not is_answered(*machine.run(b"-top", b"-workers=1", b"d")):
+                unanswered.append(content)
+        yield f"{name}, spoiled at each place", unanswered, []
+
+
 CHECKS = (
     long_words,
     long_paths,
@@ -198,4 +286,8 @@ CHECKS = (
     closed_streams,
     no_rights,
     paths_of_any_bytes,
+    long_sources,
+    long_source_code,
+    long_input,
+    spoiled_profiles,
 )

@@ -22,7 +22,7 @@ import time
 import launcher
 import machine
 from running import DATA, SHOWN, run
-from transcripts import sessions_of
+from transcripts import sessions_of, spelled
 
 
 def make_files(place, session):
@@ -49,14 +49,17 @@ def differences(left, owed):
     named = list(zip(("standard output", "standard error", "status"), left, owed))
     for path in sorted(set(left[3]) | set(owed[3])):
         named.append((f"file {os.fsdecode(path)!r}", left[3].get(path), owed[3].get(path)))
-    return [f"{name} is\n{shown(is_)}\n  owed is\n{shown(to_be)}" for name, is_, to_be in named if is_ != to_be]
+    return [
+        f"{name} is\n{shown(found)}\n  owed is\n{shown(due)}"
+        for name, found, due in named
+        if found != due
+    ]
 
 
 def shown(content):
     if not isinstance(content, bytes):
         return f"    {content}"
-    text = content[:SHOWN].decode("ascii", "backslashreplace")
-    lines = [f"    {line}" for line in text.split("\n")]
+    lines = [f"    {spelled(line)}" for line in content[:SHOWN].split(b"\n")]
     return "\n".join(lines + ["    .."] * (len(content) > SHOWN))
 
 
@@ -69,7 +72,7 @@ def findings_of(program, session):
             make_files(place, session)
             left = run([program], words, place, session.texts[ord("<")])
             findings += [
-                f"  {b' '.join(words).decode('ascii', 'backslashreplace')[:200]}: {difference}"
+                f"  {spelled(b' '.join(words))[:200]}: {difference}"
                 for difference in differences(left + (files_under(place),), session.owed())
             ]
     return findings
@@ -109,8 +112,12 @@ def arguments():
         description=__doc__, formatter_class=argparse.RawDescriptionHelpFormatter
     )
     parser.add_argument("program", help="the built program, as crates/pprof/out/pprof")
-    parser.add_argument("transcript", nargs="*", type=pathlib.Path, help="instead of all, and of the rest")
-    parser.add_argument("--launcher", action="store_true", help="try ./pprof too, with a builder that only pretends")
+    parser.add_argument(
+        "transcript", nargs="*", type=pathlib.Path, help="these files alone, and no other checks"
+    )
+    parser.add_argument(
+        "--launcher", action="store_true", help="try ./pprof too, with a builder that only pretends"
+    )
     parser.add_argument("--jobs", type=int, default=2, help="sessions side by side (2)")
     return parser.parse_args()
 

@@ -28,18 +28,20 @@ class Session:
 
     def is_for_memory(self):
         """Whether only objects in memory can have it."""
-        has_nul = any(b"\0" in word for words in self.commands for word in words)
-        return self.is_literal or has_nul or any(path in self.files for path in self.locked)
+        words = [word for words in self.commands for word in words]
+        paths = [path for path in self.files if not is_below(path) or path in self.locked]
+        return self.is_literal or any(b"\0" in word for word in words) or bool(paths)
 
     def owed(self):
         """Standard output, standard error, the status, and the files at the end."""
         files = {**self.files, **self.kept}
-        left = {normal(path): bytes(files[path]) for path in files if path not in self.absent}
+        left = {path: bytes(files[path]) for path in files if path not in self.absent}
         return bytes(self.texts[ord(">")]), bytes(self.texts[ord("!")]), self.status, left
 
 
-def normal(path):
-    return os.path.normpath(path)
+def is_below(path):
+    """Whether the path, as it is spelled, is that of a file in a folder."""
+    return not path.startswith((b"/", b"..")) and os.path.normpath(path) == path
 
 
 class FormFault(Exception):
@@ -53,7 +55,19 @@ WORD = re.compile(rb"(?:'[^']*'|[^' ])+")
 
 def plain(text):
     """The bytes that a text stands for."""
-    return ESCAPE.sub(lambda found: NAMED.get(found[1]) or bytes.fromhex(found[1][1:].decode()), text)
+    return ESCAPE.sub(byte_named, text)
+
+
+def byte_named(found):
+    """The byte of an escape."""
+    name = found[1]
+    return NAMED.get(name) or bytes.fromhex(name[1:].decode())
+
+
+def spelled(content):
+    """A text that stands for the bytes."""
+    text = content.replace(b"\\", b"\\\\").decode("latin-1")
+    return "".join(char if " " <= char <= "~" else f"\\x{ord(char):02x}" for char in text)
 
 
 def line_of(text):
