@@ -1,176 +1,155 @@
 #!/usr/bin/env python3
-"""Lets each allocation of three runs of the built program fail, one a run.
+"""Lets each allocation of the built program fail, one a run, in sessions that are told as transcripts.
 
-Each run has to end as it does with ample memory, or with status 4 and its message. Standard output, what standard error
-has before the message, and a file that is written are then fronts of what they are with ample memory.
+The sessions are those of the files that are named, else of crates/pp_sessions/data/memory.txt. Each run has to end as
+its session owes, or with status 4 and its message. In the second case standard output, what standard error has before
+the message, and each file that is written are fronts of what the session owes, and no other file has come.
 
-usage: refused-memory.py [--program FILE] [--jobs N] [--row NAME] [--step N]
-
-It needs a C compiler (CC, or cc), glibc, and the program that ./pprof builds. What a run with ample memory owes stands in
-the tests of crates/pp_rows. With a step only each Nth allocation fails. The status is 0 where every run ended so, else 1.
+It needs a C compiler (CC, or cc), glibc, and the built program. The status is 0 where every run ended so, else 1.
 """
 
 import argparse
-import ast
+import collections
 import concurrent.futures
 import os
 import pathlib
-import re
 import subprocess
 import sys
 import tempfile
 import time
 
-ROOT = pathlib.Path(__file__).resolve().parent.parent
-TESTS = ROOT / "crates" / "pp_rows" / "src"
+from running import DATA, ROOT, run
+from sessions import differences, files_under, make_files
+from transcripts import sessions_of
+
 MESSAGE = b"pprof: out of memory\n"
 MEMORY = 4
-# A run that takes longer has not ended.
-SECONDS = 60
+# With several workers the count of allocations differs from run to run.
+SLACK = 64
 
-
-def constant(file, name):
-    """The bytes of a constant text of the tests."""
-    text = (TESTS / file).read_text()
-    found = re.search(r"const %s: &(?:str|\[u8\]) =\s*b?(\"(?:[^\"\\]|\\.)*\");" % name, text, re.S)
-    if not found:
-        sys.exit(f"no constant {name} in {file}")
-    literal = found.group(1).replace("\n", "\\n")
-    return ast.literal_eval("b" + literal)
-
-
-def first_owed(file, name):
-    """The lines of standard output that the first session of these transcripts owes."""
-    session = constant(file, name).split(b"\n\n")[0]
-    lines = [line[1:] for line in session.split(b"\n") if line.startswith(b"|")]
-    return b"".join(line + b"\n" for line in lines)
-
-
-def rows():
-    """Name, words, input, and what is owed: both outputs, and the file t or none."""
-    top = constant("fixtures.rt", "TOP_OF_P1")
-    return [
-        ("top", ["-top", "P1"], b"", (top, b"", None)),
-        (
-            "shell",
-            ["P1"],
-            constant("faults.rt", "LINES"),
-            (constant("faults.rt", "OWED"), constant("faults.rt", "NOTE"), top),
-        ),
-        (
-            "workers",
-            ["-top", "-gen=5000", "-workers=2"],
-            b"",
-            (first_owed("pool.rt", "WORKERS"), b"", None),
-        ),
-    ]
+AS_OWED = "as with ample memory"
+CUT_OFF = "out of memory"
+NONE_FAILED = "none failed"
 
 
 class Runner:
+    """The program, in folders of its own, with one allocation that fails."""
+
     def __init__(self, program, folder):
         self.program = program
-        self.library = folder / "fail_alloc.so"
         self.folder = folder
+        self.library = os.path.join(folder, "fail_alloc.so")
         compiler = os.environ.get("CC", "cc")
         source = ROOT / "scripts" / "fail_alloc.c"
-        subprocess.run(
-            [compiler, "-O2", "-shared", "-fPIC", "-o", self.library, source], check=True
-        )
-        self.profile = constant("fixtures.rt", "P1")
+        subprocess.run([compiler, "-O2", "-shared", "-fPIC", "-o", self.library, source], check=True)
 
-    def run(self, words, given, number):
-        """Status, both outputs and the file t or none; and the count of allocations."""
-        with tempfile.TemporaryDirectory(dir=self.folder) as place:
-            place = pathlib.Path(place)
-            (place / "P1").write_bytes(self.profile)
-            environment = {
-                "LD_PRELOAD": str(self.library),
-                "FAIL_ALLOC": str(number),
-                "FAIL_ALLOC_COUNT": str(place / "count"),
-            }
-            try:
-                ended = subprocess.run(
-                    [self.program] + words,
-                    input=given,
-                    capture_output=True,
-                    cwd=place,
-                    env=environment,
-                    timeout=SECONDS,
-                )
-            except subprocess.TimeoutExpired:
-                return ("no end", b"", b"", None), number
-            written = place / "t"
-            kept = written.read_bytes() if written.exists() else None
-            made = int.from_bytes((place / "count").read_bytes(), sys.byteorder)
-            return (ended.returncode, ended.stdout, ended.stderr, kept), made
+    def run(self, session, words, number):
+        """Both outputs, the status and the files, and the count of allocations. At 0 none fails."""
+        with tempfile.TemporaryDirectory(dir=self.folder) as room:
+            place = os.fsencode(os.path.join(room, "place"))
+            count = pathlib.Path(room, "count")
+            os.mkdir(place)
+            make_files(place, session)
+            left = run([self.program], words, place, session.texts[ord("<")], env=self.environment(number, count))
+            made = int.from_bytes(count.read_bytes(), sys.byteorder)
+            return left + (files_under(place),), made
+
+    def environment(self, number, count):
+        return {"LD_PRELOAD": self.library, "FAIL_ALLOC": str(number), "FAIL_ALLOC_COUNT": str(count)}
 
 
-def is_cut_off(left, owed):
+def is_cut_off(left, session):
     """Whether the run ended for want of memory, with fronts of what is owed."""
-    status, out, err, kept = left
-    owed_out, owed_err, owed_kept = owed
+    out, err, status, files = left
+    owed_out, owed_err, _, owed_files = session.owed()
     return (
         status == MEMORY
         and err.endswith(MESSAGE)
         and owed_out.startswith(out)
         and owed_err.startswith(err[: -len(MESSAGE)])
-        and (kept is None or (owed_kept or b"").startswith(kept))
+        and are_fronts(files, session.files, owed_files)
     )
 
 
-def try_row(runner, name, words, given, owed, jobs, step):
-    """Runs the row with each number, in steps. Gives the findings."""
+def are_fronts(files, before, owed):
+    """Whether each file holds what it held before, or a front of what is owed, and each that was there still is."""
+    return before.keys() <= files.keys() and all(
+        content == before.get(path) or owed.get(path, b"").startswith(content) and path in owed
+        for path, content in files.items()
+    )
+
+
+def ending_of(left, made, number, session):
+    """How a run ended in which the allocation of the number was to fail. None if not as it has to."""
+    is_as_owed = left == session.owed()
+    if made < number:
+        return NONE_FAILED if is_as_owed else None
+    if is_as_owed:
+        return AS_OWED
+    return CUT_OFF if is_cut_off(left, session) else None
+
+
+def try_words(runner, session, words, pool, every):
+    """Runs the words once for each allocation, or each so many. Gives the findings."""
     begun = time.time()
-    left, count = runner.run(words, given, 0)
-    if left != (0,) + owed:
-        return [f"{name}: with ample memory: {left}"]
+    left, count = runner.run(session, words, 0)
+    if left != session.owed():
+        return [f"{session.title}: with ample memory:"] + differences(left, session.owed())
+    if count == 0:
+        return [f"{session.title}: no allocation was seen: the program has an allocator of its own"]
+    numbers = range(1, count + SLACK, every)
+    runs = pool.map(lambda number: runner.run(session, words, number), numbers)
+    endings = collections.Counter()
     findings = []
-    whole = cut_off = 0
-    number = 1
-    is_past = False
-    with concurrent.futures.ThreadPoolExecutor(jobs) as pool:
-        while not is_past:
-            batch = range(number, number + 16 * jobs * step, step)
-            number = batch.stop
-            runs = pool.map(lambda at: (at, runner.run(words, given, at)), batch)
-            for at, (left, made) in runs:
-                # With several workers the count differs from run to run.
-                if made < at:
-                    is_past = is_past or at > count + 64
-                    if left != (0,) + owed:
-                        findings.append(f"{name}: {at}: nothing failed: {left}")
-                elif left == (0,) + owed:
-                    whole += 1
-                elif is_cut_off(left, owed):
-                    cut_off += 1
-                else:
-                    findings.append(f"{name}: {at}: {left}, {made} allocations")
-    seconds = time.time() - begun
-    print(
-        f"{name}: {count} allocations, {whole + cut_off + len(findings)} runs in which one failed:"
-        f" {cut_off} out of memory, {whole} as with ample memory, {len(findings)} otherwise;"
-        f" {seconds:.0f} s",
-        flush=True,
-    )
+    for number, (left, made) in zip(numbers, runs):
+        ending = ending_of(left, made, number, session)
+        endings[ending] += 1
+        if ending is None:
+            findings += [f"{session.title}: {number} of {made} allocations:"] + differences(left, session.owed())
+    tell(session.title, count, endings, time.time() - begun)
     return findings
 
 
+def tell(title, count, endings, seconds):
+    print(
+        f"{title}: {count} allocations; {endings[CUT_OFF]} runs {CUT_OFF}, {endings[AS_OWED]} {AS_OWED},"
+        f" {endings[None]} otherwise; {seconds:.0f} s",
+        flush=True,
+    )
+
+
+def try_file(runner, path, pool, every):
+    """The findings of each session of a transcript file that can be had over real files."""
+    return [
+        finding
+        for session in sessions_of(path)
+        if not session.is_for_memory()
+        for words in session.runs()
+        for finding in try_words(runner, session, words, pool, every)
+    ]
+
+
+def arguments():
+    parser = argparse.ArgumentParser(
+        description=__doc__, formatter_class=argparse.RawDescriptionHelpFormatter
+    )
+    parser.add_argument("transcript", nargs="*", type=pathlib.Path, default=[DATA / "memory.txt"])
+    parser.add_argument("--program", default=ROOT / "crates" / "pprof" / "out" / "pprof")
+    parser.add_argument("--jobs", type=int, default=2, help="runs side by side (2)")
+    parser.add_argument("--every", type=int, default=1, metavar="N", help="only each Nth allocation fails (1)")
+    return parser.parse_args()
+
+
 def main():
-    words = argparse.ArgumentParser(description=__doc__.split("\n")[0])
-    words.add_argument("--program", default=ROOT / "crates" / "pprof" / "out" / "pprof")
-    words.add_argument("--jobs", type=int, default=os.cpu_count())
-    words.add_argument("--row", choices=["top", "shell", "workers"])
-    words.add_argument("--step", type=int, default=1)
-    given = words.parse_args()
-    program = pathlib.Path(given.program).resolve()
-    if not program.exists():
+    given = arguments()
+    program = os.path.abspath(given.program)
+    if not os.path.exists(program):
         sys.exit(f"{program} is not built: run ./pprof once")
     findings = []
-    with tempfile.TemporaryDirectory() as folder:
-        runner = Runner(program, pathlib.Path(folder))
-        for name, row_words, lines, owed in rows():
-            if given.row in (None, name):
-                findings += try_row(runner, name, row_words, lines, owed, given.jobs, given.step)
+    with tempfile.TemporaryDirectory() as folder, concurrent.futures.ThreadPoolExecutor(given.jobs) as pool:
+        runner = Runner(program, folder)
+        for path in given.transcript:
+            findings += try_file(runner, path, pool, given.every)
     for finding in findings:
         print(finding)
     sys.exit(1 if findings else 0)

@@ -1,47 +1,55 @@
 //! The program `pprof`: the machine's files and streams, and one call.
 #![tactic(auto)]
 
-mod files;
-mod input;
-mod streams;
-mod words;
+ghost use Rattle.std.specs.Prelude.{◌≡◌, IfSome};
+ghost use Rattle.std.specs.Process.{exit_status};
+ghost use Rattle.pp_base.specs.Writes.{PutsFront};
+ghost use Rattle.pp_engine.specs.Endings.{fault_line, status_of};
 
-use files::RealFiles;
-use input::Input;
-use pp_base::{OpenGate, write_all};
-use pp_engine::run;
+use pp_base::{OpenGate, Sink, write_all};
+use pp_engine::{Cause, Ending, run};
+use pp_real::{Input, Output, RealFiles, read_words};
 use pp_regex::RegexMatcher;
-use std::alloc::Global;
 use std::process::ExitCode;
-use streams::Output;
-use words::read_words;
-
-/// The line and the status where there is no memory for the words after the program's name.
-const NO_MEMORY: &[u8] = b"pprof: out of memory\n";
-
-const MEMORY_STATUS: u8 = 4;
 
 fn main(rt: HostRuntime) -> ExitCode {
-    let alloc: Global = rt.alloc();
-    let mut out = Output::new(rt.stdout());
+    let alloc = rt.alloc();
     let mut err = Output::new(rt.stderr());
-    let Ok(words) = read_words(&rt, alloc) else {
-        let _ = write_all(&mut err, NO_MEMORY);
-        return ExitCode::from(MEMORY_STATUS);
+    let ending = match read_words(&rt, alloc) {
+        Ok(words) => run(
+            &rt,
+            alloc,
+            &words,
+            &mut RealFiles::new(&rt),
+            &mut Input::new(rt.stdin()),
+            &mut Output::new(rt.stdout()),
+            &mut err,
+            &mut RegexMatcher::new(alloc),
+            &OpenGate,
+        ),
+        Err(_) => end_without_words(&mut err),
     };
-    let mut files = RealFiles::new(&rt);
-    let mut input = Input::new(rt.stdin());
-    let mut matcher = RegexMatcher::new(alloc);
-    let ending = run(
-        &rt,
-        alloc,
-        &words,
-        &mut files,
-        &mut input,
-        &mut out,
-        &mut err,
-        &mut matcher,
-        &OpenGate,
-    );
+    exit_code(ending)
+}
+
+// Where there is no memory for the words: tells of it, as far as standard error takes it.
+#[tactic(auto, using(crate::proofs::Telling::is_front))]
+fn end_without_words<E: Sink>(err: &mut E) -> Ending
+    ensures cause { result.cause ≡ Cause.Memory }
+    ensures status { result.status ≡ status_of result.cause }
+    ensures told { IfSome (fault_line Cause.Memory)
+        (PutsFront (E.written err.old) (E.written err.new)) }
+{
+    match write_all(err, b"pprof: out of memory\n") {
+        Ok(()) => (),
+        Err(_) => (),
+    }
+    Ending::of(Cause::Memory)
+}
+
+// The exit code that tells an ending.
+fn exit_code(ending: Ending) -> ExitCode
+    ensures { exit_status result ≡ ending.status }
+{
     ExitCode::from(ending.status)
 }

@@ -1,0 +1,53 @@
+//! Any reader as a source.
+ghost use Rattle.std.specs.Prelude.{◌≡◌, ◌<◌, ◌≤◌, None, length};
+ghost use Rattle.pp_base.specs.Fault.{Rose};
+ghost use Rattle.pp_base.specs.Reads.{Takes};
+ghost use Rattle.pp_real.specs.Streams.{Draws};
+
+use pp_base::{Source, SourceRead};
+use std::io::Read;
+
+/// A source over any reader, as standard input.
+///
+/// It asks the reader for bytes where a read asks for them, and never ahead: what a read gives is all that the reader
+/// has lost. What is left is not told. Each error of the reader is a fault, an interrupted read too.
+#[derive(Drop)]
+pub struct Input<R: Read + Drop> {
+    reader: R,
+    faults: u64,
+}
+
+impl<R: Read + Drop> Input<R> {
+    /// A source over the reader. It takes no memory and reads nothing.
+    pub fn new(reader: R) -> Self
+        ensures reader { result.reader ≡ reader }
+        ensures faults { result.faults ≡ 0 }
+    {
+        Input { reader, faults: 0 }
+    }
+}
+
+impl<R: Read + Drop> Source for Input<R> {
+    ghost left = { λ _. None };
+
+    ghost faults = { λ s. s.faults };
+
+    /// One read of the reader, as many bytes as it gives at once. No bytes are the end.
+    fn read(&mut self, buf: &mut [u8]) -> SourceRead
+        requires { 0 < length buf.old }
+        ensures bytes { Takes None None buf.new result }
+        ensures later { self.old.faults ≤ self.new.faults }
+        ensures failed { result ≡ SourceRead.Failed → Rose self.old.faults self.new.faults }
+        ensures draws { Draws (R.remaining self.old.reader) (R.remaining self.new.reader)
+            buf.new result }
+    {
+        match self.reader.read(buf) {
+            Ok(0) => SourceRead::End,
+            Ok(count) => SourceRead::Got(count),
+            Err(_) => {
+                self.faults = self.faults.saturating_add(1);
+                SourceRead::Failed
+            }
+        }
+    }
+}

@@ -1,0 +1,15 @@
+//! The outside as it is on the machine: files by path, any reader and any writer, and the words that a program is given.
+//!
+//! What these objects hold is told to no contract, since other programs may change it at any time. Each keeps a count of
+//! its faults, which starts at 0 and stays at its last value once a 64-bit counter is full.
+#![tactic(auto)]
+
+mod files;
+mod input;
+mod output;
+mod words;
+
+pub use files::RealFiles;
+pub use input::Input;
+pub use output::Output;
+pub use words::read_words;

@@ -1,0 +1,186 @@
+//! What a run left against what the session owes.
+
+use crate::calls::Failure;
+use crate::session::Session;
+use crate::stage::Left;
+use crate::trials::{Fault, Object, Trial};
+use pp_base::Text;
+
+/// In what a run differs from what it owes.
+#[derive(Clone, Copy, Debug)]
+pub enum Difference<'a> {
+    Status,
+    Out,
+    Err,
+    /// The file of the path.
+    File(&'a Text),
+    /// A file was written at a path that the transcript does not name.
+    OtherFile,
+    /// How many calls of the object were made.
+    Calls,
+}
+
+/// The first difference of a run without a failure.
+pub fn session_difference<'a>(session: &'a Session, left: &Left) -> Option<Difference<'a>> {
+    let owed = &session.transcript.owed;
+    if left.err.calm.bytes().as_slice() != owed.err.as_slice() {
+        Some(Difference::Err)
+    } else if left.out.calm.bytes().as_slice() != owed.out.as_slice() {
+        Some(Difference::Out)
+    } else if left.status != owed.status {
+        Some(Difference::Status)
+    } else if left.others > 0 {
+        Some(Difference::OtherFile)
+    } else {
+        different_file(session, left)
+    }
+}
+
+fn different_file<'a>(session: &'a Session, left: &Left) -> Option<Difference<'a>> {
+    let path = session.paths.as_slice().iter().find(|path| !is_same(
+        left.files.content(path),
+        session.after.content(path),
+    ))?;
+    Some(Difference::File(path))
+}
+
+fn is_same(one: Option<&Text>, other: Option<&Text>) -> bool {
+    match (one, other) {
+        (Some(one), Some(other)) => one.as_slice() == other.as_slice(),
+        (None, None) => true,
+        _ => false,
+    }
+}
+
+/// The first difference of a run with a failure. Where the call is one more than the session makes, nothing fails.
+pub fn trial_difference<'a>(
+    session: &'a Session,
+    left: &Left,
+    trial: Trial,
+    calls: u64,
+) -> Option<Difference<'a>> {
+    let made = left.calls.of(trial.fault.object);
+    if trial.call == calls {
+        if made.number != calls {
+            return Some(Difference::Calls);
+        }
+        return session_difference(session, left);
+    }
+    if made.faults == 0 {
+        return Some(Difference::Calls);
+    }
+    failure_difference(session, left, trial.fault)
+}
+
+// The first difference of a run in which a call failed.
+fn failure_difference<'a>(
+    session: &'a Session,
+    left: &Left,
+    fault: Fault,
+) -> Option<Difference<'a>> {
+    let is_told = if fault.failure == Failure::Refusal && left.out.calm.bytes().len() > 0 {
+        refusal_in_shell(session, left)
+    } else {
+        stop(session, left, fault)
+    };
+    match is_told {
+        Some(difference) => Some(difference),
+        None if left.others > 0 => Some(Difference::OtherFile),
+        None => unowed_file(session, left),
+    }
+}
+
+// A run that the failure ended: fronts of what the session owes, and the line of the failure.
+fn stop<'a>(session: &'a Session, left: &Left, fault: Fault) -> Option<Difference<'a>> {
+    let owed = &session.transcript.owed;
+    if !is_told_last(owed.err.as_slice(), left.err.calm.bytes().as_slice(), fault) {
+        Some(Difference::Err)
+    } else if !owed
+        .out
+        .as_slice()
+        .starts_with(left.out.calm.bytes().as_slice())
+    {
+        Some(Difference::Out)
+    } else if left.status != fault.status() {
+        Some(Difference::Status)
+    } else {
+        None
+    }
+}
+
+// Whether standard error has a front of what is owed, and then the line of the failure.
+fn is_told_last(owed: &[u8], left: &[u8], fault: Fault) -> bool {
+    if fault.failure == Failure::Refusal {
+        return is_refused_once(owed, left, true);
+    }
+    match left.strip_suffix(fault.line()) {
+        Some(front) => owed.starts_with(front),
+        None => false,
+    }
+}
+
+// A refusal in the shell: a report is left out, its refusal is told, and the session goes on.
+fn refusal_in_shell<'a>(session: &'a Session, left: &Left) -> Option<Difference<'a>> {
+    let owed = &session.transcript.owed;
+    if !is_refused_once(owed.err.as_slice(), left.err.calm.bytes().as_slice(), false) {
+        Some(Difference::Err)
+    } else if !leaves_out(owed.out.as_slice(), left.out.calm.bytes().as_slice()) {
+        Some(Difference::Out)
+    } else if left.status != owed.status {
+        Some(Difference::Status)
+    } else {
+        None
+    }
+}
+
+const REFUSED: &[u8] = b": pattern refused\n";
+
+// Whether a line of what is left tells of a refusal, what stands before it is a front of what is owed, and what stands
+// behind it is an end of that. The last line has nothing behind it.
+fn is_refused_once(owed: &[u8], left: &[u8], is_last: bool) -> bool {
+    let mut front: usize = 0;
+    for line in left.split_inclusive(|byte| *byte == b'\n') {
+        let behind = front.saturating_add(line.len());
+        let before = left.get(..front).unwrap_or(left);
+        let after = left.get(behind..).unwrap_or(left);
+        if line.starts_with(b"pprof: ")
+            && line.ends_with(REFUSED)
+            && owed.starts_with(before)
+            && owed.ends_with(after)
+            && (!is_last || after.is_empty())
+        {
+            return true;
+        }
+        front = behind;
+    }
+    false
+}
+
+// Whether what is left is what is owed but for one stretch.
+fn leaves_out(owed: &[u8], left: &[u8]) -> bool {
+    let front = owed.iter().zip(left.iter()).take_while(|(a, b)| *a == *b);
+    let back = owed
+        .iter()
+        .rev()
+        .zip(left.iter().rev())
+        .take_while(|(a, b)| *a == *b);
+    let alike = front.count();
+    left.len() <= owed.len() && alike.saturating_add(back.count()) >= left.len()
+}
+
+// A file that holds neither what it held before nor a front of what it owes.
+fn unowed_file<'a>(session: &'a Session, left: &Left) -> Option<Difference<'a>> {
+    let path = session.paths.as_slice().iter().find(|path| {
+        let content = left.files.content(path);
+        !is_same(content, session.before.content(path))
+            && !is_front(content, session.after.content(path))
+    })?;
+    Some(Difference::File(path))
+}
+
+fn is_front(left: Option<&Text>, owed: Option<&Text>) -> bool {
+    match (left, owed) {
+        (Some(left), Some(owed)) => owed.as_slice().starts_with(left.as_slice()),
+        _ => false,
+    }
+}

@@ -1,0 +1,237 @@
+//! The lines of a transcript.
+//!
+//!     # TEXT               a comment; the first of a transcript is its title
+//!     files PATH=NAME ..   at the begin PATH holds what the file NAME holds
+//!     put PATH BYTES       adds BYTES at the end of what PATH holds at the begin
+//!     put* N PATH BYTES    the same, N times over
+//!     locked PATH ..       paths that can't be written
+//!     real                 the session runs over the machine's files, which are removed afterwards
+//!     literal PATTERN ..   the matcher finds plain texts, and refuses these patterns
+//!     workers N ..         the session runs once with each number of workers, and owes the same
+//!     faults OBJECT N      the session makes N calls of OBJECT: it runs once with each of them failing, and once more
+//!     $ pprof WORD ..      the command; several commands owe the same
+//!     < TEXT               a line of standard input, `<* N TEXT` N such lines
+//!     > TEXT               a line of standard output, `>* N TEXT` N such lines
+//!     ! TEXT               a line of standard error
+//!     = N                  the status, 0 where there is no such line
+//!     + PATH TEXT          a line of what PATH holds at the end
+//!     += PATH=NAME ..      at the end PATH holds what the file NAME holds
+//!     - PATH ..            at the end there is no such file
+
+use crate::escapes::put_unescaped;
+use crate::problem::Problem;
+use crate::trials::{Fault, fault_named};
+use crate::words::{head_of, words_of};
+use pp_base::{List, Memory, Text};
+use std::alloc::Global;
+
+/// A line, taken apart.
+#[derive(Drop)]
+pub enum Line {
+    Comment(Text),
+    /// Paths, and the names of files.
+    Files(List<(Text, Text)>),
+    /// A path, and bytes.
+    Put(Text, Text),
+    Locked(List<Text>),
+    Real,
+    Literal(List<Text>),
+    Workers(List<Text>),
+    /// A kind of failure, and how many calls the session makes of its object.
+    Faults(Fault, u64),
+    /// The words after the program's name.
+    Command(List<Text>),
+    Input(Text),
+    Out(Text),
+    Err(Text),
+    Status(u8),
+    /// A path, and a line of it.
+    Holds(Text, Text),
+    /// Paths, and the names of files.
+    HoldsFiles(List<(Text, Text)>),
+    Gone(List<Text>),
+}
+
+#[derive(Clone, Copy)]
+enum Tag {
+    Comment,
+    Files,
+    Put,
+    PutOften,
+    Locked,
+    Real,
+    Literal,
+    Workers,
+    Faults,
+    Command,
+    Input,
+    InputOften,
+    Out,
+    OutOften,
+    Err,
+    Status,
+    Holds,
+    HoldsFiles,
+    Gone,
+}
+
+fn tag_of(spelling: &str) -> Option<Tag> {
+    let tags = [
+        (">", Tag::Out),
+        ("put", Tag::Put),
+        ("#", Tag::Comment),
+        ("files", Tag::Files),
+        ("$", Tag::Command),
+        ("<", Tag::Input),
+        ("!", Tag::Err),
+        ("=", Tag::Status),
+        ("+", Tag::Holds),
+        ("+=", Tag::HoldsFiles),
+        ("-", Tag::Gone),
+        ("put*", Tag::PutOften),
+        ("<*", Tag::InputOften),
+        (">*", Tag::OutOften),
+        ("locked", Tag::Locked),
+        ("real", Tag::Real),
+        ("literal", Tag::Literal),
+        ("workers", Tag::Workers),
+        ("faults", Tag::Faults),
+    ];
+    let (_, tag) = tags.iter().copied().find(|(name, _)| *name == spelling)?;
+    Some(tag)
+}
+
+/// Takes a line apart. A tag alone has an empty rest.
+pub fn line_of(alloc: Global, line: &str) -> Result<Line, Problem> {
+    let (spelling, rest) = line.split_once(' ').unwrap_or((line, ""));
+    Ok(match tag_of(spelling).ok_or(Problem::Tag)? {
+        Tag::Comment => Line::Comment(Text::from_slice(alloc, rest.as_bytes())?),
+        Tag::Files => Line::Files(named_files(alloc, rest)?),
+        Tag::Put => put_line(alloc, rest, 1)?,
+        Tag::PutOften => put_often(alloc, rest)?,
+        Tag::Locked => Line::Locked(words_of(alloc, rest)?),
+        Tag::Real => Line::Real,
+        Tag::Literal => Line::Literal(any_words_of(alloc, rest)?),
+        Tag::Workers => Line::Workers(words_of(alloc, rest)?),
+        Tag::Faults => faults_line(rest)?,
+        Tag::Command => Line::Command(command_of(alloc, rest)?),
+        Tag::Input => Line::Input(text_line(alloc, rest)?),
+        Tag::InputOften => Line::Input(text_lines(alloc, rest)?),
+        Tag::Out => Line::Out(text_line(alloc, rest)?),
+        Tag::OutOften => Line::Out(text_lines(alloc, rest)?),
+        Tag::Err => Line::Err(text_line(alloc, rest)?),
+        Tag::Status => Line::Status(rest.parse::<u8>().map_err(|_| Problem::Number)?),
+        Tag::Holds => holds_line(alloc, rest)?,
+        Tag::HoldsFiles => Line::HoldsFiles(named_files(alloc, rest)?),
+        Tag::Gone => Line::Gone(words_of(alloc, rest)?),
+    })
+}
+
+fn any_words_of(alloc: Global, rest: &str) -> Result<List<Text>, Problem> {
+    if rest.is_empty() {
+        return Ok(List::new(alloc));
+    }
+    words_of(alloc, rest)
+}
+
+fn command_of(alloc: Global, rest: &str) -> Result<List<Text>, Problem> {
+    match rest.strip_prefix("pprof") {
+        Some("") => Ok(List::new(alloc)),
+        Some(words) => words_of(alloc, words.strip_prefix(' ').ok_or(Problem::Command)?),
+        None => Err(Problem::Command),
+    }
+}
+
+fn faults_line(rest: &str) -> Result<Line, Problem> {
+    let (name, count) = rest.split_once(' ').ok_or(Problem::Number)?;
+    let fault = fault_named(name).ok_or(Problem::Object)?;
+    Ok(Line::Faults(fault, number_of(count)?))
+}
+
+fn number_of(digits: &str) -> Result<u64, Problem> {
+    digits.parse::<u64>().map_err(|_| Problem::Number)
+}
+
+// A number, and the text behind the space that follows it.
+fn counted(rest: &str) -> Result<(u64, &str), Problem> {
+    let (digits, text) = rest.split_once(' ').unwrap_or((rest, ""));
+    Ok((number_of(digits)?, text))
+}
+
+fn put_often(alloc: Global, rest: &str) -> Result<Line, Problem> {
+    let (count, rest) = counted(rest)?;
+    put_line(alloc, rest, count)
+}
+
+fn put_line(alloc: Global, rest: &str, count: u64) -> Result<Line, Problem> {
+    let (path, spelled) = head_of(alloc, rest)?;
+    let mut bytes = Text::new(alloc);
+    put_unescaped(&mut bytes, spelled)?;
+    Ok(Line::Put(path, repeated(alloc, bytes, count)?))
+}
+
+fn holds_line(alloc: Global, rest: &str) -> Result<Line, Problem> {
+    let (path, text) = head_of(alloc, rest)?;
+    Ok(Line::Holds(path, text_line(alloc, text)?))
+}
+
+fn text_lines(alloc: Global, rest: &str) -> Result<Text, Problem> {
+    let (count, text) = counted(rest)?;
+    let line = text_line(alloc, text)?;
+    Ok(repeated(alloc, line, count)?)
+}
+
+fn repeated(alloc: Global, bytes: Text, count: u64) -> Result<Text, Memory> {
+    if count == 1 {
+        return Ok(bytes);
+    }
+    let mut text = Text::new(alloc);
+    for _ in 0..count {
+        text.extend(bytes.as_slice())?;
+    }
+    Ok(text)
+}
+
+// The bytes of a line with its end. A text that ends in a single `\` is a line without one.
+fn text_line(alloc: Global, text: &str) -> Result<Text, Problem> {
+    let mut line = Text::new(alloc);
+    match before_single_backslash(text) {
+        Some(front) => put_unescaped(&mut line, front)?,
+        None => {
+            put_unescaped(&mut line, text)?;
+            line.extend(b"\n")?;
+        }
+    }
+    Ok(line)
+}
+
+fn before_single_backslash(text: &str) -> Option<&str> {
+    let front = text.trim_end_matches('\\');
+    if text.len().saturating_sub(front.len()) % 2 == 1 {
+        text.strip_suffix('\\')
+    } else {
+        None
+    }
+}
+
+fn named_files(alloc: Global, rest: &str) -> Result<List<(Text, Text)>, Problem> {
+    let mut files = List::new(alloc);
+    for word in words_of(alloc, rest)?.as_slice() {
+        files.push(named_file(alloc, word.as_slice())?)?;
+    }
+    Ok(files)
+}
+
+// The path in front of the first `=`, and the name behind it.
+fn named_file(alloc: Global, word: &[u8]) -> Result<(Text, Text), Problem> {
+    let at = word
+        .iter()
+        .position(|byte| *byte == b'=')
+        .ok_or(Problem::Name)?;
+    let (path, rest) = word.split_at_checked(at).ok_or(Problem::Name)?;
+    let name = rest.get(1..).ok_or(Problem::Name)?;
+    Ok((
+        Text::from_slice(alloc, path)?,
+        Text::from_slice(alloc, name)?,
+    ))
+}

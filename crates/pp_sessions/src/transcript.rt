@@ -1,0 +1,217 @@
+//! Transcripts: what a session is given, and what it owes.
+
+use crate::line::{Line, line_of};
+use crate::problem::Problem;
+use crate::trials::{Fault, Object};
+use pp_base::{List, Memory, Text};
+use std::alloc::Global;
+
+/// A part of a file's content.
+#[derive(Drop)]
+pub enum Part {
+    Bytes(Text),
+    /// What the file of the name holds, in the folder of the transcripts.
+    Copy(Text),
+}
+
+/// The matcher of a session.
+#[derive(Drop)]
+pub enum Patterns {
+    Regular,
+    /// Plain texts, of which these are refused.
+    Literal(List<Text>),
+}
+
+/// What a session is given.
+#[derive(Drop)]
+pub struct Given {
+    /// The parts of each file, each with its path, in order.
+    pub files: List<(Text, Part)>,
+    pub locked: List<Text>,
+    pub input: Text,
+    pub patterns: Patterns,
+    /// Whether the files are the machine's own.
+    pub is_real: bool,
+}
+
+/// What a session owes.
+#[derive(Drop)]
+pub struct Owed {
+    pub out: Text,
+    pub err: Text,
+    pub status: u8,
+    /// The parts of each file that is there at the end, each with its path, in order.
+    pub files: List<(Text, Part)>,
+    /// The paths at which no file is at the end.
+    pub gone: List<Text>,
+}
+
+/// A transcript. Its commands are run one after another, each with the same files and the same input.
+#[derive(Drop)]
+pub struct Transcript {
+    /// The number of its first line, from 1.
+    pub line: u64,
+    pub title: Option<Text>,
+    /// The words of each command, after the program's name.
+    pub commands: List<List<Text>>,
+    /// Numbers of workers.
+    pub workers: List<Text>,
+    /// Kinds of failure, and how many calls a session makes of the object of each.
+    pub faults: List<(Fault, u64)>,
+    pub given: Given,
+    pub owed: Owed,
+}
+
+impl Transcript {
+    fn new(alloc: Global, line: u64) -> Self {
+        Transcript {
+            line,
+            title: None,
+            commands: List::new(alloc),
+            workers: List::new(alloc),
+            faults: List::new(alloc),
+            given: Given {
+                files: List::new(alloc),
+                locked: List::new(alloc),
+                input: Text::new(alloc),
+                patterns: Patterns::Regular,
+                is_real: false,
+            },
+            owed: Owed {
+                out: Text::new(alloc),
+                err: Text::new(alloc),
+                status: 0,
+                files: List::new(alloc),
+                gone: List::new(alloc),
+            },
+        }
+    }
+
+    fn put(&mut self, line: Line) -> Result<(), Memory> {
+        match line {
+            Line::Comment(text) => self.put_comment(text),
+            Line::Files(files) => put_copies(&mut self.given.files, files)?,
+            Line::Put(path, bytes) => self.given.files.push((path, Part::Bytes(bytes)))?,
+            Line::Locked(paths) => put_all(&mut self.given.locked, paths)?,
+            Line::Real => self.given.is_real = true,
+            Line::Literal(refused) => self.given.patterns = Patterns::Literal(refused),
+            Line::Workers(numbers) => put_all(&mut self.workers, numbers)?,
+            Line::Faults(fault, calls) => self.faults.push((fault, calls))?,
+            Line::Command(words) => self.commands.push(words)?,
+            Line::Input(text) => self.given.input.append(text)?,
+            Line::Out(text) => self.owed.out.append(text)?,
+            Line::Err(text) => self.owed.err.append(text)?,
+            Line::Status(status) => self.owed.status = status,
+            Line::Holds(path, text) => self.owed.files.push((path, Part::Bytes(text)))?,
+            Line::HoldsFiles(files) => put_copies(&mut self.owed.files, files)?,
+            Line::Gone(paths) => put_all(&mut self.owed.gone, paths)?,
+        }
+        Ok(())
+    }
+
+    fn put_comment(&mut self, text: Text) {
+        if self.title.is_none() {
+            self.title = Some(text);
+        }
+    }
+
+    // Whether it is a transcript that can be run.
+    fn check(&self) -> Result<(), Problem> {
+        if self.commands.len() == 0 {
+            return Err(Problem::Command);
+        }
+        let is_regular = matches!(&self.given.patterns, Patterns::Regular);
+        let files_fail = self
+            .faults
+            .as_slice()
+            .iter()
+            .any(|(fault, _)| fault.object == Object::Files);
+        if self.given.is_real && (files_fail || !is_regular) {
+            return Err(Problem::Real);
+        }
+        Ok(())
+    }
+}
+
+fn put_all(into: &mut List<Text>, texts: List<Text>) -> Result<(), Memory> {
+    for text in texts.into_vec() {
+        into.push(text)?;
+    }
+    Ok(())
+}
+
+fn put_copies(into: &mut List<(Text, Part)>, files: List<(Text, Text)>) -> Result<(), Memory> {
+    for (path, name) in files.into_vec() {
+        into.push((path, Part::Copy(name)))?;
+    }
+    Ok(())
+}
+
+/// What is wrong, and the number of the line, from 1.
+#[derive(Clone, Copy, Debug)]
+pub struct ParseFault {
+    pub line: u64,
+    pub problem: Problem,
+}
+
+/// The transcripts of a file. Empty lines set them apart, and comments alone are no transcript.
+pub fn transcripts_of(alloc: Global, text: &str) -> Result<List<Transcript>, ParseFault> {
+    let mut reader = TranscriptReader {
+        alloc,
+        transcripts: List::new(alloc),
+        transcript: None,
+        is_comment: true,
+    };
+    let mut number: u64 = 0;
+    for line in text.split('\n') {
+        number = number.saturating_add(1);
+        located(number, reader.put(number, line))?;
+    }
+    located(number, reader.close())?;
+    Ok(reader.transcripts)
+}
+
+fn located(line: u64, outcome: Result<(), Problem>) -> Result<(), ParseFault> {
+    match outcome {
+        Ok(()) => Ok(()),
+        Err(problem) => Err(ParseFault { line, problem }),
+    }
+}
+
+// The transcripts that are whole, and the one that has begun.
+#[derive(Drop)]
+struct TranscriptReader {
+    alloc: Global,
+    transcripts: List<Transcript>,
+    transcript: Option<Transcript>,
+    // Whether the one that has begun has comments alone.
+    is_comment: bool,
+}
+
+impl TranscriptReader {
+    fn put(&mut self, number: u64, line: &str) -> Result<(), Problem> {
+        if line.is_empty() {
+            return self.close();
+        }
+        let line = line_of(self.alloc, line)?;
+        self.is_comment = self.is_comment && matches!(&line, Line::Comment(_));
+        let begun = self.transcript.take();
+        let mut transcript = begun.unwrap_or(Transcript::new(self.alloc, number));
+        transcript.put(line)?;
+        self.transcript = Some(transcript);
+        Ok(())
+    }
+
+    fn close(&mut self) -> Result<(), Problem> {
+        let is_comment = self.is_comment;
+        self.is_comment = true;
+        match self.transcript.take() {
+            Some(transcript) if !is_comment => {
+                transcript.check()?;
+                self.transcripts.push(transcript)?;
+                Ok(())
+            }
+            _ => Ok(()),
+        }
+    }
+}
