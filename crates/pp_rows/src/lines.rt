@@ -40,7 +40,7 @@ fn inputs_are_cut_anywhere(rt: HostRuntime) -> Result<(), Fail> {
 fn input_of(alloc: Global, length: usize, rest: &[u8], most: u32) -> Result<CalmSource, Memory> {
     let mut bytes = Text::from_vec(vec![in alloc; b'a'; length]?);
     bytes.extend(rest)?;
-    Ok(CalmSource::new(bytes, most))
+    Ok(CalmSource::new(bytes, most.max(1)))
 }
 
 fn are_lines<I: Source + Drop>(
