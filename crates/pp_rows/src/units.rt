@@ -10,11 +10,9 @@ const PICKED: &str = "1536 bytes 1536 1.50kB
 999 nanoseconds 999 999ns
 1000 Nanosecond 1000 1us
 999999 ns 999999 1000us
-60 second 3600 0.02hrs
 1125899906842624 b 1125899906842624 1PB
 1024 kb 1024 1MB
 -9223372036854775808 byte 9223372036854775808 -8192PB
-7 samples 7 7
 5 Widgets 5 5Widgets
 1 gb 0 1073741824B";
 
@@ -55,7 +53,6 @@ const FORCED: &str = "1499999 nanoseconds ms 1.50ms
 -4999 nanoseconds ms 0
 -5000 nanoseconds ms -0.01ms
 5000 nanoseconds ms 0.01ms
-25000 ns ms 0.03ms
 -9223372036854775808 hrs ns -33204139332677192908800000000000ns
 3 count Samples 3
 3 widgets WIDGETS 3WIDGETS
@@ -82,9 +79,7 @@ fn is_forced(alloc: Global, row: &str) -> Result<bool, Memory> {
 const FRACTIONS: &str = "0.005 5000000
 1 1000000000
 .25 250000000
-000000000.000000001 1
 1.5 -1
-1.000000001 -1
 . -1
 1. -1
 0.0000000001 -1

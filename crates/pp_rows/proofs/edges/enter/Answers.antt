@@ -1,4 +1,4 @@
-use Rattle.std.proofs.Common.{◌≡◌, ◌∙◌, sym, arith}
+use Rattle.std.proofs.Common.{◌∙◌, sym, arith}
 use Rattle.pp_graph.specs.Links.{in_at}
 use Rattle.pp_rows.proofs.Walked.{live}
 use Rattle.pp_rows.proofs.edges.enter.Goals as goal
