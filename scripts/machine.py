@@ -15,13 +15,6 @@ Showing nodes accounting for 60ms, 100.00% of 60ms total
       20ms   33.33%  100.00%       50ms   83.33%  work
          0    0.00%  100.00%       60ms  100.00%  main
 """
-TOP_OF_LEAF = b"""Type: cpu
-Showing nodes accounting for 40ms, 100.00% of 40ms total
-      flat    flat%     sum%        cum     cum%
-      40ms  100.00%  100.00%       40ms  100.00%  leaf
-         0    0.00%  100.00%       40ms  100.00%  main
-         0    0.00%  100.00%       30ms   75.00%  work
-"""
 LIST_OF_WORK = b"""Total: 60ms
 ROUTINE ======================== work in work.c
       20ms       50ms (flat, cum) 83.33% of Total
@@ -78,11 +71,10 @@ class Machine:
 
 def long_words(machine):
     for length in LENGTHS:
-        # Only the whole word finds a function.
-        word = b"-focus=" + b"x" * (length - 12) + b"|leaf"
-        yield f"a word of {len(word)} bytes", machine.run(
-            b"-top", b"-relative_percentages", word, b"P1"
-        ), (TOP_OF_LEAF, b"", 0)
+        value = b"x" * (length - 14) + b"y"
+        out, err, status = machine.run(b"-source_path=" + value, b"P1", given=b"o\nq\n")
+        is_kept = b"\nsource_path=" + value + b"\n" in out
+        yield f"a word of {length} bytes", (is_kept, err, status), (True, b"", 0)
 
 
 def long_paths(machine):

@@ -6,7 +6,7 @@ import subprocess
 ROOT = pathlib.Path(__file__).resolve().parent.parent
 DATA = ROOT / "crates" / "pp_sessions" / "data"
 # A run that takes longer has not ended.
-SECONDS = 60
+SECONDS = 120
 # The most that is shown of a text that differs.
 SHOWN = 2000
 
