@@ -248,42 +248,65 @@ fn pipe_of(alloc: Global, calls: Calls) -> TrialSink {
     }
 }
 
+// Standard input and both outputs below the adapters over a reader and a writer.
+#[derive(Drop)]
+struct Pipes {
+    input: TrialSource,
+    out: TrialSink,
+    err: TrialSink,
+}
+
 fn left_over_pipes<R: Threads + Sync>(
     machine: &Machine<R>,
     session: &Session,
     words: &[Text],
     calls: AllCalls,
 ) -> Result<Left, Memory> {
-    let alloc = machine.alloc;
-    let mut source = source_of(alloc, session, calls)?;
-    let mut out = pipe_of(alloc, calls.out);
-    let mut err = pipe_of(alloc, calls.err);
-    let mut stage = Stage {
-        files: RealFiles::new(machine.host),
-        input: Input::new(PipeReader {
-            source: &mut source,
-        }),
-        out: Output::new(PipeWriter { sink: &mut out }),
-        err: Output::new(PipeWriter { sink: &mut err }),
-        matcher: TrialMatcher {
-            calm: RegexMatcher::new(alloc),
-            calls: calls.matcher,
-        },
+    let mut pipes = Pipes {
+        input: source_of(machine.alloc, session, calls)?,
+        out: pipe_of(machine.alloc, calls.out),
+        err: pipe_of(machine.alloc, calls.err),
     };
-    let status = status_of(machine, words, &mut stage);
-    let matcher = stage.matcher.calls;
+    let (status, matcher) = run_over_pipes(machine, words, &mut pipes, calls.matcher);
     Ok(Left {
         status,
-        files: Contents::new(alloc),
+        files: Contents::new(machine.alloc),
         others: 0,
         calls: AllCalls {
             files: calls.files,
-            input: source.calls,
-            out: out.calls,
-            err: err.calls,
+            input: pipes.input.calls,
+            out: pipes.out.calls,
+            err: pipes.err.calls,
             matcher,
         },
-        out,
-        err,
+        out: pipes.out,
+        err: pipes.err,
     })
+}
+
+// The status, and the calls of the matcher.
+fn run_over_pipes<R: Threads + Sync>(
+    machine: &Machine<R>,
+    words: &[Text],
+    pipes: &mut Pipes,
+    calls: Calls,
+) -> (u8, Calls) {
+    let mut stage = Stage {
+        files: RealFiles::new(machine.host),
+        input: Input::new(PipeReader {
+            source: &mut pipes.input,
+        }),
+        out: Output::new(PipeWriter {
+            sink: &mut pipes.out,
+        }),
+        err: Output::new(PipeWriter {
+            sink: &mut pipes.err,
+        }),
+        matcher: TrialMatcher {
+            calm: RegexMatcher::new(machine.alloc),
+            calls,
+        },
+    };
+    let status = status_of(machine, words, &mut stage);
+    (status, stage.matcher.calls)
 }
