@@ -68,12 +68,17 @@ impl WordReader {
 /// The first word, which is quoted whole or not at all, and the text behind the space that follows it.
 pub fn head_of(alloc: Global, text: &str) -> Result<(Text, &str), Problem> {
     let (spelled, rest) = match text.strip_prefix('\'') {
-        Some(quoted) => quoted.split_once('\'').ok_or(Problem::Quote)?,
+        Some(quoted) => quoted_head(quoted)?,
         None => text.split_once(' ').unwrap_or((text, "")),
     };
     let mut word = Text::new(alloc);
     put_unescaped(&mut word, spelled)?;
-    Ok((word, rest.strip_prefix(' ').unwrap_or(rest)))
+    Ok((word, rest))
+}
+
+fn quoted_head(quoted: &str) -> Result<(&str, &str), Problem> {
+    let (spelled, rest) = quoted.split_once('\'').ok_or(Problem::Quote)?;
+    Ok((spelled, rest.strip_prefix(' ').unwrap_or(rest)))
 }
 
 /// Adds a spelling of the words.
