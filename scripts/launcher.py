@@ -12,12 +12,14 @@ from running import ROOT, run
 # How long another call is held up.
 HELD = 1.0
 
+# It runs in the copy that the launcher makes, and says what rt says of a proved crate.
 BUILDER = """#!/bin/sh
 echo build >>"$TREE/builds"
 [ ! -e "$TREE/broken" ] || exit 1
-out=$TREE/crates/pprof/out
-mkdir -p "$out"
-cp "$TREE/program" "$out/pprof"
+mkdir -p crates/pprof/out
+cp "$TREE/program" crates/pprof/out/pprof
+echo "logic=proved functions=7 sum=0"
+echo "rt: pprof proved"
 """
 
 PROGRAM = """#!/bin/sh
@@ -34,8 +36,10 @@ class Tree:
         self.source = self.root / "crates" / "pprof" / "src" / "main.rt"
         self.source.parent.mkdir(parents=True)
         self.source.write_text("fn main() {}\n")
-        shutil.copy(ROOT / "pprof", self.root / "pprof")
-        shutil.copy(ROOT / "crates.txt", self.root / "crates.txt")
+        for file in ("pprof", "HANDLES", "scripts/proof_seconds.txt", "crates/pp_options/src/help.rt"):
+            (self.root / file).parent.mkdir(parents=True, exist_ok=True)
+            shutil.copy(ROOT / file, self.root / file)
+        (self.root / "crates.txt").write_text("pprof:\n")
         self.write_program(self.root / "bin" / "rt", BUILDER)
         self.write_program(self.root / "program", PROGRAM)
         self.program = self.root / "crates" / "pprof" / "out" / "pprof"
@@ -45,10 +49,10 @@ class Tree:
         path.write_text(text)
         path.chmod(0o755)
 
-    def call(self, *words, launcher=None):
+    def call(self, *words, launcher=None, path=None):
         """Standard output, the last line of standard error, and the status."""
         environment = {**os.environ, "TREE": str(self.root), "HOME": str(self.root)}
-        environment["PATH"] = f"{self.root / 'bin'}:{os.environ['PATH']}"
+        environment["PATH"] = path or f"{self.root / 'bin'}:{os.environ['PATH']}"
         command = [str(launcher or self.root / "pprof")]
         out, err, status = run(command, list(words), self.root.parent, env=environment)
         lines = err.decode().splitlines()
@@ -63,8 +67,9 @@ class Tree:
 
 
 def building(tree):
-    out, _, status = tree.call("-top", "p")
+    out, err, status = tree.call("-top", "p")
     yield "the first call", (out, status, tree.builds()), (tree.printed("-top p"), 0, 1)
+    yield "what was proved", err, "pprof: built; proved now: 7 functions in 1 crates"
     out, err, status = tree.call("-frob")
     yield "the second call", (out, err, status, tree.builds()), (tree.printed("-frob"), "", 2, 1)
     os.utime(tree.program, (0, 0))
@@ -75,6 +80,23 @@ def building(tree):
 def broken(tree):
     (tree.root / "broken").touch()
     yield "a build that fails", tree.call("-top", "p"), (
+        "",
+        "pprof: the program could not be built",
+        70,
+    )
+
+
+def without_a_build(tree):
+    yield "--version", tree.call("--version"), ("pprof 0.1.0\n", "", 0)
+    for word in ("--help", "-help", "-h"):
+        out, err, status = tree.call(word)
+        ends = (out.startswith("Usage: pprof [options] SOURCE ...\n"), out.endswith(">top.txt\n"))
+        yield word, (ends, err, status), ((True, True), "", 0)
+    yield "builds for help", tree.builds(), 0
+
+
+def without_a_builder(tree):
+    yield "no rt", tree.call("-top", "p", path="/usr/bin:/bin"), (
         "",
         "pprof: the program could not be built",
         70,
@@ -112,4 +134,4 @@ def locked(tree):
     yield "another call that builds", (out, status, waited), (tree.printed("-top p"), 0, True)
 
 
-CHECKS = (building, broken, elsewhere, locked)
+CHECKS = (building, broken, without_a_build, without_a_builder, elsewhere, locked)

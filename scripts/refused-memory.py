@@ -95,6 +95,8 @@ def try_words(runner, session, words, pool, every):
     left, count = runner.run(session, words, 0)
     if left != session.owed():
         return [f"{session.title}: with ample memory:"] + differences(left, session.owed())
+    if count == 0:
+        return [f"{session.title}: no allocation was seen: the program has an allocator of its own"]
     numbers = range(1, count + SLACK, every)
     runs = pool.map(lambda number: runner.run(session, words, number), numbers)
     endings = collections.Counter()

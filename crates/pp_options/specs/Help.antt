@@ -1,6 +1,6 @@
 -- What the program tells of itself.
 use Rattle.std.specs.Prelude.{ℕ, List, [], ◌∷◌, ◌++◌, Option, None, codes}
-use Rattle.pp_options.specs.declared.help.TheConstants.{VERSION, OPTIONS_HELP, SHELL_HELP, EXAMPLES}
+use Rattle.pp_options.specs.declared.help.TheConstants.{VERSION, OPTIONS_HELP, SHELL_HELP, SHELL_EXAMPLE}
 use Rattle.pp_options.specs.declared.help.Topic.{Topic}
 use Rattle.pp_options.specs.declared.help.Topic.TheVariants.{Help, Version}
 use Rattle.pp_options.specs.Tables.{Row, row, value_named}
@@ -10,6 +10,7 @@ abbrev pub topics : List (Row Topic)
 topics =
     row (codes "--help") Help
     ∷ row (codes "-help") Help
+    ∷ row (codes "-h") Help
     ∷ row (codes "--version") Version
     ∷ row (codes "-version") Version
     ∷ []
@@ -22,5 +23,5 @@ topic_asked (word ∷ next ∷ words) = None
 
 -- what is told of a topic
 unfoldable pub topic_text : Topic → List ℕ
-topic_text Help = OPTIONS_HELP.now ++ SHELL_HELP.now ++ EXAMPLES.now
+topic_text Help = OPTIONS_HELP.now ++ SHELL_HELP.now ++ SHELL_EXAMPLE.now
 topic_text Version = VERSION.now

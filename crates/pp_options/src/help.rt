@@ -15,13 +15,17 @@ pub enum Topic {
 }
 
 /// The words that ask for a topic.
-pub static TOPICS: [Named<Topic>; 4] = [
+pub static TOPICS: [Named<Topic>; 5] = [
     Named {
         name: b"--help",
         value: Topic::Help,
     },
     Named {
         name: b"-help",
+        value: Topic::Help,
+    },
+    Named {
+        name: b"-h",
         value: Topic::Help,
     },
     Named {
@@ -37,79 +41,105 @@ pub static TOPICS: [Named<Topic>; 4] = [
 /// The line that tells the version.
 pub const VERSION: &[u8] = b"pprof 0.1.0\n";
 
+/// How words are written, then the options by subject. Each subject ends with an example.
+pub const OPTIONS_HELP: &[u8] = b"Usage: pprof [options] SOURCE ...
+       pprof --help | -h | --version
+
+A SOURCE is the path of a profile. Options may stand anywhere, with one or two
+dashes. A value follows =, or is the next word. A flag alone is true; after = it
+takes true, t, yes, y, 1, false, f, no, n or 0. After -- all words are sources.
+The last of a repeated option counts.
+
+Formats, one at most; without one the shell starts:
+  -top, -text                  the functions with the largest own values
+  -tree                        each function between its callers and callees
+  -peek=PATTERN                the same for the functions that the pattern finds
+  -list=PATTERN                values by source line, for the functions that the
+                               pattern finds
+  -traces                      each sample with its stack
+  -tags                        values by label
+  -raw                         the profile as text
+  -comments                    the comments of the profile
+  -proto                       the profile as it was filtered, as protobuf
+Example: pprof -top cpu.pb
+
+Sources and bases, 256 at most; each may be repeated:
+  -gen=N                       a source that is made, of 1 to 1000000 samples
+  -base=PATH                   a profile that is subtracted
+  -diff_base=PATH              the same, and percentages are of the base
+  -normalize                   scale the sources to the sums of the bases first
+Example: pprof -top -diff_base=before.pb after.pb
+
+The variables follow with their defaults. Where a word in capitals stands for
+the value, the default is empty.
+
+Rows:
+  -sort=flat                   the order: flat or cum; also -flat and -cum
+  -granularity=functions       what a row stands for: functions, filefunctions,
+                               files, lines or addresses; also -functions and
+                               so on
+  -noinlines=false             count inlined functions to their callers
+  -showcolumns=false           tell columns of a line apart, with lines and
+                               addresses
+  -path_tree=false             show the tree by paths from the root
+  -nodecount=-1                the most rows, 0 for all; -1 is all for top, and
+                               80 for tree
+  -nodefraction=0.005          leave out rows with less than this part of the
+                               total
+  -edgefraction=0.001          leave out edges with less than this part of the
+                               total
+Example: pprof -top -cum -lines -nodecount=20 cpu.pb
+
+Stacks; a PATTERN is a regular expression that may match anywhere:
+  -focus=PATTERN               keep samples with a frame that is found
+  -ignore=PATTERN              drop samples with a frame that is found
+  -show=PATTERN                keep the frames that are found
+  -hide=PATTERN                drop the frames that are found
+  -show_from=PATTERN           drop the frames above the first that is found,
+                               from the root
+  -prune_from=PATTERN          drop the frames below the first that is found,
+                               from the leaf
+Example: pprof -tree -focus=Handler -hide=^runtime cpu.pb
+
+Labels; a FILTER is a pattern, NAME=PATTERN, or a range like 4kb:1mb or
+size=4kb:, and KEYS are joined by commas:
+  -tagfocus=FILTER             keep samples with labels that the filter selects
+  -tagignore=FILTER            drop samples with labels that the filter selects
+  -tagshow=PATTERN             keep the labels whose key is found
+  -taghide=PATTERN             drop the labels whose key is found
+  -tagroot=KEYS                add frames at the root from these labels
+  -tagleaf=KEYS                add frames at the leaf from these labels
+Example: pprof -top -tagfocus=bytes=4kb: -tagleaf=bytes heap.pb
+
+Values:
+  -sample_index=NAME           the sample type, by its name or its number from 0
+  -unit=UNIT                   the unit of all values; without one it is picked
+                               from the total
+  -relative_percentages=false  percentages of the samples that are kept
+  -divide_by=1                 divide all values, by 1 to 9223372036854775807
+Example: pprof -top -sample_index=alloc_space -unit=mb heap.pb
+
+Source files; PATHS are joined by colons:
+  -source_path=PATHS           where list looks for source files
+  -trim_path=PATHS             what list takes off the front of their names
+Example: pprof -list=ServeHTTP -trim_path=/build -source_path=src cpu.pb
+
+Threads:
+  -workers=4                   the number of threads, 1 to 64
+Example: pprof -top -workers=16 cpu.pb
+
+The shell; its commands and variables have no dash:
+";
+
 /// The two lines that tell what the shell takes.
 pub const SHELL_HELP: &[u8] =
     b"Commands: top text tree peek traces list tags raw comments proto options help quit\n\
 Set a variable by name=value; add a number, patterns, -patterns or >file to a command.\n";
 
-/// How words are written, the formats, the sources and the variables.
-pub const OPTIONS_HELP: &[u8] = b"Usage: pprof [options] SOURCE ...
+/// A command of the shell.
+pub const SHELL_EXAMPLE: &[u8] = b"Example: top 20 Handler -runtime >top.txt\n";
 
-A SOURCE is the path of a profile. Options may stand anywhere, with one or two dashes. A value
-follows =, or is the next word. A flag alone is true; after = it takes true, t, yes, y, 1, false,
-f, no, n or 0. After -- all words are sources. The last of a repeated option counts.
-
-Formats, one at most; without one the shell starts:
-  -top, -text                    the functions with the largest own values
-  -tree                          each function between its callers and its callees
-  -peek=PATTERN                  the same for the functions that the pattern finds
-  -list=PATTERN                  values by source line for the functions that the pattern finds
-  -traces                        each sample with its stack
-  -tags                          values by label
-  -raw                           the profile as text
-  -comments                      the comments of the profile
-  -proto                         the profile in the protobuf format, as it was filtered
-
-Sources and bases, 256 at most; each may be repeated:
-  -gen=N                         a source that is made, of 1 to 1000000 samples
-  -base=PATH                     a profile that is subtracted
-  -diff_base=PATH                the same, and percentages are of the base
-  -normalize                     scale the sources to the sums of the bases first
-
-Variables with their defaults:
-  -sort=flat                     the order: flat or cum; also -flat and -cum
-  -granularity=functions         what a row stands for: functions, filefunctions, files, lines or
-                                 addresses; also -functions and so on
-  -noinlines=false               count inlined functions to their callers
-  -showcolumns=false             tell columns of a line apart, with lines and addresses
-  -path_tree=false               show the tree by paths from the root
-  -nodecount=-1                  the most rows, 0 for all; -1 is all for top and 80 for tree
-  -nodefraction=0.005            leave out rows with less than this part of the total
-  -edgefraction=0.001            leave out edges with less than this part of the total
-  -focus=PATTERN                 keep samples with a frame that is found
-  -ignore=PATTERN                drop samples with a frame that is found
-  -show=PATTERN                  keep the frames that are found
-  -hide=PATTERN                  drop the frames that are found
-  -show_from=PATTERN             drop the frames above the first that is found, from the root
-  -prune_from=PATTERN            drop the frames below the first that is found, from the leaf
-  -tagfocus=FILTER               keep samples with labels that the filter selects
-  -tagignore=FILTER              drop samples with labels that the filter selects
-  -tagshow=PATTERN               keep the labels whose key is found
-  -taghide=PATTERN               drop the labels whose key is found
-  -tagroot=KEYS                  add frames at the root from these labels, joined by commas
-  -tagleaf=KEYS                  add frames at the leaf from these labels, joined by commas
-  -sample_index=NAME             the sample type, by its name or its number from 0
-  -unit=UNIT                     the unit of all values; without one it is picked from the total
-  -relative_percentages=false    percentages of the samples that are kept
-  -divide_by=1                   divide all values, by 1 to 9223372036854775807
-  -source_path=PATHS             where list looks for source files, joined by colons
-  -trim_path=PATHS               what list takes off the front of their names, joined by colons
-  -workers=4                     the number of threads, 1 to 64
-Where no value stands, the default is empty. A FILTER is a pattern, NAME=PATTERN, or a range like
-4kb:1mb or size=4kb:.
-
-The shell:
-";
-
-/// Some commands to begin with.
-pub const EXAMPLES: &[u8] = b"
-Examples:
-  pprof -top -nodecount=10 cpu.pb
-  pprof -tree -cum -focus=Handler cpu.pb
-  pprof -list=ServeHTTP -source_path=/home/me/src cpu.pb
-";
-
-/// The topic that the words ask for: one word alone, with one or two dashes.
+/// The topic that one word alone asks for.
 #[tactic(auto, unfolding(crate::specs::Help::topic_asked))]
 pub fn topic_asked(words: &[Text]) -> Option<Topic>
     ensures { result ≡ topic_asked words.now }
@@ -149,5 +179,5 @@ fn put_help(out: &mut Text) -> Result<(), Memory>
 {
     out.extend(OPTIONS_HELP)?;
     out.extend(SHELL_HELP)?;
-    out.extend(EXAMPLES)
+    out.extend(SHELL_EXAMPLE)
 }

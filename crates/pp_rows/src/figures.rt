@@ -1,38 +1,43 @@
-// The figures of a tree report, read from its text: flat and cum of each node, and the edges between nodes.
+// The figures of a tree report in nanoseconds or counts, read from its text.
 
-use pp_base::{List, Memory, Text};
+use crate::fixtures::fixture_files;
+use crate::running::{report_of, shown};
+use pp_base::{List, Memory, OpenGate, Text};
 use std::alloc::Global;
 use std::test::Fail;
+use std::thread::Threads;
 
-// Values are in hundredths of the report's unit.
+// A node, without a caller, or an edge. An edge has no cum.
 #[derive(Drop)]
-pub(crate) struct Node {
-    pub(crate) name: Text,
-    pub(crate) flat: i64,
-    pub(crate) cum: i64,
-}
-
-#[derive(Drop)]
-pub(crate) struct Edge {
+pub(crate) struct Entry {
     pub(crate) caller: Text,
-    pub(crate) callee: Text,
-    pub(crate) value: i64,
+    pub(crate) name: Text,
+    flat: i64,
+    cum: i64,
 }
 
-// Nodes in the order of the report. Each edge stands twice, as it is printed.
+// Each edge stands twice, as it is printed.
 #[derive(Drop)]
 pub(crate) struct Figures {
     pub(crate) total: i64,
-    pub(crate) nodes: List<Node>,
-    pub(crate) edges: List<Edge>,
+    pub(crate) entries: List<Entry>,
+}
+
+// The figures of the tree report that these words ask for.
+pub(crate) fn figures_of<R: Threads + Sync>(
+    rt: &R,
+    alloc: Global,
+    words: &str,
+) -> Result<Figures, Fail> {
+    let report = report_of(rt, alloc, words, fixture_files(alloc)?, &OpenGate)?;
+    Figures::read(alloc, shown(&report))
 }
 
 impl Figures {
     pub(crate) fn none(alloc: Global) -> Figures {
         Figures {
             total: 0,
-            nodes: List::new(alloc),
-            edges: List::new(alloc),
+            entries: List::new(alloc),
         }
     }
 
@@ -42,7 +47,7 @@ impl Figures {
         let (total, after) = after.split_once(" total\n").ok_or("no total")?;
         let (_, blocks) = after.split_once("| context\n").ok_or("no heading")?;
         let mut figures = Figures::none(alloc);
-        figures.total = hundredths(total);
+        figures.total = number(total);
         for block in blocks.split("-\n") {
             figures.put_block(alloc, block)?;
         }
@@ -54,76 +59,46 @@ impl Figures {
         let node = node_of(block);
         let mut is_below = false;
         for line in block.split('\n') {
-            let Some((figures, name)) = line.split_once(" | ") else {
+            let Some((numbers, name)) = line.split_once(" | ") else {
                 continue;
             };
             match name.strip_prefix("  ") {
                 None => {
-                    self.put_node(alloc, name, figures)?;
+                    self.put(alloc, "", name, numbers)?;
                     is_below = true;
                 }
-                Some(other) if is_below => self.put_edge(alloc, node, other, figures)?,
-                Some(other) => self.put_edge(alloc, other, node, figures)?,
+                Some(callee) if is_below => self.put(alloc, node, callee, numbers)?,
+                Some(caller) => self.put(alloc, caller, node, numbers)?,
             }
         }
         Ok(())
     }
 
-    fn put_node(&mut self, alloc: Global, name: &str, figures: &str) -> Result<(), Memory> {
-        self.nodes.push(Node {
-            name: Text::from_slice(alloc, name.as_bytes())?,
-            flat: hundredths(word(figures, 0)),
-            cum: hundredths(word(figures, 3)),
-        })
-    }
-
-    fn put_edge(
+    fn put(
         &mut self,
         alloc: Global,
         caller: &str,
-        callee: &str,
-        figures: &str,
+        name: &str,
+        numbers: &str,
     ) -> Result<(), Memory> {
-        self.edges.push(Edge {
-            caller: Text::from_slice(alloc, caller.as_bytes())?,
-            callee: Text::from_slice(alloc, callee.as_bytes())?,
-            value: hundredths(word(figures, 0)),
+        let caller = Text::from_slice(alloc, caller.as_bytes())?;
+        let name = Text::from_slice(alloc, name.as_bytes())?;
+        self.entries.push(Entry {
+            caller,
+            name,
+            flat: number(word(numbers, 0)),
+            cum: number(word(numbers, 3)),
         })
     }
 
-    // The node of the name, where there is one.
-    fn node(&self, name: &[u8]) -> Option<&Node> {
-        for node in self.nodes.as_slice() {
-            if node.name.as_slice() == name {
-                return Some(node);
+    // Flat and cum of the entry, 0 where there is none.
+    pub(crate) fn at(&self, caller: &[u8], name: &[u8]) -> (i64, i64) {
+        for entry in self.entries.as_slice() {
+            if entry.caller.as_slice() == caller && entry.name.as_slice() == name {
+                return (entry.flat, entry.cum);
             }
         }
-        None
-    }
-
-    // The flat of the name, 0 where it has no node.
-    pub(crate) fn flat(&self, name: &[u8]) -> i64 {
-        match self.node(name) {
-            Some(node) => node.flat,
-            None => 0,
-        }
-    }
-
-    pub(crate) fn cum(&self, name: &[u8]) -> i64 {
-        match self.node(name) {
-            Some(node) => node.cum,
-            None => 0,
-        }
-    }
-
-    // The value of the edge, 0 where there is none.
-    pub(crate) fn edge(&self, caller: &[u8], callee: &[u8]) -> i64 {
-        for edge in self.edges.as_slice() {
-            if edge.caller.as_slice() == caller && edge.callee.as_slice() == callee {
-                return edge.value;
-            }
-        }
-        0
+        (0, 0)
     }
 }
 
@@ -153,16 +128,8 @@ fn word(line: &str, number: u32) -> &str {
     ""
 }
 
-// A printed value in hundredths of its unit: it has two decimals or none.
-fn hundredths(value: &str) -> i64 {
-    let mut digits: i64 = 0;
-    for byte in value.as_bytes() {
-        if byte.is_ascii_digit() {
-            let digit = i64::from(byte.wrapping_sub(b'0'));
-            digits = digits.wrapping_mul(10).wrapping_add(digit);
-        }
-    }
-    let scale = if value.contains('.') { 1 } else { 100 };
-    let sign = if value.starts_with('-') { -1 } else { 1 };
-    digits.wrapping_mul(scale).wrapping_mul(sign)
+// A value that is printed in nanoseconds or without a unit.
+fn number(value: &str) -> i64 {
+    let digits = value.strip_suffix("ns").unwrap_or(value);
+    digits.parse::<i64>().unwrap_or(0)
 }

@@ -1,55 +1,33 @@
-//! Tests that need several crates: which profiles are refused and why, reports byte by byte, whole sessions, faults of
-//! the outside in their turn, profiles that are read and written again, words and lines, and what threads may share.
-//! What they expect comes from profile.proto and from the rules of the reports.
+//! Tests that are no session: calls of single functions, threads that are held, and figures that several reports owe one
+//! another. Whole sessions are data, which `pp_sessions` runs. What the tests expect comes from profile.proto and from
+//! the rules of the reports.
 #![tactic(auto)]
 
 #[cfg(test)]
-mod dumps;
+mod counting;
 #[cfg(test)]
-mod faults;
+mod edges;
 #[cfg(test)]
 mod figures;
 #[cfg(test)]
-mod filters;
-#[cfg(test)]
 mod fixtures;
 #[cfg(test)]
-mod hostile;
+mod lanes;
 #[cfg(test)]
 mod laws;
 #[cfg(test)]
-mod legacy;
-#[cfg(test)]
-mod limits;
-#[cfg(test)]
 mod lines;
 #[cfg(test)]
-mod lists;
-#[cfg(test)]
-mod merging;
-#[cfg(test)]
-mod messages;
-#[cfg(test)]
-mod options;
+mod matching;
 #[cfg(test)]
 mod parts;
 #[cfg(test)]
-mod paths;
-#[cfg(test)]
 mod pool;
 #[cfg(test)]
-mod rules;
+mod reading;
 #[cfg(test)]
 mod running;
 #[cfg(test)]
 mod saved;
 #[cfg(test)]
-mod shared;
-#[cfg(test)]
-mod shell;
-#[cfg(test)]
-mod stacks;
-#[cfg(test)]
-mod tops;
-#[cfg(test)]
-mod transcripts;
+mod units;

@@ -1,12 +1,13 @@
 // Parts of pieces, counted one by one and joined, beside samples that are added up one by one.
 ghost use Rattle.std.specs.Prelude.{◌<◌, length};
+ghost use Rattle.pp_model.specs.declared.profile.Profile.{Profile};
+ghost use Rattle.pp_model.specs.Conditions.{HasVerdicts};
 ghost use Rattle.pp_model.specs.Sizes.{IsCountable};
 ghost use Rattle.pp_count.specs.Counted.{CanCount};
 ghost use Rattle.pp_count.specs.Table.{IsKeyTable};
 
-use crate::pool::Sums;
+use crate::counting::Sums;
 use crate::running::words_of;
-use crate::shared::no_verdicts;
 use pp_base::{CalmFiles, CalmSink, CalmSource, List, Memory, Text};
 use pp_count::{KeyTable, Part, column_of, count_piece, join_parts, key_table};
 use pp_desk::Objects;
@@ -15,16 +16,16 @@ use pp_model::{Config, Loaded, Verdicts};
 use pp_options::read_words;
 use pp_regex::RegexMatcher;
 use std::alloc::Global;
-use std::process::Abort;
 use std::test::Fail;
 
 #[test]
 fn parts_join_to_the_whole(rt: HostRuntime) -> Result<(), Fail> {
-    is_joined(&rt, rt.alloc(), "-top -gen=1500", &Sums::of(1500))
+    assert!(rt; are_joined(rt.alloc(), "-top -gen=1500", &Sums::of(1500))?);
+    Ok(())
 }
 
-// Two pieces of the profile that these words make come to these sums, once they are joined.
-fn is_joined<R: Abort>(rt: &R, alloc: Global, words: &str, sums: &Sums) -> Result<(), Fail> {
+// Whether two pieces of the profile that these words make come to these sums, once they are joined.
+fn are_joined(alloc: Global, words: &str, sums: &Sums) -> Result<bool, Fail> {
     let words = words_of(alloc, words)?;
     let plan = read_words(alloc, words.as_slice()).ok().ok_or("no plan")?;
     let mut files = CalmFiles::new(alloc, List::new(alloc), List::new(alloc));
@@ -45,10 +46,10 @@ fn is_joined<R: Abort>(rt: &R, alloc: Global, words: &str, sums: &Sums) -> Resul
     let Ok(Ok(l)) = load(alloc, &plan, &mut desk) else {
         return Err("not loaded".into());
     };
-    has_sums(rt, alloc, &l, sums)
+    have_sums(alloc, &l, sums)
 }
 
-fn has_sums<R: Abort>(rt: &R, alloc: Global, l: &Loaded, sums: &Sums) -> Result<(), Fail>
+fn have_sums(alloc: Global, l: &Loaded, sums: &Sums) -> Result<bool, Fail>
     requires { IsCountable l.now.profile }
 {
     let config = Config::standard(alloc)?;
@@ -60,16 +61,30 @@ fn has_sums<R: Abort>(rt: &R, alloc: Global, l: &Loaded, sums: &Sums) -> Result<
         return Err("no second piece".into());
     }
     let part = joined_part(alloc, l, &no_verdicts(alloc), &config, column, &table)?;
-    assert_eq!(rt; part.kept.len(), l.profile.get().sample.len());
-    for (place, number) in part.kept.as_slice().iter().enumerate() {
-        assert_eq!(rt; *number as usize, place);
+    Ok(
+        are_all(part.kept.as_slice(), l.profile.get().sample.len())
+            && are_sums(l, &table, &part, sums),
+    )
+}
+
+// Whether the numbers are those of all samples.
+fn are_all(kept: &[u32], samples: usize) -> bool {
+    for (place, number) in kept.iter().enumerate() {
+        if *number as usize != place {
+            return false;
+        }
     }
-    assert_eq!(rt; part.sums.len(), 9);
+    kept.len() == samples
+}
+
+// Whether each key that occurs has the sums of its function's name.
+fn are_sums(l: &Loaded, table: &KeyTable, part: &Part, sums: &Sums) -> bool {
     for sum in part.sums.as_slice() {
-        let owed = sums.of_name(name_of(l, &table, sum.key));
-        assert_eq!(rt; (sum.flat.unsigned_abs(), sum.cum.unsigned_abs()), owed);
+        if sums.of_name(name_of(l, table, sum.key)) != Some((sum.flat, sum.cum)) {
+            return false;
+        }
     }
-    Ok(())
+    part.sums.len() == 9
 }
 
 // The first two pieces, each counted by itself.
@@ -102,5 +117,25 @@ fn name_of<'a>(l: &'a Loaded, table: &KeyTable, key: u64) -> &'a [u8] {
     match l.profile.get().text.as_slice().get(function) {
         None => b"no text",
         Some(name) => name.as_slice(),
+    }
+}
+
+// No pattern is in force.
+fn no_verdicts(alloc: Global) -> Verdicts
+    ensures { (p : Profile) → HasVerdicts p result }
+{
+    Verdicts {
+        focus: None,
+        ignore: None,
+        hide: None,
+        show: None,
+        show_from: None,
+        prune_from: None,
+        tagshow: None,
+        taghide: None,
+        own: None,
+        tag: List::new(alloc),
+        tagfocus: List::new(alloc),
+        tagignore: List::new(alloc),
     }
 }

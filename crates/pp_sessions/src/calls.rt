@@ -3,7 +3,7 @@ ghost use Rattle.std.specs.Prelude.{◌≤◌, IfSome};
 ghost use Rattle.pp_base.specs.Fault.{Rose};
 
 /// How a call fails.
-#[derive(Clone, Copy, Debug, PartialEq, Eq)]
+#[derive(Clone, Copy, PartialEq, Eq)]
 pub enum Failure {
     /// The object fails.
     Fault,
@@ -14,7 +14,7 @@ pub enum Failure {
 }
 
 /// Which calls fail.
-#[derive(Clone, Copy, Debug, PartialEq, Eq)]
+#[derive(Clone, Copy, PartialEq, Eq)]
 pub enum Failing {
     None,
     /// The call of this number, from 0.
@@ -23,7 +23,7 @@ pub enum Failing {
 }
 
 /// The calls of one object: which fail and how, the number of the next one, and how many have failed.
-#[derive(Clone, Copy, Debug)]
+#[derive(Clone, Copy)]
 pub struct Calls {
     pub failing: Failing,
     pub failure: Failure,

@@ -7,7 +7,7 @@ use crate::trials::{Fault, Object, Trial};
 use pp_base::Text;
 
 /// In what a run differs from what it owes.
-#[derive(Clone, Copy, Debug)]
+#[derive(Clone, Copy)]
 pub enum Difference<'a> {
     Status,
     Out,

@@ -11,7 +11,7 @@ pub fn is_among(path: &Text, paths: &[Text]) -> bool {
 }
 
 /// The contents of some paths. No path stands twice.
-#[derive(Debug, Drop)]
+#[derive(Drop)]
 pub struct Contents {
     alloc: Global,
     entries: Vec<(Text, Text)>,

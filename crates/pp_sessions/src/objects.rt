@@ -1,5 +1,5 @@
 //! Objects in memory of which any call can be made to fail, in each way that it may.
-ghost use Rattle.std.specs.Prelude.{None};
+ghost use Rattle.std.specs.Prelude.{◌≡◌, ◌≢◌, None};
 
 use crate::calls::{Calls, Failure};
 use crate::contents::is_among;
@@ -9,7 +9,7 @@ use pp_base::{
 };
 
 /// Files in memory.
-#[derive(Debug, Drop)]
+#[derive(Drop)]
 pub struct TrialFiles {
     pub calm: CalmFiles,
     pub calls: Calls,
@@ -21,7 +21,10 @@ pub struct TrialFiles {
 
 impl TrialFiles {
     // Writes the bytes, and counts another path.
-    fn put(&mut self, path: &Text, bytes: &[u8]) -> FileWrite {
+    fn put(&mut self, path: &Text, bytes: &[u8]) -> FileWrite
+        ensures calls { self.new.calls ≡ self.old.calls }
+        ensures calm { result ≢ FileWrite.Failed }
+    {
         let answer = self.calm.write(path, bytes);
         if answer == FileWrite::Written && !is_among(path, self.known.as_slice()) {
             self.others = self.others.saturating_add(1);
@@ -66,7 +69,7 @@ fn failed_read(failure: Failure) -> FileRead {
 }
 
 /// A source in memory. It has one way to fail.
-#[derive(Debug, Drop)]
+#[derive(Drop)]
 pub struct TrialSource {
     pub calm: CalmSource,
     pub calls: Calls,
@@ -86,7 +89,7 @@ impl Source for TrialSource {
 }
 
 /// A sink in memory.
-#[derive(Debug, Drop)]
+#[derive(Drop)]
 pub struct TrialSink {
     pub calm: CalmSink,
     pub calls: Calls,
@@ -107,7 +110,7 @@ impl Sink for TrialSink {
 }
 
 /// A matcher. Where it fails, it refuses the pattern or has no memory.
-#[derive(Debug, Drop)]
+#[derive(Drop)]
 pub struct TrialMatcher<M: Matcher + Drop> {
     pub calm: M,
     pub calls: Calls,

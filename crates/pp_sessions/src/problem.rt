@@ -3,7 +3,7 @@
 use pp_base::Memory;
 
 /// What is wrong with a line of a transcript.
-#[derive(Clone, Copy, Debug, PartialEq, Eq)]
+#[derive(Clone, Copy, PartialEq, Eq)]
 pub enum Problem {
     /// The line begins with no tag.
     Tag,

@@ -148,7 +148,7 @@ fn put_copies(into: &mut List<(Text, Part)>, files: List<(Text, Text)>) -> Resul
 }
 
 /// What is wrong, and the number of the line, from 1.
-#[derive(Clone, Copy, Debug)]
+#[derive(Clone, Copy)]
 pub struct ParseFault {
     pub line: u64,
     pub problem: Problem,

@@ -3,7 +3,7 @@
 use crate::calls::{Calls, Failing, Failure};
 
 /// An object of the outside.
-#[derive(Clone, Copy, Debug, PartialEq, Eq)]
+#[derive(Clone, Copy, PartialEq, Eq)]
 pub enum Object {
     Files,
     Input,
@@ -13,7 +13,7 @@ pub enum Object {
 }
 
 /// A kind of failure.
-#[derive(Clone, Copy, Debug, PartialEq, Eq)]
+#[derive(Clone, Copy, PartialEq, Eq)]
 pub struct Fault {
     /// Its name in transcripts.
     pub name: &'static str,
@@ -84,14 +84,14 @@ impl Fault {
 }
 
 /// A failure, and the number of the call that fails, from 0.
-#[derive(Clone, Copy, Debug)]
+#[derive(Clone, Copy)]
 pub struct Trial {
     pub fault: Fault,
     pub call: u64,
 }
 
 /// The calls of each object.
-#[derive(Clone, Copy, Debug)]
+#[derive(Clone, Copy)]
 pub struct AllCalls {
     pub files: Calls,
     pub input: Calls,

@@ -1,11 +1,10 @@
 //! The program `pprof`: the machine's files and streams, and one call.
 #![tactic(auto)]
 
-ghost use Rattle.std.specs.Prelude.{◌≡◌};
+ghost use Rattle.std.specs.Prelude.{◌≡◌, IfSome};
 ghost use Rattle.std.specs.Process.{exit_status};
 ghost use Rattle.pp_base.specs.Writes.{PutsFront};
-ghost use Rattle.pp_desk.specs.declared.stop.Stop.TheVariants as stops;
-ghost use Rattle.pp_engine.specs.Endings.{status_of, stop_line};
+ghost use Rattle.pp_engine.specs.Endings.{fault_line, status_of};
 
 use pp_base::{OpenGate, Sink, write_all};
 use pp_engine::{Cause, Ending, run};
@@ -34,10 +33,12 @@ fn main(rt: HostRuntime) -> ExitCode {
 }
 
 // Where there is no memory for the words: tells of it, as far as standard error takes it.
+#[tactic(auto, using(crate::proofs::Telling::is_front))]
 fn end_without_words<E: Sink>(err: &mut E) -> Ending
     ensures cause { result.cause ≡ Cause.Memory }
     ensures status { result.status ≡ status_of result.cause }
-    ensures told { PutsFront (E.written err.old) (E.written err.new) (stop_line stops.Memory) }
+    ensures told { IfSome (fault_line Cause.Memory)
+        (PutsFront (E.written err.old) (E.written err.new)) }
 {
     match write_all(err, b"pprof: out of memory\n") {
         Ok(()) => (),
