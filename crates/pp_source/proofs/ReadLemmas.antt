@@ -136,19 +136,20 @@ module _ (file : List ℕ) (test : Bor (List ℕ) → Bool) (tells : (x : Bor (L
       elim (test f) as (λ b. test f ≡ b → cond (not b) (1 + position_or_len test files) 0 < length (f ∷ files)
       → get_or sources (cond (not b) (1 + position_or_len test files) 0) NotFound ≡ source_at (f.now ∷ map told files) sources file) [
         | true ↦ λ is within. here sources (sym (tells f) ∙ is)
-        | false ↦ λ is within. later sources (sym (tells f) ∙ is) (omega (arith, within))
+        | false ↦ λ is within. later sources (sym (tells f) ∙ is) (λ ss. source_found files ss (omega (arith, within)))
       ] refl within
     where
       here : (sources : List Source) → bytes_eq file f.now ≡ true → get_or sources 0 NotFound ≡ source_at (f.now ∷ map told files) sources file
       here [] is = refl
       here (s ∷ sources) is = ap (λ b. cond b s (source_at (map told files) sources file)) (sym is)
 
-      later : (sources : List Source) → bytes_eq file f.now ≡ false → position_or_len test files < length files
+      later : (sources : List Source) → bytes_eq file f.now ≡ false
+          → ((ss : List Source) → get_or ss (position_or_len test files) NotFound ≡ source_at (map told files) ss file)
           → get_or sources (1 + position_or_len test files) NotFound ≡ source_at (f.now ∷ map told files) sources file
-      later [] is within = ap (λ n. get_or {X = Source} [] n NotFound) (one (position_or_len test files))
-      later (s ∷ sources) is within =
+      later [] is rest = ap (λ n. get_or {X = Source} [] n NotFound) (one (position_or_len test files))
+      later (s ∷ sources) is rest =
           ap (λ n. get_or (s ∷ sources) n NotFound) (one (position_or_len test files))
-          ∙ source_found files sources within
+          ∙ rest sources
           ∙ ap (λ b. cond b s (source_at (map told files) sources file)) (sym is)
 
   -- no source where the file is none of these
