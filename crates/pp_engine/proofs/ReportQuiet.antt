@@ -20,10 +20,10 @@ use Rattle.pp_report.specs.Patterns.{own_pattern, ask_patterns}
 use Rattle.pp_report.specs.Prepared.{Showing, prepare_counts, prepare_showing, showing_for, prepare_on, prepare}
 use Rattle.pp_report.specs.Reports.{list_text, text_by, finish_on, finish}
 use Rattle.pp_report.specs.Tagged.{basis_of}
-use Rattle.pp_source.specs.SourceText.{file_text}
+use Rattle.pp_source.specs.Files.{files_of}
 use Rattle.pp_source.specs.declared.source.Source.{Source}
 use Rattle.pp_source.specs.declared.source.TheConstants.{SOURCE_LIMIT}
-use Rattle.pp_source.specs.Listing.{or_next, first_present, source_in, source_of, file_of, put_files, list_lines, list_found, list_report}
+use Rattle.pp_source.specs.Listing.{or_next, first_present, source_in, source_of, read_sources, list_lines, list_found, list_report}
 use Rattle.pp_engine.specs.Reporting.{Finds}
 use Rattle.pp_engine.proofs.AskQuiet.{only_asking, only_judge}
 use Rattle.pp_engine.proofs.Courses.{only_looks, writes_nothing}
@@ -73,14 +73,18 @@ module _ (test : Step → Bool) where
     only_source config [] = tt
     only_source config (b ∷ file) = only_present _
 
-    only_files : (config : Config) (samples : List (Seen Written)) (h : Facts) (before : List ℕ) (files : List (List Written)) → Only test (put_files config samples h before files)
-    unfolding put_files
-    only_files config samples h before [] = tt
-    only_files config samples h before (lines ∷ files) = only_then test (source_of config (file_of lines)) _ (only_source config (file_of lines)) (λ source. only_files config samples h (before ++ file_text samples h source lines) files)
+    only_sources : (config : Config) (sources : List Source) (files : List (List ℕ)) → Only test (read_sources config sources files)
+    unfolding read_sources
+    only_sources config sources [] = tt
+    only_sources config sources (file ∷ files) = only_then test (source_of config file) _ (only_source config file) (λ source. only_sources config (sources ++ source ∷ []) files)
+
+    only_lines : (config : Config) (samples : List (Seen Written)) (h : Facts) (lines : List Written) → Only test (list_lines config samples h lines)
+    unfolding list_lines
+    only_lines config samples h lines = only_then test (read_sources config [] (files_of lines)) _ (only_sources config [] (files_of lines)) (λ sources. tt)
 
     only_found : (config : Config) (samples : List (Seen Written)) (h : Facts) (lines : List Written) → Only test (list_found config samples h lines)
-    unfolding list_found list_lines
-    only_found config samples h lines = only_then test _ _ (only_files config samples h _ _) (λ text. tt)
+    unfolding list_found
+    only_found config samples h lines = only_then test (list_lines config samples h lines) _ (only_lines config samples h lines) (λ text. tt)
 
     only_if_found : (found : Bool) (p : Script (Option (List ℕ))) → Only test p → Only test (if found then p else Give None)
     only_if_found true p o = o

@@ -11,6 +11,7 @@ pub mod LookLemmas
 pub mod Matching
 pub mod Numbering
 pub mod PathLemmas
+pub mod ReadLemmas
 pub mod RowLemmas
 pub mod RunLemmas
 pub mod Tallying

@@ -1,4 +1,5 @@
 pub mod Amounts
+pub mod Files
 pub mod Ledgers
 pub mod Listing
 pub mod Paths

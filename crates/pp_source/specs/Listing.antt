@@ -15,9 +15,10 @@ use Rattle.pp_source.specs.declared.refusal.ListRefusal.TheVariants as refusals
 use Rattle.pp_source.specs.declared.source.Source.{Source}
 use Rattle.pp_source.specs.declared.source.Source.TheVariants.{NoName, NotFound, TooLong, Whole}
 use Rattle.pp_source.specs.declared.source.TheConstants.{SOURCE_LIMIT}
+use Rattle.pp_source.specs.Files.{files_of, source_at}
 use Rattle.pp_source.specs.Paths.{paths_to_try}
-use Rattle.pp_source.specs.Routines.{found_lines, runs, is_same_file}
-use Rattle.pp_source.specs.SourceText.{total_line, file_text}
+use Rattle.pp_source.specs.Routines.{found_lines}
+use Rattle.pp_source.specs.SourceText.{lines_text}
 
 -- the source that a read has found, if any
 abbrev pub source_in : FileContent → Option Source
@@ -43,23 +44,18 @@ source_of config [] = Give NoName
 source_of config (b ∷ file) =
     first_present (paths_to_try config.source_path config.trim_path (b ∷ file))
 
--- the file text of lines that have the same
-abbrev pub file_of : List Written → List ℕ
-file_of [] = []
-file_of (k ∷ lines) = k.file
+-- Reads the sources of these files, one after the other, behind those that were read.
+unfoldable pub read_sources : Config → List Source → List (List ℕ) → Script (List Source)
+read_sources config sources [] = Give sources
+read_sources config sources (file ∷ files) = do
+  source ← source_of config file
+  read_sources config (sources ++ source ∷ []) files
 
--- The text with that of these lines, file by file: each source is read before its part is written.
-unfoldable pub put_files : Config → List (Seen Written) → Facts → List ℕ → List (List Written)
-    → Script (List ℕ)
-put_files config samples h before [] = Give before
-put_files config samples h before (lines ∷ files) = do
-  source ← source_of config (file_of lines)
-  put_files config samples h (before ++ file_text samples h source lines) files
-
--- The report of these lines.
+-- The report of these lines. The source of each of their files is read once.
 unfoldable pub list_lines : Config → List (Seen Written) → Facts → List Written → Script (List ℕ)
-list_lines config samples h lines =
-    put_files config samples h (total_line h) (runs is_same_file lines)
+list_lines config samples h lines = do
+  sources ← read_sources config [] (files_of lines)
+  Give (lines_text samples h (source_at (files_of lines) sources) lines)
 
 -- the report, where a function is found
 unfoldable pub list_found : Config → List (Seen Written) → Facts → List Written

@@ -29,10 +29,6 @@ abbrev pub runs : {K : Type 0} → (K → K → Bool) → List K → List (List 
 runs same [] = []
 runs same (k ∷ keys) = in_front same k (runs same keys)
 
--- two lines are in files of the same path
-abbrev pub is_same_file : Written → Written → Bool
-is_same_file a b = bytes_eq a.file b.file
-
 -- two lines are of the same function and file
 abbrev pub is_same_routine : Written → Written → Bool
 is_same_routine a b = bytes_eq a.function b.function && bytes_eq a.file b.file

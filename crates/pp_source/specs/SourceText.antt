@@ -131,7 +131,17 @@ routine_text samples h source (k ∷ lines) =
     (title_line k ++ routine_line h (routine_amounts samples k))
     ++ source_text samples h source k (k ∷ lines)
 
--- The text of all routines of one file.
-abbrev pub file_text : List (Seen Written) → Facts → Source → List Written → List ℕ
-file_text samples h source lines =
-    flat_map (routine_text samples h source) (runs is_same_routine lines)
+-- the file text of lines that have the same
+abbrev pub file_of : List Written → List ℕ
+file_of [] = []
+file_of (k ∷ lines) = k.file
+
+-- The text of all routines of these lines, where each file has this source.
+abbrev pub routines_text : List (Seen Written) → Facts → (List ℕ → Source) → List Written → List ℕ
+routines_text samples h source lines =
+    flat_map (λ routine. routine_text samples h (source (file_of routine)) routine)
+    (runs is_same_routine lines)
+
+-- The text of the report of these lines.
+abbrev pub lines_text : List (Seen Written) → Facts → (List ℕ → Source) → List Written → List ℕ
+lines_text samples h source lines = total_line h ++ routines_text samples h source lines

@@ -2,6 +2,7 @@
 #![tactic(auto)]
 
 mod amounts;
+mod files;
 mod ledger;
 mod lines;
 mod listing;

@@ -7,17 +7,17 @@ ghost use Rattle.pp_units.specs.Head.{facts};
 ghost use Rattle.pp_count.specs.Counted.{CanCount, IsCountedOf};
 ghost use Rattle.pp_count.specs.Sums.{Seen};
 ghost use Rattle.pp_count.specs.Seeing.{HoldsFilters};
+ghost use Rattle.pp_source.specs.Files.{source_in};
 ghost use Rattle.pp_source.specs.Ledgers.{IsLedgerOf, IsLineOf, lines_texts};
-ghost use Rattle.pp_source.specs.Listing.{added_report, file_of, list_lines, list_report};
-ghost use Rattle.pp_source.specs.SourceText.{total_line};
+ghost use Rattle.pp_source.specs.Listing.{added_report, list_lines, list_report};
+ghost use Rattle.pp_source.specs.SourceText.{lines_text, total_line};
 
+use crate::files::{Sources, files_of, read_sources};
 use crate::ledger::ledger_of;
 use crate::lines::{FoundLine, found_lines};
-use crate::looking::source_of;
 use crate::refusal::ListRefusal;
-use crate::routine::write_file;
+use crate::routine::write_routines;
 use crate::rows::Listing;
-use crate::runs::cut_file;
 use pp_base::{Memory, Text};
 use pp_count::Counted;
 use pp_desk::{Desk, Stop};
@@ -26,7 +26,8 @@ use pp_units::{Head, put_value};
 use std::alloc::Global;
 
 /// Appends the list report: for each function and file that the report's own pattern finds, its sums and the lines of
-/// its source about those with frames. The sources are read on the way, one after the other. `c` is what `count` gives.
+/// its source about those with frames. Each file is read once, before its first line is written. `c` is what `count`
+/// gives.
 ///
 /// `NoMatch` says that the pattern finds no function; then nothing is read. After it and after a `Stop` `out` is as it
 /// was.
@@ -107,26 +108,31 @@ fn list_lines<D: Desk>(
         Went (D.world desk.old) (D.world desk.new) (list_lines config.now samples
         (facts listing.now.head.now) (lines_texts lines.now)) result }
 {
-    let mut text = Text::new(alloc);
-    write_total(listing.head, &mut text)?;
-    let mut start = 0;
-    while start < lines.len() {
-        let (file, _) = cut_file(lines.split_at(start).1);
-        let source = source_of(alloc, config, path_of(file), desk)?;
-        write_file(alloc, listing, &source, file, &mut text)?;
-        start += file.len();
-    }
+    let files = files_of(alloc, lines)?;
+    let sources = read_sources(alloc, config, files.as_slice(), desk)?;
+    let sources = Sources { files, sources };
+    let text = lines_text(alloc, listing, &sources, lines)?;
     Ok(text)
 }
 
-// The path of the file of these lines.
-fn path_of<'a>(lines: &[FoundLine<'a>]) -> &'a [u8]
-    ensures { result.now ≡ file_of (lines_texts lines.now) }
+// The text of the report of these lines.
+fn lines_text(
+    alloc: Global,
+    listing: &Listing<'_>,
+    sources: &Sources<'_>,
+    lines: &[FoundLine<'_>],
+) -> Result<Text, Memory>
+    requires lines { All (IsLineOf listing.now.l.now.profile) lines.now }
+    requires total { listing.now.head.now.total < 2 ^ 63 }
+    ensures { (samples : Seq (Seen Written)) →
+        IsLedgerOf listing.now.l.now.profile samples listing.now.ledger.now → IfOk result (λ text.
+        text ≡ lines_text samples (facts listing.now.head.now) (source_in sources.now)
+        (lines_texts lines.now)) }
 {
-    match lines {
-        [] => &[],
-        [line, ..] => line.texts.file,
-    }
+    let mut text = Text::new(alloc);
+    write_total(listing.head, &mut text)?;
+    write_routines(alloc, listing, sources, lines, &mut text)?;
+    Ok(text)
 }
 
 // `"Total: %s\n"`

@@ -7,9 +7,11 @@ ghost use Rattle.pp_units.specs.Shown.{shown};
 ghost use Rattle.pp_count.specs.Sums.{Seen};
 ghost use Rattle.pp_source.specs.Amounts.{routine_amounts};
 ghost use Rattle.pp_source.specs.Ledgers.{IsLedgerOf, IsLineOf, line_texts, lines_texts};
-ghost use Rattle.pp_source.specs.SourceText.{both_text, error_line, file_text, number_above, numbers_of, part_text, routine_line, routine_text, source_text, title_line};
+ghost use Rattle.pp_source.specs.Files.{source_in};
+ghost use Rattle.pp_source.specs.SourceText.{both_text, error_line, file_of, number_above, numbers_of, part_text, routine_line, routine_text, routines_text, source_text, title_line};
 
 use crate::amounts::Amounts;
+use crate::files::Sources;
 use crate::lines::FoundLine;
 use crate::rows::{Listing, write_rows};
 use crate::runs::cut_routine;
@@ -20,27 +22,56 @@ use pp_grain::Key;
 use pp_units::{Head, Small, write_percent};
 use std::alloc::Global;
 
-/// Appends the text of all routines of one file, of which these are the lines with frames.
-pub fn write_file(
+/// Appends the text of all routines, of which these are the lines with frames.
+pub fn write_routines(
     alloc: Global,
     listing: &Listing<'_>,
-    source: &Source,
+    sources: &Sources<'_>,
     lines: &[FoundLine<'_>],
     out: &mut Text,
 ) -> Result<(), Memory>
     requires { All (IsLineOf listing.now.l.now.profile) lines.now }
     ensures { (samples : Seq (Seen Written)) →
         IsLedgerOf listing.now.l.now.profile samples listing.now.ledger.now → IfOk result (λ _.
-        out.new ≡ out.old
-        ++ file_text samples (facts listing.now.head.now) source.now (lines_texts lines.now)) }
+        out.new ≡ out.old ++ routines_text samples (facts listing.now.head.now)
+        (source_in sources.now) (lines_texts lines.now)) }
 {
     let mut start = 0;
     while start < lines.len() {
         let (routine, _) = cut_routine(lines.split_at(start).1);
-        write_routine(alloc, listing, source, routine, out)?;
+        write_found(alloc, listing, sources, routine, out)?;
         start += routine.len();
     }
     Ok(())
+}
+
+// Appends the text of the routine of these lines, with the source of its file.
+fn write_found(
+    alloc: Global,
+    listing: &Listing<'_>,
+    sources: &Sources<'_>,
+    lines: &[FoundLine<'_>],
+    out: &mut Text,
+) -> Result<(), Memory>
+    requires { All (IsLineOf listing.now.l.now.profile) lines.now }
+    ensures { (samples : Seq (Seen Written)) →
+        IsLedgerOf listing.now.l.now.profile samples listing.now.ledger.now → IfOk result (λ _.
+        out.new ≡ out.old ++ routine_text samples (facts listing.now.head.now)
+        (source_in sources.now (file_of (lines_texts lines.now))) (lines_texts lines.now)) }
+{
+    let none = Source::NotFound;
+    let source = sources.find(path_of(lines)).unwrap_or(&none);
+    write_routine(alloc, listing, source, lines, out)
+}
+
+// The path of the file of these lines.
+fn path_of<'a>(lines: &[FoundLine<'a>]) -> &'a [u8]
+    ensures { result.now ≡ file_of (lines_texts lines.now) }
+{
+    match lines {
+        [] => &[],
+        [line, ..] => line.texts.file,
+    }
 }
 
 // Appends the text of the routine of these lines.
