@@ -1,6 +1,7 @@
 pub mod Turning
 pub mod Returns
 pub mod PlanLemmas
+pub mod WordLemmas
 pub mod Performing
 pub mod Refused
 pub mod Gives

@@ -19,7 +19,7 @@ through true value other wanted same e = same refl
 through false value other wanted same e = absurd (cc)
 
 -- equal truth values are the same
-same_from : (a b : Bool) → a ≡ b → is_same a b ≡ true
+pub same_from : (a b : Bool) → a ≡ b → is_same a b ≡ true
 same_from true b e = cc
 same_from false true e = absurd (cc)
 same_from false false e = refl

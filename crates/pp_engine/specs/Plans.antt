@@ -39,7 +39,7 @@ is_plan r =
     && (is_same (is_some r.base_kind) (nat_lt 0 (length r.bases))
     && (is_within r.normalize (is_some r.base_kind) && has_pattern r.report))))
 
--- The plan of what is asked for; what words ask for always is one.
+-- The plan of what is asked for; what words ask for always is one, as `words_ask_for_a_plan` says.
 unfoldable pub plan_of : Request → Option Plan
 plan_of r = where_true (is_plan r)
     (λ fits.

@@ -3,6 +3,7 @@
 #![tactic(auto)]
 
 mod ending;
+mod laws;
 mod message;
 mod reporting;
 mod running;
@@ -10,6 +11,7 @@ mod session;
 mod shell;
 
 pub use ending::{Cause, Ending};
+pub use laws::words_ask_for_a_plan;
 pub use pp_load::{LoadRefusal, gen_profile, load};
 pub use pp_report::{ReportRefusal, generate};
 pub use reporting::reports_are_told;

@@ -1,6 +1,8 @@
 pub mod Giving
 pub mod KindLemmas
 pub mod StartLemmas
+pub mod DecodeLemmas
+pub mod AloneLemmas
 pub mod CountLemmas
 pub mod JoiningLemmas
 pub mod MadeLemmas

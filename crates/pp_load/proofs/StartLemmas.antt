@@ -104,11 +104,11 @@ mappings_small n [] all = tt
 mappings_small n (r ∷ rs) all = (all.0, mappings_small (n + 1) rs all.1)
 
 -- what is told of a reading that gave something
-reading_some : {A B : Type 0} (f : A → Reading B) (r : Reading A) (y : B) → legacy.◌>>=◌ r f ≡ Ok y → (x : A) × (f x ≡ Ok y)
+pub reading_some : {A B : Type 0} (f : A → Reading B) (r : Reading A) (y : B) → legacy.◌>>=◌ r f ≡ Ok y → (x : A) × (f x ≡ Ok y)
 reading_some f (Ok x) y is = (x, is)
 reading_some f (Err e) y is = absurd cc
 
-same_Ok : {A E : Type 0} (x y : A) → ◌≡◌ {A = Result A E} (Ok x) (Ok y) → x ≡ y
+pub same_Ok : {A E : Type 0} (x y : A) → ◌≡◌ {A = Result A E} (Ok x) (Ok y) → x ≡ y
 same_Ok x y is = (cc)
 
 -- a profile of gperftools

@@ -6,4 +6,5 @@ pub mod Reads
 pub mod Joining
 pub mod Sources
 pub mod Load
+pub mod Alone
 pub mod Messages

@@ -7,12 +7,16 @@
 mod combine;
 mod decode;
 mod generator;
+mod laws;
 mod loading;
 mod message;
 mod reading;
 mod refusal;
 
 pub use generator::gen_profile;
+pub use laws::{
+    legacy_is_loaded_as_written, read_is_loaded, settled_files_load, written_is_loaded,
+};
 pub use loading::load;
 pub use message::refusal_line;
 pub use refusal::LoadRefusal;

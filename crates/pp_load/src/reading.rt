@@ -32,7 +32,7 @@ pub struct Read {
     pub size: u64,
 }
 
-/// The profiles of a plan's sources, and behind them those of its bases. What follows a refusal is not read.
+/// The profiles of a plan's sources, and behind them those of its bases. The first refusal ends the reading.
 #[tactic(auto, using(pp_desk::proofs::AskingLemmas::asking), unfolding(crate::specs::Load::read_plan))]
 pub fn read_plan<D: Desk>(
     alloc: Global,

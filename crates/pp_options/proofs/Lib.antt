@@ -1,4 +1,4 @@
-mod RequestLemmas
+pub mod RequestLemmas
 mod ReadingLemmas
 pub mod EndLemmas
 pub mod SettingLemmas

@@ -40,6 +40,7 @@ module _ (q : Profile) (f : Finders) (config : Config) (column : Option ℕ) whe
   -- the figures, where these stacks are left of samples
   abbrev figures_by : (Sample → Option (List Frame)) → Figures
   figures_by left = record {
+    column = column;
     value_type = column_type q column;
     total = total_over q d column (if d.relative_percentages then filter (λ s. is_some (left s)) q.sample else q.sample);
     file = mapped_file q;

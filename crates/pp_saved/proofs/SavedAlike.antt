@@ -124,6 +124,7 @@ module _ (p : Profile) (f : Finders) (config : Config) (q : Profile) (can : CanS
 
     pub alone : figures q no_finders d column ≡ figures p f config column
     alone = λ i. record {
+      column = column;
       value_type = same_type p q column is.header.header i;
       total = total_is i;
       file = (ap mapped_file is.is ∙ same_file p f config) i;

@@ -19,7 +19,8 @@ use Rattle.pp_count.specs.Ranks.{each_once}
 
 -- What a report says of a profile by one column.
 pub record Figures : Type 0 where
-  -- the name and the unit of the column's type, none without a column
+  -- the column, none where the profile has no sample types, and the name and the unit of its type
+  pub column : Option ℕ
   pub value_type : Option TypeText
   -- what percentages are taken of
   pub total : ℕ
@@ -56,6 +57,7 @@ abbrev pub figures : Profile → Finders → Config → Option ℕ → Figures
 figures p f config column =
     let samples : List (Seen Written) = report_samples p f config column in
     record {
+      column = column;
       value_type = column_type p column;
       total = total_of p f config column;
       file = mapped_file p;
