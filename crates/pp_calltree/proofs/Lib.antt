@@ -12,4 +12,5 @@ pub mod LinkLemmas
 pub mod Summing
 pub mod Pruning
 pub mod Written
+pub mod WalkLemmas
 pub mod ByKey

@@ -13,14 +13,10 @@ use Rattle.pp_calltree.specs.Laid.{node_row}
 use Rattle.pp_calltree.specs.Shown.{flat_sizes}
 use Rattle.pp_calltree.specs.Text.{flats_sum, node_line, node_lines}
 
--- The sum of the first flats leaves room for those that are left.
-pub record HasSum (nodes : List PathNode) (i : ℕ) (sum : ℤ) : Type 0 where
-  pub small : nat_abs sum + flat_sizes (drop i nodes) ≤ flat_sizes nodes
-
 -- The sum of the first flats, and with those that are left that of all.
-pub record SumTo (p : Profile) (nodes : List PathNode) (i : ℕ) (sum : ℤ) : Type 0 where
+pub record SumTo (nodes : List PathNode) (i : ℕ) (sum : ℤ) : Type 0 where
   pub small : nat_abs sum + flat_sizes (drop i nodes) ≤ flat_sizes nodes
-  pub whole : sum +ℤ flats_sum (map (node_row p) (drop i nodes)) ≡ flats_sum (map (node_row p) nodes)
+  pub whole : (p : Profile) → sum +ℤ flats_sum (map (node_row p) (drop i nodes)) ≡ flats_sum (map (node_row p) nodes)
 
 -- The lines of the first nodes, and with those of the others those of all.
 pub record RowsTo (p : Profile) (unit : Shown) (total : ℕ) (nodes : List PathNode) (before : List ℕ) (i : ℕ) (sum : ℤ) (out : List ℕ) : Type 0 where
@@ -50,21 +46,22 @@ next_is nodes i d sum result here small fits is =
     let whole : result ≡ sum +ℤ flat = is ∙ ap (λ z. sum +ℤ z) (read_back flat (omega (arith, has_place nodes i d sum here small fits))) in
     read_back result (omega (arith, ap nat_abs whole, triangle sum flat, has_place nodes i d sum here small fits)) ∙ whole
 
-pub sum_more : (p : Profile) (nodes : List PathNode) (i : ℕ) (d : PathNode) (sum new : ℤ) → i < length nodes → new ≡ sum +ℤ (get_or nodes i d).flat
-    → SumTo p nodes i sum → SumTo p nodes (i + 1) new
-sum_more p nodes i d sum new here is so_far = record {
+pub sum_more : (nodes : List PathNode) (i : ℕ) (d : PathNode) (sum new : ℤ) → i < length nodes → new ≡ sum +ℤ (get_or nodes i d).flat
+    → SumTo nodes i sum → SumTo nodes (i + 1) new
+sum_more nodes i d sum new here is so_far = record {
   small = omega (arith, ap nat_abs is, still_small nodes i d sum here so_far.small);
-  whole = ap (λ z. z +ℤ flats_sum (map (node_row p) (drop (i + 1) nodes))) is
+  whole = λ p.
+      ap (λ z. z +ℤ flats_sum (map (node_row p) (drop (i + 1) nodes))) is
       ∙ +ℤ_assoc sum (get_or nodes i d).flat (flats_sum (map (node_row p) (drop (i + 1) nodes)))
-      ∙ ap (λ ns. sum +ℤ flats_sum (map (node_row p) ns)) (sym (drop_more nodes i d here)) ∙ so_far.whole;
+      ∙ ap (λ ns. sum +ℤ flats_sum (map (node_row p) ns)) (sym (drop_more nodes i d here)) ∙ so_far.whole p;
 }
 
-pub sum_start : (p : Profile) (nodes : List PathNode) → SumTo p nodes 0 (pos 0)
-sum_start p nodes = record { small = omega arith; whole = +ℤ_idl (flats_sum (map (node_row p) nodes)) }
+pub sum_start : (nodes : List PathNode) → SumTo nodes 0 (pos 0)
+sum_start nodes = record { small = omega arith; whole = λ p. +ℤ_idl (flats_sum (map (node_row p) nodes)) }
 
-pub sum_all : (p : Profile) (nodes : List PathNode) (i : ℕ) (sum : ℤ) → length nodes ≤ i → SumTo p nodes i sum → sum ≡ flats_sum (map (node_row p) nodes)
+pub sum_all : (p : Profile) (nodes : List PathNode) (i : ℕ) (sum : ℤ) → length nodes ≤ i → SumTo nodes i sum → sum ≡ flats_sum (map (node_row p) nodes)
 sum_all p nodes i sum past so_far =
-    sym (+ℤ_idr sum) ∙ sym (ap (λ ns. sum +ℤ flats_sum (map (node_row p) ns)) (drop_all i nodes past)) ∙ so_far.whole
+    sym (+ℤ_idr sum) ∙ sym (ap (λ ns. sum +ℤ flats_sum (map (node_row p) ns)) (drop_all i nodes past)) ∙ so_far.whole p
 
 pub rows_more : (p : Profile) (unit : Shown) (total : ℕ) (nodes : List PathNode) (before : List ℕ) (i : ℕ) (d : PathNode) (sum next : ℤ) (out new : List ℕ)
     → i < length nodes → next ≡ sum +ℤ (get_or nodes i d).flat → new ≡ out ++ node_line unit total next (node_row p (get_or nodes i d))

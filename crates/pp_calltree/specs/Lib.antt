@@ -6,6 +6,7 @@ pub mod Twigs
 pub mod Siblings
 pub mod Laid
 pub mod Tree
+pub mod Walk
 pub mod Links
 pub mod Shown
 pub mod Text

@@ -13,6 +13,7 @@ ghost use Rattle.pp_calltree.specs.CallTree.{tree_nodes};
 ghost use Rattle.pp_calltree.specs.Laid.{node_row};
 ghost use Rattle.pp_calltree.specs.Links.{nodes_by};
 ghost use Rattle.pp_calltree.specs.Tree.{IsTreeOf, flats_at};
+ghost use Rattle.pp_calltree.specs.Walk.{IsWalkOf};
 
 use crate::laying::lay_out;
 use crate::linking::link;
@@ -41,6 +42,10 @@ impl CallTree {
         requires can { CanCount l.now.profile v.now config.now column }
         requires counted { IsCountedOf l.now v.now config.now column c.now }
         ensures tree { IfOk result (IsTreeOf l.now v.now config.now column) }
+
+        // First children and next siblings walk the paths of the samples that put keys into the report.
+        ensures walk { (f : Finders) → HoldsFilters l.now v.now config.now f →
+            IfOk result (IsWalkOf l.now.profile f config.now column) }
 
         // For each name of the sums, the flats of its nodes add up to its flat.
         ensures flats { (f : Finders) → HoldsFilters l.now v.now config.now f →

@@ -35,7 +35,6 @@ pub fn write_calltree(
 ) -> Result<(), Memory>
     requires keys { All (λ n. IsKeyOf l.now.profile n.key) t.now }
     requires fits { flat_sizes t.now < 2 ^ 63 }
-    requires total { head.now.total < 2 ^ 63 }
     ensures ok { (v : Verdicts) (column : Option ℕ) (f : Finders) →
         IsTreeOf l.now v config.now column t.now → HoldsFilters l.now v config.now f →
         OnOk result (out.new
@@ -60,7 +59,6 @@ fn put_tree(
 ) -> Result<(), Memory>
     requires keys { All (λ n. IsKeyOf l.now.profile n.key) nodes.now }
     requires fits { flat_sizes nodes.now < 2 ^ 63 }
-    requires total { head.now.total < 2 ^ 63 }
     ensures { IfOk result (λ _. out.new ≡ out.old
         ++ nodes_text (facts head.now) dropped (map (node_row l.now.profile) nodes.now)) }
 {
@@ -78,20 +76,19 @@ fn put_summary(
     head: &Head,
     out: &mut Text,
 ) -> Result<(), Memory>
-    requires fits { flat_sizes nodes.now < 2 ^ 63 }
-    requires total { head.now.total < 2 ^ 63 }
+    requires { flat_sizes nodes.now < 2 ^ 63 }
     ensures { IfOk result (λ _. out.new ≡ out.old
         ++ (showing_line (shown head.now.unit) head.now.total
         (flats_sum (map (node_row l.now.profile) nodes.now)) ++ dropped_line dropped_nodes dropped)) }
 {
-    head.put_showing(sum_flats(l, nodes), out)?;
+    head.put_showing(sum_flats(nodes), out)?;
     put_dropped_nodes(dropped, out)
 }
 
 // What the flats of the nodes add up to.
-fn sum_flats(_l: &Loaded, nodes: &[PathNode]) -> i64
+fn sum_flats(nodes: &[PathNode]) -> i64
     requires { flat_sizes nodes.now < 2 ^ 63 }
-    ensures { result ≡ flats_sum (map (node_row _l.now.profile) nodes.now) }
+    ensures { (p : Tables) → result ≡ flats_sum (map (node_row p) nodes.now) }
 {
     let mut sum = 0;
     for node in nodes {

@@ -14,5 +14,5 @@ returns c =
     (showing_line (shown c.args.head.now.unit) c.args.head.now.total (flats_sum (map (node_row c.args.l.now.profile) c.args.nodes.now)))
     (dropped_line dropped_nodes c.args.dropped)
     ((rw (to_z-of_z w64 c.sum_flats.result fits) at c.in_ok-put_showing.ensures)
-    ∙ ap (λ z. c.args.out.now ++ showing_line (shown c.args.head.now.unit) c.args.head.now.total z) c.sum_flats.ensures)
+    ∙ ap (λ z. c.args.out.now ++ showing_line (shown c.args.head.now.unit) c.args.head.now.total z) (c.sum_flats.ensures c.args.l.now.profile))
     c.put_dropped_nodes.ensures
