@@ -4,6 +4,7 @@ pub mod KeptSamples
 pub mod SomeFinders
 pub mod AddingSamples
 pub mod CutContents
+pub mod CutSizes
 pub mod TagNamesLemmas
 pub mod Slots
 pub mod TablesLemmas

@@ -1,5 +1,5 @@
 -- Samples that the filters leave, with locations that are cut. No public clause cites them.
-use Rattle.std.specs.Prelude.{◌≡◌, ℕ, ◌<◌, ◌^◌, List, [], ◌∷◌, ◌++◌, length, map}
+use Rattle.std.specs.Prelude.{◌≡◌, ℕ, ◌<◌, ◌^◌, List, [], ◌∷◌, ◌++◌, map}
 use Rattle.std.specs.List.{flat_map, AllByRecursion}
 use Rattle.std.specs.Option.{option_map_or}
 use Rattle.pp_base.specs.Front.{IsFront}
@@ -10,7 +10,7 @@ use Rattle.pp_model.specs.declared.profile.Sample.{Sample}
 use Rattle.pp_model.specs.declared.profile.Profile.{Profile}
 use Rattle.pp_model.specs.declared.verdicts.Verdicts.{Verdicts}
 use Rattle.pp_model.specs.Finders.{Finders, HoldsFinders}
-use Rattle.pp_model.specs.Rules.{NoRuleFails}
+use Rattle.pp_model.specs.Rules.{NoRuleFails, IsCompact}
 use Rattle.pp_count.specs.Counts.{samples_at}
 use Rattle.pp_stack.specs.Filters.{frames_of_sample}
 use Rattle.pp_tags.specs.TagFilters.{shown_labels}
@@ -48,5 +48,5 @@ pub record IsCutOf (l : Loaded) (v : Verdicts) (kept : List ℕ) (q : Profile) :
   pub is : q ≡ with_cut l.profile samples locations
   pub adds : AddsSamples l v (samples_at l.profile kept) [] l.profile.location samples locations
   pub valid : NoRuleFails l.profile
-  pub few : length samples < 2 ^ 32
+  pub compact : IsCompact l.profile
   pub starts : AllByRecursion (λ m. m.start < 2 ^ 64) l.profile.mapping

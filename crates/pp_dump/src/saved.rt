@@ -1,14 +1,15 @@
 //! The profile that is saved.
-ghost use Rattle.std.specs.Prelude.{◌≡◌, ◌<◌, ◌^◌, [], length, IfOk};
+ghost use Rattle.std.specs.Prelude.{◌≡◌, ◌<◌, ◌^◌, [], IfOk};
 ghost use Rattle.std.specs.List.{AllByRecursion};
 ghost use Rattle.pp_model.specs.declared.config.Config.{Config};
 ghost use Rattle.pp_model.specs.Conditions.{HasVerdicts};
 ghost use Rattle.pp_model.specs.Finders.{Finders};
 ghost use Rattle.pp_model.specs.Rules.{NoRuleFails};
+ghost use Rattle.pp_model.specs.Sizes.{IsCountable};
 ghost use Rattle.pp_merge.specs.Merge.{merged};
 ghost use Rattle.pp_count.specs.Counts.{samples_at};
 ghost use Rattle.pp_count.specs.Seeing.{HoldsFilters, filtered_from};
-ghost use Rattle.pp_dump.specs.Saved.{saved};
+ghost use Rattle.pp_dump.specs.Saved.{AreKept, saved};
 ghost use Rattle.pp_dump.specs.Stacks.{KeepsStacks};
 ghost use Rattle.pp_dump.specs.Unfiltered.{KeepsSums, KeepsKeys, KeepsHeader};
 ghost use Rattle.pp_restack.specs.Places.{with_cut};
@@ -25,14 +26,18 @@ use std::alloc::Global;
 /// all their values, and the locations with the lines that are left. It has no patterns of its own, and the rest of the
 /// header stays. Saved again without filters it stays as it is. Of a profile that was merged it keeps the stacks that
 /// the filters leave, as they are written out: equal samples are one, and those whose values add up to 0 went. So
-/// without filters a report adds up the same for each key. `Err` is want of memory.
+/// without filters, and where values are divided by 1, a report adds up the same for each key. `Err` is want of memory.
+///
+/// The profile can be counted, and so can what is left of it, each sample of which is kept once.
 pub fn saved_profile(
     alloc: Global,
     l: &Loaded,
     v: &Verdicts,
     c: &Counted,
 ) -> Result<Compact, Memory>
-    requires { HasVerdicts l.now.profile v.now }
+    requires verdicts { HasVerdicts l.now.profile v.now }
+    requires countable { IsCountable l.now.profile }
+    requires kept { AreKept l.now.profile c.now.kept }
     ensures saved { (f : Finders) → (config : Config) → HoldsFilters l.now v.now config f →
         c.now.kept ≡ filtered_from l.now.profile f config 0 l.now.profile.sample →
         IfOk result (λ q. q ≡ saved l.now.profile f config) }
@@ -78,10 +83,9 @@ fn cut_profile(alloc: Global, l: &Loaded, v: &Verdicts, kept: &[u32]) -> Result<
     Ok(Valid::claim(q))
 }
 
-// The profile with these samples and locations. No memory holds 2^32 samples.
+// The profile with these samples and locations.
 fn profile_with(alloc: Global, p: &Profile, cut: Cut) -> Result<Profile, Memory>
     ensures same { IfOk result (λ q. q ≡ with_cut p.now cut.samples cut.places.locations) }
-    ensures few { IfOk result (λ q. length cut.samples < 2 ^ 32) }
     ensures starts { IfOk result (λ q. AllByRecursion (λ m. m.start < 2 ^ 64) p.now.mapping) }
 {
     let Cut { samples, places } = cut;
@@ -90,8 +94,5 @@ fn profile_with(alloc: Global, p: &Profile, cut: Cut) -> Result<Profile, Memory>
         hints: _hints,
         lines: _lines,
     } = places;
-    if samples.len() > u32::MAX as usize {
-        return Err(Memory);
-    }
     with_cut(alloc, p, samples, locations)
 }

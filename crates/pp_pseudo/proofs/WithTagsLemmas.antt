@@ -3,7 +3,7 @@ use Rattle.std.proofs.Common.{◌≡◌, true, ℕ, ℤ, ◌+◌, ◌<◌, ◌�
 use Rattle.std.specs.Prelude.{◌==◌, pos, nat_abs, slice_index_or}
 use Rattle.std.specs.List.{AllByRecursion, sum_by}
 use Rattle.std.proofs.lemmas.Bool.{eqb-true}
-use Rattle.std.proofs.lemmas.List.{append-nil}
+use Rattle.std.proofs.lemmas.List.{append-nil, length-map}
 use Rattle.std.proofs.lemmas.List.Elements.{recursion_from_All}
 use Rattle.std.proofs.lemmas.List.Sums.{sum_by-cons}
 use Rattle.pp_base.specs.Front.{IsFront}
@@ -100,23 +100,36 @@ sizes column (s ∷ xs) =
     sum_by-cons (λ s. nat_abs (value_in s column)) s xs ∙ ap (λ n. nat_abs (value_in s column) + n) (sizes column xs)
     ∙ sym (sum_by-cons (size_in column) s.value (map (λ (s : Sample). s.value) xs))
 
--- The profile with the frames of the keys can be counted where the profile can.
+-- The profile that is merged alone can be counted where the profile can: its samples have the same values.
+pub tagged_fits : (l : Loaded) (roots leaves : List (List ℕ)) (q : Profile) → IsTagged l roots leaves q → IsCountable l.profile → IsCountable q
+tagged_fits l roots leaves q is countable =
+    let value_of : Sample → List ℤ = λ s. s.value in
+    let as_many : length q.sample ≡ length l.profile.sample =
+    sym (length-map q.sample value_of) ∙ ap length (values_stay l roots leaves q is) ∙ length-map l.profile.sample value_of in
+    let as_wide : length q.sample_type ≡ length l.profile.sample_type = ap (λ (r : Profile). length r.sample_type) is.is in
+    record {
+      samples = omega (arith, as_many, countable.samples);
+      columns = omega (arith, as_wide, countable.columns);
+      sums = λ column within.
+          let own : absolute_sum q column ≡ absolute_sum l.profile column =
+          sizes column q.sample ∙ ap (sum_by (size_in column)) (values_stay l roots leaves q is) ∙ sym (sizes column l.profile.sample) in
+          omega (arith, own, countable.sums column (omega (arith, within, as_wide)));
+    }
+
+-- And so can what it is merged to.
 pub tagged_countable : (l : Loaded) (roots leaves : List (List ℕ)) (q : Profile) → IsTagged l roots leaves q → IsCountable l.profile → IsCountable (merged q [])
 tagged_countable l roots leaves q is countable =
     let valid = tagged_valid l roots leaves q is in
+    let own = tagged_fits l roots leaves q is countable in
     let tables = no_longer q [] (valid, tt) in
-    let as_many : length q.sample ≡ length is.samples = ap (λ (r : Profile). length r.sample) is.is in
-    let as_wide : length q.sample_type ≡ length l.profile.sample_type = ap (λ (r : Profile). length r.sample_type) is.is in
     let wide = recursion_from_All (λ (s : Sample). length s.value ≡ length q.sample_type) q.sample
     (λ k d within. eqb-true _ _ (passes (λ (s : Sample). length s.value == length q.sample_type) q.sample valid.values k d within)) in
     record {
-      samples = omega (arith, tables.samples, one_sum (λ r. length r.sample) q, as_many, is.few);
-      columns = omega (arith, tables.sample_types, one_sum (λ r. length r.sample_type) q, as_wide, countable.columns);
+      samples = omega (arith, tables.samples, one_sum (λ r. length r.sample) q, own.samples);
+      columns = omega (arith, tables.sample_types, one_sum (λ r. length r.sample_type) q, own.columns);
       sums = λ column below.
           let within : column < length q.sample_type = omega (arith, below, tables.sample_types, one_sum (λ r. length r.sample_type) q) in
-          let own : absolute_sum q column ≡ absolute_sum l.profile column =
-          sizes column q.sample ∙ ap (sum_by (size_in column)) (values_stay l roots leaves q is) ∙ sym (sizes column l.profile.sample) in
-          omega (arith, absolutes_within q [] column within (wide, tt), one_sum (λ r. absolute_sum r column) q, own, countable.sums column (omega (arith, within, as_wide)));
+          omega (arith, absolutes_within q [] column within (wide, tt), one_sum (λ r. absolute_sum r column) q, own.sums column within);
     }
 
 -- What it says is settled, as merging leaves it.
@@ -128,8 +141,8 @@ tagged_settled l roots leaves q is =
 -- The profile with the samples that were made is the one that is merged alone.
 pub is_tagged : (l : Loaded) (roots leaves : List (List ℕ)) (p q : Profile) (names : List (List ℕ)) (locations : List Location) (samples : List Sample) → p ≡ l.profile
     → NoRuleFails p → IsCompact p → q ≡ with_cut (grown p names) samples locations → AreTagged l roots leaves l.profile.sample names locations samples
-    → length samples < 2 ^ 32 → AllByRecursion (λ m. m.start < 2 ^ 64) p.mapping → IsTagged l roots leaves q
-is_tagged l roots leaves p q names locations samples same valid compact is tagged few starts = record {
+    → AllByRecursion (λ m. m.start < 2 ^ 64) p.mapping → IsTagged l roots leaves q
+is_tagged l roots leaves p q names locations samples same valid compact is tagged starts = record {
   names = names;
   locations = locations;
   samples = samples;
@@ -137,6 +150,5 @@ is_tagged l roots leaves p q names locations samples same valid compact is tagge
   tagged = tagged;
   valid = subst NoRuleFails same valid;
   compact = subst IsCompact same compact;
-  few = few;
   starts = subst (λ (r : Profile). AllByRecursion (λ m. m.start < 2 ^ 64) r.mapping) same starts;
 }

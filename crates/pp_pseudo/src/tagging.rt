@@ -1,5 +1,5 @@
 //! A profile with frames that are made from labels.
-ghost use Rattle.std.specs.Prelude.{◌≡◌, ◌++◌, ◌<◌, ◌^◌, [], length, IfOk, OnOk};
+ghost use Rattle.std.specs.Prelude.{◌≡◌, ◌++◌, ◌<◌, ◌^◌, [], IfOk, OnOk};
 ghost use Rattle.std.specs.List.{AllByRecursion};
 ghost use Rattle.pp_model.specs.Sizes.{IsCountable};
 ghost use Rattle.pp_pseudo.specs.Grown.{grown};
@@ -26,8 +26,9 @@ pub fn with_tags(
     roots: &List<Text>,
     leaves: &List<Text>,
 ) -> Result<Loaded, Memory>
+    requires { IsCountable l.now.profile }
     ensures tagged { IfOk result (λ q. q ≡ tagged l.now roots.now leaves.now) }
-    ensures countable { IsCountable l.now.profile → IfOk result (λ q. IsCountable q.profile) }
+    ensures countable { IfOk result (λ q. IsCountable q.profile) }
     ensures sums { IfOk result (λ q. KeepsTagSums l.now (roots.now ++ leaves.now) q.profile) }
 {
     let root_keys = roots.as_slice();
@@ -97,7 +98,7 @@ fn sample_with(alloc: Global, s: &Sample, ids: List<u64>) -> Result<Sample, Memo
     })
 }
 
-// The profile with these samples and locations, and with the names. No memory holds 2^32 samples.
+// The profile with these samples and locations, and with the names.
 fn grown_with(
     alloc: Global,
     p: &Profile,
@@ -106,7 +107,6 @@ fn grown_with(
 ) -> Result<Profile, Memory>
     ensures same { IfOk result (λ q.
         q ≡ with_cut (grown p.now frames.names) samples frames.places.locations) }
-    ensures few { IfOk result (λ q. length samples < 2 ^ 32) }
     ensures starts { IfOk result (λ q. AllByRecursion (λ m. m.start < 2 ^ 64) p.now.mapping) }
 {
     let Frames {
@@ -119,9 +119,6 @@ fn grown_with(
         hints: _hints,
         lines: _lines,
     } = places;
-    if samples.len() > u32::MAX as usize {
-        return Err(Memory);
-    }
     let q = with_cut(alloc, p, samples, locations)?;
     grow(alloc, q, names)
 }

@@ -98,6 +98,7 @@ fn text_by<R: Threads + Sync, D: Desk, G: Gate>(
 ) -> Result<Result<Text, ReportRefusal>, Stop>
     requires can { CanCount l.now.profile counts.now.verdicts config.now column }
     requires counted { IsCountedOf l.now counts.now.verdicts config.now column counts.now.counted }
+    requires kept { AreKept l.now.profile counts.now.counted.kept }
     requires small { head.now.total < 2 ^ 63 }
     ensures went { (f : Finders) → HoldsFilters l.now counts.now.verdicts config.now f →
         Went (D.world desk.old) (D.world desk.new)

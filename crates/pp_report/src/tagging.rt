@@ -16,10 +16,10 @@ pub fn tagged_of(
     l: &Loaded,
     config: &Config,
 ) -> Result<Option<Loaded>, Memory>
+    requires { IsCountable l.now.profile }
     ensures basis { IfOk result (λ tagged.
         unwrap_or tagged l.now ≡ basis_of report.now l.now config.now) }
-    ensures countable { IsCountable l.now.profile →
-        IfOk result (λ tagged. IsCountable (unwrap_or tagged l.now).profile) }
+    ensures countable { IfOk result (λ tagged. IsCountable (unwrap_or tagged l.now).profile) }
 {
     if is_comments(report) {
         return Ok(None);
@@ -38,9 +38,9 @@ fn is_comments(report: &Report) -> bool
 
 // The profile with the frames that the configuration asks for, None where it names no key.
 fn tagged_for(alloc: Global, l: &Loaded, config: &Config) -> Result<Option<Loaded>, Memory>
+    requires { IsCountable l.now.profile }
     ensures tagged { IfOk result (λ tagged. unwrap_or tagged l.now ≡ tagged_for l.now config.now) }
-    ensures countable { IsCountable l.now.profile →
-        IfOk result (λ tagged. IsCountable (unwrap_or tagged l.now).profile) }
+    ensures countable { IfOk result (λ tagged. IsCountable (unwrap_or tagged l.now).profile) }
 {
     let roots = key_list(alloc, config.tagroot.as_slice())?;
     let leaves = key_list(alloc, config.tagleaf.as_slice())?;
@@ -54,10 +54,10 @@ fn tagged_by(
     roots: &List<Text>,
     leaves: &List<Text>,
 ) -> Result<Option<Loaded>, Memory>
+    requires { IsCountable l.now.profile }
     ensures tagged { IfOk result (λ tagged.
         unwrap_or tagged l.now ≡ tagged_by l.now roots.now leaves.now) }
-    ensures countable { IsCountable l.now.profile →
-        IfOk result (λ tagged. IsCountable (unwrap_or tagged l.now).profile) }
+    ensures countable { IfOk result (λ tagged. IsCountable (unwrap_or tagged l.now).profile) }
 {
     if roots.len() == 0 && leaves.len() == 0 {
         return Ok(None);

@@ -12,7 +12,7 @@ ghost use Rattle.pp_dump.specs.Traces.{traces_text};
 ghost use Rattle.pp_dump.specs.TagLines.{tags_text};
 ghost use Rattle.pp_dump.specs.Raw.{raw_text};
 ghost use Rattle.pp_dump.specs.Comments.{comments_text};
-ghost use Rattle.pp_dump.specs.Saved.{saved};
+ghost use Rattle.pp_dump.specs.Saved.{AreKept, saved};
 ghost use Rattle.pp_saved.specs.Kept.{IsLasting};
 ghost use Rattle.pp_report.specs.Reports.{peek_outcome};
 ghost use Rattle.pp_report.specs.SavedText.{IsProtoOf};
@@ -165,6 +165,7 @@ fn saved(
 ) -> Result<Compact, Memory>
     requires can { CanCount l.now.profile counts.now.verdicts config.now column }
     requires counted { IsCountedOf l.now counts.now.verdicts config.now column counts.now.counted }
+    requires kept { AreKept l.now.profile counts.now.counted.kept }
     ensures saved { (f : Finders) → HoldsFilters l.now counts.now.verdicts config.now f →
         IfOk result (λ q. q ≡ saved l.now.profile f config.now) }
     ensures lasts { IfOk result IsLasting }
@@ -183,6 +184,7 @@ pub fn raw(
 ) -> Result<Text, Memory>
     requires can { CanCount l.now.profile counts.now.verdicts config.now column }
     requires counted { IsCountedOf l.now counts.now.verdicts config.now column counts.now.counted }
+    requires kept { AreKept l.now.profile counts.now.counted.kept }
     ensures { (f : Finders) → HoldsFilters l.now counts.now.verdicts config.now f →
         IfOk result (λ text. text ≡ raw_text (saved l.now.profile f config.now)) }
 {
@@ -211,6 +213,7 @@ pub fn proto(
 ) -> Result<Text, Memory>
     requires can { CanCount l.now.profile counts.now.verdicts config.now column }
     requires counted { IsCountedOf l.now counts.now.verdicts config.now column counts.now.counted }
+    requires kept { AreKept l.now.profile counts.now.counted.kept }
     ensures { (f : Finders) → HoldsFilters l.now counts.now.verdicts config.now f →
         IfOk result (IsProtoOf l.now.profile f config.now) }
 {

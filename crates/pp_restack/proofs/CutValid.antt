@@ -1,5 +1,5 @@
 -- A profile whose locations were cut keeps the table rules.
-use Rattle.std.proofs.Common.{◌≡◌, ℕ, ◌+◌, ◌-◌, ◌<◌, ◌≤◌, Bool, true, false, ◌&&◌, ◌||◌, List, [], ◌∷◌, map, length, refl, sym, ap, subst, ◌∙◌, arith}
+use Rattle.std.proofs.Common.{◌≡◌, ℕ, ◌+◌, ◌-◌, ◌<◌, Bool, true, false, ◌||◌, List, [], ◌∷◌, length, refl, sym, ap, subst, arith}
 use Rattle.std.specs.Prelude.{None, ◌==◌, nat_lt, slice_index_or}
 use Rattle.std.specs.List.{AllByRecursion, list_all}
 use Rattle.std.proofs.lemmas.Bool.{lt-ltb, ltb-true, eq-eqb, eqb-true, false≢true}
@@ -11,7 +11,7 @@ use Rattle.pp_model.specs.declared.profile.Location.{Location}
 use Rattle.pp_model.specs.declared.profile.Sample.{Sample}
 use Rattle.pp_model.specs.declared.profile.Profile.{Profile}
 use Rattle.pp_model.specs.Lookup.{text_at}
-use Rattle.pp_model.specs.Rules.{NoRuleFails, IsCompact, begins_empty, zero_unless, is_text, header_texts, label_has_texts, location_ids, location_refers, stands_in}
+use Rattle.pp_model.specs.Rules.{NoRuleFails, IsCompact, begins_empty, zero_unless, is_text, header_texts, label_has_texts, location_refers, stands_in}
 use Rattle.pp_model.proofs.RuleLemmas.{passes}
 use Rattle.pp_merge.proofs.NumberedLemmas.{all_by, all_pass, nowhere, nonzero, unrepeated, stands_at}
 use Rattle.pp_restack.specs.Places.{ArePlaces, IsWithin, IsCutSample, ids_of, with_cut}

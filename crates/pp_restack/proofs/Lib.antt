@@ -3,3 +3,4 @@ pub mod Grouping
 pub mod Placing
 pub mod CutValid
 pub mod MadeContents
+pub mod AloneLemmas

@@ -1,9 +1,9 @@
 -- Locations that are cut and added.
-use Rattle.std.proofs.Common.{◌≡◌, ℕ, zero, suc, ◌+◌, ◌-◌, ◌<◌, ◌≤◌, Bool, true, false, cond, ◌&&◌, List, [], ◌∷◌, ◌++◌, map, length, get_or, take, refl, sym, ap, subst, ◌∙◌, inl, inr, arith, All}
-use Rattle.std.specs.Prelude.{Option, Some, None, ◌==◌, slice_index}
+use Rattle.std.proofs.Common.{◌≡◌, ℕ, ◌+◌, ◌-◌, ◌<◌, Bool, true, ◌&&◌, List, [], ◌∷◌, ◌++◌, length, get_or, take, refl, sym, ap, subst, ◌∙◌, inl, inr, arith, All}
+use Rattle.std.specs.Prelude.{Option, Some, None, ◌==◌}
 use Rattle.std.specs.Bool.{Decides}
 use Rattle.std.specs.Ordering.{int_eq}
-use Rattle.std.specs.List.{AllByRecursion, filter_map, cons_option, list_all, slice_get, range_with_len}
+use Rattle.std.specs.List.{AllByRecursion, cons_option, slice_get}
 use Rattle.std.specs.Option.{option_and_then}
 use Rattle.std.proofs.lemmas.Bool.{and_parts, and_from, cases_lt}
 use Rattle.std.proofs.lemmas.Bool.Decides.{Decides-eqb, Decides-int_eq}
@@ -11,19 +11,18 @@ use Rattle.std.proofs.lemmas.List.{take_more, length-append, length-map, map-app
 use Rattle.std.proofs.Math.Seq.{get_or-append_seam}
 use Rattle.std.proofs.lemmas.List.Elements.{filter_map-append, recursion_from_All}
 use Rattle.std.proofs.lemmas.List.Sums.{AllPass-from_list_all}
-use Rattle.std.proofs.lemmas.Option.{none-some, same_Some, slice_get_within, get_or_from_slice_get}
-use Rattle.pp_base.specs.Front.{IsFront}
+use Rattle.std.proofs.lemmas.Option.{none-some, slice_get_within, get_or_from_slice_get}
 use Rattle.pp_model.specs.declared.frame.Frame.{Frame}
 use Rattle.pp_model.specs.declared.profile.Line.{Line}
 use Rattle.pp_model.specs.declared.profile.Location.{Location}
 use Rattle.pp_model.specs.declared.profile.Profile.{Profile}
 use Rattle.pp_model.specs.Conditions.{no_location, location_at, IsFrameOf}
 use Rattle.pp_model.specs.Frames.{line_at}
-use Rattle.pp_model.specs.Rules.{NoRuleFails, AreNumbered, location_refers, is_zero_or_in, mapping_ids, function_ids}
+use Rattle.pp_model.specs.Rules.{NoRuleFails, AreNumbered, location_refers, is_zero_or_in, function_ids}
 use Rattle.pp_model.proofs.RuleLemmas.{passes}
-use Rattle.pp_merge.proofs.NumberedLemmas.{all_pass, all_by}
+use Rattle.pp_merge.proofs.NumberedLemmas.{all_pass}
 use Rattle.pp_restack.specs.Stacks.{lines_of, cut_location}
-use Rattle.pp_restack.specs.Places.{with_lines, without_id, entry_in, ids_of, ArePlaces, IsEntry}
+use Rattle.pp_restack.specs.Places.{with_lines, without_id, ids_of, ArePlaces, IsEntry}
 
 -- two lines with the same numbers are the same
 pub line_decides : (a b : Line) → Decides (a.function_id == b.function_id && (int_eq a.line b.line && int_eq a.column b.column)) (a ≡ b)

@@ -1,5 +1,5 @@
 -- Locations that are added for the groups of a stack, and samples as these are added.
-use Rattle.std.proofs.Common.{Result, Ok, Err, OnOk, ◌≡◌, ℕ, ◌+◌, ◌-◌, ◌<◌, ◌≤◌, Bool, true, false, ◌||◌, List, [], ◌∷◌, ◌++◌, map, length, get_or, take, drop, All, refl, sym, ap, subst, ◌∙◌, arith, append_assoc}
+use Rattle.std.proofs.Common.{Result, Ok, Err, OnOk, ◌≡◌, ℕ, ◌-◌, ◌≤◌, List, [], ◌∷◌, ◌++◌, map, length, take, drop, All, refl, sym, ap, subst, ◌∙◌, arith, append_assoc}
 use Rattle.std.specs.List.{AllByRecursion}
 use Rattle.std.proofs.lemmas.List.{map-append, append-nil, length-append, get_or_append_left}
 use Rattle.std.proofs.lemmas.List.Elements.{All-drop}
@@ -11,7 +11,7 @@ use Rattle.pp_model.specs.declared.profile.Profile.{Profile}
 use Rattle.pp_model.specs.Conditions.{no_location, IsFrameOf}
 use Rattle.pp_merge.proofs.NumberedLemmas.{all_by}
 use Rattle.pp_restack.specs.Stacks.{by_place, cut_location}
-use Rattle.pp_restack.specs.Places.{without_id, entry_in, ArePlaces, KeepsPlaces, IsEntry, IsWithin, AreEntries, AppendsEntries, IsCutSample, Spread, spread_in}
+use Rattle.pp_restack.specs.Places.{without_id, entry_in, KeepsPlaces, IsEntry, IsWithin, AreEntries, AppendsEntries, IsCutSample, spread_in}
 use Rattle.pp_restack.proofs.PlacesLemmas.{all_with}
 
 -- locations stay as they are where others are added behind them

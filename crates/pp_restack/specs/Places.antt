@@ -1,4 +1,4 @@
--- Locations that are cut, and the samples that name them. No public clause cites them.
+-- Locations that are cut, and the samples that name them. What places a stack or a line says by them what it added.
 use Rattle.std.specs.Prelude.{◌≡◌, ℕ, ◌-◌, ◌<◌, ◌≤◌, ℤ, pos, true, false, List, [], ◌∷◌, ◌++◌, length, map, slice_index_or}
 use Rattle.std.specs.List.{list_all, AllByRecursion}
 use Rattle.pp_model.specs.declared.profile.Label.{Label}

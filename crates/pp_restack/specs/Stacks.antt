@@ -1,5 +1,5 @@
 -- A profile made of stacks: the frames of a profile in groups, each group a location, and what such a profile says.
-use Rattle.std.specs.Prelude.{ℕ, ◌==◌, ℤ, List, [], ◌∷◌, filter, length, slice_get, if◌then◌else◌}
+use Rattle.std.specs.Prelude.{◌==◌, ℤ, List, [], ◌∷◌, filter, length, slice_get, if◌then◌else◌}
 use Rattle.std.specs.List.{filter_map}
 use Rattle.pp_model.specs.declared.frame.Frame.{Frame}
 use Rattle.pp_model.specs.declared.profile.Line.{Line}

@@ -4,7 +4,7 @@ use Rattle.pp_model.specs.declared.profile.Location.{Location}
 use Rattle.pp_model.specs.declared.profile.Mapping.{Mapping}
 use Rattle.pp_model.specs.declared.profile.Sample.{Sample}
 use Rattle.pp_model.specs.declared.profile.Profile.{Profile}
-use Rattle.pp_model.specs.Rules.{NoRuleFails}
+use Rattle.pp_model.specs.Rules.{NoRuleFails, IsCompact}
 use Rattle.pp_count.specs.Counts.{samples_at}
 use Rattle.pp_restack.specs.Places.{ArePlaces, IsCutSample, with_cut}
 use Rattle.pp_restack.proofs.CutValid.{own_places, cut_valid}
@@ -47,6 +47,6 @@ returns c =
           (subst (λ (locations : List Location). AddsSamples l v numbered c.in_ok-samples.samples locations new.samples new.places.locations)
           (c.in_ok-places_of.ensures ∙ ap (λ (p : Profile). p.location) same) c.in_ok-cut_samples.ensures);
       valid = subst NoRuleFails same c.get-p.ensures.valid;
-      few = c.in_ok-q.ensures.few;
+      compact = subst IsCompact same c.get-p.ensures.compact;
       starts = subst (λ (p : Profile). AllByRecursion (λ (m : Mapping). m.start < 2 ^ 64) p.mapping) same c.in_ok-q.ensures.starts;
     }

@@ -10,7 +10,7 @@ use Rattle.pp_merge.proofs.WrittenAgain.{contents_again}
 use Rattle.pp_restack.specs.Places.{with_cut}
 use Rattle.pp_restack.specs.Stacks.{patternless}
 use Rattle.pp_restack.proofs.MadeContents.{starts_of}
-use Rattle.pp_dump.specs.Saved.{saved_contents, saved}
+use Rattle.pp_dump.specs.Saved.{AreKept, saved_contents, saved}
 use Rattle.pp_dump.specs.Stacks.{KeepsStacks}
 use Rattle.pp_dump.specs.Unfiltered.{KeepsSums, KeepsKeys}
 use Rattle.pp_dump.proofs.KeptStacks.{keeps_stacks, left_is}
@@ -19,7 +19,15 @@ use Rattle.pp_dump.proofs.SavedHeader.{header_cut, same_column}
 use Rattle.pp_dump.proofs.SeenStacks.{keeps_sums}
 use Rattle.pp_dump.proofs.WholeStacks.{whole_left}
 use Rattle.pp_dump.proofs.CutContents.{contents_saved}
+use Rattle.pp_dump.proofs.CutSizes.{cut_countable}
 use Rattle.pp_dump.proofs.saved.saved_profile.Goals as goal
+
+-- what was cut has samples of the profile, each at most once
+pub merge_alone-requires : goal.merge_alone-requires
+merge_alone-requires c =
+    let is = c.in_ok-cut.ensures in
+    cut_countable c.args.l.now c.args.v.now c.as_slice.result.now c.in_ok-cut.cut is c.requires.verdicts
+    (subst (AreKept c.args.l.now.profile) (sym c.as_slice.ensures) c.requires.kept) c.requires.countable
 
 -- what was cut is merged alone
 pub returns-clause-saved : goal.returns-clause-saved

@@ -27,11 +27,11 @@ claim-requires c =
     let new = c.tag_samples.new in
     tagged_valid c.args.l.now c.args.roots.now c.args.leaves.now c.in_ok-q.q
     (is_tagged c.args.l.now c.args.roots.now c.args.leaves.now c.get-p.result.now c.in_ok-q.q new.frames.names new.frames.places.locations new.samples
-    c.get-p.ensures.same c.get-p.ensures.valid c.get-p.ensures.compact c.in_ok-q.ensures.same c.in_ok-tag_samples.ensures c.in_ok-q.ensures.few c.in_ok-q.ensures.starts)
+    c.get-p.ensures.same c.get-p.ensures.valid c.get-p.ensures.compact c.in_ok-q.ensures.same c.in_ok-tag_samples.ensures c.in_ok-q.ensures.starts)
 
 pub returns : goal.returns
 returns c =
     let new = c.tag_samples.new in
     subst (IsTagged c.args.l.now c.args.roots.now c.args.leaves.now) (sym c.claim.ensures)
     (is_tagged c.args.l.now c.args.roots.now c.args.leaves.now c.get-p.result.now c.in_ok-q.q new.frames.names new.frames.places.locations new.samples
-    c.get-p.ensures.same c.get-p.ensures.valid c.get-p.ensures.compact c.in_ok-q.ensures.same c.in_ok-tag_samples.ensures c.in_ok-q.ensures.few c.in_ok-q.ensures.starts)
+    c.get-p.ensures.same c.get-p.ensures.valid c.get-p.ensures.compact c.in_ok-q.ensures.same c.in_ok-tag_samples.ensures c.in_ok-q.ensures.starts)

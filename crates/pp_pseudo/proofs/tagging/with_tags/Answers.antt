@@ -1,17 +1,17 @@
-use Rattle.std.proofs.Common.{◌≡◌, ◌<◌, ◌^◌, ◌++◌, List, ℕ, length, refl, sym, ap, subst, ◌∙◌, arith}
-use Rattle.pp_model.specs.declared.profile.Profile.{Profile}
+use Rattle.std.proofs.Common.{◌≡◌, ◌++◌, List, ℕ, refl, sym, subst, ◌∙◌}
 use Rattle.pp_model.specs.Sizes.{IsCountable}
 use Rattle.pp_model.proofs.LoadedLemmas.{same_loaded}
 use Rattle.pp_pseudo.specs.Framed.{IsTagged}
 use Rattle.pp_pseudo.specs.TagSums.{KeepsTagSums}
 use Rattle.pp_pseudo.specs.WithTags.{tagged}
 use Rattle.pp_pseudo.proofs.TagSumsLemmas.{keeps_tag_sums}
-use Rattle.pp_pseudo.proofs.WithTagsLemmas.{tagged_merged, tagged_countable, tagged_settled}
+use Rattle.pp_pseudo.proofs.WithTagsLemmas.{tagged_merged, tagged_fits, tagged_countable, tagged_settled}
 use Rattle.pp_pseudo.proofs.tagging.with_tags.Goals as goal
 
--- what is merged alone has no more samples than can be counted
+-- what is merged alone has the values of the profile
 pub merge_alone-requires : goal.merge_alone-requires
-merge_alone-requires c = omega (arith, c.in_ok-p.ensures.few, ap (λ (q : Profile). length q.sample) c.in_ok-p.ensures.is)
+merge_alone-requires c =
+    tagged_fits c.args.l.now c.as_slice-root_keys.result.now c.as_slice-leaf_keys.result.now c.in_ok-p.p c.in_ok-p.ensures c.requires
 
 -- the profile is the one with the frames of the keys
 pub returns-clause-tagged : goal.returns-clause-tagged
@@ -25,9 +25,9 @@ returns-clause-tagged c =
     same_loaded _ (tagged l roots leaves) (c.in_ok-profile.ensures ∙ tagged_merged l roots leaves c.in_ok-p.p is) refl refl
 
 pub returns-clause-countable : goal.returns-clause-countable
-returns-clause-countable c countable =
+returns-clause-countable c =
     subst IsCountable (sym c.in_ok-profile.ensures)
-    (tagged_countable c.args.l.now c.as_slice-root_keys.result.now c.as_slice-leaf_keys.result.now c.in_ok-p.p c.in_ok-p.ensures countable)
+    (tagged_countable c.args.l.now c.as_slice-root_keys.result.now c.as_slice-leaf_keys.result.now c.in_ok-p.p c.in_ok-p.ensures c.requires)
 
 -- and its sums are those of the labels
 pub returns-clause-sums : goal.returns-clause-sums

@@ -29,6 +29,16 @@ text_by-requires-clause-small g c = λ _ _.
     (counts_at g.D.Desk.finds c.args.l.now c.args.report.now c.args.config.now c.args.shows.column c.args.counts
     c.in-Some.counts c.in-Some.is c.requires))
 
+-- what is counted is what the report's own patterns leave
+pub text_by-requires-clause-kept : goal.text_by-requires-clause-kept
+text_by-requires-clause-kept g c =
+    let finds = g.D.Desk.finds in
+    let l = c.args.l.now in
+    let config = c.args.config.now in
+    let are = counts_at finds l c.args.report.now config c.args.shows.column c.args.counts c.in-Some.counts c.in-Some.is c.requires in
+    let own = report_finders finds l c.args.report.now config in
+    (own, (config, are.are.kept own are.holds))
+
 -- what was saved is what the report's own patterns leave
 pub returns-clause-saved : goal.returns-clause-saved
 returns-clause-saved g c proto =

@@ -17,7 +17,7 @@ returns-in_err-tagged-clause-went g c =
 
 -- what can be counted can be counted with frames
 pub prepare_showing-requires-clause-countable : goal.prepare_showing-requires-clause-countable
-prepare_showing-requires-clause-countable g c = λ _ _. rw c.basis-over.ensures (c.in_ok-tagged.ensures.countable c.requires.countable)
+prepare_showing-requires-clause-countable g c = λ _ _. rw c.basis-over.ensures c.in_ok-tagged.ensures.countable
 
 -- frames leave the sample types
 pub prepare_showing-requires-clause-column : goal.prepare_showing-requires-clause-column

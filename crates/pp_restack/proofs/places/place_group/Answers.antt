@@ -1,9 +1,7 @@
-use Rattle.std.proofs.Common.{◌≡◌, true, sym, subst, ◌∙◌, List, get_or}
+use Rattle.std.proofs.Common.{◌≡◌, true, sym, subst, ◌∙◌, get_or}
 use Rattle.std.specs.Result.{IfOk}
-use Rattle.pp_model.specs.declared.profile.Line.{Line}
 use Rattle.pp_model.specs.declared.profile.Location.{Location}
 use Rattle.pp_model.specs.Rules.{location_refers}
-use Rattle.pp_restack.specs.Stacks.{lines_of}
 use Rattle.pp_restack.specs.Places.{with_lines, IsEntry}
 use Rattle.pp_restack.proofs.Placing.{then_ok}
 use Rattle.pp_restack.proofs.PlacesLemmas.{no_frame, location_read, group_refers, cut_is}

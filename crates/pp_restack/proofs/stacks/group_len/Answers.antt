@@ -1,4 +1,4 @@
-use Rattle.std.proofs.Common.{◌≡◌, ◌∷◌, ◌-◌, ℕ, length, get_or, take, drop, sym, subst, arith}
+use Rattle.std.proofs.Common.{◌≡◌, ◌∷◌, ◌-◌, ℕ, length, get_or, take, drop, subst, arith}
 use Rattle.pp_restack.specs.Stacks.{by_place}
 use Rattle.pp_restack.proofs.PlacesLemmas.{no_frame}
 use Rattle.pp_restack.proofs.Grouping.{first_group}

@@ -1,8 +1,8 @@
-use Rattle.std.proofs.Common.{List, length, subst, arith}
+use Rattle.std.proofs.Common.{List, subst}
 use Rattle.pp_model.specs.declared.frame.Frame.{Frame}
 use Rattle.pp_restack.specs.Stacks.{cut_location}
 use Rattle.pp_restack.specs.Places.{IsEntry}
-use Rattle.pp_restack.proofs.Placing.{placed_more, placed_all}
+use Rattle.pp_restack.proofs.Placing.{placed_more}
 use Rattle.pp_restack.proofs.stacks.place_stack.Goals as goal
 
 -- one group more
