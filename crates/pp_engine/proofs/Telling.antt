@@ -6,7 +6,7 @@ use Rattle.pp_base.specs.FileMap.{FileMap}
 use Rattle.pp_base.specs.Judges.{Answer}
 use Rattle.pp_desk.specs.declared.input_line.InputLine.{InputLine}
 use Rattle.pp_desk.specs.Course.{Course, course}
-use Rattle.pp_desk.specs.Effects.{Effect, outs, errs}
+use Rattle.pp_desk.specs.Effects.{Effect, outs, errs, files_after}
 use Rattle.pp_desk.specs.Script.{Give, ◌>>=◌}
 use Rattle.pp_model.specs.declared.config.Config.{Config}
 use Rattle.pp_model.specs.declared.loaded.Loaded.{Loaded}
@@ -23,6 +23,7 @@ tells_after : {A : Type 0} (before : Course A) (told : Course (Result (List ℕ)
 tells_after before told made none t = record {
   notes = ap (λ (es : List Effect). errs (es ++ told.effects)) none ∙ t.notes;
   no_text = ap (λ (es : List Effect). outs (es ++ told.effects)) none ∙ t.no_text;
+  no_file = λ files. ap (λ (es : List Effect). files_after files (es ++ told.effects)) none ∙ t.no_file files;
   outcome = t.outcome;
   asked = ap (λ more. before.asked ++ more) t.asked;
 }
@@ -31,7 +32,7 @@ module _ (finds : Finds) (l : Loaded) (report : Report) (config : Config) (files
   tells_settled : (settled : Result Settled ReportRefusal) (answers : List Answer)
       → Tells (course (note_and_finish finds l report config settled) files locked lines answers) (course (report_settled finds l report config settled) files locked lines answers)
   unfolding note_and_finish report_settled ◌>>=◌
-  tells_settled (Err refusal) answers = record { notes = refl; no_text = refl; outcome = refl; asked = refl }
+  tells_settled (Err refusal) answers = record { notes = refl; no_text = refl; no_file = λ files. refl; outcome = refl; asked = refl }
   tells_settled (Ok settled) answers =
       let text = course (finish finds l report config settled.showing) files locked lines answers in
       let none : text.effects ≡ [] = no_effects (finish finds l report config settled.showing) files locked lines answers (finish_writes_nothing finds l report config settled.showing) in
@@ -39,6 +40,7 @@ module _ (finds : Finds) (l : Loaded) (report : Report) (config : Config) (files
       rw both (record {
         notes = ap (λ (es : List Effect). settled.notes ++ errs es) none ∙ append-nil settled.notes;
         no_text = ap outs none;
+        no_file = λ files. ap (files_after files) none;
         outcome = refl;
         asked = sym (append-nil text.asked);
       })
