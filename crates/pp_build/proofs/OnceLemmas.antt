@@ -43,7 +43,7 @@ module _ {K T : Type 0} (eq : K → K → Bool) (same : T → T → Bool) (keyed
         ∙ seen_with-map same same bare (λ _. Unit {0}) (λ a b _ _. entries_agree a b) x tt entries (all_units entries)
         ∙ ap (map bare) (sym (table_is after put))
 
--- A result for an entry that is given, and the entry that is added.
+-- A table whose entries stand once.
 module _ {T : Type 0} (same : T → T → Bool) where
   -- no fewer entries than before
   pub no_fewer : (xs : List T) (x : T) → length xs ≤ length (seen_with same xs x)
