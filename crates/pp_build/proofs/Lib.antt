@@ -1,0 +1,5 @@
+pub mod BuiltLemmas
+pub mod ChangeLemmas
+pub mod OnceLemmas
+pub mod PutLemmas
+pub mod SampleLemmas

@@ -1,0 +1,131 @@
+use Rattle.std.proofs.Common.{◌+◌, ◌≤◌, List, length, map, sym, ap, subst, ◌∙◌}
+use Rattle.std.specs.Prelude.{false}
+use Rattle.std.proofs.lemmas.List.Elements.{recursion_from_All}
+use Rattle.pp_model.specs.declared.profile.Line.{Line}
+use Rattle.pp_model.specs.declared.profile.Location.{Location}
+use Rattle.pp_model.specs.declared.profile.Profile.{Profile}
+use Rattle.pp_merge.proofs.NumberedLemmas.{all_mapped}
+use Rattle.pp_build.specs.declared.given.SourceLine.{SourceLine}
+use Rattle.pp_build.specs.Given.{line_of, location_of}
+use Rattle.pp_build.specs.Seen.{keyed_location, bare_location}
+use Rattle.pp_build.specs.Growing.{IsBuilt, LocationIn}
+use Rattle.pp_build.proofs.PutLemmas.{location_put}
+use Rattle.pp_build.proofs.builder.Builder.location.Goals as goal
+
+-- the table and its keys are as they were
+pub invariant_of-self : goal.invariant_of-self
+invariant_of-self c =
+    let e = c.in_err-number.ensures in
+    record {
+      built = subst (λ (ls : List Location). IsBuilt (record c.self.inside.profile { location = ls })) (sym e.table_err) c.self.invariant.built;
+      keys = record {
+        texts = c.self.invariant.keys.texts;
+        mappings = c.self.invariant.keys.mappings;
+        functions = c.self.invariant.keys.functions;
+        locations = ap (map keyed_location) e.keys_err ∙ c.self.invariant.keys.locations ∙ ap (map bare_location) (sym e.table_err);
+      };
+    }
+
+pub invariant_of-self-2 : goal.invariant_of-self-2
+invariant_of-self-2 c =
+    let p = c.self.inside.profile in
+    let e = c.in_ok-number.ensures in
+    let lines = c.args.lines.now in
+    let l = location_of c.args.mapping c.args.address lines in
+    let has : LocationIn (length p.mapping) (length p.function) l =
+    subst (λ (q : Profile). LocationIn (length q.mapping) (length q.function) l) (sym c.self.view_is) (
+      c.requires.mapping,
+      all_mapped (λ (line : Line). line.function_id ≤ length c.args.self.now.function) line_of lines
+          (recursion_from_All (λ (line : SourceLine). line.function.number ≤ length c.args.self.now.function) lines c.requires.lines),
+    ) in
+    let it = location_put p c.args.self.now c.self.view_is c.self.invariant.built _ _ l _ _ _ _ has
+    c.in_ok-key.ensures
+    (λ i. record {
+      id = (c.in_ok-next_id.ensures ∙ ap (λ n. n + 1) c.len.ensures) i;
+      mapping_id = c.args.mapping.number;
+      address = c.args.address;
+      line = c.in_ok-lines_of.ensures i;
+      folded = false;
+    })
+    c.self.invariant.keys.locations e.keys e.table e.id in
+    record {
+      built = it.built;
+      keys = record {
+        texts = c.self.invariant.keys.texts;
+        mappings = c.self.invariant.keys.mappings;
+        functions = c.self.invariant.keys.functions;
+        locations = it.keys;
+      };
+    }
+
+pub returns-clause-id : goal.returns-clause-id
+returns-clause-id c =
+    let p = c.self.inside.profile in
+    let e = c.in_ok-number.ensures in
+    let lines = c.args.lines.now in
+    let l = location_of c.args.mapping c.args.address lines in
+    let has : LocationIn (length p.mapping) (length p.function) l =
+    subst (λ (q : Profile). LocationIn (length q.mapping) (length q.function) l) (sym c.self.view_is) (
+      c.requires.mapping,
+      all_mapped (λ (line : Line). line.function_id ≤ length c.args.self.now.function) line_of lines
+          (recursion_from_All (λ (line : SourceLine). line.function.number ≤ length c.args.self.now.function) lines c.requires.lines),
+    ) in
+    let it = location_put p c.args.self.now c.self.view_is c.self.invariant.built _ _ l _ _ _ _ has
+    c.in_ok-key.ensures
+    (λ i. record {
+      id = (c.in_ok-next_id.ensures ∙ ap (λ n. n + 1) c.len.ensures) i;
+      mapping_id = c.args.mapping.number;
+      address = c.args.address;
+      line = c.in_ok-lines_of.ensures i;
+      folded = false;
+    })
+    c.self.invariant.keys.locations e.keys e.table e.id in
+    it.id
+
+pub returns-clause-new : goal.returns-clause-new
+returns-clause-new c =
+    let p = c.self.inside.profile in
+    let e = c.in_ok-number.ensures in
+    let lines = c.args.lines.now in
+    let l = location_of c.args.mapping c.args.address lines in
+    let has : LocationIn (length p.mapping) (length p.function) l =
+    subst (λ (q : Profile). LocationIn (length q.mapping) (length q.function) l) (sym c.self.view_is) (
+      c.requires.mapping,
+      all_mapped (λ (line : Line). line.function_id ≤ length c.args.self.now.function) line_of lines
+          (recursion_from_All (λ (line : SourceLine). line.function.number ≤ length c.args.self.now.function) lines c.requires.lines),
+    ) in
+    let it = location_put p c.args.self.now c.self.view_is c.self.invariant.built _ _ l _ _ _ _ has
+    c.in_ok-key.ensures
+    (λ i. record {
+      id = (c.in_ok-next_id.ensures ∙ ap (λ n. n + 1) c.len.ensures) i;
+      mapping_id = c.args.mapping.number;
+      address = c.args.address;
+      line = c.in_ok-lines_of.ensures i;
+      folded = false;
+    })
+    c.self.invariant.keys.locations e.keys e.table e.id in
+    it.new
+
+pub returns-clause-within : goal.returns-clause-within
+returns-clause-within c =
+    let p = c.self.inside.profile in
+    let e = c.in_ok-number.ensures in
+    let lines = c.args.lines.now in
+    let l = location_of c.args.mapping c.args.address lines in
+    let has : LocationIn (length p.mapping) (length p.function) l =
+    subst (λ (q : Profile). LocationIn (length q.mapping) (length q.function) l) (sym c.self.view_is) (
+      c.requires.mapping,
+      all_mapped (λ (line : Line). line.function_id ≤ length c.args.self.now.function) line_of lines
+          (recursion_from_All (λ (line : SourceLine). line.function.number ≤ length c.args.self.now.function) lines c.requires.lines),
+    ) in
+    let it = location_put p c.args.self.now c.self.view_is c.self.invariant.built _ _ l _ _ _ _ has
+    c.in_ok-key.ensures
+    (λ i. record {
+      id = (c.in_ok-next_id.ensures ∙ ap (λ n. n + 1) c.len.ensures) i;
+      mapping_id = c.args.mapping.number;
+      address = c.args.address;
+      line = c.in_ok-lines_of.ensures i;
+      folded = false;
+    })
+    c.self.invariant.keys.locations e.keys e.table e.id in
+    it.within

@@ -1,0 +1,66 @@
+use Rattle.std.proofs.Common.{ℕ, ◌+◌, ◌<◌, length, sym, ap, subst, ◌∙◌}
+use Rattle.pp_model.specs.declared.profile.Profile.{Profile}
+use Rattle.pp_build.specs.Given.{mapping_of}
+use Rattle.pp_build.proofs.ChangeLemmas.{text_in}
+use Rattle.pp_build.proofs.PutLemmas.{mapping_put}
+use Rattle.pp_build.proofs.builder.Builder.mapping.Goals as goal
+
+pub invariant_of-self-2 : goal.invariant_of-self-2
+invariant_of-self-2 c =
+    let p = c.self.inside.profile in
+    let e = c.in_ok-number.ensures in
+    let m = mapping_of c.args.m.now in
+    let low = λ (i : ℕ) (is : i < length c.args.self.now.text). text_in (length p.text) i (subst (λ (q : Profile). i < length q.text) (sym c.self.view_is) is) in
+    let it = mapping_put p c.args.self.now c.self.view_is c.self.invariant.built _ _ m _ _ _ _
+    (low c.args.m.now.file.index c.requires.file, low c.args.m.now.build_id.index c.requires.build_id)
+    c.mapping_key-key.ensures
+    (c.mapping_with-mapping.ensures ∙ ap (λ (n : ℕ). record m { id = n }) (c.in_ok-next_id.ensures ∙ ap (λ n. n + 1) c.len.ensures))
+    c.self.invariant.keys.mappings e.keys e.table e.id in
+    record {
+      built = it.built;
+      keys = record {
+        texts = c.self.invariant.keys.texts;
+        mappings = it.keys;
+        functions = c.self.invariant.keys.functions;
+        locations = c.self.invariant.keys.locations;
+      };
+    }
+
+pub returns-clause-id : goal.returns-clause-id
+returns-clause-id c =
+    let p = c.self.inside.profile in
+    let e = c.in_ok-number.ensures in
+    let m = mapping_of c.args.m.now in
+    let low = λ (i : ℕ) (is : i < length c.args.self.now.text). text_in (length p.text) i (subst (λ (q : Profile). i < length q.text) (sym c.self.view_is) is) in
+    let it = mapping_put p c.args.self.now c.self.view_is c.self.invariant.built _ _ m _ _ _ _
+    (low c.args.m.now.file.index c.requires.file, low c.args.m.now.build_id.index c.requires.build_id)
+    c.mapping_key-key.ensures
+    (c.mapping_with-mapping.ensures ∙ ap (λ (n : ℕ). record m { id = n }) (c.in_ok-next_id.ensures ∙ ap (λ n. n + 1) c.len.ensures))
+    c.self.invariant.keys.mappings e.keys e.table e.id in
+    it.id
+
+pub returns-clause-new : goal.returns-clause-new
+returns-clause-new c =
+    let p = c.self.inside.profile in
+    let e = c.in_ok-number.ensures in
+    let m = mapping_of c.args.m.now in
+    let low = λ (i : ℕ) (is : i < length c.args.self.now.text). text_in (length p.text) i (subst (λ (q : Profile). i < length q.text) (sym c.self.view_is) is) in
+    let it = mapping_put p c.args.self.now c.self.view_is c.self.invariant.built _ _ m _ _ _ _
+    (low c.args.m.now.file.index c.requires.file, low c.args.m.now.build_id.index c.requires.build_id)
+    c.mapping_key-key.ensures
+    (c.mapping_with-mapping.ensures ∙ ap (λ (n : ℕ). record m { id = n }) (c.in_ok-next_id.ensures ∙ ap (λ n. n + 1) c.len.ensures))
+    c.self.invariant.keys.mappings e.keys e.table e.id in
+    it.new
+
+pub returns-clause-within : goal.returns-clause-within
+returns-clause-within c =
+    let p = c.self.inside.profile in
+    let e = c.in_ok-number.ensures in
+    let m = mapping_of c.args.m.now in
+    let low = λ (i : ℕ) (is : i < length c.args.self.now.text). text_in (length p.text) i (subst (λ (q : Profile). i < length q.text) (sym c.self.view_is) is) in
+    let it = mapping_put p c.args.self.now c.self.view_is c.self.invariant.built _ _ m _ _ _ _
+    (low c.args.m.now.file.index c.requires.file, low c.args.m.now.build_id.index c.requires.build_id)
+    c.mapping_key-key.ensures
+    (c.mapping_with-mapping.ensures ∙ ap (λ (n : ℕ). record m { id = n }) (c.in_ok-next_id.ensures ∙ ap (λ n. n + 1) c.len.ensures))
+    c.self.invariant.keys.mappings e.keys e.table e.id in
+    it.within

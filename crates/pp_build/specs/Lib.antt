@@ -1,0 +1,6 @@
+pub mod Adding
+pub mod Given
+pub mod Growing
+pub mod Same
+pub mod Seen
+pub mod Sound
