@@ -146,7 +146,7 @@ module _ (file : List ℕ) (test : Bor (List ℕ) → Bool) (tells : (x : Bor (L
       later : (sources : List Source) → bytes_eq file f.now ≡ false
           → ((ss : List Source) → get_or ss (position_or_len test files) NotFound ≡ source_at (map told files) ss file)
           → get_or sources (1 + position_or_len test files) NotFound ≡ source_at (f.now ∷ map told files) sources file
-      later [] is rest = ap (λ n. get_or {X = Source} [] n NotFound) (one (position_or_len test files))
+      later [] is rest = ap (λ n. get_or [] n NotFound) (one (position_or_len test files))
       later (s ∷ sources) is rest =
           ap (λ n. get_or (s ∷ sources) n NotFound) (one (position_or_len test files))
           ∙ rest sources
