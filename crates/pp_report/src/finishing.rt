@@ -6,6 +6,7 @@ ghost use Rattle.pp_model.specs.Finders.{Finders};
 ghost use Rattle.pp_units.specs.Head.{facts};
 ghost use Rattle.pp_count.specs.Counted.{CanCount, IsCountedOf};
 ghost use Rattle.pp_count.specs.Seeing.{HoldsFilters};
+ghost use Rattle.pp_dump.specs.Saved.{AreKept};
 ghost use Rattle.pp_report.specs.Prepared.{showing, HasCounts, IsPrepared};
 ghost use Rattle.pp_report.specs.Reports.{finish, finish_on, text_by, list_text};
 ghost use Rattle.pp_report.specs.SavedText.{OnText, IsProtoOf, IsProtoBy};
