@@ -31,7 +31,7 @@ text_by-requires-clause-small g c = λ _ _.
 
 -- what is counted is what the report's own patterns leave
 pub text_by-requires-clause-kept : goal.text_by-requires-clause-kept
-text_by-requires-clause-kept g c =
+text_by-requires-clause-kept g c = λ _ _.
     let finds = g.D.Desk.finds in
     let l = c.args.l.now in
     let config = c.args.config.now in
