@@ -61,23 +61,23 @@ def option_of(word, about):
 def options():
     """The options as the help has them, and the choice words behind those that they set."""
     found = [option_of(word, about) for words, about in described() for word in words.split(", ")]
-    for table, what in (("SORTS", "the order"), ("GRAINS", "a row stands for")):
-        found += [Option(name, "", f"{what}: {name}") for name in names_in("value.rt", table)]
+    for file, table, what in (("value.rt", "SORTS", "the order"), ("value.rt", "GRAINS", "a row stands for"), ("sample_type.rt", "SAMPLE_TYPES", "the sample type")):
+        found += [Option(name, "", f"{what}: {name}") for name in names_in(file, table)]
     stop_unless_named({it.name for it in found})
     return found
 
 
 def stop_unless_named(found):
-    tables = [("variable.rt", "VARIABLES"), ("format.rt", "FORMATS"), ("name.rt", "OTHERS"), ("value.rt", "SORTS"), ("value.rt", "GRAINS")]
+    tables = [("variable.rt", "VARIABLES"), ("format.rt", "FORMATS"), ("name.rt", "OTHERS"), ("value.rt", "SORTS"), ("value.rt", "GRAINS"), ("sample_type.rt", "SAMPLE_TYPES")]
     named = {name for file, table in tables for name in names_in(file, table)}
     if found != named:
         sys.exit(f"make_completions: in the help or in a table alone: {' '.join(sorted(found ^ named))}")
 
 
 def commands():
-    """The words that a line of the shell may begin with."""
+    """The words that a line of the shell may begin with. Its help leaves out some formats."""
     line = constant("SHELL_HELP").splitlines()[0]
-    return [*line.removeprefix("Commands: ").split(), "exit"]
+    return [*line.removeprefix("Commands: ").split(), *names_in("format.rt", "FORMATS"), "exit"]
 
 
 def pattern(names):

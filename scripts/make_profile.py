@@ -6,7 +6,8 @@ by `; `. With --check nothing is written, and the status is 1 where a file is no
 
   type KIND/UNIT                    a sample type; without any it is samples/count
   LOCATIONS = VALUES {LABELS}       a sample: locations leaf first and values set apart by spaces, labels by `, `
-    f:7                             a location without address, with the line 7 of f in the file f.c
+    f:7                             a location without address, with the line 7 of f in the file f.c; in the names of
+                                    functions and files, and in a unit, escapes stand for bytes as in transcripts
     f%/a/b.c:7:3                    another file, and a column
     f:7+g:9                         one location with two lines: f was inlined into g
     f:7@1100  @1100                 an address in the mapping, and one without lines; `!` behind it: folded
@@ -22,9 +23,15 @@ import dataclasses
 import pathlib
 import sys
 
+from transcripts import plain
+
 FIXTURES = pathlib.Path(__file__).resolve().parent.parent / "crates/pp_sessions/data/fixtures"
 DESCRIPTIONS = FIXTURES / "descriptions.txt"
 FLAGS = {"FN": 7, "FL": 8, "LN": 9, "IN": 10}
+
+
+def unescaped(text):
+    return plain(text.encode("latin-1")).decode("latin-1")
 
 
 # Protocol Buffers' encoding.
@@ -88,7 +95,7 @@ class Profile:
     def take(self, item):
         word, _, rest = item.partition(" ")
         if word == "type":
-            self.types.append(rest.split("/"))
+            self.types.append([unescaped(part) for part in rest.split("/")])
         elif word == "map":
             self.mappings.append(rest.split(" "))
         elif word == "function":
@@ -126,7 +133,7 @@ class Profile:
         name, line, column = (text + ":0").split(":")[:3]
         name, _, file = name.partition("%")
         file = file if "%" in text else name + ".c"
-        return self.functions.number((name, file)), int(line), int(column)
+        return self.functions.number((unescaped(name), unescaped(file))), int(line), int(column)
 
 
 def encoded(profile):

@@ -10,7 +10,11 @@ use Rattle.pp_base.proofs.CallerLemmas.{take-IsFront}
 
 -- the first half is a front
 pub half_left : (old new : FilesHeld) (path bytes : List ℕ) → among old.locked path ≡ false
-    → new ≡ record { content = with_file old.content path (half_of bytes); locked = old.locked }
+    → new ≡ record {
+      content = with_file old.content path (half_of bytes);
+      locked = old.locked;
+      reads = old.reads;
+    }
     → AnswersWrite (Some old.content) (Some new.content) (Some old.locked) path bytes Failed
 half_left old new path bytes free is =
     let front : LeavesFront (Some old.content) (Some new.content) path bytes =

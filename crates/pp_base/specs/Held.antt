@@ -25,10 +25,11 @@ pub record MemSinkHeld : Type 0 where
   pub calm : SinkHeld
   pub calls : Calls
 
--- files that never fail: their contents, and the paths that can't be written
+-- files that never fail: their contents, the paths that can't be written, and those that were read, in order
 pub record FilesHeld : Type 0 where
   pub content : FileMap
   pub locked : List (List ℕ)
+  pub reads : List (List ℕ)
 
 -- files: what they hold, and which calls fail
 pub record MemFilesHeld : Type 0 where
@@ -42,8 +43,10 @@ pub record LiteralHeld : Type 0 where
 
 -- how a proof tells calm files apart
 abbrev pub files_code : Coded FilesHeld
-files_code = code_by (FileMap × List (List ℕ)) (coded× file_code (coded_list (coded_list coded_ℕ)))
-    (λ h. (h.content, h.locked)) (λ p. record { content = p.0; locked = p.1 }) (λ _. refl)
+files_code = code_by (FileMap × (List (List ℕ) × List (List ℕ)))
+    (coded× file_code (coded× (coded_list (coded_list coded_ℕ)) (coded_list (coded_list coded_ℕ))))
+    (λ h. (h.content, (h.locked, h.reads)))
+    (λ p. record { content = p.0; locked = p.1.0; reads = p.1.1 }) (λ _. refl)
 
 -- how a proof tells counted calls apart
 abbrev pub calls_code : Coded Calls

@@ -1,5 +1,5 @@
 -- What the objects in memory answer, and what each answer leaves.
-use Rattle.std.specs.Prelude.{◌≡◌, ◌/◌, ◌++◌, [], ◌∷◌, List, ℕ, Bool, true, false, length, take, drop, min, map}
+use Rattle.std.specs.Prelude.{◌≡◌, ◌⊎◌, ◌/◌, ◌++◌, [], ◌∷◌, List, ℕ, Bool, true, false, length, take, drop, min, map}
 use Rattle.pp_base.specs.FileMap.{with_file, among}
 use Rattle.pp_base.specs.Judges.{occurs_in}
 use Rattle.pp_base.specs.Calls.{fails_next, after_call}
@@ -43,12 +43,24 @@ MemPuts old new bytes sink.Failed = (fails_next old.calls ≡ true)
 MemPuts old new bytes answer = (fails_next old.calls ≡ false)
     × CalmPuts old.calm new.calm bytes answer × (new.calls ≡ after_call old.calls)
 
--- A read of files in memory fails exactly at the calls that fail, and changes nothing but the count of calls.
-abbrev pub MemReads : MemFilesHeld → MemFilesHeld → FileRead → Type 0
-MemReads old new reads.Failed = (fails_next old.calls ≡ true)
+-- the files once this path was read
+abbrev pub noted : FilesHeld → List ℕ → FilesHeld
+noted files path = record {
+  content = files.content;
+  locked = files.locked;
+  reads = files.reads ++ path ∷ [];
+}
+
+-- A read of files in memory fails exactly at the calls that fail, and changes nothing but the count of calls and
+-- the paths that were read. A call that fails adds no path, and want of memory may come before the path is added.
+abbrev pub MemReads : MemFilesHeld → MemFilesHeld → List ℕ → FileRead → Type 0
+MemReads old new path reads.Failed = (fails_next old.calls ≡ true)
     × (new ≡ record { calm = old.calm; calls = after_call old.calls })
-MemReads old new answer = (fails_next old.calls ≡ false)
-    × (new ≡ record { calm = old.calm; calls = after_call old.calls })
+MemReads old new path reads.Memory = (fails_next old.calls ≡ false)
+    × (new.calls ≡ after_call old.calls)
+    × ((new.calm ≡ old.calm) ⊎ (new.calm ≡ noted old.calm path))
+MemReads old new path answer = (fails_next old.calls ≡ false)
+    × (new ≡ record { calm = noted old.calm path; calls = after_call old.calls })
 
 -- the first half of the bytes, rounded down
 abbrev pub half_of : List ℕ → List ℕ
@@ -59,6 +71,7 @@ abbrev pub put : FilesHeld → List ℕ → List ℕ → FilesHeld
 put files path bytes = record {
   content = with_file files.content path bytes;
   locked = files.locked;
+  reads = files.reads;
 }
 
 -- what a failed write leaves of the files: the first half of the bytes, where the path isn't locked

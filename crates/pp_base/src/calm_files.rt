@@ -1,9 +1,9 @@
 //! Files in memory that never fail.
 
-ghost use Rattle.std.specs.Prelude.{◌≡◌, Some, OnOk, OnErr, false};
+ghost use Rattle.std.specs.Prelude.{◌≡◌, [], Some, OnOk, OnErr, false};
 ghost use Rattle.std.specs.Option.{option_copied};
 ghost use Rattle.pp_base.specs.FileMap.{content_at, files_of, with_file, among};
-ghost use Rattle.pp_base.specs.MemForms.{half_of};
+ghost use Rattle.pp_base.specs.MemForms.{half_of, noted};
 
 use crate::entries::{first_content, is_among, put_entry};
 use crate::{FileRead, FileWrite, Files, List, Memory, Text};
@@ -16,6 +16,7 @@ pub struct CalmFiles {
     alloc: Global,
     entries: Vec<(Text, Text)>,
     locked: List<Text>,
+    reads: List<Text>,
 }
 
 impl Model for CalmFiles {
@@ -26,19 +27,24 @@ impl Model for CalmFiles {
 
     ghost coded = { files_code };
 
-    ghost view = { λ f. record { content = files_of f.entries.items; locked = f.locked } };
+    ghost view = { λ f. record {
+      content = files_of f.entries.items;
+      locked = f.locked;
+      reads = f.reads;
+    } };
 }
 
 impl CalmFiles {
     /// Files of these paths and contents, and the paths that can't be written. Of two entries with one path the first
     /// counts. It takes no memory, and keeps the allocator for what is written.
     pub fn new(alloc: Global, files: List<(Text, Text)>, locked: List<Text>) -> Self
-        ensures { result ≡ record { content = files_of files; locked = locked } }
+        ensures { result ≡ record { content = files_of files; locked = locked; reads = [] } }
     {
         CalmFiles {
             alloc,
             entries: files.into_vec(),
             locked,
+            reads: List::new(alloc),
         }
     }
 
@@ -49,6 +55,13 @@ impl CalmFiles {
         first_content(&self.entries, path.as_slice())
     }
 
+    /// The paths that were read, in order, each as often as it was read.
+    pub fn reads(&self) -> &[Text]
+        ensures { result.now ≡ self.now.reads }
+    {
+        self.reads.as_slice()
+    }
+
     /// Whether the path can't be written.
     pub(crate) fn is_locked(&self, path: &Text) -> bool
         ensures { result ≡ among self.now.locked path.now }
@@ -56,11 +69,21 @@ impl CalmFiles {
         is_among(self.locked.as_slice(), path.as_slice())
     }
 
+    // Notes that the path is read.
+    fn note(&mut self, path: &Text) -> Result<(), Memory>
+        ensures ok { OnOk result (self.new ≡ noted self.old path.now) }
+        ensures err { OnErr result (self.new ≡ self.old) }
+    {
+        let path = Text::from_slice(self.alloc, path.as_slice())?;
+        self.reads.push(path)
+    }
+
     // Makes the bytes the content of the path, whether it is locked or not.
     fn put(&mut self, path: &Text, bytes: &[u8]) -> Result<(), Memory>
         ensures ok { OnOk result (self.new ≡ record {
           content = with_file self.old.content path.now bytes.now;
           locked = self.old.locked;
+          reads = self.old.reads;
         }) }
         ensures err { OnErr result (self.new ≡ self.old) }
     {
@@ -72,6 +95,7 @@ impl CalmFiles {
         ensures ok { OnOk result (self.new ≡ record {
           content = with_file self.old.content path.now (half_of bytes.now);
           locked = self.old.locked;
+          reads = self.old.reads;
         }) }
         ensures err { OnErr result (self.new ≡ self.old) }
     {
@@ -84,10 +108,15 @@ impl Files for CalmFiles {
 
     ghost locked = { λ f. Some f.locked };
 
+    ghost reads = { λ f. Some f.reads };
+
     ghost faults = { λ _. 0 };
 
     fn read(&mut self, path: &Text, into: &mut Text, limit: u64) -> FileRead {
         into.clear();
+        if self.note(path).is_err() {
+            return FileRead::Memory;
+        }
         let Some(bytes) = first_content(&self.entries, path.as_slice()) else {
             return FileRead::Missing;
         };

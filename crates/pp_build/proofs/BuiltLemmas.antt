@@ -14,7 +14,7 @@ use Rattle.pp_model.specs.declared.profile.Sample.{Sample}
 use Rattle.pp_model.specs.declared.profile.Profile.{Profile}
 use Rattle.pp_model.specs.Rules.{NoRuleFails, AreNumbered, is_text, header_texts, zero_unless, stands_in, is_zero_or_in, location_refers, type_has_texts, label_has_texts, mapping_has_texts, function_has_texts, mapping_ids, function_ids, location_ids}
 use Rattle.pp_model.proofs.FirstSightLemmas.{all_as}
-use Rattle.pp_merge.proofs.NumberedLemmas.{all_pass, nowhere, nonzero, unrepeated, stands_at}
+use Rattle.pp_share.proofs.NumberedLemmas.{all_pass, nowhere, nonzero, unrepeated, stands_at}
 use Rattle.pp_build.specs.Growing.{IsBuilt, IdIn, TypeIn, LabelIn, MappingIn, FunctionIn, LocationIn, SampleIn}
 
 -- an id of one of so many entries is there

@@ -2,4 +2,6 @@ pub mod BuiltLemmas
 pub mod ChangeLemmas
 pub mod OnceLemmas
 pub mod PutLemmas
+pub mod SaidLemmas
 pub mod SampleLemmas
+pub mod StandsLemmas

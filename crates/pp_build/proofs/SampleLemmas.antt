@@ -5,7 +5,7 @@ use Rattle.std.proofs.lemmas.List.Elements.{recursion_from_All}
 use Rattle.pp_model.specs.declared.profile.Sample.{Sample}
 use Rattle.pp_model.specs.declared.profile.Profile.{Profile}
 use Rattle.pp_model.proofs.FirstSightLemmas.{all_as}
-use Rattle.pp_merge.proofs.NumberedLemmas.{all_mapped}
+use Rattle.pp_share.proofs.NumberedLemmas.{all_mapped}
 use Rattle.pp_build.specs.declared.given.LocationId.{LocationId}
 use Rattle.pp_build.specs.declared.given.SampleLabel.{SampleLabel}
 use Rattle.pp_build.specs.declared.given.LabelValue.{LabelValue}

@@ -37,11 +37,15 @@ impl Model for Builder {
 }
 
 impl Builder {
-    ghost use Rattle.std.specs.Prelude.{◌≡◌, ◌<◌, ◌≤◌, pos, [], length, All, IfOk, OnOk, OnErr};
+    ghost use Rattle.std.specs.Prelude.{◌≡◌, ◌≢◌, ◌<◌, ◌≤◌, ◌++◌, ◌∷◌, pos, [], length, All, IfOk, OnOk, OnErr, Some};
+    ghost use Rattle.pp_model.specs.FrameTexts.{written_at};
+    ghost use Rattle.pp_model.specs.Lookup.{text_at};
     ghost use Rattle.pp_model.specs.Rules.{NoRuleFails};
+    ghost use Rattle.pp_share.specs.Described.{function_text, function_found, mapping_text, mapping_found};
     ghost use Rattle.pp_build.specs.Given.{type_of, mapping_of, function_of, location_of, sample_of, LabelFits};
     ghost use Rattle.pp_build.specs.Adding.{no_entries, with_text, text_index, with_type, with_mapping, mapping_number, with_function, function_number, with_location, location_number, with_sample, with_comment};
     ghost use Rattle.pp_build.specs.Growing.{IdIn, Grows};
+    ghost use Rattle.pp_build.specs.Said.{location_frames, said_sample, said_samples};
 
     /// A profile of nothing but the empty text.
     pub fn new(alloc: Global) -> Result<Builder, Memory>
@@ -68,7 +72,10 @@ impl Builder {
         ensures new { OnOk result (self.new ≡ with_text self.old bytes.now) }
         ensures err { OnErr result (self.new ≡ self.old) }
         ensures within { IfOk result (λ id. id.index < length self.new.text) }
+        ensures some { bytes.now ≢ [] → IfOk result (λ id. 0 < id.index) }
         ensures grows { OnOk result (Grows self.old self.new) }
+        ensures stands { IfOk result (λ id. text_at self.new id.index ≡ bytes.now) }
+        ensures said { OnOk result (said_samples self.new ≡ said_samples self.old) }
     {
         if self.profile.text.len() >= 1 << 62 {
             return Err(Memory);
@@ -109,6 +116,9 @@ impl Builder {
         ensures err { OnErr result (self.new ≡ self.old) }
         ensures within { IfOk result (λ id. IdIn (length self.new.mapping) id.number) }
         ensures grows { OnOk result (Grows self.old self.new) }
+        ensures stands { IfOk result (λ id. mapping_found self.new id.number
+            ≡ Some (mapping_text self.new (mapping_of m.now))) }
+        ensures said { OnOk result (said_samples self.new ≡ said_samples self.old) }
     {
         let mapping = mapping_with(m, next_id(self.profile.mapping.len())?);
         let key = mapping_key(&mapping);
@@ -136,6 +146,9 @@ impl Builder {
         ensures err { OnErr result (self.new ≡ self.old) }
         ensures within { IfOk result (λ id. IdIn (length self.new.function) id.number) }
         ensures grows { OnOk result (Grows self.old self.new) }
+        ensures stands { IfOk result (λ id. function_found self.new id.number
+            ≡ Some (function_text self.new (function_of name system_name file start_line))) }
+        ensures said { OnOk result (said_samples self.new ≡ said_samples self.old) }
     {
         let id = next_id(self.profile.function.len())?;
         let function = function_with(id, name, system_name, file, start_line);
@@ -162,6 +175,9 @@ impl Builder {
         ensures err { OnErr result (self.new ≡ self.old) }
         ensures within { IfOk result (λ id. IdIn (length self.new.location) id.number) }
         ensures grows { OnOk result (Grows self.old self.new) }
+        ensures stands { IfOk result (λ id. written_at self.new id.number
+            ≡ location_frames self.new (location_of mapping address lines.now)) }
+        ensures said { OnOk result (said_samples self.new ≡ said_samples self.old) }
     {
         let location = Location {
             id: next_id(self.profile.location.len())?,
@@ -191,6 +207,8 @@ impl Builder {
             ≡ with_sample self.old (sample_of locations.now values.now labels.now)) }
         ensures err { OnErr result (self.new ≡ self.old) }
         ensures grows { OnOk result (Grows self.old self.new) }
+        ensures said { OnOk result (said_samples self.new ≡ said_samples self.old
+            ++ said_sample self.old (sample_of locations.now values.now labels.now) ∷ []) }
     {
         let sample = Sample {
             location_id: ids_of(self.alloc, locations)?,
@@ -264,9 +282,10 @@ impl Builder {
         self.profile.comment.push(index_of(text))
     }
 
-    /// The profile.
+    /// The profile. No table rule fails in it. It takes no memory.
     pub fn finish(self) -> Valid
-        ensures { result ≡ self }
+        ensures same { result ≡ self }
+        ensures valid { NoRuleFails result }
     {
         Valid::claim(self.profile)
     }

@@ -37,14 +37,24 @@ eq = eq_by_cmp key_cmp
 same : (x y : Written) → eq x y ≡ true → x ≡ y
 same x y e = key_cmp_ties x y (ties _ e)
 
--- the path ends with the key
-abbrev ends : Written → List Written → Bool
-ends k [] = false
-ends k (q ∷ path) = cond (is_end path) (eq k q) (ends k path)
+-- the path ends with a key that passes the test
+abbrev ends : (Written → Bool) → List Written → Bool
+ends t [] = false
+ends t (q ∷ path) = cond (is_end path) (t q) (ends t path)
 
--- what the paths that end with the key come to
-abbrev last_sum : Written → List (Seen Written) → ℤ
-last_sum k S = sum_where (ends k) S
+-- what the paths that end so come to
+abbrev last_sum : (Written → Bool) → List (Seen Written) → ℤ
+last_sum t S = sum_where (ends t) S
+
+-- the first key, if there is one, passes the test
+abbrev pub first_passes : (Written → Bool) → List Written → Bool
+first_passes t [] = false
+first_passes t (q ∷ keys) = t q
+
+-- the flats of the nodes whose keys pass the test
+abbrev pub flats_where : (Written → Bool) → List (TreeRow Written) → ℤ
+flats_where t [] = pos 0
+flats_where t (row ∷ rows) = cond (t row.key) row.flat (pos 0) +ℤ flats_where t rows
 
 -- a sum over keys
 abbrev total : (Written → ℤ) → List Written → ℤ
@@ -82,14 +92,14 @@ one_total c p (q ∷ ks) distinct found =
       later : {b : Bool} → false ≡ eq p q → (eq p q || b) ≡ true → b ≡ true
       later {b} other found = ap (λ x. x || b) other ∙ found
 
-module _ (k : Written) where
-  -- what the paths that begin with q come to for the key
+module _ (t : Written → Bool) where
+  -- what the paths that begin with q come to for the test
   abbrev part : List (Seen Written) → Written → ℤ
-  part S q = cond (eq k q) (path_flat key_cmp S q) (pos 0) +ℤ last_sum k (under key_cmp q S)
+  part S q = cond (t q) (path_flat key_cmp S q) (pos 0) +ℤ last_sum t (under key_cmp q S)
 
   -- what one of them does
   abbrev gain : ℤ → List Written → ℤ
-  gain v path = cond (ends k path) v (pos 0)
+  gain v path = cond (ends t path) v (pos 0)
 
   part_none : (q : Written) (v : ℤ) (S : List (Seen Written)) → part (record { value = v; keys = [] } ∷ S) q ≡ part S q
   part_none q v S = refl
@@ -102,32 +112,32 @@ module _ (k : Written) where
   part_more : (q p : Written) (v : ℤ) (path : List Written) (S : List (Seen Written))
       → part (record { value = v; keys = p ∷ path } ∷ S) q ≡ cond (eq q p) (gain v (p ∷ path)) (pos 0) +ℤ part S q
   part_more q p v path S =
-      elim (eq q p) as (λ b. eq q p ≡ b → cond (eq k q) (sum_where is_end (cons_option (cond b (Some (record { value = v; keys = path })) None) (under key_cmp q S))) (pos 0)
-      +ℤ sum_where (ends k) (cons_option (cond b (Some (record { value = v; keys = path })) None) (under key_cmp q S)) ≡ cond b (gain v (p ∷ path)) (pos 0) +ℤ part S q) [
+      elim (eq q p) as (λ b. eq q p ≡ b → cond (t q) (sum_where is_end (cons_option (cond b (Some (record { value = v; keys = path })) None) (under key_cmp q S))) (pos 0)
+      +ℤ sum_where (ends t) (cons_option (cond b (Some (record { value = v; keys = path })) None) (under key_cmp q S)) ≡ cond b (gain v (p ∷ path)) (pos 0) +ℤ part S q) [
         | true ↦ λ e.
-            ap (λ z. z +ℤ (cond (ends k path) v (pos 0) +ℤ last_sum k (under key_cmp q S))) (if_sum (eq k q) (cond (is_end path) v (pos 0)) (path_flat key_cmp S q))
+            ap (λ z. z +ℤ (cond (ends t path) v (pos 0) +ℤ last_sum t (under key_cmp q S))) (if_sum (t q) (cond (is_end path) v (pos 0)) (path_flat key_cmp S q))
             ∙ omega (arith, ints, gained e path)
         | false ↦ λ e. omega (arith, ints)
       ] refl where
-        gained : eq q p ≡ true → (r : List Written) → cond (eq k q) (cond (is_end r) v (pos 0)) (pos 0) +ℤ cond (ends k r) v (pos 0) ≡ cond (ends k (p ∷ r)) v (pos 0)
-        gained e [] = ap (λ z. cond (eq k z) v (pos 0) +ℤ pos 0) (same q p e) ∙ plus_none (cond (eq k p) v (pos 0)) where
+        gained : eq q p ≡ true → (r : List Written) → cond (t q) (cond (is_end r) v (pos 0)) (pos 0) +ℤ cond (ends t r) v (pos 0) ≡ cond (ends t (p ∷ r)) v (pos 0)
+        gained e [] = ap (λ z. cond (t z) v (pos 0) +ℤ pos 0) (same q p e) ∙ plus_none (cond (t p) v (pos 0)) where
           plus_none : (z : ℤ) → z +ℤ pos 0 ≡ z
           plus_none z = omega (arith, ints)
-        gained e (x ∷ r) = if_none (eq k q) (cond (ends k (x ∷ r)) v (pos 0)) where
+        gained e (x ∷ r) = if_none (t q) (cond (ends t (x ∷ r)) v (pos 0)) where
           if_none : (b : Bool) (z : ℤ) → cond b (pos 0) (pos 0) +ℤ z ≡ z
           if_none true z = omega (arith, ints)
           if_none false z = omega (arith, ints)
 
   -- the paths are parted by their first keys
-  parted_by : (ks : List Written) → IsDistinct eq ks → (S : List (Seen Written)) → All (λ q. list_any (eq q) ks ≡ true) (first_keys S) → total (part S) ks ≡ last_sum k S
-  parted_by ks distinct [] all = total_same (part []) (λ q. pos 0) (λ q. nothing (eq k q)) ks ∙ total_none ks where
+  parted_by : (ks : List Written) → IsDistinct eq ks → (S : List (Seen Written)) → All (λ q. list_any (eq q) ks ≡ true) (first_keys S) → total (part S) ks ≡ last_sum t S
+  parted_by ks distinct [] all = total_same (part []) (λ q. pos 0) (λ q. nothing (t q)) ks ∙ total_none ks where
     nothing : (b : Bool) → cond b (pos 0) (pos 0) +ℤ pos 0 ≡ pos 0
     nothing true = refl
     nothing false = refl
   parted_by ks distinct (s ∷ S) all = parted_one s.keys s.value all (λ rest. parted_by ks distinct S rest) where
     parted_one : (keys : List Written) (v : ℤ) → All (λ q. list_any (eq q) ks ≡ true) (cons_option (first_key keys) (first_keys S))
-        → (All (λ q. list_any (eq q) ks ≡ true) (first_keys S) → total (part S) ks ≡ last_sum k S)
-        → total (part (record { value = v; keys = keys } ∷ S)) ks ≡ cond (ends k keys) v (pos 0) +ℤ last_sum k S
+        → (All (λ q. list_any (eq q) ks ≡ true) (first_keys S) → total (part S) ks ≡ last_sum t S)
+        → total (part (record { value = v; keys = keys } ∷ S)) ks ≡ cond (ends t keys) v (pos 0) +ℤ last_sum t S
     parted_one [] v all later = later all ∙ omega (arith, ints)
     parted_one (p ∷ path) v all later =
         total_same (part (record { value = v; keys = p ∷ path } ∷ S)) (λ q. cond (eq q p) (gain v (p ∷ path)) (pos 0) +ℤ part S q) (λ q. part_more q p v path S) ks
@@ -135,13 +145,13 @@ module _ (k : Written) where
         ∙ (λ i. one_total (gain v (p ∷ path)) p ks distinct (All-head (λ q. list_any (eq q) ks ≡ true) p (first_keys S) all) i
         +ℤ later (All-tail (λ q. list_any (eq q) ks ≡ true) p (first_keys S) all) i)
 
-  flats_with-append : (a b : List (TreeRow Written)) → flats_with k (a ++ b) ≡ flats_with k a +ℤ flats_with k b
-  flats_with-append [] b = omega (arith, ints)
-  flats_with-append (r ∷ a) b = omega (arith, ints, flats_with-append a b)
+  flats_where-append : (a b : List (TreeRow Written)) → flats_where t (a ++ b) ≡ flats_where t a +ℤ flats_where t b
+  flats_where-append [] b = omega (arith, ints)
+  flats_where-append (r ∷ a) b = omega (arith, ints, flats_where-append a b)
 
-  flats_with-all : (F : Written → List (TreeRow Written)) (ks : List Written) → flats_with k (flat_map F ks) ≡ total (λ q. flats_with k (F q)) ks
-  flats_with-all F [] = refl
-  flats_with-all F (q ∷ ks) = ap (flats_with k) (flat_map-cons F q ks) ∙ flats_with-append (F q) (flat_map F ks) ∙ ap (λ z. flats_with k (F q) +ℤ z) (flats_with-all F ks)
+  flats_where-all : (F : Written → List (TreeRow Written)) (ks : List Written) → flats_where t (flat_map F ks) ≡ total (λ q. flats_where t (F q)) ks
+  flats_where-all F [] = refl
+  flats_where-all F (q ∷ ks) = ap (flats_where t) (flat_map-cons F q ks) ∙ flats_where-append (F q) (flat_map F ks) ∙ ap (λ z. flats_where t (F q) +ℤ z) (flats_where-all F ks)
 
 -- the keys of a list that rises strictly are distinct
 module _ (R : Written → Written → Ordering) (ties_same : (x y : Written) → eq_by_cmp R x y ≡ eq x y) where
@@ -207,41 +217,59 @@ under_short m q (s ∷ S) all =
     short_one m q s.value s.keys (under key_cmp q S) (All-head (λ (s : Seen Written). length s.keys ≤ suc m) s S all)
     (under_short m q S (All-tail (λ (s : Seen Written). length s.keys ≤ suc m) s S all))
 
-no_last : (k : Written) (S : List (Seen Written)) → All (λ (s : Seen Written). length s.keys ≤ 0) S → last_sum k S ≡ pos 0
-no_last k [] all = refl
-no_last k (s ∷ S) all = one s.keys (All-head (λ (t : Seen Written). length t.keys ≤ 0) s S all) (no_last k S (All-tail (λ (t : Seen Written). length t.keys ≤ 0) s S all)) where
-  one : (keys : List Written) → length keys ≤ 0 → last_sum k S ≡ pos 0 → cond (ends k keys) s.value (pos 0) +ℤ last_sum k S ≡ pos 0
+no_last : (t : Written → Bool) (S : List (Seen Written)) → All (λ (s : Seen Written). length s.keys ≤ 0) S → last_sum t S ≡ pos 0
+no_last t [] all = refl
+no_last t (s ∷ S) all = one s.keys (All-head (λ (t : Seen Written). length t.keys ≤ 0) s S all) (no_last t S (All-tail (λ (t : Seen Written). length t.keys ≤ 0) s S all)) where
+  one : (keys : List Written) → length keys ≤ 0 → last_sum t S ≡ pos 0 → cond (ends t keys) s.value (pos 0) +ℤ last_sum t S ≡ pos 0
   one [] here rest = omega (arith, ints, rest)
   one (p ∷ path) here rest = absurd (omega (arith, here))
 
-by_key_below : (k : Written) (most depth : ℕ) (S : List (Seen Written)) → All (λ (s : Seen Written). length s.keys ≤ most) S
-    → flats_with k (rows_below key_cmp any_row most depth S) ≡ last_sum k S
-by_key_below k zero depth S short = sym (no_last k S short)
-by_key_below k (suc most) depth S short =
+by_key_below : (t : Written → Bool) (most depth : ℕ) (S : List (Seen Written)) → All (λ (s : Seen Written). length s.keys ≤ most) S
+    → flats_where t (rows_below key_cmp any_row most depth S) ≡ last_sum t S
+by_key_below t zero depth S short = sym (no_last t S short)
+by_key_below t (suc most) depth S short =
     let F : Written → List (TreeRow Written) = λ q. row_of key_cmp depth S q ∷ rows_below key_cmp any_row most (depth + 1) (under key_cmp q S) in
-    flats_with-all k F (siblings key_cmp S)
-    ∙ total_same (λ q. flats_with k (F q)) (part k S)
-    (λ q. ap (λ z. cond (eq k q) (path_flat key_cmp S q) (pos 0) +ℤ z) (by_key_below k most (depth + 1) (under key_cmp q S) (under_short most q S short)))
+    flats_where-all t F (siblings key_cmp S)
+    ∙ total_same (λ q. flats_where t (F q)) (part t S)
+    (λ q. ap (λ z. cond (t q) (path_flat key_cmp S q) (pos 0) +ℤ z) (by_key_below t most (depth + 1) (under key_cmp q S) (under_short most q S short)))
     (siblings key_cmp S)
-    ∙ parted_by k (siblings key_cmp S) (siblings_distinct S) S (siblings_cover S)
+    ∙ parted_by t (siblings key_cmp S) (siblings_distinct S) S (siblings_cover S)
 
-ends_push : (k q : Written) (xs : List Written) → ends k (xs ++ q ∷ []) ≡ eq k q
-ends_push k q [] = refl
-ends_push k q (x ∷ []) = refl
-ends_push k q (x ∷ y ∷ xs) = ends_push k q (y ∷ xs)
+ends_push : (t : Written → Bool) (q : Written) (xs : List Written) → ends t (xs ++ q ∷ []) ≡ t q
+ends_push t q [] = refl
+ends_push t q (x ∷ []) = refl
+ends_push t q (x ∷ y ∷ xs) = ends_push t q (y ∷ xs)
 
-ends_rooted : (k : Written) (keys : List Written) → ends k (reverse keys) ≡ leads key_cmp k keys
-ends_rooted k [] = refl
-ends_rooted k (q ∷ keys) = ap (ends k) (reverse_onto keys q []) ∙ ends_push k q (reverse keys)
+ends_rooted : (t : Written → Bool) (keys : List Written) → ends t (reverse keys) ≡ first_passes t keys
+ends_rooted t [] = refl
+ends_rooted t (q ∷ keys) = ap (ends t) (reverse_onto keys q []) ∙ ends_push t q (reverse keys)
 
-last_rooted : (k : Written) (S : List (Seen Written)) → last_sum k (map rooted S) ≡ flat key_cmp S k
-last_rooted k [] = refl
-last_rooted k (s ∷ S) = λ i. cond (ends_rooted k s.keys i) s.value (pos 0) +ℤ last_rooted k S i
+last_rooted : (t : Written → Bool) (S : List (Seen Written)) → last_sum t (map rooted S) ≡ sum_where (first_passes t) S
+last_rooted t [] = refl
+last_rooted t (s ∷ S) = λ i. cond (ends_rooted t s.keys i) s.value (pos 0) +ℤ last_rooted t S i
+
+-- The flats of the nodes whose keys pass a test add up to the values of the samples whose leaves have such keys.
+pub flats_add_up : (t : Written → Bool) (S : List (Seen Written)) → flats_where t (tree_rows key_cmp any_row (map rooted S)) ≡ sum_where (first_passes t) S
+flats_add_up t S =
+    by_key_below t (all_lengths (map rooted S)) 0 (map rooted S) (λ i d here. get_or-le-sum_by (λ (s : Seen Written). length s.keys) (map rooted S) i d here) ∙ last_rooted t S
+
+flats_with_is : (k : Written) (rows : List (TreeRow Written)) → flats_with k rows ≡ flats_where (eq k) rows
+flats_with_is k [] = refl
+flats_with_is k (row ∷ rows) = ap (λ z. cond (eq k row.key) row.flat (pos 0) +ℤ z) (flats_with_is k rows)
+
+leads_is : (k : Written) (keys : List Written) → first_passes (eq k) keys ≡ leads key_cmp k keys
+leads_is k [] = refl
+leads_is k (q ∷ keys) = refl
+
+-- sums over samples whose keys pass tests that say the same
+pub sum_where-same : {K : Type 0} (P Q : List K → Bool) → ((keys : List K) → P keys ≡ Q keys) → (S : List (Seen K)) → sum_where P S ≡ sum_where Q S
+sum_where-same P Q same [] = refl
+sum_where-same P Q same (s ∷ S) = λ i. cond (same s.keys i) s.value (pos 0) +ℤ sum_where-same P Q same S i
 
 -- the flats of a key's nodes add up to its flat
-flats_add_up : (k : Written) (S : List (Seen Written)) → flats_with k (tree_rows key_cmp any_row (map rooted S)) ≡ flat key_cmp S k
-flats_add_up k S =
-    by_key_below k (all_lengths (map rooted S)) 0 (map rooted S) (λ i d here. get_or-le-sum_by (λ (s : Seen Written). length s.keys) (map rooted S) i d here) ∙ last_rooted k S
+pub key_flats_add_up : (k : Written) (S : List (Seen Written)) → flats_with k (tree_rows key_cmp any_row (map rooted S)) ≡ flat key_cmp S k
+key_flats_add_up k S =
+    flats_with_is k (tree_rows key_cmp any_row (map rooted S)) ∙ flats_add_up (eq k) S ∙ sum_where-same (first_passes (eq k)) (leads key_cmp k) (leads_is k) S
 
 -- For each name of a report's sums, the flats of its nodes add up to its flat.
 pub flats_are : (p : Profile) (sums : Sums) (nodes : List PathNode) (S : List (Seen Written)) → map (node_row p) nodes ≡ tree_rows key_cmp any_row (map rooted S) → AreSumsOf p S sums
@@ -249,4 +277,4 @@ pub flats_are : (p : Profile) (sums : Sums) (nodes : List PathNode) (S : List (S
 flats_are p sums nodes S rows are = each (written_names p sums) ∙ sym are.flat where
   each : (ks : List Written) → map (flats_at p nodes) ks ≡ map (flat key_cmp S) ks
   each [] = refl
-  each (k ∷ ks) = λ i. (ap (flats_with k) rows ∙ flats_add_up k S) i ∷ each ks i
+  each (k ∷ ks) = λ i. (ap (flats_with k) rows ∙ key_flats_add_up k S) i ∷ each ks i

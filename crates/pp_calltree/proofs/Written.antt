@@ -1,5 +1,5 @@
 -- What is written of the nodes that are shown is the text of the call tree.
-use Rattle.std.proofs.Common.{◌≡◌, ℕ, ◌-◌, List, ◌++◌, length, map, Option, Result, Ok, Err, OnOk, sym, ap, ◌∙◌}
+use Rattle.std.proofs.Common.{◌≡◌, ℕ, ◌-◌, List, ◌++◌, length, map, Option, sym, ap, ◌∙◌}
 use Rattle.std.proofs.lemmas.List.{length-map}
 use Rattle.pp_model.specs.declared.config.Config.{Config}
 use Rattle.pp_model.specs.declared.loaded.Loaded.{Loaded}
@@ -26,8 +26,3 @@ text_is l v config column f nodes shown h tree holds are =
     ∙ pruned_is key_cmp (is_heavy_row h.total config.nodefraction.billionths) (all_lengths (path_samples l.profile f config column)) 0 (path_samples l.profile f config column) in
     λ i. nodes_text h
     ((sym (length-map nodes (node_row l.profile)) ∙ ap length (tree.rows f holds)) i - (sym (length-map shown (node_row l.profile)) ∙ ap length rows) i) (rows i)
-
--- a text of its own, appended whole
-pub appended : {T E : Type 0} (r : Result T E) (new old own text : List ℕ) → own ≡ text → OnOk r (new ≡ old ++ own) → OnOk r (new ≡ old ++ text)
-appended (Err e) new old own text same h = tt
-appended (Ok x) new old own text same h = h ∙ ap (λ t. old ++ t) same

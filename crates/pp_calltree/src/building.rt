@@ -105,6 +105,7 @@ fn list_by<'x>(
         column,
         table,
         over: None,
+        chosen: None,
     };
     nodes_by(alloc, &scope, kept)
 }

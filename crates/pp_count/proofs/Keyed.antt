@@ -20,7 +20,7 @@ use Rattle.pp_grain.proofs.CallerLemmas.{key_cmp_ties, key_cmp_total, same_keys}
 use Rattle.pp_count.specs.declared.part.KeySum.{KeySum}
 use Rattle.pp_count.specs.declared.sums.Sums.{Sums}
 use Rattle.pp_count.specs.declared.tally.Tally.{Tally}
-use Rattle.pp_count.specs.Table.{no_key, written_key}
+use Rattle.pp_count.specs.Table.{no_key, key_at, written_key}
 use Rattle.pp_count.specs.Sums.{Seen, all_keys, weighed, absolute, renamed, occurs, flat, cum}
 use Rattle.pp_count.specs.Tally.{IsTallyOf, entry_of}
 use Rattle.pp_count.specs.Parts.{sums_of, key_at_sum, flat_size, HasBelow}
@@ -39,11 +39,11 @@ head_is : (w : Bool) (x e : KeySum) (rest : List KeySum) → cond w (x ∷ []) [
 head_is true x e rest same = (refl, cc)
 head_is false x e rest same = cc
 
-same_map : {X Y : Type 0} (f g : X → Y) (xs : List X) → All (λ x. f x ≡ g x) xs → map f xs ≡ map g xs
+pub same_map : {X Y : Type 0} (f g : X → Y) (xs : List X) → All (λ x. f x ≡ g x) xs → map f xs ≡ map g xs
 same_map f g [] all = refl
 same_map f g (x ∷ xs) all = λ i. All-head (λ y. f y ≡ g y) x xs all i ∷ same_map f g xs (All-tail (λ y. f y ≡ g y) x xs all) i
 
-map_twice : {X Y Z : Type 0} (f : Y → Z) (g : X → Y) (xs : List X) → map f (map g xs) ≡ map (λ x. f (g x)) xs
+pub map_twice : {X Y Z : Type 0} (f : Y → Z) (g : X → Y) (xs : List X) → map f (map g xs) ≡ map (λ x. f (g x)) xs
 map_twice f g [] = refl
 map_twice f g (x ∷ xs) = ap (λ r. f (g x) ∷ r) (map_twice f g xs)
 
@@ -201,3 +201,15 @@ keys_of_profile p names es keys below = λ i d here.
     let within : i < length es = omega (arith, here, length-map es (key_at_sum names)) in
     let e : KeySum = record { key = 0; flat = pos 0; cum = pos 0 } in
     subst (IsKeyOf p) (sym (get_or-map (key_at_sum names) es i e d within)) (keys (get_or es i e).key no_key (below i e within))
+
+-- the names are the keys of the entries' numbers
+pub numbers_name : (names : List Key) (es : List KeySum) (named : List Key) (numbers : List ℕ) → named ≡ map (key_at_sum names) es → numbers ≡ map (λ e. e.key) es
+    → named ≡ map (key_at names) numbers
+numbers_name names es named numbers names_are numbers_are =
+    names_are ∙ sym (map_twice (key_at names) (λ (e : KeySum). e.key) es) ∙ ap (map (key_at names)) (sym numbers_are)
+
+pub numbers_below : (n : ℕ) (es : List KeySum) (numbers : List ℕ) → numbers ≡ map (λ e. e.key) es → All (λ e. e.key < n) es → All (λ k. k < n) numbers
+numbers_below n es numbers are below = subst (λ (ks : List ℕ). All (λ k. k < n) ks) (sym are) (λ i d here.
+    let within : i < length es = omega (arith, here, length-map es (λ (e : KeySum). e.key)) in
+    let e : KeySum = record { key = 0; flat = pos 0; cum = pos 0 } in
+    subst (λ (k : ℕ). k < n) (sym (get_or-map (λ (x : KeySum). x.key) es i e d within)) (below i e within))

@@ -5,8 +5,10 @@ pub mod Joining
 pub mod CountedFrames
 pub mod Sights
 pub mod Located
+pub mod Rising
 pub mod Ranges
 pub mod Pieces
+pub mod Chosen
 pub mod Totals
 pub mod Finals
 pub mod Renaming
@@ -14,8 +16,10 @@ pub mod CallerLemmas
 pub mod Sizes
 pub mod Keyed
 pub mod Kept
+pub mod Based
 pub mod Pairing
 pub mod Edged
 pub mod EachOnce
 pub mod Ties
 pub mod Joined
+pub mod KeptSamples

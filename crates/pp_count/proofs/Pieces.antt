@@ -1,12 +1,12 @@
 -- The samples of the pieces so far, and what they come to with one more piece.
-use Rattle.std.proofs.Common.{◌≡◌, ℕ, ◌+◌, ◌-◌, ◌*◌, ◌<◌, ◌≤◌, ◌^◌, Bool, true, false, cond, min, nat_abs, List, [], ◌∷◌, ◌++◌, length, take, drop, get_or, map, All, sym, ap, ◌∙◌, subst, arith, length-drop}
+use Rattle.std.proofs.Common.{◌≡◌, ℕ, ◌+◌, ◌-◌, ◌*◌, ◌<◌, ◌≤◌, ◌^◌, Bool, true, false, cond, min, nat_abs, List, [], ◌∷◌, ◌++◌, length, take, drop, get_or, map, All, sym, ap, ◌∙◌, subst, arith, length-append, length-drop}
 use Rattle.std.specs.List.{sum_by}
 use Rattle.std.specs.Option.{is_some}
 use Rattle.std.specs.Ordering.{nat_cmp}
 use Rattle.std.proofs.Math.Seq.{take-add}
-use Rattle.std.proofs.lemmas.List.{map-append, take_min, length-take, length-take-le}
-use Rattle.std.proofs.lemmas.List.Elements.{filter-append, filter_map-append, All-append, All-take, All-drop, All-from_get_or}
-use Rattle.std.proofs.lemmas.List.Sums.{sum_by-cons, sum_by-append, sum_by-take-le, sum_by-take-drop}
+use Rattle.std.proofs.lemmas.List.{map-append, take_min, length-take-le}
+use Rattle.std.proofs.lemmas.List.Elements.{filter-append, filter_map-append, All-append, All-from_get_or}
+use Rattle.std.proofs.lemmas.List.Sums.{sum_by-cons, sum_by-append, sum_by-take-le}
 use Rattle.pp_model.specs.declared.profile.Sample.{Sample}
 use Rattle.pp_model.specs.Conditions.{RefersTo, IsSampleOf}
 use Rattle.pp_model.specs.declared.profile.Profile.{Profile}
@@ -24,27 +24,20 @@ use Rattle.pp_count.specs.Sums.{Seen, weighed, renamed, has, leads, occurs}
 use Rattle.pp_count.specs.Seeing.{filtered_stack, seen}
 use Rattle.pp_count.specs.Tally.{added, plus, no_tally, IsTallyOf}
 use Rattle.pp_count.specs.Parts.{piece_samples, sums_of, key_sum, flat_size, cum_size, HasBelow}
-use Rattle.pp_count.specs.Scope.{profile_of, config_of, size_of, counted_as, AreSeen, AreCountable, IsPartOf, CountedTo}
+use Rattle.pp_count.specs.Scope.{profile_of, config_of, size_of, counted_as, samples_of, AreSeen, IsPartOf, CountedTo}
 use Rattle.pp_count.proofs.Adding.{sum_bound}
 use Rattle.pp_count.proofs.Joining.{tallies_joined}
+use Rattle.pp_count.specs.Rising.{AreRising}
+use Rattle.pp_count.proofs.Rising.{rising_high, rising-append}
 use Rattle.pp_count.proofs.Ranges.{name_of, numbers-append, counted_size, counted_none}
 
--- the slice of the samples that is the piece
-pub range_is : (samples : List Sample) (piece end : ℕ) → end ≡ min (piece * 1024 + 1024) (length samples)
-    → take (end - piece * 1024) (drop (piece * 1024) samples) ≡ piece_samples samples piece
-range_is samples piece end e =
-    ap (λ n. take n (drop (piece * 1024) samples)) (omega (arith, length-drop (piece * 1024) samples))
+-- so many samples from the piece's first on are the piece
+pub piece_is : (samples : List Sample) (piece count : ℕ) → count ≡ min (length samples - piece * 1024) 1024
+    → take count (drop (piece * 1024) samples) ≡ piece_samples samples piece
+piece_is samples piece count e =
+    ap (λ n. take n (drop (piece * 1024) samples)) (omega (arith, e, length-drop (piece * 1024) samples))
     ∙ take_min 1024 (drop (piece * 1024) samples)
     ∙ ap (λ n. take 1024 (drop n samples)) (omega arith)
-
--- what can be counted can be counted in pieces
-pub countable_piece : (scope : Scope) (samples : List Sample) (piece : ℕ) → AreCountable scope samples → AreCountable scope (piece_samples samples piece)
-countable_piece scope samples piece is =
-    let size : Sample → ℕ = λ x. nat_abs (selected scope.column (config_of scope).divide_by x) in
-    record {
-      fits = omega (arith, is.fits, sum_by-take-le size (drop (1024 * piece) samples) 1024, sum_by-take-drop size samples (1024 * piece));
-      few = omega (arith, is.few, length-take 1024 (drop (1024 * piece) samples), length-drop (1024 * piece) samples);
-    }
 
 -- the samples refer to locations of their profile
 pub all_refer : (p q : Profile) → q ≡ p → NoRuleFails q → All (RefersTo p) q.sample
@@ -52,17 +45,11 @@ all_refer p q same valid =
     subst (λ (r : Profile). All (RefersTo r) q.sample) same
     (All-from_get_or (RefersTo q) q.sample no_sample (λ k h. refers_from_valid q (get_or q.sample k no_sample) valid (sample_at q k no_sample h)))
 
--- the samples of a piece do
-pub piece_refers : (p q : Profile) (piece : ℕ) → q ≡ p → NoRuleFails q → All (RefersTo p) (piece_samples q.sample piece)
-piece_refers p q piece same valid =
-    All-take (RefersTo p) 1024 (drop (1024 * piece) q.sample) (All-drop (RefersTo p) (1024 * piece) q.sample (all_refer p q same valid))
-
--- the samples of a piece are samples of their profile
-pub piece_members : (p q : Profile) (piece : ℕ) → q ≡ p → All (IsSampleOf p) (piece_samples q.sample piece)
-piece_members p q piece same =
-    let all : All (IsSampleOf q) q.sample = All-from_get_or (IsSampleOf q) q.sample no_sample (λ k h. sample_at q k no_sample h) in
-    subst (λ (r : Profile). All (IsSampleOf r) (piece_samples q.sample piece)) same
-    (All-take (IsSampleOf q) 1024 (drop (1024 * piece) q.sample) (All-drop (IsSampleOf q) (1024 * piece) q.sample all))
+-- the samples are samples of their profile
+pub all_members : (p q : Profile) → q ≡ p → All (IsSampleOf p) q.sample
+all_members p q same =
+    subst (λ (r : Profile). All (IsSampleOf r) q.sample) same
+    (All-from_get_or (IsSampleOf q) q.sample no_sample (λ k h. sample_at q k no_sample h))
 
 -- what is seen of two ranges
 seen-append : (scope : Scope) (a b : List Sample) (s t : List (Seen ℕ)) → AreSeen scope a s → AreSeen scope b t → AreSeen scope (a ++ b) (s ++ t)
@@ -97,6 +84,10 @@ counted_more scope number m a b at new old_kept new_kept part next before is kep
   earlier = λ k. rw (each k) (last_added (at k) (sums_of k part.sums) (before.earlier k));
   kept = λ f holds. kept ∙ (λ i. before.kept f holds i ++ is.kept f holds i)
       ∙ sym (numbers-append (λ x. is_some (filtered_stack (profile_of scope) f (config_of scope) x)) number m a b next);
+  rising = subst (AreRising number (number + length (a ++ b))) (sym kept)
+      (rising-append number m (number + length (a ++ b)) old_kept part.kept (omega (arith, next)) (omega (arith, next, length-append a b))
+      (rising_high number (number + length a) m old_kept (omega (arith, next)) before.rising)
+      (rising_high m (m + length b) (number + length (a ++ b)) part.kept (omega (arith, next, length-append a b)) is.rising));
 }
 
 -- the size of an entry that may be missing
@@ -170,15 +161,15 @@ piece_more scope samples j at new old_kept new_kept part here before is kept eac
 
 -- The outcome of a piece of the wave is the part of its samples.
 pub part_at : (job : Counting) (outcomes items : List Part) (i : ℕ) (part : Part)
-    → AreOutcomes (λ piece. IsPartOf job.scope ((job.first + piece) * 1024) (piece_samples job.scope.l.now.profile.sample (job.first + piece))) job.pieces outcomes
+    → AreOutcomes (λ piece. IsPartOf job.scope ((job.first + piece) * 1024) (piece_samples (samples_of job.scope) (job.first + piece))) job.pieces outcomes
     → items ≡ outcomes → i < length items → part ≡ get_or items i part
-    → IsPartOf job.scope ((job.first + i) * 1024) (piece_samples job.scope.l.now.profile.sample (job.first + i)) part
+    → IsPartOf job.scope ((job.first + i) * 1024) (piece_samples (samples_of job.scope) (job.first + i)) part
 part_at job outcomes items i part all same here is =
-    subst (λ (p : Part). IsPartOf job.scope ((job.first + i) * 1024) (piece_samples job.scope.l.now.profile.sample (job.first + i)) p)
+    subst (λ (p : Part). IsPartOf job.scope ((job.first + i) * 1024) (piece_samples (samples_of job.scope) (job.first + i)) p)
     (sym (is ∙ ap (λ ps. get_or ps i part) same)) (all.each i part (omega (arith, here, ap length same, all.many)))
 
 -- each piece of the wave has a sample
-pub piece_starts : (job : Counting) (i : ℕ) → i < job.pieces → 1024 * (job.first + i) ≤ length job.scope.l.now.profile.sample
+pub piece_starts : (job : Counting) (i : ℕ) → i < job.pieces → 1024 * (job.first + i) ≤ length (samples_of job.scope)
 piece_starts job i here = omega (arith, job.within)
 
 -- before the first piece nothing is counted
@@ -187,4 +178,4 @@ pub none_counted : (scope : Scope) (m : ℕ) (samples : List Sample) (at : ℕ �
 none_counted scope m samples at kept first none empty =
     let start = counted_none scope 0 at kept none empty in
     subst (λ (n : ℕ). CountedTo scope 0 1 (front_of samples n) at kept) (sym first)
-    (record { seen = start.seen; are = start.are; tallies = start.tallies; earlier = λ k. omega (arith, start.earlier k); kept = start.kept })
+    (record { seen = start.seen; are = start.are; tallies = start.tallies; earlier = λ k. omega (arith, start.earlier k); kept = start.kept; rising = start.rising })

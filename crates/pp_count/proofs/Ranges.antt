@@ -1,5 +1,5 @@
 -- What a report sees of a range of samples, with one more sample.
-use Rattle.std.proofs.Common.{◌≡◌, ℕ, ◌+◌, ◌<◌, ◌≤◌, ◌^◌, Bool, true, false, cond, nat_abs, List, [], ◌∷◌, ◌++◌, length, take, get_or, map, All, Option, Some, None, option_map, refl, sym, ap, ◌∙◌, subst, arith}
+use Rattle.std.proofs.Common.{◌≡◌, ℕ, ◌+◌, ◌<◌, ◌≤◌, ◌^◌, Bool, true, false, cond, nat_abs, List, [], ◌∷◌, ◌++◌, length, take, get_or, map, All, Option, Some, None, option_map, refl, sym, ap, ◌∙◌, subst, arith, length-append}
 use Rattle.std.specs.List.{cons_option}
 use Rattle.std.specs.Option.{is_some}
 use Rattle.std.specs.Ordering.{nat_cmp}
@@ -21,7 +21,9 @@ use Rattle.pp_count.specs.Tally.{no_tally, with_seen, IsTallyOf}
 use Rattle.pp_count.specs.Parts.{HasBelow}
 use Rattle.pp_count.specs.Edges.{counted_keys}
 use Rattle.pp_count.specs.Scope.{profile_of, config_of, keep_of, size_of, AreSeen, counted_as, CountedTo}
+use Rattle.pp_count.specs.Rising.{AreRising}
 use Rattle.pp_count.proofs.Adding.{Added, added_more, sum_bound}
+use Rattle.pp_count.proofs.Rising.{rising_none, rising_high, rising_push}
 
 -- the names of the key numbers of a scope
 abbrev pub name_of : Scope → ℕ → Written
@@ -115,6 +117,9 @@ counted_size scope (s ∷ ss) =
 take_one : (samples : List Sample) (i : ℕ) (s : Sample) → i < length samples → s ≡ get_or samples i s → take i samples ++ s ∷ [] ≡ take (i + 1) samples
 take_one samples i s here is = ap (λ r. take i samples ++ r ∷ []) is ∙ sym (take_more samples i s here)
 
+long_more : (samples : List Sample) (i : ℕ) (s : Sample) → i < length samples → length (take i samples ++ s ∷ []) ≡ i + 1
+long_more samples i s here = omega (arith, length-append (take i samples) (s ∷ []), length-take-le i samples (omega (arith, here)))
+
 -- before the first sample nothing is counted
 pub counted_none : (scope : Scope) (number : ℕ) (at : ℕ → Tally) (kept : List ℕ) → ((k : ℕ) → at k ≡ no_tally) → kept ≡ []
     → CountedTo scope number 0 [] at kept
@@ -124,6 +129,7 @@ counted_none scope number at kept none empty = record {
   tallies = λ k. subst (λ (t : Tally). IsTallyOf [] k t) (sym (none k)) (record { flat = refl; cum = refl; occurs = refl });
   earlier = λ k. rw (none k) (omega arith);
   kept = λ f holds. empty;
+  rising = subst (AreRising number (number + 0)) (sym empty) (rising_none number (number + 0));
 }
 
 -- one more sample that is kept
@@ -144,6 +150,8 @@ counted_kept scope number i samples s keys at new kept here at_i is below each s
       earlier = added.earlier;
       kept = λ f holds. ap (λ ks. ks ++ (number + i) ∷ []) (so_far.kept f holds)
           ∙ sym (kept_more scope f number i (take i samples) s true keys holds is (length-take-le i samples (omega (arith, here))));
+      rising = rising_high number (number + i + 1) (number + length (take i samples ++ s ∷ [])) (kept ++ (number + i) ∷ []) (omega (arith, long_more samples i s here))
+          (rising_push number (number + i) kept (omega arith) (rising_high number (number + length (take i samples)) (number + i) kept (omega (arith, length-take-le i samples (omega (arith, here)))) so_far.rising));
     })
 
 -- one more sample that is dropped
@@ -158,6 +166,7 @@ counted_dropped scope number i samples s keys at kept here at_i is so_far =
       earlier = λ k. omega (arith, so_far.earlier k);
       kept = λ f holds. so_far.kept f holds ∙ sym (append-nil (filtered_from (profile_of scope) f (config_of scope) number (take i samples)))
           ∙ sym (kept_more scope f number i (take i samples) s false keys holds is (length-take-le i samples (omega (arith, here))));
+      rising = rising_high number (number + length (take i samples)) (number + length (take i samples ++ s ∷ [])) kept (omega (arith, length-append (take i samples) (s ∷ []))) so_far.rising;
     })
 
 -- the value of one more sample can be added

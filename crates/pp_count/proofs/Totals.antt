@@ -26,7 +26,7 @@ pub record TotalsTo (p : Profile) (config : Config) (column : Option ℕ) (i : �
   pub all_is : all ≡ min (all_to p config column i kept) 18446744073709551615
   pub base_is : base ≡ min (base_to p config column i kept) 18446744073709551615
 
-at_more : (p : Profile) (kept : List ℕ) (i : ℕ) → i < length kept
+pub at_more : (p : Profile) (kept : List ℕ) (i : ℕ) → i < length kept
     → samples_at p (take (i + 1) kept) ≡ samples_at p (take i kept) ++ cons_option (slice_get p.sample (get_or kept i 0)) []
 at_more p kept i here = ap (samples_at p) (take_more kept i 0 here) ∙ filter_map-append (slice_get p.sample) (take i kept) (get_or kept i 0 ∷ [])
 

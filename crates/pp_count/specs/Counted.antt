@@ -1,5 +1,5 @@
 -- What a report counts: the samples that put keys into it, and what `count` gives of them.
-use Rattle.std.specs.Prelude.{◌≡◌, ℕ, ◌<◌, ◌^◌, nat_abs, Bool, false, List, length, Option, All}
+use Rattle.std.specs.Prelude.{◌≡◌, ℕ, ◌<◌, ◌^◌, nat_abs, Bool, false, List, length, map, Option, All}
 use Rattle.std.specs.List.{list_any, sum_by}
 use Rattle.std.specs.Option.{option_map_or}
 use Rattle.pp_model.specs.declared.config.Config.{Config}
@@ -18,6 +18,9 @@ use Rattle.pp_count.specs.Sums.{Seen, weighed}
 use Rattle.pp_count.specs.Seeing.{HoldsFilters, seen_samples, framed_samples, filtered_from}
 use Rattle.pp_count.specs.Matches.{matches_of}
 use Rattle.pp_count.specs.Counts.{AreSumsOf, total_of}
+use Rattle.pp_count.specs.Filters.{AreFilters}
+use Rattle.pp_count.specs.Rising.{AreRising}
+use Rattle.pp_count.specs.Table.{key_at, IsKeyTable}
 
 -- What a report counts of a profile can be counted: samples and columns are few, sums
 -- fit, and verdicts, tags and column are those of the profile.
@@ -52,7 +55,7 @@ pub record FitSums (sums : Sums) : Type 0 where
   pub cums : length sums.cum ≡ length sums.names
   pub small : sum_by nat_abs sums.flat < 2 ^ 63
 
--- What is counted is what the report's samples come to, whatever its patterns find.
+-- What is counted is what the report's samples come to, whatever its patterns find. What it was counted by is at hand.
 pub record IsCountedOf (l : Loaded) (v : Verdicts) (config : Config) (column : Option ℕ) (c : Counted)
     : Type 0 where
   pub kept : (f : Finders) → HoldsFilters l v config f
@@ -65,3 +68,8 @@ pub record IsCountedOf (l : Loaded) (v : Verdicts) (config : Config) (column : O
       → c.total ≡ total_of l.profile f config column
   pub fits : FitSums c.sums
   pub of_profile : All (IsKeyOf l.profile) c.sums.names
+  pub rising : AreRising 0 (length l.profile.sample) c.kept
+  pub table : IsKeyTable l.profile config c.table
+  pub filters : AreFilters l.profile v config c.filters
+  pub names : c.sums.names ≡ map (key_at c.table.names) c.numbers
+  pub numbered : All (λ n. n < length c.table.names) c.numbers

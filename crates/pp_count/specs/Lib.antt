@@ -13,3 +13,5 @@ pub mod Counted
 pub mod Matches
 pub mod Ranks
 pub mod Joined
+pub mod Base
+pub mod Rising

@@ -1,5 +1,6 @@
 -- What a range of samples comes to, as its parts are made on the lanes.
-use Rattle.std.specs.Prelude.{◌≡◌, ℕ, ◌<◌, ◌≤◌, ◌^◌, Bool, List, length, map, All, Option, MatchOption, option_map, ⊤}
+use Rattle.std.specs.Prelude.{◌≡◌, ℕ, ◌+◌, ◌<◌, ◌≤◌, ◌^◌, Bool, List, length, map, All, Option, MatchOption, option_map, ⊤}
+use Rattle.std.specs.Option.{option_map_or}
 use Rattle.pp_model.specs.declared.config.Config.{Config}
 use Rattle.pp_model.specs.declared.profile.Sample.{Sample}
 use Rattle.pp_model.specs.declared.profile.Profile.{Profile}
@@ -15,6 +16,8 @@ use Rattle.pp_count.specs.Sums.{Seen, weighed, absolute, renamed}
 use Rattle.pp_count.specs.Seeing.{HoldsFilters, seen_samples, filtered_from, absolute_all}
 use Rattle.pp_count.specs.Parts.{AreSums, HasBelow}
 use Rattle.pp_count.specs.Edges.{counted_keys}
+use Rattle.pp_count.specs.Counts.{samples_at}
+use Rattle.pp_count.specs.Rising.{AreRising}
 
 -- the profile whose samples are counted
 abbrev pub profile_of : Scope → Profile
@@ -28,12 +31,22 @@ config_of scope = scope.config.now
 abbrev pub keep_of : Scope → Option (List Bool)
 keep_of scope = option_map (λ keep. keep.now) scope.over
 
--- The verdicts, the filters and the table are those of the profile and the configuration.
+-- the numbers of the samples that are counted; none where all are
+abbrev pub chosen_of : Scope → Option (List ℕ)
+chosen_of scope = option_map (λ numbers. numbers.now) scope.chosen
+
+-- the samples that are counted
+abbrev pub samples_of : Scope → List Sample
+samples_of scope = option_map_or (samples_at (profile_of scope)) (chosen_of scope) (profile_of scope).sample
+
+-- The verdicts, the filters and the table are those of the profile and the configuration. Samples that are chosen are
+-- the profile's, each once.
 pub record IsSound (scope : Scope) : Type 0 where
   pub filters : AreFilters (profile_of scope) scope.v.now (config_of scope) scope.filters.now
   pub verdicts : HasVerdicts (profile_of scope) scope.v.now
   pub table : IsKeyTable (profile_of scope) (config_of scope) scope.table.now
   pub few_kept : MatchOption (keep_of scope) ⊤ (λ keep. length keep < 2 ^ 32)
+  pub chosen : MatchOption (chosen_of scope) ⊤ (AreRising 0 (length (profile_of scope).sample))
 
 -- the sum of the absolute selected values of the samples
 abbrev pub size_of : Scope → List Sample → ℕ
@@ -64,6 +77,7 @@ pub record IsPartOf (scope : Scope) (number : ℕ) (samples : List Sample) (part
   pub sums : AreSums (weighed (map (counted_as scope) seen)) part.sums
   pub kept : (f : Finders) → HoldsFilters scope.l.now scope.v.now (config_of scope) f
       → part.kept ≡ filtered_from (profile_of scope) f (config_of scope) number samples
+  pub rising : AreRising number (number + length samples) part.kept
 
 -- The samples so far are added to the tallies, none of them at a turn after this one, and the numbers of those that the
 -- filters leave are listed. No public clause cites it.
@@ -75,3 +89,4 @@ pub record CountedTo (scope : Scope) (number turn : ℕ) (samples : List Sample)
   pub earlier : (k : ℕ) → (at k).last ≤ turn
   pub kept : (f : Finders) → HoldsFilters scope.l.now scope.v.now (config_of scope) f
       → numbers ≡ filtered_from (profile_of scope) f (config_of scope) number samples
+  pub rising : AreRising number (number + length samples) numbers

@@ -1,5 +1,5 @@
 //! What a report's samples come to.
-ghost use Rattle.std.specs.Prelude.{◌≡◌, ◌<◌, ◌^◌, None, All, IfOk};
+ghost use Rattle.std.specs.Prelude.{◌≡◌, ◌<◌, ◌^◌, None, length, map, All, IfOk};
 ghost use Rattle.pp_model.specs.Conditions.{HasVerdicts, IsColumnOf};
 ghost use Rattle.pp_model.specs.Finders.{Finders};
 ghost use Rattle.pp_model.specs.Sizes.{IsCountable};
@@ -9,7 +9,8 @@ ghost use Rattle.pp_count.specs.Matches.{matches_of};
 ghost use Rattle.pp_count.specs.Counts.{AreSumsOf, total_of};
 ghost use Rattle.pp_count.specs.Filters.{AreFilters};
 ghost use Rattle.pp_count.specs.Counted.{CanCount, FitSums, IsCountedOf, report_samples};
-ghost use Rattle.pp_count.specs.Table.{IsKeyTable};
+ghost use Rattle.pp_count.specs.Rising.{AreRising};
+ghost use Rattle.pp_count.specs.Table.{key_at, IsKeyTable};
 ghost use Rattle.pp_count.specs.Scope.{IsSound, CountedTo, size_of};
 ghost use Rattle.pp_count.specs.Tally.{tally_at};
 
@@ -17,7 +18,7 @@ use crate::filters::Filters;
 use crate::matched::{Matched, matches};
 use crate::scope::Scope;
 use crate::sofar::Sofar;
-use crate::sums::{Sums, sums_by_keys};
+use crate::sums::{NumberedSums, Sums, sums_by_keys};
 use crate::table::{KeyTable, key_table};
 use crate::tallies::entries;
 use crate::total::{total_kept, total_over};
@@ -38,6 +39,11 @@ pub struct Counted {
     pub matched: Matched,
     /// What percentages are taken of.
     pub total: u64,
+    // What the samples were counted by, to count some of them again.
+    pub(crate) table: KeyTable,
+    pub(crate) filters: Filters,
+    // For each name of the sums, its number in the table.
+    pub(crate) numbers: List<u64>,
 }
 
 /// Counts all samples, in pieces of 1,024 on as many lanes as the configuration has workers. `Err` is want of memory.
@@ -58,14 +64,17 @@ pub fn count<R: Threads + Sync, G: Gate>(
 {
     let table = key_table(alloc, l, config)?;
     let filters = Filters::new(alloc, l, v, config)?;
-    let (sofar, sums) = count_by(rt, alloc, l, v, config, &filters, column, &table, gate)?;
+    let (sofar, keyed) = count_by(rt, alloc, l, v, config, &filters, column, &table, gate)?;
     let matched = matches(alloc, l, v, config, &filters)?;
     let total = report_total(l, config, column, sofar.kept.as_slice());
     Ok(Counted {
         kept: sofar.kept,
-        sums,
+        sums: keyed.sums,
         matched,
         total,
+        table,
+        filters,
+        numbers: keyed.numbers,
     })
 }
 
@@ -80,7 +89,7 @@ fn count_by<'x, R: Threads + Sync, G: Gate>(
     column: Option<u32>,
     table: &'x KeyTable,
     gate: &G,
-) -> Result<(Sofar, Sums), Memory>
+) -> Result<(Sofar, NumberedSums), Memory>
     requires countable { IsCountable l.now.profile }
     requires column { IsColumnOf l.now.profile column }
     requires verdicts { HasVerdicts l.now.profile v.now }
@@ -90,9 +99,12 @@ fn count_by<'x, R: Threads + Sync, G: Gate>(
         IfOk result (λ c. c.0.kept ≡ filtered_from l.now.profile f config.now 0 l.now.profile.sample) }
     ensures sums { (f : Finders) → HoldsFilters l.now v.now config.now f →
         IfOk result (λ c. AreSumsOf l.now.profile
-        (report_samples l.now.profile f config.now column) c.1) }
-    ensures fits { IfOk result (λ c. FitSums c.1) }
-    ensures of_profile { IfOk result (λ c. All (IsKeyOf l.now.profile) c.1.names) }
+        (report_samples l.now.profile f config.now column) c.1.sums) }
+    ensures fits { IfOk result (λ c. FitSums c.1.sums) }
+    ensures of_profile { IfOk result (λ c. All (IsKeyOf l.now.profile) c.1.sums.names) }
+    ensures rising { IfOk result (λ c. AreRising 0 (length l.now.profile.sample) c.0.kept) }
+    ensures names { IfOk result (λ c. c.1.sums.names ≡ map (key_at table.now.names) c.1.numbers) }
+    ensures numbered { IfOk result (λ c. All (λ n. n < length table.now.names) c.1.numbers) }
 {
     let scope = Scope {
         l,
@@ -102,10 +114,11 @@ fn count_by<'x, R: Threads + Sync, G: Gate>(
         column,
         table,
         over: None,
+        chosen: None,
     };
     let sofar = count_all(rt, alloc, &scope, gate)?;
-    let sums = sums_so_far(alloc, &scope, &sofar)?;
-    Ok((sofar, sums))
+    let keyed = sums_so_far(alloc, &scope, &sofar)?;
+    Ok((sofar, keyed))
 }
 
 // What percentages are taken of, where these are the numbers of the samples that the filters leave.
@@ -123,7 +136,7 @@ fn report_total(l: &Loaded, config: &Config, column: Option<u32>, kept: &[u32]) 
 }
 
 // The sums of all samples, by keys.
-fn sums_so_far(alloc: Global, scope: &Scope, sofar: &Sofar) -> Result<Sums, Memory>
+fn sums_so_far(alloc: Global, scope: &Scope, sofar: &Sofar) -> Result<NumberedSums, Memory>
     requires sound { IsSound scope.now }
     requires fits { size_of scope.now scope.now.l.now.profile.sample < 2 ^ 63 }
     requires keys { scope.now.over ≡ None }
@@ -131,13 +144,19 @@ fn sums_so_far(alloc: Global, scope: &Scope, sofar: &Sofar) -> Result<Sums, Memo
         (tally_at sofar.now.tallies) sofar.now.kept }
     ensures sums { (f : Finders) →
         HoldsFilters scope.now.l.now scope.now.v.now scope.now.config.now f →
-        IfOk result (λ sums. AreSumsOf scope.now.l.now.profile
-        (report_samples scope.now.l.now.profile f scope.now.config.now scope.now.column) sums) }
-    ensures fits { IfOk result FitSums }
-    ensures of_profile { IfOk result (λ sums. All (IsKeyOf scope.now.l.now.profile) sums.names) }
+        IfOk result (λ keyed. AreSumsOf scope.now.l.now.profile
+        (report_samples scope.now.l.now.profile f scope.now.config.now scope.now.column)
+        keyed.sums) }
+    ensures fits { IfOk result (λ keyed. FitSums keyed.sums) }
+    ensures of_profile { IfOk result (λ keyed.
+        All (IsKeyOf scope.now.l.now.profile) keyed.sums.names) }
+    ensures names { IfOk result (λ keyed.
+        keyed.sums.names ≡ map (key_at scope.now.table.now.names) keyed.numbers) }
+    ensures numbered { IfOk result (λ keyed.
+        All (λ n. n < length scope.now.table.now.names) keyed.numbers) }
 {
     let _compact = scope.l.profile.get();
     let entries = entries(alloc, &sofar.tallies)?;
-    let sums = sums_by_keys(alloc, &scope.table.names, entries.as_slice())?;
-    Ok(sums)
+    let keyed = sums_by_keys(alloc, &scope.table.names, entries.as_slice())?;
+    Ok(keyed)
 }

@@ -2,10 +2,10 @@
 ghost use Rattle.std.specs.Prelude.{◌≡◌, ◌+◌, ◌*◌, ◌<◌, ◌^◌, length, IfOk};
 ghost use Rattle.std.proofs.Props.{props};
 ghost use Rattle.pp_count.specs.Parts.{piece_samples};
-ghost use Rattle.pp_count.specs.Scope.{IsSound, AreCountable, IsPartOf};
+ghost use Rattle.pp_count.specs.Scope.{samples_of, IsSound, AreCountable, IsPartOf};
 
 use crate::part::{Part, count_range};
-use crate::scope::Scope;
+use crate::scope::{Scope, count_of};
 use pp_base::Memory;
 use pp_steal::Job;
 use std::alloc::Global;
@@ -23,8 +23,8 @@ pub struct Counting<'a> {
     /// How many pieces the wave has.
     pub pieces: u32,
     pub ghost sound: { IsSound scope } by { Prim.hlevel props },
-    pub ghost countable: { AreCountable scope scope.l.now.profile.sample },
-    pub ghost within: { 1024 * (first + pieces) < length scope.l.now.profile.sample + 1024 },
+    pub ghost countable: { AreCountable scope (samples_of scope) },
+    pub ghost within: { 1024 * (first + pieces) < length (samples_of scope) + 1024 },
 }
 
 impl Job for Counting<'_> {
@@ -32,12 +32,12 @@ impl Job for Counting<'_> {
 
     ghost use Rattle.std.specs.Prelude.{◌+◌, ◌*◌};
     ghost use Rattle.pp_count.specs.Parts.{piece_samples};
-    ghost use Rattle.pp_count.specs.Scope.{IsPartOf};
+    ghost use Rattle.pp_count.specs.Scope.{samples_of, IsPartOf};
 
     ghost pieces = { λ job. job.pieces };
 
     ghost right = { λ job piece part. IsPartOf job.scope ((job.first + piece) * 1024)
-        (piece_samples job.scope.l.now.profile.sample (job.first + piece)) part };
+        (piece_samples (samples_of job.scope) (job.first + piece)) part };
 
     fn run(&self, piece: u32) -> Result<Part, Memory> {
         count_piece_of(self.alloc, &self.scope, self.first + piece)
@@ -47,13 +47,12 @@ impl Job for Counting<'_> {
 /// The part of the piece's samples.
 pub fn count_piece_of(alloc: Global, scope: &Scope, piece: u32) -> Result<Part, Memory>
     requires sound { IsSound scope.now }
-    requires countable { AreCountable scope.now scope.now.l.now.profile.sample }
-    requires starts { 1024 * piece < length scope.now.l.now.profile.sample }
+    requires countable { AreCountable scope.now (samples_of scope.now) }
+    requires starts { 1024 * piece < length (samples_of scope.now) }
     ensures { IfOk result (IsPartOf scope.now (piece * 1024)
-        (piece_samples scope.now.l.now.profile.sample piece)) }
+        (piece_samples (samples_of scope.now) piece)) }
 {
-    let samples = scope.l.profile.get().sample.as_slice();
     let start = piece as usize * PIECE;
-    let end = (start + PIECE).min(samples.len());
-    count_range(alloc, scope, &samples[start..end], start as u32)
+    let count = (count_of(scope) - start).min(PIECE);
+    count_range(alloc, scope, start as u32, count as u32)
 }

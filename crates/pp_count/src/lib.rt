@@ -1,6 +1,7 @@
 //! What a report counts: its column and total, its key numbers, and sums over the samples, in pieces on the lanes.
 #![tactic(auto)]
 
+mod base;
 mod column;
 mod counted;
 mod counting;
@@ -24,6 +25,7 @@ mod total;
 mod value;
 mod waves;
 
+pub use base::{BaseSums, base_sums, counted_whole, has_base};
 pub use column::{BadSampleIndex, column_of};
 pub use counted::{Counted, count};
 pub use edge::Edge;

@@ -1,13 +1,12 @@
 //! What a range of the samples comes to.
-ghost use Rattle.std.specs.Prelude.{◌≡◌, ℕ, ◌+◌, ◌<◌, ◌^◌, nat_abs, length, All, IfOk};
-ghost use Rattle.pp_model.specs.Conditions.{RefersTo, IsSampleOf};
+ghost use Rattle.std.specs.Prelude.{◌≡◌, ℕ, ◌+◌, ◌<◌, ◌≤◌, ◌^◌, nat_abs, length, take, drop, IfOk};
 ghost use Rattle.pp_count.specs.Column.{selected};
 ghost use Rattle.pp_count.specs.Edges.{counted_keys};
 ghost use Rattle.pp_count.specs.Tally.{tally_at, no_tally, with_seen};
-ghost use Rattle.pp_count.specs.Scope.{keep_of, IsSound, AreCountable, IsPartOf, CountedTo};
+ghost use Rattle.pp_count.specs.Scope.{keep_of, samples_of, IsSound, AreCountable, IsPartOf, CountedTo};
 
 use crate::pairs::gather_pairs;
-use crate::scope::Scope;
+use crate::scope::{Scope, sample_at};
 use crate::seeing::see;
 use crate::tallies::{Tallies, add_sample, entries};
 use crate::value::selected;
@@ -35,52 +34,45 @@ pub struct Part {
     pub sums: List<KeySum>,
 }
 
-/// Counts samples, of which the first has this number.
-pub fn count_range(
-    alloc: Global,
-    scope: &Scope,
-    samples: &[Sample],
-    number: u32,
-) -> Result<Part, Memory>
+/// Counts so many samples, of which the first stands at this place among those that are counted.
+pub fn count_range(alloc: Global, scope: &Scope, first: u32, count: u32) -> Result<Part, Memory>
     requires sound { IsSound scope.now }
-    requires countable { AreCountable scope.now samples.now }
-    requires members { All (IsSampleOf scope.now.l.now.profile) samples.now }
-    requires refers { All (RefersTo scope.now.l.now.profile) samples.now }
-    requires few { number + length samples.now < 2 ^ 32 }
-    ensures { IfOk result (IsPartOf scope.now number samples.now) }
+    requires countable { AreCountable scope.now (samples_of scope.now) }
+    requires within { first + count ≤ length (samples_of scope.now) }
+    ensures { IfOk result (IsPartOf scope.now first (take count (drop first (samples_of scope.now)))) }
 {
     let mut tallies = Tallies::new(alloc, scope.numbers())?;
-    let kept = add_samples(alloc, scope, &mut tallies, samples, number)?;
+    let kept = add_samples(alloc, scope, &mut tallies, first, count)?;
     let sums = entries(alloc, &tallies)?;
     Ok(Part { kept, sums })
 }
 
-// Adds the samples that the filters leave to tallies that have none yet. The numbers of those samples.
+// Adds the samples that the filters leave to tallies that have none yet. The places of those samples.
 fn add_samples(
     alloc: Global,
     scope: &Scope,
     tallies: &mut Tallies,
-    samples: &[Sample],
-    number: u32,
+    first: u32,
+    count: u32,
 ) -> Result<List<u32>, Memory>
     requires sound { IsSound scope.now }
-    requires countable { AreCountable scope.now samples.now }
-    requires members { All (IsSampleOf scope.now.l.now.profile) samples.now }
-    requires refers { All (RefersTo scope.now.l.now.profile) samples.now }
-    requires few { number + length samples.now < 2 ^ 32 }
+    requires countable { AreCountable scope.now (samples_of scope.now) }
+    requires within { first + count ≤ length (samples_of scope.now) }
     requires none { (k : ℕ) → tally_at tallies.old k ≡ no_tally }
-    ensures { IfOk result (λ kept. CountedTo scope.now number (length samples.now) samples.now
-        (tally_at tallies.new) kept) }
+    ensures { IfOk result (λ kept. CountedTo scope.now first count
+        (take count (drop first (samples_of scope.now))) (tally_at tallies.new) kept) }
 {
     let mut stack = List::new(alloc);
     let mut keys = Vec::new(alloc);
     let mut pairs = Vec::new(alloc);
     let mut kept = List::new(alloc);
-    for (index, sample) in samples.iter().enumerate() {
+    for index in 0..count {
+        let place = first + index;
+        let sample = sample_at(scope, place as usize);
         if see(scope, sample, &mut stack, &mut keys)? {
             let turn = index as u64 + 1;
             add_seen(scope, tallies, sample, &keys, &mut pairs, turn)?;
-            kept.push(number + index as u32)?;
+            kept.push(place)?;
         }
     }
     Ok(kept)

@@ -69,6 +69,7 @@ fn count_piece_by<'x>(
         column,
         table,
         over: None,
+        chosen: None,
     };
     let part = count_piece_of(alloc, &scope, piece)?;
     Ok(part)

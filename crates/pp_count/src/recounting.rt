@@ -1,19 +1,14 @@
 //! The edges between the keys that are kept.
 ghost use Rattle.std.specs.Prelude.{◌≡◌, ◌*◌, ◌<◌, ◌^◌, length, map, All, IfOk};
-ghost use Rattle.pp_model.specs.Conditions.{HasVerdicts, IsColumnOf};
 ghost use Rattle.pp_model.specs.Finders.{Finders};
-ghost use Rattle.pp_model.specs.Sizes.{IsCountable};
-ghost use Rattle.pp_grain.specs.Keys.{IsKeyOf};
 ghost use Rattle.pp_count.specs.Seeing.{HoldsFilters};
-ghost use Rattle.pp_count.specs.Counted.{CanCount, report_samples};
+ghost use Rattle.pp_count.specs.Counted.{CanCount, IsCountedOf, report_samples};
 ghost use Rattle.pp_count.specs.Table.{IsKeyTable};
 ghost use Rattle.pp_count.specs.Edges.{edge_of_sum};
-ghost use Rattle.pp_count.specs.Filters.{AreFilters};
 ghost use Rattle.pp_count.specs.EdgeSums.{AreEdgesOf, HasPairSums};
 
 use crate::counted::Counted;
 use crate::edge::Edge;
-use crate::filters::Filters;
 use crate::part::KeySum;
 use crate::scope::Scope;
 use crate::table::{KeyTable, table_after};
@@ -41,7 +36,7 @@ pub fn recount<R: Threads + Sync, G: Gate>(
     gate: &G,
 ) -> Result<List<Edge>, Memory>
     requires can { CanCount l.now.profile v.now config.now column }
-    requires names { All (IsKeyOf l.now.profile) counted.now.sums.names }
+    requires counted { IsCountedOf l.now v.now config.now column counted.now }
     requires keep { length keep.now ≡ length counted.now.sums.names }
     ensures edges { (f : Finders) → HoldsFilters l.now v.now config.now f →
         IfOk result (λ edges. AreEdgesOf l.now.profile
@@ -58,10 +53,7 @@ pub fn recount<R: Threads + Sync, G: Gate>(
     }
     let names = same_names(alloc, &counted.sums.names)?;
     let table = table_after(alloc, l, config, names)?;
-    let filters = Filters::new(alloc, l, v, config)?;
-    let sums = pair_sums(
-        rt, alloc, l, v, config, &filters, column, &table, keep, gate,
-    )?;
+    let sums = pair_sums(rt, alloc, l, v, counted, config, column, &table, keep, gate)?;
     let edges = edges_of(alloc, sums.as_slice(), keep.len() as u64)?;
     Ok(edges)
 }
@@ -78,35 +70,35 @@ fn same_names(alloc: Global, names: &Names) -> Result<Names, Memory>
     Ok(same)
 }
 
-// The sums of the pairs over the keys that are kept, by the numbers of the pairs.
+// The sums of the pairs over the keys that are kept, by the numbers of the pairs. The samples of `counted` are gone over.
 fn pair_sums<'x, R: Threads + Sync, G: Gate>(
     rt: &R,
     alloc: Global,
     l: &'x Loaded,
     v: &'x Verdicts,
+    counted: &'x Counted,
     config: &'x Config,
-    filters: &'x Filters,
     column: Option<u32>,
     table: &'x KeyTable,
     keep: &'x [bool],
     gate: &G,
 ) -> Result<List<KeySum>, Memory>
-    requires countable { IsCountable l.now.profile }
-    requires column { IsColumnOf l.now.profile column }
-    requires verdicts { HasVerdicts l.now.profile v.now }
-    requires filters { AreFilters l.now.profile v.now config.now filters.now }
+    requires can { CanCount l.now.profile v.now config.now column }
+    requires counted { IsCountedOf l.now v.now config.now column counted.now }
     requires table { IsKeyTable l.now.profile config.now table.now }
     requires few { length keep.now < 2 ^ 32 }
     ensures { IfOk result (HasPairSums l.now v.now config.now column table.now.names keep.now) }
 {
+    let kept = counted.kept.as_slice();
     let scope = Scope {
         l,
         v,
         config,
-        filters,
+        filters: &counted.filters,
         column,
         table,
         over: Some(keep),
+        chosen: Some(kept),
     };
     let sofar = count_all(rt, alloc, &scope, gate)?;
     let sums = entries(alloc, &sofar.tallies)?;

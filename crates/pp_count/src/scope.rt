@@ -1,8 +1,12 @@
 //! How the samples of a count are seen.
+ghost use Rattle.std.specs.Prelude.{◌≡◌, ◌<◌, ◌^◌, length, Some};
+ghost use Rattle.std.specs.List.{slice_get};
+ghost use Rattle.pp_model.specs.Conditions.{RefersTo, IsSampleOf};
+ghost use Rattle.pp_count.specs.Scope.{IsSound, profile_of, samples_of};
 
 use crate::filters::Filters;
 use crate::table::KeyTable;
-use pp_model::{Config, Loaded, Verdicts};
+use pp_model::{Config, Loaded, Sample, Verdicts};
 
 /// What all pieces of a count share.
 #[derive(Clone, Copy)]
@@ -19,6 +23,8 @@ pub struct Scope<'a> {
     /// None where keys are counted. Else pairs are, over the keys that are kept here, by
     /// key number; keys past the end are not kept.
     pub over: Option<&'a [bool]>,
+    /// The numbers of the samples that are counted, rising; none where all are.
+    pub chosen: Option<&'a [u32]>,
 }
 
 impl Scope<'_> {
@@ -28,5 +34,32 @@ impl Scope<'_> {
             None => self.table.names.len() as usize,
             Some(keep) => keep.len().saturating_mul(keep.len()),
         }
+    }
+}
+
+/// How many samples are counted.
+pub(crate) fn count_of(scope: &Scope) -> usize
+    requires { IsSound scope.now }
+    ensures { result ≡ length (samples_of scope.now) }
+{
+    match scope.chosen {
+        None => scope.l.profile.get().sample.len(),
+        Some(numbers) => numbers.len(),
+    }
+}
+
+/// The sample at the place among those that are counted.
+pub(crate) fn sample_at<'a>(scope: &Scope<'a>, place: usize) -> &'a Sample
+    requires sound { IsSound scope.now }
+    requires few { length (samples_of scope.now) < 2 ^ 32 }
+    requires within { place < length (samples_of scope.now) }
+    ensures is { slice_get (samples_of scope.now) place ≡ Some result.now }
+    ensures member { IsSampleOf (profile_of scope.now) result.now }
+    ensures refers { RefersTo (profile_of scope.now) result.now }
+{
+    let samples = scope.l.profile.get().sample.as_slice();
+    match scope.chosen {
+        None => &samples[place],
+        Some(numbers) => &samples[numbers[place] as usize],
     }
 }

@@ -36,6 +36,21 @@ impl Tallies {
     }
 }
 
+/// What is kept of the key number.
+#[tactic(auto, unfolding(crate::specs::Tally::tally_at))]
+pub fn tally_of(tallies: &Tallies, key: u64) -> Tally
+    ensures { result ≡ tally_at tallies.now key }
+{
+    let place = key as usize;
+    if place < tallies.listed.len() {
+        return tallies.listed[place];
+    }
+    match tallies.others.get(&key) {
+        None => Tally::NONE,
+        Some(tally) => *tally,
+    }
+}
+
 /// Adds one sample whose keys have these numbers, leaf first, unless its value is 0. Its turn is after those of the
 /// samples before it.
 pub fn add_sample(tallies: &mut Tallies, value: i64, keys: &[u64], turn: u64) -> Result<(), Memory>

@@ -52,7 +52,8 @@ fn size(l: &Loaded, config: &Config, column: Option<u32>, s: &Sample) -> u64
     selected(l, s, column, config.divide_by).unsigned_abs()
 }
 
-fn is_base(p: &Profile, s: &Sample) -> bool
+/// Whether the sample carries the base's label.
+pub(crate) fn is_base(p: &Profile, s: &Sample) -> bool
     ensures { result ≡ is_base p.now s.now }
 {
     s.label

@@ -1,10 +1,10 @@
-//! All samples, counted in waves of pieces on the lanes.
+//! All samples, or chosen ones, counted in waves of pieces on the lanes.
 ghost use Rattle.std.specs.Prelude.{◌≡◌, ◌+◌, ◌*◌, ◌<◌, take, IfOk};
 ghost use Rattle.pp_count.specs.Tally.{tally_at};
-ghost use Rattle.pp_count.specs.Scope.{IsSound, AreCountable, CountedTo};
+ghost use Rattle.pp_count.specs.Scope.{samples_of, IsSound, AreCountable, CountedTo};
 
 use crate::counting::{Counting, PIECE};
-use crate::scope::Scope;
+use crate::scope::{Scope, count_of};
 use crate::sofar::Sofar;
 use pp_base::{Gate, Memory};
 use pp_steal::{Deal, run_pieces};
@@ -14,7 +14,7 @@ use std::thread::Threads;
 /// How many pieces are counted before their parts are added. So no more than their parts stand in memory.
 pub const WAVE: u32 = 64;
 
-/// What all samples come to, in pieces on as many lanes as the configuration has workers.
+/// What the samples that are counted come to, in pieces on as many lanes as the configuration has workers.
 pub fn count_all<'x, R: Threads + Sync, G: Gate>(
     rt: &R,
     alloc: Global,
@@ -22,11 +22,11 @@ pub fn count_all<'x, R: Threads + Sync, G: Gate>(
     gate: &G,
 ) -> Result<Sofar, Memory>
     requires sound { IsSound scope.now }
-    requires countable { AreCountable scope.now scope.now.l.now.profile.sample }
-    ensures { IfOk result (λ sofar. CountedTo scope.now 0 1 scope.now.l.now.profile.sample
+    requires countable { AreCountable scope.now (samples_of scope.now) }
+    ensures { IfOk result (λ sofar. CountedTo scope.now 0 1 (samples_of scope.now)
         (tally_at sofar.tallies) sofar.kept) }
 {
-    let pieces = scope.l.profile.get().sample.len().div_ceil(PIECE) as u32;
+    let pieces = count_of(scope).div_ceil(PIECE) as u32;
     let mut sofar = Sofar::new(alloc, scope.numbers())?;
     for wave in 0..pieces.div_ceil(WAVE) {
         let first = wave * WAVE;
@@ -49,10 +49,10 @@ fn count_wave<R: Threads + Sync, G: Gate>(
     sofar: &mut Sofar,
 ) -> Result<(), Memory>
     requires { CountedTo job.now.scope 0 1
-        (take (1024 * job.now.first) job.now.scope.l.now.profile.sample)
+        (take (1024 * job.now.first) (samples_of job.now.scope))
         (tally_at sofar.old.tallies) sofar.old.kept }
     ensures { IfOk result (λ _. CountedTo job.now.scope 0 1
-        (take (1024 * (job.now.first + job.now.pieces)) job.now.scope.l.now.profile.sample)
+        (take (1024 * (job.now.first + job.now.pieces)) (samples_of job.now.scope))
         (tally_at sofar.new.tallies) sofar.new.kept) }
 {
     let workers = job.scope.config.workers;

@@ -12,7 +12,7 @@ use Rattle.pp_base.specs.Told.{extended, extended-extended, extended-nil}
 use Rattle.pp_desk.specs.declared.stop.Stop.{Stop}
 use Rattle.pp_desk.specs.declared.stop.Stop.TheVariants as stops
 use Rattle.pp_desk.specs.Course.{given}
-use Rattle.pp_desk.specs.Effects.{Effect, ToOut, ToErr, ToFile, out_of, err_of, outs, errs, files_after, Outside, Did}
+use Rattle.pp_desk.specs.Effects.{Effect, ToOut, ToErr, ToFile, FromFile, out_of, err_of, read_of, outs, errs, reads_of, files_after, Outside, Did}
 use Rattle.pp_desk.specs.Script.{Script, WriteErr, write_err}
 use Rattle.pp_desk.specs.Went.{Went, parts, Ways, Goes, Halts, InPart}
 use Rattle.pp_desk.specs.World.{Told, World}
@@ -25,6 +25,7 @@ files_after-append files [] fs = refl
 files_after-append files (ToOut bytes ∷ es) fs = files_after-append files es fs
 files_after-append files (ToErr bytes ∷ es) fs = files_after-append files es fs
 files_after-append files (ToFile path bytes ∷ es) fs = files_after-append (with_content files path bytes) es fs
+files_after-append files (FromFile path ∷ es) fs = files_after-append files es fs
 
 -- effects and then others
 pub did_more : (a b c : Outside) (es fs : List Effect) → Did a b es → Did b c fs → Did a c (es ++ fs)
@@ -32,6 +33,7 @@ did_more a b c es fs d e = record {
   out = e.out ∙ ap (λ o. extended o (outs fs)) d.out ∙ extended-extended a.out (outs es) (outs fs) ∙ ap (extended a.out) (sym (flat_map-append out_of es fs));
   err = e.err ∙ ap (λ o. extended o (errs fs)) d.err ∙ extended-extended a.err (errs es) (errs fs) ∙ ap (extended a.err) (sym (flat_map-append err_of es fs));
   files = e.files ∙ ap (λ o. files_after o fs) d.files ∙ sym (files_after-append a.files es fs);
+  reads = e.reads ∙ ap (λ o. extended o (reads_of fs)) d.reads ∙ extended-extended a.reads (reads_of es) (reads_of fs) ∙ ap (extended a.reads) (sym (flat_map-append read_of es fs));
 }
 
 -- the answers given between two moments are those by which the list grew
@@ -69,7 +71,7 @@ pub closes : (a b : World) (line : List ℕ) (r : Result (Unit {0}) Stop) → We
 closes a b line r w =
     let w = parts w in
     let t = told_part a.told b.told line r w.ways in
-    record { part = t.0; front = t.1; tells = t.2; later = w.later; same = w.same }
+    record { part = t.0; front = t.1; tells = t.2; later = w.later; same = w.same; input = w.input }
 
 -- what was done of a script that came to its end
 pub goes_of : {T : Type 0} (a b : World) (script : Script T) (r : Result T Stop) → Went a b script r → IfOk r (Goes a.told b.told script)

@@ -13,25 +13,34 @@ use Rattle.pp_desk.specs.declared.input_line.InputLine.{InputLine}
 use Rattle.pp_desk.specs.Lines.{next_of, after_next}
 use Rattle.pp_desk.specs.World.{Told}
 use Rattle.pp_desk.specs.Script.{Script, Give, Make, Step, WriteOut, WriteErr, ReadFile, WriteFile, Ask, NextLine, Reply}
-use Rattle.pp_desk.specs.Went.{Goes, Halts, InPart, AtRest, after, content_within, LeavesPart}
-use Rattle.pp_desk.specs.Effects.{Effect, ToOut, ToErr, ToFile, outs, errs, Outside, outside, Did}
+use Rattle.pp_desk.specs.Went.{Goes, Halts, InPart, AtRest, after, content_within, LeavesPart, LeavesRead}
+use Rattle.pp_desk.specs.Effects.{Effect, ToOut, ToErr, ToFile, FromFile, outs, errs, reads_of, Outside, outside, Did}
 use Rattle.pp_desk.specs.Course.{course, outside_of, WholeCourse, FrontCourse}
 
 -- bytes to standard output first
-did_out_first : (old new : Outside) (bytes : List ℕ) (es : List Effect) → Did (outside (extended old.out bytes) old.err old.files) new es → Did old new (ToOut bytes ∷ es)
-did_out_first old new bytes es d = record { out = d.out ∙ extended-extended old.out bytes (outs es); err = d.err; files = d.files }
+did_out_first : (old new : Outside) (bytes : List ℕ) (es : List Effect) → Did (outside (extended old.out bytes) old.err old.files old.reads) new es → Did old new (ToOut bytes ∷ es)
+did_out_first old new bytes es d = record { out = d.out ∙ extended-extended old.out bytes (outs es); err = d.err; files = d.files; reads = d.reads }
 
 -- bytes to standard error first
-did_err_first : (old new : Outside) (bytes : List ℕ) (es : List Effect) → Did (outside old.out (extended old.err bytes) old.files) new es → Did old new (ToErr bytes ∷ es)
-did_err_first old new bytes es d = record { out = d.out; err = d.err ∙ extended-extended old.err bytes (errs es); files = d.files }
+did_err_first : (old new : Outside) (bytes : List ℕ) (es : List Effect) → Did (outside old.out (extended old.err bytes) old.files old.reads) new es → Did old new (ToErr bytes ∷ es)
+did_err_first old new bytes es d = record { out = d.out; err = d.err ∙ extended-extended old.err bytes (errs es); files = d.files; reads = d.reads }
 
 -- a file first
-did_file_first : (old new : Outside) (path bytes : List ℕ) (es : List Effect) → Did (outside old.out old.err (with_content old.files path bytes)) new es → Did old new (ToFile path bytes ∷ es)
-did_file_first old new path bytes es d = record { out = d.out; err = d.err; files = d.files }
+did_file_first : (old new : Outside) (path bytes : List ℕ) (es : List Effect) → Did (outside old.out old.err (with_content old.files path bytes) old.reads) new es → Did old new (ToFile path bytes ∷ es)
+did_file_first old new path bytes es d = record { out = d.out; err = d.err; files = d.files; reads = d.reads }
+
+-- a read first
+did_read_first : (old new : Outside) (path : List ℕ) (es : List Effect) → Did (outside old.out old.err old.files (extended old.reads (path ∷ []))) new es → Did old new (FromFile path ∷ es)
+did_read_first old new path es d = record { out = d.out; err = d.err; files = d.files; reads = d.reads ∙ extended-extended old.reads (path ∷ []) (reads_of es) }
 
 -- nothing was done
-did_none : (old new : Outside) → new.out ≡ old.out → new.err ≡ old.err → new.files ≡ old.files → Did old new []
-did_none old new o e tells_files = record { out = o ∙ sym (extended-nil old.out); err = e ∙ sym (extended-nil old.err); files = tells_files }
+did_none : (old new : Outside) → new ≡ old → Did old new []
+did_none old new e = record {
+  out = ap (λ (o : Outside). o.out) e ∙ sym (extended-nil old.out);
+  err = ap (λ (o : Outside). o.err) e ∙ sym (extended-nil old.err);
+  files = ap (λ (o : Outside). o.files) e;
+  reads = ap (λ (o : Outside). o.reads) e ∙ sym (extended-nil old.reads);
+}
 
 module _ {T : Type 0} (old new : Told) (files : FileMap) (locked : List (List ℕ)) (lines : List InputLine) where
   -- the steps of a course that was done as a whole
@@ -41,7 +50,7 @@ module _ {T : Type 0} (old new : Told) (files : FileMap) (locked : List (List �
       given = [];
       kept = ap (λ (t : Told). t.answers) e ∙ sym (extended-nil old.answers);
       gave = v;
-      did = did_none (outside_of old) (outside_of new) (ap (λ (t : Told). t.out) e) (ap (λ (t : Told). t.err) e) (ap (λ (t : Told). t.files) e);
+      did = did_none (outside_of old) (outside_of new) (ap outside_of e);
       asked = refl;
     }
 
@@ -51,11 +60,11 @@ module _ {T : Type 0} (old new : Told) (files : FileMap) (locked : List (List �
     whole_err : (bytes : List ℕ) (script : Unit {0} → Script T) → WholeCourse (record old { err = extended old.err bytes }) new (script tt) files locked lines value → WholeCourse old new (Make (WriteErr bytes) script) files locked lines value
     whole_err bytes script r = record { given = r.given; kept = r.kept; gave = r.gave; did = did_err_first (outside_of old) (outside_of new) bytes _ r.did; asked = r.asked }
 
-    whole_read : (path : List ℕ) (limit : ℕ) (script : FileContent → Script T) (reply : FileContent) → reply ≡ content_within limit (content_at files path) → WholeCourse old new (script reply) files locked lines value
+    whole_read : (path : List ℕ) (limit : ℕ) (script : FileContent → Script T) (reply : FileContent) → reply ≡ content_within limit (content_at files path) → WholeCourse (after old (ReadFile path limit) reply) new (script reply) files locked lines value
         → WholeCourse old new (Make (ReadFile path limit) script) files locked lines value
     whole_read path limit script reply e r =
-        let r = subst (λ y. WholeCourse old new (script y) files locked lines value) e r in
-        record { given = r.given; kept = r.kept; gave = r.gave; did = r.did; asked = r.asked }
+        let r = subst (λ y. WholeCourse (after old (ReadFile path limit) y) new (script y) files locked lines value) e r in
+        record { given = r.given; kept = r.kept; gave = r.gave; did = did_read_first (outside_of old) (outside_of new) path _ r.did; asked = r.asked }
 
     whole_write : (path bytes : List ℕ) (script : Bool → Script T) (reply : Bool) → old.files ≡ Some files → old.locked ≡ Some locked → old.lines ≡ Some lines → among locked path ≡ not reply
         → ((n : FileMap) → (after old (WriteFile path bytes) reply).files ≡ Some n → (after old (WriteFile path bytes) reply).locked ≡ Some locked → (after old (WriteFile path bytes) reply).lines ≡ Some lines
@@ -91,7 +100,7 @@ whole_course (Give y) old new files locked lines value tells_files tells_locked 
 whole_course (Make (WriteOut bytes) script) old new files locked lines value tells_files tells_locked tells_lines g = whole_out old new files locked lines value bytes script (whole_course (script tt) _ new files locked lines value tells_files tells_locked tells_lines g.2)
 whole_course (Make (WriteErr bytes) script) old new files locked lines value tells_files tells_locked tells_lines g = whole_err old new files locked lines value bytes script (whole_course (script tt) _ new files locked lines value tells_files tells_locked tells_lines g.2)
 whole_course (Make (ReadFile path limit) script) old new files locked lines value tells_files tells_locked tells_lines g =
-    whole_read old new files locked lines value path limit script g.0 (MatchOption-at_some _ _ files tells_files g.1) (whole_course (script g.0) old new files locked lines value tells_files tells_locked tells_lines g.2)
+    whole_read old new files locked lines value path limit script g.0 (MatchOption-at_some _ _ files tells_files g.1) (whole_course (script g.0) _ new files locked lines value tells_files tells_locked tells_lines g.2)
 whole_course (Make (WriteFile path bytes) script) old new files locked lines value tells_files tells_locked tells_lines g =
     whole_write old new files locked lines value path bytes script g.0 tells_files tells_locked tells_lines (MatchOption-at_some _ _ locked tells_locked g.1) (λ n tells_files tells_locked tells_lines. whole_course (script g.0) _ new n locked lines value tells_files tells_locked tells_lines g.2)
 whole_course (Make (Ask pattern) script) old new files locked lines value tells_files tells_locked tells_lines g = whole_ask old new files locked lines value pattern script g.0 (whole_course (script g.0) _ new files locked lines value tells_files tells_locked tells_lines g.2)
@@ -100,16 +109,16 @@ whole_course (Make NextLine script) old new files locked lines value tells_files
 
 module _ {T : Type 0} (old new : Told) (files : FileMap) (locked : List (List ℕ)) (lines : List InputLine) where
   -- nothing of the course was done
-  quiet_front : (script : Script T) → new.out ≡ old.out → new.err ≡ old.err → new.files ≡ old.files → new.answers ≡ old.answers → FrontCourse old new script files locked lines
-  quiet_front script o e tells_files k = record {
+  quiet_front : (script : Script T) → outside_of new ≡ outside_of old → new.answers ≡ old.answers → FrontCourse old new script files locked lines
+  quiet_front script e k = record {
     given = [];
     kept = k ∙ sym (extended-nil old.answers);
-    did = record { done = []; front = tt; did = did_none (outside_of old) (outside_of new) o e tells_files };
+    did = record { done = []; front = tt; did = did_none (outside_of old) (outside_of new) e };
     asked = ((course script files locked lines []).asked, refl);
   }
 
   front_at_rest : (script : Script T) (stop : Stop) → AtRest old new stop → FrontCourse old new script files locked lines
-  front_at_rest script stops.Memory e = quiet_front script (ap (λ (t : Told). t.out) e) (ap (λ (t : Told). t.err) e) (ap (λ (t : Told). t.files) e) (ap (λ (t : Told). t.answers) e)
+  front_at_rest script stops.Memory e = quiet_front script (ap outside_of e) (ap (λ (t : Told). t.answers) e)
   front_at_rest script stops.File e = absurd e
   front_at_rest script stops.Input e = absurd e
   front_at_rest script stops.Out e = absurd e
@@ -122,7 +131,7 @@ module _ {T : Type 0} (old new : Told) (files : FileMap) (locked : List (List �
     did = record {
       done = ToOut part ∷ [];
       front = inr (front, refl);
-      did = did_out_first (outside_of old) (outside_of new) part [] (did_none _ (outside_of new) (ap (λ (t : Told). t.out) e) (ap (λ (t : Told). t.err) e) (ap (λ (t : Told). t.files) e));
+      did = did_out_first (outside_of old) (outside_of new) part [] (did_none _ (outside_of new) (ap outside_of e));
     };
     asked = ((course (Make (WriteOut bytes) script) files locked lines []).asked, refl);
   }
@@ -134,7 +143,7 @@ module _ {T : Type 0} (old new : Told) (files : FileMap) (locked : List (List �
     did = record {
       done = ToErr part ∷ [];
       front = inr (front, refl);
-      did = did_err_first (outside_of old) (outside_of new) part [] (did_none _ (outside_of new) (ap (λ (t : Told). t.out) e) (ap (λ (t : Told). t.err) e) (ap (λ (t : Told). t.files) e));
+      did = did_err_first (outside_of old) (outside_of new) part [] (did_none _ (outside_of new) (ap outside_of e));
     };
     asked = ((course (Make (WriteErr bytes) script) files locked lines []).asked, refl);
   }
@@ -147,17 +156,30 @@ module _ {T : Type 0} (old new : Told) (files : FileMap) (locked : List (List �
     did = rw free (record {
       done = ToFile path part ∷ [];
       front = inr ((refl, front), refl);
-      did = did_file_first (outside_of old) (outside_of new) path part [] (did_none _ (outside_of new) (ap (λ (t : Told). t.out) e) (ap (λ (t : Told). t.err) e) (ap (λ (t : Told). t.files) e));
+      did = did_file_first (outside_of old) (outside_of new) path part [] (did_none _ (outside_of new) (ap outside_of e));
     });
     asked = ((course (Make (WriteFile path bytes) script) files locked lines []).asked, refl);
   }
 
   part_leave : (path bytes : List ℕ) (script : Bool → Script T) → old.locked ≡ Some locked → LeavesPart old new path bytes → FrontCourse old new (Make (WriteFile path bytes) script) files locked lines
-  part_leave path bytes script tells_locked (inl e) = quiet_front _ (ap (λ (t : Told). t.out) e) (ap (λ (t : Told). t.err) e) (ap (λ (t : Told). t.files) e) (ap (λ (t : Told). t.answers) e)
+  part_leave path bytes script tells_locked (inl e) = quiet_front _ (ap outside_of e) (ap (λ (t : Told). t.answers) e)
   part_leave path bytes script tells_locked (inr part_done) = part_write path bytes script part_done.0 part_done.1 (MatchOption-at_some _ _ locked tells_locked part_done.2) part_done.3
 
+  part_read : (path : List ℕ) (limit : ℕ) (script : FileContent → Script T) → LeavesRead old new path → FrontCourse old new (Make (ReadFile path limit) script) files locked lines
+  part_read path limit script (inl e) = quiet_front _ (ap outside_of e) (ap (λ (t : Told). t.answers) e)
+  part_read path limit script (inr e) = record {
+    given = [];
+    kept = ap (λ (t : Told). t.answers) e ∙ sym (extended-nil old.answers);
+    did = record {
+      done = FromFile path ∷ [];
+      front = inl (refl, tt);
+      did = did_read_first (outside_of old) (outside_of new) path [] (did_none _ (outside_of new) (ap outside_of e));
+    };
+    asked = ((course (Make (ReadFile path limit) script) files locked lines []).asked, refl);
+  }
+
   quiet_line : (script : Script T) → new ≡ record old { unread = None } → FrontCourse old new script files locked lines
-  quiet_line script e = quiet_front script (ap (λ (t : Told). t.out) e) (ap (λ (t : Told). t.err) e) (ap (λ (t : Told). t.files) e) (ap (λ (t : Told). t.answers) e)
+  quiet_line script e = quiet_front script (ap outside_of e) (ap (λ (t : Told). t.answers) e)
 
   -- a step that was stopped
   front_in_part : (step : Step) (script : Reply step → Script T) (stop : Stop) → old.locked ≡ Some locked → InPart old new step stop → FrontCourse old new (Make step script) files locked lines
@@ -165,7 +187,8 @@ module _ {T : Type 0} (old new : Told) (files : FileMap) (locked : List (List �
   front_in_part (WriteOut bytes) script stops.Memory tells_locked part_done = part_out bytes script (take part_done.0 bytes) (take-IsFront part_done.0 bytes) part_done.2
   front_in_part (WriteErr bytes) script stops.Err tells_locked part_done = part_err bytes script (take part_done.0 bytes) (take-IsFront part_done.0 bytes) part_done.2
   front_in_part (WriteErr bytes) script stops.Memory tells_locked part_done = part_err bytes script (take part_done.0 bytes) (take-IsFront part_done.0 bytes) part_done.2
-  front_in_part (ReadFile path limit) script stops.File tells_locked e = quiet_front _ (ap (λ (t : Told). t.out) e) (ap (λ (t : Told). t.err) e) (ap (λ (t : Told). t.files) e) (ap (λ (t : Told). t.answers) e)
+  front_in_part (ReadFile path limit) script stops.File tells_locked part_done = part_read path limit script part_done
+  front_in_part (ReadFile path limit) script stops.Memory tells_locked part_done = part_read path limit script part_done
   front_in_part (WriteFile path bytes) script stops.File tells_locked part_done = part_leave path bytes script tells_locked part_done
   front_in_part NextLine script stops.Input tells_locked part_done = quiet_line _ part_done
   front_in_part NextLine script stops.Memory tells_locked part_done = quiet_line _ part_done
@@ -188,11 +211,16 @@ module _ {T : Type 0} (old new : Told) (files : FileMap) (locked : List (List �
     asked = r.asked;
   }
 
-  front_read : (path : List ℕ) (limit : ℕ) (script : FileContent → Script T) (reply : FileContent) → reply ≡ content_within limit (content_at files path) → FrontCourse old new (script reply) files locked lines
+  front_read : (path : List ℕ) (limit : ℕ) (script : FileContent → Script T) (reply : FileContent) → reply ≡ content_within limit (content_at files path) → FrontCourse (after old (ReadFile path limit) reply) new (script reply) files locked lines
       → FrontCourse old new (Make (ReadFile path limit) script) files locked lines
   front_read path limit script reply e r =
-      let r = subst (λ y. FrontCourse old new (script y) files locked lines) e r in
-      record { given = r.given; kept = r.kept; did = r.did; asked = r.asked }
+      let r = subst (λ y. FrontCourse (after old (ReadFile path limit) y) new (script y) files locked lines) e r in
+      record {
+        given = r.given;
+        kept = r.kept;
+        did = record { done = FromFile path ∷ r.did.done; front = inl (refl, r.did.front); did = did_read_first (outside_of old) (outside_of new) path _ r.did.did };
+        asked = r.asked;
+      }
 
   front_write : (path bytes : List ℕ) (script : Bool → Script T) (reply : Bool) → old.files ≡ Some files → old.locked ≡ Some locked → old.lines ≡ Some lines → among locked path ≡ not reply
       → ((n : FileMap) → (after old (WriteFile path bytes) reply).files ≡ Some n → (after old (WriteFile path bytes) reply).locked ≡ Some locked → (after old (WriteFile path bytes) reply).lines ≡ Some lines
@@ -234,7 +262,7 @@ front_course (Make step script) old new files locked lines stop tells_files tell
 front_course (Make (WriteOut bytes) script) old new files locked lines stop tells_files tells_locked tells_lines (inr (inr g)) = front_out old new files locked lines bytes script (front_course (script tt) _ new files locked lines stop tells_files tells_locked tells_lines g.2)
 front_course (Make (WriteErr bytes) script) old new files locked lines stop tells_files tells_locked tells_lines (inr (inr g)) = front_err old new files locked lines bytes script (front_course (script tt) _ new files locked lines stop tells_files tells_locked tells_lines g.2)
 front_course (Make (ReadFile path limit) script) old new files locked lines stop tells_files tells_locked tells_lines (inr (inr g)) =
-    front_read old new files locked lines path limit script g.0 (MatchOption-at_some _ _ files tells_files g.1) (front_course (script g.0) old new files locked lines stop tells_files tells_locked tells_lines g.2)
+    front_read old new files locked lines path limit script g.0 (MatchOption-at_some _ _ files tells_files g.1) (front_course (script g.0) _ new files locked lines stop tells_files tells_locked tells_lines g.2)
 front_course (Make (WriteFile path bytes) script) old new files locked lines stop tells_files tells_locked tells_lines (inr (inr g)) =
     front_write old new files locked lines path bytes script g.0 tells_files tells_locked tells_lines (MatchOption-at_some _ _ locked tells_locked g.1) (λ n tells_files tells_locked tells_lines. front_course (script g.0) _ new n locked lines stop tells_files tells_locked tells_lines g.2)
 front_course (Make (Ask pattern) script) old new files locked lines stop tells_files tells_locked tells_lines (inr (inr g)) = front_ask old new files locked lines pattern script g.0 (front_course (script g.0) _ new files locked lines stop tells_files tells_locked tells_lines g.2)

@@ -1,11 +1,12 @@
 -- How stages follow one another.
-use Rattle.std.proofs.Common.{◌≡◌, inl, inr, refl, arith, ◌∙◌}
+use Rattle.std.proofs.Common.{◌≡◌, ◌++◌, ◌+◌, length, inl, inr, List, ℕ, [], Option, Some, None, refl, sym, ap, arith, append_assoc, length-append, ◌∙◌}
 use Rattle.std.specs.Prelude.{Result, Ok, Err}
+use Rattle.pp_base.specs.Told.{before}
 use Rattle.pp_desk.specs.declared.stop.Stop.{Stop}
 use Rattle.pp_desk.specs.declared.stop.Stop.TheVariants as stops
-use Rattle.pp_desk.specs.World.{Told, Faults, Later, World}
+use Rattle.pp_desk.specs.World.{Told, Faults, Later, Intake, intake, HasTaken, World}
 use Rattle.pp_desk.specs.Script.{Script, Give, Make, ◌>>=◌}
-use Rattle.pp_desk.specs.Went.{Goes, Halts, AtRest, Ways, HasFailed, Went, Knowing, parts, after}
+use Rattle.pp_desk.specs.Went.{Goes, Halts, AtRest, Ways, HasFailed, IsTakenOn, Went, Knowing, parts, after}
 
 -- one script as a whole, and then another as a whole
 goes_on : {A B : Type 0} (a b c : Told) (p : Script A) (q : A → Script B) (x : A) (y : B) → Goes a b p x → Goes b c (q x) y → Goes a c (p >>= q) y
@@ -41,6 +42,43 @@ later_later a b c f g = record { file = omega arith; input = omega arith; out = 
 pub later_same : (a : Faults) → Later a a
 later_same a = record { file = omega arith; input = omega arith; out = omega arith; err = omega arith }
 
+-- bytes in front, and then more bytes behind them
+before-before : (a b : List ℕ) (left : Option (List ℕ)) → before a (before b left) ≡ before (a ++ b) left
+before-before a b None = refl
+before-before a b (Some left) = ap Some (sym (append_assoc a b left))
+
+before-nil : (left : Option (List ℕ)) → left ≡ before [] left
+before-nil None = refl
+before-nil (Some left) = refl
+
+-- bytes were taken, and then more
+pub taken_taken : (a b c : Intake) → HasTaken a b → HasTaken b c → HasTaken a c
+taken_taken a b c f g = record {
+  taken = f.taken ++ g.taken;
+  front = f.front ∙ ap (before f.taken) g.front ∙ before-before f.taken g.taken c.left;
+  room = omega (arith, length-append f.taken g.taken, f.room, g.room);
+}
+
+-- none were taken
+pub taken_none : (a : Intake) → HasTaken a a
+taken_none a = record { taken = []; front = before-nil a.left; room = omega arith }
+
+-- nothing of the input is taken where nothing happens, and what is taken on and on is taken
+pub input_kept : (w : World) → IsTakenOn w w
+unfolding IsTakenOn
+input_kept w = (taken_none w.intake, λ behind. behind)
+
+pub input_on : (a b c : World) → IsTakenOn a b → IsTakenOn b c → IsTakenOn a c
+unfolding IsTakenOn
+input_on a b c f g = (taken_taken a.intake b.intake c.intake f.0 g.0, λ behind. g.1 (f.1 behind))
+
+-- these bytes were taken, or none
+pub took_some : (old new : Option (List ℕ)) (more : List ℕ) (room left : ℕ) → old ≡ before more new → length more + left ≡ room → HasTaken (intake old room) (intake new left)
+took_some old new more room left e n = record { taken = more; front = e; room = n }
+
+pub took_none : (old new : Option (List ℕ)) (room left : ℕ) → new ≡ old → left ≡ room → HasTaken (intake old room) (intake new left)
+took_none old new room left e n = rw (e, n) (taken_none (intake old room))
+
 -- what has failed later has failed since earlier
 failed_since : (a b c : Faults) (s : Stop) → Later a b → HasFailed b c s → HasFailed a c s
 unfolding HasFailed
@@ -53,19 +91,19 @@ failed_since a b c stops.Memory f g = tt
 -- A value is given: the end of a stage.
 pub gives : {A : Type 0} (w : World) (x : A) → Went w w (Give x) (Ok x)
 unfolding Ways Goes
-gives w x = Knowing (record { ways = (refl, refl); later = later_same w.faults; failed = tt; same = refl })
+gives w x = Knowing (record { ways = (refl, refl); later = later_same w.faults; failed = tt; same = refl; input = input_kept w })
 
 -- Memory is wanting, before anything was done.
 pub wants : {A : Type 0} (w : World) (p : Script A) → Went w w p (Err stops.Memory)
 unfolding Ways HasFailed
-wants w p = Knowing (record { ways = rests w.told w.told p stops.Memory refl; later = later_same w.faults; failed = tt; same = refl })
+wants w p = Knowing (record { ways = rests w.told w.told p stops.Memory refl; later = later_same w.faults; failed = tt; same = refl; input = input_kept w })
 
 -- The first stage was stopped, and so both are.
 pub stops_first : {A B : Type 0} (a b : World) (p : Script A) (q : A → Script B) (s : Stop) → Went a b p (Err s) → Went a b (p >>= q) (Err s)
 unfolding Ways
 stops_first a b p q s f =
     let f = parts f in
-    Knowing (record { ways = halts_first a.told b.told p q s f.ways; later = f.later; failed = f.failed; same = f.same })
+    Knowing (record { ways = halts_first a.told b.told p q s f.ways; later = f.later; failed = f.failed; same = f.same; input = f.input })
 
 -- The first stage was done, and the second went on from there, however it went.
 pub goes_second : {A B : Type 0} (a b c : World) (p : Script A) (q : A → Script B) (x : A) (r : Result B Stop) → Went a b p (Ok x) → Went b c (q x) r → Went a c (p >>= q) r
@@ -78,6 +116,7 @@ goes_second a b c p q x (Ok y) f g =
       later = later_later a.faults b.faults c.faults f.later g.later;
       failed = tt;
       same = g.same ∙ f.same;
+      input = input_on a b c f.input g.input;
     })
 goes_second a b c p q x (Err s) f g =
     let f = parts f in
@@ -87,6 +126,7 @@ goes_second a b c p q x (Err s) f g =
       later = later_later a.faults b.faults c.faults f.later g.later;
       failed = failed_since a.faults b.faults c.faults s f.later g.failed;
       same = g.same ∙ f.same;
+      input = input_on a b c f.input g.input;
     })
 
 -- The first stage was done, and its value gives that of both.

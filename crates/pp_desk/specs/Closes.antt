@@ -2,6 +2,7 @@
 use Rattle.std.specs.Prelude.{◌≡◌, ℕ, List}
 use Rattle.pp_base.specs.Front.{IsFront}
 use Rattle.pp_base.specs.Told.{extended}
+use Rattle.pp_desk.specs.Went.{IsTakenOn}
 use Rattle.pp_desk.specs.World.{World, Later}
 
 -- A front of the line was told, and nothing else was done.
@@ -11,3 +12,4 @@ pub record Closes (old new : World) (line : List ℕ) : Type 0 where
   pub tells : new.told ≡ record old.told { err = extended old.told.err part }
   pub later : Later old.faults new.faults
   pub same : new.names ≡ old.names
+  pub input : IsTakenOn old new

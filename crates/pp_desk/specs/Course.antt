@@ -6,7 +6,7 @@ use Rattle.pp_base.specs.Front.{IsFront}
 use Rattle.pp_base.specs.Judges.{Answer}
 use Rattle.pp_base.specs.Told.{extended}
 use Rattle.pp_desk.specs.declared.input_line.InputLine.{InputLine}
-use Rattle.pp_desk.specs.Effects.{Effect, ToOut, ToErr, ToFile, Outside, outside, Did, DidFront}
+use Rattle.pp_desk.specs.Effects.{Effect, ToOut, ToErr, ToFile, FromFile, Outside, outside, Did, DidFront}
 use Rattle.pp_desk.specs.Lines.{next_of, after_next}
 use Rattle.pp_desk.specs.Script.{Script, Give, Make, WriteOut, WriteErr, ReadFile, WriteFile, Ask, NextLine}
 use Rattle.pp_desk.specs.Went.{content_within}
@@ -36,7 +36,8 @@ course (Make (WriteOut bytes) script) files locked lines answers =
 course (Make (WriteErr bytes) script) files locked lines answers =
     does (ToErr bytes) (course (script tt) files locked lines answers)
 course (Make (ReadFile path limit) script) files locked lines answers =
-    course (script (content_within limit (content_at files path))) files locked lines answers
+    does (FromFile path)
+    (course (script (content_within limit (content_at files path))) files locked lines answers)
 course (Make (WriteFile path bytes) script) files locked lines answers =
     if among locked path then course (script false) files locked lines answers
     else does (ToFile path bytes)
@@ -48,9 +49,9 @@ course (Make (Ask pattern) script) files locked lines (answer ∷ answers) =
 course (Make NextLine script) files locked lines answers =
     course (script (next_of lines)) files locked (after_next lines) answers
 
--- the outside of a moment: both outputs and the files
+-- the outside of a moment: both outputs, the files, and the paths that were read
 abbrev pub outside_of : Told → Outside
-outside_of told = outside told.out told.err told.files
+outside_of told = outside told.out told.err told.files told.reads
 
 -- the patterns of answers
 abbrev pub patterns : List Answer → List (List ℕ)

@@ -7,13 +7,16 @@ use Rattle.pp_desk.specs.declared.line_reader.LineRead.TheVariants as reads
 use Rattle.pp_desk.specs.declared.line_reader.Found.{Found}
 use Rattle.pp_desk.specs.declared.line_reader.Found.TheVariants as founds
 use Rattle.pp_desk.specs.declared.line_reader.TheConstants.{LINE_LIMIT, INPUT_LIMIT}
+use Rattle.pp_desk.specs.declared.window.TheConstants.{WINDOW_LIMIT}
 use Rattle.pp_desk.specs.Lines.{is_line_end}
 use Rattle.pp_desk.specs.Reader.{ReaderHeld, pending}
 
--- What is true of each reader: only a line that is too long is passed over, no more than the
--- input's limit is taken, and the end of the source was met before it.
+-- What is true of each reader: only a line that is too long is passed over, no more bytes are held
+-- than a window has, no more than the input's limit is taken, and the end of the source was met
+-- before it.
 pub record IsSound (passed held room : ℕ) (ended : Type 0) : Type 0 where
   pub too_long : 0 < passed → LINE_LIMIT < passed
+  pub few : held ≤ WINDOW_LIMIT
   pub limit : passed + held + room ≤ INPUT_LIMIT
   pub before_limit : ended → 0 < room
 

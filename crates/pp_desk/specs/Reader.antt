@@ -1,10 +1,12 @@
 -- A reader of lines: what it holds, which lines are to come from it, and what it answers.
-use Rattle.std.specs.Prelude.{◌≡◌, ◌++◌, ℕ, nat_lt, ◌==◌, ◌&&◌, not, Bool, true, false, List, [], Option, Some, None, IfSome, option_map, length, take, replicate, if◌then◌else◌}
+use Rattle.std.specs.Prelude.{◌≡◌, ◌≤◌, ◌++◌, ℕ, nat_lt, ◌==◌, ◌&&◌, not, Bool, true, false, List, [], Option, Some, None, IfSome, option_map, length, take, replicate, if◌then◌else◌}
 use Rattle.std.specs.List.{list_any}
 use Rattle.pp_desk.specs.declared.input_line.InputLine.{InputLine}
 use Rattle.pp_desk.specs.declared.input_line.InputLine.TheVariants as lines
 use Rattle.pp_desk.specs.declared.line_reader.LineRead.{LineRead}
 use Rattle.pp_desk.specs.declared.line_reader.LineRead.TheVariants as reads
+use Rattle.pp_desk.specs.declared.line_reader.TheConstants.{INPUT_LIMIT}
+use Rattle.pp_desk.specs.declared.window.TheConstants.{WINDOW_LIMIT}
 use Rattle.pp_desk.specs.Lines.{is_line_end, lines_in, lines_of, next_of, after_next}
 
 -- What a reader holds: how many bytes of the present line it passed over, since the line is too
@@ -65,6 +67,24 @@ is_ending reads.Memory = false
 abbrev pub lines_from : Option ReaderHeld → List ℕ → List InputLine
 lines_from None left = lines_of left
 lines_from (Some r) left = to_come r left
+
+-- how many bytes of an input may still be taken, where no reader has begun with it, or this one
+abbrev pub room_of : Option ReaderHeld → ℕ
+room_of None = INPUT_LIMIT
+room_of (Some r) = r.room
+
+-- how many bytes are held that were taken of it, but for those that are passed over
+abbrev pub held_by : Option ReaderHeld → ℕ
+held_by None = 0
+held_by (Some r) = length r.held
+
+-- What is left of an input behind the lines that were read of it: the lines that are to come are
+-- those of the bytes that were taken already, at most 131,072 and those of a line that is too long,
+-- and then of this.
+pub record IsLeftBehind (lines : Option (List InputLine)) (left : Option (List ℕ)) : Type 0 where
+  pub reader : Option ReaderHeld
+  pub few : held_by reader ≤ WINDOW_LIMIT
+  pub are : lines ≡ option_map (lines_from reader) left
 
 -- the bytes of an input, as long as no reader has begun with it
 abbrev pub unread_by : Option ReaderHeld → Option (List ℕ) → Option (List ℕ)

@@ -9,7 +9,8 @@ use Rattle.pp_desk.specs.declared.file_content.FileContent.TheVariants as conten
 use Rattle.pp_desk.specs.declared.stop.Stop.{Stop}
 use Rattle.pp_desk.specs.declared.stop.Stop.TheVariants as stops
 use Rattle.pp_desk.specs.Lines.{next_of, after_next}
-use Rattle.pp_desk.specs.World.{Told, Faults, Later, World}
+use Rattle.pp_desk.specs.Reader.{IsLeftBehind}
+use Rattle.pp_desk.specs.World.{Told, Faults, Later, HasTaken, World}
 use Rattle.pp_desk.specs.Script.{Step, WriteOut, WriteErr, ReadFile, WriteFile, Ask, NextLine, Reply, Script, Give, Make}
 
 -- what a read up to the limit gives of a path's content
@@ -39,7 +40,8 @@ IsReply told NextLine reply = IfSome told.lines (λ lines. reply ≡ next_of lin
 abbrev pub after : Told → (step : Step) → Reply step → Told
 after told (WriteOut bytes) reply = record told { out = extended told.out bytes }
 after told (WriteErr bytes) reply = record told { err = extended told.err bytes }
-after told (ReadFile path limit) reply = told
+after told (ReadFile path limit) reply =
+    record told { reads = extended told.reads (path ∷ []) }
 after told (WriteFile path bytes) true =
     record told { files = with_content told.files path bytes }
 after told (WriteFile path bytes) false = told
@@ -60,6 +62,11 @@ LeavesPart old new path bytes = (new ≡ old) ⊎ ((part : List ℕ) × IsFront 
     × IfSome old.locked (λ paths. among paths path ≡ false)
     × (new ≡ record old { files = with_content old.files path part }))
 
+-- the path joins those that were read, or nothing has changed
+abbrev pub LeavesRead : Told → Told → List ℕ → Type 0
+LeavesRead old new path = (new ≡ old)
+    ⊎ (new ≡ record old { reads = extended old.reads (path ∷ []) })
+
 -- not all of the bytes are written
 abbrev pub PutsOut : Told → Told → List ℕ → Type 0
 PutsOut old new bytes = (sent : ℕ) × (sent < length bytes)
@@ -71,13 +78,14 @@ PutsErr old new bytes = (sent : ℕ) × (sent < length bytes)
     × (new ≡ record old { err = extended old.err (take sent bytes) })
 
 -- The step itself was stopped: by the failure of its own object, or by want of memory. A write did
--- a part, and no line was taken.
+-- a part, a read gave nothing, and no line was taken.
 abbrev pub InPart : Told → Told → Step → Stop → Type 0
 InPart old new (WriteOut bytes) stops.Out = PutsOut old new bytes
 InPart old new (WriteOut bytes) stops.Memory = PutsOut old new bytes
 InPart old new (WriteErr bytes) stops.Err = PutsErr old new bytes
 InPart old new (WriteErr bytes) stops.Memory = PutsErr old new bytes
-InPart old new (ReadFile path limit) stops.File = new ≡ old
+InPart old new (ReadFile path limit) stops.File = LeavesRead old new path
+InPart old new (ReadFile path limit) stops.Memory = LeavesRead old new path
 InPart old new (WriteFile path bytes) stops.File = LeavesPart old new path bytes
 InPart old new NextLine stops.Input = new ≡ record old { unread = None }
 InPart old new NextLine stops.Memory = new ≡ record old { unread = None }
@@ -108,13 +116,20 @@ HasFailed old new stops.Out = Rose old.out new.out
 HasFailed old new stops.Err = Rose old.err new.err
 HasFailed old new stops.Memory = ⊤
 
--- What is known of a stage that went: what was done, and of the counts and the objects.
+-- What is known of the input: bytes were taken of its front, and those that stand in no line that
+-- was read are held for the lines that are to come, if all were so before.
+unfoldable pub IsTakenOn : World → World → Type 0
+IsTakenOn old new = HasTaken old.intake new.intake
+    × (IsLeftBehind old.told.lines old.intake.left → IsLeftBehind new.told.lines new.intake.left)
+
+-- What is known of a stage that went: what was done, and of the counts, the objects and the input.
 pub record Parts {T : Type 0} (old new : World) (script : Script T) (result : Result T Stop)
     : Type 0 where
   pub ways : Ways old.told new.told script result
   pub later : Later old.faults new.faults
   pub failed : IfErr result (HasFailed old.faults new.faults)
   pub same : new.names ≡ old.names
+  pub input : IsTakenOn old new
 
 -- How a stage went that has this script. It is the one clause of each stage. It is `data`, and not
 -- a record, so that a proof by tactics takes it as one fact, and does not look into it.

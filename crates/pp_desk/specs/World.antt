@@ -1,19 +1,22 @@
--- The outside as contracts see it: what its objects tell, how often each has failed, and which
--- objects they are.
-use Rattle.std.specs.Prelude.{ℕ, ◌≤◌, List, Option}
+-- The outside as contracts see it: what its objects tell, how often each has failed, which objects
+-- they are, and what may still be taken of the input.
+use Rattle.std.specs.Prelude.{ℕ, ◌≡◌, ◌≤◌, ◌+◌, List, Option, length}
 use Rattle.std.specs.Borrow.{GName}
 use Rattle.pp_base.specs.FileMap.{FileMap}
 use Rattle.pp_base.specs.Judges.{Answer}
+use Rattle.pp_base.specs.Told.{before}
 use Rattle.pp_desk.specs.declared.input_line.InputLine.{InputLine}
 
 -- What the objects tell, each of them only where it can be known: the bytes of both outputs, the
--- files, the paths that can't be written, the lines that are still to come from the input, the
--- bytes of the input as long as no line was asked for, and the answers of the matcher.
+-- files, the paths that can't be written, the paths that were read, the lines that are still to
+-- come from the input, the bytes of the input as long as no line was asked for, and the answers of
+-- the matcher.
 pub record Told : Type 0 where
   pub out : Option (List ℕ)
   pub err : Option (List ℕ)
   pub files : Option FileMap
   pub locked : Option (List (List ℕ))
+  pub reads : Option (List (List ℕ))
   pub lines : Option (List InputLine)
   pub unread : Option (List ℕ)
   pub answers : Option (List Answer)
@@ -40,8 +43,25 @@ pub record Names : Type 0 where
   pub err : GName
   pub matcher : GName
 
+-- The input: the bytes that are left of it, where it tells them, and how many of them may still be
+-- taken.
+pub record Intake : Type 0 where
+  pub left : Option (List ℕ)
+  pub room : ℕ
+
+-- these two together
+abbrev pub intake : Option (List ℕ) → ℕ → Intake
+intake left room = record { left = left; room = room }
+
+-- Bytes were taken of the front of the input, as many as the room has shrunk by.
+pub record HasTaken (old new : Intake) : Type 0 where
+  pub taken : List ℕ
+  pub front : old.left ≡ before taken new.left
+  pub room : length taken + new.room ≡ old.room
+
 -- The outside at one moment.
 pub record World : Type 0 where
   pub told : Told
   pub faults : Faults
   pub names : Names
+  pub intake : Intake

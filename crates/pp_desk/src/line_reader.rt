@@ -3,6 +3,8 @@ ghost use Rattle.std.specs.Prelude.{◌≡◌, ◌≢◌, ◌≤◌, ◌<◌, �
 ghost use Rattle.std.specs.List.{list_any};
 ghost use Rattle.pp_base.specs.Fault.{Rose};
 ghost use Rattle.pp_desk.specs.Lines.{is_line_end};
+ghost use Rattle.pp_desk.specs.World.{intake, HasTaken};
+ghost use Rattle.pp_desk.specs.declared.window.TheConstants.{WINDOW_LIMIT};
 ghost use Rattle.pp_desk.specs.Reader.{pending, to_come, GivesLine, last_answer, is_ending};
 ghost use Rattle.pp_desk.specs.Finding.{HasNoEnd, IsFirstEnd, Finds, FindsAgain, GivesFront, Adds};
 
@@ -98,6 +100,10 @@ impl LineReader {
         ensures line { GivesLine (option_map (to_come self.old) (I.left input.old))
             (option_map (to_come self.new) (I.left input.new)) result }
 
+        // What is taken of the source is taken of its front, and the room shrinks by as much.
+        ensures taken { HasTaken (intake (I.left input.old) self.old.room)
+            (intake (I.left input.new) self.new.room) }
+
         // The source is not asked where a whole line is held, nor after `End` and `InputTooLong`, whatever it tells.
         ensures held { list_any is_line_end (pending self.old) ≡ true → input.new ≡ input.old }
         ensures last { is_ending result ≡ true → last_answer self.new ≡ Some result }
@@ -114,11 +120,22 @@ impl LineReader {
         }
     }
 
+    /// How many bytes are held of the lines that were not given yet, but for those of a line that is too long already:
+    /// at most 131,072.
+    pub fn held_len(&self) -> usize
+        ensures value { result ≡ length self.now.held }
+        ensures few { result ≤ WINDOW_LIMIT }
+    {
+        self.window.len()
+    }
+
     // Finds the end of the next line, and takes more bytes only where it is not among those that are held.
     fn find<I: Source>(&mut self, input: &mut I) -> Found
         ensures found { Finds self.new result }
         ensures same { option_map (to_come self.new) (I.left input.new)
             ≡ option_map (to_come self.old) (I.left input.old) }
+        ensures taken { HasTaken (intake (I.left input.old) self.old.room)
+            (intake (I.left input.new) self.new.room) }
         ensures held { list_any is_line_end (pending self.old) ≡ true → input.new ≡ input.old }
         ensures repeated { IfSome (last_answer self.old) (λ answer. FindsAgain answer result
             × (self.new ≡ self.old) × (input.new ≡ input.old)) }
@@ -158,6 +175,8 @@ impl LineReader {
         ensures found { Finds self.new result }
         ensures same { option_map (to_come self.new) (I.left input.new)
             ≡ option_map (to_come self.old) (I.left input.old) }
+        ensures taken { HasTaken (intake (I.left input.old) self.old.room)
+            (intake (I.left input.new) self.new.room) }
         ensures later { I.faults input.old ≤ I.faults input.new }
         ensures failed { result ≡ Found.Failed → Rose (I.faults input.old) (I.faults input.new) }
     {
@@ -191,6 +210,8 @@ impl LineReader {
         ensures adds { Adds self.old self.new result }
         ensures same { option_map (to_come self.new) (I.left input.new)
             ≡ option_map (to_come self.old) (I.left input.old) }
+        ensures taken { HasTaken (intake (I.left input.old) self.old.room)
+            (intake (I.left input.new) self.new.room) }
         ensures later { I.faults input.old ≤ I.faults input.new }
         ensures failed { result ≡ SourceRead.Failed
             → Rose (I.faults input.old) (I.faults input.new) }
@@ -232,6 +253,7 @@ impl LineReader {
         ensures last { is_ending result ≡ true → last_answer self.new ≡ Some result }
         ensures repeated { IfSome (last_answer self.old) (λ answer. (result ≡ answer)
             × (self.new ≡ self.old)) }
+        ensures kept { self.new.room ≡ self.old.room }
         ensures failed { result ≢ LineRead.Failed }
     {
         match self.pending_len() {

@@ -1,6 +1,6 @@
 //! The objects of the outside, lent to one run.
 ghost use Rattle.std.specs.Prelude.{◌≡◌, None, IfOk, IfErr, option_map};
-ghost use Rattle.pp_desk.specs.Reader.{to_come, lines_from, unread_by};
+ghost use Rattle.pp_desk.specs.Reader.{to_come, lines_from, unread_by, room_of};
 ghost use Rattle.pp_desk.specs.Taking.{line_or_stop};
 
 use crate::desk::Desk;
@@ -8,6 +8,7 @@ use crate::file_content::FileContent;
 use crate::input_line::InputLine;
 use crate::line_reader::{LineRead, LineReader};
 use crate::stop::Stop;
+use crate::window::WINDOW_LIMIT;
 use pp_base::{
     FileRead, FileWrite, Files, Judgement, List, Matcher, Sink, Source, Text, WriteFault, write_all,
 };
@@ -43,6 +44,7 @@ impl<F: Files, I: Source, O: Sink, E: Sink, M: Matcher> Desk
         err = E.written d.err.now;
         files = F.content d.files.now;
         locked = F.locked d.files.now;
+        reads = F.reads d.files.now;
         lines = option_map (lines_from d.reader.now) (I.left d.input.now);
         unread = unread_by d.reader.now (I.left d.input.now);
         answers = M.answers d.matcher.now;
@@ -60,6 +62,7 @@ impl<F: Files, I: Source, O: Sink, E: Sink, M: Matcher> Desk
         err = d.err.ghost_name;
         matcher = d.matcher.ghost_name;
       };
+      intake = record { left = I.left d.input.now; room = room_of d.reader.now };
     } };
 
     fn write_out(&mut self, bytes: &[u8]) -> Result<(), Stop> {
@@ -109,6 +112,7 @@ impl<F: Files, I: Source, O: Sink, E: Sink, M: Matcher> Desk
     fn next_line(&mut self) -> Result<InputLine, Stop> {
         let mut reader = begun(self.alloc, self.reader.take())?;
         let answer = reader.next_line(self.input);
+        prove!(reader.held_len() <= WINDOW_LIMIT);
         *self.reader = Some(reader);
         line_of(answer)
     }
@@ -117,6 +121,7 @@ impl<F: Files, I: Source, O: Sink, E: Sink, M: Matcher> Desk
 // The reader, or a new one where none has begun.
 fn begun(alloc: Global, reader: Option<LineReader>) -> Result<LineReader, Stop>
     ensures ok { IfOk result (λ begun. (left : _) → to_come begun left ≡ lines_from reader left) }
+    ensures room { IfOk result (λ begun. begun.room ≡ room_of reader) }
     ensures err { IfErr result (λ stop. (stop ≡ Stop.Memory) × (reader ≡ None)) }
 {
     match reader {

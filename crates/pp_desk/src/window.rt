@@ -71,6 +71,7 @@ impl Window {
         requires room { length self.old < WINDOW_LIMIT }
         requires most { 0 < most }
         ensures bytes { Fills (I.left input.old) (I.left input.new) self.old self.new most result }
+        ensures limit { length self.new ≤ WINDOW_LIMIT }
         ensures later { I.faults input.old ≤ I.faults input.new }
         ensures failed { result ≡ SourceRead.Failed
             → Rose (I.faults input.old) (I.faults input.new) }

@@ -24,7 +24,7 @@ use Rattle.pp_model.proofs.RuleLemmas.{passes}
 use Rattle.pp_stack.specs.Filters.{frames_of_sample}
 use Rattle.pp_tags.specs.Labels.{key_text}
 use Rattle.pp_tags.specs.TagFilters.{shown_labels, is_shown}
-use Rattle.pp_merge.proofs.NumberedLemmas.{all_by, all_pass}
+use Rattle.pp_share.proofs.NumberedLemmas.{all_by, all_pass}
 use Rattle.pp_merge.proofs.SettledLemmas.{all_filtered}
 use Rattle.pp_restack.specs.Stacks.{by_place, cut_location}
 use Rattle.pp_restack.specs.Places.{ArePlaces, AreEntries, IsCutSample, spread_in}

@@ -16,14 +16,14 @@ use Rattle.pp_model.specs.Rules.{NoRuleFails}
 use Rattle.pp_tags.specs.TagFilters.{shown_labels}
 use Rattle.pp_count.specs.Counts.{samples_at}
 use Rattle.pp_count.specs.Seeing.{filtered_stack, filtered_from}
-use Rattle.pp_merge.specs.Described.{SampleText, label_text}
+use Rattle.pp_share.specs.Described.{SampleText, label_text}
 use Rattle.pp_merge.specs.Merge.{contents}
 use Rattle.pp_restack.specs.Stacks.{by_place, made_contents}
 use Rattle.pp_restack.specs.Places.{IsCutSample, with_cut, told, spread_in}
 use Rattle.pp_restack.proofs.MadeContents.{groups_told, contents_made}
 use Rattle.pp_dump.specs.Saved.{cut_sample, cut_samples, saved_contents}
 use Rattle.pp_dump.specs.Places.{spread_of, AddsSamples}
-use Rattle.pp_dump.proofs.KeptSamples.{made_of_kept}
+use Rattle.pp_count.proofs.KeptSamples.{made_of_kept}
 
 -- what the filters leave of the samples
 module _ (p : Profile) (f : Finders) (config : Config) where

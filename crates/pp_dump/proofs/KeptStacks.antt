@@ -16,18 +16,18 @@ use Rattle.pp_model.specs.Finders.{Finders}
 use Rattle.pp_model.specs.Rules.{NoRuleFails, IsCompact}
 use Rattle.pp_model.proofs.RuleLemmas.{passes, refers_from_valid, sample_at}
 use Rattle.pp_count.specs.Seeing.{filtered_stack}
-use Rattle.pp_merge.specs.Alike.{same_location, same_sample}
-use Rattle.pp_merge.specs.Described.{LocationText, SampleText, less, start_of}
+use Rattle.pp_share.specs.Alike.{same_location, same_sample}
+use Rattle.pp_share.specs.Described.{LocationText, SampleText, less, start_of}
 use Rattle.pp_model.specs.FirstSight.{distinct}
 use Rattle.pp_merge.specs.Merge.{all_mappings, contents, merged}
 use Rattle.pp_merge.specs.Settled.{IsSettled}
-use Rattle.pp_merge.specs.Sums.{counts, keys_of, summed, sum_of}
+use Rattle.pp_share.specs.Sums.{counts, keys_of, summed, sum_of}
 use Rattle.pp_merge.specs.Totals.{value_passing, sum_passing}
-use Rattle.pp_merge.specs.Written.{Contents, locations}
-use Rattle.pp_merge.proofs.Deciding.{sample_decides}
+use Rattle.pp_share.specs.Written.{Contents, locations}
+use Rattle.pp_share.proofs.Deciding.{sample_decides}
 use Rattle.pp_model.proofs.FirstSightLemmas.{IsSeen}
 use Rattle.pp_merge.proofs.KeptSums.{sum_stays}
-use Rattle.pp_merge.proofs.NumberedLemmas.{all_by, all_mapped}
+use Rattle.pp_share.proofs.NumberedLemmas.{all_by, all_mapped}
 use Rattle.pp_merge.proofs.SettledLemmas.{all_distinct, all_filtered, all_some, all_unmapped}
 use Rattle.pp_merge.proofs.WrittenAgain.{map_back}
 use Rattle.pp_merge.proofs.WrittenCompact.{compact_written}

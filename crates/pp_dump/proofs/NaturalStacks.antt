@@ -17,13 +17,13 @@ use Rattle.pp_model.specs.Rules.{NoRuleFails}
 use Rattle.pp_model.proofs.RuleLemmas.{passes}
 use Rattle.pp_count.specs.Seeing.{filtered_stack, seen_samples}
 use Rattle.pp_count.specs.Sums.{Seen}
-use Rattle.pp_merge.specs.Alike.{same_sample}
-use Rattle.pp_merge.specs.Described.{SampleText}
+use Rattle.pp_share.specs.Alike.{same_sample}
+use Rattle.pp_share.specs.Described.{SampleText}
 use Rattle.pp_model.specs.FirstSight.{distinct}
 use Rattle.pp_merge.specs.Settled.{IsSettled}
-use Rattle.pp_merge.specs.Sums.{counts, keys_of, rows_of, summed, sum_of}
+use Rattle.pp_share.specs.Sums.{counts, keys_of, rows_of, summed, sum_of}
 use Rattle.pp_merge.proofs.MergedTotals.{at_total}
-use Rattle.pp_merge.proofs.NumberedLemmas.{all_mapped}
+use Rattle.pp_share.proofs.NumberedLemmas.{all_mapped}
 use Rattle.pp_merge.proofs.SettledLemmas.{all_any, all_filtered, all_some}
 use Rattle.pp_merge.proofs.TotalLemmas.{total, adding_ℤ}
 use Rattle.pp_dump.specs.Saved.{cut_sample, cut_samples, saved_contents, saved}

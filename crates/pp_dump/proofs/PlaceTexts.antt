@@ -14,7 +14,7 @@ use Rattle.pp_model.specs.Conditions.{location_at, IsFrameOf, IsRowOf}
 use Rattle.pp_model.specs.Lookup.{text_number, text_at, text_of, function_with, mapping_with}
 use Rattle.pp_model.specs.Frames.{lines_at, line_at}
 use Rattle.pp_model.specs.FrameTexts.{Written, written, written_line, written_lines, nameless}
-use Rattle.pp_merge.specs.Described.{FunctionText, MappingText, LineText, LocationText, function_text, mapping_text, function_found, mapping_found, line_text, plus, start_of}
+use Rattle.pp_share.specs.Described.{FunctionText, MappingText, LineText, LocationText, function_text, mapping_text, function_found, mapping_found, line_text, plus, start_of}
 use Rattle.pp_restack.specs.Stacks.{lines_of, cut_location}
 use Rattle.pp_dump.specs.Stacks.{PlaceText}
 use Rattle.pp_dump.proofs.StackGroups.{IsGroup}

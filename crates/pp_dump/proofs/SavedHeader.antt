@@ -13,7 +13,7 @@ use Rattle.pp_model.specs.Lookup.{text_of}
 use Rattle.pp_model.specs.Rules.{NoRuleFails}
 use Rattle.pp_stack.proofs.ToldLemmas.{position-map}
 use Rattle.pp_count.specs.Column.{last_of, first_else, type_named, column_of}
-use Rattle.pp_merge.specs.Header.{TypeText, HeaderText, type_text, first_nonempty, header_of}
+use Rattle.pp_share.specs.Header.{TypeText, HeaderText, type_text, first_nonempty, header_of}
 use Rattle.pp_restack.specs.Stacks.{patternless}
 use Rattle.pp_restack.specs.Places.{with_cut}
 use Rattle.pp_restack.proofs.CutValid.{text_zero}

@@ -15,7 +15,7 @@ use Rattle.pp_grain.specs.Keys.{key_texts}
 use Rattle.pp_count.specs.Seeing.{counted_frames, keys_of_stack, filtered_stack, seen_with, seen, seen_samples}
 use Rattle.pp_count.specs.Sums.{Seen, sum_where}
 use Rattle.pp_merge.specs.Totals.{value_passing, sum_passing}
-use Rattle.pp_merge.proofs.Agreement.{map_map}
+use Rattle.pp_share.proofs.Agreement.{map_map}
 use Rattle.pp_restack.specs.Stacks.{by_place}
 use Rattle.pp_dump.specs.Stacks.{PlaceText, StackText, left_place, left_stack, left_stacks, whole_stacks, KeepsStacks}
 use Rattle.pp_dump.specs.Unfiltered.{KeepsSums}

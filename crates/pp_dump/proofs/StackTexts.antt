@@ -16,13 +16,13 @@ use Rattle.pp_model.specs.Rules.{AreNumbered, location_ids}
 use Rattle.pp_stack.specs.Filters.{frames_of_sample}
 use Rattle.pp_tags.specs.TagFilters.{shown_labels}
 use Rattle.pp_count.specs.Seeing.{filtered_stack, passes_tags}
-use Rattle.pp_merge.specs.Alike.{same_location}
-use Rattle.pp_merge.specs.Described.{MappingText, LineText, LocationText, SampleText, mapping_found, function_found, line_text, label_text, less, plus, start_of}
+use Rattle.pp_share.specs.Alike.{same_location}
+use Rattle.pp_share.specs.Described.{MappingText, LineText, LocationText, SampleText, mapping_found, function_found, line_text, label_text, less, plus, start_of}
 use Rattle.pp_merge.specs.Merge.{all_mappings, merged}
 use Rattle.pp_merge.specs.Settled.{IsSettled}
-use Rattle.pp_merge.specs.Written.{Contents, written as profile_of, locations, location_id, written_location, written_sample}
+use Rattle.pp_share.specs.Written.{Contents, written as profile_of, locations, location_id, written_location, written_sample}
 use Rattle.pp_model.proofs.FirstSightLemmas.{IsSeen}
-use Rattle.pp_merge.proofs.NumberedLemmas.{all_by, all_both}
+use Rattle.pp_share.proofs.NumberedLemmas.{all_by, all_both}
 use Rattle.pp_merge.proofs.WrittenAgain.{labels_back}
 use Rattle.pp_merge.proofs.WrittenPlaces.{location_there, mapping_there, lines_there, mappings_stay, addresses_small}
 use Rattle.pp_merge.proofs.WrittenValid.{texts_of_samples, seen_locations, valid_written}

@@ -24,7 +24,7 @@ use Rattle.pp_model.proofs.RuleLemmas.{refers_from_valid, sample_at}
 use Rattle.pp_stack.specs.Filters.{filtered}
 use Rattle.pp_tags.specs.TagFilters.{filter_in_force, is_tag_kept, shown_labels}
 use Rattle.pp_count.specs.Seeing.{filtered_stack}
-use Rattle.pp_merge.specs.Described.{label_text}
+use Rattle.pp_share.specs.Described.{label_text}
 use Rattle.pp_restack.specs.Stacks.{by_place, lines_of, cut_location}
 use Rattle.pp_dump.specs.Stacks.{place_text, whole_place, left_place, whole_stack, left_stack, whole_stacks, left_stacks}
 use Rattle.pp_model.specs.Finders.{no_finders}

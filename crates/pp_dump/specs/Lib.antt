@@ -1,13 +1,5 @@
-pub mod Comments
 pub mod Raw
-pub mod Traces
-pub mod Scope
-pub mod TagLines
 pub mod Saved
 pub mod Stacks
 pub mod Unfiltered
 pub mod Places
-pub mod Names
-pub mod Tables
-pub mod Tagged
-pub mod Ranked

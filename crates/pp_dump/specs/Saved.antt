@@ -9,8 +9,8 @@ use Rattle.pp_model.specs.Finders.{Finders}
 use Rattle.pp_model.specs.Lookup.{text_of}
 use Rattle.pp_tags.specs.TagFilters.{shown_labels}
 use Rattle.pp_count.specs.Seeing.{filtered_stack, filtered_from}
-use Rattle.pp_merge.specs.Described.{SampleText, label_text}
-use Rattle.pp_merge.specs.Written.{Contents, written as profile_of}
+use Rattle.pp_share.specs.Described.{SampleText, label_text}
+use Rattle.pp_share.specs.Written.{Contents, written as profile_of}
 use Rattle.pp_restack.specs.Stacks.{by_place, cut_text, made_contents}
 
 -- The numbers are those of the samples that the filters of some report leave.

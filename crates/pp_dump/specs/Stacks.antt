@@ -12,8 +12,8 @@ use Rattle.pp_model.specs.Lookup.{location_with, text_of}
 use Rattle.pp_model.specs.FrameTexts.{Written, written, written_at}
 use Rattle.pp_tags.specs.TagFilters.{shown_labels}
 use Rattle.pp_count.specs.Seeing.{filtered_stack}
-use Rattle.pp_merge.specs.Described.{MappingText, LineText, LabelText, function_found, mapping_found, line_text, label_text}
-use Rattle.pp_merge.specs.Sums.{counts}
+use Rattle.pp_share.specs.Described.{MappingText, LineText, LabelText, function_found, mapping_found, line_text, label_text}
+use Rattle.pp_share.specs.Sums.{counts}
 use Rattle.pp_merge.specs.Totals.{sum_passing}
 use Rattle.pp_restack.specs.Stacks.{by_place, cut_location}
 

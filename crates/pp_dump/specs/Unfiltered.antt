@@ -5,7 +5,7 @@ use Rattle.pp_model.specs.declared.config.Config.{Config}
 use Rattle.pp_model.specs.declared.profile.Profile.{Profile}
 use Rattle.pp_model.specs.Finders.{Finders, no_finders}
 use Rattle.pp_model.specs.FrameTexts.{Written}
-use Rattle.pp_merge.specs.Header.{header_of}
+use Rattle.pp_share.specs.Header.{header_of}
 use Rattle.pp_count.specs.Column.{column_of}
 use Rattle.pp_count.specs.Seeing.{seen_samples}
 use Rattle.pp_count.specs.Sums.{weighed, sum_where, absolute}

@@ -16,7 +16,8 @@ use Rattle.pp_count.specs.Sums.{Seen}
 use Rattle.pp_model.specs.FrameTexts.{Written}
 use Rattle.pp_pattern.specs.Report.{judge}
 use Rattle.pp_report.specs.declared.refusal.ReportRefusal.{ReportRefusal}
-use Rattle.pp_report.specs.Patterns.{own_pattern, ask_patterns}
+use Rattle.pp_model.specs.ReportFacts.{own_pattern}
+use Rattle.pp_report.specs.Patterns.{ask_patterns}
 use Rattle.pp_report.specs.Prepared.{Showing, prepare_counts, prepare_showing, showing_for, prepare_on, prepare}
 use Rattle.pp_report.specs.Reports.{list_text, text_by, finish_on, finish}
 use Rattle.pp_report.specs.Tagged.{basis_of}
@@ -49,6 +50,9 @@ module _ (test : Step → Bool) where
     only_showing reports.Raw showing = only_counts reports.Raw showing
     only_showing reports.Proto showing = only_counts reports.Proto showing
     only_showing (reports.List pattern) showing = only_counts (reports.List pattern) showing
+    only_showing reports.Folded showing = only_counts reports.Folded showing
+    only_showing reports.Table showing = only_counts reports.Table showing
+    only_showing reports.Compare showing = only_counts reports.Compare showing
 
     only_settled : (report : Report) (shows : Result Showing ReportRefusal) → Only test (go_on (prepare_showing finds l report config) shows)
     only_settled report (Ok showing) = only_showing report showing
@@ -105,6 +109,9 @@ module _ (test : Step → Bool) where
     only_text p f config column h reports.Comments = tt
     only_text p f config column h reports.Proto = tt
     only_text p f config column h (reports.List pattern) = only_list p f config column h
+    only_text p f config column h reports.Folded = tt
+    only_text p f config column h reports.Table = tt
+    only_text p f config column h reports.Compare = tt
 
     only_finish : (finds : Finds) (l : Loaded) (report : Report) (config : Config) (showing : Showing) → Only test (finish_on finds l report config showing)
     unfolding finish_on

@@ -1,5 +1,5 @@
 -- From how the session went to how the run did.
-use Rattle.std.proofs.Common.{◌≡◌, ◌⊎◌, inl, inr, ℕ, true, false, List, [], ◌∷◌, Option, Some, None, refl, sym, ap, ◌∙◌, arith}
+use Rattle.std.proofs.Common.{◌≡◌, ◌⊎◌, inl, inr, ℕ, true, false, List, [], ◌∷◌, Option, Some, None, refl, sym, ap, subst, ◌∙◌, arith}
 use Rattle.std.specs.Prelude.{Result, Ok, Err, IfErr, IfSome, IfNone, IsNone, option_map}
 use Rattle.std.proofs.lemmas.Bool.{false≢true}
 use Rattle.std.proofs.lemmas.List.{append-nil}
@@ -15,18 +15,19 @@ use Rattle.pp_desk.specs.Closes.{Closes}
 use Rattle.pp_desk.specs.Course.{outside_of, given}
 use Rattle.pp_desk.specs.Effects.{ToErr, Outside, outside, Did}
 use Rattle.pp_desk.specs.Lines.{lines_of}
-use Rattle.pp_desk.specs.Went.{Went, parts, Ways, Goes, Halts, HasFailed}
-use Rattle.pp_desk.specs.World.{Told, Faults, Later, World}
+use Rattle.pp_desk.specs.Reader.{IsLeftBehind}
+use Rattle.pp_desk.specs.Went.{Went, parts, Ways, Goes, Halts, HasFailed, IsTakenOn}
+use Rattle.pp_desk.specs.World.{Told, Faults, Later, HasTaken, intake, World}
 use Rattle.pp_desk.proofs.Closing.{did_more, given_is}
 use Rattle.pp_desk.proofs.Coursing.{whole_course, front_course}
-use Rattle.pp_desk.proofs.Going.{later_same}
+use Rattle.pp_desk.proofs.Going.{later_same, taken_taken}
 use Rattle.pp_desk.proofs.Quiet.{input_of, input_alone}
 use Rattle.pp_engine.specs.declared.ending.Cause.{Cause}
 use Rattle.pp_engine.specs.declared.ending.Cause.TheVariants as causes
 use Rattle.pp_engine.specs.declared.ending.Outcome.{Outcome}
 use Rattle.pp_engine.specs.declared.ending.Outcome.TheVariants as outcomes
 use Rattle.pp_engine.specs.Endings.{cause_of, cause_of_outcome, cause_of_stop, fault_line, stop_line, end_line}
-use Rattle.pp_engine.specs.Run.{Ran, told_at}
+use Rattle.pp_engine.specs.Run.{Ran, TakesFront, told_at}
 use Rattle.pp_engine.specs.Reporting.{Finds}
 use Rattle.pp_engine.specs.Session.{session, told_run, RanWhole, RanFront}
 use Rattle.pp_engine.specs.Validity.{is_valid}
@@ -37,7 +38,8 @@ use Rattle.pp_engine.proofs.Quiet.{session_reads_no_line}
 use Rattle.pp_engine.proofs.ValidEnds.{valid_done}
 
 -- The run of a session that came to its end.
-pub ran_whole : (finds : Finds) (words : List (List ℕ)) (a b : World) (x : Outcome) → Went a b (session finds words) (Ok x) → Ran (session finds words) a.told (outside_of b.told) b.told.answers a.faults b.faults (cause_of_outcome x)
+pub ran_whole : (finds : Finds) (words : List (List ℕ)) (a b : World) (x : Outcome) → Went a b (session finds words) (Ok x) → Ran (session finds words) a.told (outside_of b.told) b.told.answers a.intake.left b.intake.left a.faults b.faults (cause_of_outcome x)
+unfolding IsTakenOn
 ran_whole finds words a b x w =
     let w = parts w in
     record {
@@ -50,13 +52,15 @@ ran_whole finds words a b x w =
       ending = refl;
       part = [];
       line = ([], refl);
-      tells = λ i. outside b.told.out (sym (extended-nil b.told.err) i) b.told.files;
+      tells = λ i. outside b.told.out (sym (extended-nil b.told.err) i) b.told.files b.told.reads;
       kept = refl;
       later = later_same b.faults;
+      behind = w.input.1;
     }
 
 -- The run of a session that was stopped.
-pub ran_front : (finds : Finds) (words : List (List ℕ)) (a b c : World) (s : Stop) → Went a b (session finds words) (Err s) → Closes b c (stop_line s) → Ran (session finds words) a.told (outside_of c.told) c.told.answers a.faults c.faults (cause_of_stop s)
+pub ran_front : (finds : Finds) (words : List (List ℕ)) (a b c : World) (s : Stop) → Went a b (session finds words) (Err s) → Closes b c (stop_line s) → Ran (session finds words) a.told (outside_of c.told) c.told.answers a.intake.left c.intake.left a.faults c.faults (cause_of_stop s)
+unfolding IsTakenOn
 ran_front finds words a b c s w t =
     let w = parts w in
     record {
@@ -72,6 +76,7 @@ ran_front finds words a b c s w t =
       tells = ap outside_of t.tells;
       kept = ap (λ (t : Told). t.answers) t.tells;
       later = t.later;
+      behind = λ old. subst (λ ls. IsLeftBehind ls c.intake.left) (ap (λ (t : Told). t.lines) t.tells) (t.input.1 (w.input.1 old));
     }
 
 -- the input of a session is left alone, where the words do not ask for the shell
@@ -90,6 +95,19 @@ lines_front finds words a b c line s w t none = ap (λ (t : Told). t.lines) t.te
 pub unread_front : (finds : Finds) (words : List (List ℕ)) (a b c : World) (line : List ℕ) (s : Stop) → Went a b (session finds words) (Err s) → Closes b c line → starts_shell words ≡ false → c.told.unread ≡ a.told.unread
 unread_front finds words a b c line s w t none = ap (λ (t : Told). t.unread) t.tells ∙ ap (λ i. i.unread) (input_left finds words a b (Err s) none w)
 
+-- what was taken of the input
+pub taken_whole : (finds : Finds) (words : List (List ℕ)) (a b : World) (x : Outcome) → Went a b (session finds words) (Ok x) → HasTaken a.intake b.intake
+unfolding IsTakenOn
+taken_whole finds words a b x w = (parts w).input.0
+
+pub taken_front : (finds : Finds) (words : List (List ℕ)) (a b c : World) (line : List ℕ) (s : Stop) → Went a b (session finds words) (Err s) → Closes b c line → HasTaken a.intake c.intake
+unfolding IsTakenOn
+taken_front finds words a b c line s w t = taken_taken a.intake b.intake c.intake (parts w).input.0 t.input.0
+
+-- from a fresh reader on, no more than the limit is taken
+pub takes_few : (old new : Option (List ℕ)) (most left : ℕ) → HasTaken (intake old most) (intake new left) → TakesFront most old new
+takes_few old new most left t = record { taken = t.taken; few = omega (arith, t.room); front = t.front }
+
 -- the objects are the same ones at the end
 pub same_whole : (finds : Finds) (words : List (List ℕ)) (a b : World) (x : Outcome) → Went a b (session finds words) (Ok x) → b.names ≡ a.names
 same_whole finds words a b x w = (parts w).same
@@ -98,7 +116,7 @@ pub same_front : (finds : Finds) (words : List (List ℕ)) (a b c : World) (line
 same_front finds words a b c line s w t = t.same ∙ (parts w).same
 
 -- what the end of a run needs
-pub ruleset running = (ran_whole, ran_front, lines_whole, unread_whole, lines_front, unread_front, same_whole, same_front)
+pub ruleset running = (ran_whole, ran_front, lines_whole, unread_whole, lines_front, unread_front, taken_whole, taken_front, same_whole, same_front)
 
 -- the object that a cause blames has failed
 abbrev Blames : Cause → Faults → Faults → Type 0
@@ -155,8 +173,8 @@ is_none None n = refl
 is_none (Some x) n = absurd (false≢true (sym n))
 
 -- nothing is told where there is no line
-no_part : (mid : Told) (new : Outside) (part : List ℕ) → IsFront part [] → new ≡ outside mid.out (extended mid.err part) mid.files → new ≡ outside_of mid
-no_part mid new [] f e = e ∙ (λ i. outside mid.out (extended-nil mid.err i) mid.files)
+no_part : (mid : Told) (new : Outside) (part : List ℕ) → IsFront part [] → new ≡ outside mid.out (extended mid.err part) mid.files mid.reads → new ≡ outside_of mid
+no_part mid new [] f e = e ∙ (λ i. outside mid.out (extended-nil mid.err i) mid.files mid.reads)
 no_part mid new (x ∷ part) f e = absurd (cc f.1)
 
 module _ (finds : Finds) (words : List (List ℕ)) (o : Outside) (locked : Option (List (List ℕ))) (input : Option (List ℕ)) (old now : Option (List Answer)) where
@@ -176,7 +194,7 @@ module _ (finds : Finds) (words : List (List ℕ)) (o : Outside) (locked : Optio
 
     -- a session that was stopped
     front_told : (s : Stop) (part : List ℕ) (f : Option FileMap) (l : Option (List (List ℕ))) (i : Option (List ℕ)) (a b : Option (List Answer))
-        → o.files ≡ f → locked ≡ l → input ≡ i → old ≡ a → now ≡ b → Halts start mid (session finds words) s → IsFront part (stop_line s) → new ≡ outside mid.out (extended mid.err part) mid.files
+        → o.files ≡ f → locked ≡ l → input ≡ i → old ≡ a → now ≡ b → Halts start mid (session finds words) s → IsFront part (stop_line s) → new ≡ outside mid.out (extended mid.err part) mid.files mid.reads
         → IfSome (told_run finds words f l i a b) (λ told. RanFront told o new (stop_line s))
     front_told s part (Some m) (Some ps) (Some i) (Some a) (Some b) ef el ei ea eb h front n =
         let w = front_course (session finds words) start mid m ps (lines_of i) s ef el (ap (option_map lines_of) ei) h in
@@ -185,6 +203,7 @@ module _ (finds : Finds) (words : List (List ℕ)) (o : Outside) (locked : Optio
           out = ap (λ (t : Outside). t.out) n ∙ sym (extended-nil mid.out);
           err = ap (λ (t : Outside). t.err) n ∙ ap (extended mid.err) (sym (append-nil part));
           files = ap (λ (t : Outside). t.files) n;
+          reads = ap (λ (t : Outside). t.reads) n ∙ sym (extended-nil mid.reads);
         } in
         rw same (record {
           done = w.did.done;
@@ -196,14 +215,14 @@ module _ (finds : Finds) (words : List (List ℕ)) (o : Outside) (locked : Optio
         })
     front_told s part f l i a b ef el ei ea eb h front n = tt
 
-    whole_of : (r : Result Outcome Stop) (part : List ℕ) (cause : Cause) → Ways start mid (session finds words) r → cause ≡ cause_of r → IsFront part (end_line r) → new ≡ outside mid.out (extended mid.err part) mid.files
+    whole_of : (r : Result Outcome Stop) (part : List ℕ) (cause : Cause) → Ways start mid (session finds words) r → cause ≡ cause_of r → IsFront part (end_line r) → new ≡ outside mid.out (extended mid.err part) mid.files mid.reads
         → IfNone (fault_line cause) (IfSome (told_run finds words o.files locked input old now) (λ told. RanWhole told o new cause))
     unfolding Ways
     whole_of (Ok x) part cause w e front t =
         rw (e, outcome_has_none x) (whole_told x (cause_of_outcome x) o.files locked input old now refl refl refl refl refl w (no_part mid new part front t) refl)
     whole_of (Err s) part cause w e front t = rw (e, stop_has_line s) tt
 
-    front_of : (r : Result Outcome Stop) (part : List ℕ) (cause : Cause) → Ways start mid (session finds words) r → cause ≡ cause_of r → IsFront part (end_line r) → new ≡ outside mid.out (extended mid.err part) mid.files
+    front_of : (r : Result Outcome Stop) (part : List ℕ) (cause : Cause) → Ways start mid (session finds words) r → cause ≡ cause_of r → IsFront part (end_line r) → new ≡ outside mid.out (extended mid.err part) mid.files mid.reads
         → IfSome (fault_line cause) (λ line. IfSome (told_run finds words o.files locked input old now) (λ told. RanFront told o new line))
     unfolding Ways
     front_of (Ok x) part cause w e front t = rw (e, outcome_has_none x) tt
@@ -214,7 +233,7 @@ module _ (finds : Finds) (words : List (List ℕ)) (o : Outside) (locked : Optio
     ends_of (Ok x) cause w e n = rw e (goes_gives (λ x. Ends words (cause_of_outcome x)) (session finds words) start mid x (session_gives finds words) w)
     ends_of (Err s) cause w e n = absurd (false≢true (sym (rw (e, stop_has_line s) at n)))
 
-  module _ {new : Outside} {before after : Faults} {cause : Cause} (r : Ran (session finds words) start new now before after cause) where
+  module _ {new : Outside} {left left_now : Option (List ℕ)} {before after : Faults} {cause : Cause} (r : Ran (session finds words) start new now left left_now before after cause) where
     pub went_whole : IfNone (fault_line cause) (IfSome (told_run finds words o.files locked input old now) (λ told. RanWhole told o new cause))
     went_whole = whole_of new r.mid r.kept r.result r.part cause r.ways r.ending r.line r.tells
 

@@ -26,7 +26,7 @@ use Rattle.pp_options.specs.declared.usage.UsageKind.TheVariants.{BadValue, Miss
 use Rattle.pp_options.specs.Conditions.{is_fair_number, is_fair, is_patterned, has_pattern}
 use Rattle.pp_options.specs.Drafts.{with_origin, with_item, noted}
 use Rattle.pp_options.specs.Formats.{takes_pattern, report_of}
-use Rattle.pp_options.specs.Items.{fault_at, is_true_word, chosen, pattern_report, item_with, valued_item, named_item, item_of}
+use Rattle.pp_options.specs.Items.{fault_at, is_true_word, chosen, selected, pattern_report, item_with, valued_item, named_item, item_of}
 use Rattle.pp_options.specs.Names.{option_named, needs_value}
 use Rattle.pp_options.specs.Settings.{setting_of}
 use Rattle.pp_options.specs.Spelling.{is_option, name_in, value_in, takes_next}
@@ -72,6 +72,9 @@ with_pattern formats.Tags byte bytes = refl
 with_pattern formats.Raw byte bytes = refl
 with_pattern formats.Comments byte bytes = refl
 with_pattern formats.Proto byte bytes = refl
+with_pattern formats.Folded byte bytes = refl
+with_pattern formats.Table byte bytes = refl
+with_pattern formats.Compare byte bytes = refl
 with_pattern formats.List byte bytes = lt-ltb 0 (length (byte ∷ bytes)) (omega arith)
 
 -- a format without a pattern
@@ -84,6 +87,9 @@ without_pattern formats.Tags takes = refl
 without_pattern formats.Raw takes = refl
 without_pattern formats.Comments takes = refl
 without_pattern formats.Proto takes = refl
+without_pattern formats.Folded takes = refl
+without_pattern formats.Table takes = refl
+without_pattern formats.Compare takes = refl
 without_pattern formats.List takes = absurd (false≢true (sym takes))
 
 pattern_fair : (format : ReportFormat) (value : List ℕ) → IsFairOption (option_map Format (pattern_report format value))
@@ -116,6 +122,7 @@ item_with_fair : (name : OptionName) (value : List ℕ) → IsFairOption (item_w
 unfolding item_with
 item_with_fair (names.Variable variable) value = made Set (setting_of variable value) (λ s is. refl)
 item_with_fair (names.Choice choice) value = made Set (chosen choice value) (λ s is. refl)
+item_with_fair (names.SampleType kind) value = made Set (selected kind value) (λ s is. refl)
 item_with_fair (names.Format format) value = report_fair format value (takes_pattern format) refl
 item_with_fair (names.Base kind) value = refl
 item_with_fair names.Gen value = made Gen (whole_number 1 1000000 value) (samples_fair value)

@@ -2,7 +2,7 @@
 use Rattle.std.specs.Prelude.{◌≡◌, ℕ, List, [], Bool, true, false, Result, Ok, Err, Option, Some, None}
 use Rattle.pp_base.specs.FileMap.{FileMap}
 use Rattle.pp_desk.specs.Course.{Course}
-use Rattle.pp_desk.specs.Effects.{outs, errs, files_after}
+use Rattle.pp_desk.specs.Effects.{outs, errs, reads_of, files_after}
 use Rattle.pp_desk.specs.Script.{Script, Give, ◌>>=◌, write_out, write_err, write_file}
 use Rattle.pp_model.specs.declared.config.Config.{Config}
 use Rattle.pp_model.specs.declared.loaded.Loaded.{Loaded}
@@ -35,11 +35,12 @@ noted_report finds l report config = do
   note_and_finish finds l report config settled
 
 -- What was told of a report is what the report comes to: its notes went out, and nothing else did; whatever files there
--- are, they stay as they are; the text, or the refusal, and the patterns are its own.
+-- are, they stay as they are; the paths that were read, the text, or the refusal, and the patterns are its own.
 pub record Tells (told : Course (Result (List ℕ) ReportRefusal)) (made : Course Reported) : Type 0 where
   pub notes : errs told.effects ≡ made.value.notes
   pub no_text : outs told.effects ≡ []
   pub no_file : (files : Option FileMap) → files_after files told.effects ≡ files
+  pub reads : reads_of told.effects ≡ reads_of made.effects
   pub outcome : told.value ≡ made.value.outcome
   pub asked : told.asked ≡ made.asked
 

@@ -5,7 +5,9 @@ ghost use Rattle.pp_desk.specs.Closes.{Closes};
 ghost use Rattle.pp_desk.specs.Course.{outside_of};
 ghost use Rattle.pp_desk.specs.Effects.{outside};
 ghost use Rattle.pp_engine.specs.Endings.{fault_line, status_of, stop_line};
-ghost use Rattle.pp_engine.specs.Run.{Ran, told_at, faults};
+ghost use Rattle.pp_desk.specs.World.{HasTaken};
+ghost use Rattle.pp_desk.specs.declared.line_reader.TheConstants.{INPUT_LIMIT};
+ghost use Rattle.pp_engine.specs.Run.{Ran, TakesFront, told_at, faults};
 ghost use Rattle.pp_engine.specs.Session.{session, told_run, RanWhole, RanFront};
 ghost use Rattle.pp_engine.specs.Validity.{is_valid};
 ghost use Rattle.pp_engine.specs.Words.{Ends, starts_shell};
@@ -37,22 +39,23 @@ pub fn run<R: Threads + Sync, F: Files, I: Source, O: Sink, E: Sink, M: Matcher,
     ensures whole { IfNone (fault_line result.cause)
         (IfSome (told_run M.finds words.now (F.content files.old) (F.locked files.old) (I.left input.old)
         (M.answers matcher.old) (M.answers matcher.new)) (λ told.
-        RanWhole told (outside (O.written out.old) (E.written err.old) (F.content files.old))
-        (outside (O.written out.new) (E.written err.new) (F.content files.new)) result.cause)) }
+        RanWhole told (outside (O.written out.old) (E.written err.old) (F.content files.old) (F.reads files.old))
+        (outside (O.written out.new) (E.written err.new) (F.content files.new) (F.reads files.new))
+        result.cause)) }
 
     // Else it did a front of what the session does, and then told of the fault, as far as it could.
     ensures front { IfSome (fault_line result.cause) (λ line.
         IfSome (told_run M.finds words.now (F.content files.old) (F.locked files.old) (I.left input.old)
         (M.answers matcher.old) (M.answers matcher.new)) (λ told.
-        RanFront told (outside (O.written out.old) (E.written err.old) (F.content files.old))
-        (outside (O.written out.new) (E.written err.new) (F.content files.new)) line)) }
+        RanFront told (outside (O.written out.old) (E.written err.old) (F.content files.old) (F.reads files.old))
+        (outside (O.written out.new) (E.written err.new) (F.content files.new) (F.reads files.new)) line)) }
 
     // The session alone decides how the run ends: while the line of a stop is told, the ending stays what it was.
     ensures ending { Ran (session M.finds words.now)
-        (told_at (outside (O.written out.old) (E.written err.old) (F.content files.old))
+        (told_at (outside (O.written out.old) (E.written err.old) (F.content files.old) (F.reads files.old))
         (F.locked files.old) (I.left input.old) (M.answers matcher.old))
-        (outside (O.written out.new) (E.written err.new) (F.content files.new))
-        (M.answers matcher.new)
+        (outside (O.written out.new) (E.written err.new) (F.content files.new) (F.reads files.new))
+        (M.answers matcher.new) (I.left input.old) (I.left input.new)
         (faults (F.faults files.old) (I.faults input.old) (O.faults out.old) (E.faults err.old))
         (faults (F.faults files.new) (I.faults input.new) (O.faults out.new) (E.faults err.new))
         result.cause }
@@ -88,6 +91,9 @@ pub fn run<R: Threads + Sync, F: Files, I: Source, O: Sink, E: Sink, M: Matcher,
 
     // Words that do not ask for the shell read no input.
     ensures unread { starts_shell words.now ≡ false → I.left input.new ≡ I.left input.old }
+
+    // Input is taken from its front, and at most 16,777,216 bytes of it.
+    ensures taken { TakesFront INPUT_LIMIT (I.left input.old) (I.left input.new) }
 {
     run_objects(rt, alloc, words, files, input, out, err, matcher, gate)
 }
@@ -106,14 +112,15 @@ fn run_objects<R: Threads + Sync, F: Files, I: Source, O: Sink, E: Sink, M: Matc
 ) -> Ending
     ensures status { result.status ≡ status_of result.cause }
     ensures ending { Ran (session M.finds words.now)
-        (told_at (outside (O.written out.old) (E.written err.old) (F.content files.old))
+        (told_at (outside (O.written out.old) (E.written err.old) (F.content files.old) (F.reads files.old))
         (F.locked files.old) (I.left input.old) (M.answers matcher.old))
-        (outside (O.written out.new) (E.written err.new) (F.content files.new))
-        (M.answers matcher.new)
+        (outside (O.written out.new) (E.written err.new) (F.content files.new) (F.reads files.new))
+        (M.answers matcher.new) (I.left input.old) (I.left input.new)
         (faults (F.faults files.old) (I.faults input.old) (O.faults out.old) (E.faults err.old))
         (faults (F.faults files.new) (I.faults input.new) (O.faults out.new) (E.faults err.new))
         result.cause }
     ensures unread { starts_shell words.now ≡ false → I.left input.new ≡ I.left input.old }
+    ensures taken { TakesFront INPUT_LIMIT (I.left input.old) (I.left input.new) }
 {
     let mut reader = None;
     let mut objects = Objects {
@@ -140,11 +147,13 @@ fn run_session<R: Threads + Sync, D: Desk, G: Gate>(
     ensures status { result.status ≡ status_of result.cause }
     ensures ending { Ran (session D.finds words.now) (D.world desk.old).told
         (outside_of (D.world desk.new).told) (D.world desk.new).told.answers
+        (D.world desk.old).intake.left (D.world desk.new).intake.left
         (D.world desk.old).faults (D.world desk.new).faults result.cause }
     ensures lines { starts_shell words.now ≡ false
         → (D.world desk.new).told.lines ≡ (D.world desk.old).told.lines }
     ensures unread { starts_shell words.now ≡ false
         → (D.world desk.new).told.unread ≡ (D.world desk.old).told.unread }
+    ensures taken { HasTaken (D.world desk.old).intake (D.world desk.new).intake }
     ensures same { (D.world desk.new).names ≡ (D.world desk.old).names }
 {
     match session(rt, alloc, words, desk, gate) {

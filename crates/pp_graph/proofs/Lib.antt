@@ -17,3 +17,7 @@ pub mod Between
 pub mod Left
 pub mod Rows
 mod LinkRows
+pub mod Whole
+pub mod KeyRowLemmas
+pub mod Running
+pub mod Showing

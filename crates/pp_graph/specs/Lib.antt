@@ -7,3 +7,4 @@ pub mod Slots
 pub mod Trimmed
 pub mod Ranks
 pub mod Cuts
+pub mod KeyRows

@@ -78,6 +78,16 @@ candidate_keys p f config column =
 abbrev pub report_keys : Profile → Finders → Config → Option ℕ → ℕ → List Written
 report_keys p f config column limit = shown_keys limit (candidate_keys p f config column)
 
+-- All keys that occur, in report order.
+abbrev pub all_report_keys : Profile → Finders → Config → Option ℕ → List Written
+all_report_keys p f config column =
+    let samples = report_samples p f config column in
+    each_once (report_order key_cmp config.sort samples) (all_keys samples)
+
+-- The first of them, where 0 is no limit.
+abbrev pub first_report_keys : Profile → Finders → Config → Option ℕ → ℕ → List Written
+first_report_keys p f config column limit = shown_keys limit (all_report_keys p f config column)
+
 -- whether it shows the key
 abbrev pub is_report_key : Profile → Finders → Config → Option ℕ → ℕ → Written → Bool
 is_report_key p f config column limit k = has key_cmp k (report_keys p f config column limit)

@@ -22,7 +22,7 @@ use Rattle.pp_graph.specs.declared.node.Node.{Node}
 use Rattle.pp_graph.specs.declared.ranking.Ranked.{Ranked}
 use Rattle.pp_graph.specs.declared.trimming.Trimmed.{Trimmed}
 use Rattle.pp_graph.specs.Links.{Links, AreLinked, live_edges}
-use Rattle.pp_graph.specs.Trim.{candidate_keys, report_keys, is_report_key, dropped_nodes, dropped_edges, has_heavy_edge}
+use Rattle.pp_graph.specs.Trim.{candidate_keys, first_report_keys, report_keys, is_report_key, dropped_nodes, dropped_edges, has_heavy_edge}
 
 -- the sum of numbers
 abbrev pub int_sum : List ℤ → ℤ
@@ -49,6 +49,20 @@ pub record IsRankedOf (l : Loaded) (v : Verdicts) (config : Config) (column : Op
       → t.dropped_nodes ≡ dropped_nodes l.profile f config column
   pub candidates : (f : Finders) → HoldsFilters l v config f
       → t.candidates ≡ length (candidate_keys l.profile f config column)
+
+-- The ranking is that of all keys that occur, however light: the numbers of the first of their names, in report order,
+-- where 0 is no limit.
+pub record IsWholeRanking (l : Loaded) (v : Verdicts) (config : Config) (column : Option ℕ) (limit : ℕ)
+    (c : Counted) (t : Ranked) : Type 0 where
+  pub below : All (λ n. n < length c.sums.names) t.order
+  pub once : AllPairs (λ a b. a ≢ b) t.order
+  pub small : sum_by (λ n. nat_abs (slice_index_or c.sums.flat n (pos 0))) t.order < 2 ^ 63
+  pub keys : (f : Finders) → HoldsFilters l v config f
+      → written_order l.profile c.sums.names t.order ≡ first_report_keys l.profile f config column limit
+  pub shown_flat : (f : Finders) → HoldsFilters l v config f
+      → t.shown_flat
+      ≡ int_sum (map (flat key_cmp (report_samples l.profile f config column))
+      (first_report_keys l.profile f config column limit))
 
 -- the node of a name's number, with the sums of the name
 abbrev pub node_of : Sums → ℕ → Node → Type 0

@@ -13,5 +13,5 @@ mod trimming;
 pub use graph::Graph;
 pub use limit::node_limit;
 pub use node::Node;
-pub use ranking::{Ranked, rank};
+pub use ranking::{Ranked, rank, rank_all};
 pub use trimming::{Trimmed, trim};

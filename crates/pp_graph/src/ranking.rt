@@ -1,17 +1,18 @@
 //! The keys that a report shows, in report order.
 ghost use Rattle.std.specs.Prelude.{◌≡◌, ℕ, ◌<◌, ◌^◌, nat_abs, length, map, All, Option, IfOk};
 ghost use Rattle.std.specs.List.{sum_by};
+ghost use Rattle.pp_model.specs.declared.config.Config.{Config};
 ghost use Rattle.pp_model.specs.declared.verdicts.Verdicts.{Verdicts};
 ghost use Rattle.pp_grain.specs.Keys.{IsKeyOf};
 ghost use Rattle.pp_count.specs.Counted.{IsCountedOf, FitSums};
 ghost use Rattle.pp_graph.specs.Ranks.{sum_at};
 ghost use Rattle.pp_graph.specs.Trim.{shown_keys};
-ghost use Rattle.pp_graph.specs.Trimmed.{int_sum, IsRankedOf};
+ghost use Rattle.pp_graph.specs.Trimmed.{int_sum, IsRankedOf, IsWholeRanking};
 
 use crate::heavy::{Row, ranked};
-use pp_base::{List, Memory};
+use pp_base::{Fraction, List, Memory};
 use pp_count::Counted;
-use pp_model::{Config, Loaded};
+use pp_model::{Config, Loaded, Sort};
 use std::alloc::Global;
 
 /// The keys that a report shows.
@@ -43,15 +44,46 @@ pub fn rank(
         IsCountedOf l.now v config.now column counted.now →
         IfOk result (IsRankedOf l.now v config.now column limit counted.now) }
 {
+    rank_by(alloc, l, counted, config.sort, config.nodefraction, limit)
+}
+
+/// Ranks all keys, however light, and keeps the first `limit` of them, all for 0. Report order is that of `rank`.
+pub fn rank_all(
+    alloc: Global,
+    l: &Loaded,
+    counted: &Counted,
+    config: &Config,
+    limit: u32,
+) -> Result<Ranked, Memory>
+    requires fits { FitSums counted.now.sums }
+    requires keys { All (IsKeyOf l.now.profile) counted.now.sums.names }
+    ensures { (v : Verdicts) (column : Option ℕ) →
+        IsCountedOf l.now v config.now column counted.now →
+        IfOk result (IsWholeRanking l.now v config.now column limit counted.now) }
+{
+    let nothing = Fraction { billionths: 0 };
+    rank_by(alloc, l, counted, config.sort, nothing, limit)
+}
+
+// The ranking of each configuration with this order and this fraction.
+fn rank_by(
+    alloc: Global,
+    l: &Loaded,
+    counted: &Counted,
+    sort: Sort,
+    least: Fraction,
+    limit: u32,
+) -> Result<Ranked, Memory>
+    requires fits { FitSums counted.now.sums }
+    requires keys { All (IsKeyOf l.now.profile) counted.now.sums.names }
+    ensures { (v : Verdicts) (config : Config) (column : Option ℕ) → config.sort ≡ sort →
+        config.nodefraction.billionths ≡ least.billionths →
+        IsCountedOf l.now v config column counted.now →
+        IfOk result (IsRankedOf l.now v config column limit counted.now) }
+{
     let sums = &counted.sums;
-    let heavy = ranked(
-        alloc,
-        l.profile.get(),
-        config.sort,
-        sums,
-        counted.total,
-        config.nodefraction,
-    )?;
+    let p = l.profile.get();
+    let heavy = ranked(alloc, p, sort, sums, counted.total, least)?;
     let order = numbers_of(alloc, first_rows(&heavy.rows, limit))?;
     let shown_flat = flat_sum(&sums.flat, order.as_slice());
     Ok(Ranked {

@@ -18,11 +18,11 @@ use Rattle.pp_count.specs.Counted.{report_samples}
 use Rattle.pp_count.specs.Ranks.{each_once, is_heavy}
 use Rattle.pp_count.proofs.EachOnce.{same_ties}
 use Rattle.pp_count.proofs.Ties.{key_decides}
-use Rattle.pp_graph.specs.Trim.{is_heavy_key, report_order}
+use Rattle.pp_graph.specs.Trim.{is_heavy_key, all_report_keys, report_order}
 use Rattle.pp_graph.specs.Trimmed.{int_sum}
 use Rattle.pp_graph.proofs.Ordering.{report_total, report_same}
 use Rattle.pp_laws.specs.Figures.{has_frames}
-use Rattle.pp_laws.specs.Flats.{FlatsAddUp, RowsAddUp}
+use Rattle.pp_laws.specs.Flats.{FlatsAddUp, RowsAddUp, AllKeysAddUp}
 use Rattle.pp_laws.proofs.Listed.{each_once_apart, each_once_members}
 use Rattle.pp_count.proofs.Renaming.{all_keys_occur}
 use Rattle.pp_laws.proofs.Sampling.{flats_add_up, sum_where-weighed}
@@ -58,6 +58,20 @@ rows_counted p f config column none =
     (λ i. list_any (sym ties i k) keys) ∙ each_once_members (report_total samples config.sort) (filter heavy (all_keys samples)) k
     ∙ (λ i. list_any (ties i k) (filter heavy (all_keys samples)))
     ∙ any-filter_same (eq_by_cmp key_cmp k) heavy true (λ q e. heavy_always (total_of p f config column) config.nodefraction.billionths (cum key_cmp samples q) none) (all_keys samples)
+    ∙ all_keys_occur key_cmp samples k ∙ is in
+    flats_add_up key_cmp_total samples keys apart known
+    ∙ sum_where-weighed has_frames (seen_samples p f config column p.sample)
+
+pub all_counted : AllKeysAddUp
+all_counted p f config column =
+    let samples = report_samples p f config column in
+    let order = report_order key_cmp config.sort samples in
+    let ties : eq_by_cmp order ≡ eq_by_cmp key_cmp = order_ties config.sort samples in
+    let keys : List Written = all_report_keys p f config column in
+    let apart : IsDistinct (eq_by_cmp key_cmp) keys = subst (λ e. IsDistinct e keys) ties (each_once_apart order (all_keys samples)) in
+    let known : (k : Written) → occurs key_cmp samples k ≡ true → list_any (eq_by_cmp key_cmp k) keys ≡ true = λ k is.
+    (λ i. list_any (sym ties i k) keys) ∙ each_once_members (report_total samples config.sort) (all_keys samples) k
+    ∙ (λ i. list_any (ties i k) (all_keys samples))
     ∙ all_keys_occur key_cmp samples k ∙ is in
     flats_add_up key_cmp_total samples keys apart known
     ∙ sum_where-weighed has_frames (seen_samples p f config column p.sample)

@@ -8,14 +8,14 @@ use Rattle.pp_model.specs.declared.profile.Mapping.{Mapping}
 use Rattle.pp_model.specs.declared.profile.Profile.{Profile}
 use Rattle.pp_model.specs.Lookup.{text_at, mapping_with}
 use Rattle.pp_model.specs.Rules.{NoRuleFails, begins_empty, zero_unless}
-use Rattle.pp_merge.specs.Described.{MappingText, mapping_text, mapping_found}
-use Rattle.pp_merge.specs.Alike.{same_mapping, first_alike}
+use Rattle.pp_share.specs.Described.{MappingText, mapping_text, mapping_found}
+use Rattle.pp_share.specs.Alike.{same_mapping, first_alike}
 use Rattle.pp_merge.specs.Merge.{all_mappings}
 use Rattle.pp_merge.specs.Settled.{IsSettled}
-use Rattle.pp_merge.specs.Written.{Contents, written_mapping, written_location, written_sample, written_type, mappings, locations}
-use Rattle.pp_merge.specs.Written as writing
-use Rattle.pp_merge.proofs.MergedMapping.{mapping_laws}
-use Rattle.pp_merge.proofs.NumberedLemmas.{all_by, all_both, all_mapped}
+use Rattle.pp_share.specs.Written.{Contents, written_mapping, written_location, written_sample, written_type, mappings, locations}
+use Rattle.pp_share.specs.Written as writing
+use Rattle.pp_share.proofs.MergedMapping.{mapping_laws}
+use Rattle.pp_share.proofs.NumberedLemmas.{all_by, all_both, all_mapped}
 use Rattle.pp_merge.proofs.RoundTrip.{IsText, text_again}
 use Rattle.pp_merge.proofs.SettledLemmas.{all_any, all_unmapped, found_holds}
 use Rattle.pp_merge.proofs.WrittenAgain.{map_back}

@@ -1,57 +1,26 @@
 -- The values of merged samples, added up by what the samples are.
-use Rattle.std.proofs.Common.{◌≡◌, ℕ, zero, suc, ◌<◌, Bool, true, false, cond, ℤ, pos, ◌+ℤ◌, List, [], ◌∷◌, length, map, replicate, get_or, refl, sym, ap, ◌∙◌, subst, arith}
-use Rattle.std.specs.Prelude.{filter, fold}
-use Rattle.std.specs.List.{AllByRecursion, list_all}
-use Rattle.std.specs.Ordering.{int_eq}
-use Rattle.std.proofs.Math.IntN.{+ℤ_idl, +ℤ_idr, +ℤ_assoc}
-use Rattle.std.proofs.lemmas.Bool.{not-false, and_parts}
-use Rattle.std.proofs.lemmas.Bool.Decides.{Decides-int_eq}
-use Rattle.std.proofs.lemmas.List.{length-replicate}
+use Rattle.std.proofs.Common.{◌≡◌, ℕ, ◌<◌, Bool, true, false, cond, ℤ, pos, ◌+ℤ◌, List, [], ◌∷◌, length, map, get_or, refl, sym, ap, ◌∙◌}
+use Rattle.std.specs.Prelude.{filter}
+use Rattle.std.specs.List.{AllByRecursion}
+use Rattle.std.proofs.Math.IntN.{+ℤ_idl}
+use Rattle.std.proofs.lemmas.Bool.{not-false}
 use Rattle.pp_model.specs.declared.profile.Profile.{Profile}
 use Rattle.pp_model.specs.declared.profile.Sample.{Sample}
 use Rattle.pp_model.specs.Lookup.{text_of}
 use Rattle.pp_model.specs.Sizes.{value_in}
 use Rattle.pp_model.specs.FirstSight.{distinct}
-use Rattle.pp_merge.specs.Described.{SampleText, location_found, sample_text, samples_found}
-use Rattle.pp_merge.specs.Alike.{same_sample, first_alike}
+use Rattle.pp_share.specs.Described.{SampleText, location_found, sample_text, samples_found}
+use Rattle.pp_share.specs.Alike.{same_sample, first_alike}
 use Rattle.pp_merge.specs.Merge.{all_mappings, all_samples, contents}
-use Rattle.pp_merge.specs.Sums.{added, counts, keys_of, rows_of, summed, sum_of, total_of}
-use Rattle.pp_merge.proofs.Deciding.{sample_decides}
-use Rattle.pp_merge.proofs.DistinctLemmas.{deciding_laws}
+use Rattle.pp_share.specs.Sums.{added, counts, keys_of, rows_of, summed, sum_of}
+use Rattle.pp_share.proofs.Deciding.{sample_decides}
+use Rattle.pp_share.proofs.DistinctLemmas.{deciding_laws}
 use Rattle.pp_model.proofs.FirstSightLemmas.{IsSeen, all_seen, distinct_apart}
-use Rattle.pp_merge.proofs.NumberedLemmas.{all_by, all_mapped}
+use Rattle.pp_share.proofs.NumberedLemmas.{all_by, all_mapped}
+use Rattle.pp_merge.proofs.MergedTotals.{zero_at, at_total}
 use Rattle.pp_merge.proofs.SettledLemmas.{all_flat, all_filtered, all_unmapped, all_any}
-use Rattle.pp_merge.proofs.SumLemmas.{length-added, get_or-added}
 use Rattle.pp_merge.proofs.TotalLemmas.{total, total-flat_map, total-map, total-filter, total_same, parted, adding_ℤ}
 use Rattle.pp_laws.specs.Merged.{HasValues}
-
--- a value of a row of zeros
-zero_at : (row : List ℤ) (k : ℕ) → list_all (int_eq (pos 0)) row ≡ true → get_or row k (pos 0) ≡ pos 0
-zero_at [] k all = refl
-zero_at (v ∷ row) zero all = sym ((Decides-int_eq (pos 0) v).0 (and_parts _ _ all).0)
-zero_at (v ∷ row) (suc k) all = zero_at row k (and_parts _ _ all).1
-
--- the value of a column, of rows that are added up
-at_added : (rows : List (List ℤ)) (sum : List ℤ) (column : ℕ) → column < length sum → AllByRecursion (λ row. length row ≡ length sum) rows
-    → get_or (fold added sum rows) column (pos 0) ≡ get_or sum column (pos 0) +ℤ total adding_ℤ (λ row. get_or row column (pos 0)) rows
-at_added [] sum column within wide = sym (+ℤ_idr (get_or sum column (pos 0)))
-at_added (row ∷ rows) sum column within wide =
-    at_added rows (added sum row) column (omega (arith, within, length-added sum row)) (subst (λ n. AllByRecursion (λ r. length r ≡ n) rows) (sym (length-added sum row)) wide.1)
-    ∙ ap (λ v. v +ℤ total adding_ℤ (λ r. get_or r column (pos 0)) rows) (get_or-added sum row column within wide.0)
-    ∙ +ℤ_assoc (get_or sum column (pos 0)) (get_or row column (pos 0)) (total adding_ℤ (λ r. get_or r column (pos 0)) rows)
-
-zeros_at : (n column : ℕ) → get_or (replicate n (pos 0)) column (pos 0) ≡ pos 0
-zeros_at zero column = refl
-zeros_at (suc n) zero = refl
-zeros_at (suc n) (suc column) = zeros_at n column
-
-pub at_total : (n column : ℕ) (rows : List (List ℤ)) → column < n → AllByRecursion (λ row. length row ≡ n) rows
-    → get_or (total_of n rows) column (pos 0) ≡ total adding_ℤ (λ row. get_or row column (pos 0)) rows
-at_total n column rows within wide =
-    let long = length-replicate n (pos 0) in
-    at_added rows (replicate n (pos 0)) column (omega (arith, within, long)) (subst (λ m. AllByRecursion (λ r. length r ≡ m) rows) (sym long) wide)
-    ∙ ap (λ v. v +ℤ total adding_ℤ (λ row. get_or row column (pos 0)) rows) (zeros_at n column)
-    ∙ +ℤ_idl (total adding_ℤ (λ row. get_or row column (pos 0)) rows)
 
 none_of : (b : Bool) (v : ℤ) → v ≡ pos 0 → cond b v (pos 0) ≡ pos 0
 none_of true v is = is

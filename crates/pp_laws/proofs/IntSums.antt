@@ -10,6 +10,7 @@ use Rattle.std.proofs.lemmas.Int.{ints}
 use Rattle.std.proofs.lemmas.List.Sums.{sum_by-cons}
 use Rattle.std.proofs.lemmas.List.Sorted.{sum_by-IsPermutation}
 use Rattle.std.proofs.lemmas.Map.Keys.{IsDistinct-head, IsDistinct-tail}
+use Rattle.pp_count.proofs.Adding.{triangle}
 use Rattle.pp_graph.specs.Trimmed.{int_sum}
 
 -- the sum of what the items come to
@@ -86,9 +87,6 @@ sum_times f n (x ∷ xs) = times_plus (f x) (sum_over f xs) n ∙ ap (λ v. f x 
 pub sum_within : {X : Type 0} (f g : X → ℤ) (xs : List X) → AllByRecursion (λ x. f x ≤ℤ g x) xs → sum_over f xs ≤ℤ sum_over g xs
 sum_within f g [] all = omega (arith, ints)
 sum_within f g (x ∷ xs) all = let first : f x ≤ℤ g x = all.0 in omega (arith, ints, first, sum_within f g xs all.1)
-
-triangle : (a b : ℤ) → nat_abs (a +ℤ b) ≤ nat_abs a + nat_abs b
-triangle a b = omega (arith, ints)
 
 -- no sum is further from 0 than its items together
 pub sum_bound : {X : Type 0} (f : X → ℤ) (xs : List X) → nat_abs (sum_over f xs) ≤ sum_by (λ x. nat_abs (f x)) xs

@@ -21,11 +21,11 @@ use Rattle.pp_model.proofs.RuleLemmas.{passes as rule_passes, text_below}
 use Rattle.std.specs.Option.{option_map_or}
 use Rattle.pp_tags.specs.TagFilters.{filter_in_force}
 use Rattle.pp_grain.specs.Keys.{key_cmp}
-use Rattle.pp_merge.specs.Described.{LabelText, MappingText, SampleText, mapping_text, function_text, mapping_found, function_found, location_text, location_found, nowhere}
-use Rattle.pp_merge.specs.Alike.{first_alike}
+use Rattle.pp_share.specs.Described.{LabelText, MappingText, SampleText, mapping_text, function_text, mapping_found, function_found, location_text, location_found, nowhere}
+use Rattle.pp_share.specs.Alike.{first_alike}
 use Rattle.pp_merge.specs.Merge.{all_mappings, merged}
 use Rattle.pp_merge.specs.Scale.{negated, negated_sample, labelled_sample, base_label, base_texts}
-use Rattle.pp_merge.proofs.NumberedLemmas.{all_by, all_mapped}
+use Rattle.pp_share.proofs.NumberedLemmas.{all_by, all_mapped}
 use Rattle.pp_merge.proofs.SettledLemmas.{all_any, found_holds}
 use Rattle.pp_merge.proofs.TotalLemmas.{total-map, total_same, adding_ℤ}
 use Rattle.pp_count.specs.Sums.{has, leads}
@@ -123,7 +123,7 @@ module _ (f : Finders) (config : Config) (column : ℕ) (divisor : config.divide
 
   module _ (b : Profile) (valid : NoRuleFails b) where
     -- a sample as it is negated and labelled
-    abbrev marked : Sample → Sample
+    abbrev pub marked : Sample → Sample
     marked s = labelled_sample (base_label (length b.text) ∷ []) (negated_sample s)
 
     same_says : (test : List Written → Bool) (s : Sample)
@@ -144,29 +144,38 @@ module _ (f : Finders) (config : Config) (column : ℕ) (divisor : config.divide
         ∙ if_negated (tells (told_in b [] b s)) (value_in s column) (value_in (marked s) column) (value_negated s.value column)) b.sample)
         ∙ total_negated value b.sample
 
-    values_labelled : (n : ℕ) → HasValues n b → HasValues n (labelled b valid)
+    pub values_labelled : (n : ℕ) → HasValues n b → HasValues n (labelled b valid)
     values_labelled n all = all_mapped (λ s. length s.value ≡ n) marked b.sample (all_by (λ s. length s.value ≡ n) (λ s. length (marked s).value ≡ n) (λ s is. length-map s.value neg_ℤ ∙ is) b.sample all)
 
-    subtracts : (p : Profile) → AddUp p (b ∷ []) config column → (test : List Written → Bool)
-        → figure f config column divisor test (less_base DiffBase p b) ≡ figure f config column divisor test (merged p []) -ℤ figure f config column divisor test (merged b [])
-    subtracts p can test =
-        let q : Profile = labelled b valid in
+    -- it adds up with what the base adds up with
+    pub labelled_adds_up : (p : Profile) → AddUp p (b ∷ []) config column → AddUp p (labelled b valid ∷ []) config column
+    labelled_adds_up p can = record {
+      within = can.within;
+      types = can.types;
+      values = (can.values.0, (values_labelled (length p.sample_type) can.values.1.0, tt));
+      starts = can.starts;
+      mappings = (
+        subst (λ (all : List MappingText). AllByRecursion (λ m. IsPlacedAs config.grain (first_alike all (mapping_text p m)) (first_alike (all_mappings (p ∷ [])) (mapping_text p m))) p.mapping) (sym (same_all b valid p)) can.mappings.0,
+        (labelled_keeps b valid config.grain p can.mappings.1.0, tt),
+      );
+      divisor = divisor;
+    }
+
+    -- alone it comes to the negative of the base
+    pub labelled_alone : (p : Profile) → AddUp p (b ∷ []) config column → (test : List Written → Bool)
+        → figure f config column divisor test (merged (labelled b valid) []) ≡ neg_ℤ (figure f config column divisor test (merged b []))
+    labelled_alone p can test =
         let values : HasValues (length b.sample_type) b = subst (λ n. HasValues n b) (sym can.types.1.0) can.values.1.0 in
         let within : column < length b.sample_type = subst (λ n. column < n) (sym can.types.1.0) can.within in
-        shards_add_up f config column divisor p (q ∷ []) (record {
-          within = can.within;
-          types = can.types;
-          values = (can.values.0, (values_labelled (length p.sample_type) can.values.1.0, tt));
-          starts = can.starts;
-          mappings = (
-            subst (λ (all : List MappingText). AllByRecursion (λ m. IsPlacedAs config.grain (first_alike all (mapping_text p m)) (first_alike (all_mappings (p ∷ [])) (mapping_text p m))) p.mapping) (sym (same_all b valid p)) can.mappings.0,
-            (labelled_keeps b valid config.grain p can.mappings.1.0, tt),
-          );
-          divisor = divisor;
-        }) test
-        ∙ added_less f config column divisor (figure f config column divisor test (merged p [])) (figure f config column divisor test (merged b [])) (figure f config column divisor test (merged q []))
-        (alone f config column divisor test q can.starts.1.0 (values_labelled (length b.sample_type) values) within
-        ∙ said_labelled test ∙ ap neg_ℤ (sym (alone f config column divisor test b can.starts.1.0 values within)))
+        alone f config column divisor test (labelled b valid) can.starts.1.0 (values_labelled (length b.sample_type) values) within
+        ∙ said_labelled test ∙ ap neg_ℤ (sym (alone f config column divisor test b can.starts.1.0 values within))
+
+    pub subtracts : (p : Profile) → AddUp p (b ∷ []) config column → (test : List Written → Bool)
+        → figure f config column divisor test (less_base DiffBase p b) ≡ figure f config column divisor test (merged p []) -ℤ figure f config column divisor test (merged b [])
+    subtracts p can test =
+        shards_add_up f config column divisor p (labelled b valid ∷ []) (labelled_adds_up p can) test
+        ∙ added_less f config column divisor (figure f config column divisor test (merged p [])) (figure f config column divisor test (merged b [])) (figure f config column divisor test (merged (labelled b valid) []))
+        (labelled_alone p can test)
 
 pub labelled_bases_subtract : LabelledBasesSubtract
 labelled_bases_subtract p base f config column can valid tagfocus tagignore =

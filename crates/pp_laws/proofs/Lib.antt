@@ -16,3 +16,4 @@ pub mod Alone
 pub mod Shards
 pub mod Subtracting
 pub mod Labelled
+mod Comparing

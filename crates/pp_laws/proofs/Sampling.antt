@@ -12,7 +12,8 @@ use Rattle.std.proofs.lemmas.Bool.Decides.{Decides-int_eq}
 use Rattle.std.proofs.lemmas.Cmp.{eq_by_cmp_equiv}
 use Rattle.std.proofs.lemmas.Int.{ints}
 use Rattle.std.proofs.lemmas.List.Sums.{sum_by-cons}
-use Rattle.pp_count.specs.Sums.{Seen, weighed, absolute, sum_where, has, leads, occurs, flat, all_keys}
+use Rattle.pp_count.proofs.Adding.{triangle}
+use Rattle.pp_count.specs.Sums.{Seen, weighed, absolute, sum_where, has, leads, occurs, flat}
 use Rattle.pp_count.specs.EdgeSums.{stands_over, has_pair, has_edge}
 use Rattle.pp_laws.specs.Figures.{has_frames, whole, NoneNegative}
 use Rattle.pp_laws.proofs.IntSums.{sum_over, sum_none, sum_plus, sum-filter, sum-filter_map, sum_permuted, one_match}
@@ -87,9 +88,6 @@ none_weighed (s ∷ ss) none = elim (not (int_eq s.value (pos 0))) as (λ b. Non
   | true ↦ (none.0, none_weighed ss none.1)
   | false ↦ none_weighed ss none.1
 ]
-
-triangle : (a b : ℤ) → nat_abs (a +ℤ b) ≤ nat_abs a + nat_abs b
-triangle a b = omega (arith, ints)
 
 -- no sum is further from 0 than all values together
 pub sum_where_bound : {K : Type 0} (p : List K → Bool) (ss : List (Seen K)) → nat_abs (sum_where p ss) ≤ absolute ss

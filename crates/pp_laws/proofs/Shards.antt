@@ -1,7 +1,7 @@
 -- Merged reports are sums.
 use Rattle.std.proofs.Common.{◌≡◌, ℕ, ◌<◌, ◌^◌, Bool, true, false, cond, ◌&&◌, ℤ, pos, ◌+ℤ◌, List, [], ◌∷◌, length, map, get_or, ◌==◌, Option, Some, None, option_map, refl, sym, ap, ◌∙◌, subst}
 use Rattle.std.specs.Prelude.{int_div}
-use Rattle.std.specs.List.{AllByRecursion, list_all}
+use Rattle.std.specs.List.{AllByRecursion, filter, list_all}
 use Rattle.std.specs.Option.{option_map_or}
 use Rattle.std.proofs.Math.IntN.{+ℤ_idr}
 use Rattle.std.proofs.lemmas.List.{length-map}
@@ -23,27 +23,27 @@ use Rattle.pp_model.specs.Rules.{label_has_texts, NoRuleFails, IsCompact}
 use Rattle.pp_model.specs.Sizes.{value_in}
 use Rattle.pp_stack.specs.Filters.{filtered, frames_of_sample}
 use Rattle.pp_grain.specs.Keys.{key_cmp, key_texts}
-use Rattle.pp_merge.specs.Described.{MappingText, SampleText, label_text, mapping_text, mapping_found, start_of}
-use Rattle.pp_merge.specs.Alike.{first_alike}
+use Rattle.pp_share.specs.Described.{LabelText, MappingText, SampleText, label_text, mapping_text, mapping_found, start_of}
+use Rattle.pp_share.specs.Alike.{first_alike}
 use Rattle.pp_merge.specs.Merge.{all_mappings, contents, merged}
 use Rattle.pp_merge.specs.Settled.{IsSettled}
-use Rattle.pp_merge.specs.Written.{Contents, written_sample, written_type}
-use Rattle.pp_merge.proofs.NumberedLemmas.{all_by, all_both, all_mapped}
+use Rattle.pp_share.specs.Written.{Contents, written_sample, written_type}
+use Rattle.pp_share.proofs.NumberedLemmas.{all_by, all_both, all_mapped}
 use Rattle.pp_merge.proofs.SettledLemmas.{all_any, all_flat, found_holds, settled_contents}
 use Rattle.pp_merge.proofs.TotalLemmas.{total, total_same, adding_ℤ}
 use Rattle.pp_merge.proofs.WrittenAgain.{contents_again}
 use Rattle.pp_merge.proofs.WrittenCompact.{compact_written}
 use Rattle.pp_merge.proofs.WrittenValid.{valid_written}
-use Rattle.pp_count.specs.Sums.{sum_where, has, leads}
+use Rattle.pp_count.specs.Sums.{sum_where, has, leads, weighed}
 use Rattle.pp_count.specs.EdgeSums.{has_edge}
-use Rattle.pp_count.specs.Seeing.{passes_tags, counted_frames, key_of_frame, keys_of_stack, seen_with, seen}
+use Rattle.pp_count.specs.Seeing.{passes_tags, counted_frames, key_of_frame, keys_of_stack, seen_with, seen, seen_samples}
 use Rattle.pp_count.specs.Counted.{report_samples}
 use Rattle.pp_count.proofs.Pieces.{all_refer}
 use Rattle.pp_laws.specs.Merged.{HasValues, KeepsMappings, AddUp, over_sources, MergedAreSums}
 use Rattle.pp_laws.proofs.IntSums.{sum_over, sum_each}
 use Rattle.pp_laws.proofs.Sampling.{part, sum_seen}
 use Rattle.pp_laws.proofs.Multiplying.{by_one}
-use Rattle.pp_laws.proofs.Grouped.{grouped, told_in}
+use Rattle.pp_laws.proofs.Grouped.{grouped, told_in, total_passing}
 use Rattle.pp_laws.proofs.Stages.{filtered-map}
 use Rattle.pp_laws.proofs.Tagging.{tags_told, tags_is, labels_tell, TellsText}
 use Rattle.pp_laws.proofs.Alone.{text_zero, stays, small}
@@ -52,6 +52,10 @@ use Rattle.pp_laws.proofs.Telling.{told_from, told_counted, file_of, placed, cou
 pub sum_total : {X : Type 0} (f : X → ℤ) (xs : List X) → sum_over f xs ≡ total adding_ℤ f xs
 sum_total f [] = refl
 sum_total f (x ∷ xs) = ap (λ v. f x +ℤ v) (sum_total f xs)
+
+both_hold : (a b : Bool) (v : ℤ) → cond a (cond b v (pos 0)) (pos 0) ≡ cond (a && b) v (pos 0)
+both_hold true b v = refl
+both_hold false b v = refl
 
 -- a key doesn't tell more of an address than its grain does
 key_by : (grain : Grain) (showcolumns : Bool) (w : Written) → key_texts grain showcolumns w ≡ key_texts grain showcolumns (located_by grain w)
@@ -149,18 +153,40 @@ module _ (f : Finders) (config : Config) (column : ℕ) (divisor : config.divide
         (frames_told all (first_alike (all_mappings (all ∷ []))) (stays (contents p ps) settled) (text_zero all valid) compact.locations (small (contents p ps) settled) config.grain 0 s.location_id fine.0 i))
         (value_in s column) (pos 0))
 
+    -- what its samples say, asked of the sources
+    said_by_sources : (asks : SampleText → Bool)
+        → sum_over (λ s. cond (asks (told_in all [] all s)) (value_in s column) (pos 0)) all.sample
+        ≡ total adding_ℤ (λ q. total adding_ℤ (λ s. cond (asks (told_in p ps q s)) (value_in s column) (pos 0)) q.sample) (p ∷ ps)
+    said_by_sources asks =
+        let value : Sample → ℤ = λ s. cond (asks (told_in all [] all s)) (value_in s column) (pos 0) in
+        sum_total value all.sample
+        ∙ sym (+ℤ_idr (total adding_ℤ value all.sample))
+        ∙ sym (grouped all [] (wide, tt) asks column (subst (λ n. column < n) (sym types_is) within))
+        ∙ ap (λ (c : Contents). total adding_ℤ (λ (item : SampleText × List ℤ). cond (asks item.0) (get_or item.1 column (pos 0)) (pos 0)) c.samples) (contents_again (contents p ps) settled)
+        ∙ grouped p ps values asks column within
+
     -- A figure of the merged profile, by what its sources say.
     pub figure_said : (test : List Written → Bool) → sum_where test (report_samples all f config (Some column)) ≡ total adding_ℤ (sum_of_sources test p ps) (p ∷ ps)
     figure_said test =
-        let value : Sample → ℤ = λ s. cond (says test (told_in all [] all s)) (value_in s column) (pos 0) in
         sum_seen test (seen all f config (Some column)) all.sample
-        ∙ sum_each (λ s. option_map_or (part test) (seen all f config (Some column) s) (pos 0)) value all.sample
+        ∙ sum_each (λ s. option_map_or (part test) (seen all f config (Some column) s) (pos 0)) (λ s. cond (says test (told_in all [] all s)) (value_in s column) (pos 0)) all.sample
         (all_by Fine _ (each_says test) all.sample each_fine)
-        ∙ sum_total value all.sample
-        ∙ sym (+ℤ_idr (total adding_ℤ value all.sample))
-        ∙ sym (grouped all [] (wide, tt) (says test) column (subst (λ n. column < n) (sym types_is) within))
-        ∙ ap (λ (c : Contents). total adding_ℤ (λ (item : SampleText × List ℤ). cond (says test item.0) (get_or item.1 column (pos 0)) (pos 0)) c.samples) (contents_again (contents p ps) settled)
-        ∙ grouped p ps values (says test) column within
+        ∙ said_by_sources (says test)
+
+    -- A figure of those of its samples whose labels say something.
+    pub labelled_figure_said : (who : List LabelText → Bool) (test : List Written → Bool)
+        → sum_where test (weighed (seen_samples all f config (Some column) (filter (λ s. who (map (label_text (text_of all)) s.label)) all.sample)))
+        ≡ total adding_ℤ (λ q. total adding_ℤ (λ s. cond (who (told_in p ps q s).labels && says test (told_in p ps q s)) (value_in s column) (pos 0)) q.sample) (p ∷ ps)
+    labelled_figure_said who test =
+        let is_one : Sample → Bool = λ s. who (map (label_text (text_of all)) s.label) in
+        let adds : Sample → ℤ = λ s. option_map_or (part test) (seen all f config (Some column) s) (pos 0) in
+        sum_seen test (seen all f config (Some column)) (filter is_one all.sample)
+        ∙ sum_total adds (filter is_one all.sample)
+        ∙ total_passing adds is_one all.sample
+        ∙ sym (sum_total (λ s. cond (is_one s) (adds s) (pos 0)) all.sample)
+        ∙ sum_each (λ s. cond (is_one s) (adds s) (pos 0)) (λ s. cond (is_one s && says test (told_in all [] all s)) (value_in s column) (pos 0)) all.sample
+        (all_by Fine _ (λ s fine. ap (λ v. cond (is_one s) v (pos 0)) (each_says test s fine) ∙ both_hold (is_one s) (says test (told_in all [] all s)) (value_in s column)) all.sample each_fine)
+        ∙ said_by_sources (λ t. who t.labels && says test t)
 
   -- Each source says in the merge of all what it says alone.
   module _ (p : Profile) (ps : List Profile) (q : Profile) (keeps : KeepsMappings config.grain (p ∷ ps) q) where
@@ -187,7 +213,7 @@ module _ (f : Finders) (config : Config) (column : ℕ) (divisor : config.divide
     same_said : (test : List Written → Bool) (s : Sample) → cond (says test (told_in p ps q s)) (value_in s column) (pos 0) ≡ cond (says test (told_in q [] q s)) (value_in s column) (pos 0)
     same_said test s = ap (λ xs. cond (tags_told f config (map (label_text (text_of q)) s.label) && passes f config test xs) (value_in s column) (pos 0)) (same_told config.grain q among alone same_starts same_files 0 s.location_id)
 
-    source_said : AllByRecursion (λ m. m.start < 2 ^ 64) q.mapping → length q.sample_type ≡ length p.sample_type → HasValues (length p.sample_type) q → column < length p.sample_type
+    pub source_said : AllByRecursion (λ m. m.start < 2 ^ 64) q.mapping → length q.sample_type ≡ length p.sample_type → HasValues (length p.sample_type) q → column < length p.sample_type
         → (test : List Written → Bool) → sum_of_sources test p ps q ≡ sum_where test (report_samples (merged q []) f config (Some column))
     source_said starts types values within test =
         let own : AllByRecursion (λ m. m.start < 2 ^ 64) (all_mappings (q ∷ [])) =
@@ -196,13 +222,16 @@ module _ (f : Finders) (config : Config) (column : ℕ) (divisor : config.divide
         (all_any _ (same_said test) q.sample)
         ∙ sym (figure_said q [] own (subst (λ n. HasValues n q) (sym types) values, tt) (subst (λ n. column < n) (sym types) within) test ∙ +ℤ_idr (sum_of_sources test q [] q))
 
+  -- the mappings of sources that add up start where they can be told
+  pub starts_of : (p : Profile) (ps : List Profile) → AddUp p ps config column → AllByRecursion (λ m. m.start < 2 ^ 64) (all_mappings (p ∷ ps))
+  starts_of p ps can =
+      all_flat (λ m. m.start < 2 ^ 64) (λ r. map (mapping_text r) r.mapping) (p ∷ ps)
+      (all_by _ _ (λ r own. all_mapped (λ m. m.start < 2 ^ 64) (mapping_text r) r.mapping own) (p ∷ ps) can.starts)
+
   pub shards_add_up : (p : Profile) (ps : List Profile) → AddUp p ps config column → (test : List Written → Bool)
       → sum_where test (report_samples (merged p ps) f config (Some column)) ≡ over_sources (λ q. sum_where test (report_samples q f config (Some column))) (p ∷ ps)
   shards_add_up p ps can test =
-      let starts : AllByRecursion (λ m. m.start < 2 ^ 64) (all_mappings (p ∷ ps)) =
-      all_flat (λ m. m.start < 2 ^ 64) (λ r. map (mapping_text r) r.mapping) (p ∷ ps)
-      (all_by _ _ (λ r own. all_mapped (λ m. m.start < 2 ^ 64) (mapping_text r) r.mapping own) (p ∷ ps) can.starts) in
-      figure_said p ps starts can.values can.within test
+      figure_said p ps (starts_of p ps can) can.values can.within test
       ∙ sym (sum_total (sum_of_sources test p ps) (p ∷ ps))
       ∙ sum_each (sum_of_sources test p ps) (λ q. sum_where test (report_samples (merged q []) f config (Some column))) (p ∷ ps)
       (all_by (λ q. (KeepsMappings config.grain (p ∷ ps) q) × ((AllByRecursion (λ m. m.start < 2 ^ 64) q.mapping) × ((length q.sample_type ≡ length p.sample_type) × (HasValues (length p.sample_type) q)))) _

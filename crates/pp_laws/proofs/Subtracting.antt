@@ -16,15 +16,16 @@ use Rattle.pp_model.specs.FrameTexts.{Written}
 use Rattle.pp_model.specs.Sizes.{value_in}
 use Rattle.pp_grain.specs.Keys.{key_cmp}
 use Rattle.pp_model.specs.FirstSight.{distinct}
-use Rattle.pp_merge.specs.Described.{SampleText, location_found, mapping_text, sample_text}
-use Rattle.pp_merge.specs.Alike.{same_sample, first_alike}
+use Rattle.pp_share.specs.Described.{SampleText, location_found, mapping_text, sample_text}
+use Rattle.pp_share.specs.Alike.{same_sample, first_alike}
 use Rattle.pp_merge.specs.Merge.{all_mappings, all_samples, contents, merged}
 use Rattle.pp_merge.specs.Scale.{negated, negated_sample}
-use Rattle.pp_merge.specs.Sums.{counts, keys_of, rows_of, sum_of}
-use Rattle.pp_merge.specs.Written.{written_sample}
-use Rattle.pp_merge.proofs.NumberedLemmas.{all_by, all_mapped}
+use Rattle.pp_share.specs.Sums.{counts, keys_of, rows_of, sum_of}
+use Rattle.pp_share.specs.Written.{written_sample}
+use Rattle.pp_share.proofs.NumberedLemmas.{all_by, all_mapped}
+use Rattle.pp_merge.proofs.MergedTotals.{at_total}
 use Rattle.pp_merge.proofs.SettledLemmas.{all_any, all_flat}
-use Rattle.pp_merge.proofs.SumLemmas.{length-total_of}
+use Rattle.pp_share.proofs.SumLemmas.{length-total_of}
 use Rattle.pp_merge.proofs.TotalLemmas.{total, total-append, total-map, total_same, adding_ℤ}
 use Rattle.pp_count.specs.Sums.{weighed, sum_where, has, leads}
 use Rattle.pp_count.specs.EdgeSums.{has_edge}
@@ -34,7 +35,7 @@ use Rattle.pp_laws.specs.Merged.{HasValues, AddUp}
 use Rattle.pp_laws.specs.Bases.{less_base, BasesSubtract, NothingIsLeft}
 use Rattle.pp_laws.proofs.IntSums.{sum_negated}
 use Rattle.pp_laws.proofs.Multiplying.{value_negated, if_negated}
-use Rattle.pp_laws.proofs.Grouped.{at_total, rows_wide, told_in, total_passing}
+use Rattle.pp_laws.proofs.Grouped.{rows_wide, told_in, total_passing}
 use Rattle.pp_laws.proofs.Shards.{sum_total, says, sum_of_sources, figure_said, shards_add_up}
 
 -- the negative of a sum

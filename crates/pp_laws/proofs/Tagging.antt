@@ -20,7 +20,7 @@ use Rattle.pp_units.specs.Ranges.{in_range}
 use Rattle.pp_tags.specs.declared.tag_filter.TagFilter.{TagFilter}
 use Rattle.pp_tags.specs.Labels.{has_text, key_value, unit_or, number_unit}
 use Rattle.pp_tags.specs.TagFilters.{is_named, selects_range, selects_some, selects_parts, selects_or, filter_in_force}
-use Rattle.pp_merge.specs.Described.{LabelText, label_text}
+use Rattle.pp_share.specs.Described.{LabelText, label_text}
 use Rattle.pp_count.specs.Seeing.{passes_tags}
 
 -- the label has a text

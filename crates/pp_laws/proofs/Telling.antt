@@ -20,7 +20,7 @@ use Rattle.pp_model.specs.FrameTexts.{Written, written, name_number, file_number
 use Rattle.pp_model.specs.Rules.{AreNumbered, location_ids}
 use Rattle.pp_model.proofs.CompactLemmas.{find_numbered, place_within, one_le_id}
 use Rattle.pp_model.proofs.FrameLemmas.{written_found}
-use Rattle.pp_merge.specs.Described.{FunctionText, MappingText, LineText, LocationText, function_text, mapping_text, line_text, function_found, mapping_found, location_text, location_found, nowhere, less, plus, start_of}
+use Rattle.pp_share.specs.Described.{FunctionText, MappingText, LineText, LocationText, function_text, mapping_text, line_text, function_found, mapping_found, location_text, location_found, nowhere, less, plus, start_of}
 use Rattle.pp_merge.proofs.SettledLemmas.{found_holds}
 use Rattle.pp_count.specs.Seeing.{counted_frames}
 

@@ -10,7 +10,7 @@ use Rattle.pp_count.specs.declared.counted.Counted.{Counted}
 use Rattle.pp_count.specs.Sums.{flat, sum_where}
 use Rattle.pp_count.specs.Seeing.{HoldsFilters, seen_samples}
 use Rattle.pp_count.specs.Counted.{IsCountedOf, report_samples}
-use Rattle.pp_graph.specs.Trim.{report_keys}
+use Rattle.pp_graph.specs.Trim.{report_keys, all_report_keys}
 use Rattle.pp_graph.specs.Trimmed.{int_sum}
 use Rattle.pp_laws.specs.Figures.{has_frames}
 
@@ -28,4 +28,11 @@ RowsAddUp =
     (p : Profile) (f : Finders) (config : Config) (column : Option ℕ)
     → config.nodefraction.billionths ≡ 0
     → int_sum (map (flat key_cmp (report_samples p f config column)) (report_keys p f config column 0))
+    ≡ sum_where has_frames (seen_samples p f config column p.sample)
+
+-- And those of all keys that occur, however light: the rows of a table report without a limit.
+abbrev pub AllKeysAddUp : Type 0
+AllKeysAddUp =
+    (p : Profile) (f : Finders) (config : Config) (column : Option ℕ)
+    → int_sum (map (flat key_cmp (report_samples p f config column)) (all_report_keys p f config column))
     ≡ sum_where has_frames (seen_samples p f config column p.sample)

@@ -8,3 +8,4 @@ pub mod Units
 pub mod Scales
 pub mod Merged
 pub mod Bases
+pub mod Compared

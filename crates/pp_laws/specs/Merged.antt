@@ -8,8 +8,8 @@ use Rattle.pp_model.specs.declared.profile.Profile.{Profile}
 use Rattle.pp_model.specs.Finders.{Finders}
 use Rattle.pp_model.specs.FrameTexts.{Written}
 use Rattle.pp_grain.specs.Keys.{key_cmp}
-use Rattle.pp_merge.specs.Described.{MappingText, mapping_text}
-use Rattle.pp_merge.specs.Alike.{first_alike}
+use Rattle.pp_share.specs.Described.{MappingText, mapping_text}
+use Rattle.pp_share.specs.Alike.{first_alike}
 use Rattle.pp_merge.specs.Merge.{all_mappings, merged}
 use Rattle.pp_count.specs.Sums.{flat, cum}
 use Rattle.pp_count.specs.EdgeSums.{edge_sum}

@@ -6,6 +6,7 @@
 
 mod bases;
 mod bounds;
+mod compared;
 mod flats;
 mod merged;
 mod order;
@@ -18,6 +19,7 @@ pub use bases::differences_are_differences;
 pub use bounds::{
     edges_are_within, figures_are_within, percentages_are_within, shared_keys_are_whole,
 };
+pub use compared::comparisons_show_both_sides;
 pub use flats::nothing_is_lost;
 pub use merged::merged_reports_are_sums;
 pub use order::order_of_samples_is_free;

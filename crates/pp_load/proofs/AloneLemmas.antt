@@ -8,7 +8,8 @@ use Rattle.pp_desk.specs.declared.file_content.FileContent.{FileContent}
 use Rattle.pp_desk.specs.declared.file_content.FileContent.TheVariants as contents
 use Rattle.pp_desk.specs.declared.input_line.InputLine.{InputLine}
 use Rattle.pp_desk.specs.Asking as asking
-use Rattle.pp_desk.specs.Course.{Course, course}
+use Rattle.pp_desk.specs.Course.{Course, course, does}
+use Rattle.pp_desk.specs.Effects.{FromFile}
 use Rattle.pp_desk.specs.Script as scripts
 use Rattle.pp_desk.specs.Script.{Give}
 use Rattle.pp_desk.specs.Went.{content_within}
@@ -113,11 +114,11 @@ module _ (finds : Finds) (path bytes : List ℕ) (p : Profile) (normalize : Bool
       ∙ none_judged finds p settled
 
   one_loaded : (files : FileMap) (locked : List (List ℕ)) (lines : List InputLine) (answers : List Answer) → content_at files path ≡ Some bytes
-      → course (loading finds (Path path ∷ []) [] None normalize) files locked lines answers ≡ record { effects = []; value = Ok (loaded_of p None None); asked = [] }
+      → course (loading finds (Path path ∷ []) [] None normalize) files locked lines answers ≡ record { effects = FromFile path ∷ []; value = Ok (loaded_of p None None); asked = [] }
   unfolding loading read_all read_next read_bytes read_path asking.◌>>=◌ scripts.◌>>=◌
   one_loaded files locked lines answers there =
-      ap (λ content. course (after_content finds normalize content) files locked lines answers) (whole_read (content_at files path) bytes there short)
-      ∙ ap (λ script. course script files locked lines answers) one_given
+      ap (λ content. does (FromFile path) (course (after_content finds normalize content) files locked lines answers)) (whole_read (content_at files path) bytes there short)
+      ∙ ap (λ script. does (FromFile path) (course script files locked lines answers)) one_given
 
 pub settled_files_load : SettledFilesLoad
 settled_files_load finds plan path bytes p files locked lines answers has there short is settled =

@@ -11,15 +11,15 @@ use Rattle.pp_model.specs.declared.profile.Sample.{Sample}
 use Rattle.pp_model.specs.declared.profile.Profile.{Profile}
 use Rattle.pp_model.specs.Rules.{NoRuleFails}
 use Rattle.pp_model.specs.Sizes.{IsCountable, absolute_sum, value_in}
-use Rattle.pp_merge.specs.Header.{type_text}
+use Rattle.pp_share.specs.Header.{type_text}
 use Rattle.pp_merge.specs.Merge.{too_large, merged}
 use Rattle.pp_merge.specs.Scale.{scaled_value, normalized_value, normalized_values, normalized_sample, normalized}
-use Rattle.pp_merge.proofs.IdLemmas.{place_missed}
+use Rattle.pp_share.proofs.IdLemmas.{place_missed}
 use Rattle.pp_merge.proofs.MergedLengths.{no_longer}
 use Rattle.pp_merge.proofs.MergedTotals.{absolutes_within}
 use Rattle.pp_merge.proofs.NormalizingLemmas.{wide_samples}
-use Rattle.pp_merge.proofs.NumberedLemmas.{all_by, all_both}
-use Rattle.pp_merge.proofs.SampleKeyLemmas.{sum_by-map}
+use Rattle.pp_share.proofs.NumberedLemmas.{all_by, all_both}
+use Rattle.pp_share.proofs.SampleKeyLemmas.{sum_by-map}
 use Rattle.pp_load.specs.Joining.{kinds, AreOf, AreFew, IsOneOf}
 use Rattle.pp_load.proofs.KindLemmas.{merged_kinds}
 use Rattle.pp_load.proofs.StartLemmas.{merged_alone, merged_starts}

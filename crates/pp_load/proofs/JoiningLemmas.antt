@@ -14,7 +14,7 @@ use Rattle.pp_merge.specs.declared.refusal.MergeRefusal.TheVariants as merge
 use Rattle.pp_merge.specs.Merge.{difference, too_large, merged, Merges}
 use Rattle.pp_merge.specs.Scale.{negated, normalized, normalized_sample}
 use Rattle.pp_merge.proofs.NegatedLemmas.{negated_agrees, negated_length, negated_valid}
-use Rattle.pp_merge.proofs.NumberedLemmas.{all_by}
+use Rattle.pp_share.proofs.NumberedLemmas.{all_by}
 use Rattle.pp_desk.specs.declared.halt.Halt.{Halt}
 use Rattle.pp_load.specs.declared.refusal.LoadRefusal.{LoadRefusal}
 use Rattle.pp_load.specs.declared.refusal.LoadRefusal.TheVariants as refusals

@@ -9,7 +9,7 @@ use Rattle.pp_model.specs.declared.profile.Sample.{Sample}
 use Rattle.pp_model.specs.declared.profile.Profile.{Profile}
 use Rattle.pp_model.specs.Rules.{NoRuleFails, label_has_texts, stands_in, zero_unless}
 use Rattle.pp_merge.specs.Merge.{merged, Merges}
-use Rattle.pp_merge.proofs.NumberedLemmas.{nowhere}
+use Rattle.pp_share.proofs.NumberedLemmas.{nowhere}
 use Rattle.pp_load.specs.Generator.{made, made_sample, made_location, ids_down}
 use Rattle.pp_load.specs.Joining.{samples_of}
 

@@ -26,10 +26,10 @@ use Rattle.pp_tables.specs.declared.refusal.ReadRefusal.{ReadRefusal}
 use Rattle.pp_tables.specs.declared.refusal.ReadRefusal.TheVariants as reading
 use Rattle.pp_tables.specs.Read.{read}
 use Rattle.pp_tables.proofs.Ranges.{read_fits}
-use Rattle.pp_merge.specs.Described.{mapping_text}
+use Rattle.pp_share.specs.Described.{mapping_text}
 use Rattle.pp_merge.specs.Merge.{all_mappings, contents, merged}
-use Rattle.pp_merge.specs.Written.{written, written_mapping, mappings}
-use Rattle.pp_merge.proofs.NumberedLemmas.{all_by, all_mapped}
+use Rattle.pp_share.specs.Written.{written, written_mapping, mappings}
+use Rattle.pp_share.proofs.NumberedLemmas.{all_by, all_mapped}
 use Rattle.pp_merge.proofs.SettledLemmas.{all_any, all_flat, all_some, settled_contents}
 use Rattle.pp_merge.proofs.WrittenAgain.{contents_again}
 use Rattle.pp_load.specs.Steps.{◌>>=◌, Gives}

@@ -4,6 +4,7 @@ use Rattle.pp_base.specs.FileMap.{FileMap, content_at}
 use Rattle.pp_base.specs.Judges.{Answer}
 use Rattle.pp_desk.specs.declared.input_line.InputLine.{InputLine}
 use Rattle.pp_desk.specs.Course.{course}
+use Rattle.pp_desk.specs.Effects.{FromFile}
 use Rattle.pp_model.specs.declared.profile.Profile.{Profile}
 use Rattle.pp_model.specs.Judged.{loaded_of}
 use Rattle.pp_model.specs.Lookup.{text_of}
@@ -27,7 +28,7 @@ pub record HasOneFile (plan : Plan) (path : List ℕ) : Type 0 where
   pub bases : plan.bases ≡ []
 
 -- Such a profile loads as it is and without verdicts of patterns, where the file's bytes are that profile and no more
--- than a file may have. Nothing is written, and no pattern is asked.
+-- than a file may have. The file is read once, nothing is written, and no pattern is asked.
 abbrev pub SettledFilesLoad : Type 0
 SettledFilesLoad =
     (finds : Finds) (plan : Plan) (path bytes : List ℕ) (p : Profile)
@@ -35,4 +36,4 @@ SettledFilesLoad =
     → HasOneFile plan path → content_at files path ≡ Some bytes → length bytes ≤ size_limit
     → decoded 0 bytes ≡ Ok p → IsSettled p
     → course (load finds plan) files locked lines answers
-    ≡ record { effects = []; value = Ok (loaded_of p None None); asked = [] }
+    ≡ record { effects = FromFile path ∷ []; value = Ok (loaded_of p None None); asked = [] }

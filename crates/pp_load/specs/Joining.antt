@@ -6,7 +6,7 @@ use Rattle.pp_model.specs.Rules.{NoRuleFails}
 use Rattle.pp_model.specs.Sizes.{IsCountable}
 use Rattle.pp_merge.specs.declared.refusal.MergeRefusal.{MergeRefusal}
 use Rattle.pp_merge.specs.declared.refusal.MergeRefusal.TheVariants as merging
-use Rattle.pp_merge.specs.Header.{TypeText, type_text}
+use Rattle.pp_share.specs.Header.{TypeText, type_text}
 use Rattle.pp_merge.specs.Merge.{merged}
 use Rattle.pp_desk.specs.declared.halt.Halt.{Halt}
 use Rattle.pp_desk.specs.declared.halt.Halt.TheVariants as halts

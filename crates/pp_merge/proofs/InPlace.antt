@@ -18,15 +18,15 @@ use Rattle.pp_model.specs.Lookup.{text_number}
 use Rattle.pp_model.specs.Rules.{NoRuleFails, AreNumbered, is_text, is_zero_or_in, stands_in, first_failing, zero_unless, header_texts, type_has_texts, label_has_texts, mapping_has_texts, function_has_texts, location_refers, mapping_ids, function_ids, location_ids}
 use Rattle.pp_model.proofs.CompactLemmas.{place_of, id_at}
 use Rattle.pp_model.proofs.RuleLemmas.{passes, contains_from, text_below, text_is}
-use Rattle.pp_merge.specs.Behind.{behind_id}
-use Rattle.pp_merge.specs.Ids.{place_id, index_of_id}
-use Rattle.pp_merge.specs.Renumbered.{NewIds, renumbered_type, renumbered_label, renumbered_line, renumbered_function, renumbered_mapping, renumbered_location, renumbered_sample, with_header}
+use Rattle.pp_share.specs.Behind.{behind_id}
+use Rattle.pp_share.specs.Ids.{place_id, index_of_id}
+use Rattle.pp_share.specs.Renumbered.{NewIds, renumbered_type, renumbered_label, renumbered_line, renumbered_function, renumbered_mapping, renumbered_location, renumbered_sample, with_header}
 use Rattle.pp_merge.specs.Joined.{IsInPlace, behind_ids, moved_behind, no_sizes}
-use Rattle.pp_merge.proofs.JoinLemmas.{behind_in, behind_none}
-use Rattle.pp_merge.proofs.KnownIds.{numbered_same}
-use Rattle.pp_merge.proofs.Lists.{map_as}
-use Rattle.pp_merge.proofs.Prefix.{by_recursion, map_same}
-use Rattle.pp_merge.proofs.EntryLemmas.{index_next}
+use Rattle.pp_share.proofs.JoinLemmas.{behind_in, behind_none}
+use Rattle.pp_share.proofs.KnownIds.{numbered_same}
+use Rattle.pp_share.proofs.Lists.{map_as}
+use Rattle.pp_share.proofs.Prefix.{by_recursion, map_same}
+use Rattle.pp_share.proofs.EntryLemmas.{index_next}
 
 -- a list stays where each item does
 stay : {A : Type 0} (f : A → A) (P : A → Type 0) → ((a : A) → P a → f a ≡ a) → (xs : List A) → All P xs → map f xs ≡ xs

@@ -16,23 +16,23 @@ use Rattle.pp_model.specs.declared.profile.Function.{Function}
 use Rattle.pp_model.specs.declared.profile.Profile.{Profile}
 use Rattle.pp_model.specs.Lookup.{text_number, text_of}
 use Rattle.pp_merge.specs.declared.join.Sizes.{Sizes}
-use Rattle.pp_merge.specs.Behind.{behind_id}
-use Rattle.pp_merge.specs.Ids.{index_of_id}
+use Rattle.pp_share.specs.Behind.{behind_id}
+use Rattle.pp_share.specs.Ids.{index_of_id}
 use Rattle.pp_model.specs.FirstSight.{distinct}
-use Rattle.pp_merge.specs.Described.{mapping_text, sample_text, samples_found}
-use Rattle.pp_merge.specs.Alike.{first_alike}
-use Rattle.pp_merge.specs.Header.{header_of, type_text, first_nonempty, greater, earlier}
+use Rattle.pp_share.specs.Described.{mapping_text, sample_text, samples_found}
+use Rattle.pp_share.specs.Alike.{first_alike}
+use Rattle.pp_share.specs.Header.{header_of, type_text, first_nonempty, greater, earlier}
 use Rattle.pp_merge.specs.Merge.{all_mappings, all_samples}
-use Rattle.pp_merge.specs.Written.{Contents}
-use Rattle.pp_merge.specs.Placed.{mappings_of, location_placed, samples_placed, gist}
-use Rattle.pp_merge.specs.Renumbered.{renumbered_sample, renumbered_type}
+use Rattle.pp_share.specs.Written.{Contents}
+use Rattle.pp_share.specs.Placed.{mappings_of, location_placed, samples_placed, gist}
+use Rattle.pp_share.specs.Renumbered.{renumbered_sample, renumbered_type}
 use Rattle.pp_merge.specs.Joined.{behind_ids, moved_behind, sizes_of, no_sizes, first_text, chained, joined_next}
 use Rattle.pp_merge.specs.Merging.{join_from}
-use Rattle.pp_merge.proofs.Renaming.{maps_agree, same_type_text}
-use Rattle.pp_merge.proofs.JoinLemmas.{get_or-front, behind_in, behind_past}
+use Rattle.pp_share.proofs.Renaming.{maps_agree, same_type_text}
+use Rattle.pp_share.proofs.JoinLemmas.{get_or-front, behind_in, behind_past}
 use Rattle.pp_merge.proofs.JoinedTables.{HasIds, Holds, words, own_samples, own_mappings}
-use Rattle.pp_merge.proofs.EntryLemmas.{index_next}
-use Rattle.pp_merge.proofs.ShareLemmas.{rows}
+use Rattle.pp_share.proofs.EntryLemmas.{index_next}
+use Rattle.pp_share.proofs.ShareLemmas.{rows}
 
 pub joined_is : (a : Profile) (qs : List Profile) → fold (λ j p. Some (joined_next j p)) (Some a) qs ≡ Some (join_from a qs)
 joined_is a [] = refl

@@ -9,15 +9,15 @@ use Rattle.pp_model.specs.declared.profile.Function.{Function}
 use Rattle.pp_model.specs.declared.profile.Profile.{Profile}
 use Rattle.pp_model.specs.Lookup.{text_number, text_of, place_read, location_with}
 use Rattle.pp_merge.specs.declared.join.Sizes.{Sizes}
-use Rattle.pp_merge.specs.Behind.{behind_id}
-use Rattle.pp_merge.specs.Ids.{place_id, index_of_id}
-use Rattle.pp_merge.specs.Described.{MappingText, LocationText, function_text, mapping_text, location_text, sample_text, nowhere, function_found, mapping_found, location_found, samples_found}
-use Rattle.pp_merge.specs.Placed.{functions_of, mappings_of, function_placed, mapping_placed, locations_of, location_placed}
-use Rattle.pp_merge.specs.Renumbered.{NewIds, renumbered_sample, renumbered_function, renumbered_mapping, renumbered_location}
+use Rattle.pp_share.specs.Behind.{behind_id}
+use Rattle.pp_share.specs.Ids.{place_id, index_of_id}
+use Rattle.pp_share.specs.Described.{MappingText, LocationText, function_text, mapping_text, location_text, sample_text, nowhere, function_found, mapping_found, location_found, samples_found}
+use Rattle.pp_share.specs.Placed.{functions_of, mappings_of, function_placed, mapping_placed, locations_of, location_placed}
+use Rattle.pp_share.specs.Renumbered.{NewIds, renumbered_sample, renumbered_function, renumbered_mapping, renumbered_location}
 use Rattle.pp_merge.specs.Joined.{behind_ids}
-use Rattle.pp_merge.proofs.EntryLemmas.{index_next}
-use Rattle.pp_merge.proofs.Renaming.{maps_agree, same_function_text, same_mapping_text, same_location_text, same_sample_text}
-use Rattle.pp_merge.proofs.JoinLemmas.{NoneZero, found_behind, get_or-behind, behind_in, behind_past}
+use Rattle.pp_share.proofs.EntryLemmas.{index_next}
+use Rattle.pp_share.proofs.Renaming.{maps_agree, same_function_text, same_mapping_text, same_location_text, same_sample_text}
+use Rattle.pp_share.proofs.JoinLemmas.{NoneZero, found_behind, get_or-behind, behind_in, behind_past}
 
 -- no table of the profile has an entry with the id 0
 pub record HasIds (q : Profile) : Type 0 where

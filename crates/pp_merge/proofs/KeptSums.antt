@@ -6,12 +6,12 @@ use Rattle.std.specs.List.{AllByRecursion}
 use Rattle.std.proofs.lemmas.Bool.{not-false}
 use Rattle.std.proofs.Math.IntN.{+ℤ_idl}
 use Rattle.pp_model.specs.FirstSight.{distinct}
-use Rattle.pp_merge.specs.Sums.{counts, keys_of, rows_of, summed, sum_of}
+use Rattle.pp_share.specs.Sums.{counts, keys_of, rows_of, summed, sum_of}
 use Rattle.pp_merge.specs.Totals.{value_passing, sum_passing}
-use Rattle.pp_merge.proofs.DistinctLemmas.{deciding_laws}
+use Rattle.pp_share.proofs.DistinctLemmas.{deciding_laws}
 use Rattle.pp_model.proofs.FirstSightLemmas.{IsSeen, all_seen, distinct_apart}
 use Rattle.pp_merge.proofs.MergedTotals.{zero_at, at_total}
-use Rattle.pp_merge.proofs.NumberedLemmas.{all_mapped}
+use Rattle.pp_share.proofs.NumberedLemmas.{all_mapped}
 use Rattle.pp_merge.proofs.SettledLemmas.{all_filtered, all_unmapped, all_any}
 use Rattle.pp_merge.proofs.TotalLemmas.{total, total-map, total-filter, total_same, parted, adding_ℤ}
 

@@ -23,29 +23,29 @@ use Rattle.pp_merge.specs.declared.refusal.What.TheVariants.{SampleTypes, Period
 use Rattle.pp_merge.specs.declared.refusal.MergeRefusal.{MergeRefusal}
 use Rattle.pp_merge.specs.declared.refusal.MergeRefusal.TheVariants.{Incompatible, TotalTooLarge, Memory}
 use Rattle.pp_merge.specs.declared.join.Sizes.{Sizes}
-use Rattle.pp_merge.specs.Behind.{behind_id}
-use Rattle.pp_merge.specs.Ids.{place_id}
-use Rattle.pp_merge.specs.Header.{type_text}
-use Rattle.pp_merge.specs.Alike.{same_sample}
-use Rattle.pp_merge.specs.Sums.{counts, keys_of, sum_of, rows_of, summed}
+use Rattle.pp_share.specs.Behind.{behind_id}
+use Rattle.pp_share.specs.Ids.{place_id}
+use Rattle.pp_share.specs.Header.{type_text}
+use Rattle.pp_share.specs.Alike.{same_sample}
+use Rattle.pp_share.specs.Sums.{counts, keys_of, sum_of, rows_of, summed}
 use Rattle.pp_model.specs.FirstSight.{distinct}
-use Rattle.pp_merge.specs.Described.{SampleText}
+use Rattle.pp_share.specs.Described.{SampleText}
 use Rattle.pp_merge.specs.Merge.{same_type, has_types_of, has_period_type_of, difference, disagreeing, too_large, all_samples, contents, merged, Merges}
-use Rattle.pp_merge.specs.Written.{FitsTypes, written}
-use Rattle.pp_merge.specs.Placed.{gist, totalled}
-use Rattle.pp_merge.specs.Renumbered.{renumbered_sample, renumbered_location}
-use Rattle.pp_merge.specs.Share.{NamesLocations, IsJoined}
+use Rattle.pp_share.specs.Written.{FitsTypes, written}
+use Rattle.pp_share.specs.Placed.{gist, totalled}
+use Rattle.pp_share.specs.Renumbered.{renumbered_sample, renumbered_location}
+use Rattle.pp_share.specs.Share.{NamesLocations, IsJoined}
 use Rattle.pp_merge.specs.Joined.{behind_ids, moved_behind, sizes_of, no_sizes, chained, joined, HasFewTexts}
 use Rattle.pp_merge.specs.Merging.{CanMerge, Admits, join_from, IsWhole, IsMerged}
-use Rattle.pp_merge.proofs.Prefix.{by_recursion, all_tt}
-use Rattle.pp_merge.proofs.IdLemmas.{place_missed}
-use Rattle.pp_merge.proofs.Lists.{all_mapped, all_both, all_filter}
-use Rattle.pp_merge.proofs.SumLemmas.{length-total_of}
-use Rattle.pp_merge.proofs.SampleKeyLemmas.{all_of_map, sum_by-map}
-use Rattle.pp_merge.proofs.JoinLemmas.{behind_in}
+use Rattle.pp_share.proofs.Prefix.{by_recursion, all_tt}
+use Rattle.pp_share.proofs.IdLemmas.{place_missed}
+use Rattle.pp_share.proofs.Lists.{all_mapped, all_both, all_filter}
+use Rattle.pp_share.proofs.SumLemmas.{length-total_of}
+use Rattle.pp_share.proofs.SampleKeyLemmas.{all_of_map, sum_by-map}
+use Rattle.pp_share.proofs.JoinLemmas.{behind_in}
 use Rattle.pp_merge.proofs.JoinedTables.{HasIds, Holds}
 use Rattle.pp_merge.proofs.JoinedAll.{joined_is, AllHaveIds, holds_next, holds_first, whole, whole_some, whole_empty, whole_gist, whole_duration, whole_rows, whole_types}
-use Rattle.pp_merge.proofs.ShareLemmas.{rows}
+use Rattle.pp_share.proofs.ShareLemmas.{rows}
 use Rattle.pp_merge.proofs.SettledLemmas.{no_column}
 use Rattle.pp_merge.proofs.WrittenValid.{valid_written}
 use Rattle.pp_merge.proofs.WrittenCompact.{compact_written}

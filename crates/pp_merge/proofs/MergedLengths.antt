@@ -21,19 +21,19 @@ use Rattle.pp_model.specs.Lookup.{text_of, location_with}
 use Rattle.pp_model.specs.Rules.{NoRuleFails, begins_empty, zero_unless, is_text, header_texts, type_has_texts, label_has_texts, mapping_has_texts, function_has_texts, stands_in, location_ids}
 use Rattle.pp_model.proofs.RuleLemmas.{passes}
 use Rattle.pp_model.specs.FirstSight.{distinct}
-use Rattle.pp_merge.specs.Described.{FunctionText, MappingText, LocationText, LabelText, SampleText, function_text, mapping_text, function_found, mapping_found, line_text, label_text, location_text, location_found, sample_text, samples_found, nowhere}
-use Rattle.pp_merge.specs.Alike.{same_function, same_mapping, equal_mapping, same_location, same_sample, first_alike}
-use Rattle.pp_merge.specs.Header.{type_text, first_nonempty}
+use Rattle.pp_share.specs.Described.{FunctionText, MappingText, LocationText, LabelText, SampleText, function_text, mapping_text, function_found, mapping_found, line_text, label_text, location_text, location_found, sample_text, samples_found, nowhere}
+use Rattle.pp_share.specs.Alike.{same_function, same_mapping, equal_mapping, same_location, same_sample, first_alike}
+use Rattle.pp_share.specs.Header.{type_text, first_nonempty}
 use Rattle.pp_merge.specs.Lengths.{IsNoLonger}
 use Rattle.pp_merge.specs.Merge.{all_mappings, all_samples, contents, merged}
-use Rattle.pp_merge.specs.Sums.{counts, keys_of, summed, sum_of}
-use Rattle.pp_merge.specs.Written.{locations, mappings, functions, walked_texts, type_texts, label_texts, written_type, written_sample, written_mapping, written_location, written_function, index_of}
-use Rattle.pp_merge.proofs.Deciding.{function_decides, mapping_decides, location_decides, sample_decides}
+use Rattle.pp_share.specs.Sums.{counts, keys_of, summed, sum_of}
+use Rattle.pp_share.specs.Written.{locations, mappings, functions, walked_texts, type_texts, label_texts, written_type, written_sample, written_mapping, written_location, written_function, index_of}
+use Rattle.pp_share.proofs.Deciding.{function_decides, mapping_decides, location_decides, sample_decides}
 use Rattle.pp_model.proofs.FirstSightLemmas.{IsSeen, length-distinct}
-use Rattle.pp_merge.proofs.DistinctLemmas.{deciding_laws}
+use Rattle.pp_share.proofs.DistinctLemmas.{deciding_laws}
 use Rattle.pp_merge.proofs.LengthLemmas.{self_seen, distinct_within, parts_seen}
-use Rattle.pp_merge.proofs.MergedMapping.{IsFound}
-use Rattle.pp_merge.proofs.NumberedLemmas.{all_parts, all_by, all_both, all_mapped}
+use Rattle.pp_share.proofs.MergedMapping.{IsFound}
+use Rattle.pp_share.proofs.NumberedLemmas.{all_parts, all_by, all_both, all_mapped}
 use Rattle.pp_merge.proofs.SettledLemmas.{self_found, all_join, all_flat, all_any, all_distinct, all_some, all_filtered, all_unmapped, found_holds}
 use Rattle.pp_merge.proofs.WrittenAgain.{at_seen}
 use Rattle.pp_merge.proofs.WrittenCompact.{location_walk, mapping_walk, function_walk}

@@ -13,18 +13,18 @@ use Rattle.pp_model.specs.declared.profile.Profile.{Profile}
 use Rattle.pp_model.specs.Lookup.{text_of}
 use Rattle.pp_model.specs.Sizes.{value_in, absolute_sum}
 use Rattle.pp_model.specs.FirstSight.{distinct}
-use Rattle.pp_merge.specs.Described.{SampleText, location_found, sample_text, samples_found}
-use Rattle.pp_merge.specs.Alike.{same_sample, first_alike}
+use Rattle.pp_share.specs.Described.{SampleText, location_found, sample_text, samples_found}
+use Rattle.pp_share.specs.Alike.{same_sample, first_alike}
 use Rattle.pp_merge.specs.Merge.{all_mappings, all_samples, contents, merged}
-use Rattle.pp_merge.specs.Sums.{added, counts, keys_of, rows_of, summed, sum_of, total_of}
+use Rattle.pp_share.specs.Sums.{added, counts, keys_of, rows_of, summed, sum_of, total_of}
 use Rattle.pp_merge.specs.Totals.{value_sum, value_sums}
-use Rattle.pp_merge.specs.Written.{written_sample}
-use Rattle.pp_merge.proofs.Deciding.{sample_decides}
-use Rattle.pp_merge.proofs.DistinctLemmas.{deciding_laws}
+use Rattle.pp_share.specs.Written.{written_sample}
+use Rattle.pp_share.proofs.Deciding.{sample_decides}
+use Rattle.pp_share.proofs.DistinctLemmas.{deciding_laws}
 use Rattle.pp_model.proofs.FirstSightLemmas.{IsSeen, all_seen, distinct_apart}
-use Rattle.pp_merge.proofs.NumberedLemmas.{all_by, all_mapped}
+use Rattle.pp_share.proofs.NumberedLemmas.{all_by, all_mapped}
 use Rattle.pp_merge.proofs.SettledLemmas.{all_flat, all_filtered, all_unmapped, all_any}
-use Rattle.pp_merge.proofs.SumLemmas.{length-added, get_or-added, abs-total_of}
+use Rattle.pp_share.proofs.SumLemmas.{length-added, get_or-added, abs-total_of}
 use Rattle.pp_merge.proofs.TotalLemmas.{total, total-flat_map, total-map, total-filter, total_same, parted, adding_ℕ, adding_ℤ}
 
 -- a row of zeros
@@ -64,12 +64,13 @@ value_sums_is : (column : ℕ) (ps : List Profile) → value_sums column ps ≡ 
 value_sums_is column [] = refl
 value_sums_is column (p ∷ ps) = (λ j. value_sum_is column p.sample j +ℤ value_sums_is column ps j)
 
-sum_by_is : {X : Type 0} (f : X → ℕ) (xs : List X) → sum_by f xs ≡ total adding_ℕ f xs
+-- a sum of numbers as a total
+pub sum_by_is : {X : Type 0} (f : X → ℕ) (xs : List X) → sum_by f xs ≡ total adding_ℕ f xs
 sum_by_is f [] = refl
 sum_by_is f (x ∷ xs) = sum_by-cons f x xs ∙ ap (λ n. f x + n) (sum_by_is f xs)
 
 -- a sum of no greater numbers is no greater
-total_within : {X : Type 0} (f g : X → ℕ) → ((x : X) → f x ≤ g x) → (xs : List X) → total adding_ℕ f xs ≤ total adding_ℕ g xs
+pub total_within : {X : Type 0} (f g : X → ℕ) → ((x : X) → f x ≤ g x) → (xs : List X) → total adding_ℕ f xs ≤ total adding_ℕ g xs
 total_within f g each [] = omega arith
 total_within f g each (x ∷ xs) = omega (arith, each x, total_within f g each xs)
 

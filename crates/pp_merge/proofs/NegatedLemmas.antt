@@ -27,9 +27,9 @@ use Rattle.pp_merge.specs.Scale.{negated, negated_sample, negated_nearest, neare
 use Rattle.std.specs.Cmp.Lexicographic.{pointwise}
 use Rattle.pp_model.specs.Lookup.{text_of}
 use Rattle.pp_merge.specs.declared.refusal.What.TheVariants.{SampleTypes, PeriodType}
-use Rattle.pp_merge.specs.Header.{type_text}
+use Rattle.pp_share.specs.Header.{type_text}
 use Rattle.pp_merge.specs.Merge.{difference, same_type}
-use Rattle.pp_merge.proofs.NumberedLemmas.{all_by, all_mapped, all_pass, nowhere}
+use Rattle.pp_share.proofs.NumberedLemmas.{all_by, all_mapped, all_pass, nowhere}
 
 -- a test that passes for each item before a map passes after it
 module _ {A B : Type 0} (before : A → Bool) (after : B → Bool) (f : A → B) (step : (x : A) → before x ≡ true → after (f x) ≡ true) where

@@ -17,9 +17,9 @@ use Rattle.std.proofs.lemmas.Option.{none-some}
 use Rattle.pp_model.specs.Rules.{NoRuleFails}
 use Rattle.pp_model.proofs.RuleLemmas.{passes}
 use Rattle.pp_merge.specs.declared.refusal.What.TheVariants.{SampleTypes, PeriodType}
-use Rattle.pp_merge.specs.Header.{type_text}
+use Rattle.pp_share.specs.Header.{type_text}
 use Rattle.pp_merge.specs.Merge.{same_type, has_types_of, has_period_type_of, difference}
-use Rattle.pp_merge.proofs.Agreement.{map_map}
+use Rattle.pp_share.proofs.Agreement.{map_map}
 
 pub mapped : {A B : Type 0} (f g : A → B) → ((x : A) → f x ≡ g x) → (xs : List A) → map f xs ≡ map g xs
 mapped f g same [] = refl

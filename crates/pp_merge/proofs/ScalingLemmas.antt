@@ -10,7 +10,7 @@ use Rattle.pp_model.specs.declared.profile.Profile.{Profile}
 use Rattle.pp_model.specs.Sizes.{value_in, absolute_sum}
 use Rattle.pp_model.specs.Values.{no_sample, with_column, with_value}
 use Rattle.pp_merge.specs.Scale.{scaled_value, scaled_sample}
-use Rattle.pp_merge.proofs.ChangeLemmas.{changed_front, length-changed_front, change_next}
+use Rattle.pp_share.proofs.ChangeLemmas.{changed_front, length-changed_front, change_next}
 
 module _ {A : Type 0} (f : A → A) where
   -- an item behind the front is as it was

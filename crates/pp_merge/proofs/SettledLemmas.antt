@@ -17,19 +17,19 @@ use Rattle.pp_model.specs.declared.profile.Location.{Location}
 use Rattle.pp_model.specs.declared.profile.Profile.{Profile}
 use Rattle.pp_model.specs.Lookup.{text_of, location_with}
 use Rattle.pp_model.specs.FirstSight.{distinct}
-use Rattle.pp_merge.specs.Described.{MappingText, LocationText, SampleText, function_found, mapping_text, mapping_found, location_text, location_found, sample_text, samples_found, less, nowhere}
-use Rattle.pp_merge.specs.Alike.{same_mapping, equal_mapping, same_location, same_sample, first_alike}
-use Rattle.pp_merge.specs.Header.{type_text}
+use Rattle.pp_share.specs.Described.{MappingText, LocationText, SampleText, function_found, mapping_text, mapping_found, location_text, location_found, sample_text, samples_found, less, nowhere}
+use Rattle.pp_share.specs.Alike.{same_mapping, equal_mapping, same_location, same_sample, first_alike}
+use Rattle.pp_share.specs.Header.{type_text}
 use Rattle.pp_merge.specs.Merge.{all_mappings, all_samples, contents}
 use Rattle.pp_merge.specs.Settled.{IsSettled}
-use Rattle.pp_merge.specs.Sums.{counts, keys_of, rows_of, summed, sum_of}
-use Rattle.pp_merge.specs.Written.{locations, mappings}
+use Rattle.pp_share.specs.Sums.{counts, keys_of, rows_of, summed, sum_of}
+use Rattle.pp_share.specs.Written.{locations, mappings}
 use Rattle.pp_model.proofs.FirstSightLemmas.{all-seen_after, distinct_apart}
-use Rattle.pp_merge.proofs.Deciding.{mapping_decides, sample_decides}
-use Rattle.pp_merge.proofs.DistinctLemmas.{deciding_laws}
-use Rattle.pp_merge.proofs.MergedMapping.{mapping_laws, IsFound, find_congr, alike_tells}
-use Rattle.pp_merge.proofs.NumberedLemmas.{all_parts, all_by, all_both, all_mapped}
-use Rattle.pp_merge.proofs.SumLemmas.{length-total_of}
+use Rattle.pp_share.proofs.Deciding.{mapping_decides, sample_decides}
+use Rattle.pp_share.proofs.DistinctLemmas.{deciding_laws}
+use Rattle.pp_share.proofs.MergedMapping.{mapping_laws, IsFound, find_congr, alike_tells}
+use Rattle.pp_share.proofs.NumberedLemmas.{all_parts, all_by, all_both, all_mapped}
+use Rattle.pp_share.proofs.SumLemmas.{length-total_of}
 use Rattle.pp_merge.proofs.WrittenAgain.{map_back}
 use Rattle.pp_merge.proofs.WrittenCompact.{mapping_walk}
 
@@ -98,7 +98,7 @@ self_found xs = recursion_from_All (IsFound xs) xs (λ k d within. some_of (get_
         by false go is = go is
 
 -- a number modulo 2^64 is below it
-less_small : (a b : ℕ) → less a b < 2 ^ 64
+pub less_small : (a b : ℕ) → less a b < 2 ^ 64
 less_small a b = omega arith
 
 module _ (all : List MappingText) (starts : AllByRecursion (λ m. m.start < 2 ^ 64) all) where

@@ -15,20 +15,20 @@ use Rattle.pp_model.specs.Rules.{AreNumbered}
 use Rattle.pp_model.specs.Lookup.{text_of}
 use Rattle.pp_model.proofs.CompactLemmas.{find_numbered, find_by_place}
 use Rattle.pp_model.specs.FirstSight.{distinct, place_of, seen_after}
-use Rattle.pp_merge.specs.Described.{FunctionText, MappingText, LineText, LocationText, LabelText, function_text, mapping_text, function_found, mapping_found, line_text, label_text, less, plus, start_of, location_text, location_found, nowhere, sample_text, samples_found}
-use Rattle.pp_merge.specs.Alike.{same_function, same_mapping, equal_mapping, same_location, same_sample, first_alike}
-use Rattle.pp_merge.specs.Header.{TypeText, type_text, header_of, first_nonempty}
+use Rattle.pp_share.specs.Described.{FunctionText, MappingText, LineText, LocationText, LabelText, function_text, mapping_text, function_found, mapping_found, line_text, label_text, less, plus, start_of, location_text, location_found, nowhere, sample_text, samples_found}
+use Rattle.pp_share.specs.Alike.{same_function, same_mapping, equal_mapping, same_location, same_sample, first_alike}
+use Rattle.pp_share.specs.Header.{TypeText, type_text, header_of, first_nonempty}
 use Rattle.pp_merge.specs.Merge.{contents, all_mappings, all_samples}
 use Rattle.pp_merge.specs.Settled.{IsSettled}
-use Rattle.pp_merge.specs.Sums.{counts, summed}
-use Rattle.pp_merge.specs.Written.{Contents, written, locations, mappings, functions, type_texts, label_texts, index_of, mapping_id, function_id, location_id, written_type, written_label, written_mapping, written_function, written_line, written_location, written_sample}
+use Rattle.pp_share.specs.Sums.{counts, summed}
+use Rattle.pp_share.specs.Written.{Contents, written, locations, mappings, functions, type_texts, label_texts, index_of, mapping_id, function_id, location_id, written_type, written_label, written_mapping, written_function, written_line, written_location, written_sample}
 use Rattle.pp_model.proofs.FirstSightLemmas.{IsSeen}
-use Rattle.pp_merge.proofs.Deciding.{function_decides, mapping_decides, location_decides, sample_decides, place_gets}
-use Rattle.pp_merge.proofs.EntryLemmas.{less_plus, none_text, none_mapping, nonempty_same}
-use Rattle.pp_merge.proofs.DistinctLemmas.{deciding_laws, place_below, distinct_same}
-use Rattle.pp_merge.proofs.MergedMapping.{mapping_laws}
-use Rattle.pp_merge.proofs.SummedLemmas.{summed_same}
-use Rattle.pp_merge.proofs.NumberedLemmas.{all_by, all_both}
+use Rattle.pp_share.proofs.Deciding.{function_decides, mapping_decides, location_decides, sample_decides, place_gets}
+use Rattle.pp_share.proofs.EntryLemmas.{less_plus, none_text, none_mapping, nonempty_same}
+use Rattle.pp_share.proofs.DistinctLemmas.{deciding_laws, place_below, distinct_same}
+use Rattle.pp_share.proofs.MergedMapping.{mapping_laws}
+use Rattle.pp_share.proofs.SummedLemmas.{summed_same}
+use Rattle.pp_share.proofs.NumberedLemmas.{all_by, all_both}
 use Rattle.pp_merge.proofs.RoundTrip.{IsText, text_again, function_again}
 use Rattle.pp_merge.proofs.WrittenCompact.{compact_written}
 use Rattle.pp_merge.proofs.WrittenValid.{texts_of_types, texts_of_samples, texts_of_mappings, texts_of_functions, texts_of_comments, texts_of_patterns, texts_of_period, last_texts, seen_mappings, seen_functions, seen_locations}
@@ -166,7 +166,8 @@ module _ (c : Contents) (settled : IsSettled c) where
       map_back (label_text (text_of (written c))) (written_label c) labels
       (all_by _ _ (λ l own i. record { key = text_again c l.key own.0 i; text = text_again c l.text own.1.0 i; num = l.num; unit = text_again c l.unit own.1.1.0 i }) labels all)
 
-  samples_back : samples_found (first_alike (all_mappings (written c ∷ []))) (written c) ≡ c.samples
+  -- its samples, as they were written
+  pub samples_back : samples_found (first_alike (all_mappings (written c ∷ []))) (written c) ≡ c.samples
   samples_back =
       map_back (sample_text (location_found (first_alike (all_mappings (written c ∷ []))) (written c)) (text_of (written c))) (written_sample c) c.samples
       (all_by _ _ (λ s k i. (

@@ -9,16 +9,16 @@ use Rattle.std.specs.Option.{option_to_list}
 use Rattle.std.specs.Str.{bytes_eq}
 use Rattle.pp_model.specs.Rules.{IsCompact, AreNumbered}
 use Rattle.pp_model.specs.FirstSight.{distinct, place_of}
-use Rattle.pp_merge.specs.Alike.{same_function, equal_mapping, same_location}
+use Rattle.pp_share.specs.Alike.{same_function, equal_mapping, same_location}
 use Rattle.pp_model.specs.declared.profile.Mapping.{Mapping}
 use Rattle.pp_model.specs.declared.profile.Location.{Location}
 use Rattle.pp_model.specs.declared.profile.Function.{Function}
-use Rattle.pp_merge.specs.Described.{FunctionText, MappingText, LocationText, nowhere}
-use Rattle.pp_merge.specs.Written.{Contents, written, locations, walked_texts, written_mapping, written_function, written_location}
+use Rattle.pp_share.specs.Described.{FunctionText, MappingText, LocationText, nowhere}
+use Rattle.pp_share.specs.Written.{Contents, written, locations, walked_texts, written_mapping, written_function, written_location}
 use Rattle.pp_model.proofs.FirstSightLemmas.{distinct_apart}
-use Rattle.pp_merge.proofs.Deciding.{function_decides, mapping_decides, location_decides}
-use Rattle.pp_merge.proofs.DistinctLemmas.{deciding_laws, place_at}
-use Rattle.pp_merge.proofs.EntryLemmas.{none_text, none_mapping}
+use Rattle.pp_share.proofs.Deciding.{function_decides, mapping_decides, location_decides}
+use Rattle.pp_share.proofs.DistinctLemmas.{deciding_laws, place_at}
+use Rattle.pp_share.proofs.EntryLemmas.{none_text, none_mapping}
 
 -- the entries made of distinct items, whose ids are their places plus 1
 pub numbered : {A E : Type 0} (same : A → A → Bool) (decides : (a b : A) → Decides (same a b) (a ≡ b)) (walk : List A) (d : A) (id : E → ℕ) (entry : A → E)

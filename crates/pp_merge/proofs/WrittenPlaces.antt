@@ -7,18 +7,18 @@ use Rattle.pp_model.specs.declared.profile.Mapping.{Mapping}
 use Rattle.pp_model.specs.declared.profile.Location.{Location}
 use Rattle.pp_model.specs.declared.profile.Profile.{Profile}
 use Rattle.pp_model.specs.Lookup.{mapping_with, location_with}
-use Rattle.pp_merge.specs.Described.{MappingText, LocationText, mapping_text, function_found, mapping_found, line_text, less, plus, start_of, nowhere}
-use Rattle.pp_merge.specs.Alike.{equal_mapping, same_location, first_alike}
+use Rattle.pp_share.specs.Described.{MappingText, LocationText, mapping_text, function_found, mapping_found, line_text, less, plus, start_of, nowhere}
+use Rattle.pp_share.specs.Alike.{equal_mapping, same_location, first_alike}
 use Rattle.pp_merge.specs.Merge.{contents, merged, all_mappings}
 use Rattle.pp_merge.specs.Settled.{IsSettled}
-use Rattle.pp_merge.specs.Written.{Contents, written, locations, mappings, location_id, written_mapping, written_location}
-use Rattle.pp_merge.proofs.Deciding.{mapping_decides, location_decides}
-use Rattle.pp_merge.proofs.DistinctLemmas.{deciding_laws}
+use Rattle.pp_share.specs.Written.{Contents, written, locations, mappings, location_id, written_mapping, written_location}
+use Rattle.pp_share.proofs.Deciding.{mapping_decides, location_decides}
+use Rattle.pp_share.proofs.DistinctLemmas.{deciding_laws}
 use Rattle.pp_model.proofs.FirstSightLemmas.{IsSeen, all_seen}
-use Rattle.pp_merge.proofs.NumberedLemmas.{all_by, all_both, all_mapped}
+use Rattle.pp_share.proofs.NumberedLemmas.{all_by, all_both, all_mapped}
 use Rattle.pp_merge.proofs.RoundTrip.{IsText}
 use Rattle.pp_merge.proofs.SettledLemmas.{all_any, all_distinct, found_holds, settled_contents}
-use Rattle.pp_merge.proofs.EntryLemmas.{less_plus}
+use Rattle.pp_share.proofs.EntryLemmas.{less_plus}
 use Rattle.pp_merge.proofs.WrittenAgain.{found_at, at_seen, alike_self, mapping_again, mapping_back, mappings_back, Known, known, lines_back}
 use Rattle.pp_merge.proofs.WrittenCompact.{compact_written, mapping_walk}
 use Rattle.pp_merge.proofs.WrittenValid.{texts_of_mappings}

@@ -13,14 +13,14 @@ use Rattle.pp_model.specs.declared.profile.Function.{Function}
 use Rattle.pp_model.specs.declared.profile.Sample.{Sample}
 use Rattle.pp_model.specs.Rules.{NoRuleFails, begins_empty, zero_unless, is_text, header_texts, type_has_texts, label_has_texts, mapping_has_texts, function_has_texts, mapping_ids, function_ids, location_ids, is_zero_or_in, stands_in, location_refers}
 use Rattle.pp_model.specs.FirstSight.{place_of, seen_after}
-use Rattle.pp_merge.specs.Described.{FunctionText, MappingText, LocationText, LabelText, SampleText}
-use Rattle.pp_merge.specs.Alike.{same_function, equal_mapping, same_location}
-use Rattle.pp_merge.specs.Header.{TypeText}
-use Rattle.pp_merge.specs.Written.{Contents, FitsTypes, written, texts, locations, mappings, functions, type_texts, label_texts, index_of, mapping_id, function_id, location_id, written_type, written_label, written_mapping, written_function, written_line, written_location, written_sample}
+use Rattle.pp_share.specs.Described.{FunctionText, MappingText, LocationText, LabelText, SampleText}
+use Rattle.pp_share.specs.Alike.{same_function, equal_mapping, same_location}
+use Rattle.pp_share.specs.Header.{TypeText}
+use Rattle.pp_share.specs.Written.{Contents, FitsTypes, written, texts, locations, mappings, functions, type_texts, label_texts, index_of, mapping_id, function_id, location_id, written_type, written_label, written_mapping, written_function, written_line, written_location, written_sample}
 use Rattle.pp_model.proofs.FirstSightLemmas.{IsSeen, all_seen}
-use Rattle.pp_merge.proofs.Deciding.{function_decides, mapping_decides, location_decides}
-use Rattle.pp_merge.proofs.DistinctLemmas.{deciding_laws, place_below}
-use Rattle.pp_merge.proofs.NumberedLemmas.{all_front, all_behind, all_parts, all_there, all_by, all_both, all_mapped, all_pass, nowhere, nonzero, unrepeated, stands_at}
+use Rattle.pp_share.proofs.Deciding.{function_decides, mapping_decides, location_decides}
+use Rattle.pp_share.proofs.DistinctLemmas.{deciding_laws, place_below}
+use Rattle.pp_share.proofs.NumberedLemmas.{all_front, all_behind, all_parts, all_there, all_by, all_both, all_mapped, all_pass, nowhere, nonzero, unrepeated, stands_at}
 use Rattle.pp_merge.proofs.RoundTrip.{IsText, walked}
 use Rattle.pp_merge.proofs.WrittenCompact.{location_walk, mapping_walk, function_walk, compact_written}
 

@@ -5,10 +5,10 @@ use Rattle.pp_model.specs.declared.profile.Profile.{Profile}
 use Rattle.pp_model.specs.Lookup.{text_of, text_number}
 use Rattle.pp_model.specs.Rules.{AreNumbered, mapping_ids, function_ids, location_ids}
 use Rattle.pp_merge.specs.declared.join.Sizes.{Sizes}
-use Rattle.pp_merge.specs.Behind.{behind_id}
-use Rattle.pp_merge.specs.Ids.{place_id, index_of_id}
-use Rattle.pp_merge.specs.Renumbered.{NewIds, renumbered}
-use Rattle.pp_merge.specs.Header.{greater, earlier}
+use Rattle.pp_share.specs.Behind.{behind_id}
+use Rattle.pp_share.specs.Ids.{place_id, index_of_id}
+use Rattle.pp_share.specs.Renumbered.{NewIds, renumbered}
+use Rattle.pp_share.specs.Header.{greater, earlier}
 
 -- What ids become where the profile's tables stand behind others of these sizes: places there plus 1.
 abbrev pub behind_ids : Sizes → Profile → NewIds

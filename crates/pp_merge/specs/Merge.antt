@@ -10,11 +10,11 @@ use Rattle.pp_merge.specs.declared.refusal.What.{What}
 use Rattle.pp_merge.specs.declared.refusal.What.TheVariants.{SampleTypes, PeriodType}
 use Rattle.pp_merge.specs.declared.refusal.MergeRefusal.{MergeRefusal}
 use Rattle.pp_merge.specs.declared.refusal.MergeRefusal.TheVariants.{Incompatible, TotalTooLarge, Memory}
-use Rattle.pp_merge.specs.Described.{MappingText, SampleText, mapping_text, samples_found}
-use Rattle.pp_merge.specs.Alike.{same_sample, first_alike}
-use Rattle.pp_merge.specs.Sums.{summed, counts}
-use Rattle.pp_merge.specs.Header.{TypeText, type_text, header_of}
-use Rattle.pp_merge.specs.Written.{Contents, written}
+use Rattle.pp_share.specs.Described.{MappingText, SampleText, mapping_text, samples_found}
+use Rattle.pp_share.specs.Alike.{same_sample, first_alike}
+use Rattle.pp_share.specs.Sums.{summed, counts}
+use Rattle.pp_share.specs.Header.{TypeText, type_text, header_of}
+use Rattle.pp_share.specs.Written.{Contents, written}
 
 -- types are equal where their kinds and their units are
 abbrev pub same_type : TypeText → TypeText → Bool

@@ -6,7 +6,7 @@ use Rattle.pp_model.specs.Rules.{NoRuleFails}
 use Rattle.pp_merge.specs.declared.refusal.What.{What}
 use Rattle.pp_merge.specs.declared.refusal.MergeRefusal.{MergeRefusal}
 use Rattle.pp_merge.specs.declared.refusal.MergeRefusal.TheVariants.{Incompatible, TotalTooLarge, Memory}
-use Rattle.pp_merge.specs.Header.{header_of}
+use Rattle.pp_share.specs.Header.{header_of}
 use Rattle.pp_merge.specs.Merge.{disagreeing, too_large, merged}
 use Rattle.pp_merge.specs.Joined.{moved_behind, sizes_of, no_sizes, chained}
 

@@ -3,9 +3,9 @@ use Rattle.std.specs.Prelude.{◌≡◌, ◌<◌, ◌^◌, true, [], None}
 use Rattle.std.specs.List.{AllByRecursion, IsDistinct}
 use Rattle.std.specs.Int.{saturate_to_bits}
 use Rattle.std.specs.Str.{bytes_eq}
-use Rattle.pp_merge.specs.Alike.{same_mapping, same_sample}
-use Rattle.pp_merge.specs.Sums.{keys_of, counts}
-use Rattle.pp_merge.specs.Written.{Contents, FitsTypes, mappings, locations}
+use Rattle.pp_share.specs.Alike.{same_mapping, same_sample}
+use Rattle.pp_share.specs.Sums.{keys_of, counts}
+use Rattle.pp_share.specs.Written.{Contents, FitsTypes, mappings, locations}
 
 -- Nothing is left to be merged: no two samples, mappings or comments are one, each sample counts, numbers lie in their
 -- types, and where no mapping comes first there is none.

@@ -1,7 +1,7 @@
 //! Whether profiles can be merged.
 ghost use Rattle.std.specs.Prelude.{◌≡◌, length};
 ghost use Rattle.std.specs.Cmp.Lexicographic.{pointwise};
-ghost use Rattle.pp_merge.specs.Header.{type_text};
+ghost use Rattle.pp_share.specs.Header.{type_text};
 ghost use Rattle.pp_merge.specs.Merge.{same_type, has_types_of, difference, disagreeing};
 
 use crate::refusal::What;

@@ -3,18 +3,15 @@ ghost use Rattle.std.specs.Prelude.{◌≡◌, ℕ, ◌+◌, ◌<◌, ◌^◌, �
 ghost use Rattle.std.specs.Bool.{OnTrue};
 ghost use Rattle.std.specs.List.{AllByRecursion};
 ghost use Rattle.pp_model.specs.Rules.{NoRuleFails, first_repeated, mapping_ids, function_ids, location_ids};
-ghost use Rattle.pp_merge.specs.Behind.{behind_id};
-ghost use Rattle.pp_merge.specs.Ids.{place_id, new_id};
-ghost use Rattle.pp_merge.specs.Renumbered.{new_ids};
+ghost use Rattle.pp_share.specs.Behind.{behind_id};
+ghost use Rattle.pp_share.specs.Ids.{place_id, new_id};
+ghost use Rattle.pp_share.specs.Renumbered.{new_ids};
 ghost use Rattle.pp_merge.specs.Joined.{behind_ids, moved_behind, chained, with_header_of, first_text, no_sizes, sizes_of, joined_next, joined, HasFewTexts, IsInPlace};
-ghost use Rattle.pp_merge.specs.Header.{greater, earlier};
+ghost use Rattle.pp_share.specs.Header.{greater, earlier};
 
-use crate::behind::Behind;
-use crate::ids::{Ids, Known};
-use crate::known::{are_numbered, known_ids};
-use crate::renumber::{Renumbering, renumber};
 use pp_base::{List, Memory};
 use pp_model::{Profile, Valid, text_of};
+use pp_share::{Behind, Ids, Known, Renumbering, are_numbered, known_ids, renumber};
 use std::alloc::Global;
 use std::mem;
 

@@ -1,33 +1,16 @@
 //! Profiles merged, scaled, and subtracted from one another.
 #![tactic(auto)]
 
-mod behind;
-mod change;
 mod compatible;
 mod durations;
-mod first_sight;
-mod functions;
-mod gather;
-mod ids;
 mod join;
-mod known;
 mod laws;
 mod merging;
-mod met;
 mod normalizing;
-mod places;
 mod refusal;
-mod renumber;
-mod samples;
 mod scaling;
-mod share;
-mod stack;
 mod subtracting;
-mod sums;
-mod texts;
 mod totals;
-mod walk;
-mod write;
 
 pub use compatible::agree;
 pub use laws::{

@@ -8,10 +8,10 @@ use crate::compatible::first_disagreeing;
 use crate::durations::total_duration;
 use crate::join::{join, set};
 use crate::refusal::{MergeRefusal, What};
-use crate::share::share;
 use crate::totals::too_large_column;
 use pp_base::{List, Memory};
 use pp_model::{Compact, Profile, Valid};
+use pp_share::share;
 use std::alloc::Global;
 
 /// The profiles as one. Functions, mappings, locations, samples and comments that are equal become one, in the order of

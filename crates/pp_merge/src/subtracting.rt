@@ -5,11 +5,11 @@ ghost use Rattle.pp_model.specs.Sizes.{IsCountable};
 ghost use Rattle.pp_merge.specs.Merge.{Merges, difference};
 ghost use Rattle.pp_merge.specs.Scale.{base_label, base_texts, labelled_sample, negated};
 
-use crate::change::{Change, change_each};
 use crate::merging::merge;
 use crate::refusal::MergeRefusal;
 use pp_base::{List, Memory, Text};
 use pp_model::{BaseKind, Compact, Label, Profile, Sample, Valid};
+use pp_share::{Change, change_each};
 use std::alloc::Global;
 
 /// The source merged with the base, whose values are negated. For `DiffBase` each sample of the base has the label

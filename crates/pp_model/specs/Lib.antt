@@ -7,6 +7,7 @@ pub mod FrameTexts
 pub mod Frames
 pub mod Judged
 pub mod Lookup
+pub mod ReportFacts
 pub mod Rules
 pub mod Sizes
 pub mod Values

@@ -1,5 +1,9 @@
-//! What a run is asked for.
+//! What a run is asked for, and the facts in which reports differ.
+ghost use Rattle.std.specs.Prelude.{◌≡◌};
+ghost use Rattle.std.specs.Option.{option_copied};
+ghost use Rattle.pp_model.specs.ReportFacts.{report_name, own_pattern, shows_values, is_counted, option_name};
 
+use crate::verdicts::Slot;
 use pp_base::Text;
 
 /// A report, with the pattern of those that have one of their own.
@@ -14,6 +18,88 @@ pub enum Report {
     Comments,
     Proto,
     List(Text),
+    Folded,
+    Table,
+    Compare,
+}
+
+// Each fact has a line for each report, so that a new one does not compile before it is thought of.
+impl Report {
+    /// Its name, which is also its command's.
+    pub fn name(&self) -> &'static [u8]
+        ensures { result.now ≡ report_name self.now }
+    {
+        match self {
+            Report::Top => b"top",
+            Report::Tree => b"tree",
+            Report::Peek(_) => b"peek",
+            Report::Traces => b"traces",
+            Report::Tags => b"tags",
+            Report::Raw => b"raw",
+            Report::Comments => b"comments",
+            Report::Proto => b"proto",
+            Report::List(_) => b"list",
+            Report::Folded => b"folded",
+            Report::Table => b"table",
+            Report::Compare => b"compare",
+        }
+    }
+
+    /// The pattern that it has of its own, None where it has none.
+    pub fn own_pattern(&self) -> Option<&Text>
+        ensures { option_copied result ≡ own_pattern self.now }
+    {
+        match self {
+            Report::Peek(pattern) | Report::List(pattern) => Some(pattern),
+            Report::Top | Report::Tree | Report::Traces | Report::Tags => None,
+            Report::Raw | Report::Comments | Report::Proto => None,
+            Report::Folded | Report::Table | Report::Compare => None,
+        }
+    }
+
+    /// Whether it shows a column of values, which it is refused without.
+    pub fn shows_values(&self) -> bool
+        ensures { result ≡ shows_values self.now }
+    {
+        match self {
+            Report::Top | Report::Tree | Report::Peek(_) | Report::List(_) => true,
+            Report::Traces | Report::Tags => true,
+            Report::Folded | Report::Table | Report::Compare => true,
+            Report::Raw | Report::Comments | Report::Proto => false,
+        }
+    }
+
+    /// Whether its patterns are asked and its samples counted. One that isn't gets no frames from labels either.
+    pub fn is_counted(&self) -> bool
+        ensures { result ≡ is_counted self.now }
+    {
+        match self {
+            Report::Top | Report::Tree | Report::Peek(_) | Report::List(_) => true,
+            Report::Traces | Report::Tags | Report::Raw | Report::Proto => true,
+            Report::Folded | Report::Table | Report::Compare => true,
+            Report::Comments => false,
+        }
+    }
+
+    /// What the option is called whose pattern stands in this place: a variable's name, or the report's for its own.
+    #[tactic(auto, unfolding(crate::specs::ReportFacts::option_name))]
+    pub fn option_name(&self, slot: Slot) -> &'static [u8]
+        ensures { result.now ≡ option_name self.now slot }
+    {
+        match slot {
+            Slot::Focus => b"focus",
+            Slot::Ignore => b"ignore",
+            Slot::Hide => b"hide",
+            Slot::Show => b"show",
+            Slot::ShowFrom => b"show_from",
+            Slot::TagFocus => b"tagfocus",
+            Slot::TagIgnore => b"tagignore",
+            Slot::PruneFrom => b"prune_from",
+            Slot::TagShow => b"tagshow",
+            Slot::TagHide => b"taghide",
+            Slot::Own => self.name(),
+        }
+    }
 }
 
 /// How a base is taken off: alone, or beside a label that says which samples are the base's.

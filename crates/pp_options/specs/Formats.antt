@@ -3,7 +3,7 @@ use Rattle.std.specs.Prelude.{ℕ, Bool, true, false, List, [], ◌∷◌, Optio
 use Rattle.pp_model.specs.declared.report.Report.{Report}
 use Rattle.pp_model.specs.declared.report.Report.TheVariants as reports
 use Rattle.pp_options.specs.declared.format.Format.{Format}
-use Rattle.pp_options.specs.declared.format.Format.TheVariants.{Top, Tree, Peek, Traces, Tags, Raw, Comments, Proto}
+use Rattle.pp_options.specs.declared.format.Format.TheVariants.{Top, Tree, Peek, Traces, Tags, Raw, Comments, Proto, Folded, Table, Compare}
 use Rattle.pp_options.specs.declared.format.Format.TheVariants as formats
 use Rattle.pp_options.specs.Tables.{Row, row, value_named}
 
@@ -20,6 +20,9 @@ formats_by_name =
     ∷ row (codes "proto") Proto
     ∷ row (codes "peek") Peek
     ∷ row (codes "list") formats.List
+    ∷ row (codes "folded") Folded
+    ∷ row (codes "table") Table
+    ∷ row (codes "compare") Compare
     ∷ []
 
 -- the format of the name
@@ -28,9 +31,18 @@ format_named name = value_named formats_by_name name
 
 -- a pattern belongs to the format
 abbrev pub takes_pattern : Format → Bool
+takes_pattern Top = false
+takes_pattern Tree = false
 takes_pattern Peek = true
+takes_pattern Traces = false
+takes_pattern Tags = false
+takes_pattern Raw = false
+takes_pattern Comments = false
+takes_pattern Proto = false
 takes_pattern formats.List = true
-takes_pattern format = false
+takes_pattern Folded = false
+takes_pattern Table = false
+takes_pattern Compare = false
 
 -- the report, of the pattern where one belongs to the format
 abbrev pub report_of : Format → List ℕ → Report
@@ -43,3 +55,6 @@ report_of Raw pattern = reports.Raw
 report_of Comments pattern = reports.Comments
 report_of Proto pattern = reports.Proto
 report_of formats.List pattern = reports.List pattern
+report_of Folded pattern = reports.Folded
+report_of Table pattern = reports.Table
+report_of Compare pattern = reports.Compare

@@ -7,8 +7,10 @@ use Rattle.pp_options.specs.declared.name.Choice.TheVariants as choices
 use Rattle.pp_options.specs.declared.name.OptionName.{OptionName}
 use Rattle.pp_options.specs.declared.name.OptionName.TheVariants as names
 use Rattle.pp_options.specs.declared.format.Format.{Format as ReportFormat}
+use Rattle.pp_options.specs.declared.sample_type.SampleType.{SampleType}
 use Rattle.pp_options.specs.declared.setting.Setting.{Setting}
 use Rattle.pp_options.specs.declared.setting.Setting.TheVariants as set
+use Rattle.pp_options.specs.declared.variable.TextVariable.TheVariants as texts
 use Rattle.pp_options.specs.declared.usage.UsageKind.{UsageKind}
 use Rattle.pp_options.specs.declared.usage.UsageKind.TheVariants.{UnknownOption, BadValue, MissingValue}
 use Rattle.pp_options.specs.declared.usage.UsageFault.{UsageFault}
@@ -19,6 +21,7 @@ use Rattle.pp_options.specs.declared.item.Item.TheVariants.{Source, Base, Gen, N
 use Rattle.pp_options.specs.Conditions.{is_fair_number, is_patterned}
 use Rattle.pp_options.specs.Formats.{takes_pattern, report_of}
 use Rattle.pp_options.specs.Names.{option_named, needs_value}
+use Rattle.pp_options.specs.SampleTypes.{type_name}
 use Rattle.pp_options.specs.Settings.{setting_of, is_fitting}
 use Rattle.pp_options.specs.Spelling.{is_option, name_in, value_in}
 use Rattle.pp_options.specs.Values.{truth_of, whole_number}
@@ -55,6 +58,10 @@ setting_of_choice (choices.Granularity grain) = set.Granularity grain
 abbrev pub chosen : ChoiceName → List ℕ → Option Setting
 chosen choice value = if is_true_word value then Some (setting_of_choice choice) else None
 
+-- a sample type can only be selected
+abbrev pub selected : SampleType → List ℕ → Option Setting
+selected kind value = if is_true_word value then Some (set.Text texts.SampleIndex (type_name kind)) else None
+
 -- a report with a pattern, which isn't empty
 abbrev pub pattern_report : ReportFormat → List ℕ → Option Report
 pattern_report format [] = None
@@ -70,6 +77,7 @@ report_with format value =
 unfoldable pub item_with : OptionName → List ℕ → Option Item
 item_with (names.Variable variable) value = option_map Set (setting_of variable value)
 item_with (names.Choice choice) value = option_map Set (chosen choice value)
+item_with (names.SampleType kind) value = option_map Set (selected kind value)
 item_with (names.Format format) value = option_map Format (report_with format value)
 item_with (names.Base kind) value = Some (Base kind value)
 item_with names.Gen value = option_map Gen (whole_number 1 1000000 value)

@@ -1,6 +1,7 @@
 pub mod Tables
 pub mod Variables
 pub mod Values
+pub mod SampleTypes
 pub mod Settings
 pub mod Assigning
 pub mod Ends

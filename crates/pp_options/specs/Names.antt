@@ -6,11 +6,12 @@ use Rattle.pp_options.specs.declared.variable.Variable.TheVariants.{Flag}
 use Rattle.pp_options.specs.declared.name.Choice.{Choice as ChoiceName}
 use Rattle.pp_options.specs.declared.name.Choice.TheVariants as choices
 use Rattle.pp_options.specs.declared.name.OptionName.{OptionName}
-use Rattle.pp_options.specs.declared.name.OptionName.TheVariants.{Variable, Choice, Format, Base, Gen, Normalize}
+use Rattle.pp_options.specs.declared.name.OptionName.TheVariants.{Variable, Choice, SampleType, Format, Base, Gen, Normalize}
 use Rattle.pp_options.specs.Tables.{Row, row, value_named}
 use Rattle.pp_options.specs.Values.{sort_named, grain_named}
 use Rattle.pp_options.specs.Variables.{variable_named}
 use Rattle.pp_options.specs.Formats.{takes_pattern, format_named}
+use Rattle.pp_options.specs.SampleTypes.{sample_type_named}
 
 -- the order or the granularity of the name
 unfoldable pub choice_named : List ℕ → Option ChoiceName
@@ -18,7 +19,7 @@ choice_named name =
     option_or (option_map choices.Sort (sort_named name))
     (option_map choices.Granularity (grain_named name))
 
--- the names of what is neither a variable nor a choice nor a format
+-- the names of what is neither a variable nor a choice nor a sample type nor a format
 abbrev pub others : List (Row OptionName)
 others =
     row (codes "base") (Base bases.Base)
@@ -32,13 +33,15 @@ unfoldable pub option_named : List ℕ → Option OptionName
 option_named name =
     option_or (option_map Variable (variable_named name))
     (option_or (option_map Choice (choice_named name))
-    (option_or (option_map Format (format_named name)) (value_named others name)))
+    (option_or (option_map SampleType (sample_type_named name))
+    (option_or (option_map Format (format_named name)) (value_named others name))))
 
 -- the option has a value even where none stands after `=`; the others are flags
 abbrev pub needs_value : OptionName → Bool
 needs_value (Variable (Flag which)) = false
 needs_value (Variable variable) = true
 needs_value (Choice choice) = false
+needs_value (SampleType kind) = false
 needs_value (Format format) = takes_pattern format
 needs_value (Base kind) = true
 needs_value Gen = true

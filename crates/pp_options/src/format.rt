@@ -18,10 +18,13 @@ pub enum Format {
     Comments,
     Proto,
     List,
+    Folded,
+    Table,
+    Compare,
 }
 
 /// The formats by name. `text` and `top` are one.
-pub static FORMATS: [Named<Format>; 10] = [
+pub static FORMATS: [Named<Format>; 13] = [
     Named {
         name: b"text",
         value: Format::Top,
@@ -62,6 +65,18 @@ pub static FORMATS: [Named<Format>; 10] = [
         name: b"list",
         value: Format::List,
     },
+    Named {
+        name: b"folded",
+        value: Format::Folded,
+    },
+    Named {
+        name: b"table",
+        value: Format::Table,
+    },
+    Named {
+        name: b"compare",
+        value: Format::Compare,
+    },
 ];
 
 /// The format of the name.
@@ -79,7 +94,9 @@ impl Format {
     {
         match self {
             Format::Peek | Format::List => true,
-            _ => false,
+            Format::Top | Format::Tree | Format::Traces | Format::Tags => false,
+            Format::Raw | Format::Comments | Format::Proto => false,
+            Format::Folded | Format::Table | Format::Compare => false,
         }
     }
 
@@ -97,6 +114,9 @@ impl Format {
             Format::Comments => Report::Comments,
             Format::Proto => Report::Proto,
             Format::List => Report::List(pattern),
+            Format::Folded => Report::Folded,
+            Format::Table => Report::Table,
+            Format::Compare => Report::Compare,
         }
     }
 }

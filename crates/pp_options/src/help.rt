@@ -61,6 +61,10 @@ Formats, one at most; without one the shell starts:
   -raw                         the profile as text
   -comments                    the comments of the profile
   -proto                       the profile as it was filtered, as protobuf
+  -folded                      the value of each path, for flame graph programs
+  -table                       the values of each function, divided by tabs
+  -compare                     each function before and after the change, of a
+                               profile with -diff_base
 Example: pprof -top cpu.pb
 
 Sources and bases, 256 at most; each may be repeated:
@@ -82,8 +86,8 @@ Rows:
   -showcolumns=false           tell columns of a line apart, with lines and
                                addresses
   -path_tree=false             show the tree by paths from the root
-  -nodecount=-1                the most rows, 0 for all; -1 is all for top, and
-                               80 for tree
+  -nodecount=-1                the most rows, 0 for all; -1 is all, and 80 for
+                               tree
   -nodefraction=0.005          leave out rows with less than this part of the
                                total
   -edgefraction=0.001          leave out edges with less than this part of the
@@ -112,9 +116,12 @@ size=4kb:, and KEYS are joined by commas:
 Example: pprof -top -tagfocus=bytes=4kb: -tagleaf=bytes heap.pb
 
 Values:
-  -sample_index=NAME           the sample type, by its name or its number from 0
+  -sample_index=NAME           the sample type, by its name or its number from
+                               0; also -inuse_space, -inuse_objects,
+                               -alloc_space, -alloc_objects, -contentions, and
+                               -total_delay for delay
   -unit=UNIT                   the unit of all values; without one it is picked
-                               from the total
+                               from the total, and with each for every value
   -relative_percentages=false  percentages of the samples that are kept
   -divide_by=1                 divide all values, by 1 to 9223372036854775807
 Example: pprof -top -sample_index=alloc_space -unit=mb heap.pb
@@ -128,7 +135,8 @@ Threads:
   -workers=4                   the number of threads, 1 to 64
 Example: pprof -top -workers=16 cpu.pb
 
-The shell; its commands and variables have no dash:
+The shell; its commands and variables have no dash. It has folded, table and
+compare too:
 ";
 
 /// The two lines that tell what the shell takes.

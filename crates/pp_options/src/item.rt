@@ -1,7 +1,7 @@
 //! What one word asks for, or an option together with the word that is its value.
 ghost use Rattle.std.specs.Prelude.{◌≡◌, option_map, Err, IfOk, IfSome, IsTrue};
 ghost use Rattle.pp_options.specs.declared.usage.UsageRefusal.TheVariants as refusals;
-ghost use Rattle.pp_options.specs.Items.{fault_at, AnswersAt, is_fair_item, is_true_word, setting_of_choice, chosen, pattern_report, report_with, item_with, valued_item, flag_item, option_item, item_of};
+ghost use Rattle.pp_options.specs.Items.{fault_at, AnswersAt, is_fair_item, is_true_word, setting_of_choice, chosen, selected, pattern_report, report_with, item_with, valued_item, flag_item, option_item, item_of};
 ghost use Rattle.pp_options.specs.Conditions.{is_fair_number, has_pattern};
 ghost use Rattle.pp_options.specs.Settings.{is_fitting};
 ghost use Rattle.pp_options.specs.Values.{whole_number};
@@ -9,7 +9,10 @@ ghost use Rattle.pp_options.specs.Values.{whole_number};
 use crate::name::option_named;
 use crate::spelling::{is_option, name_in, value_in};
 use crate::value::{truth_of, whole_number};
-use crate::{Choice, Format, OptionName, Setting, UsageFault, UsageKind, UsageRefusal, setting_of};
+use crate::{
+    Choice, Format, OptionName, SampleType, Setting, TextVariable, UsageFault, UsageKind,
+    UsageRefusal, setting_of,
+};
 use pp_base::{Memory, Text};
 use pp_model::{BaseKind, Report};
 use std::alloc::Global;
@@ -99,6 +102,7 @@ fn item_with(alloc: Global, name: OptionName, value: &[u8]) -> Result<Option<Ite
     match name {
         OptionName::Variable(variable) => Ok(setting_of(alloc, variable, value)?.map(Item::Set)),
         OptionName::Choice(choice) => Ok(chosen(choice, value).map(Item::Set)),
+        OptionName::SampleType(kind) => Ok(selected(alloc, kind, value)?.map(Item::Set)),
         OptionName::Format(format) => Ok(report_with(alloc, format, value)?.map(Item::Format)),
         OptionName::Base(kind) => Ok(Some(Item::Base(kind, Text::from_slice(alloc, value)?))),
         OptionName::Gen => Ok(samples_of(value).map(Item::Gen)),
@@ -115,6 +119,18 @@ fn chosen(choice: Choice, value: &[u8]) -> Option<Setting>
     } else {
         None
     }
+}
+
+// A sample type, whose word alone names it, can only be selected.
+fn selected(alloc: Global, kind: SampleType, value: &[u8]) -> Result<Option<Setting>, Memory>
+    ensures value { IfOk result (λ found. found ≡ selected kind value.now) }
+    ensures fitting { IfOk result (λ found. IfSome found (λ s. IsTrue (is_fitting s))) }
+{
+    if !is_true_word(value) {
+        return Ok(None);
+    }
+    let name = Text::from_slice(alloc, kind.name())?;
+    Ok(Some(Setting::Text(TextVariable::SampleIndex, name)))
 }
 
 fn is_true_word(word: &[u8]) -> bool

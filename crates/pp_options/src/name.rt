@@ -4,7 +4,7 @@ ghost use Rattle.pp_options.specs.Names.{choice_named, option_named, needs_value
 
 use crate::table::{Named, value_named};
 use crate::value::{grain_named, sort_named};
-use crate::{Format, Variable, format_named, variable_named};
+use crate::{Format, SampleType, Variable, format_named, sample_type_named, variable_named};
 use pp_model::{BaseKind, Grain, Sort};
 
 /// A value that is a name by itself, and gives its variable that value.
@@ -19,13 +19,14 @@ pub enum Choice {
 pub enum OptionName {
     Variable(Variable),
     Choice(Choice),
+    SampleType(SampleType),
     Format(Format),
     Base(BaseKind),
     Gen,
     Normalize,
 }
 
-// The names of what is neither a variable nor a choice nor a format.
+// The names of what is neither a variable nor a choice nor a sample type nor a format.
 static OTHERS: [Named<OptionName>; 4] = [
     Named {
         name: b"base",
@@ -67,6 +68,9 @@ pub fn option_named(name: &[u8]) -> Option<OptionName>
     if let Some(choice) = choice_named(name) {
         return Some(OptionName::Choice(choice));
     }
+    if let Some(kind) = sample_type_named(name) {
+        return Some(OptionName::SampleType(kind));
+    }
     if let Some(format) = format_named(name) {
         return Some(OptionName::Format(format));
     }
@@ -81,7 +85,7 @@ impl OptionName {
         match self {
             OptionName::Variable(Variable::Flag(_)) => false,
             OptionName::Variable(_) => true,
-            OptionName::Choice(_) => false,
+            OptionName::Choice(_) | OptionName::SampleType(_) => false,
             OptionName::Format(format) => format.takes_pattern(),
             OptionName::Base(_) | OptionName::Gen => true,
             OptionName::Normalize => false,

@@ -20,9 +20,9 @@ use Rattle.pp_model.specs.Lookup.{text_of}
 use Rattle.pp_model.specs.Rules.{NoRuleFails, IsCompact, location_refers, label_has_texts}
 use Rattle.pp_model.proofs.RuleLemmas.{passes}
 use Rattle.pp_stack.specs.Runs.{kept_if}
-use Rattle.pp_merge.specs.Described.{LocationText, label_text}
+use Rattle.pp_share.specs.Described.{LocationText, label_text}
 use Rattle.pp_model.proofs.FirstSightLemmas.{map_agree}
-use Rattle.pp_merge.proofs.NumberedLemmas.{all_by, all_pass}
+use Rattle.pp_share.proofs.NumberedLemmas.{all_by, all_pass}
 use Rattle.pp_restack.specs.Stacks.{by_place, grouped_with, cut_location, cut_text, lines_of}
 use Rattle.pp_restack.specs.Places.{ArePlaces, KeepsPlaces, TakesPlace, IsEntry, IsWithin, AreEntries, AppendsEntries, IsCutSample, entry_in, without_id, spread_in, line_location, located, told, with_lines}
 use Rattle.pp_restack.proofs.PlacesLemmas.{all_with, group_refers}

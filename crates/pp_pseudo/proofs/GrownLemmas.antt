@@ -21,16 +21,16 @@ use Rattle.pp_model.specs.Lookup.{text_of, text_number, place_read, function_wit
 use Rattle.pp_model.specs.Rules.{NoRuleFails, IsCompact, AreNumbered, begins_empty, zero_unless, is_text, header_texts, type_has_texts, label_has_texts, mapping_has_texts, function_has_texts, function_ids, mapping_ids, is_zero_or_in, stands_in, location_refers}
 use Rattle.pp_model.proofs.RuleLemmas.{passes, contains_from}
 use Rattle.pp_model.proofs.CompactLemmas.{find_by_place, id_at, place_of}
-use Rattle.pp_merge.specs.Described.{FunctionText, MappingText, LocationText, SampleText, less, start_of, function_text, mapping_text, function_found, mapping_found, line_text, label_text}
-use Rattle.pp_merge.specs.Alike.{first_alike}
+use Rattle.pp_share.specs.Described.{FunctionText, MappingText, LocationText, SampleText, less, start_of, function_text, mapping_text, function_found, mapping_found, line_text, label_text}
+use Rattle.pp_share.specs.Alike.{first_alike}
 use Rattle.pp_model.specs.FirstSight.{distinct}
-use Rattle.pp_merge.specs.Header.{type_text, header_of, first_nonempty}
+use Rattle.pp_share.specs.Header.{type_text, header_of, first_nonempty}
 use Rattle.std.specs.Str.{bytes_eq}
 use Rattle.pp_merge.specs.Merge.{all_mappings}
 use Rattle.pp_model.proofs.FirstSightLemmas.{map_agree}
-use Rattle.pp_merge.proofs.NumberedLemmas.{all_by, all_mapped, all_pass, nowhere, nonzero, unrepeated, stands_at}
+use Rattle.pp_share.proofs.NumberedLemmas.{all_by, all_mapped, all_pass, nowhere, nonzero, unrepeated, stands_at}
 use Rattle.pp_merge.proofs.NegatedLemmas.{still_valid}
-use Rattle.pp_merge.proofs.Prefix.{map_same}
+use Rattle.pp_share.proofs.Prefix.{map_same}
 use Rattle.pp_restack.specs.Stacks.{made_contents, patternless}
 use Rattle.pp_restack.specs.Places.{HasTables, line_location, located}
 use Rattle.pp_model.proofs.LookupLemmas.{no_function, no_mapping}

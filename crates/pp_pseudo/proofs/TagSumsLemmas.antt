@@ -22,15 +22,15 @@ use Rattle.pp_model.specs.FrameTexts.{Written, written_at, written_line, written
 use Rattle.pp_model.specs.Rules.{NoRuleFails}
 use Rattle.pp_model.specs.Sizes.{value_in}
 use Rattle.pp_model.proofs.RuleLemmas.{passes}
-use Rattle.pp_merge.specs.Described.{FunctionText, LineText, LocationText, SampleText, function_found, function_text, line_text}
-use Rattle.pp_merge.specs.Alike.{same_location, same_sample}
+use Rattle.pp_share.specs.Described.{FunctionText, LineText, LocationText, SampleText, function_found, function_text, line_text}
+use Rattle.pp_share.specs.Alike.{same_location, same_sample}
 use Rattle.pp_merge.specs.Settled.{IsSettled}
 use Rattle.pp_merge.specs.Totals.{value_sum, sum_passing}
-use Rattle.pp_merge.specs.Written.{Contents, written, locations, location_id, written_location, written_sample}
-use Rattle.pp_merge.proofs.Deciding.{sample_decides}
+use Rattle.pp_share.specs.Written.{Contents, written, locations, location_id, written_location, written_sample}
+use Rattle.pp_share.proofs.Deciding.{sample_decides}
 use Rattle.pp_model.proofs.FirstSightLemmas.{IsSeen}
 use Rattle.pp_merge.proofs.KeptSums.{sum_stays}
-use Rattle.pp_merge.proofs.NumberedLemmas.{all_front, all_behind, all_by, all_mapped}
+use Rattle.pp_share.proofs.NumberedLemmas.{all_front, all_behind, all_by, all_mapped}
 use Rattle.pp_merge.proofs.WrittenPlaces.{location_there, lines_there}
 use Rattle.pp_merge.proofs.WrittenValid.{seen_locations, valid_written}
 use Rattle.pp_restack.specs.Stacks.{by_place, cut_location, cut_text}

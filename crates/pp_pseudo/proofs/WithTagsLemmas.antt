@@ -16,10 +16,10 @@ use Rattle.pp_model.specs.Sizes.{IsCountable, absolute_sum, value_in}
 use Rattle.pp_model.proofs.RuleLemmas.{passes}
 use Rattle.pp_merge.proofs.MergedLengths.{no_longer}
 use Rattle.pp_merge.proofs.MergedTotals.{absolutes_within}
-use Rattle.pp_merge.proofs.NumberedLemmas.{all_by}
-use Rattle.pp_merge.specs.Described.{SampleText}
+use Rattle.pp_share.proofs.NumberedLemmas.{all_by}
+use Rattle.pp_share.specs.Described.{SampleText}
 use Rattle.pp_merge.specs.Merge.{contents, merged}
-use Rattle.pp_merge.specs.Written.{written}
+use Rattle.pp_share.specs.Written.{written}
 use Rattle.pp_restack.specs.Stacks.{made_contents}
 use Rattle.pp_restack.specs.Places.{IsCutSample, spread_in, told, with_cut}
 use Rattle.pp_merge.specs.Settled.{IsSettled}

@@ -9,7 +9,7 @@ use Rattle.pp_model.specs.declared.profile.Location.{Location}
 use Rattle.pp_model.specs.declared.profile.Sample.{Sample}
 use Rattle.pp_model.specs.declared.profile.Profile.{Profile}
 use Rattle.pp_model.specs.Rules.{NoRuleFails, IsCompact}
-use Rattle.pp_merge.specs.Described.{LocationText}
+use Rattle.pp_share.specs.Described.{LocationText}
 use Rattle.pp_restack.specs.Places.{ArePlaces, IsWithin, IsCutSample, entry_in, spread_in, located, told, with_cut}
 use Rattle.pp_pseudo.specs.Grown.{grown}
 use Rattle.pp_pseudo.specs.WithTags.{tagged_sample}

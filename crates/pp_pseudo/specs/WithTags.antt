@@ -11,8 +11,8 @@ use Rattle.pp_model.specs.FrameTexts.{written}
 use Rattle.pp_model.specs.Judged.{loaded_of}
 use Rattle.pp_stack.specs.Filters.{load_pruned}
 use Rattle.pp_stack.specs.LoadFinders.{load_finders}
-use Rattle.pp_merge.specs.Described.{FunctionText, LocationText, SampleText, label_text}
-use Rattle.pp_merge.specs.Written.{Contents, written as profile_of}
+use Rattle.pp_share.specs.Described.{FunctionText, LocationText, SampleText, label_text}
+use Rattle.pp_share.specs.Written.{Contents, written as profile_of}
 use Rattle.pp_restack.specs.Stacks.{by_place, cut_text, made_contents}
 use Rattle.pp_pseudo.specs.Values.{frame_names}
 

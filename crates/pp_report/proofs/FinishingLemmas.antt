@@ -28,14 +28,12 @@ use Rattle.pp_count.specs.Counts.{is_base, total_by, total_over, total_of, filte
 use Rattle.pp_count.specs.Seeing.{absolute_all, filtered_stack}
 use Rattle.pp_count.proofs.Kept.{values_fit}
 use Rattle.pp_count.proofs.Totals.{filter_size}
-use Rattle.pp_graph.specs.declared.ranking.Ranked.{Ranked}
 use Rattle.pp_graph.specs.declared.trimming.Trimmed.{Trimmed}
-use Rattle.pp_graph.specs.Trimmed.{IsRankedOf, IsTrimmedOf}
+use Rattle.pp_graph.specs.Trimmed.{IsTrimmedOf}
 use Rattle.pp_source.specs.declared.refusal.ListRefusal.{ListRefusal}
 use Rattle.pp_source.specs.Listing.{with_report, added_report}
-use Rattle.pp_dump.specs.Comments.{comments_text}
+use Rattle.pp_samples.specs.Comments.{comments_text}
 use Rattle.pp_dump.specs.Saved.{saved}
-use Rattle.pp_top.specs.Top.{CanShow}
 use Rattle.pp_tree.specs.Ends.{CanWalk}
 use Rattle.pp_report.specs.declared.prepared.Counts.{Counts}
 use Rattle.pp_report.specs.declared.refusal.ReportRefusal.{ReportRefusal}
@@ -43,16 +41,6 @@ use Rattle.pp_report.specs.declared.refusal.ReportRefusal.TheVariants.{NoMatch}
 use Rattle.pp_report.specs.Patterns.{report_finders}
 use Rattle.pp_report.specs.Prepared.{Showing, AreCounts, HasCounts}
 use Rattle.pp_report.specs.Reports.{of_found, finish_on, finish_by, text_by}
-
--- what a ranking shows can be written
-pub can_show : (l : Loaded) (v : Verdicts) (config : Config) (column : Option ℕ) (limit : ℕ) (c : Counted) (t : Ranked)
-    → IsCountedOf l v config column c → IsRankedOf l v config column limit c t → CanShow l.profile c.sums t.order
-can_show l v config column limit c t counted ranked = record {
-  keys = counted.of_profile;
-  fits = counted.fits;
-  below = ranked.below;
-  small = ranked.small;
-}
 
 -- the graph of a trimmed report can be walked
 pub can_walk : (l : Loaded) (v : Verdicts) (config : Config) (column : Option ℕ) (limit : ℕ) (c : Counted) (t : Trimmed)

@@ -13,7 +13,8 @@ use Rattle.pp_stack.specs.LoadFinders.{finder_by}
 use Rattle.pp_stack.proofs.LoadFinderLemmas.{same_judged}
 use Rattle.pp_count.specs.Counted.{CanCount}
 use Rattle.pp_count.specs.Seeing.{HoldsFilters}
-use Rattle.pp_report.specs.Patterns.{own_pattern, report_finders}
+use Rattle.pp_model.specs.ReportFacts.{own_pattern}
+use Rattle.pp_report.specs.Patterns.{report_finders}
 
 module _ (finds : Finds) (l : Loaded) (report : Report) (config : Config) (v : Verdicts)
     (are : AreVerdictsOf finds config (own_pattern report) l v) where

@@ -23,7 +23,8 @@ use Rattle.pp_report.specs.declared.prepared.Prepared.{Prepared}
 use Rattle.pp_report.specs.declared.refusal.ReportRefusal.{ReportRefusal}
 use Rattle.pp_report.specs.declared.shows.Shows.{Shows}
 use Rattle.pp_report.specs.Notes.{notes_by}
-use Rattle.pp_report.specs.Patterns.{own_pattern, report_finders, ask_patterns}
+use Rattle.pp_model.specs.ReportFacts.{own_pattern}
+use Rattle.pp_report.specs.Patterns.{report_finders, ask_patterns}
 use Rattle.pp_report.specs.Prepared.{Settled, Showing, showing, settled_by, settled_of, notes_of, answered, prepare_on, prepare_counts, prepare_showing, IsCounted, IsCountedBy, IsCountedOver, HasCounts, IsPrepared, showing_for}
 use Rattle.pp_report.specs.Tagged.{basis_of}
 use Rattle.pp_report.proofs.PatternLemmas.{report_holds, can_count}
@@ -163,6 +164,9 @@ showing_counts finds l reports.Raw config s other = refl
 showing_counts finds l reports.Comments config s other = absurd (other refl)
 showing_counts finds l reports.Proto config s other = refl
 showing_counts finds l (reports.List pattern) config s other = refl
+showing_counts finds l reports.Folded config s other = refl
+showing_counts finds l reports.Table config s other = refl
+showing_counts finds l reports.Compare config s other = refl
 
 module _ (finds : Finds) (l : Loaded) (report : Report) (config : Config) where
   -- it is known what the report shows

@@ -9,7 +9,7 @@ use Rattle.pp_units.specs.Shown.{forced, is_same_kind}
 use Rattle.pp_report.specs.declared.refusal.ReportRefusal.TheVariants.{BadSampleIndex, PatternRefused, NoMatch}
 use Rattle.pp_report.specs.Heads.{wanted_unit}
 use Rattle.pp_report.specs.Messages.{refusal_line}
-use Rattle.pp_report.specs.Names.{option_name}
+use Rattle.pp_model.specs.ReportFacts.{option_name}
 use Rattle.pp_report.specs.Notes.{note_unless, notes_by}
 use Rattle.pp_stack.specs.LoadFinders.{verdict_on}
 

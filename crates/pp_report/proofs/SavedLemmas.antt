@@ -17,7 +17,7 @@ use Rattle.pp_model.specs.Lookup.{text_of}
 use Rattle.pp_units.specs.Head.{Facts}
 use Rattle.pp_units.specs.Shown.{Shown, picked}
 use Rattle.pp_pattern.specs.Report.{Finds, finders_of}
-use Rattle.pp_merge.specs.Header.{HeaderText, TypeText, type_text, header_of}
+use Rattle.pp_share.specs.Header.{HeaderText, TypeText, type_text, header_of}
 use Rattle.pp_count.specs.Counted.{has_own_match}
 use Rattle.pp_graph.specs.Trim.{node_limit}
 use Rattle.pp_restack.specs.Stacks.{patternless}
@@ -34,11 +34,12 @@ use Rattle.pp_saved.proofs.Saving.{is_saved}
 use Rattle.pp_report.specs.declared.refusal.ReportRefusal.{ReportRefusal}
 use Rattle.pp_report.specs.declared.refusal.ReportRefusal.TheVariants.{NoMatch}
 use Rattle.pp_report.specs.Heads.{type_of, kind_text, unit_text, report_head}
-use Rattle.pp_report.specs.Patterns.{own_pattern, report_finders}
+use Rattle.pp_model.specs.ReportFacts.{is_counted, own_pattern}
+use Rattle.pp_report.specs.Patterns.{report_finders}
 use Rattle.pp_stack.specs.LoadFinders.{finder_by}
 use Rattle.pp_report.specs.Prepared.{Showing, showing_for}
 use Rattle.pp_report.specs.Reports.{finish, finish_on, finish_by, text_by}
-use Rattle.pp_report.specs.Tagged.{basis_of, is_comments, tagged_by}
+use Rattle.pp_report.specs.Tagged.{basis_of, tagged_by}
 use Rattle.pp_report.specs.SavedReports.{SavedReports, IsSavedOf, NamesNoKey, reads_figures}
 use Rattle.pp_report.proofs.TypesLemmas.{HasTypesOf, same_showing, types_by_header}
 
@@ -77,7 +78,7 @@ head_is p f config column wanted =
 -- without keys no frames are made from labels
 pub plain_basis : (report : Report) (l : Loaded) (config : Config) → NamesNoKey config → basis_of report l config ≡ l
 unfolding basis_of
-plain_basis report l config keyless = (λ i. if is_comments report then l else tagged_by l (keyless.roots i) (keyless.leaves i)) ∙ by (is_comments report)
+plain_basis report l config keyless = (λ i. if is_counted report then tagged_by l (keyless.roots i) (keyless.leaves i) else l) ∙ by (is_counted report)
   where
     by : (b : Bool) → (if b then l else l) ≡ l
     by true = refl
@@ -160,18 +161,13 @@ text_same finds l r reports.Raw config can is by_keys reads s within = absurd (f
 text_same finds l r reports.Comments config can is by_keys reads s within = absurd (false≢true reads)
 text_same finds l r reports.Proto config can is by_keys reads s within = absurd (false≢true reads)
 text_same finds l r (reports.List pattern) config can is by_keys reads s within = absurd (false≢true reads)
+text_same finds l r reports.Folded config can is by_keys reads s within = absurd (false≢true reads)
+text_same finds l r reports.Table config can is by_keys reads s within = absurd (false≢true reads)
+text_same finds l r reports.Compare config can is by_keys reads s within = absurd (false≢true reads)
 
 -- shows what the configuration shows, filtered or not
 unfiltered_shows : (report : Report) (p : Profile) (config : Config) → reads_figures report ≡ true → showing_for report p (unfiltered config) ≡ showing_for report p config
-unfiltered_shows reports.Top p config reads = refl
-unfiltered_shows reports.Tree p config reads = refl
-unfiltered_shows (reports.Peek pattern) p config reads = refl
-unfiltered_shows reports.Traces p config reads = refl
-unfiltered_shows reports.Tags p config reads = refl
-unfiltered_shows reports.Raw p config reads = refl
-unfiltered_shows reports.Comments p config reads = refl
-unfiltered_shows reports.Proto p config reads = refl
-unfiltered_shows (reports.List pattern) p config reads = refl
+unfiltered_shows report p config reads = refl
 
 -- The reports are alike.
 pub saved_reports : SavedReports

@@ -23,7 +23,7 @@ use Rattle.pp_model.specs.Lookup.{text_of}
 use Rattle.pp_model.specs.Rules.{NoRuleFails}
 use Rattle.pp_model.specs.Sizes.{IsCountable}
 use Rattle.pp_units.specs.Shown.{Shown}
-use Rattle.pp_merge.specs.Header.{HeaderText}
+use Rattle.pp_share.specs.Header.{HeaderText}
 use Rattle.pp_merge.specs.Merge.{merged}
 use Rattle.pp_pattern.specs.Report.{Finds}
 use Rattle.pp_tables.specs.Encode.{encode}
@@ -116,6 +116,9 @@ module _ (p : Profile) where
     showing_bound reports.Comments reads is = absurd (false≢true reads)
     showing_bound reports.Proto reads is = absurd (false≢true reads)
     showing_bound (reports.List pattern) reads is = absurd (false≢true reads)
+    showing_bound reports.Folded reads is = absurd (false≢true reads)
+    showing_bound reports.Table reads is = absurd (false≢true reads)
+    showing_bound reports.Compare reads is = absurd (false≢true reads)
 
 -- ---- what a report comes to that reads figures, where no pattern is refused
 
@@ -132,6 +135,9 @@ made_at_once finds l reports.Raw config reads s = absurd (false≢true reads)
 made_at_once finds l reports.Comments config reads s = absurd (false≢true reads)
 made_at_once finds l reports.Proto config reads s = absurd (false≢true reads)
 made_at_once finds l (reports.List pattern) config reads s = absurd (false≢true reads)
+made_at_once finds l reports.Folded config reads s = absurd (false≢true reads)
+made_at_once finds l reports.Table config reads s = absurd (false≢true reads)
+made_at_once finds l reports.Compare config reads s = absurd (false≢true reads)
 
 module _ (finds : Finds) (l : Loaded) (report : Report) (config : Config) (reads : reads_figures report ≡ true) where
   not_comments : report ≡ reports.Comments → ⊥

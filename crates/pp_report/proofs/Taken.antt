@@ -21,7 +21,8 @@ use Rattle.pp_pattern.specs.Report.{Finds, judge_frames, judge_filter, judge_tag
 use Rattle.pp_tags.specs.declared.tag_filter.TagFilter.{TagFilter}
 use Rattle.pp_tags.specs.TagFilters.{subjects}
 use Rattle.pp_report.specs.declared.refusal.ReportRefusal.{ReportRefusal}
-use Rattle.pp_report.specs.Patterns.{own_pattern, ask_patterns, of_judged}
+use Rattle.pp_model.specs.ReportFacts.{own_pattern}
+use Rattle.pp_report.specs.Patterns.{ask_patterns, of_judged}
 use Rattle.pp_report.specs.Prepared.{Showing, Settled, prepare_counts, settled_of}
 use Rattle.pp_report.specs.SavedText.{AllTaken}
 

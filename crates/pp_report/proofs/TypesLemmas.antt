@@ -1,6 +1,6 @@
 -- What a report shows is known by the texts of the sample types, and frames from labels leave these.
 use Rattle.std.proofs.Common.{◌≡◌, ℕ, ◌<◌, ◌+◌, Bool, true, false, cond, not, List, [], ◌∷◌, length, map, refl, sym, ap, ◌∙◌, subst}
-use Rattle.std.specs.Prelude.{⊤, ◌==◌, ◌&&◌, nat_lt, Option, Some, None, option_map, position, slice_get, bytes_eq, if◌then◌else◌}
+use Rattle.std.specs.Prelude.{⊤, ◌==◌, ◌&&◌, nat_lt, Option, Some, None, Ok, option_map, position, slice_get, bytes_eq, if◌then◌else◌}
 use Rattle.std.specs.List.{AllByRecursion, list_all, prefix_len}
 use Rattle.std.specs.Char.{is_ascii_digit}
 use Rattle.std.specs.Option.{MatchOption, option_and_then, option_map_or}
@@ -11,11 +11,11 @@ use Rattle.pp_model.specs.declared.config.Config.{Config}
 use Rattle.pp_model.specs.declared.loaded.Loaded.{Loaded}
 use Rattle.pp_model.specs.declared.profile.Profile.{Profile}
 use Rattle.pp_model.specs.declared.report.Report.{Report}
-use Rattle.pp_model.specs.declared.report.Report.TheVariants as reports
 use Rattle.pp_model.specs.Conditions.{IsColumnOf}
 use Rattle.pp_model.specs.Lookup.{text_of}
-use Rattle.pp_merge.specs.Header.{HeaderText, TypeText, type_text, first_nonempty, header_of}
-use Rattle.pp_merge.specs.Written.{Contents, type_texts, written, written_type}
+use Rattle.pp_model.specs.ReportFacts.{shows_values, is_counted}
+use Rattle.pp_share.specs.Header.{HeaderText, TypeText, type_text, first_nonempty, header_of}
+use Rattle.pp_share.specs.Written.{Contents, type_texts, written, written_type}
 use Rattle.pp_merge.proofs.RoundTrip.{IsText, text_again}
 use Rattle.pp_merge.proofs.WrittenValid.{last_texts, texts_of_types}
 use Rattle.pp_count.specs.Column.{column_of, first_else, last_of, type_named}
@@ -24,7 +24,7 @@ use Rattle.pp_pseudo.specs.KeyList.{key_list}
 use Rattle.pp_pseudo.specs.WithTags.{tagged, tagged_contents}
 use Rattle.pp_report.specs.Heads.{unit_text, wanted_unit}
 use Rattle.pp_report.specs.Prepared.{in_column, in_unit, showing_for}
-use Rattle.pp_report.specs.Tagged.{basis_of, is_comments, tagged_by, tagged_for}
+use Rattle.pp_report.specs.Tagged.{basis_of, tagged_by, tagged_for}
 
 -- The sample types of q, and its default, are those of p.
 pub record HasTypesOf (p q : Profile) : Type 0 where
@@ -85,15 +85,12 @@ module _ (p q : Profile) (same : HasTypesOf p q) where
 
   -- a report shows the same of both
   pub same_showing : (report : Report) (config : Config) → showing_for report q config ≡ showing_for report p config
-  same_showing reports.Top config = same_values config
-  same_showing reports.Tree config = same_values config
-  same_showing (reports.Peek pattern) config = same_values config
-  same_showing reports.Traces config = same_values config
-  same_showing reports.Tags config = same_values config
-  same_showing reports.Raw config = refl
-  same_showing reports.Comments config = refl
-  same_showing reports.Proto config = refl
-  same_showing (reports.List pattern) config = same_values config
+  same_showing report config =
+      elim (shows_values report) as (λ values. (if values then in_column q config (column_of q config.sample_index) else Ok (record { column = None; wanted = None }))
+      ≡ (if values then in_column p config (column_of p config.sample_index) else Ok (record { column = None; wanted = None }))) [
+        | true ↦ same_values config
+        | false ↦ refl
+      ]
 
   -- a column of one is one of the other
   pub same_bound : (column : Option ℕ) → IsColumnOf p column → IsColumnOf q column
@@ -135,9 +132,9 @@ module _ (l : Loaded) where
 
   pub basis_types : (report : Report) (config : Config) → HasTypesOf l.profile (basis_of report l config).profile
   unfolding basis_of
-  basis_types report config = elim (is_comments report) as (λ comments. HasTypesOf l.profile (if comments then l else tagged_for l config).profile) [
-    | true ↦ record { types = refl; default = refl }
-    | false ↦ by_types (key_list config.tagroot) (key_list config.tagleaf)
+  basis_types report config = elim (is_counted report) as (λ counted. HasTypesOf l.profile (if counted then tagged_for l config else l).profile) [
+    | true ↦ by_types (key_list config.tagroot) (key_list config.tagleaf)
+    | false ↦ record { types = refl; default = refl }
   ]
 
   -- What a report shows is decided on the loaded profile.

@@ -1,5 +1,5 @@
 -- What a report shows: its column, its unit and the head above it.
-use Rattle.std.specs.Prelude.{ℕ, List, [], ◌∷◌, slice_get, Option, None, Some, option_map, unwrap_or}
+use Rattle.std.specs.Prelude.{ℕ, List, [], ◌∷◌, codes, bytes_eq, slice_get, Option, None, Some, option_map, unwrap_or, if◌then◌else◌}
 use Rattle.std.specs.Option.{option_and_then, option_map_or}
 use Rattle.pp_model.specs.declared.config.Config.{Config}
 use Rattle.pp_model.specs.declared.profile.Profile.{Profile}
@@ -7,7 +7,7 @@ use Rattle.pp_model.specs.declared.profile.ValueType.{ValueType}
 use Rattle.pp_model.specs.Finders.{Finders}
 use Rattle.pp_model.specs.Lookup.{text_of}
 use Rattle.pp_units.specs.Head.{Facts}
-use Rattle.pp_units.specs.Shown.{Shown, forced, picked}
+use Rattle.pp_units.specs.Shown.{Shown, each, forced, picked}
 use Rattle.pp_count.specs.Counts.{total_of}
 
 -- the sample type of the column, if there is one
@@ -26,11 +26,17 @@ unit_text p column = option_map_or (λ t. text_of p t.unit) (type_of p column) [
 abbrev pub first_file : Profile → List ℕ
 first_file p = option_map_or (λ m. text_of p m.file) (slice_get p.mapping 0) []
 
--- The unit that is asked for, as values of the other one are printed in it. The outer
--- None says that it measures something else, the inner one that none is asked for.
+-- the word that asks for a unit for each value
+abbrev pub each_word : List ℕ
+each_word = codes "each"
+
+-- The unit that is asked for, as values of the other one are printed in it: `each` asks for one for each value. The
+-- outer None says that it measures something else, the inner one that none is asked for.
 abbrev pub wanted_unit : List ℕ → List ℕ → Option (Option Shown)
 wanted_unit [] unit = Some None
-wanted_unit (b ∷ wanted) unit = option_map Some (forced (b ∷ wanted) unit)
+wanted_unit (b ∷ wanted) unit =
+    if bytes_eq (b ∷ wanted) each_word then Some (Some (each unit))
+    else option_map Some (forced (b ∷ wanted) unit)
 
 -- The head of a report over a total, whose values are printed in the unit that is wanted,
 -- else in the one picked for the total.

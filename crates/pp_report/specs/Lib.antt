@@ -1,4 +1,3 @@
-pub mod Names
 pub mod Messages
 pub mod Notes
 pub mod Heads

@@ -1,9 +1,9 @@
 -- The lines that tell why a report is not made.
 use Rattle.std.specs.Prelude.{ℕ, List, ◌++◌, codes}
 use Rattle.pp_model.specs.declared.report.Report.{Report}
+use Rattle.pp_model.specs.ReportFacts.{option_name}
 use Rattle.pp_report.specs.declared.refusal.ReportRefusal.{ReportRefusal}
 use Rattle.pp_report.specs.declared.refusal.ReportRefusal.TheVariants as refusals
-use Rattle.pp_report.specs.Names.{option_name}
 
 -- why the report is not made
 abbrev pub reason_text : Report → ReportRefusal → List ℕ
@@ -12,6 +12,7 @@ reason_text report refusals.UnitMismatch = codes "unit: other than the sample's 
 reason_text report (refusals.PatternRefused option) =
     option_name report option ++ codes ": pattern refused"
 reason_text report refusals.NoMatch = codes "no function matches"
+reason_text report refusals.NoBase = codes "compare: no -diff_base was given"
 
 -- The line on a report that is not made, opaque, so that no goal shows its bytes.
 unfoldable pub refusal_line : Report → ReportRefusal → List ℕ

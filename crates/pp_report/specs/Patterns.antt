@@ -1,24 +1,18 @@
 -- The patterns of a report, and what they find.
-use Rattle.std.specs.Prelude.{ℕ, List, Option, Some, None, Result, Ok, Err, option_map}
+use Rattle.std.specs.Prelude.{ℕ, List, Result, Ok, Err, option_map}
 use Rattle.pp_desk.specs.Asking.{Asking}
 use Rattle.pp_desk.specs.Script.{Give, ◌>>=◌}
 use Rattle.pp_model.specs.declared.config.Config.{Config}
 use Rattle.pp_model.specs.declared.loaded.Loaded.{Loaded}
 use Rattle.pp_model.specs.declared.report.Report.{Report}
-use Rattle.pp_model.specs.declared.report.Report.TheVariants as reports
 use Rattle.pp_model.specs.declared.verdicts.Verdicts.{Verdicts}
 use Rattle.pp_model.specs.Finders.{Finders}
+use Rattle.pp_model.specs.ReportFacts.{own_pattern}
 use Rattle.pp_stack.specs.LoadFinders.{finder_by}
 use Rattle.pp_pattern.specs.declared.report.PatternRefused.{PatternRefused as Refused}
 use Rattle.pp_pattern.specs.Report.{Finds, judge, finders_of}
 use Rattle.pp_report.specs.declared.refusal.ReportRefusal.{ReportRefusal}
 use Rattle.pp_report.specs.declared.refusal.ReportRefusal.TheVariants.{PatternRefused}
-
--- the pattern that a report has of its own
-abbrev pub own_pattern : Report → Option (List ℕ)
-own_pattern (reports.Peek pattern) = Some pattern
-own_pattern (reports.List pattern) = Some pattern
-own_pattern report = None
 
 -- What the patterns of a report find, and those of its profile.
 abbrev pub report_finders : Finds → Loaded → Report → Config → Finders

@@ -1,5 +1,5 @@
 -- What is settled before the text of a report is made: what it shows, what it asks for, and its notes.
-use Rattle.std.specs.Prelude.{◌≡◌, ℕ, List, [], Option, Some, None, Result, Ok, Err, option_map, unwrap_or}
+use Rattle.std.specs.Prelude.{◌≡◌, ℕ, List, [], Option, Some, None, Result, Ok, Err, option_map, unwrap_or, if◌then◌else◌}
 use Rattle.pp_base.specs.Front.{IsFront}
 use Rattle.pp_desk.specs.declared.stop.Stop.{Stop}
 use Rattle.pp_desk.specs.Asking.{Asking, ◌>>=◌, go_on}
@@ -10,6 +10,7 @@ use Rattle.pp_model.specs.declared.profile.Profile.{Profile}
 use Rattle.pp_model.specs.declared.report.Report.{Report}
 use Rattle.pp_model.specs.declared.report.Report.TheVariants as reports
 use Rattle.pp_model.specs.declared.verdicts.Verdicts.{Verdicts}
+use Rattle.pp_model.specs.ReportFacts.{shows_values}
 use Rattle.pp_pattern.specs.Report.{Finds}
 use Rattle.pp_units.specs.Shown.{Shown, shown}
 use Rattle.pp_count.specs.declared.counted.Counted.{Counted}
@@ -41,12 +42,11 @@ abbrev pub in_column : Profile → Config → Option (Option ℕ) → Result Sho
 in_column p config None = Err BadSampleIndex
 in_column p config (Some column) = in_unit column (wanted_unit config.unit (unit_text p column))
 
--- What a report shows. Raw, comments and proto show no column, and are not refused for it.
+-- What a report shows. One that shows no values has no column, and is not refused for it.
 abbrev pub showing_for : Report → Profile → Config → Result Showing ReportRefusal
-showing_for reports.Raw p config = Ok (record { column = None; wanted = None })
-showing_for reports.Comments p config = Ok (record { column = None; wanted = None })
-showing_for reports.Proto p config = Ok (record { column = None; wanted = None })
-showing_for report p config = in_column p config (column_of p config.sample_index)
+showing_for report p config =
+    if shows_values report then in_column p config (column_of p config.sample_index)
+    else Ok (record { column = None; wanted = None })
 
 -- What a report shows, and its notes.
 pub record Settled : Type 0 where

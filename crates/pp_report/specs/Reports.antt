@@ -11,21 +11,25 @@ use Rattle.pp_model.specs.Finders.{Finders}
 use Rattle.pp_units.specs.Head.{Facts}
 use Rattle.pp_tables.specs.Encode.{encode}
 use Rattle.pp_pattern.specs.Report.{Finds}
+use Rattle.pp_count.specs.Base.{has_base}
 use Rattle.pp_count.specs.Counted.{has_own_match}
 use Rattle.pp_graph.specs.Trim.{node_limit}
 use Rattle.pp_top.specs.Top.{top_text}
 use Rattle.pp_tree.specs.Tree.{tree_text}
 use Rattle.pp_calltree.specs.Text.{calltree_text}
+use Rattle.pp_compare.specs.Compare.{compare_text}
+use Rattle.pp_export.specs.Folded.{folded_text}
+use Rattle.pp_export.specs.Table.{table_text}
 use Rattle.pp_tree.specs.Peek.{peek_text}
-use Rattle.pp_dump.specs.Traces.{traces_text}
-use Rattle.pp_dump.specs.TagLines.{tags_text}
+use Rattle.pp_samples.specs.Traces.{traces_text}
+use Rattle.pp_samples.specs.TagLines.{tags_text}
 use Rattle.pp_dump.specs.Raw.{raw_text}
-use Rattle.pp_dump.specs.Comments.{comments_text}
+use Rattle.pp_samples.specs.Comments.{comments_text}
 use Rattle.pp_dump.specs.Saved.{saved}
 use Rattle.pp_source.specs.Listing.{list_report}
 use Rattle.pp_report.specs.declared.refusal.ReportRefusal.{ReportRefusal}
-use Rattle.pp_report.specs.declared.refusal.ReportRefusal.TheVariants.{NoMatch}
-use Rattle.pp_report.specs.Heads.{report_head}
+use Rattle.pp_report.specs.declared.refusal.ReportRefusal.TheVariants.{NoMatch, NoBase}
+use Rattle.pp_report.specs.Heads.{report_head, unit_text}
 use Rattle.pp_report.specs.Patterns.{report_finders}
 use Rattle.pp_report.specs.Prepared.{Showing, Settled, prepare}
 use Rattle.pp_report.specs.Tagged.{basis_of}
@@ -53,6 +57,12 @@ tree_report_text p f config column h =
     if config.path_tree then calltree_text p f config column h
     else tree_text p f config column (node_limit config.nodecount 80) h
 
+-- what a compare report comes to
+abbrev pub compare_outcome : Profile → Finders → Config → Option ℕ → Facts → Result (List ℕ) ReportRefusal
+compare_outcome p f config column h =
+    if has_base p then Ok (compare_text p f config column (node_limit config.nodecount 0) h)
+    else Err NoBase
+
 -- The text of a report with this head, once its patterns are known. Only a list report reads files.
 unfoldable pub text_by : Profile → Finders → Config → Option ℕ → Facts → Report
     → Script (Result (List ℕ) ReportRefusal)
@@ -66,6 +76,10 @@ text_by p f config column h reports.Raw = Give (Ok (raw_text (saved p f config))
 text_by p f config column h reports.Comments = Give (Ok (comments_text p))
 text_by p f config column h reports.Proto = Give (Ok (encode (saved p f config)))
 text_by p f config column h (reports.List pattern) = list_text p f config column h
+text_by p f config column h reports.Folded = Give (Ok (folded_text p f config column))
+text_by p f config column h reports.Table =
+    Give (Ok (table_text p f config column (node_limit config.nodecount 0) (unit_text p column)))
+text_by p f config column h reports.Compare = Give (compare_outcome p f config column h)
 
 -- The text of a report of this column and unit, by what its patterns find.
 abbrev pub finish_by : Profile → Finders → Config → Showing → Report

@@ -1,9 +1,9 @@
 -- The profile that a report is made of: the loaded one, or that one with frames made from labels.
-use Rattle.std.specs.Prelude.{ℕ, ◌==◌, ◌&&◌, Bool, true, false, List, length, if◌then◌else◌}
+use Rattle.std.specs.Prelude.{ℕ, ◌==◌, ◌&&◌, List, length, if◌then◌else◌}
 use Rattle.pp_model.specs.declared.config.Config.{Config}
 use Rattle.pp_model.specs.declared.loaded.Loaded.{Loaded}
 use Rattle.pp_model.specs.declared.report.Report.{Report}
-use Rattle.pp_model.specs.declared.report.Report.TheVariants as reports
+use Rattle.pp_model.specs.ReportFacts.{is_counted}
 use Rattle.pp_pseudo.specs.KeyList.{key_list}
 use Rattle.pp_pseudo.specs.WithTags.{tagged}
 
@@ -16,12 +16,7 @@ tagged_by l roots leaves =
 abbrev pub tagged_for : Loaded → Config → Loaded
 tagged_for l config = tagged_by l (key_list config.tagroot) (key_list config.tagleaf)
 
--- a comments report
-abbrev pub is_comments : Report → Bool
-is_comments reports.Comments = true
-is_comments report = false
-
--- What a report is made of, also the texts that its patterns are asked of. A comments report is made of the loaded
--- profile.
+-- What a report is made of, also the texts that its patterns are asked of. One that counts no samples is made of the
+-- loaded profile.
 unfoldable pub basis_of : Report → Loaded → Config → Loaded
-basis_of report l config = if is_comments report then l else tagged_for l config
+basis_of report l config = if is_counted report then tagged_for l config else l

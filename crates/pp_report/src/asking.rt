@@ -1,12 +1,11 @@
 //! The patterns of a report.
 ghost use Rattle.std.specs.Prelude.{◌≡◌, IfOk};
-ghost use Rattle.std.specs.Option.{option_copied};
 ghost use Rattle.pp_desk.specs.Went.{Went};
+ghost use Rattle.pp_model.specs.ReportFacts.{own_pattern};
 ghost use Rattle.pp_pattern.specs.Report.{AreVerdictsOf};
-ghost use Rattle.pp_report.specs.Patterns.{own_pattern, ask_patterns};
+ghost use Rattle.pp_report.specs.Patterns.{ask_patterns};
 
 use crate::ReportRefusal;
-use pp_base::Text;
 use pp_desk::{Desk, Stop};
 use pp_model::{Config, Loaded, Report, Verdicts};
 use pp_pattern::judge;
@@ -26,20 +25,10 @@ pub fn ask_patterns<D: Desk>(
     ensures are { IfOk result (λ answer. IfOk answer
         (AreVerdictsOf D.finds config.now (own_pattern report.now) l.now)) }
 {
-    match judge(alloc, desk, config, own_pattern(report), l)? {
+    match judge(alloc, desk, config, report.own_pattern(), l)? {
         Ok(verdicts) => Ok(Ok(verdicts)),
         Err(refused) => Ok(Err(ReportRefusal::PatternRefused {
             option: refused.option,
         })),
-    }
-}
-
-// The pattern that the report has of its own.
-fn own_pattern(report: &Report) -> Option<&Text>
-    ensures { option_copied result ≡ own_pattern report.now }
-{
-    match report {
-        Report::Peek(pattern) | Report::List(pattern) => Some(pattern),
-        _ => None,
     }
 }

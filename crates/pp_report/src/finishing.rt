@@ -13,6 +13,8 @@ ghost use Rattle.pp_report.specs.SavedText.{OnText, IsProtoOf, IsProtoBy};
 ghost use Rattle.pp_report.specs.Tagged.{basis_of};
 
 use crate::ReportRefusal;
+use crate::comparing::compare;
+use crate::exports::{folded, table};
 use crate::heads::head_of;
 use crate::prepared::{Counts, Prepared};
 use crate::shows::Shows;
@@ -27,8 +29,8 @@ use pp_units::Head;
 use std::alloc::Global;
 use std::thread::Threads;
 
-/// The text of a report that was prepared, or `NoMatch` where the pattern of a peek or list report finds nothing. Only
-/// a list report reads files.
+/// The text of a report that was prepared, `NoMatch` where the pattern of a peek or list report finds nothing, or
+/// `NoBase` where a compare report has no base. Only a list report reads files.
 pub fn finish<R: Threads + Sync, D: Desk, G: Gate>(
     rt: &R,
     alloc: Global,
@@ -117,6 +119,9 @@ fn text_by<R: Threads + Sync, D: Desk, G: Gate>(
         Report::Comments => Ok(Ok(comments(alloc, l)?)),
         Report::Proto => Ok(Ok(proto(alloc, l, config, column, counts)?)),
         Report::List(_) => list(alloc, l, config, column, counts, head, desk),
+        Report::Folded => Ok(Ok(folded(alloc, l, config, column, counts)?)),
+        Report::Table => Ok(Ok(table(alloc, l, config, column, counts)?)),
+        Report::Compare => Ok(compare(rt, alloc, l, config, column, counts, head, gate)?),
     }
 }
 

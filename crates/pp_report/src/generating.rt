@@ -20,13 +20,14 @@ use std::alloc::Global;
 use std::thread::Threads;
 
 /// Makes a report: its text, or why there is none. Its notes are appended to `notes`, also where the answer is
-/// `NoMatch`.
+/// `NoMatch` or `NoBase`.
 ///
 /// Where `tagroot` or `tagleaf` names a key, each report but comments is made of the profile with the frames from
 /// labels.
 ///
 /// It is refused for its column, then for its unit, both before any pattern is asked, then for the first pattern that
-/// the matcher refuses, and last where the pattern of a peek or list report finds no function that could be shown.
+/// the matcher refuses, and last where the pattern of a peek or list report finds no function that could be shown, or
+/// where a compare report has no base.
 /// `Err` is the failure of a file that a list report reads, or want of memory; a front of the notes is appended then.
 ///
 /// Where no frames are made from labels, the text of a proto report is read as the profile that was saved. That profile

@@ -3,6 +3,8 @@
 #![tactic(auto)]
 
 mod asking;
+mod comparing;
+mod exports;
 mod finishing;
 mod generating;
 mod heads;

@@ -1,6 +1,6 @@
 //! The lines that tell why a report is not made.
 ghost use Rattle.std.specs.Prelude.{◌≡◌, ◌++◌, codes, IfOk};
-ghost use Rattle.pp_report.specs.Names.{own_name, option_name};
+ghost use Rattle.pp_model.specs.ReportFacts.{option_name};
 ghost use Rattle.pp_report.specs.Messages.{reason_text, refusal_line};
 
 use crate::ReportRefusal;
@@ -27,6 +27,7 @@ fn put_reason(report: &Report, refusal: ReportRefusal, line: &mut Text) -> Resul
         ReportRefusal::UnitMismatch => line.extend(b"unit: other than the sample's kind"),
         ReportRefusal::PatternRefused { option } => put_refused(report, option, line),
         ReportRefusal::NoMatch => line.extend(b"no function matches"),
+        ReportRefusal::NoBase => line.extend(b"compare: no -diff_base was given"),
     }
 }
 
@@ -34,36 +35,6 @@ fn put_refused(report: &Report, option: Slot, line: &mut Text) -> Result<(), Mem
     ensures { IfOk result (λ _.
         line.new ≡ line.old ++ (option_name report.now option ++ codes ": pattern refused")) }
 {
-    line.extend(option_name(report, option))?;
+    line.extend(report.option_name(option))?;
     line.extend(b": pattern refused")
-}
-
-// What an option is called.
-#[tactic(auto, unfolding(crate::specs::Names::option_name))]
-fn option_name(report: &Report, option: Slot) -> &'static [u8]
-    ensures { result.now ≡ option_name report.now option }
-{
-    match option {
-        Slot::Focus => b"focus",
-        Slot::Ignore => b"ignore",
-        Slot::Hide => b"hide",
-        Slot::Show => b"show",
-        Slot::ShowFrom => b"show_from",
-        Slot::TagFocus => b"tagfocus",
-        Slot::TagIgnore => b"tagignore",
-        Slot::PruneFrom => b"prune_from",
-        Slot::TagShow => b"tagshow",
-        Slot::TagHide => b"taghide",
-        Slot::Own => own_name(report),
-    }
-}
-
-// What a report's own pattern is called.
-fn own_name(report: &Report) -> &'static [u8]
-    ensures { result.now ≡ own_name report.now }
-{
-    match report {
-        Report::Peek(_) => b"peek",
-        _ => b"list",
-    }
 }

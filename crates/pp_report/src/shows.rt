@@ -11,10 +11,10 @@ use crate::ReportRefusal;
 use pp_base::Memory;
 use pp_count::column_of;
 use pp_model::{Config, Loaded, Profile, Report, ValueType, text_of};
-use pp_units::{Unit, forced_unit};
+use pp_units::{Unit, each_unit, forced_unit};
 use std::alloc::Global;
 
-/// What a report shows. Raw, comments and proto show no column.
+/// What a report shows: no column where it shows no values.
 #[derive(Drop)]
 pub struct Shows {
     /// The place of the sample type, None where there is none.
@@ -36,17 +36,17 @@ pub fn shows_for(
     ensures bound { IfOk result (λ answer. IfOk answer
         (λ shows. IsColumnOf l.now.profile shows.column)) }
 {
-    match report {
-        Report::Raw | Report::Comments | Report::Proto => Ok(Ok(Shows {
+    if !report.shows_values() {
+        return Ok(Ok(Shows {
             column: None,
             unit: None,
-        })),
-        _ => shows_values(alloc, l, config),
+        }));
     }
+    values_shown(alloc, l, config)
 }
 
 // What a report of values shows.
-fn shows_values(
+fn values_shown(
     alloc: Global,
     l: &Loaded,
     config: &Config,
@@ -74,6 +74,9 @@ fn wanted_unit(alloc: Global, wanted: &[u8], values: &[u8]) -> Result<Option<Opt
 {
     if wanted.is_empty() {
         return Ok(Some(None));
+    }
+    if wanted == b"each".as_slice() {
+        return Ok(Some(Some(each_unit(alloc, values)?)));
     }
     match forced_unit(alloc, wanted, values)? {
         Some(unit) => Ok(Some(Some(unit))),

@@ -1,7 +1,7 @@
 //! The profile that a report is made of.
 ghost use Rattle.std.specs.Prelude.{◌≡◌, IfOk, unwrap_or};
 ghost use Rattle.pp_model.specs.Sizes.{IsCountable};
-ghost use Rattle.pp_report.specs.Tagged.{basis_of, is_comments, tagged_by, tagged_for};
+ghost use Rattle.pp_report.specs.Tagged.{basis_of, tagged_by, tagged_for};
 
 use pp_base::{List, Memory, Text};
 use pp_model::{Config, Loaded, Report};
@@ -21,19 +21,10 @@ pub fn tagged_of(
         unwrap_or tagged l.now ≡ basis_of report.now l.now config.now) }
     ensures countable { IfOk result (λ tagged. IsCountable (unwrap_or tagged l.now).profile) }
 {
-    if is_comments(report) {
+    if !report.is_counted() {
         return Ok(None);
     }
     tagged_for(alloc, l, config)
-}
-
-fn is_comments(report: &Report) -> bool
-    ensures { result ≡ is_comments report.now }
-{
-    match report {
-        Report::Comments => true,
-        _ => false,
-    }
 }
 
 // The profile with the frames that the configuration asks for, None where it names no key.

@@ -8,10 +8,10 @@ ghost use Rattle.pp_count.specs.Seeing.{HoldsFilters};
 ghost use Rattle.pp_graph.specs.Trim.{node_limit};
 ghost use Rattle.pp_top.specs.Top.{top_text};
 ghost use Rattle.pp_tree.specs.Tree.{tree_text};
-ghost use Rattle.pp_dump.specs.Traces.{traces_text};
-ghost use Rattle.pp_dump.specs.TagLines.{tags_text};
+ghost use Rattle.pp_samples.specs.Traces.{traces_text};
+ghost use Rattle.pp_samples.specs.TagLines.{tags_text};
 ghost use Rattle.pp_dump.specs.Raw.{raw_text};
-ghost use Rattle.pp_dump.specs.Comments.{comments_text};
+ghost use Rattle.pp_samples.specs.Comments.{comments_text};
 ghost use Rattle.pp_dump.specs.Saved.{AreKept, saved};
 ghost use Rattle.pp_saved.specs.Kept.{IsLasting};
 ghost use Rattle.pp_report.specs.Reports.{peek_outcome};
@@ -20,9 +20,10 @@ ghost use Rattle.pp_report.specs.SavedText.{IsProtoOf};
 use crate::ReportRefusal;
 use crate::prepared::Counts;
 use pp_base::{Gate, MatchRefusal, Memory, Text};
-use pp_dump::{saved_profile, write_comments, write_raw, write_tags, write_traces};
+use pp_dump::{saved_profile, write_raw};
 use pp_graph::{node_limit, rank, trim};
 use pp_model::{Compact, Config, Loaded};
+use pp_samples::{write_comments, write_tags, write_traces};
 use pp_tables::write_profile;
 use pp_top::write_top;
 use pp_tree::{write_peek, write_tree};
@@ -80,8 +81,8 @@ pub fn tree<R: Threads + Sync, G: Gate>(
     Ok(text)
 }
 
-// The most nodes of a report that has this limit of its own, where 0 is none.
-fn limit_of(config: &Config, own: u32) -> u32
+/// The most nodes of a report that has this limit of its own, where 0 is none.
+pub fn limit_of(config: &Config, own: u32) -> u32
     ensures { result ≡ node_limit config.now.nodecount own }
 {
     node_limit(config.nodecount, own)

@@ -13,7 +13,7 @@ use Rattle.pp_model.specs.declared.profile.Profile.{Profile}
 use Rattle.pp_model.specs.Lookup.{text_at}
 use Rattle.pp_model.specs.Rules.{NoRuleFails, IsCompact, begins_empty, zero_unless, is_text, header_texts, label_has_texts, location_refers, stands_in}
 use Rattle.pp_model.proofs.RuleLemmas.{passes}
-use Rattle.pp_merge.proofs.NumberedLemmas.{all_by, all_pass, nowhere, nonzero, unrepeated, stands_at}
+use Rattle.pp_share.proofs.NumberedLemmas.{all_by, all_pass, nowhere, nonzero, unrepeated, stands_at}
 use Rattle.pp_restack.specs.Places.{ArePlaces, IsWithin, IsCutSample, ids_of, with_cut}
 
 -- a choice that gives nothing was made

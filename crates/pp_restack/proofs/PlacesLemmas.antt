@@ -20,7 +20,7 @@ use Rattle.pp_model.specs.Conditions.{no_location, location_at, IsFrameOf}
 use Rattle.pp_model.specs.Frames.{line_at}
 use Rattle.pp_model.specs.Rules.{NoRuleFails, AreNumbered, location_refers, is_zero_or_in, function_ids}
 use Rattle.pp_model.proofs.RuleLemmas.{passes}
-use Rattle.pp_merge.proofs.NumberedLemmas.{all_pass}
+use Rattle.pp_share.proofs.NumberedLemmas.{all_pass}
 use Rattle.pp_restack.specs.Stacks.{lines_of, cut_location}
 use Rattle.pp_restack.specs.Places.{with_lines, without_id, ids_of, ArePlaces, IsEntry}
 

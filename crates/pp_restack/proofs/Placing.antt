@@ -1,5 +1,5 @@
 -- Locations that are added for the groups of a stack, and samples as these are added.
-use Rattle.std.proofs.Common.{Result, Ok, Err, OnOk, ◌≡◌, ℕ, ◌-◌, ◌≤◌, List, [], ◌∷◌, ◌++◌, map, length, take, drop, All, refl, sym, ap, subst, ◌∙◌, arith, append_assoc}
+use Rattle.std.proofs.Common.{◌≡◌, ℕ, ◌-◌, ◌≤◌, List, [], ◌∷◌, ◌++◌, map, length, take, drop, All, refl, sym, ap, subst, ◌∙◌, arith, append_assoc}
 use Rattle.std.specs.List.{AllByRecursion}
 use Rattle.std.proofs.lemmas.List.{map-append, append-nil, length-append, get_or_append_left}
 use Rattle.std.proofs.lemmas.List.Elements.{All-drop}
@@ -9,7 +9,7 @@ use Rattle.pp_model.specs.declared.profile.Location.{Location}
 use Rattle.pp_model.specs.declared.profile.Sample.{Sample}
 use Rattle.pp_model.specs.declared.profile.Profile.{Profile}
 use Rattle.pp_model.specs.Conditions.{no_location, IsFrameOf}
-use Rattle.pp_merge.proofs.NumberedLemmas.{all_by}
+use Rattle.pp_share.proofs.NumberedLemmas.{all_by}
 use Rattle.pp_restack.specs.Stacks.{by_place, cut_location}
 use Rattle.pp_restack.specs.Places.{without_id, entry_in, KeepsPlaces, IsEntry, IsWithin, AreEntries, AppendsEntries, IsCutSample, spread_in}
 use Rattle.pp_restack.proofs.PlacesLemmas.{all_with}
@@ -114,8 +114,3 @@ pub placed_all : (p : Profile) (old : List Location) (before : List ℕ) (stack 
 placed_all p old before stack [] new ids none so_far =
     subst (λ (groups : List (List Frame)). AppendsEntries new (map (cut_location p) groups) before ids) (sym (append-nil so_far.groups) ∙ sym so_far.whole) so_far.added
 placed_all p old before stack (f ∷ rest) new ids none so_far = absurd (omega (arith, none))
-
--- what follows on success
-pub then_ok : {T E : Type 0} {P Q : Type 0} (r : Result T E) → (P → Q) → OnOk r P → OnOk r Q
-then_ok (Ok x) step h = step h
-then_ok (Err e) step h = tt

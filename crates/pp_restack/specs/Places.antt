@@ -9,8 +9,8 @@ use Rattle.pp_model.specs.declared.profile.Profile.{Profile}
 use Rattle.pp_model.specs.Conditions.{no_location}
 use Rattle.pp_model.specs.Lookup.{text_of}
 use Rattle.pp_model.specs.Rules.{AreNumbered, location_refers, label_has_texts}
-use Rattle.pp_merge.specs.Described.{LocationText, SampleText, function_found, mapping_found, location_text, label_text}
-use Rattle.pp_merge.specs.Alike.{first_alike}
+use Rattle.pp_share.specs.Described.{LocationText, SampleText, function_found, mapping_found, location_text, label_text}
+use Rattle.pp_share.specs.Alike.{first_alike}
 use Rattle.pp_merge.specs.Merge.{all_mappings}
 
 -- the location with these lines

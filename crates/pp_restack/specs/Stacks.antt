@@ -7,12 +7,12 @@ use Rattle.pp_model.specs.declared.profile.Location.{Location}
 use Rattle.pp_model.specs.declared.profile.Profile.{Profile}
 use Rattle.pp_model.specs.Conditions.{no_location, location_at}
 use Rattle.pp_model.specs.Frames.{line_at}
-use Rattle.pp_merge.specs.Described.{LocationText, SampleText, function_found, mapping_found, location_text}
-use Rattle.pp_merge.specs.Alike.{same_sample, first_alike}
-use Rattle.pp_merge.specs.Sums.{summed, counts}
-use Rattle.pp_merge.specs.Header.{HeaderText, header_of}
+use Rattle.pp_share.specs.Described.{LocationText, SampleText, function_found, mapping_found, location_text}
+use Rattle.pp_share.specs.Alike.{same_sample, first_alike}
+use Rattle.pp_share.specs.Sums.{summed, counts}
+use Rattle.pp_share.specs.Header.{HeaderText, header_of}
 use Rattle.pp_merge.specs.Merge.{all_mappings}
-use Rattle.pp_merge.specs.Written.{Contents}
+use Rattle.pp_share.specs.Written.{Contents}
 
 -- a frame below these groups, in the first of them where it is of that one's place
 abbrev pub grouped_with : Frame → List (List Frame) → List (List Frame)

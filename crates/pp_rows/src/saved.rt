@@ -64,11 +64,13 @@ fn saved_of(alloc: Global, session: &Answer) -> Result<List<(Text, Text)>, Fail>
     Ok(files)
 }
 
-// Whether both sessions print the same reports and nothing more.
+// Whether both sessions print the same reports and nothing more, and each reads one path once.
 fn is_told_again(before: &Answer, after: &Answer) -> bool {
     let (before_out, after_out) = (shown(&before.out), shown(&after.out));
     before.err.len() == 0
         && after.err.len() == 0
+        && before.files.reads().len() == 1
+        && after.files.reads().len() == 1
         && after_out.contains("%  ")
         && before_out.trim_start_matches("(pprof) ") == after_out.trim_start_matches("(pprof) ")
 }

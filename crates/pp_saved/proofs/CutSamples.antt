@@ -9,14 +9,14 @@ use Rattle.pp_model.specs.declared.profile.Sample.{Sample}
 use Rattle.pp_model.specs.declared.profile.Profile.{Profile}
 use Rattle.pp_model.specs.Finders.{Finders}
 use Rattle.pp_count.specs.Seeing.{filtered_stack}
-use Rattle.pp_merge.specs.Alike.{same_sample, same_location}
-use Rattle.pp_merge.specs.Described.{LocationText, SampleText}
+use Rattle.pp_share.specs.Alike.{same_sample, same_location}
+use Rattle.pp_share.specs.Described.{LocationText, SampleText}
 use Rattle.pp_model.specs.FirstSight.{distinct}
-use Rattle.pp_merge.specs.Sums.{counts, keys_of, rows_of, summed, sum_of}
-use Rattle.pp_merge.specs.Written.{Contents, locations}
-use Rattle.pp_merge.proofs.NumberedLemmas.{all_mapped}
+use Rattle.pp_share.specs.Sums.{counts, keys_of, rows_of, summed, sum_of}
+use Rattle.pp_share.specs.Written.{Contents, locations}
+use Rattle.pp_share.proofs.NumberedLemmas.{all_mapped}
 use Rattle.pp_merge.proofs.SettledLemmas.{all_any, all_distinct, all_filtered, all_flat, all_some}
-use Rattle.pp_merge.proofs.SumLemmas.{length-total_of}
+use Rattle.pp_share.proofs.SumLemmas.{length-total_of}
 use Rattle.pp_restack.specs.Stacks.{by_place, cut_text}
 use Rattle.pp_dump.specs.Saved.{cut_sample, cut_samples, saved_contents}
 

@@ -19,9 +19,9 @@ use Rattle.pp_model.proofs.RuleLemmas.{passes}
 use Rattle.pp_count.specs.Seeing.{filtered_stack, framed_with, framed_samples}
 use Rattle.pp_count.specs.Sums.{Seen, weighed, sum_where}
 use Rattle.pp_merge.specs.Totals.{value_passing, sum_passing}
-use Rattle.pp_merge.specs.Written.{written_sample}
-use Rattle.pp_merge.proofs.Agreement.{map_map}
-use Rattle.pp_merge.proofs.NumberedLemmas.{all_mapped}
+use Rattle.pp_share.specs.Written.{written_sample}
+use Rattle.pp_share.proofs.Agreement.{map_map}
+use Rattle.pp_share.proofs.NumberedLemmas.{all_mapped}
 use Rattle.pp_restack.specs.Stacks.{by_place}
 use Rattle.pp_dump.specs.Saved.{cut_samples, saved_contents, saved}
 use Rattle.pp_dump.specs.Stacks.{PlaceText, StackText, left_place, left_stack, left_stacks, whole_stacks, KeepsStacks}

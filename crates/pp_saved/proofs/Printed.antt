@@ -15,13 +15,13 @@ use Rattle.pp_count.specs.Sums.{Seen, has, all_keys}
 use Rattle.pp_count.specs.Counted.{report_samples}
 use Rattle.pp_count.specs.Ranks.{each_once}
 use Rattle.pp_graph.specs.Neighbours.{Neighbour, listed}
-use Rattle.pp_graph.specs.Trim.{report_order, candidate_keys, shown_keys, dropped_nodes}
+use Rattle.pp_graph.specs.Trim.{report_order, all_report_keys, candidate_keys, shown_keys, dropped_nodes}
 use Rattle.pp_graph.specs.Trimmed.{int_sum}
 use Rattle.pp_graph.proofs.Ordering.{sized_total, sized_same, report_total, report_same}
 use Rattle.pp_top.specs.Top as top
 use Rattle.pp_tree.specs.Nodes.{Node, table_heading, nodes_text}
 use Rattle.pp_tree.specs.Tree as tree
-use Rattle.pp_tree.specs.Peek.{peek_text, all_report_keys}
+use Rattle.pp_tree.specs.Peek.{peek_text}
 use Rattle.pp_saved.specs.Figures.{Figures, figures}
 use Rattle.pp_saved.specs.Layouts as layouts
 use Rattle.pp_saved.proofs.Relisted.{relisted, relisted_all, counted_once}

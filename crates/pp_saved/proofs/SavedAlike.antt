@@ -19,7 +19,7 @@ use Rattle.pp_count.specs.Counts.{total_of}
 use Rattle.pp_count.specs.Counted.{report_samples, report_frames, is_own}
 use Rattle.pp_count.specs.Ranks.{each_once}
 use Rattle.pp_count.proofs.Renaming.{all_keys_occur}
-use Rattle.pp_merge.specs.Header.{HeaderText}
+use Rattle.pp_share.specs.Header.{HeaderText}
 use Rattle.pp_merge.specs.Merge.{contents}
 use Rattle.pp_merge.proofs.WrittenCompact.{compact_written}
 use Rattle.pp_dump.specs.Saved.{saved}

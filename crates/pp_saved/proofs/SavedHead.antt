@@ -9,12 +9,12 @@ use Rattle.pp_model.specs.declared.profile.Mapping.{Mapping}
 use Rattle.pp_model.specs.declared.profile.Profile.{Profile}
 use Rattle.pp_model.specs.Finders.{Finders}
 use Rattle.pp_model.specs.Lookup.{text_of}
-use Rattle.pp_merge.specs.Alike.{equal_mapping, first_alike}
-use Rattle.pp_merge.specs.Described.{MappingText, LocationText, mapping_text}
+use Rattle.pp_share.specs.Alike.{equal_mapping, first_alike}
+use Rattle.pp_share.specs.Described.{MappingText, LocationText, mapping_text}
 use Rattle.pp_model.specs.FirstSight.{distinct, seen_after}
-use Rattle.pp_merge.specs.Header.{HeaderText, header_of}
+use Rattle.pp_share.specs.Header.{HeaderText, header_of}
 use Rattle.pp_merge.specs.Merge.{all_mappings, merged}
-use Rattle.pp_merge.specs.Written.{Contents, written, written_mapping, mappings, locations}
+use Rattle.pp_share.specs.Written.{Contents, written, written_mapping, mappings, locations}
 use Rattle.pp_merge.proofs.RoundTrip.{IsText, text_again}
 use Rattle.pp_merge.proofs.WrittenValid.{texts_of_mappings}
 use Rattle.pp_restack.specs.Stacks.{cut_location, cut_text, patternless}

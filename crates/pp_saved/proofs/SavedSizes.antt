@@ -1,10 +1,9 @@
 -- The absolute values of a saved profile add up to no more than those of the profile.
 use Rattle.std.proofs.Common.{◌≡◌, ℕ, ◌+◌, ◌<◌, ◌≤◌, ◌-◌, ℤ, pos, List, [], ◌∷◌, get_or, length, refl, ap, ◌∙◌, subst, arith}
 use Rattle.std.specs.Prelude.{◌==◌, nat_abs, Option, Some, None, option_map}
-use Rattle.std.specs.List.{AllByRecursion, cons_option, filter_map, sum_by}
+use Rattle.std.specs.List.{AllByRecursion, cons_option, filter_map}
 use Rattle.std.proofs.lemmas.Bool.{eqb-true, not-false}
 use Rattle.std.proofs.lemmas.List.Elements.{recursion_from_All}
-use Rattle.std.proofs.lemmas.List.Sums.{sum_by-cons}
 use Rattle.std.proofs.lemmas.Option.{none-some, same_Some}
 use Rattle.pp_model.specs.declared.config.Config.{Config}
 use Rattle.pp_model.specs.declared.frame.Frame.{Frame}
@@ -17,29 +16,19 @@ use Rattle.pp_model.specs.Sizes.{absolute_sum, value_in}
 use Rattle.pp_model.proofs.FirstSightLemmas.{IsSeen, all_seen, distinct_apart}
 use Rattle.pp_model.proofs.RuleLemmas.{passes}
 use Rattle.pp_count.specs.Seeing.{filtered_stack}
-use Rattle.pp_merge.specs.Alike.{same_sample}
-use Rattle.pp_merge.specs.Described.{SampleText}
-use Rattle.pp_merge.specs.Sums.{counts, keys_of, rows_of, summed, sum_of}
-use Rattle.pp_merge.specs.Written.{written_sample}
-use Rattle.pp_merge.proofs.Deciding.{sample_decides}
-use Rattle.pp_merge.proofs.DistinctLemmas.{deciding_laws}
-use Rattle.pp_merge.proofs.MergedTotals.{zero_at}
-use Rattle.pp_merge.proofs.NumberedLemmas.{all_by, all_mapped}
+use Rattle.pp_share.specs.Alike.{same_sample}
+use Rattle.pp_share.specs.Described.{SampleText}
+use Rattle.pp_share.specs.Sums.{counts, keys_of, rows_of, summed, sum_of}
+use Rattle.pp_share.specs.Written.{written_sample}
+use Rattle.pp_share.proofs.Deciding.{sample_decides}
+use Rattle.pp_share.proofs.DistinctLemmas.{deciding_laws}
+use Rattle.pp_merge.proofs.MergedTotals.{sum_by_is, total_within, zero_at}
+use Rattle.pp_share.proofs.NumberedLemmas.{all_by, all_mapped}
 use Rattle.pp_merge.proofs.SettledLemmas.{all_any, all_filtered, all_some, all_unmapped}
-use Rattle.pp_merge.proofs.SumLemmas.{abs-total_of}
+use Rattle.pp_share.proofs.SumLemmas.{abs-total_of}
 use Rattle.pp_merge.proofs.TotalLemmas.{total, total-map, total-filter, parted, adding_ℕ}
 use Rattle.pp_dump.specs.Saved.{cut_sample, cut_samples, saved, saved_contents}
 use Rattle.pp_saved.specs.Kept.{SavedSizes}
-
--- a sum over a list
-sum_is : {X : Type 0} (f : X → ℕ) (xs : List X) → sum_by f xs ≡ total adding_ℕ f xs
-sum_is f [] = refl
-sum_is f (x ∷ xs) = sum_by-cons f x xs ∙ ap (λ n. f x + n) (sum_is f xs)
-
--- a sum of no greater numbers is no greater
-no_greater : {X : Type 0} (f g : X → ℕ) → ((x : X) → f x ≤ g x) → (xs : List X) → total adding_ℕ f xs ≤ total adding_ℕ g xs
-no_greater f g each [] = omega arith
-no_greater f g each (x ∷ xs) = omega (arith, each x, no_greater f g each xs)
 
 module _ (p : Profile) (f : Finders) (config : Config) (column : ℕ) (within : column < length p.sample_type) (valid : NoRuleFails p) where
   abbrev items : List (SampleText × List ℤ)
@@ -75,7 +64,7 @@ module _ (p : Profile) (f : Finders) (config : Config) (column : ℕ) (within : 
   -- the absolute value of a sum of rows is no more than the sum of theirs
   key_within : (key : SampleText) → size (sum_of same_sample (length p.sample_type) items key) ≤ total adding_ℕ size (rows_of same_sample items key)
   key_within key =
-      subst (λ n. size (sum_of same_sample (length p.sample_type) items key) ≤ n) (sum_is size (rows_of same_sample items key))
+      subst (λ n. size (sum_of same_sample (length p.sample_type) items key) ≤ n) (sum_by_is size (rows_of same_sample items key))
       (abs-total_of (length p.sample_type) (rows_of same_sample items key) column within (rows_wide key))
 
   all_keyed : AllByRecursion (λ (item : SampleText × List ℤ). IsSeen same_sample keys item.0) items
@@ -100,21 +89,21 @@ module _ (p : Profile) (f : Finders) (config : Config) (column : ℕ) (within : 
   pub sizes_within : absolute_sum (saved p f config) column ≤ absolute_sum p column
   sizes_within =
       let ours : absolute_sum (saved p f config) column ≡ total adding_ℕ (λ key. size (sum_of same_sample (length p.sample_type) items key)) keys =
-      sum_is (λ s. nat_abs (value_in s column)) (saved p f config).sample
+      sum_by_is (λ s. nat_abs (value_in s column)) (saved p f config).sample
       ∙ total-map adding_ℕ (λ s. nat_abs (value_in s column)) (written_sample (saved_contents p f config)) (saved_contents p f config).samples
       ∙ total-filter adding_ℕ (λ (item : SampleText × List ℤ). size item.1) counts (summed same_sample (length p.sample_type) items)
       (all_any _ (λ item no_value. ap nat_abs (zero_at item.1 column (not-false _ no_value))) (summed same_sample (length p.sample_type) items))
       ∙ total-map adding_ℕ (λ (item : SampleText × List ℤ). size item.1) (λ key. (key, sum_of same_sample (length p.sample_type) items key)) keys in
       let left : total adding_ℕ (λ key. total adding_ℕ size (rows_of same_sample items key)) keys ≡ total adding_ℕ (λ (item : SampleText × List ℤ). size item.1) items =
       parted adding_ℕ same_sample sample_decides size keys (distinct_apart same_sample (deciding_laws same_sample sample_decides) (keys_of same_sample items)) items all_keyed in
-      let theirs : absolute_sum p column ≡ total adding_ℕ (λ s. nat_abs (value_in s column)) p.sample = sum_is (λ s. nat_abs (value_in s column)) p.sample in
+      let theirs : absolute_sum p column ≡ total adding_ℕ (λ s. nat_abs (value_in s column)) p.sample = sum_by_is (λ s. nat_abs (value_in s column)) p.sample in
       omega (
         arith,
         ours,
         left,
         theirs,
         left_within p.sample,
-        no_greater (λ key. size (sum_of same_sample (length p.sample_type) items key)) (λ key. total adding_ℕ size (rows_of same_sample items key)) key_within keys,
+        total_within (λ key. size (sum_of same_sample (length p.sample_type) items key)) (λ key. total adding_ℕ size (rows_of same_sample items key)) key_within keys,
       )
 
 -- All columns.

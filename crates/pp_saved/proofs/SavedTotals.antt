@@ -18,8 +18,8 @@ use Rattle.pp_tags.specs.Labels.{key_text}
 use Rattle.pp_count.specs.Seeing.{filtered_stack, seen_with, seen_samples}
 use Rattle.pp_count.specs.Sums.{Seen, absolute}
 use Rattle.pp_count.specs.Counts.{is_base_label, is_base, filtered_samples, total_over, total_of}
-use Rattle.pp_merge.specs.Described.{LabelText, label_text}
-use Rattle.pp_merge.proofs.NumberedLemmas.{all_by, all_mapped}
+use Rattle.pp_share.specs.Described.{LabelText, label_text}
+use Rattle.pp_share.proofs.NumberedLemmas.{all_by, all_mapped}
 use Rattle.pp_merge.proofs.SettledLemmas.{all_some, all_unmapped}
 use Rattle.pp_dump.specs.Stacks.{StackText, whole_stack, left_stack, whole_stacks, left_stacks, without_values, KeepsStacks}
 use Rattle.pp_laws.proofs.Within.{absolute_seen, plain_total, none_among}

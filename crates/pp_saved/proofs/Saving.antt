@@ -5,12 +5,12 @@ use Rattle.pp_model.specs.declared.config.Config.{Config}
 use Rattle.pp_model.specs.declared.profile.Profile.{Profile}
 use Rattle.pp_model.specs.Finders.{Finders, no_finders}
 use Rattle.pp_model.specs.Rules.{NoRuleFails}
-use Rattle.pp_merge.specs.Described.{MappingText, mapping_text}
-use Rattle.pp_merge.specs.Header.{header_of}
+use Rattle.pp_share.specs.Described.{MappingText, mapping_text}
+use Rattle.pp_share.specs.Header.{header_of}
 use Rattle.pp_merge.specs.Merge.{all_mappings, merged}
 use Rattle.pp_merge.specs.Settled.{IsSettled}
-use Rattle.pp_merge.specs.Written.{Contents, written}
-use Rattle.pp_merge.proofs.NumberedLemmas.{all_mapped}
+use Rattle.pp_share.specs.Written.{Contents, written}
+use Rattle.pp_share.proofs.NumberedLemmas.{all_mapped}
 use Rattle.pp_merge.proofs.WrittenAgain.{contents_again}
 use Rattle.pp_merge.proofs.WrittenCompact.{compact_written}
 use Rattle.pp_merge.proofs.WrittenValid.{valid_written}

@@ -1,5 +1,5 @@
 -- What a saved profile says is settled: nothing of it is left to be merged.
-use Rattle.std.proofs.Common.{◌≡◌, ℕ, ◌<◌, ◌^◌, ℤ, true, false, List, [], ◌∷◌, map, length, get_or, refl, sym, ap, ◌∙◌, subst, arith, append-nil}
+use Rattle.std.proofs.Common.{◌≡◌, ℕ, ◌<◌, ◌^◌, ℤ, true, false, List, [], ◌∷◌, map, length, get_or, refl, sym, ap, ◌∙◌, subst, append-nil}
 use Rattle.std.specs.Prelude.{Option, Some, None, option_map, slice_get, find, ◌==◌}
 use Rattle.std.specs.List.{AllByRecursion, IsDistinct, filter_map}
 use Rattle.std.specs.Option.{option_to_list}
@@ -15,30 +15,26 @@ use Rattle.pp_model.specs.declared.frame.Frame.{Frame}
 use Rattle.pp_model.specs.declared.profile.Mapping.{Mapping}
 use Rattle.pp_model.specs.declared.profile.Profile.{Profile}
 use Rattle.pp_model.specs.Finders.{Finders}
-use Rattle.pp_merge.specs.Alike.{same_mapping, equal_mapping, same_sample}
-use Rattle.pp_merge.specs.Described.{MappingText, LocationText, SampleText, mapping_text, mapping_found, less}
+use Rattle.pp_share.specs.Alike.{same_mapping, equal_mapping, same_sample}
+use Rattle.pp_share.specs.Described.{MappingText, LocationText, SampleText, mapping_text, mapping_found}
 use Rattle.pp_model.specs.FirstSight.{distinct}
-use Rattle.pp_merge.specs.Header.{type_text}
+use Rattle.pp_share.specs.Header.{type_text}
 use Rattle.pp_merge.specs.Merge.{all_mappings, contents, merged}
 use Rattle.pp_merge.specs.Settled.{IsSettled}
-use Rattle.pp_merge.specs.Sums.{counts, keys_of, summed, sum_of}
-use Rattle.pp_merge.specs.Written.{Contents, mappings, locations}
-use Rattle.pp_merge.proofs.Deciding.{mapping_decides, sample_decides}
-use Rattle.pp_merge.proofs.DistinctLemmas.{deciding_laws}
+use Rattle.pp_share.specs.Sums.{counts, keys_of, summed, sum_of}
+use Rattle.pp_share.specs.Written.{Contents, mappings, locations}
+use Rattle.pp_share.proofs.Deciding.{mapping_decides, sample_decides}
+use Rattle.pp_share.proofs.DistinctLemmas.{deciding_laws}
 use Rattle.pp_model.proofs.FirstSightLemmas.{IsSeen, distinct_apart}
-use Rattle.pp_merge.proofs.MergedMapping.{mapping_laws, IsFound, alike_tells}
-use Rattle.pp_merge.proofs.NumberedLemmas.{all_by, all_both}
-use Rattle.pp_merge.proofs.SettledLemmas.{all_any, all_distinct, all_join, all_some, all_unmapped, found_holds, no_column, self_found, settled_contents}
+use Rattle.pp_share.proofs.MergedMapping.{mapping_laws, IsFound, alike_tells}
+use Rattle.pp_share.proofs.NumberedLemmas.{all_by, all_both}
+use Rattle.pp_merge.proofs.SettledLemmas.{all_any, all_distinct, all_join, all_some, all_unmapped, found_holds, less_small, no_column, self_found, settled_contents}
 use Rattle.pp_merge.proofs.WrittenAgain.{alike_self, at_seen, map_back, mappings_back}
 use Rattle.pp_merge.proofs.WrittenCompact.{mapping_walk}
 use Rattle.pp_merge.proofs.WrittenPlaces.{mappings_stay}
 use Rattle.pp_restack.specs.Stacks.{cut_location, cut_text}
 use Rattle.pp_dump.specs.Saved.{cut_samples, saved_contents}
 use Rattle.pp_saved.proofs.CutSamples.{locations_each, rows_long}
-
--- a number modulo 2^64 is below it
-less_small : (a b : ℕ) → less a b < 2 ^ 64
-less_small a b = omega arith
 
 first_of : (P : MappingText → Type 0) (ms : List MappingText) → AllByRecursion P ms → AllByRecursion P (option_to_list (slice_get ms 0))
 first_of P [] all = tt

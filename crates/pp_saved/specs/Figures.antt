@@ -9,7 +9,7 @@ use Rattle.pp_model.specs.Finders.{Finders}
 use Rattle.pp_model.specs.Lookup.{text_of}
 use Rattle.pp_model.specs.FrameTexts.{Written}
 use Rattle.pp_grain.specs.Keys.{key_cmp, key_texts}
-use Rattle.pp_merge.specs.Header.{TypeText, type_text}
+use Rattle.pp_share.specs.Header.{TypeText, type_text}
 use Rattle.pp_count.specs.Column.{column_of}
 use Rattle.pp_count.specs.Sums.{Seen, all_keys, flat, cum}
 use Rattle.pp_count.specs.EdgeSums.{edge_occurs, edge_sum}

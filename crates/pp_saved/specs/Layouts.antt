@@ -19,6 +19,7 @@ use Rattle.pp_count.specs.Ranks.{is_heavy, by_size, each_once}
 use Rattle.pp_graph.specs.Neighbours.{listed}
 use Rattle.pp_graph.specs.Trim.{shown_keys}
 use Rattle.pp_graph.specs.Trimmed.{int_sum}
+use Rattle.pp_graph.specs.KeyRows.{KeyRow}
 use Rattle.pp_top.specs.Top as top
 use Rattle.pp_tree.specs.Nodes.{Node, table_heading, nodes_text}
 use Rattle.pp_tree.specs.Tree as tree
@@ -36,7 +37,7 @@ module _ (g : Figures) where
   order_by sorts.Cum = then_cmp (by_size g.cum_of) (then_cmp (by_size g.flat_of) key_cmp)
 
   -- the row of a key
-  abbrev pub row : Written → top.Row
+  abbrev pub row : Written → KeyRow
   row k = record { flat = g.flat_of k; cum = g.cum_of k; name = name_text k }
 
   -- the pair occurs over the keys that are kept, and its sum is at least this fraction of the total

@@ -38,6 +38,8 @@ impl Files for TrialFiles {
 
     ghost locked = { λ _. None };
 
+    ghost reads = { λ _. None };
+
     ghost faults = { λ f. f.calls.faults };
 
     fn read(&mut self, path: &Text, into: &mut Text, limit: u64) -> FileRead {

@@ -16,7 +16,7 @@ use Rattle.pp_shell.specs.declared.argument.Argument.TheVariants.{Rows, Output, 
 use Rattle.pp_shell.specs.declared.narrowing.Narrowing.{Narrowing}
 use Rattle.pp_shell.specs.Answers.{Answers}
 use Rattle.pp_shell.specs.Arguments.{argument_of, is_redirect, onto, arguments, nonempty, rows_of, output_of, is_by_cum, focus_of, ignore_of, one_pattern, narrowing, together}
-use Rattle.pp_shell.specs.Taking.{added, with_argument, redirected, next_argument, taken_after, left_after, TookArgument, TakesArgument, prepended, IsNarrowing}
+use Rattle.pp_shell.specs.Taking.{added, with_argument, next_argument, taken_after, left_after, TookArgument, TakesArgument, prepended, IsNarrowing}
 
 -- two with the same fields are the same
 same_narrowing : (a b : Narrowing) → a.rows ≡ b.rows → a.by_cum ≡ b.by_cum → a.focus ≡ b.focus → a.ignore ≡ b.ignore → a.output ≡ b.output → a ≡ b

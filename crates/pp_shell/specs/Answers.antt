@@ -1,6 +1,5 @@
 -- What the calls answer: what a definition gives, unless memory ran out.
-use Rattle.std.specs.Prelude.{◌≡◌, ⊤, List, Result, Ok, Err}
-use Rattle.pp_shell.specs.declared.command.Command.{Command}
+use Rattle.std.specs.Prelude.{◌≡◌, ⊤, Result, Ok, Err}
 use Rattle.pp_shell.specs.declared.fault.LineFault.{LineFault}
 use Rattle.pp_shell.specs.declared.fault.LineRefusal.{LineRefusal}
 use Rattle.pp_shell.specs.declared.fault.LineRefusal.TheVariants.{Fault, Memory}

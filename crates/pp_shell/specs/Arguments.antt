@@ -1,5 +1,5 @@
 -- The words after a command.
-use Rattle.std.specs.Prelude.{ℕ, ◌==◌, Bool, true, false, ◌||◌, List, [], ◌∷◌, ◌++◌, drop, Option, Some, None, Result, Ok, Err, bytes_eq, codes, if◌then◌else◌}
+use Rattle.std.specs.Prelude.{ℕ, ◌==◌, Bool, true, false, ◌||◌, List, [], ◌∷◌, drop, Option, Some, None, Result, Ok, Err, bytes_eq, codes, if◌then◌else◌}
 use Rattle.std.specs.List.{list_any, filter_map, last_or, join_with_byte}
 use Rattle.pp_options.specs.Values.{whole_number}
 use Rattle.pp_shell.specs.declared.fault.LineFault.{LineFault}

@@ -1,11 +1,11 @@
 -- Commands: the words of a line that is no assignment.
 use Rattle.std.specs.Prelude.{ℕ, ℤ, pos, negsuc, Bool, true, false, ◌&&◌, List, [], ◌∷◌, drop, length, Option, Some, None, Result, Ok, Err, codes, if◌then◌else◌}
 use Rattle.std.specs.Char.{is_ascii_digit}
-use Rattle.std.specs.Option.{option_or}
 use Rattle.pp_model.specs.declared.config.Sort.TheVariants.{Cum}
 use Rattle.pp_model.specs.declared.config.Config.{Config}
 use Rattle.pp_options.specs.declared.format.Format.{Format}
-use Rattle.pp_options.specs.declared.format.Format.TheVariants.{Top, Tags}
+use Rattle.pp_options.specs.declared.format.Format.TheVariants.{Top, Tree, Peek, Traces, Tags, Raw, Comments, Proto, Folded, Table, Compare}
+use Rattle.pp_options.specs.declared.format.Format.TheVariants as formats
 use Rattle.pp_options.specs.declared.setting.Setting.TheVariants as settings
 use Rattle.pp_options.specs.declared.variable.TextVariable.{TextVariable}
 use Rattle.pp_options.specs.declared.variable.TextVariable.TheVariants as texts
@@ -58,35 +58,58 @@ abbrev pub with_pattern : TextVariable → List ℕ → Config → Config
 with_pattern which [] c = c
 with_pattern which (byte ∷ bytes) c = assigned c (settings.Text which (byte ∷ bytes))
 
--- the format is top
-abbrev pub is_top : Format → Bool
-is_top Top = true
-is_top format = false
+-- the shell shows few rows of the format, where nothing else is said
+abbrev pub is_short : Format → Bool
+is_short Top = true
+is_short Tree = false
+is_short Peek = false
+is_short Traces = false
+is_short Tags = false
+is_short Raw = false
+is_short Comments = false
+is_short Proto = false
+is_short formats.List = false
+is_short Folded = false
+is_short Table = false
+is_short Compare = true
 
 -- the number of rows is the report's own
 abbrev pub is_own : ℤ → Bool
 is_own (negsuc n) = true
 is_own (pos n) = false
 
--- in the shell top's own number of rows is 10
-abbrev pub with_top_rows : Format → Config → Config
-with_top_rows format c =
-    if is_top format && is_own c.nodecount then assigned c (settings.Nodecount (pos 10)) else c
+-- in the shell the own number of rows of top and compare is 10
+abbrev pub with_few_rows : Format → Config → Config
+with_few_rows format c =
+    if is_short format && is_own c.nodecount then assigned c (settings.Nodecount (pos 10)) else c
 
--- the variable whose place added patterns take; tags has a filter of its own
+-- the report is of labels, so that patterns behind its command filter labels
+abbrev pub is_of_labels : Format → Bool
+is_of_labels Top = false
+is_of_labels Tree = false
+is_of_labels Peek = false
+is_of_labels Traces = false
+is_of_labels Tags = true
+is_of_labels Raw = false
+is_of_labels Comments = false
+is_of_labels Proto = false
+is_of_labels formats.List = false
+is_of_labels Folded = false
+is_of_labels Table = false
+is_of_labels Compare = false
+
+-- the variable whose place added patterns take
 abbrev pub focus_variable : Format → TextVariable
-focus_variable Tags = texts.Tagfocus
-focus_variable format = texts.Focus
+focus_variable format = if is_of_labels format then texts.Tagfocus else texts.Focus
 
 -- the same for patterns after a dash
 abbrev pub ignore_variable : Format → TextVariable
-ignore_variable Tags = texts.Tagignore
-ignore_variable format = texts.Ignore
+ignore_variable format = if is_of_labels format then texts.Tagignore else texts.Ignore
 
 -- the configuration of one report, as the words after its command want it
 abbrev pub narrowed : Format → Narrowing → Config → Config
 narrowed format n c =
-    with_top_rows format
+    with_few_rows format
     (with_pattern (ignore_variable format) n.ignore
     (with_pattern (focus_variable format) n.focus (with_order n.by_cum (with_rows n.rows c))))
 

@@ -1,6 +1,6 @@
 //! Reports with the settings of one command.
 ghost use Rattle.std.specs.Prelude.{◌≡◌, map, IsTrue};
-ghost use Rattle.pp_shell.specs.Commands.{run, narrowed, with_rows, with_order, with_pattern, with_top_rows, is_top, focus_variable, ignore_variable};
+ghost use Rattle.pp_shell.specs.Commands.{run, narrowed, with_rows, with_order, with_pattern, with_few_rows, is_short, is_of_labels, focus_variable, ignore_variable};
 ghost use Rattle.pp_shell.specs.Answers.{Answers};
 ghost use Rattle.pp_shell.specs.Taking.{are_fair_rows};
 
@@ -11,8 +11,8 @@ use pp_model::{Config, Sort};
 use pp_options::{Format, Setting, TextVariable};
 use std::alloc::Global;
 
-// How many rows top has, where nothing else is said.
-const TOP_ROWS: i32 = 10;
+// How many rows top and compare have, where nothing else is said.
+const FEW_ROWS: i32 = 10;
 
 // The report of the format and the pattern, as the words after them want it.
 pub fn run(
@@ -44,7 +44,7 @@ fn narrow(format: Format, narrowing: Narrowing, config: &mut Config) -> Option<T
     put_order(narrowing.by_cum, config);
     put_pattern(focus_variable(format), narrowing.focus, config);
     put_pattern(ignore_variable(format), narrowing.ignore, config);
-    put_top_rows(format, config);
+    put_few_rows(format, config);
     narrowing.output
 }
 
@@ -74,35 +74,53 @@ fn put_pattern(which: TextVariable, pattern: Text, config: &mut Config)
     }
 }
 
-fn put_top_rows(format: Format, config: &mut Config)
-    ensures { config.new ≡ with_top_rows format config.old }
+fn put_few_rows(format: Format, config: &mut Config)
+    ensures { config.new ≡ with_few_rows format config.old }
 {
-    if is_top(format) && config.nodecount == -1 {
-        Setting::Nodecount(TOP_ROWS).assign(config);
+    if is_short(format) && config.nodecount == -1 {
+        Setting::Nodecount(FEW_ROWS).assign(config);
     }
 }
 
-fn is_top(format: Format) -> bool
-    ensures { result ≡ is_top format }
+fn is_short(format: Format) -> bool
+    ensures { result ≡ is_short format }
 {
-    matches!(format, Format::Top)
+    match format {
+        Format::Top | Format::Compare => true,
+        Format::Tree | Format::Peek | Format::List | Format::Traces | Format::Tags => false,
+        Format::Raw | Format::Comments | Format::Proto | Format::Folded | Format::Table => false,
+    }
 }
 
-// The variable that patterns replace: tags has filters of its own.
+// Whether patterns filter labels in the place of frames.
+fn is_of_labels(format: Format) -> bool
+    ensures { result ≡ is_of_labels format }
+{
+    match format {
+        Format::Tags => true,
+        Format::Top | Format::Tree | Format::Peek | Format::List | Format::Traces => false,
+        Format::Raw | Format::Comments | Format::Proto => false,
+        Format::Folded | Format::Table | Format::Compare => false,
+    }
+}
+
+// The variable that patterns replace.
 fn focus_variable(format: Format) -> TextVariable
     ensures { result ≡ focus_variable format }
 {
-    match format {
-        Format::Tags => TextVariable::Tagfocus,
-        _ => TextVariable::Focus,
+    if is_of_labels(format) {
+        TextVariable::Tagfocus
+    } else {
+        TextVariable::Focus
     }
 }
 
 fn ignore_variable(format: Format) -> TextVariable
     ensures { result ≡ ignore_variable format }
 {
-    match format {
-        Format::Tags => TextVariable::Tagignore,
-        _ => TextVariable::Ignore,
+    if is_of_labels(format) {
+        TextVariable::Tagignore
+    } else {
+        TextVariable::Ignore
     }
 }

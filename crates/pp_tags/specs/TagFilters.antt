@@ -11,7 +11,7 @@ use Rattle.pp_units.specs.declared.range.Range.{Range}
 use Rattle.pp_units.specs.Ranges.{range_of, in_range}
 use Rattle.pp_tags.specs.declared.tag_filter.TagFilter.{TagFilter}
 use Rattle.pp_tags.specs.Labels.{has_text, key_text, value_text, key_value, number_unit}
-use Rattle.pp_tags.specs.TagPairs.{tag_pairs, tag_text}
+use Rattle.pp_tags.specs.TagPairs.{tag_of, tag_pairs, tag_text}
 
 -- an equals sign parts the name from the rest
 abbrev pub is_equals : ℕ → Bool
@@ -106,6 +106,43 @@ AreTagVerdicts p tags filter parts found =
 abbrev pub HasItsTags : Profile → List Tag → Option TagFilter → Type 0
 HasItsTags p tags filter = ForSome filter (λ f. f.name ≡ [] → tags ≡ tag_pairs p)
 
+-- A part without a name may find one tag and not another of the same text. So what parts find is also said of tags: a
+-- list of predicates on texts, for a filter with a name, and one of predicates on tags, for one without.
+
+-- without a name: each part finds the tag of a text label
+abbrev pub selects_each_tag : List (Tag → Bool) → Sample → Bool
+selects_each_tag tagged s =
+    list_all (λ find. list_any (λ label. has_text label && find (tag_of label)) s.label) tagged
+
+-- the parts select the sample, by the name or without one
+abbrev pub selects_parts_by : Profile → List ℕ → List Finder → List (Tag → Bool) → Sample → Bool
+selects_parts_by p [] parts tagged s = selects_each_tag tagged s
+selects_parts_by p (b ∷ bs) parts tagged s = selects_some p (b ∷ bs) parts s
+
+-- Whether the filter selects the sample, by its range, or by what its parts find of texts or of tags.
+abbrev pub selects_by : Profile → TagFilter → List Finder → List (Tag → Bool) → Sample → Bool
+selects_by p filter parts tagged s =
+    option_map_or (λ range. selects_range p filter.name range s) filter.range
+    (selects_parts_by p filter.name parts tagged s)
+
+-- what the parts of a filter of this name find: of all texts, or without a name of the tags
+abbrev pub found_by : Profile → List Tag → List ℕ → List Finder → List (Tag → Bool) → List (List Bool)
+found_by p tags [] parts tagged = map (λ find. map find tags) tagged
+found_by p tags (_ ∷ _) parts tagged = map (λ find. map find p.text) parts
+
+-- The verdicts of a filter's parts are what the parts find, of texts or of tags.
+abbrev pub ArePartVerdictsBy : Profile → List Tag → TagFilter → List Finder → List (Tag → Bool) → List (List Bool) → Type 0
+ArePartVerdictsBy p tags filter parts tagged found = found ≡ found_by p tags filter.name parts tagged
+
+-- The same of a filter that may not be in force.
+abbrev pub AreTagVerdictsBy : Profile → List Tag → Option TagFilter → List Finder → List (Tag → Bool) → List (List Bool) → Type 0
+AreTagVerdictsBy p tags filter parts tagged found =
+    ForSome filter (λ f. ArePartVerdictsBy p tags f parts tagged found)
+
+-- a filter that isn't in force says this
+abbrev pub selects_by_or : Bool → Profile → Option TagFilter → List Finder → List (Tag → Bool) → Sample → Bool
+selects_by_or other p filter parts tagged s = option_map_or (λ f. selects_by p f parts tagged s) filter other
+
 -- a filter that isn't in force says this
 abbrev pub selects_or : Bool → Profile → Option TagFilter → List Finder → Sample → Bool
 selects_or other p filter parts s = option_map_or (λ f. selects p f parts s) filter other
@@ -114,6 +151,11 @@ selects_or other p filter parts s = option_map_or (λ f. selects p f parts s) fi
 abbrev pub is_tag_kept : Profile → Option TagFilter → Option TagFilter → Finders → Sample → Bool
 is_tag_kept p focus ignore f s =
     selects_or true p focus f.tagfocus s && not (selects_or false p ignore f.tagignore s)
+
+-- The same by what the parts find of texts or of tags.
+abbrev pub is_tag_kept_by : Profile → Option TagFilter → Option TagFilter → Finders → List (Tag → Bool) → List (Tag → Bool) → Sample → Bool
+is_tag_kept_by p focus ignore f focused ignored s =
+    selects_by_or true p focus f.tagfocus focused s && not (selects_by_or false p ignore f.tagignore ignored s)
 
 -- whether tagshow finds the key and taghide doesn't, each where it is in force
 abbrev pub is_shown : Finders → List ℕ → Bool

@@ -5,11 +5,13 @@
 mod labels;
 mod selecting;
 mod showing;
+mod showing_into;
 mod tag_filter;
 mod tag_pairs;
 
 pub use labels::{has_text, number_unit};
 pub use selecting::{selects, tag_kept};
 pub use showing::show_tags;
+pub use showing_into::show_tags_into;
 pub use tag_filter::TagFilter;
 pub use tag_pairs::tags_of;

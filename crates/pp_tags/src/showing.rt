@@ -35,8 +35,8 @@ fn shown_by(alloc: Global, v: &Verdicts, labels: &[Label]) -> Result<List<Label>
     Ok(shown)
 }
 
-// Whether the verdicts show the label.
-fn is_shown(v: &Verdicts, label: &Label) -> bool
+/// Whether the verdicts show the label.
+pub fn is_shown(v: &Verdicts, label: &Label) -> bool
     ensures { result ≡ is_shown_by v.now label.now }
 {
     verdict_or(&v.tagshow, label.key, true) && !verdict_or(&v.taghide, label.key, false)

@@ -1,5 +1,2 @@
-pub mod CallerLemmas
-pub mod Running
-pub mod NameLemmas
 mod Ranking
 mod Examples

@@ -16,8 +16,9 @@ use Rattle.pp_count.specs.Table.{written_key}
 use Rattle.pp_graph.specs.declared.ranking.Ranked.{Ranked}
 use Rattle.pp_graph.specs.Trim.{report_keys}
 use Rattle.pp_graph.specs.Trimmed.{IsRankedOf}
-use Rattle.pp_top.specs.Top.{row_at, row_of, rows_text, summary_text, ranked_text, top_text}
-use Rattle.pp_top.proofs.NameLemmas.{rows_are}
+use Rattle.pp_graph.specs.KeyRows.{row_at, key_row}
+use Rattle.pp_top.specs.Top.{rows_text, summary_text, ranked_text, top_text}
+use Rattle.pp_graph.proofs.KeyRowLemmas.{rows_are}
 
 pub ranked_is : (l : Loaded) (v : Verdicts) (config : Config) (column : Option ℕ) (limit : ℕ) (f : Finders) (c : Counted) (t : Ranked) (h : Facts)
     → IsCountedOf l v config column c → IsRankedOf l v config column limit c t → HoldsFilters l v config f
@@ -25,8 +26,8 @@ pub ranked_is : (l : Loaded) (v : Verdicts) (config : Config) (column : Option �
 ranked_is l v config column limit f c t h counted ranked holds =
     let samples : List (Seen Written) = report_samples l.profile f config column in
     let keys : List Written = report_keys l.profile f config column limit in
-    let rows : map (row_at l.profile c.sums) t.order ≡ map (row_of samples) keys =
-    rows_are l.profile samples c.sums t.order (counted.sums_are f holds) ranked.below ∙ ap (map (row_of samples)) (ranked.keys f holds) in
+    let rows : map (row_at l.profile c.sums) t.order ≡ map (key_row samples) keys =
+    rows_are l.profile samples c.sums t.order (counted.sums_are f holds) ranked.below ∙ ap (map (key_row samples)) (ranked.keys f holds) in
     let count : length t.order ≡ length keys =
     sym (length-map t.order (written_key l.profile c.sums.names)) ∙ ap length (ranked.keys f holds) in
     λ i.

@@ -5,7 +5,8 @@ ghost use Rattle.pp_units.specs.Shown.{shown};
 ghost use Rattle.pp_grain.specs.Keys.{IsKeyOf, key_written};
 ghost use Rattle.pp_grain.specs.Naming.{name_text};
 ghost use Rattle.pp_count.specs.Counted.{FitSums};
-ghost use Rattle.pp_top.specs.Top.{row_text, rows_text, row_at, CanShow};
+ghost use Rattle.pp_graph.specs.KeyRows.{row_at, CanShow};
+ghost use Rattle.pp_top.specs.Top.{row_text, rows_text};
 
 use pp_base::{Memory, Text};
 use pp_count::Sums;

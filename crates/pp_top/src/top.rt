@@ -7,7 +7,8 @@ ghost use Rattle.pp_units.specs.Head.{facts};
 ghost use Rattle.pp_count.specs.Counted.{IsCountedOf};
 ghost use Rattle.pp_count.specs.Seeing.{HoldsFilters};
 ghost use Rattle.pp_graph.specs.Trimmed.{IsRankedOf};
-ghost use Rattle.pp_top.specs.Top.{CanShow, summary_text, ranked_text, top_text};
+ghost use Rattle.pp_graph.specs.KeyRows.{CanShow};
+ghost use Rattle.pp_top.specs.Top.{summary_text, ranked_text, top_text};
 
 use crate::rows::put_rows;
 use pp_base::{Memory, Text};

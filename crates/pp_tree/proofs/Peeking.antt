@@ -1,14 +1,12 @@
 -- What is written of a graph in which nothing is trimmed is the peek report.
-use Rattle.std.proofs.Common.{◌≡◌, ℕ, zero, suc, ◌+◌, ◌*◌, ◌<◌, ◌≤◌, Bool, true, false, cond, not, ◌&&◌, ◌||◌, nat_abs, ℤ, pos, ◌+ℤ◌, List, [], ◌∷◌, ◌++◌, length, map, drop, get_or, replicate, All, Option, Some, Result, Ok, Err, IfOk, refl, sym, ap, subst, ◌∙◌, arith, append_assoc, length-append}
+use Rattle.std.proofs.Common.{◌≡◌, ℕ, zero, suc, ◌+◌, ◌<◌, ◌≤◌, Bool, true, false, cond, not, ◌&&◌, ◌||◌, nat_abs, ℤ, pos, ◌+ℤ◌, List, [], ◌∷◌, ◌++◌, length, map, drop, get_or, replicate, All, Option, Some, refl, sym, ap, subst, ◌∙◌, arith, append_assoc, length-append}
 use Rattle.std.proofs.Math.Seq.{get_or-append_seam}
 use Rattle.std.specs.List.{filter, filter_map, list_any, sum_by, range_with_len}
 use Rattle.std.specs.Ordering.{eq_by_cmp}
-use Rattle.std.proofs.lemmas.Bool.{le-leb}
 use Rattle.std.proofs.lemmas.List.{drop_more, drop_all, append-nil}
 use Rattle.std.proofs.lemmas.List.Elements.{All-head, All-tail, All-filter}
 use Rattle.std.proofs.lemmas.List.Sums.{sum_by-cons}
 use Rattle.pp_model.specs.declared.config.Config.{Config}
-use Rattle.pp_base.specs.declared.fraction.Fraction.{Fraction}
 use Rattle.pp_model.specs.declared.loaded.Loaded.{Loaded}
 use Rattle.pp_model.specs.declared.profile.Profile.{Profile}
 use Rattle.pp_model.specs.declared.verdicts.Verdicts.{Verdicts}
@@ -25,19 +23,19 @@ use Rattle.pp_count.specs.Counts.{total_of}
 use Rattle.pp_count.specs.EdgeSums.{has_edge, has_pair, edge_occurs, edge_sum, is_kept_name, AreEdgesOf, edges_between}
 use Rattle.pp_count.specs.Edges.{is_kept_key}
 use Rattle.pp_count.specs.Seeing.{HoldsFilters}
-use Rattle.pp_count.specs.Sums.{Seen, has, occurs, cum, all_keys}
+use Rattle.pp_count.specs.Sums.{Seen, has, occurs}
 use Rattle.pp_count.specs.Table.{no_key, written_key}
-use Rattle.pp_count.specs.Ranks.{each_once, is_heavy}
 use Rattle.pp_count.proofs.Ties.{tied_self}
 use Rattle.pp_graph.specs.declared.ranking.Ranked.{Ranked}
 use Rattle.pp_graph.specs.Links.{Links, live_edges}
-use Rattle.pp_graph.specs.Trim.{report_order, is_heavy_key}
-use Rattle.pp_graph.specs.Trimmed.{IsRankedOf}
-use Rattle.pp_top.specs.Top.{CanShow, flat_sum}
+use Rattle.pp_graph.specs.Trim.{all_report_keys}
+use Rattle.pp_graph.specs.Trimmed.{IsWholeRanking}
+use Rattle.pp_graph.specs.KeyRows.{CanShow}
+use Rattle.pp_graph.proofs.Whole.{light-none}
 use Rattle.pp_tree.specs.Nodes.{table_heading, nodes_text}
-use Rattle.pp_tree.specs.Peek.{all_report_keys, is_own_key, whole_node_of, peek_text}
+use Rattle.pp_tree.specs.Peek.{is_own_key, whole_node_of, peek_text}
 use Rattle.pp_tree.specs.Ends.{ShowsPairs, node_at, peeked_text, edge_if}
-use Rattle.pp_tree.specs.Whole.{any_key, all_pairs, IsWholeRanking}
+use Rattle.pp_tree.specs.Whole.{any_key, all_pairs}
 use Rattle.pp_tree.proofs.Shown.{keys_of_names, nodes_are}
 
 -- a filter, item by item
@@ -56,53 +54,6 @@ left_out t order i d done here fails so_far =
 
 pub all_looked : (t : ℕ → Bool) (order : List ℕ) (i : ℕ) (done : List ℕ) → length order ≤ i → done ++ filter t (drop i order) ≡ filter t order → done ≡ filter t order
 all_looked t order i done past so_far = sym (append-nil done) ∙ ap (λ ns. done ++ filter t ns) (sym (drop_all i order past)) ∙ so_far
-
--- what an outcome is, in other words
-pub ok_as : {T E : Type 0} (r : Result T E) (P Q : T → Type 0) → ((x : T) → P x → Q x) → IfOk r P → IfOk r Q
-ok_as (Err e) P Q implies h = tt
-ok_as (Ok x) P Q implies h = implies x h
-
-filter-everything : {X : Type 0} (t : X → Bool) → ((x : X) → t x ≡ true) → (xs : List X) → filter t xs ≡ xs
-filter-everything t all [] = refl
-filter-everything t all (x ∷ xs) = (λ i. cond (all x i) (x ∷ filter t xs) (filter t xs)) ∙ ap (λ r. x ∷ r) (filter-everything t all xs)
-
--- every sum is at least nothing of the total
-light-none : (total : ℕ) (sum : ℤ) → is_heavy total 0 sum ≡ true
-light-none total sum = le-leb (total * 0) (nat_abs sum * 1000000000) (omega arith)
-
-module _ (l : Loaded) (v : Verdicts) (config : Config) (column : Option ℕ) (c : Counted) (none : Fraction) (is_none : none.billionths ≡ 0) where
-  -- the count does not depend on the fraction
-  pub counted_whole : IsCountedOf l v config column c → IsCountedOf l v (record config { nodefraction = none }) column c
-  counted_whole is = record {
-    kept = λ f holds. is.kept f (back f holds);
-    sums_are = λ f holds. is.sums_are f (back f holds);
-    matches = λ f holds. is.matches f (back f holds);
-    total_is = λ f holds. is.total_is f (back f holds);
-    fits = is.fits;
-    of_profile = is.of_profile;
-  } where
-    back : (f : Finders) → HoldsFilters l v (record config { nodefraction = none }) f → HoldsFilters l v config f
-    back f holds = record { found = holds.found; tagfocus = holds.tagfocus; tagignore = holds.tagignore }
-
-  -- the ranking by no fraction and without a limit has all keys
-  pub ranked_whole : (t : Ranked) → IsRankedOf l v (record config { nodefraction = none }) column 0 c t → IsWholeRanking l v config column c t
-  ranked_whole t is = record {
-    below = is.below;
-    small = is.small;
-    keys = λ f holds. is.keys f (there f holds) ∙ whole f;
-    shown_flat = λ f holds. is.shown_flat f (there f holds) ∙ ap (flat_sum (report_samples l.profile f config column)) (whole f);
-  } where
-    there : (f : Finders) → HoldsFilters l v config f → HoldsFilters l v (record config { nodefraction = none }) f
-    there f holds = record { found = holds.found; tagfocus = holds.tagfocus; tagignore = holds.tagignore }
-
-    whole : (f : Finders)
-        → each_once (report_order key_cmp config.sort (report_samples l.profile f config column)) (filter (is_heavy_key key_cmp (total_of l.profile f config column) none.billionths (report_samples l.profile f config column)) (all_keys (report_samples l.profile f config column)))
-        ≡ all_report_keys l.profile f config column
-    whole f =
-        let samples : List (Seen Written) = report_samples l.profile f config column in
-        ap (each_once (report_order key_cmp config.sort samples))
-        (filter-everything (is_heavy_key key_cmp (total_of l.profile f config column) none.billionths samples)
-        (λ k. ap (λ n. is_heavy (total_of l.profile f config column) n (cum key_cmp samples k)) is_none ∙ light-none (total_of l.profile f config column) (cum key_cmp samples k)) (all_keys samples))
 
 -- Edges over keys of which all that occur are kept.
 module _ (kept : Written → Bool) where
@@ -218,7 +169,7 @@ module _ (l : Loaded) (v : Verdicts) (config : Config) (column : Option ℕ) (c 
           and-true false = refl
 
   -- what is written of those that are found is the peek report
-  pub peeked_is : (t : Ranked) (found : List Bool) (shown : List ℕ) (h : Facts) → IsWholeRanking l v config column c t
+  pub peeked_is : (t : Ranked) (found : List Bool) (shown : List ℕ) (h : Facts) → IsWholeRanking l v config column 0 c t
       → found ≡ map (λ key. is_own_key l.profile f config column (key_written l.profile key)) c.sums.names
       → shown ≡ filter (λ n. get_or found n false) t.order
       → peeked_text l.profile c.sums t.shown_flat shown (all_pairs l.profile f config column) h ≡ peek_text l.profile f config column h
@@ -265,7 +216,7 @@ fewer t size (n ∷ order) =
 
 -- those that are found can be shown
 pub found_fits : (l : Loaded) (v : Verdicts) (config : Config) (column : Option ℕ) (c : Counted) (t : Ranked) (test : ℕ → Bool) (shown : List ℕ)
-    → IsCountedOf l v config column c → IsWholeRanking l v config column c t → shown ≡ filter test t.order → CanShow l.profile c.sums shown
+    → IsCountedOf l v config column c → IsWholeRanking l v config column 0 c t → shown ≡ filter test t.order → CanShow l.profile c.sums shown
 found_fits l v config column c t test shown counted whole is = record {
   keys = counted.of_profile;
   fits = counted.fits;

@@ -1,12 +1,12 @@
 -- Lines of a node, byte by byte.
-use Rattle.std.proofs.Common.{◌≡◌, pos, [], ◌∷◌, refl}
+use Rattle.std.proofs.Common.{◌≡◌, pos, [], ◌∷◌, None, refl}
 use Rattle.std.specs.Prelude.{codes}
 use Rattle.std.specs.Fmt.{digits}
 use Rattle.pp_units.specs.Numbers.{number_text, value_text, percent_text}
 use Rattle.pp_tree.specs.Nodes.{separator, edge_indent, node_gap, node_text}
 
 -- A node of cum 5 of which two callees have 3 and 2.
-two_callees : node_text (record { from = 1; to = 1; suffix = [] }) 10 (pos 7) (record {
+two_callees : node_text (record { from = 1; to = 1; suffix = []; each = None }) 10 (pos 7) (record {
   row = record { flat = pos 2; cum = pos 5; name = codes "f" };
   callers = record { value = pos 5; name = codes "g" } ∷ [];
   callees = record { value = pos 3; name = codes "h" } ∷ record { value = pos 2; name = codes "g" } ∷ [];

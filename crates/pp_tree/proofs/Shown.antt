@@ -23,8 +23,8 @@ use Rattle.pp_count.specs.Table.{written_key}
 use Rattle.pp_graph.specs.declared.trimming.Trimmed.{Trimmed}
 use Rattle.pp_graph.specs.Trim.{has_heavy_edge, report_keys, is_report_key}
 use Rattle.pp_graph.specs.Trimmed.{IsTrimmedOf}
-use Rattle.pp_top.specs.Top.{row_of}
-use Rattle.pp_top.proofs.NameLemmas.{row_is}
+use Rattle.pp_graph.specs.KeyRows.{key_row}
+use Rattle.pp_graph.proofs.KeyRowLemmas.{row_is}
 use Rattle.pp_tree.specs.Nodes.{table_heading, nodes_text}
 use Rattle.pp_tree.specs.Tree.{near_of, node_of, summary_text, tree_text}
 use Rattle.pp_tree.specs.Ends.{Pairs, ShowsPairs, callers_in, callees_in, node_at, trimmed_text}
@@ -47,7 +47,7 @@ keys_of_names p samples sums are k = any-keys (eq_by_cmp key_cmp k) samples ∙ 
 -- the node of a name, where its key's callers and callees are these
 pub nodes_are : (p : Profile) (samples : List (Seen Written)) (sums : Sums) (pairs : Pairs) (order : List ℕ) → AreSumsOf p samples sums → All (λ n. n < length sums.names) order
     → map (node_at p sums pairs) order
-    ≡ map (λ k. record { row = row_of samples k; callers = map near_of (callers_in pairs k); callees = map near_of (callees_in pairs k) }) (map (written_key p sums.names) order)
+    ≡ map (λ k. record { row = key_row samples k; callers = map near_of (callers_in pairs k); callees = map near_of (callees_in pairs k) }) (map (written_key p sums.names) order)
 nodes_are p samples sums pairs [] are below = refl
 nodes_are p samples sums pairs (n ∷ order) are below = λ i.
     record {

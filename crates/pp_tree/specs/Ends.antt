@@ -17,7 +17,7 @@ use Rattle.pp_count.specs.Table.{written_key}
 use Rattle.pp_graph.specs.Links.{Links, AreLinked, edge_at, live_edges}
 use Rattle.pp_graph.specs.Neighbours.{Neighbour, listed}
 use Rattle.pp_graph.specs.Trimmed.{HasNodes}
-use Rattle.pp_top.specs.Top.{row_at}
+use Rattle.pp_graph.specs.KeyRows.{row_at}
 use Rattle.pp_tree.specs.declared.near.Near.{Near as CodeNear}
 use Rattle.pp_graph.specs.declared.trimming.Trimmed.{Trimmed}
 use Rattle.pp_tree.specs.Nodes.{Node, table_heading, nodes_text}

@@ -3,7 +3,7 @@ use Rattle.std.specs.Prelude.{ℕ, ℤ, nat_abs, List, ◌++◌, codes}
 use Rattle.std.specs.List.{flat_map}
 use Rattle.pp_units.specs.Rows.{pair_text, columns_text}
 use Rattle.pp_units.specs.Shown.{Shown}
-use Rattle.pp_top.specs.Top.{Row, running_text}
+use Rattle.pp_graph.specs.KeyRows.{KeyRow, running_text}
 
 -- The other end of an edge of a node: what the edge comes to, and the name there.
 pub record Near : Type 0 where
@@ -12,7 +12,7 @@ pub record Near : Type 0 where
 
 -- What is said of a node: its row, and its edges on both sides, in their order.
 pub record Node : Type 0 where
-  pub row : Row
+  pub row : KeyRow
   pub callers : List Near
   pub callees : List Near
 
@@ -52,7 +52,7 @@ abbrev pub line_end : List ℕ → List ℕ
 line_end name = name ++ codes "\n"
 
 -- the line of the node itself, where the flats up to it have this sum
-abbrev pub itself_text : Shown → ℕ → ℤ → Row → List ℕ
+abbrev pub itself_text : Shown → ℕ → ℤ → KeyRow → List ℕ
 itself_text unit total sum row =
     columns_text unit total row.flat sum row.cum ++ node_gap ++ line_end row.name
 

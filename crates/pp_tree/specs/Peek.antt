@@ -11,18 +11,10 @@ use Rattle.pp_units.specs.Rows.{showing_line}
 use Rattle.pp_grain.specs.Keys.{key_cmp, key_texts}
 use Rattle.pp_count.specs.Counted.{report_samples, report_frames, is_own}
 use Rattle.pp_graph.specs.Neighbours.{all_callers_of, all_callees_of}
-use Rattle.pp_count.specs.Sums.{all_keys}
-use Rattle.pp_count.specs.Ranks.{each_once}
-use Rattle.pp_graph.specs.Trim.{report_order}
-use Rattle.pp_top.specs.Top.{row_of, flat_sum}
+use Rattle.pp_graph.specs.Trim.{all_report_keys}
+use Rattle.pp_graph.specs.KeyRows.{key_row, flat_sum}
 use Rattle.pp_tree.specs.Nodes.{Node, table_heading, nodes_text}
 use Rattle.pp_tree.specs.Tree.{near_of}
-
--- all keys that occur, in report order
-abbrev pub all_report_keys : Profile → Finders → Config → Option ℕ → List Written
-all_report_keys p f config column =
-    let samples = report_samples p f config column in
-    each_once (report_order key_cmp config.sort samples) (all_keys samples)
 
 -- the own pattern finds the frame's function, and the key is the frame's
 abbrev pub is_own_of : Finders → Config → Written → Written → Bool
@@ -37,7 +29,7 @@ is_own_key p f config column k =
 -- the node of a key with all its callers and callees
 abbrev pub whole_node_of : Profile → Finders → Config → Option ℕ → Written → Node
 whole_node_of p f config column k = record {
-  row = row_of (report_samples p f config column) k;
+  row = key_row (report_samples p f config column) k;
   callers = map near_of (all_callers_of p f config column k);
   callees = map near_of (all_callees_of p f config column k);
 }

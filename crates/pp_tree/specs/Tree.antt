@@ -11,7 +11,7 @@ use Rattle.pp_grain.specs.Naming.{name_text}
 use Rattle.pp_count.specs.Counted.{report_samples}
 use Rattle.pp_graph.specs.Neighbours.{Neighbour, callers_of, callees_of}
 use Rattle.pp_graph.specs.Trim.{candidate_keys, report_keys, dropped_nodes, dropped_edges}
-use Rattle.pp_top.specs.Top.{row_of, flat_sum}
+use Rattle.pp_graph.specs.KeyRows.{key_row, flat_sum}
 use Rattle.pp_tree.specs.Nodes.{Near, Node, table_heading, nodes_text}
 
 -- the other end of an edge, as it is printed
@@ -21,7 +21,7 @@ near_of neighbour = record { value = neighbour.value; name = name_text neighbour
 -- the node of a key that the report shows
 abbrev pub node_of : Profile → Finders → Config → Option ℕ → ℕ → Written → Node
 node_of p f config column limit k = record {
-  row = row_of (report_samples p f config column) k;
+  row = key_row (report_samples p f config column) k;
   callers = map near_of (callers_of p f config column limit k);
   callees = map near_of (callees_of p f config column limit k);
 }

@@ -6,7 +6,7 @@ ghost use Rattle.pp_grain.specs.Keys.{IsKeyOf, key_written};
 ghost use Rattle.pp_grain.specs.Naming.{name_text};
 ghost use Rattle.pp_count.specs.Counted.{FitSums};
 ghost use Rattle.pp_count.specs.Table.{written_key};
-ghost use Rattle.pp_top.specs.Top.{CanShow, row_at};
+ghost use Rattle.pp_graph.specs.KeyRows.{CanShow, row_at};
 ghost use Rattle.pp_tree.specs.Nodes.{separator, columns_line, table_heading, near_text, node_gap, line_end, itself_text, node_text, nodes_text};
 ghost use Rattle.pp_tree.specs.Tree.{near_of};
 ghost use Rattle.pp_tree.specs.Ends.{Pairs, ShowsPairs, CanWalk, node_at, cum_size, callers_in, callees_in};

@@ -1,21 +1,19 @@
 //! The whole peek report.
-ghost use Rattle.std.specs.Prelude.{◌≡◌, ◌++◌, ℕ, Option, length, filter, replicate, slice_index_or, All, IfOk, IfErr, OnOk, OnErr, true, false};
-ghost use Rattle.pp_model.specs.declared.verdicts.Verdicts.{Verdicts as Judged};
+ghost use Rattle.std.specs.Prelude.{◌≡◌, ◌++◌, Option, filter, replicate, slice_index_or, IfOk, IfErr, OnOk, OnErr, true, false};
 ghost use Rattle.pp_model.specs.Finders.{Finders};
 ghost use Rattle.pp_units.specs.Head.{facts};
-ghost use Rattle.pp_grain.specs.Keys.{IsKeyOf};
-ghost use Rattle.pp_count.specs.Counted.{CanCount, FitSums, IsCountedOf, has_own_match};
+ghost use Rattle.pp_count.specs.Counted.{CanCount, IsCountedOf, has_own_match};
 ghost use Rattle.pp_count.specs.Seeing.{HoldsFilters};
-ghost use Rattle.pp_top.specs.Top.{CanShow};
+ghost use Rattle.pp_graph.specs.KeyRows.{CanShow};
 ghost use Rattle.pp_tree.specs.Peek.{peek_text};
 ghost use Rattle.pp_tree.specs.Ends.{Pairs, ShowsPairs, CanWalk, peeked_text};
-ghost use Rattle.pp_tree.specs.Whole.{all_pairs, HasNoFraction, IsWholeRanking};
+ghost use Rattle.pp_tree.specs.Whole.{all_pairs};
 
 use crate::nodes::{Table, put_nodes, put_table_heading};
 use crate::own::found_names;
-use pp_base::{Fraction, Gate, List, MatchRefusal, Memory, Text};
+use pp_base::{Gate, List, MatchRefusal, Memory, Text};
 use pp_count::{Counted, recount};
-use pp_graph::{Graph, Ranked, rank};
+use pp_graph::{Graph, rank_all};
 use pp_model::{Config, Loaded, Verdicts};
 use pp_units::{Head, write_head};
 use std::alloc::Global;
@@ -51,7 +49,7 @@ pub fn write_peek<R: Threads + Sync, G: Gate>(
     ensures err { OnErr result (out.new ≡ out.old) }
 {
     let found = found_names(alloc, l, v, c, config, column)?;
-    let ranked = rank_all(alloc, l, c, config)?;
+    let ranked = rank_all(alloc, l, c, config, 0)?;
     let graph = whole_graph(rt, alloc, l, v, c, config, column, gate)?;
     let shown = found_of(alloc, ranked.order.as_slice(), found.as_slice())?;
     let mut text = Text::new(alloc);
@@ -67,26 +65,6 @@ pub fn write_peek<R: Threads + Sync, G: Gate>(
     )?;
     out.append(text)?;
     Ok(())
-}
-
-// All keys in report order.
-fn rank_all(alloc: Global, l: &Loaded, c: &Counted, config: &Config) -> Result<Ranked, Memory>
-    requires fits { FitSums c.now.sums }
-    requires keys { All (IsKeyOf l.now.profile) c.now.sums.names }
-    ensures { (v : Judged) (column : Option ℕ) → IsCountedOf l.now v config.now column c.now →
-        IfOk result (IsWholeRanking l.now v config.now column c.now) }
-{
-    let whole = whole_config(alloc, config)?;
-    rank(alloc, l, c, &whole, 0)
-}
-
-// The same variables, but that no fraction of the total is asked of a key.
-fn whole_config(alloc: Global, config: &Config) -> Result<Config, Memory>
-    ensures { IfOk result (HasNoFraction config.now) }
-{
-    let mut whole = config.copy(alloc)?;
-    whole.nodefraction = Fraction { billionths: 0 };
-    Ok(whole)
 }
 
 // The graph of all keys and all edges.

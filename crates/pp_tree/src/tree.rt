@@ -7,7 +7,7 @@ ghost use Rattle.pp_units.specs.Head.{facts};
 ghost use Rattle.pp_count.specs.Counted.{IsCountedOf};
 ghost use Rattle.pp_count.specs.Seeing.{HoldsFilters};
 ghost use Rattle.pp_graph.specs.Trimmed.{IsTrimmedOf};
-ghost use Rattle.pp_top.specs.Top.{CanShow};
+ghost use Rattle.pp_graph.specs.KeyRows.{CanShow};
 ghost use Rattle.pp_tree.specs.Tree.{summary_text, tree_text};
 ghost use Rattle.pp_tree.specs.Ends.{Pairs, ShowsPairs, CanWalk, trimmed_text};
 

@@ -1,13 +1,17 @@
 -- Only a number that is rounded to 0 has the text `0`.
-use Rattle.std.proofs.Common.{◌≡◌, ◌↔◌, ℕ, zero, suc, neg_ℤ, ◌+◌, ◌*◌, ◌/◌, ◌%◌, ◌^◌, ◌<◌, ◌≤◌, ℤ, pos, negsuc, unsigned_abs, Bool, true, false, ◌==◌, if◌then◌else◌, List, [], ◌∷◌, ◌++◌, length, get_or, codes, refl, arith, ap, sym, ◌∙◌, append-nil, length-append}
+use Rattle.std.proofs.Common.{◌≡◌, ◌↔◌, ℕ, zero, suc, neg_ℤ, ◌+◌, ◌*◌, ◌/◌, ◌%◌, ◌^◌, ◌<◌, ◌≤◌, ℤ, pos, negsuc, unsigned_abs, Bool, true, false, Option, Some, None, ◌==◌, if◌then◌else◌, List, [], ◌∷◌, ◌++◌, length, get_or, codes, refl, arith, ap, sym, ◌∙◌, append-nil, length-append}
 use Rattle.std.specs.Fmt.{decimal, digits}
+use Rattle.std.specs.Option.{option_map_or}
 use Rattle.std.specs.Str.Parse.{digits_value}
 use Rattle.std.proofs.lemmas.Bool.Decides.{nat_tests}
 use Rattle.std.proofs.lemmas.Fmt.{decimal_is_IsNumeral_wide}
 use Rattle.std.proofs.Math.Nat.{div-le_self}
 use Rattle.std.proofs.lemmas.Nat.{mul-le}
 use Rattle.pp_units.specs.Rounded.{nearest, rounded}
-use Rattle.pp_units.specs.Shown.{Shown}
+use Rattle.pp_units.specs.declared.scale.Scale.{Scale}
+use Rattle.pp_units.specs.declared.scale.Scale.TheVariants.{Nanoseconds, Microseconds, Milliseconds, Seconds, Hours, SingleBytes, Kilobytes, Megabytes, Gigabytes, Terabytes, Petabytes, Counts}
+use Rattle.pp_units.specs.Scales.{factor}
+use Rattle.pp_units.specs.Shown.{Shown, own_scale, to_at}
 use Rattle.pp_units.specs.Numbers.{decimals, shortened, signed_text, number_text}
 
 -- the whole part is 0
@@ -47,10 +51,35 @@ rounded_le (negsuc n) times over =
     let size : unsigned_abs (rounded (negsuc n) times over) ≡ nearest (suc n * times) over = size_le (nearest (suc n * times) over) in
     omega (arith, size, div-le_self (2 * (suc n * times) + over) (2 * over))
 
+factor_bounded : (scale : Scale) → factor scale ≤ 2 ^ 50
+factor_bounded Nanoseconds = omega arith
+factor_bounded Microseconds = omega arith
+factor_bounded Milliseconds = omega arith
+factor_bounded Seconds = omega arith
+factor_bounded Hours = omega arith
+factor_bounded SingleBytes = omega arith
+factor_bounded Kilobytes = omega arith
+factor_bounded Megabytes = omega arith
+factor_bounded Gigabytes = omega arith
+factor_bounded Terabytes = omega arith
+factor_bounded Petabytes = omega arith
+factor_bounded Counts = omega arith
+
+scale_bounded : (scale : Option Scale) (to : ℕ) → to ≤ 2 ^ 50 → option_map_or factor scale to ≤ 2 ^ 50
+scale_bounded None to h = h
+scale_bounded (Some scale) to h = factor_bounded scale
+
+-- the unit of a value is no greater than this
+own_bounded : (size : ℕ) (unit : Shown) → unit.to ≤ 2 ^ 50 → to_at size unit ≤ 2 ^ 50
+own_bounded size unit h = scale_bounded (own_scale size unit) unit.to h
+
 -- the text of a value's number is `0` exactly where the number is rounded to 0
-pub number_text-zero : (value : ℤ) (unit : Shown) → unsigned_abs value ≤ 2 ^ 63 → unit.from ≤ 2 ^ 50 → unit.to ≤ 2 ^ 50 → (number_text value unit ≡ codes "0") ↔ (rounded value (100 * unit.from) unit.to ≡ pos 0)
+pub number_text-zero : (value : ℤ) (unit : Shown) → unsigned_abs value ≤ 2 ^ 63 → unit.from ≤ 2 ^ 50 → unit.to ≤ 2 ^ 50
+    → (number_text value unit ≡ codes "0") ↔ (rounded value (100 * unit.from) (to_at (unsigned_abs value) unit) ≡ pos 0)
 unfolding number_text
 number_text-zero value unit small from to =
+    let over = to_at (unsigned_abs value) unit in
+    let own : over ≤ 2 ^ 50 = own_bounded (unsigned_abs value) unit to in
     let product : unsigned_abs value * (100 * unit.from) ≤ 2 ^ 63 * (100 * 2 ^ 50) = mul-le (unsigned_abs value) (100 * unit.from) (2 ^ 63) (100 * 2 ^ 50) small (omega arith) in
-    let size : unsigned_abs (rounded value (100 * unit.from) unit.to) ≤ 2 * (2 ^ 63 * (100 * 2 ^ 50)) + 2 ^ 50 = omega (arith, rounded_le value (100 * unit.from) unit.to) in
-    (zero_from_text (rounded value (100 * unit.from) unit.to) (omega arith), zero_text (rounded value (100 * unit.from) unit.to))
+    let size : unsigned_abs (rounded value (100 * unit.from) over) ≤ 2 * (2 ^ 63 * (100 * 2 ^ 50)) + 2 ^ 50 = omega (arith, rounded_le value (100 * unit.from) over) in
+    (zero_from_text (rounded value (100 * unit.from) over) (omega arith), zero_text (rounded value (100 * unit.from) over))

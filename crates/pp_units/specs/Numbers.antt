@@ -1,7 +1,7 @@
 -- The texts of values and of percentages.
-use Rattle.std.specs.Prelude.{ℕ, Bool, ◌&&◌, nat_lt, suc, ◌+◌, ◌-◌, ◌*◌, ◌/◌, ◌%◌, ℤ, pos, negsuc, List, [], ◌∷◌, ◌++◌, length, replicate, ◌==◌, bytes_eq, codes, decimal, if◌then◌else◌}
+use Rattle.std.specs.Prelude.{ℕ, Bool, ◌&&◌, nat_lt, suc, ◌+◌, ◌-◌, ◌*◌, ◌/◌, ◌%◌, ℤ, pos, negsuc, unsigned_abs, List, [], ◌∷◌, ◌++◌, length, replicate, ◌==◌, bytes_eq, codes, decimal, if◌then◌else◌}
 use Rattle.pp_units.specs.Rounded.{rounded}
-use Rattle.pp_units.specs.Shown.{Shown}
+use Rattle.pp_units.specs.Shown.{Shown, to_at, suffix_at}
 
 -- the two decimals of so many hundredths, after a point
 abbrev pub decimals : ℕ → List ℕ
@@ -25,9 +25,10 @@ signed_text text (negsuc n) = codes "-" ++ text (suc n)
 abbrev pub sign_text : Bool → ℕ → List ℕ
 sign_text negative n = if negative && nat_lt 0 n then codes "-" else []
 
--- a value's number in the printed unit, in hundredths, without what stands after it
+-- a value's number in its printed unit, in hundredths, without what stands after it
 unfoldable pub number_text : ℤ → Shown → List ℕ
-number_text value unit = signed_text shortened (rounded value (100 * unit.from) unit.to)
+number_text value unit =
+    signed_text shortened (rounded value (100 * unit.from) (to_at (unsigned_abs value) unit))
 
 -- what stands after a number: nothing after 0
 abbrev pub suffix_after : List ℕ → List ℕ → List ℕ
@@ -35,7 +36,8 @@ suffix_after number suffix = if bytes_eq number (codes "0") then [] else suffix
 
 -- a value's whole text
 unfoldable pub value_text : ℤ → Shown → List ℕ
-value_text value unit = number_text value unit ++ suffix_after (number_text value unit) unit.suffix
+value_text value unit =
+    number_text value unit ++ suffix_after (number_text value unit) (suffix_at (unsigned_abs value) unit)
 
 -- how much of the total a value is, in hundredths of a percent
 unfoldable pub percent_text : ℤ → ℕ → List ℕ

@@ -20,6 +20,7 @@ pub fn forced_unit(alloc: Global, wanted: &[u8], unit: &[u8]) -> Result<Option<U
         from: factor_of(unit),
         to: factor_of(wanted),
         suffix: Text::from_slice(alloc, suffix_of(wanted))?,
+        each: None,
     }))
 }
 
@@ -50,7 +51,7 @@ pub fn factor_of(unit: &[u8]) -> u64
 }
 
 // What is printed after a number in the unit.
-fn suffix_of(unit: &[u8]) -> &[u8]
+pub(crate) fn suffix_of(unit: &[u8]) -> &[u8]
     ensures { result.now ≡ suffix_of unit.now }
 {
     match scale_of(unit) {

@@ -4,9 +4,9 @@ ghost use Rattle.pp_units.specs.Shown.{shown};
 ghost use Rattle.pp_units.specs.Numbers.{value_text};
 ghost use Rattle.pp_units.specs.Head.{head_text, labelled, known_duration, duration_line};
 
-use crate::number::write_number;
+use crate::number::{suffix_after, write_number};
 use crate::right::put_both;
-use crate::{Small, Unit, pick_unit, suffix_after};
+use crate::{Small, Unit, pick_unit};
 use pp_base::{Memory, Text, last_name};
 use std::alloc::Global;
 
@@ -92,6 +92,6 @@ pub(crate) fn put_size(size: u64, unit: &Unit, lines: &mut Text) -> Result<(), M
 {
     let mut number = Small::new();
     write_number(false, size, unit, &mut number);
-    let suffix = suffix_after(number.bytes(), unit);
+    let suffix = suffix_after(number.bytes(), unit.suffix_at(size));
     put_both(number.bytes(), suffix, lines)
 }

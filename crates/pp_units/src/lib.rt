@@ -1,6 +1,7 @@
 //! Units, numbers, percentages, ranges, fractions and heads: every number that a person reads.
 #![tactic(auto)]
 
+mod each;
 mod family;
 mod forced;
 mod fraction;
@@ -16,11 +17,12 @@ mod scan;
 mod small;
 mod unit;
 
+pub use each::each_unit;
 pub use family::{Family, family_of};
 pub use forced::forced_unit;
 pub use fraction::{BILLION, read_fraction};
 pub use head::{Head, write_head};
-pub use number::{put_value, suffix_after, write_percent, write_value};
+pub use number::{put_value, write_percent, write_value};
 pub use picked::pick_unit;
 pub use range::{Bound, Range, in_range, read_range};
 pub use right::put_right;

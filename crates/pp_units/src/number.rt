@@ -1,6 +1,6 @@
 //! Values and percentages.
-ghost use Rattle.std.specs.Prelude.{◌≡◌, ◌+◌, ◌*◌, ◌/◌, ◌<◌, ◌≤◌, [], ◌++◌, ◌↔◌, length, pos, codes, decimal, OnOk, OnErr};
-ghost use Rattle.pp_units.specs.Shown.{shown};
+ghost use Rattle.std.specs.Prelude.{◌≡◌, ◌+◌, ◌*◌, ◌/◌, ◌<◌, ◌≤◌, [], ◌++◌, ◌↔◌, length, pos, unsigned_abs, codes, decimal, OnOk, OnErr};
+ghost use Rattle.pp_units.specs.Shown.{shown, to_at};
 ghost use Rattle.pp_units.specs.Numbers.{number_text, suffix_after, value_text, percent_text, sign_text, shortened, decimals};
 ghost use Rattle.pp_units.specs.Rounded.{nearest, rounded};
 
@@ -14,8 +14,8 @@ use pp_base::{Memory, Text};
 /// away from zero, without `.00`.
 pub fn write_value(value: i64, unit: &Unit, out: &mut Small)
     ensures text { out.new ≡ number_text value (shown unit.now) }
-    ensures zero { (out.new ≡ codes "0")
-        ↔ (rounded value (100 * unit.now.from) unit.now.to ≡ pos 0) }
+    ensures zero { let to = to_at (unsigned_abs value) (shown unit.now) in
+        (out.new ≡ codes "0") ↔ (rounded value (100 * unit.now.from) to ≡ pos 0) }
 {
     write_signed(value, unit, out);
 }
@@ -27,14 +27,14 @@ fn write_signed(value: i64, unit: &Unit, out: &mut Small)
     write_number(value < 0, value.unsigned_abs(), unit, out);
 }
 
-/// What stands after a number: the unit's suffix, or nothing after `0`.
-pub fn suffix_after<'a>(number: &[u8], unit: &'a Unit) -> &'a [u8]
-    ensures { result.now ≡ suffix_after number.now unit.now.suffix }
+// What stands after a number: the unit's suffix, or nothing after `0`.
+pub(crate) fn suffix_after<'a>(number: &[u8], suffix: &'a [u8]) -> &'a [u8]
+    ensures { result.now ≡ suffix_after number.now suffix.now }
 {
     if number == b"0".as_slice() {
         &[]
     } else {
-        unit.suffix.as_slice()
+        suffix
     }
 }
 
@@ -46,7 +46,7 @@ pub fn put_value(value: i64, unit: &Unit, out: &mut Text) -> Result<(), Memory>
 {
     let mut number = Small::new();
     write_value(value, unit, &mut number);
-    let suffix = suffix_after(number.bytes(), unit);
+    let suffix = suffix_after(number.bytes(), unit.suffix_at(value.unsigned_abs()));
     put_both(number.bytes(), suffix, out)
 }
 
@@ -69,12 +69,12 @@ pub fn write_percent(value: i64, total: u64, out: &mut Small)
 
 // The number of a value with this sign and this absolute value.
 pub fn write_number(negative: bool, size: u64, unit: &Unit, out: &mut Small)
-    ensures { let h = nearest (size * (100 * unit.now.from)) unit.now.to in
+    ensures { let h = nearest (size * (100 * unit.now.from)) (to_at size (shown unit.now)) in
         out.new ≡ sign_text negative h ++ shortened h }
 {
     out.clear();
     let amount = u128::from(size) * u128::from(unit.from) * 100;
-    let hundredths = nearest(amount, u128::from(unit.to));
+    let hundredths = nearest(amount, u128::from(unit.to_at(size)));
     put_whole(negative, hundredths, out);
     if hundredths % 100 != 0 {
         put_decimals(hundredths, out);

@@ -19,6 +19,7 @@ pub fn pick_unit(alloc: Global, total: u64, unit: &[u8]) -> Result<Unit, Memory>
             from: 1,
             to: 1,
             suffix: Text::from_slice(alloc, unit)?,
+            each: None,
         });
     };
     let amount = u128::from(total) * u128::from(scale.factor());
@@ -27,10 +28,12 @@ pub fn pick_unit(alloc: Global, total: u64, unit: &[u8]) -> Result<Unit, Memory>
         from: scale.factor(),
         to: largest.factor(),
         suffix: Text::from_slice(alloc, largest.suffix())?,
+        each: None,
     })
 }
 
-fn largest_within(amount: u128, family: Family) -> Scale
+// The largest unit of the family of which the amount has one, and the smallest where it has none.
+pub(crate) fn largest_within(amount: u128, family: Family) -> Scale
     ensures { result ≡ largest_within amount family }
 {
     match first_within(amount, family.falling()) {

@@ -1,6 +1,7 @@
 use Rattle.std.proofs.Common.{◌∙◌}
 use Rattle.pp_units.specs.Head.{facts}
-use Rattle.pp_calltree.proofs.Written.{text_is, appended}
+use Rattle.pp_base.proofs.TextLemmas.{appended}
+use Rattle.pp_calltree.proofs.Written.{text_is}
 use Rattle.pp_calltree.proofs.writing.write_calltree.Goals as goal
 
 pub returns-clause-ok : goal.returns-clause-ok

@@ -6,7 +6,7 @@ use Rattle.pp_count.proofs.parts.count_piece_by.Goals as goal
 
 pub count_piece_of-requires-clause-sound : goal.count_piece_of-requires-clause-sound
 count_piece_of-requires-clause-sound c =
-    record { filters = c.requires.filters; verdicts = c.requires.verdicts; table = c.requires.table; few_kept = tt }
+    record { filters = c.requires.filters; verdicts = c.requires.verdicts; table = c.requires.table; few_kept = tt; chosen = tt }
 
 pub count_piece_of-requires-clause-countable : goal.count_piece_of-requires-clause-countable
 count_piece_of-requires-clause-countable c = record {
@@ -16,6 +16,6 @@ count_piece_of-requires-clause-countable c = record {
 
 pub returns : goal.returns
 returns c =
-    range_part (record { l = c.args.l; v = c.args.v; config = c.args.config; filters = c.args.filters; column = c.args.column; table = c.args.table; over = None })
+    range_part (record { l = c.args.l; v = c.args.v; config = c.args.config; filters = c.args.filters; column = c.args.column; table = c.args.table; over = None; chosen = None })
     (c.args.piece * 1024) (1024 * c.args.piece) _ c.in_ok-part.part refl (subst IsCompact c.get-compact.ensures.same c.get-compact.ensures.compact) c.requires.table (omega arith)
     c.in_ok-part.ensures

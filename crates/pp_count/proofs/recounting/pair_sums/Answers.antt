@@ -1,20 +1,31 @@
-use Rattle.std.proofs.Common.{map, ◌∙◌}
+use Rattle.std.proofs.Common.{ℕ, List, length, map, ap, sym, ◌∙◌, subst}
 use Rattle.pp_count.specs.Sums.{weighed}
+use Rattle.pp_count.specs.Counts.{samples_at}
 use Rattle.pp_count.specs.Edges.{paired}
+use Rattle.pp_count.specs.Rising.{AreRising}
+use Rattle.pp_count.specs.Seeing.{seen_samples}
 use Rattle.pp_count.specs.Tally.{tally_at}
-use Rattle.pp_count.proofs.Kept.{values_fit}
+use Rattle.pp_count.proofs.Based.{chosen_fits, chosen_few, kept_seen}
 use Rattle.pp_count.proofs.Finals.{listed_as}
 use Rattle.pp_count.proofs.recounting.pair_sums.Goals as goal
 
 pub count_all-requires-clause-sound : goal.count_all-requires-clause-sound
-count_all-requires-clause-sound g c = λ _ _.
-    record { filters = c.requires.filters; verdicts = c.requires.verdicts; table = c.requires.table; few_kept = c.requires.few }
+count_all-requires-clause-sound g c = λ _ _. record {
+  filters = c.requires.counted.filters;
+  verdicts = c.requires.can.verdicts;
+  table = c.requires.table;
+  few_kept = c.requires.few;
+  chosen = subst (AreRising 0 (length c.args.l.now.profile.sample)) (sym c.as_slice-kept.ensures) c.requires.counted.rising;
+}
 
 pub count_all-requires-clause-countable : goal.count_all-requires-clause-countable
-count_all-requires-clause-countable g c = λ _ _. record {
-  fits = values_fit c.args.l.now.profile c.args.column c.args.config.now.divide_by c.requires.countable c.requires.column;
-  few = c.requires.countable.samples;
-}
+count_all-requires-clause-countable g c = λ _ _.
+    let rising : AreRising 0 (length c.args.l.now.profile.sample) c.as_slice-kept.result.now =
+    subst (AreRising 0 (length c.args.l.now.profile.sample)) (sym c.as_slice-kept.ensures) c.requires.counted.rising in
+    record {
+      fits = chosen_fits c.args.l.now.profile c.args.column c.args.config.now.divide_by c.as_slice-kept.result.now c.requires.can.countable c.requires.can.column rising;
+      few = chosen_few c.args.l.now.profile c.as_slice-kept.result.now c.requires.can.countable rising;
+    }
 
 pub returns : goal.returns
 returns g c =
@@ -22,6 +33,9 @@ returns g c =
     record {
       seen = counted.seen;
       below = counted.are.below;
-      are = counted.are.are;
+      are = λ f holds.
+          counted.are.are f holds
+          ∙ ap (λ (ns : List ℕ). seen_samples c.args.l.now.profile f c.args.config.now c.args.column (samples_at c.args.l.now.profile ns)) c.as_slice-kept.ensures
+          ∙ kept_seen c.args.l.now.profile f c.args.config.now c.args.column c.args.counted.now.kept (c.requires.counted.kept f holds);
       listed = λ k. c.in_ok-sums.ensures k ∙ listed_as (weighed (map (paired c.args.keep.now) counted.seen)) k (tally_at c.in_ok-sofar.sofar.tallies k) (counted.tallies k);
     }

@@ -8,3 +8,4 @@ invariant-loop-sum l =
     (l.keys ≡ map (key_at_sum l.names) (take l.sum-index l.sums))
     × (l.flat ≡ map (λ e. e.flat) (take l.sum-index l.sums))
     × (l.cum ≡ map (λ e. e.cum) (take l.sum-index l.sums))
+    × (l.numbers ≡ map (λ e. e.key) (take l.sum-index l.sums))

@@ -7,7 +7,7 @@ use Rattle.pp_model.specs.Conditions.{RefersTo}
 use Rattle.pp_count.specs.Counts.{samples_at}
 use Rattle.pp_count.proofs.Pieces.{all_refer}
 use Rattle.pp_dump.specs.Places.{spread_left, AddsSamples}
-use Rattle.pp_dump.proofs.KeptSamples.{none_at, one_at}
+use Rattle.pp_count.proofs.KeptSamples.{none_at, one_at}
 use Rattle.pp_dump.proofs.AddingSamples.{adds_none}
 use Rattle.pp_dump.proofs.cutting.cut_numbered.Goals as goal
 

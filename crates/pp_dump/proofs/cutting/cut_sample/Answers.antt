@@ -6,7 +6,7 @@ use Rattle.pp_model.specs.declared.profile.Profile.{Profile}
 use Rattle.pp_model.specs.Rules.{NoRuleFails}
 use Rattle.pp_restack.specs.Stacks.{by_place, cut_location}
 use Rattle.pp_restack.specs.Places.{KeepsPlaces, AppendsEntries, AreEntries}
-use Rattle.pp_restack.proofs.Placing.{then_ok}
+use Rattle.pp_base.proofs.TextLemmas.{then_ok}
 use Rattle.pp_dump.specs.Places.{spread_of}
 use Rattle.pp_dump.proofs.AddingSamples.{adds_none, adds_one}
 use Rattle.pp_dump.proofs.SomeFinders.{some_finders}

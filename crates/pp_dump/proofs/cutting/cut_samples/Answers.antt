@@ -2,7 +2,7 @@ use Rattle.std.proofs.Common.{◌≡◌, [], ◌∷◌, ◌++◌, List, get_or, 
 use Rattle.pp_model.specs.declared.profile.Sample.{Sample}
 use Rattle.pp_count.specs.Counts.{samples_at}
 use Rattle.pp_dump.specs.Places.{AddsSamples}
-use Rattle.pp_dump.proofs.KeptSamples.{samples_more}
+use Rattle.pp_count.proofs.KeptSamples.{samples_more}
 use Rattle.pp_dump.proofs.AddingSamples.{adds_none, adds_both}
 use Rattle.pp_dump.proofs.cutting.cut_samples.Goals as goal
 

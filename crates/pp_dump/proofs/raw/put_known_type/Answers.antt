@@ -1,7 +1,7 @@
 use Rattle.std.proofs.Common.{codes, ◌++◌}
 use Rattle.pp_base.proofs.TextLemmas.{joined_on}
 use Rattle.pp_dump.specs.Raw.{known_type_line}
-use Rattle.pp_dump.proofs.Appending.{then_more}
+use Rattle.pp_base.proofs.TextLemmas.{then_more}
 use Rattle.pp_dump.proofs.raw.put_known_type.Goals as goal
 
 -- the five parts in turn

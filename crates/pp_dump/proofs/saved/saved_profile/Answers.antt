@@ -3,8 +3,8 @@ use Rattle.pp_model.specs.declared.profile.Profile.{Profile}
 use Rattle.pp_model.specs.Rules.{NoRuleFails, IsCompact}
 use Rattle.pp_merge.specs.Merge.{contents, merged}
 use Rattle.pp_merge.specs.Settled.{IsSettled}
-use Rattle.pp_merge.specs.Header.{header_of}
-use Rattle.pp_merge.specs.Written.{Contents, written}
+use Rattle.pp_share.specs.Header.{header_of}
+use Rattle.pp_share.specs.Written.{Contents, written}
 use Rattle.pp_merge.proofs.SettledLemmas.{settled_contents}
 use Rattle.pp_merge.proofs.WrittenAgain.{contents_again}
 use Rattle.pp_restack.specs.Places.{with_cut}

@@ -1,4 +1,4 @@
-use Rattle.pp_engine.proofs.Runs.{ran_whole, lines_front, unread_front}
+use Rattle.pp_engine.proofs.Runs.{ran_whole, ran_front, lines_front, unread_front, taken_front}
 use Rattle.pp_engine.proofs.running.run_session.Goals as goal
 
 pub returns-in-Ok-clause-ending : goal.returns-in-Ok-clause-ending
@@ -10,3 +10,10 @@ returns-in-Err-clause-lines g c = lines_front g.D.Desk.finds c.args.words.now _ 
 
 pub returns-in-Err-clause-unread : goal.returns-in-Err-clause-unread
 returns-in-Err-clause-unread g c = unread_front g.D.Desk.finds c.args.words.now _ _ _ _ _ c.in-Err.ensures c.tell_stop.ensures
+
+pub returns-in-Err-clause-ending : goal.returns-in-Err-clause-ending
+returns-in-Err-clause-ending g c =
+    rw (c.of-in-Err.ensures.cause, c.cause_of_stop.ensures) (ran_front g.D.Desk.finds c.args.words.now _ _ _ c.in-Err.stop c.in-Err.ensures c.tell_stop.ensures)
+
+pub returns-in-Err-clause-taken : goal.returns-in-Err-clause-taken
+returns-in-Err-clause-taken g c = taken_front g.D.Desk.finds c.args.words.now _ _ _ _ _ c.in-Err.ensures c.tell_stop.ensures

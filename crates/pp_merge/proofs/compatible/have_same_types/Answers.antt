@@ -1,6 +1,6 @@
 use Rattle.std.proofs.Common.{◌∙◌}
 use Rattle.std.specs.Cmp.Lexicographic.{pointwise}
-use Rattle.pp_merge.specs.Header.{type_text}
+use Rattle.pp_share.specs.Header.{type_text}
 use Rattle.pp_merge.specs.Merge.{same_type}
 use Rattle.pp_merge.proofs.PointwiseLemmas.{pointwise-maps}
 use Rattle.pp_merge.proofs.compatible.have_same_types.Goals as goal

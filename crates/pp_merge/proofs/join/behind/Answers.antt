@@ -1,7 +1,7 @@
 use Rattle.std.proofs.Common.{◌+◌, length, ap, ◌∙◌}
 use Rattle.pp_model.specs.Lookup.{text_number}
-use Rattle.pp_merge.specs.Behind.{behind_id}
-use Rattle.pp_merge.specs.Ids.{place_id, index_of_id}
+use Rattle.pp_share.specs.Behind.{behind_id}
+use Rattle.pp_share.specs.Ids.{place_id, index_of_id}
 use Rattle.pp_merge.proofs.join.behind.Goals as goal
 
 pub returns-clause-same : goal.returns-clause-same

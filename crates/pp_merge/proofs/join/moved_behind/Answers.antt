@@ -1,5 +1,5 @@
 use Rattle.std.proofs.Common.{ap, ◌∙◌}
-use Rattle.pp_merge.specs.Renumbered.{renumbered}
+use Rattle.pp_share.specs.Renumbered.{renumbered}
 use Rattle.pp_merge.proofs.join.moved_behind.Goals as goal
 
 pub returns-clause-same : goal.returns-clause-same

@@ -1,5 +1,5 @@
-use Rattle.pp_merge.proofs.Deciding.{sample_decides}
-use Rattle.pp_merge.specs.Alike.{same_sample}
+use Rattle.pp_share.proofs.Deciding.{sample_decides}
+use Rattle.pp_share.specs.Alike.{same_sample}
 use Rattle.pp_merge.proofs.KeptSums.{sum_stays}
 use Rattle.pp_merge.proofs.laws.sums_are_kept_where.Goals as goal
 

@@ -2,7 +2,7 @@ use Rattle.std.proofs.Common.{[], ◌∷◌, ◌∙◌, refl}
 use Rattle.pp_model.specs.declared.profile.Sample.{Sample}
 use Rattle.std.proofs.lemmas.List.{length-set}
 use Rattle.pp_merge.specs.Scale.{labelled_sample}
-use Rattle.pp_merge.proofs.ChangeLemmas.{change_next}
+use Rattle.pp_share.proofs.ChangeLemmas.{change_next}
 use Rattle.pp_merge.proofs.subtracting.label_samples.Goals as goal
 
 -- one more sample is labelled

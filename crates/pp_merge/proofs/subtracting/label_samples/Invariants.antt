@@ -1,6 +1,6 @@
 use Rattle.std.proofs.Common.{◌≡◌, [], ◌∷◌, length}
 use Rattle.pp_merge.specs.Scale.{labelled_sample}
-use Rattle.pp_merge.proofs.ChangeLemmas.{changed_front}
+use Rattle.pp_share.proofs.ChangeLemmas.{changed_front}
 use Rattle.pp_merge.proofs.subtracting.label_samples.Given as goal
 
 -- the samples so far are labelled

@@ -1,4 +1,4 @@
-use Rattle.pp_restack.proofs.Placing.{then_ok}
+use Rattle.pp_base.proofs.TextLemmas.{then_ok}
 use Rattle.pp_pseudo.specs.Framed.{placing}
 use Rattle.pp_pseudo.proofs.AddingFrames.{adds_sample}
 use Rattle.pp_pseudo.proofs.frames.put_frames.Goals as goal

@@ -1,5 +1,5 @@
 use Rattle.std.proofs.Common.{subst}
-use Rattle.pp_restack.proofs.Placing.{then_ok}
+use Rattle.pp_base.proofs.TextLemmas.{then_ok}
 use Rattle.pp_pseudo.specs.Framed.{placing, AddsFrames}
 use Rattle.pp_pseudo.proofs.AddingFrames.{adds_nothing, unnamed, named}
 use Rattle.pp_pseudo.proofs.frames.put_key.Goals as goal

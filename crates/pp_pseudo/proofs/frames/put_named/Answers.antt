@@ -1,5 +1,5 @@
 use Rattle.std.proofs.Common.{List, ℕ, subst}
-use Rattle.pp_restack.proofs.Placing.{then_ok}
+use Rattle.pp_base.proofs.TextLemmas.{then_ok}
 use Rattle.pp_pseudo.specs.Names.{IsNumberedName}
 use Rattle.pp_pseudo.specs.Framed.{placing}
 use Rattle.pp_pseudo.proofs.AddingFrames.{adds_name}

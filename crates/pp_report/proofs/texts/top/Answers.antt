@@ -1,7 +1,8 @@
 use Rattle.std.proofs.Common.{ap, ◌∙◌}
 use Rattle.pp_units.specs.Head.{facts}
 use Rattle.pp_top.specs.Top.{top_text}
-use Rattle.pp_report.proofs.FinishingLemmas.{can_show, made_text}
+use Rattle.pp_graph.proofs.Showing.{can_show}
+use Rattle.pp_report.proofs.FinishingLemmas.{made_text}
 use Rattle.pp_report.proofs.texts.top.Goals as goal
 
 -- the ranking can be written

@@ -3,7 +3,7 @@ use Rattle.std.specs.Result.{IfOk}
 use Rattle.pp_model.specs.declared.profile.Location.{Location}
 use Rattle.pp_model.specs.Rules.{location_refers}
 use Rattle.pp_restack.specs.Places.{with_lines, IsEntry}
-use Rattle.pp_restack.proofs.Placing.{then_ok}
+use Rattle.pp_base.proofs.TextLemmas.{then_ok}
 use Rattle.pp_restack.proofs.PlacesLemmas.{no_frame, location_read, group_refers, cut_is}
 use Rattle.pp_restack.proofs.places.place_group.Goals as goal
 

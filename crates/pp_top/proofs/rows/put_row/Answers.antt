@@ -6,8 +6,8 @@ use Rattle.pp_units.specs.Shown.{shown}
 use Rattle.pp_grain.specs.Naming.{name_text}
 use Rattle.pp_grain.specs.Keys.{key_written}
 use Rattle.pp_count.specs.Table.{written_key}
-use Rattle.pp_top.proofs.CallerLemmas.{put_is}
-use Rattle.pp_top.proofs.NameLemmas.{name_is_key, name_written}
+use Rattle.pp_base.proofs.TextLemmas.{put_is}
+use Rattle.pp_graph.proofs.KeyRowLemmas.{name_is_key, name_written}
 use Rattle.pp_top.proofs.rows.put_row.Goals as goal
 
 pub put_name-requires : goal.put_name-requires

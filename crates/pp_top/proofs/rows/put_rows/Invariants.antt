@@ -1,7 +1,8 @@
 use Rattle.std.proofs.Common.{pos, slice_index_or}
 use Rattle.pp_units.specs.Shown.{shown}
-use Rattle.pp_top.specs.Top.{row_at, row_text}
-use Rattle.pp_top.proofs.Running.{Summing, Putting}
+use Rattle.pp_graph.specs.KeyRows.{row_at}
+use Rattle.pp_top.specs.Top.{row_text}
+use Rattle.pp_graph.proofs.Running.{Summing, Putting}
 use Rattle.pp_top.proofs.rows.put_rows.Given as goal
 
 -- the rows so far have their lines, and the sum leaves room for the flats that are left

@@ -1,5 +1,5 @@
 use Rattle.std.proofs.Common.{◌∙◌}
-use Rattle.pp_top.proofs.NameLemmas.{name_is_key, name_written}
+use Rattle.pp_graph.proofs.KeyRowLemmas.{name_is_key, name_written}
 use Rattle.pp_tree.proofs.near.near_at.Goals as goal
 
 pub texts_of-requires : goal.texts_of-requires

@@ -2,7 +2,7 @@ use Rattle.std.proofs.Common.{map, ap, ◌∙◌}
 use Rattle.std.specs.List.{flat_map}
 use Rattle.pp_units.specs.Shown.{shown}
 use Rattle.pp_count.specs.Table.{written_key}
-use Rattle.pp_top.proofs.CallerLemmas.{put_is}
+use Rattle.pp_base.proofs.TextLemmas.{put_is}
 use Rattle.pp_tree.specs.Nodes.{near_text}
 use Rattle.pp_tree.specs.Tree.{near_of}
 use Rattle.pp_tree.specs.Ends.{cum_size, callees_in, neighbour_of}

@@ -3,7 +3,7 @@ use Rattle.std.specs.List.{flat_map}
 use Rattle.std.proofs.lemmas.Int.{to_z-of_z}
 use Rattle.pp_units.specs.Shown.{shown}
 use Rattle.pp_count.specs.Table.{written_key}
-use Rattle.pp_top.specs.Top.{row_at}
+use Rattle.pp_graph.specs.KeyRows.{row_at}
 use Rattle.pp_tree.specs.Nodes.{near_text, itself_text, separator}
 use Rattle.pp_tree.specs.Tree.{near_of}
 use Rattle.pp_tree.specs.Ends.{cum_size, callers_in, callees_in}

@@ -1,6 +1,6 @@
 use Rattle.std.proofs.Common.{pos, slice_index_or}
 use Rattle.pp_units.specs.Shown.{shown}
-use Rattle.pp_top.proofs.Running.{Summing, Putting}
+use Rattle.pp_graph.proofs.Running.{Summing, Putting}
 use Rattle.pp_tree.specs.Nodes.{Node, node_text}
 use Rattle.pp_tree.specs.Ends.{Pairs, ShowsPairs, node_at}
 use Rattle.pp_tree.proofs.nodes.put_nodes.Given as goal

@@ -2,7 +2,8 @@ use Rattle.std.proofs.Common.{◌≡◌, map, replicate, true, Option, ap, ◌�
 use Rattle.pp_graph.specs.Links.{Links}
 use Rattle.pp_tree.specs.Ends.{ShowsPairs}
 use Rattle.pp_tree.specs.Whole.{all_pairs}
-use Rattle.pp_tree.proofs.Peeking.{ok_as, whole_shows}
+use Rattle.pp_graph.proofs.Whole.{ok_as}
+use Rattle.pp_tree.proofs.Peeking.{whole_shows}
 use Rattle.pp_tree.proofs.peek.whole_graph.Goals as goal
 
 pub returns-clause-shows : goal.returns-clause-shows

@@ -2,7 +2,7 @@ use Rattle.std.proofs.Common.{length, map, pos, subst, sym}
 use Rattle.pp_model.specs.declared.profile.Profile.{Profile}
 use Rattle.pp_units.specs.Head.{facts, facts_text}
 use Rattle.pp_units.specs.Shown.{shown}
-use Rattle.pp_top.proofs.CallerLemmas.{put_is}
+use Rattle.pp_base.proofs.TextLemmas.{put_is}
 use Rattle.pp_tree.specs.Nodes.{table_heading, nodes_text}
 use Rattle.pp_tree.specs.Tree.{summary_text}
 use Rattle.pp_tree.specs.Ends.{ShowsPairs, node_at}

@@ -1,4 +1,4 @@
-use Rattle.std.proofs.Common.{w64, ℕ, ◌+◌, ◌<◌, List, length, map, sym, ap, subst, ◌∙◌}
+use Rattle.std.proofs.Common.{w64, ℕ, ◌+◌, ◌<◌, List, length, map, Some, sym, ap, subst, ◌∙◌}
 use Rattle.std.proofs.lemmas.Int.{to_z-of_z}
 use Rattle.pp_model.specs.declared.profile.Function.{Function}
 use Rattle.pp_model.specs.declared.profile.Profile.{Profile}
@@ -7,6 +7,11 @@ use Rattle.pp_build.specs.Seen.{keyed_function, bare_function}
 use Rattle.pp_build.specs.Growing.{IsBuilt}
 use Rattle.pp_build.proofs.ChangeLemmas.{text_in}
 use Rattle.pp_build.proofs.PutLemmas.{function_put}
+use Rattle.pp_share.specs.Described.{function_found, function_text}
+use Rattle.pp_build.specs.Said.{said_samples}
+use Rattle.pp_build.proofs.ChangeLemmas.{function_built}
+use Rattle.pp_build.proofs.SaidLemmas.{function_said}
+use Rattle.pp_build.proofs.StandsLemmas.{function_stands}
 use Rattle.pp_build.proofs.builder.Builder.function.Goals as goal
 
 -- the table and its keys are as they were
@@ -94,3 +99,24 @@ returns-clause-within c =
     }))
     c.self.invariant.keys.functions e.keys e.table e.id in
     it.within
+
+-- the function stands under its id
+pub returns-clause-stands : goal.returns-clause-stands
+returns-clause-stands c =
+    let old = c.args.self.now in
+    let f = function_of c.args.name c.args.system_name c.args.file c.args.start_line in
+    let built = subst IsBuilt c.self.view_is c.self.invariant.built in
+    let low = λ (i : ℕ) (is : i < length old.text). text_in (length old.text) i is in
+    let after = function_built old built f (low c.args.name.index c.requires.name, (low c.args.system_name.index c.requires.system_name, low c.args.file.index c.requires.file)) in
+    (λ i. function_found (returns-clause-new c i) (returns-clause-id c i)) ∙ function_stands old f after
+    ∙ sym (ap (λ (q : Profile). Some (function_text q f)) (returns-clause-new c))
+
+-- what samples say stays
+pub returns-clause-said : goal.returns-clause-said
+returns-clause-said c =
+    let old = c.args.self.now in
+    let f = function_of c.args.name c.args.system_name c.args.file c.args.start_line in
+    let built = subst IsBuilt c.self.view_is c.self.invariant.built in
+    let low = λ (i : ℕ) (is : i < length old.text). text_in (length old.text) i is in
+    ap said_samples (returns-clause-new c)
+    ∙ function_said old built f (low c.args.name.index c.requires.name, (low c.args.system_name.index c.requires.system_name, low c.args.file.index c.requires.file))

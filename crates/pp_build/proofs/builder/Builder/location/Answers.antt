@@ -4,12 +4,17 @@ use Rattle.std.proofs.lemmas.List.Elements.{recursion_from_All}
 use Rattle.pp_model.specs.declared.profile.Line.{Line}
 use Rattle.pp_model.specs.declared.profile.Location.{Location}
 use Rattle.pp_model.specs.declared.profile.Profile.{Profile}
-use Rattle.pp_merge.proofs.NumberedLemmas.{all_mapped}
+use Rattle.pp_share.proofs.NumberedLemmas.{all_mapped}
 use Rattle.pp_build.specs.declared.given.SourceLine.{SourceLine}
 use Rattle.pp_build.specs.Given.{line_of, location_of}
 use Rattle.pp_build.specs.Seen.{keyed_location, bare_location}
 use Rattle.pp_build.specs.Growing.{IsBuilt, LocationIn}
 use Rattle.pp_build.proofs.PutLemmas.{location_put}
+use Rattle.pp_model.specs.FrameTexts.{written_at}
+use Rattle.pp_build.specs.Said.{location_frames, said_samples}
+use Rattle.pp_build.proofs.ChangeLemmas.{location_built}
+use Rattle.pp_build.proofs.SaidLemmas.{location_said}
+use Rattle.pp_build.proofs.StandsLemmas.{location_stands}
 use Rattle.pp_build.proofs.builder.Builder.location.Goals as goal
 
 -- the table and its keys are as they were
@@ -129,3 +134,32 @@ returns-clause-within c =
     })
     c.self.invariant.keys.locations e.keys e.table e.id in
     it.within
+
+-- the location stands under its id
+pub returns-clause-stands : goal.returns-clause-stands
+returns-clause-stands c =
+    let old = c.args.self.now in
+    let lines = c.args.lines.now in
+    let l = location_of c.args.mapping c.args.address lines in
+    let has : LocationIn (length old.mapping) (length old.function) l = (
+      c.requires.mapping,
+      all_mapped (λ (line : Line). line.function_id ≤ length old.function) line_of lines
+          (recursion_from_All (λ (line : SourceLine). line.function.number ≤ length old.function) lines c.requires.lines),
+    ) in
+    let built = subst IsBuilt c.self.view_is c.self.invariant.built in
+    (λ i. written_at (returns-clause-new c i) (returns-clause-id c i)) ∙ location_stands old l (location_built old built l has)
+    ∙ sym (ap (λ (q : Profile). location_frames q l) (returns-clause-new c))
+
+-- what samples say stays
+pub returns-clause-said : goal.returns-clause-said
+returns-clause-said c =
+    let old = c.args.self.now in
+    let lines = c.args.lines.now in
+    let l = location_of c.args.mapping c.args.address lines in
+    let has : LocationIn (length old.mapping) (length old.function) l = (
+      c.requires.mapping,
+      all_mapped (λ (line : Line). line.function_id ≤ length old.function) line_of lines
+          (recursion_from_All (λ (line : SourceLine). line.function.number ≤ length old.function) lines c.requires.lines),
+    ) in
+    let built = subst IsBuilt c.self.view_is c.self.invariant.built in
+    ap said_samples (returns-clause-new c) ∙ location_said old built l has

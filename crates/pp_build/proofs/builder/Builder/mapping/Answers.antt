@@ -1,8 +1,14 @@
-use Rattle.std.proofs.Common.{ℕ, ◌+◌, ◌<◌, length, sym, ap, subst, ◌∙◌}
+use Rattle.std.proofs.Common.{ℕ, ◌+◌, ◌<◌, length, Some, sym, ap, subst, ◌∙◌}
 use Rattle.pp_model.specs.declared.profile.Profile.{Profile}
 use Rattle.pp_build.specs.Given.{mapping_of}
 use Rattle.pp_build.proofs.ChangeLemmas.{text_in}
 use Rattle.pp_build.proofs.PutLemmas.{mapping_put}
+use Rattle.pp_share.specs.Described.{mapping_found, mapping_text}
+use Rattle.pp_build.specs.Growing.{IsBuilt}
+use Rattle.pp_build.specs.Said.{said_samples}
+use Rattle.pp_build.proofs.ChangeLemmas.{mapping_built}
+use Rattle.pp_build.proofs.SaidLemmas.{mapping_said}
+use Rattle.pp_build.proofs.StandsLemmas.{mapping_stands}
 use Rattle.pp_build.proofs.builder.Builder.mapping.Goals as goal
 
 pub invariant_of-self-2 : goal.invariant_of-self-2
@@ -64,3 +70,24 @@ returns-clause-within c =
     (c.mapping_with-mapping.ensures ∙ ap (λ (n : ℕ). record m { id = n }) (c.in_ok-next_id.ensures ∙ ap (λ n. n + 1) c.len.ensures))
     c.self.invariant.keys.mappings e.keys e.table e.id in
     it.within
+
+-- the mapping stands under its id
+pub returns-clause-stands : goal.returns-clause-stands
+returns-clause-stands c =
+    let old = c.args.self.now in
+    let m = mapping_of c.args.m.now in
+    let built = subst IsBuilt c.self.view_is c.self.invariant.built in
+    let low = λ (i : ℕ) (is : i < length old.text). text_in (length old.text) i is in
+    let after = mapping_built old built m (low c.args.m.now.file.index c.requires.file, low c.args.m.now.build_id.index c.requires.build_id) in
+    (λ i. mapping_found (returns-clause-new c i) (returns-clause-id c i)) ∙ mapping_stands old m after
+    ∙ sym (ap (λ (q : Profile). Some (mapping_text q m)) (returns-clause-new c))
+
+-- what samples say stays
+pub returns-clause-said : goal.returns-clause-said
+returns-clause-said c =
+    let old = c.args.self.now in
+    let m = mapping_of c.args.m.now in
+    let built = subst IsBuilt c.self.view_is c.self.invariant.built in
+    let low = λ (i : ℕ) (is : i < length old.text). text_in (length old.text) i is in
+    ap said_samples (returns-clause-new c)
+    ∙ mapping_said old built m (low c.args.m.now.file.index c.requires.file, low c.args.m.now.build_id.index c.requires.build_id)

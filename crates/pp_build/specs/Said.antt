@@ -1,0 +1,38 @@
+-- What the samples of a profile say: their stacks in texts, their values, and their labels in texts.
+use Rattle.std.specs.Prelude.{ℤ, List, map}
+use Rattle.pp_base.specs.Front.{IsFront}
+use Rattle.pp_model.specs.declared.profile.Location.{Location}
+use Rattle.pp_model.specs.declared.profile.Sample.{Sample}
+use Rattle.pp_model.specs.declared.profile.Profile.{Profile}
+use Rattle.pp_model.specs.FrameTexts.{Written, written_lines, written_stack}
+use Rattle.pp_model.specs.Lookup.{text_of}
+use Rattle.pp_share.specs.Described.{LabelText, label_text}
+
+-- A sample, written out: its frames, leaf first, its values, and its labels in order.
+pub record SaidSample : Type 0 where
+  pub stack : List Written
+  pub values : List ℤ
+  pub labels : List LabelText
+
+-- the sample, written out
+abbrev pub said_sample : Profile → Sample → SaidSample
+said_sample p s = record {
+  stack = written_stack p s;
+  values = s.value;
+  labels = map (label_text (text_of p)) s.label;
+}
+
+-- The samples, written out, in order.
+abbrev pub said_samples : Profile → List SaidSample
+said_samples p = map (said_sample p) p.sample
+
+-- the frames of a location, the innermost first, as they stand in a stack
+abbrev pub location_frames : Profile → Location → List Written
+location_frames p l = written_lines p l l.line
+
+-- Each table that samples refer to begins with what it was.
+pub record Extends (p q : Profile) : Type 0 where
+  pub texts : IsFront p.text q.text
+  pub mappings : IsFront p.mapping q.mapping
+  pub functions : IsFront p.function q.function
+  pub locations : IsFront p.location q.location

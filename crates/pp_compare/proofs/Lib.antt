@@ -1,0 +1,6 @@
+mod Putting
+mod Parting
+mod Fitting
+mod Naming
+mod Ranking
+mod Examples

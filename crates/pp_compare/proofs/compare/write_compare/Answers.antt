@@ -1,0 +1,14 @@
+use Rattle.std.proofs.Common.{◌∙◌, w64, FitsSigned, to_z, of_z, rules}
+use Rattle.std.proofs.lemmas.Int.{to_z-of_z}
+use Rattle.pp_base.proofs.TextLemmas.{appended}
+use Rattle.pp_units.specs.Head.{facts}
+use Rattle.pp_compare.proofs.Ranking.{ranked_is}
+use Rattle.pp_compare.proofs.compare.write_compare.Goals as goal
+
+pub returns-clause-ok : goal.returns-clause-ok
+returns-clause-ok c = λ limit f ranked holds base.
+    let whole : FitsSigned w64 c.counted_whole-change.result = search rules in
+    appended c.append.result c.append.new.self c.args.out.now c.put_compare.new.out _
+    (rw c.new-text.ensures at c.in_ok-put_compare.ensures
+    ∙ ranked_is c.args.l.now c.args.v.now c.args.config.now c.args.column limit f c.args.c.now c.args.base.now (to_z w64 (of_z w64 c.counted_whole-change.result)) c.args.t.now (facts c.args.head.now)
+    c.requires.can c.requires.counted ranked holds base (to_z-of_z w64 c.counted_whole-change.result whole ∙ c.counted_whole-change.ensures f holds)) c.append.ensures.ok

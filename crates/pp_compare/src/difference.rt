@@ -1,0 +1,23 @@
+//! What is compared of a key, or of all samples.
+ghost use Rattle.std.specs.Prelude.{◌≡◌};
+ghost use Rattle.pp_compare.specs.Rows.{wrapped};
+
+/// A figure of the base, of the source, and how far the source's is above the base's.
+#[derive(Clone, Copy, Debug)]
+pub struct Difference {
+    pub before: i64,
+    pub after: i64,
+    pub change: i64,
+}
+
+/// The figures where the base's negated values have this sum, and the values of both this one. None of them wraps where
+/// both are sums over one list of samples.
+pub fn difference_of(base: i64, change: i64) -> Difference
+    ensures { result ≡ wrapped base change }
+{
+    Difference {
+        before: base.wrapping_neg(),
+        after: change.wrapping_sub(base),
+        change,
+    }
+}

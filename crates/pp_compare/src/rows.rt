@@ -1,0 +1,94 @@
+//! The rows of the table.
+ghost use Rattle.std.specs.Prelude.{◌≡◌, ◌++◌, ◌<◌, length, All, IfOk};
+ghost use Rattle.std.specs.List.{flat_map};
+ghost use Rattle.pp_units.specs.Rows.{name_end};
+ghost use Rattle.pp_units.specs.Shown.{shown};
+ghost use Rattle.pp_grain.specs.Keys.{IsKeyOf, key_written};
+ghost use Rattle.pp_grain.specs.Naming.{name_text};
+ghost use Rattle.pp_count.specs.Counted.{FitSums};
+ghost use Rattle.pp_count.specs.Base.{FitBase};
+ghost use Rattle.pp_graph.specs.Ranks.{sum_at};
+ghost use Rattle.pp_compare.specs.Compare.{difference_columns, difference_line};
+ghost use Rattle.pp_compare.specs.Rows.{figures_at, compared_at};
+
+use crate::columns::put_columns;
+use crate::difference::{Difference, difference_of};
+use pp_base::{List, Memory, Text};
+use pp_count::{BaseSums, Sums};
+use pp_grain::{Key, write_name};
+use pp_model::{Loaded, Sort};
+use pp_units::Head;
+use std::alloc::Global;
+
+/// What the rows of keys are made of.
+#[derive(Clone, Copy)]
+pub struct Table<'a> {
+    pub l: &'a Loaded,
+    pub sums: &'a Sums,
+    pub base: &'a BaseSums,
+    pub sort: Sort,
+    pub head: &'a Head,
+}
+
+/// Appends a line for each of the names with these numbers, in their order.
+pub fn put_rows(alloc: Global, table: &Table, order: &[u64], out: &mut Text) -> Result<(), Memory>
+    requires keys { All (IsKeyOf table.now.l.now.profile) table.now.sums.now.names }
+    requires fits { FitSums table.now.sums.now }
+    requires base { FitBase table.now.sums.now.names table.now.base.now }
+    requires below { All (λ n. n < length table.now.sums.now.names) order.now }
+    ensures { IfOk result (λ _. out.new ≡ out.old ++ flat_map (λ n.
+        difference_line (shown table.now.head.now.unit)
+        (compared_at table.now.l.now.profile table.now.sort table.now.sums.now table.now.base.now n))
+        order.now) }
+{
+    let mut scratch = Text::new(alloc);
+    for number in order {
+        put_row(table, *number, &mut scratch, out)?;
+    }
+    Ok(())
+}
+
+fn put_row(table: &Table, number: u64, scratch: &mut Text, out: &mut Text) -> Result<(), Memory>
+    requires keys { All (IsKeyOf table.now.l.now.profile) table.now.sums.now.names }
+    requires fits { FitSums table.now.sums.now }
+    requires base { FitBase table.now.sums.now.names table.now.base.now }
+    requires below { number < length table.now.sums.now.names }
+    ensures { IfOk result (λ _. out.new ≡ out.old ++ difference_line (shown table.now.head.now.unit)
+        (compared_at table.now.l.now.profile table.now.sort table.now.sums.now table.now.base.now number)) }
+{
+    let figures = figures(table, number);
+    put_columns(table.head, &figures, scratch, out)?;
+    put_name(table.l, &table.sums.names.key(number), out)
+}
+
+// What is compared of the name with this number.
+fn figures(table: &Table, number: u64) -> Difference
+    requires fits { FitSums table.now.sums.now }
+    requires base { FitBase table.now.sums.now.names table.now.base.now }
+    requires below { number < length table.now.sums.now.names }
+    ensures { result ≡ figures_at table.now.sort table.now.sums.now table.now.base.now number }
+{
+    let (base, sums) = match table.sort {
+        Sort::Flat => (&table.base.flat, &table.sums.flat),
+        Sort::Cum => (&table.base.cum, &table.sums.cum),
+    };
+    difference_of(at(base, number), at(sums, number))
+}
+
+// The figure at the place.
+fn at(figures: &List<i64>, place: u64) -> i64
+    requires { place < length figures.now }
+    ensures { result ≡ sum_at figures.now place }
+{
+    figures.as_slice()[place as usize]
+}
+
+fn put_name(l: &Loaded, key: &Key, out: &mut Text) -> Result<(), Memory>
+    requires { IsKeyOf l.now.profile key.now }
+    ensures { IfOk result (λ _. out.new ≡ out.old
+        ++ name_end (name_text (key_written l.now.profile key.now))) }
+{
+    out.extend(b"  ")?;
+    write_name(l, key, out)?;
+    out.extend(b"\n")
+}

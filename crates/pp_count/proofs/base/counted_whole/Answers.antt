@@ -1,0 +1,21 @@
+use Rattle.std.proofs.Common.{w64, length, sym, ap, ◌∙◌, subst}
+use Rattle.std.proofs.lemmas.Int.{fits_signed_from_abs, to_z-of_z}
+use Rattle.pp_count.specs.Base.{selected_all}
+use Rattle.pp_count.specs.Counts.{samples_at}
+use Rattle.pp_count.specs.Rising.{AreRising}
+use Rattle.pp_count.proofs.Kept.{kept_samples, values_fit}
+use Rattle.pp_count.proofs.base.counted_whole.Goals as goal
+
+pub selected_sum-requires-clause-fits : goal.selected_sum-requires-clause-fits
+selected_sum-requires-clause-fits c =
+    values_fit c.args.l.now.profile c.args.column c.args.config.now.divide_by c.requires.can.countable c.requires.can.column
+
+pub selected_sum-requires-clause-rising : goal.selected_sum-requires-clause-rising
+selected_sum-requires-clause-rising c =
+    subst (AreRising 0 (length c.args.l.now.profile.sample)) (sym c.as_slice.ensures) c.requires.counted.rising
+
+pub returns : goal.returns
+returns c = λ f holds.
+    to_z-of_z w64 c.selected_sum.result (fits_signed_from_abs w64 c.selected_sum.result c.selected_sum.ensures.small) ∙ c.selected_sum.ensures.value
+    ∙ ap (selected_all c.args.column c.args.config.now.divide_by) (ap (samples_at c.args.l.now.profile) c.as_slice.ensures
+    ∙ kept_samples c.args.l.now.profile f c.args.config.now c.args.counted.now.kept (c.requires.counted.kept f holds))

@@ -1,0 +1,218 @@
+//! What the base's samples of a compared profile come to.
+ghost use Rattle.std.specs.Prelude.{◌≡◌, ◌++◌, ◌+◌, ◌+ℤ◌, ◌<◌, ◌^◌, nat_abs, [], ◌∷◌, length, map, slice_index_or, IfOk, if◌then◌else◌};
+ghost use Rattle.std.specs.List.{filter};
+ghost use Rattle.pp_model.specs.Finders.{Finders};
+ghost use Rattle.pp_model.specs.Values.{no_sample};
+ghost use Rattle.pp_count.specs.Base.{has_base, is_base_number, selected_all, AreBaseSums, FitBase, HasTallies};
+ghost use Rattle.pp_count.specs.Column.{selected};
+ghost use Rattle.pp_count.specs.Counted.{CanCount, IsCountedOf};
+ghost use Rattle.pp_count.specs.Counts.{filtered_samples, samples_at};
+ghost use Rattle.pp_count.specs.Filters.{AreFilters};
+ghost use Rattle.pp_count.specs.Rising.{AreRising};
+ghost use Rattle.pp_count.specs.Seeing.{HoldsFilters, absolute_all};
+ghost use Rattle.pp_count.specs.Table.{IsKeyTable};
+ghost use Rattle.pp_count.specs.Tally.{tally_at};
+
+use crate::counted::Counted;
+use crate::scope::Scope;
+use crate::tallies::{Tallies, tally_of};
+use crate::tally::Tally;
+use crate::total::is_base;
+use crate::value::selected;
+use crate::waves::count_all;
+use pp_base::{Gate, List, Memory};
+use pp_model::{Config, Loaded, Profile, Verdicts};
+use std::alloc::Global;
+use std::thread::Threads;
+
+/// The sums of a report over the base's samples alone: those that carry the label `pprof::base` of the text `true`.
+#[derive(Drop)]
+pub struct BaseSums {
+    /// For each name of the report's sums, the sum over the base's samples whose leaf has its key.
+    pub flat: List<i64>,
+    /// For each of them, the sum over the base's samples that have its key, each sample once.
+    pub cum: List<i64>,
+    /// The sum of the selected values of the base's samples that the filters leave.
+    pub whole: i64,
+}
+
+/// Whether a sample of the loaded profile carries the base's label.
+pub fn has_base(l: &Loaded) -> bool
+    ensures { result ≡ has_base l.now.profile }
+{
+    let p = l.profile.get();
+    p.sample.as_slice().iter().any(|s| is_base(p, s))
+}
+
+/// The sums of the names of `counted` over the base's samples among those that the filters leave; 0 for a key that none
+/// of them has. They are counted in pieces of 1,024 on as many lanes as the configuration has workers. `Err` is want of
+/// memory.
+pub fn base_sums<R: Threads + Sync, G: Gate>(
+    rt: &R,
+    alloc: Global,
+    l: &Loaded,
+    v: &Verdicts,
+    counted: &Counted,
+    config: &Config,
+    column: Option<u32>,
+    gate: &G,
+) -> Result<BaseSums, Memory>
+    requires can { CanCount l.now.profile v.now config.now column }
+    requires counted { IsCountedOf l.now v.now config.now column counted.now }
+    ensures sums { (f : Finders) → HoldsFilters l.now v.now config.now f →
+        IfOk result (AreBaseSums l.now.profile f config.now column counted.now.sums) }
+    ensures fits { IfOk result (FitBase counted.now.sums.names) }
+{
+    let compact = l.profile.get();
+    let kept = counted.kept.as_slice();
+    let list = base_numbers(alloc, compact, kept)?;
+    let chosen = list.as_slice();
+    let tallies = chosen_tallies(rt, alloc, l, v, counted, config, column, chosen, gate)?;
+    let whole = selected_sum(l, config, column, chosen);
+    let numbers = counted.numbers.as_slice();
+    let sums = sums_at(alloc, &tallies, numbers, whole)?;
+    Ok(sums)
+}
+
+// Those of the numbers whose samples carry the base's label.
+fn base_numbers(alloc: Global, p: &Profile, numbers: &[u32]) -> Result<List<u32>, Memory>
+    ensures { IfOk result (λ chosen. chosen ≡ filter (is_base_number p.now) numbers.now) }
+{
+    let mut chosen = List::new(alloc);
+    for number in numbers {
+        push_base(&mut chosen, p, *number)?;
+    }
+    Ok(chosen)
+}
+
+// Adds the number, if its sample carries the base's label.
+fn push_base(chosen: &mut List<u32>, p: &Profile, number: u32) -> Result<(), Memory>
+    ensures { IfOk result (λ _. chosen.new
+        ≡ chosen.old ++ (if is_base_number p.now number then number ∷ [] else [])) }
+{
+    if is_base_number(p, number) {
+        chosen.push(number)?;
+    }
+    Ok(())
+}
+
+fn is_base_number(p: &Profile, number: u32) -> bool
+    ensures { result ≡ is_base_number p.now number }
+{
+    match p.sample.as_slice().get(number as usize) {
+        None => false,
+        Some(s) => is_base(p, s),
+    }
+}
+
+// The tallies of the samples with these numbers, by the key numbers of `counted`.
+fn chosen_tallies<'x, R: Threads + Sync, G: Gate>(
+    rt: &R,
+    alloc: Global,
+    l: &'x Loaded,
+    v: &'x Verdicts,
+    counted: &'x Counted,
+    config: &'x Config,
+    column: Option<u32>,
+    chosen: &'x [u32],
+    gate: &G,
+) -> Result<Tallies, Memory>
+    requires can { CanCount l.now.profile v.now config.now column }
+    requires table { IsKeyTable l.now.profile config.now counted.now.table }
+    requires filters { AreFilters l.now.profile v.now config.now counted.now.filters }
+    requires rising { AreRising 0 (length l.now.profile.sample) chosen.now }
+    ensures { IfOk result (λ tallies. HasTallies l.now v.now config.now column
+        counted.now.table.names chosen.now (tally_at tallies)) }
+{
+    let scope = Scope {
+        l,
+        v,
+        config,
+        filters: &counted.filters,
+        column,
+        table: &counted.table,
+        over: None,
+        chosen: Some(chosen),
+    };
+    let sofar = count_all(rt, alloc, &scope, gate)?;
+    Ok(sofar.tallies)
+}
+
+// The tallies of these key numbers as sums.
+fn sums_at(
+    alloc: Global,
+    tallies: &Tallies,
+    numbers: &[u64],
+    whole: i64,
+) -> Result<BaseSums, Memory>
+    ensures flat { IfOk result (λ sums.
+        sums.flat ≡ map (λ n. (tally_at tallies.now n).flat) numbers.now) }
+    ensures cum { IfOk result (λ sums.
+        sums.cum ≡ map (λ n. (tally_at tallies.now n).cum) numbers.now) }
+    ensures whole { IfOk result (λ sums. sums.whole ≡ whole) }
+{
+    let mut flat = List::new(alloc);
+    let mut cum = List::new(alloc);
+    for number in numbers {
+        push_tally(&mut flat, &mut cum, tally_of(tallies, *number))?;
+    }
+    Ok(BaseSums { flat, cum, whole })
+}
+
+fn push_tally(flat: &mut List<i64>, cum: &mut List<i64>, tally: Tally) -> Result<(), Memory>
+    ensures flat { IfOk result (λ _. flat.new ≡ flat.old ++ tally.flat ∷ []) }
+    ensures cum { IfOk result (λ _. cum.new ≡ cum.old ++ tally.cum ∷ []) }
+{
+    flat.push(tally.flat)?;
+    cum.push(tally.cum)
+}
+
+/// The sum of the selected values of the samples that the filters leave.
+pub fn counted_whole(
+    l: &Loaded,
+    v: &Verdicts,
+    counted: &Counted,
+    config: &Config,
+    column: Option<u32>,
+) -> i64
+    requires can { CanCount l.now.profile v.now config.now column }
+    requires counted { IsCountedOf l.now v.now config.now column counted.now }
+    ensures { (f : Finders) → HoldsFilters l.now v.now config.now f → result
+        ≡ selected_all column config.now.divide_by
+        (filtered_samples l.now.profile f config.now l.now.profile.sample) }
+{
+    selected_sum(l, config, column, counted.kept.as_slice())
+}
+
+// The sum of the selected values of the samples with these numbers.
+fn selected_sum(l: &Loaded, config: &Config, column: Option<u32>, numbers: &[u32]) -> i64
+    requires fits { absolute_all column config.now.divide_by l.now.profile.sample < 2 ^ 63 }
+    requires rising { AreRising 0 (length l.now.profile.sample) numbers.now }
+    ensures value { result
+        ≡ selected_all column config.now.divide_by (samples_at l.now.profile numbers.now) }
+    ensures small { nat_abs result < 2 ^ 63 }
+{
+    let mut sum = 0;
+    for number in numbers {
+        let value = value_of(l, config, column, *number);
+        sum = sum_of(sum, value);
+    }
+    sum
+}
+
+// The selected value of the sample with this number.
+fn value_of(l: &Loaded, config: &Config, column: Option<u32>, number: u32) -> i64
+    requires { number < length l.now.profile.sample }
+    ensures { result ≡ selected column config.now.divide_by
+        (slice_index_or l.now.profile.sample number no_sample) }
+{
+    let samples = l.profile.get().sample.as_slice();
+    selected(l, &samples[number as usize], column, config.divide_by)
+}
+
+fn sum_of(sum: i64, value: i64) -> i64
+    requires { nat_abs sum + nat_abs value < 2 ^ 63 }
+    ensures { result ≡ sum +ℤ value }
+{
+    sum + value
+}

@@ -1,0 +1,7 @@
+use Rattle.std.proofs.Common.{sym, subst}
+use Rattle.pp_model.specs.Rules.{NoRuleFails}
+use Rattle.pp_edit.proofs.copying.copy_valid.Goals as goal
+
+-- what holds of the profile holds of its copy
+pub claim-requires : goal.claim-requires
+claim-requires c = subst NoRuleFails (sym c.in_ok-copy.ensures) c.get.ensures.valid

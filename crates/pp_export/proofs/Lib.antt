@@ -1,0 +1,6 @@
+pub mod Trails
+pub mod Paths
+pub mod Lines
+pub mod Rows
+pub mod AddingUp
+mod Examples

@@ -1,0 +1,40 @@
+-- The rows of a table are those of its keys.
+use Rattle.std.proofs.Common.{◌≡◌, ℕ, cond, List, ◌++◌, map, take, Option, Result, Ok, Err, IfOk, sym, ap, ◌∙◌, arith}
+use Rattle.std.specs.List.{take-map}
+use Rattle.std.proofs.lemmas.Bool.{ne_eqb}
+use Rattle.pp_model.specs.declared.config.Config.{Config}
+use Rattle.pp_model.specs.declared.loaded.Loaded.{Loaded}
+use Rattle.pp_model.specs.declared.verdicts.Verdicts.{Verdicts}
+use Rattle.pp_model.specs.Finders.{Finders}
+use Rattle.pp_model.specs.FrameTexts.{Written}
+use Rattle.pp_count.specs.declared.counted.Counted.{Counted}
+use Rattle.pp_count.specs.Counted.{IsCountedOf, report_samples}
+use Rattle.pp_count.specs.Seeing.{HoldsFilters}
+use Rattle.pp_graph.specs.declared.ranking.Ranked.{Ranked}
+use Rattle.pp_graph.specs.KeyRows.{KeyRow, row_at, key_row}
+use Rattle.pp_graph.specs.Trim.{all_report_keys}
+use Rattle.pp_graph.specs.Trimmed.{IsWholeRanking}
+use Rattle.pp_graph.proofs.KeyRowLemmas.{rows_are}
+use Rattle.pp_export.specs.Laws.{LimitsCut}
+use Rattle.pp_export.specs.Table.{heading, row_line, rows_text, table_text}
+
+pub table_is : (l : Loaded) (v : Verdicts) (config : Config) (column : Option ℕ) (limit : ℕ) (f : Finders) (c : Counted) (t : Ranked) (unit : List ℕ)
+    → IsCountedOf l v config column c → IsWholeRanking l v config column limit c t → HoldsFilters l v config f
+    → heading unit ++ rows_text (map (row_at l.profile c.sums) t.order) ≡ table_text l.profile f config column limit unit
+table_is l v config column limit f c t unit counted ranked holds =
+    ap (λ rows. heading unit ++ rows_text rows)
+    (rows_are l.profile (report_samples l.profile f config column) c.sums t.order (counted.sums_are f holds) ranked.below
+    ∙ ap (map (key_row (report_samples l.profile f config column))) (ranked.keys f holds))
+
+-- the lines under a limit
+pub limits_cut : LimitsCut
+limits_cut p f config column limit some =
+    let row : Written → KeyRow = key_row (report_samples p f config column) in
+    let keys : List Written = all_report_keys p f config column in
+    ap (λ b. map row_line (map row (cond b keys (take limit keys)))) (ne_eqb limit 0 (λ none. omega (arith, some, none)))
+    ∙ ap (map row_line) (sym (take-map row limit keys)) ∙ sym (take-map row_line limit (map row keys))
+
+-- an appended text in another form
+pub put_is : {T E : Type 0} (r : Result T E) (new old a b : List ℕ) → a ≡ b → IfOk r (λ _. new ≡ old ++ a) → IfOk r (λ _. new ≡ old ++ b)
+put_is (Err e) new old a b same h = tt
+put_is (Ok x) new old a b same h = h ∙ ap (λ t. old ++ t) same

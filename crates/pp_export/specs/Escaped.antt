@@ -1,0 +1,50 @@
+-- Names and units in the texts of other programs, which read some bytes as their own.
+use Rattle.std.specs.Prelude.{ℕ, ◌==◌, ◌||◌, List, [], ◌∷◌, map, if◌then◌else◌}
+use Rattle.std.specs.List.{flat_map}
+
+abbrev pub tab : ℕ
+tab = 9
+
+abbrev pub line_feed : ℕ
+line_feed = 10
+
+abbrev pub carriage_return : ℕ
+carriage_return = 13
+
+abbrev pub space : ℕ
+space = 32
+
+abbrev pub colon : ℕ
+colon = 58
+
+abbrev pub semicolon : ℕ
+semicolon = 59
+
+abbrev pub backslash : ℕ
+backslash = 92
+
+-- what stands for the byte of a name in a path: `;` sets names apart there, and a line ends the path
+abbrev pub frame_byte : ℕ → ℕ
+frame_byte byte =
+    if byte == semicolon then colon
+    else (if byte == line_feed || byte == carriage_return then space else byte)
+
+-- a name in a path
+abbrev pub frame_name : List ℕ → List ℕ
+frame_name name = map frame_byte name
+
+-- the letter that stands behind a `\` for a byte
+abbrev pub escape : ℕ → List ℕ
+escape letter = backslash ∷ letter ∷ []
+
+-- what stands for a byte in a cell of a table: a tab ends the cell there, and a line feed the row
+abbrev pub cell_byte : ℕ → List ℕ
+cell_byte byte =
+    if byte == tab then escape 116
+    else (if byte == line_feed then escape 110
+    else (if byte == carriage_return then escape 114
+    else (if byte == backslash then escape backslash else byte ∷ [])))
+
+-- a text in a cell
+abbrev pub cell_text : List ℕ → List ℕ
+cell_text text = flat_map cell_byte text

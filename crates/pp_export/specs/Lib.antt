@@ -1,0 +1,6 @@
+pub mod Escaped
+pub mod Trail
+pub mod Folded
+pub mod Walked
+pub mod Table
+pub mod Laws

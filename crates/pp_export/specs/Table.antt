@@ -1,0 +1,46 @@
+-- The text of the table report: a line for each key that occurs, with its two sums.
+use Rattle.std.specs.Prelude.{ℕ, ◌==◌, List, [], ◌∷◌, ◌++◌, length, map, codes, Option, if◌then◌else◌}
+use Rattle.std.specs.List.{flat_map}
+use Rattle.std.specs.Fmt.{signed_decimal}
+use Rattle.pp_model.specs.declared.config.Config.{Config}
+use Rattle.pp_model.specs.declared.profile.Profile.{Profile}
+use Rattle.pp_model.specs.Finders.{Finders}
+use Rattle.pp_count.specs.Counted.{report_samples}
+use Rattle.pp_graph.specs.KeyRows.{KeyRow, key_row}
+use Rattle.pp_graph.specs.Trim.{first_report_keys}
+use Rattle.pp_export.specs.Escaped.{tab, line_feed, cell_text}
+
+-- the unit behind a `/`, where there is one
+abbrev pub behind_slash : List ℕ → List ℕ
+behind_slash unit = if length unit == 0 then [] else codes "/" ++ cell_text unit
+
+-- a cell, and the tab that ends it
+abbrev pub cell : List ℕ → List ℕ
+cell text = text ++ tab ∷ []
+
+-- a cell, and the line feed that ends its row
+abbrev pub last_cell : List ℕ → List ℕ
+last_cell text = text ++ line_feed ∷ []
+
+-- the line above the rows, whose values are in this unit
+abbrev pub heading : List ℕ → List ℕ
+heading unit =
+    cell (codes "flat" ++ behind_slash unit) ++ cell (codes "cum" ++ behind_slash unit)
+    ++ last_cell (codes "name")
+
+-- the line of a key
+abbrev pub row_line : KeyRow → List ℕ
+row_line row =
+    cell (signed_decimal row.flat) ++ cell (signed_decimal row.cum)
+    ++ last_cell (cell_text row.name)
+
+-- the lines of keys
+abbrev pub rows_text : List KeyRow → List ℕ
+rows_text rows = flat_map row_line rows
+
+-- The text of the table report with this limit, where 0 is none, and with this unit of the values.
+abbrev pub table_text : Profile → Finders → Config → Option ℕ → ℕ → List ℕ → List ℕ
+table_text p f config column limit unit =
+    heading unit
+    ++ rows_text (map (key_row (report_samples p f config column))
+    (first_report_keys p f config column limit))

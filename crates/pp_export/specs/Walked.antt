@@ -1,0 +1,53 @@
+-- The paths of nodes that stand parents before children. No public clause cites it.
+use Rattle.std.specs.Prelude.{◌≡◌, ℕ, ℤ, pos, List, [], ◌∷◌, ◌++◌, take, drop, map, codes, if◌then◌else◌}
+use Rattle.std.specs.Fmt.{signed_decimal}
+use Rattle.std.specs.Ordering.{int_eq}
+use Rattle.pp_model.specs.declared.profile.Profile.{Profile}
+use Rattle.pp_model.specs.FrameTexts.{Written}
+use Rattle.pp_grain.specs.Naming.{name_text}
+use Rattle.pp_calltree.specs.declared.tree.PathNode.{PathNode}
+use Rattle.pp_calltree.specs.CallTree.{TreeRow}
+use Rattle.pp_calltree.specs.Laid.{node_row}
+use Rattle.pp_export.specs.declared.trail.Trail.{Trail}
+use Rattle.pp_export.specs.Escaped.{frame_name}
+use Rattle.pp_export.specs.Folded.{Path, path_lines}
+use Rattle.pp_export.specs.Trail.{IsTrail}
+
+-- the keys of the node's path, where those of the node before it are these
+abbrev pub keys_to : {K : Type 0} → List K → TreeRow K → List K
+keys_to before row = take row.depth before ++ row.key ∷ []
+
+-- the path of the node
+abbrev pub path_to : {K : Type 0} → List K → TreeRow K → Path K
+path_to before row = record { keys = keys_to before row; sum = row.flat }
+
+-- the paths of nodes
+abbrev pub paths_along : {K : Type 0} → List K → List (TreeRow K) → List (Path K)
+paths_along before [] = []
+paths_along before (row ∷ rows) = path_to before row ∷ paths_along (keys_to before row) rows
+
+-- the keys of the last node's path
+abbrev pub keys_after : {K : Type 0} → List K → List (TreeRow K) → List K
+keys_after before [] = before
+keys_after before (row ∷ rows) = keys_after (keys_to before row) rows
+
+-- the line of a path with these names, where its sum isn't 0
+abbrev pub line_unless_zero : List ℕ → ℤ → List ℕ
+line_unless_zero names sum =
+    if int_eq sum (pos 0) then [] else names ++ codes " " ++ signed_decimal sum ++ codes "\n"
+
+-- a key's name in a path
+abbrev pub step_name : Written → List ℕ
+step_name k = frame_name (name_text k)
+
+-- The trail has the names of these keys.
+abbrev pub LeadsTo : List Written → Trail → Type 0
+LeadsTo keys trail = IsTrail (map step_name keys) trail
+
+-- The lines of the first nodes are written, and the trail has the path of the last of them.
+pub record WalkedTo (p : Profile) (nodes : List PathNode) (before : List ℕ) (i : ℕ) (trail : Trail) (out : List ℕ)
+    : Type 0 where
+  pub keys : List Written
+  pub leads : LeadsTo keys trail
+  pub whole : out ++ path_lines (paths_along keys (map (node_row p) (drop i nodes)))
+      ≡ before ++ path_lines (paths_along [] (map (node_row p) nodes))

@@ -1,0 +1,12 @@
+//! Reports for other programs: the paths of samples in one line each, and the sums of keys as a table.
+#![tactic(auto)]
+
+mod escaped;
+mod folded;
+mod laws;
+mod table;
+mod trail;
+
+pub use folded::write_folded;
+pub use laws::{folded_lines_add_up, table_limits_only_cut};
+pub use table::write_table;

@@ -1,0 +1,78 @@
+//! The names of the path that a walk has come to.
+ghost use Rattle.std.specs.Prelude.{◌≡◌, ◌++◌, ◌<◌, ℕ, [], ◌∷◌, List as Seq, length, take, map, IfOk};
+ghost use Rattle.pp_export.specs.Escaped.{frame_name, frame_byte};
+ghost use Rattle.pp_export.specs.Trail.{joined, names_text, ends_from, IsTrail};
+
+use crate::escaped::frame_byte;
+use pp_base::Memory;
+use std::alloc::Global;
+
+/// The names of a path, root first, in one text.
+#[derive(Drop)]
+pub struct Trail {
+    /// Each name with a `;` behind it.
+    text: Vec<u8>,
+    /// For each name, the place behind its `;`.
+    ends: Vec<usize>,
+}
+
+impl Trail {
+    /// No names.
+    pub fn new(alloc: Global) -> Trail
+        ensures { IsTrail [] result }
+    {
+        Trail {
+            text: Vec::new(alloc),
+            ends: Vec::new(alloc),
+        }
+    }
+
+    /// Keeps the first names, so many of them.
+    pub fn cut(&mut self, depth: usize)
+        ensures { (names : Seq (Seq ℕ)) → IsTrail names self.old → IsTrail (take depth names) self.new }
+    {
+        if depth >= self.ends.len() {
+            return;
+        }
+        let place = self.place_of(depth);
+        self.text.truncate(place);
+        self.ends.truncate(depth);
+    }
+
+    // The place of the name behind so many.
+    fn place_of(&self, depth: usize) -> usize
+        requires { depth < length self.now.ends.items }
+        ensures { (names : Seq (Seq ℕ)) → IsTrail names self.now →
+            result ≡ length (names_text (take depth names)) }
+    {
+        if depth == 0 { 0 } else { self.ends[depth - 1] }
+    }
+
+    /// Adds a name, with what stands for its bytes in a path.
+    pub fn push(&mut self, name: &[u8]) -> Result<(), Memory>
+        ensures { (names : Seq (Seq ℕ)) → IsTrail names self.old →
+            IfOk result (λ _. IsTrail (names ++ frame_name name.now ∷ []) self.new) }
+    {
+        put_frame_name(name, &mut self.text)?;
+        self.text.push(b';')?;
+        self.ends.push(self.text.len())?;
+        Ok(())
+    }
+
+    /// The names, joined by `;`.
+    pub fn path(&self) -> &[u8]
+        ensures { (names : Seq (Seq ℕ)) → IsTrail names self.now → result.now ≡ joined names }
+    {
+        let len = self.text.len().saturating_sub(1);
+        &self.text[..len]
+    }
+}
+
+fn put_frame_name(name: &[u8], text: &mut Vec<u8>) -> Result<(), Memory>
+    ensures { IfOk result (λ _. text.new.items ≡ text.old.items ++ frame_name name.now) }
+{
+    for byte in name {
+        text.push(frame_byte(*byte))?;
+    }
+    Ok(())
+}

@@ -1,0 +1,60 @@
+//! What the patterns find, of the profile and of the configuration.
+ghost use Rattle.std.specs.Prelude.{◌≡◌, IfOk, None};
+ghost use Rattle.pp_pattern.specs.Load.{load_verdicts};
+ghost use Rattle.pp_pattern.specs.Report.{AreVerdictsOf};
+
+use crate::FilterRefusal;
+use pp_base::List;
+use pp_desk::Desk;
+use pp_model::{Compact, Config, Loaded, Verdicts};
+use pp_pattern::{FramesRefused, PatternRefused, judge, judge_load};
+use std::alloc::Global;
+
+/// The profile with what its own patterns find.
+pub fn load<D: Desk>(alloc: Global, profile: Compact, desk: &mut D) -> Result<Loaded, FilterRefusal>
+    ensures same { IfOk result (λ l. l.profile ≡ profile) }
+    ensures found { IfOk result (λ l. (l.drop, l.keep) ≡ load_verdicts D.finds l.profile) }
+{
+    match judge_load(alloc, desk, &profile) {
+        Ok(answer) => loaded::<D>(profile, answer),
+        // Nothing but the matcher is asked, and it stops for want of memory alone.
+        Err(_) => Err(FilterRefusal::Memory),
+    }
+}
+
+// The profile with the verdicts of its patterns, where none of them was refused.
+fn loaded<D: Desk>(
+    profile: Compact,
+    answer: Result<(Option<List<bool>>, Option<List<bool>>), FramesRefused>,
+) -> Result<Loaded, FilterRefusal>
+    requires { IfOk answer (λ v. v ≡ load_verdicts D.finds profile) }
+    ensures same { IfOk result (λ l. l.profile ≡ profile) }
+    ensures found { IfOk result (λ l. (l.drop, l.keep) ≡ load_verdicts D.finds l.profile) }
+{
+    match answer {
+        Ok((drop, keep)) => Ok(Loaded {
+            profile,
+            drop,
+            keep,
+        }),
+        Err(FramesRefused::DropFrames) => Err(FilterRefusal::DropFrames),
+        Err(FramesRefused::KeepFrames) => Err(FilterRefusal::KeepFrames),
+    }
+}
+
+/// What the patterns of the configuration find.
+pub fn verdicts<D: Desk>(
+    alloc: Global,
+    l: &Loaded,
+    config: &Config,
+    desk: &mut D,
+) -> Result<Verdicts, FilterRefusal>
+    ensures { IfOk result (AreVerdictsOf D.finds config.now None l.now) }
+{
+    match judge(alloc, desk, config, None, l) {
+        Ok(Ok(verdicts)) => Ok(verdicts),
+        Ok(Err(PatternRefused { option })) => Err(FilterRefusal::Pattern { option }),
+        // As above.
+        Err(_) => Err(FilterRefusal::Memory),
+    }
+}

@@ -1,0 +1,11 @@
+//! A profile filtered in one call: what the patterns and the filters of a configuration leave of it, as a profile of its
+//! own. It needs no desk.
+#![tactic(auto)]
+
+mod basis;
+mod filtering;
+mod judging;
+mod refusal;
+
+pub use filtering::filtered;
+pub use refusal::FilterRefusal;

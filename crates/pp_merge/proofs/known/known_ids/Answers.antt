@@ -1,5 +1,0 @@
-use Rattle.pp_merge.proofs.KnownIds.{numbered_same}
-use Rattle.pp_merge.proofs.known.known_ids.Goals as goal
-
-pub returns-then-are_numbered : goal.returns-then-are_numbered
-returns-then-are_numbered c = numbered_same c.args.ids.now c.if-are_numbered.ensures

@@ -1,7 +1,0 @@
-use Rattle.std.proofs.Common.{◌≡◌, map}
-use Rattle.pp_merge.specs.PlaceKeys.{distant, place_of_key}
-use Rattle.pp_merge.proofs.places.location_keys.Given as goal
-
-abbrev pub invariant-loop-location : goal.invariant-loop-location
-invariant-loop-location l =
-    map place_of_key l.keys.items ≡ map (distant l.mappings l.ids) l.yielded

@@ -1,0 +1,29 @@
+-- The sample types that have a word of their own.
+use Rattle.std.specs.Prelude.{ℕ, List, [], ◌∷◌, Option, codes}
+use Rattle.pp_options.specs.declared.sample_type.SampleType.{SampleType}
+use Rattle.pp_options.specs.declared.sample_type.SampleType.TheVariants.{InuseSpace, InuseObjects, AllocSpace, AllocObjects, Contentions, Delay}
+use Rattle.pp_options.specs.Tables.{Row, row, value_named}
+
+-- the words that select a sample type
+abbrev pub sample_types : List (Row SampleType)
+sample_types =
+    row (codes "inuse_space") InuseSpace
+    ∷ row (codes "inuse_objects") InuseObjects
+    ∷ row (codes "alloc_space") AllocSpace
+    ∷ row (codes "alloc_objects") AllocObjects
+    ∷ row (codes "contentions") Contentions
+    ∷ row (codes "total_delay") Delay
+    ∷ []
+
+-- the sample type that a word selects
+unfoldable pub sample_type_named : List ℕ → Option SampleType
+sample_type_named word = value_named sample_types word
+
+-- what profiles call it
+abbrev pub type_name : SampleType → List ℕ
+type_name InuseSpace = codes "inuse_space"
+type_name InuseObjects = codes "inuse_objects"
+type_name AllocSpace = codes "alloc_space"
+type_name AllocObjects = codes "alloc_objects"
+type_name Contentions = codes "contentions"
+type_name Delay = codes "delay"

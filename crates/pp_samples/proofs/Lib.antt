@@ -1,0 +1,11 @@
+pub mod Counting
+pub mod TagNamesLemmas
+pub mod Slots
+pub mod TablesLemmas
+pub mod KeysLemmas
+pub mod CountLemmas
+pub mod EventSums
+pub mod SmallLemmas
+pub mod PlacesLemmas
+pub mod Ranking
+pub mod Listed

@@ -1,0 +1,17 @@
+//! Reports that show samples one by one: traces and tags, and the comments.
+#![tactic(auto)]
+
+mod comments;
+mod frame_lines;
+mod key_table;
+mod scope;
+mod tag_counts;
+mod tag_lines;
+mod tag_name;
+mod tag_names;
+mod tag_table;
+mod traces;
+
+pub use comments::write_comments;
+pub use tag_lines::write_tags;
+pub use traces::write_traces;

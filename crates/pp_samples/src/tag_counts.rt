@@ -1,0 +1,191 @@
+//! The tags of a report's samples, with their sums.
+ghost use Rattle.std.specs.Prelude.{◌≡◌, ◌+◌, ◌-◌, ◌<◌, ◌≤◌, ◌^◌, [], ◌∷◌, ◌++◌, length, map, List as Seq, Some, IfOk, OnOk};
+ghost use Rattle.indexmap.specs.IndexMap.{get};
+ghost use Rattle.pp_model.specs.Conditions.{IsSampleOf};
+ghost use Rattle.pp_model.specs.Finders.{Finders};
+ghost use Rattle.pp_count.specs.Counts.{samples_at};
+ghost use Rattle.pp_samples.specs.Scope.{profile_of, Finds};
+ghost use Rattle.pp_samples.specs.Tables.{Event, AreKeys, AreSmall, label_event, sample_events, events_from};
+ghost use Rattle.pp_samples.specs.Places.{AreEven};
+ghost use Rattle.pp_samples.specs.Counting.{AreSound, same_label};
+ghost use Rattle.pp_samples.specs.Tagged.{scope_tagged};
+
+use crate::key_table::{KeyTable, TagPlace, add_known_label, add_label, no_keys};
+use crate::scope::Scope;
+use crate::tag_name::{key_name, tag_name};
+use indexmap::IndexMap;
+use pp_base::{List, Memory};
+use pp_count::selected;
+use pp_model::{Label, Profile, Sample};
+use pp_tags::show_tags_into;
+use std::alloc::Global;
+
+/// The tags that were counted so far, and where each label that was seen has its tag: so a label's texts are read once.
+#[derive(Drop)]
+pub struct TagCounts {
+    pub keys: KeyTable,
+    pub places: IndexMap<Label, TagPlace>,
+}
+
+/// The sums of the tags that are shown of the samples with these numbers, and of their keys.
+pub fn count_tags(alloc: Global, scope: &Scope, kept: &[u32]) -> Result<KeyTable, Memory>
+    ensures even { IfOk result AreEven }
+    ensures keys { (f : Finders) → Finds scope.now f →
+        AreSmall (events_from 0
+        (map (scope_tagged scope.now f) (samples_at (profile_of scope.now) kept.now))) →
+        IfOk result (AreKeys (events_from 0
+        (map (scope_tagged scope.now f) (samples_at (profile_of scope.now) kept.now)))) }
+{
+    let mut counts = no_counts(alloc, scope.l.profile.get())?;
+    let mut shown = List::new(alloc);
+    let mut turn: u64 = 0;
+    for number in kept {
+        turn = count_numbered(alloc, scope, *number, turn, &mut shown, &mut counts)?;
+    }
+    Ok(counts.keys)
+}
+
+// No tags of the profile.
+fn no_counts(alloc: Global, _p: &Profile) -> Result<TagCounts, Memory>
+    ensures sound { IfOk result (AreSound _p.now) }
+    ensures keys { IfOk result (λ counts. AreKeys [] counts.keys) }
+{
+    Ok(TagCounts {
+        keys: no_keys(alloc)?,
+        places: IndexMap::new(alloc),
+    })
+}
+
+// The sample with the number, if there is one, after so many samples. `shown` is room for its labels.
+fn count_numbered(
+    alloc: Global,
+    scope: &Scope,
+    number: u32,
+    turn: u64,
+    shown: &mut List<Label>,
+    counts: &mut TagCounts,
+) -> Result<u64, Memory>
+    requires few { turn < 2 ^ 64 - 1 }
+    requires sound { AreSound (profile_of scope.now) counts.old }
+    ensures sound { OnOk result (AreSound (profile_of scope.now) counts.new) }
+    ensures turn { IfOk result (λ next.
+        next ≡ turn + length (samples_at (profile_of scope.now) (number ∷ []))) }
+    ensures next { IfOk result (λ next. next ≤ turn + 1) }
+    ensures keys { (f : Finders) → Finds scope.now f → (events : Seq Event) →
+        AreKeys events counts.old.keys → AreSmall (events ++ events_from turn
+        (map (scope_tagged scope.now f) (samples_at (profile_of scope.now) (number ∷ [])))) →
+        OnOk result (AreKeys (events ++ events_from turn
+        (map (scope_tagged scope.now f) (samples_at (profile_of scope.now) (number ∷ []))))
+        counts.new.keys) }
+{
+    let samples = scope.l.profile.get().sample.as_slice();
+    let place = number as usize;
+    if place >= samples.len() {
+        return Ok(turn);
+    }
+    count_sample(alloc, scope, &samples[place], turn + 1, shown, counts)?;
+    Ok(turn + 1)
+}
+
+// The tags that are shown of the sample, which has this turn.
+fn count_sample(
+    alloc: Global,
+    scope: &Scope,
+    s: &Sample,
+    turn: u64,
+    shown: &mut List<Label>,
+    counts: &mut TagCounts,
+) -> Result<(), Memory>
+    requires sample { IsSampleOf (profile_of scope.now) s.now }
+    requires sound { AreSound (profile_of scope.now) counts.old }
+    ensures sound { OnOk result (AreSound (profile_of scope.now) counts.new) }
+    ensures keys { (f : Finders) → Finds scope.now f → (events : Seq Event) →
+        AreKeys events counts.old.keys →
+        AreSmall (events ++ sample_events turn (scope_tagged scope.now f s.now)) →
+        OnOk result (AreKeys (events ++ sample_events turn (scope_tagged scope.now f s.now))
+        counts.new.keys) }
+{
+    show_tags_into(scope.l, scope.v, s, shown)?;
+    let value = selected(scope.l, s, scope.column, scope.config.divide_by);
+    count_labels(
+        alloc,
+        scope.l.profile.get(),
+        shown.as_slice(),
+        value,
+        turn,
+        counts,
+    )
+}
+
+fn count_labels(
+    alloc: Global,
+    p: &Profile,
+    labels: &[Label],
+    value: i64,
+    turn: u64,
+    counts: &mut TagCounts,
+) -> Result<(), Memory>
+    requires { AreSound p.now counts.old }
+    ensures sound { OnOk result (AreSound p.now counts.new) }
+    ensures keys { (events : Seq Event) → AreKeys events counts.old.keys →
+        AreSmall (events ++ map (label_event p.now value turn) labels.now) →
+        OnOk result (AreKeys (events ++ map (label_event p.now value turn) labels.now) counts.new.keys) }
+{
+    for label in labels {
+        count_label(alloc, p, label, value, turn, counts)?;
+    }
+    Ok(())
+}
+
+fn count_label(
+    alloc: Global,
+    p: &Profile,
+    label: &Label,
+    value: i64,
+    turn: u64,
+    counts: &mut TagCounts,
+) -> Result<(), Memory>
+    requires { AreSound p.now counts.old }
+    ensures sound { OnOk result (AreSound p.now counts.new) }
+    ensures keys { (events : Seq Event) → AreKeys events counts.old.keys →
+        AreSmall (events ++ label_event p.now value turn label.now ∷ []) →
+        OnOk result (AreKeys (events ++ label_event p.now value turn label.now ∷ []) counts.new.keys) }
+{
+    let Some(place) = place_of(&counts.places, label) else {
+        return count_new(alloc, p, label, value, turn, counts);
+    };
+    add_known_label(&mut counts.keys, place, value, turn);
+    Ok(())
+}
+
+// The place of the label's tag, where the label was seen.
+fn place_of(places: &IndexMap<Label, TagPlace>, label: &Label) -> Option<TagPlace>
+    ensures { result ≡ get same_label places.now label.now }
+{
+    match places.get(label) {
+        None => None,
+        Some(place) => Some(*place),
+    }
+}
+
+// A label that was not seen.
+fn count_new(
+    alloc: Global,
+    p: &Profile,
+    label: &Label,
+    value: i64,
+    turn: u64,
+    counts: &mut TagCounts,
+) -> Result<(), Memory>
+    requires { AreSound p.now counts.old }
+    ensures sound { OnOk result (AreSound p.now counts.new) }
+    ensures keys { (events : Seq Event) → AreKeys events counts.old.keys →
+        AreSmall (events ++ label_event p.now value turn label.now ∷ []) →
+        OnOk result (AreKeys (events ++ label_event p.now value turn label.now ∷ []) counts.new.keys) }
+{
+    let key = key_name(alloc, p, label)?;
+    let tag = tag_name(alloc, p, label)?;
+    let place = add_label(alloc, &mut counts.keys, key, tag, value, turn)?;
+    counts.places.insert(*label, place)?;
+    Ok(())
+}

@@ -1,0 +1,63 @@
+//! Numbers that are given to tags at first sight.
+
+use crate::tag_name::TagName;
+use indexmap::IndexSet;
+use pp_base::Memory;
+use std::alloc::Global;
+use std::marker::Model;
+
+/// The tags seen so far, without repeats. A tag's number is its place in the order of first sight.
+#[derive(Drop)]
+pub struct TagNames {
+    seen: IndexSet<TagName>,
+}
+
+impl Model for TagNames {
+    ghost use Rattle.std.specs.Prelude.{List, map};
+    ghost use Rattle.pp_samples.specs.TagLines.{TagTexts};
+    ghost use Rattle.pp_samples.specs.Names.{name_texts};
+
+    ghost Value = { List TagTexts };
+
+    ghost view = { λ n. map name_texts n.seen.keys };
+}
+
+impl TagNames {
+    ghost use Rattle.std.specs.Prelude.{◌≡◌, ◌<◌, [], length, slice_get, Some, IfOk, OnOk};
+    ghost use Rattle.pp_model.specs.FirstSight.{seen_with, place_of};
+    ghost use Rattle.pp_samples.specs.TagLines.{same_tag};
+    ghost use Rattle.pp_samples.specs.Names.{name_texts};
+
+    /// No tags.
+    pub fn new(alloc: Global) -> Result<TagNames, Memory>
+        ensures { IfOk result (λ names. names ≡ []) }
+    {
+        Ok(TagNames {
+            seen: IndexSet::new(alloc),
+        })
+    }
+
+    /// The tag's number. A tag that is new gets the next one.
+    pub fn number(&mut self, name: TagName) -> Result<u64, Memory>
+        ensures number { IfOk result (λ n. n ≡ place_of same_tag self.old (name_texts name)) }
+        ensures seen { OnOk result (self.new ≡ seen_with same_tag self.old (name_texts name)) }
+    {
+        let (n, _) = self.seen.insert_full(name)?;
+        Ok(n as u64)
+    }
+
+    /// The tag with the number.
+    pub fn name(&self, n: u64) -> &TagName
+        requires { n < length self.now }
+        ensures { slice_get self.now n ≡ Some (name_texts result.now) }
+    {
+        &self.seen.as_slice()[n as usize]
+    }
+
+    /// The number of tags.
+    pub fn len(&self) -> u64
+        ensures { result ≡ length self.now }
+    {
+        self.seen.len() as u64
+    }
+}

@@ -1,0 +1,42 @@
+-- Two ways of telling items apart that agree give the same numbers.
+use Rattle.std.proofs.Common.{◌≡◌, ◌+◌, Bool, List, [], ◌∷◌, map, refl, sym, ap, ◌∙◌}
+use Rattle.std.specs.List.{AllByRecursion}
+use Rattle.pp_model.specs.FirstSight.{distinct, place_of, numbers, ids}
+use Rattle.pp_share.proofs.Prefix.{all_tt}
+use Rattle.pp_model.proofs.FirstSightLemmas.{all_as, map_agree, distinct-map, place-map, all-seen_after}
+
+pub map_map : {A B C : Type 0} (f : A → B) (g : B → C) (xs : List A) → map g (map f xs) ≡ map (λ x. g (f x)) xs
+map_map f g [] = refl
+map_map f g (x ∷ xs) = (λ j. g (f x) ∷ map_map f g xs j)
+
+module _ {A B : Type 0} (one : A → A → Bool) (other : B → B → Bool) (describe : A → B) (P : A → Type 0)
+    (agree : (a b : A) → P a → P b → other (describe a) (describe b) ≡ one a b) where
+  -- items have the numbers of their descriptions
+  pub numbers-map : (xs : List A) → AllByRecursion P xs → numbers other (map describe xs) ≡ numbers one xs
+  numbers-map xs all =
+      let few = distinct one xs in
+      let few_all = all-seen_after one other describe P agree [] xs tt all in
+      ap (λ d. map (place_of other d) (map describe xs)) (distinct-map one other describe P agree xs all)
+      ∙ map_map describe (place_of other (map describe few)) xs
+      ∙ map_agree (λ x. place_of other (map describe few) (describe x)) (place_of one few) xs
+      (all_as P (λ x. place_of other (map describe few) (describe x) ≡ place_of one few x)
+      (λ x p. place-map one other describe P agree x p few few_all) xs all)
+
+-- Items with a key each, and with a description each. Where the keys are one exactly where the descriptions are, the numbers
+-- by keys are the numbers by descriptions.
+module _ {X K D : Type 0} (same_key : K → K → Bool) (same_text : D → D → Bool) (key : X → K) (text : X → D) (P : X → Type 0)
+    (agree : (a b : X) → P a → P b → same_key (key a) (key b) ≡ same_text (text a) (text b)) where
+  pub same_numbers : (xs : List X) → AllByRecursion P xs → numbers same_key (map key xs) ≡ numbers same_text (map text xs)
+  same_numbers xs all =
+      numbers-map (λ a b. same_key (key a) (key b)) same_key key P (λ a b p q. refl) xs all
+      ∙ sym (numbers-map (λ a b. same_key (key a) (key b)) same_text text P (λ a b p q. sym (agree a b p q)) xs all)
+
+-- Where descriptions are one exactly where the items are, the items found once are the descriptions found once.
+module _ {A B : Type 0} (one : A → A → Bool) (other : B → B → Bool) (describe : A → B) (agree : (a b : A) → other (describe a) (describe b) ≡ one a b) where
+  pub distinct_as : (keys : List A) (items : List B) → map describe keys ≡ items → map describe (distinct one keys) ≡ distinct other items
+  distinct_as keys items are =
+      sym (distinct-map one other describe (λ _. Unit {0}) (λ a b _ _. agree a b) keys (all_tt keys)) ∙ ap (distinct other) are
+
+  pub ids_as : (keys : List A) (items : List B) → map describe keys ≡ items → ids one keys ≡ ids other items
+  ids_as keys items are =
+      ap (map (λ n. n + 1)) (sym (numbers-map one other describe (λ _. Unit {0}) (λ a b _ _. agree a b) keys (all_tt keys)) ∙ ap (numbers other) are)

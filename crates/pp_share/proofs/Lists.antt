@@ -1,0 +1,93 @@
+-- Lists that are mapped, filtered and put together in two ways.
+use Rattle.std.proofs.Common.{◌≡◌, ℕ, Bool, true, false, ◌&&◌, if◌then◌else◌, filter, List, [], ◌∷◌, ◌++◌, map, length, Option, None, Some, refl, sym, ap, ◌∙◌, arith}
+use Rattle.std.specs.List.{AllByRecursion, filter_map, flat_map, cons_option}
+use Rattle.std.specs.Option.{option_map, option_to_list}
+use Rattle.std.specs.Cmp.Lexicographic.{pointwise}
+use Rattle.std.proofs.lemmas.List.{map-append, get_or-map}
+use Rattle.std.proofs.lemmas.List.Elements.{filter_map-append, All-from_recursion}
+use Rattle.pp_share.proofs.Tables.{Names, named}
+
+pub map_as : {A B : Type 0} (f g : A → B) (P : A → Type 0) → ((a : A) → P a → f a ≡ g a) → (xs : List A) → AllByRecursion P xs → map f xs ≡ map g xs
+map_as f g P agree [] all = refl
+map_as f g P agree (x ∷ xs) all = (λ j. agree x all.0 j ∷ map_as f g P agree xs all.1 j)
+
+pub flat_map-map : {A B C : Type 0} (f : B → List C) (u : A → B) (xs : List A) → flat_map f (map u xs) ≡ flat_map (λ x. f (u x)) xs
+flat_map-map f u [] = refl
+flat_map-map f u (x ∷ xs) = ap (λ l. f (u x) ++ l) (flat_map-map f u xs)
+
+pub flat_map_as : {A X Y : Type 0} (f : A → List Y) (h : X → Y) (g : A → List X) (P : A → Type 0) → ((a : A) → P a → f a ≡ map h (g a))
+    → (xs : List A) → AllByRecursion P xs → flat_map f xs ≡ map h (flat_map g xs)
+flat_map_as f h g P agree [] all = refl
+flat_map_as f h g P agree (x ∷ xs) all =
+    (λ j. agree x all.0 j ++ flat_map_as f h g P agree xs all.1 j) ∙ sym (map-append h (g x) (flat_map g xs))
+
+pub filter_map_as : {A X Y : Type 0} (f : A → Option Y) (read : X → Option Y) (g : A → X) (P : A → Type 0) → ((a : A) → P a → f a ≡ read (g a))
+    → (xs : List A) → AllByRecursion P xs → filter_map f xs ≡ filter_map read (flat_map (λ a. g a ∷ []) xs)
+filter_map_as f read g P agree [] all = refl
+filter_map_as f read g P agree (x ∷ xs) all = (λ j. cons_option (agree x all.0 j) (filter_map_as f read g P agree xs all.1 j))
+
+pub flat_filter_as : {A X Y : Type 0} (f : A → List Y) (read : X → Option Y) (g : A → List X) (P : A → Type 0) → ((a : A) → P a → f a ≡ filter_map read (g a))
+    → (xs : List A) → AllByRecursion P xs → flat_map f xs ≡ filter_map read (flat_map g xs)
+flat_filter_as f read g P agree [] all = refl
+flat_filter_as f read g P agree (x ∷ xs) all =
+    (λ j. agree x all.0 j ++ flat_filter_as f read g P agree xs all.1 j) ∙ sym (filter_map-append read (g x) (flat_map g xs))
+
+pub filter_map-map : {A B C : Type 0} (f : B → Option C) (u : A → B) (xs : List A) → filter_map f (map u xs) ≡ filter_map (λ x. f (u x)) xs
+filter_map-map f u [] = refl
+filter_map-map f u (x ∷ xs) = ap (cons_option (f (u x))) (filter_map-map f u xs)
+
+pub all_mapped : {A B : Type 0} (Q : B → Type 0) (f : A → B) (P : A → Type 0) → ((a : A) → P a → Q (f a)) → (xs : List A) → AllByRecursion P xs → AllByRecursion Q (map f xs)
+all_mapped Q f P holds [] all = tt
+all_mapped Q f P holds (x ∷ xs) all = (holds x all.0, all_mapped Q f P holds xs all.1)
+
+pub all_both : {A : Type 0} (Q : A → Type 0) (xs ys : List A) → AllByRecursion Q xs → AllByRecursion Q ys → AllByRecursion Q (xs ++ ys)
+all_both Q [] ys first second = second
+all_both Q (x ∷ xs) ys first second = (first.0, all_both Q xs ys first.1 second)
+
+pub all_flat : {A B : Type 0} (Q : B → Type 0) (g : A → List B) (P : A → Type 0) → ((a : A) → P a → AllByRecursion Q (g a)) → (xs : List A) → AllByRecursion P xs → AllByRecursion Q (flat_map g xs)
+all_flat Q g P holds [] all = tt
+all_flat Q g P holds (x ∷ xs) all = all_both Q (g x) (flat_map g xs) (holds x all.0) (all_flat Q g P holds xs all.1)
+
+-- what holds of each entry holds of the one that an id names
+pub all_named : {A : Type 0} (P : A → Type 0) (xs : List A) (d : A) (id : ℕ) → AllByRecursion P xs → Names (length xs) id → P (named xs d id)
+all_named P xs d id all is = All-from_recursion P xs all _ d (omega (arith, is.0, is.1))
+
+-- the description of the entry that an id names
+pub named-map : {A B : Type 0} (f : A → B) (xs : List A) (d : A) (e : B) (id : ℕ) → Names (length xs) id → named (map f xs) e id ≡ f (named xs d id)
+named-map f xs d e id is = get_or-map f xs _ d e (omega (arith, is.0, is.1))
+
+pub option_map-same : {A : Type 0} (o : Option A) → option_map (λ x. x) o ≡ o
+option_map-same None = refl
+option_map-same (Some x) = refl
+
+pub option_cons : {A : Type 0} (o : Option A) (xs : List A) → option_to_list o ++ xs ≡ cons_option o xs
+option_cons None xs = refl
+option_cons (Some x) xs = refl
+
+-- lists that are told apart alike, described in two ways
+pub pointwise_as : {A B C : Type 0} (one : B → B → Bool) (other : C → C → Bool) (f : A → B) (g : A → C) (P : A → Type 0)
+    → ((x y : A) → P x → P y → one (f x) (f y) ≡ other (g x) (g y)) → (xs ys : List A) → AllByRecursion P xs → AllByRecursion P ys
+    → pointwise one (map f xs) (map f ys) ≡ pointwise other (map g xs) (map g ys)
+pointwise_as one other f g P agree [] [] p q = refl
+pointwise_as one other f g P agree [] (y ∷ ys) p q = refl
+pointwise_as one other f g P agree (x ∷ xs) [] p q = refl
+pointwise_as one other f g P agree (x ∷ xs) (y ∷ ys) p q = (λ t. agree x y p.0 q.0 t && pointwise_as one other f g P agree xs ys p.1 q.1 t)
+
+pub all_filter : {A : Type 0} (P : A → Type 0) (test : A → Bool) (xs : List A) → AllByRecursion P xs → AllByRecursion P (filter test xs)
+all_filter P test [] all = tt
+all_filter {A} P test (x ∷ xs) all = by (test x) (all_filter P test xs all.1)
+  where
+    by : (b : Bool) → AllByRecursion P (filter test xs) → AllByRecursion P (if b then x ∷ filter test xs else filter test xs)
+    by true rest = (all.0, rest)
+    by false rest = rest
+
+-- a test of what a map leaves alone
+pub filter_kept : {A B : Type 0} (p : A → Bool) (q : B → Bool) (f : A → B) → ((a : A) → q (f a) ≡ p a) → (xs : List A) → filter q (map f xs) ≡ map f (filter p xs)
+filter_kept p q f same [] = refl
+filter_kept {A} {B} p q f same (x ∷ xs) =
+    ap (λ b. if b then f x ∷ filter q (map f xs) else filter q (map f xs)) (same x) ∙ by (p x) (filter_kept p q f same xs)
+  where
+    by : (b : Bool) → filter q (map f xs) ≡ map f (filter p xs)
+        → (if b then f x ∷ filter q (map f xs) else filter q (map f xs)) ≡ map f (if b then x ∷ filter p xs else filter p xs)
+    by true rest = ap (λ l. f x ∷ l) rest
+    by false rest = rest

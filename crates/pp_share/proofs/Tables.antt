@@ -1,0 +1,158 @@
+-- Tables whose entries are distinct, and ids as places in them plus 1.
+use Rattle.std.proofs.Common.{◌≡◌, ℕ, zero, suc, ◌+◌, ◌-◌, ◌<◌, ◌≤◌, Bool, true, false, true≢false, not, nat_eq, List, [], ◌∷◌, ◌++◌, map, length, get_or, filter, None, Some, refl, sym, ap, subst, ◌∙◌, inl, inr, if◌then◌else◌, arith}
+use Rattle.std.specs.Prelude.{◌==◌, slice_get}
+use Rattle.std.specs.List.{AllByRecursion, IsDistinct, filter_map, cons_option}
+use Rattle.std.specs.Option.{option_map, option_map_or, option_to_list}
+use Rattle.std.specs.Cmp.{IsEquivalence}
+use Rattle.std.proofs.Math.Dec.{eqb-suc-zero, eqb-zero-suc, eqb-suc-suc}
+use Rattle.std.proofs.lemmas.Bool.{eq-eqb, ne_eqb, cases_eq, cond-true, cond-false}
+use Rattle.std.proofs.lemmas.List.Elements.{All-from_recursion}
+use Rattle.std.proofs.lemmas.Map.Keys.{IsDistinct-head}
+use Rattle.std.proofs.lemmas.Option.{slice_get-get_or, slice_get-map}
+use Rattle.pp_model.specs.Lookup.{place_read}
+use Rattle.pp_model.specs.FirstSight.{seen_with, seen_after, distinct, place_of}
+use Rattle.pp_share.specs.Ids.{place_id}
+use Rattle.pp_share.specs.Walk.{met_after}
+use Rattle.pp_share.specs.Gathered.{gathered}
+use Rattle.pp_model.proofs.FirstSightLemmas.{distinct-map, place-map, all-seen_after}
+
+-- ids compared
+abbrev pub same_id : ℕ → ℕ → Bool
+same_id a b = a == b
+
+-- the id names one of n entries
+abbrev pub Names : ℕ → ℕ → Type 0
+Names n id = (1 ≤ id) × (id ≤ n)
+
+-- the id names one of n entries, or none
+abbrev pub IsRef : ℕ → ℕ → Type 0
+IsRef n id = id ≤ n
+
+-- the entry that the id names
+abbrev pub named : {A : Type 0} → List A → A → ℕ → A
+named xs d id = get_or xs (id - 1) d
+
+-- an id that names an entry is read as it
+pub read_named : {A : Type 0} (xs : List A) (d : A) (id : ℕ) → Names (length xs) id → place_read xs id ≡ Some (named xs d id)
+read_named xs d id is =
+    cond-false _ _ _ (ne_eqb id 0 (λ e. let zero_is : id ≡ 0 = e in omega (arith, zero_is, is.0)))
+    ∙ slice_get-get_or xs (id - 1) d (omega (arith, is.0, is.1))
+
+-- 0 is read as none
+pub read_none : {A : Type 0} (xs : List A) (id : ℕ) → id ≡ 0 → place_read xs id ≡ None
+read_none xs id none = cond-true _ _ _ (eq-eqb id 0 none)
+
+-- what is read of a described table is the description
+pub read-map : {A B : Type 0} (f : A → B) (xs : List A) (id : ℕ) → place_read (map f xs) id ≡ option_map f (place_read xs id)
+read-map f xs id = by (id == 0)
+  where
+    by : (b : Bool) → (if b then None else slice_get (map f xs) (id - 1)) ≡ option_map f (if b then None else slice_get xs (id - 1))
+    by true = refl
+    by false = slice_get-map f xs (id - 1)
+
+module _ {A : Type 0} (same : A → A → Bool) (laws : IsEquivalence same) where
+  head_apart : (x : A) (xs : List A) (j : ℕ) (d : A) → IsDistinct same (x ∷ xs) → j < length xs → same x (get_or xs j d) ≡ false
+  head_apart x xs j d apart within = All-from_recursion (λ y. same x y ≡ false) xs (IsDistinct-head same x xs apart) j d within
+
+  tail_apart : (x : A) (xs : List A) → IsDistinct same (x ∷ xs) → IsDistinct same xs
+  unfolding IsDistinct
+  tail_apart x xs apart = apart.1
+
+  -- entries of a table of distinct ones are one only at the same place
+  pub places_tell : (xs : List A) (i j : ℕ) (d : A) → IsDistinct same xs → i < length xs → j < length xs → same (get_or xs i d) (get_or xs j d) ≡ nat_eq i j
+  places_tell [] i j d apart wi wj = absurd (omega arith)
+  places_tell (x ∷ xs) zero zero d apart wi wj = laws.refl x
+  places_tell (x ∷ xs) zero (suc j) d apart wi wj = head_apart x xs j d apart (omega arith) ∙ sym (eqb-zero-suc j)
+  places_tell (x ∷ xs) (suc i) zero d apart wi wj =
+      laws.symm (get_or xs i d) x ∙ head_apart x xs i d apart (omega arith) ∙ sym (eqb-suc-zero i)
+  places_tell (x ∷ xs) (suc i) (suc j) d apart wi wj =
+      places_tell xs i j d (tail_apart x xs apart) (omega arith) (omega arith) ∙ sym (eqb-suc-suc i j)
+
+  -- entries are one exactly where their ids are
+  pub ids_tell : (xs : List A) (d : A) (a b : ℕ) → IsDistinct same xs → Names (length xs) a → Names (length xs) b → same (named xs d a) (named xs d b) ≡ same_id a b
+  ids_tell xs d a b apart na nb =
+      places_tell xs (a - 1) (b - 1) d apart (omega (arith, na.0, na.1)) (omega (arith, nb.0, nb.1)) ∙ elim (cases_eq a b) [
+        | inl is ↦ let less : a - 1 ≡ b - 1 = omega (arith, is) in eq-eqb _ _ less ∙ sym (eq-eqb a b is)
+        | inr not_is ↦ ne_eqb _ _ (λ e. let less : a - 1 ≡ b - 1 = e in not_is (omega (arith, less, na.0, nb.0))) ∙ sym (ne_eqb a b not_is)
+      ]
+
+-- the ids but for 0
+abbrev pub nonzero : List ℕ → List ℕ
+nonzero ids = filter (λ id. not (id == 0)) ids
+
+-- what is met is each id but 0, once
+pub met_distinct : (met ids : List ℕ) → met_after met ids ≡ seen_after same_id met (nonzero ids)
+met_distinct met [] = refl
+met_distinct met (id ∷ ids) = by (id == 0) (λ m. met_distinct m ids)
+  where
+    by : (b : Bool) → ((m : List ℕ) → met_after m ids ≡ seen_after same_id m (nonzero ids))
+        → met_after (if b then met else seen_with same_id met id) ids ≡ seen_after same_id met (if not b then id ∷ nonzero ids else nonzero ids)
+    by true rest = rest met
+    by false rest = rest (seen_with same_id met id)
+
+names_nonzero : (n : ℕ) (ids : List ℕ) → AllByRecursion (IsRef n) ids → AllByRecursion (Names n) (nonzero ids)
+names_nonzero n [] refs = tt
+names_nonzero n (id ∷ ids) refs = by (id == 0) refl (names_nonzero n ids refs.1)
+  where
+    by : (b : Bool) → (id == 0) ≡ b → AllByRecursion (Names n) (nonzero ids) → AllByRecursion (Names n) (if not b then id ∷ nonzero ids else nonzero ids)
+    by true is rest = rest
+    by false is rest = ((one_le, refs.0), rest)
+      where
+        one_le : 1 ≤ id
+        one_le = elim (cases_eq id 0) as (λ _. 1 ≤ id) [
+          | inl none ↦ absurd (true≢false (sym (eq-eqb id 0 none) ∙ is))
+          | inr other ↦ omega (arith, other)
+        ]
+
+read_each : {A : Type 0} (xs : List A) (d : A) (ids : List ℕ) → AllByRecursion (IsRef (length xs)) ids → filter_map (place_read xs) ids ≡ map (named xs d) (nonzero ids)
+read_each xs d [] refs = refl
+read_each {A} xs d (id ∷ ids) refs = elim (cases_eq id 0) as (λ _. filter_map (place_read xs) (id ∷ ids) ≡ map (named xs d) (nonzero (id ∷ ids))) [
+  | inl none ↦
+      ap (λ o. cons_option o (filter_map (place_read xs) ids)) (read_none xs id none) ∙ read_each xs d ids refs.1
+      ∙ ap (λ b. map (named xs d) (if not b then id ∷ nonzero ids else nonzero ids)) (sym (eq-eqb id 0 none))
+  | inr other ↦
+      ap (λ o. cons_option o (filter_map (place_read xs) ids)) (read_named xs d id (omega (arith, other), refs.0))
+      ∙ ap (λ l. named xs d id ∷ l) (read_each xs d ids refs.1)
+      ∙ ap (λ b. map (named xs d) (if not b then id ∷ nonzero ids else nonzero ids)) (sym (ne_eqb id 0 other))
+]
+
+-- A walk over references to a table of distinct entries.
+module _ {A : Type 0} (same : A → A → Bool) (laws : IsEquivalence same) (xs : List A) (d : A) (apart : IsDistinct same xs) where
+  -- the distinct entries that are met are those of the ids that are met
+  pub walk_entries : (ids : List ℕ) → AllByRecursion (IsRef (length xs)) ids → distinct same (filter_map (place_read xs) ids) ≡ map (named xs d) (met_after [] ids)
+  walk_entries ids refs =
+      ap (distinct same) (read_each xs d ids refs)
+      ∙ distinct-map same_id same (named xs d) (Names (length xs)) (λ a b na nb. ids_tell same laws xs d a b apart na nb) (nonzero ids) (names_nonzero (length xs) ids refs)
+      ∙ ap (map (named xs d)) (sym (met_distinct [] ids))
+
+  -- the ids that are met name entries
+  pub walk_names : (ids : List ℕ) → AllByRecursion (IsRef (length xs)) ids → AllByRecursion (Names (length xs)) (met_after [] ids)
+  walk_names ids refs =
+      subst (AllByRecursion (Names (length xs))) (sym (met_distinct [] ids))
+      (all-seen_after same_id same (named xs d) (Names (length xs)) (λ a b na nb. ids_tell same laws xs d a b apart na nb) [] (nonzero ids) tt (names_nonzero (length xs) ids refs))
+
+  -- an entry's id among those met is that of its id
+  pub walk_place : (met : List ℕ) → AllByRecursion (Names (length xs)) met → (id : ℕ) → Names (length xs) id
+      → place_of same (map (named xs d) met) (named xs d id) + 1 ≡ place_id met id
+  walk_place met all id is =
+      ap (λ n. n + 1) (place-map same_id same (named xs d) (Names (length xs)) (λ a b na nb. ids_tell same laws xs d a b apart na nb) id is met all)
+      ∙ sym (cond-false _ _ _ (ne_eqb id 0 (λ e. let zero_is : id ≡ 0 = e in omega (arith, zero_is, is.0))))
+
+  -- the same of a reference, which may be none
+  pub walk_ref : (met : List ℕ) → AllByRecursion (Names (length xs)) met → (id : ℕ) → IsRef (length xs) id
+      → option_map_or (λ x. place_of same (map (named xs d) met) x + 1) (place_read xs id) 0 ≡ place_id met id
+  walk_ref met all id is = elim (cases_eq id 0) as (λ _. option_map_or (λ x. place_of same (map (named xs d) met) x + 1) (place_read xs id) 0 ≡ place_id met id) [
+    | inl none ↦
+        ap (λ o. option_map_or (λ x. place_of same (map (named xs d) met) x + 1) o 0) (read_none xs id none)
+        ∙ sym (cond-true _ _ _ (eq-eqb id 0 none))
+    | inr other ↦
+        ap (λ o. option_map_or (λ x. place_of same (map (named xs d) met) x + 1) o 0) (read_named xs d id (omega (arith, other), is))
+        ∙ walk_place met all id (omega (arith, other), is)
+  ]
+
+-- what is gathered are the entries that the ids name
+pub gathered_is : {T : Type 0} (entry : T → ℕ → T) (items : List T) (d : T) (ids : List ℕ) → AllByRecursion (Names (length items)) ids
+    → gathered entry items ids ≡ map (λ id. entry (named items d id) id) ids
+gathered_is entry items d [] all = refl
+gathered_is entry items d (id ∷ ids) all =
+    (λ j. option_to_list (option_map (λ item. entry item id) (read_named items d id all.0 j)) ++ gathered_is entry items d ids all.1 j)

@@ -1,0 +1,48 @@
+//! The entries of a table by their ids.
+ghost use Rattle.std.specs.Prelude.{◌≡◌, ℕ, None, length, IfOk};
+ghost use Rattle.std.specs.Bool.{OnTrue};
+ghost use Rattle.pp_model.specs.Rules.{first_repeated, AreNumbered};
+ghost use Rattle.pp_share.specs.Ids.{known_id, place_id};
+ghost use Rattle.pp_share.specs.Behind.{behind_id};
+
+use crate::ids::Known;
+use indexmap::IndexSet;
+use pp_base::Memory;
+use std::alloc::Global;
+
+/// The ids of a table, of which none stands twice.
+pub fn known_ids(alloc: Global, ids: &[u64]) -> Result<Known, Memory>
+    requires { first_repeated ids.now ≡ None }
+    ensures { IfOk result (λ known. (after : ℕ) → (id : ℕ) → behind_id after (length ids.now) (known_id known id)
+        ≡ behind_id after (length ids.now) (place_id ids.now id)) }
+{
+    if are_numbered(ids) {
+        return Ok(Known::InOrder);
+    }
+    let listed = listed_ids(alloc, ids)?;
+    Ok(Known::KnownIds(listed))
+}
+
+// The ids as a set, in order.
+fn listed_ids(alloc: Global, ids: &[u64]) -> Result<IndexSet<u64>, Memory>
+    requires { first_repeated ids.now ≡ None }
+    ensures { IfOk result (λ listed. listed.keys ≡ ids.now) }
+{
+    let mut listed = IndexSet::new(alloc);
+    for id in ids {
+        listed.insert_full(*id)?;
+    }
+    Ok(listed)
+}
+
+/// Whether each id is its place plus 1.
+pub fn are_numbered(ids: &[u64]) -> bool
+    ensures { OnTrue result (AreNumbered ids.now) }
+{
+    for (place, id) in ids.iter().enumerate() {
+        if *id == 0 || *id - 1 != place as u64 {
+            return false;
+        }
+    }
+    true
+}

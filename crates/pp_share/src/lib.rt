@@ -1,0 +1,27 @@
+//! Equal things of a profile's tables made one, and a profile written from the samples that are left.
+#![tactic(auto)]
+
+mod behind;
+mod change;
+mod first_sight;
+mod functions;
+mod gather;
+mod ids;
+mod known;
+mod met;
+mod places;
+mod renumbering;
+mod samples;
+mod sharing;
+mod stack;
+mod sums;
+mod texts;
+mod walk;
+mod write;
+
+pub use behind::Behind;
+pub use change::{Change, change_each};
+pub use ids::{Ids, Known};
+pub use known::{are_numbered, known_ids};
+pub use renumbering::{Renumbering, renumber};
+pub use sharing::share;

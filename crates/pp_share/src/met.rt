@@ -1,0 +1,107 @@
+//! Ids in the order in which they are met.
+ghost use Rattle.std.specs.Prelude.{◌≡◌, [], length, slice_index_or, IfOk, OnOk};
+ghost use Rattle.pp_share.specs.Walk.{met_with};
+ghost use Rattle.pp_share.specs.Ids.{place_id};
+
+use crate::ids::place_id;
+use indexmap::IndexSet;
+use pp_base::Memory;
+use std::alloc::Global;
+use std::marker::Model;
+
+/// Ids without repeats, in the order in which they are met. Samples name the same locations over and over, so what was
+/// met is found in a table, by index, and hashed only once.
+#[derive(Drop)]
+pub struct Met {
+    ids: IndexSet<u64>,
+    // At the index of an id its place plus 1. With 0 it wasn't met, or is past the table.
+    places: Vec<u64>,
+}
+
+impl Model for Met {
+    ghost use Rattle.std.specs.Prelude.{ℕ, List};
+    ghost use Rattle.pp_share.specs.MetPlaces.{HoldsPlaces};
+
+    ghost Value = { List ℕ };
+
+    ghost view = { λ met. met.ids.keys };
+
+    ghost invariant = { λ met. HoldsPlaces met.ids.keys met.places.items };
+}
+
+impl Met {
+    /// No ids. Ids below `room` are found by index.
+    pub fn new(alloc: Global, room: usize) -> Result<Met, Memory>
+        ensures { IfOk result (λ met. met ≡ []) }
+    {
+        let places = vec![in alloc; 0u64; room]?;
+        Ok(Met {
+            ids: IndexSet::new(alloc),
+            places,
+        })
+    }
+
+    /// Adds the id, unless it is 0 or was met.
+    #[inline(always)]
+    #[tactic(auto, using(crate::proofs::MetLemmas::met_already))]
+    pub fn meet(&mut self, id: u64) -> Result<(), Memory>
+        ensures { OnOk result (self.new ≡ met_with self.old id) }
+    {
+        if number_at(&self.places, id) > 0 {
+            return Ok(());
+        }
+        self.add(id)
+    }
+
+    // The same, where the table does not know the id.
+    #[inline(never)]
+    fn add(&mut self, id: u64) -> Result<(), Memory>
+        ensures { OnOk result (self.new ≡ met_with self.old id) }
+    {
+        if id == 0 {
+            return Ok(());
+        }
+        let (place, _) = self.ids.insert_full(id)?;
+        let _len = self.ids.len();
+        let index = id as usize;
+        if index < self.places.len() {
+            self.places[index] = place as u64 + 1;
+        }
+        Ok(())
+    }
+
+    /// The place of the id plus 1, which is past the ids where it wasn't met. 0 stays.
+    pub fn id(&self, id: u64) -> u64
+        ensures { result ≡ place_id self.now id }
+    {
+        let number = number_at(&self.places, id);
+        if number > 0 {
+            return number;
+        }
+        place_id(&self.ids, id)
+    }
+
+    /// The ids, in order.
+    pub fn as_slice(&self) -> &[u64]
+        ensures { result.now ≡ self.now }
+    {
+        self.ids.as_slice()
+    }
+
+    /// How many ids were met.
+    pub fn len(&self) -> usize
+        ensures { result ≡ length self.now }
+    {
+        self.ids.len()
+    }
+}
+
+// The number at the index, and 0 past the list.
+fn number_at(numbers: &[u64], index: u64) -> u64
+    ensures { result ≡ slice_index_or numbers.now index 0 }
+{
+    match numbers.get(index as usize) {
+        None => 0,
+        Some(number) => *number,
+    }
+}

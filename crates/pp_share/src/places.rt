@@ -1,0 +1,178 @@
+//! Mappings and locations that stand once.
+ghost use Rattle.std.specs.Prelude.{◌≡◌, map, length, IfOk};
+ghost use Rattle.std.specs.List.{AllByRecursion};
+ghost use Rattle.pp_model.specs.FirstSight.{distinct, ids};
+ghost use Rattle.pp_share.specs.Shared.{with_shared_places, by_locations};
+ghost use Rattle.pp_share.specs.Renumbered.{renumbered_sample};
+ghost use Rattle.pp_share.specs.PlaceKeys.{mapping_key, start_at, distant, near, same_place, place_of_key};
+ghost use Rattle.pp_share.specs.Share.{NamesLocations};
+
+use crate::change::change_each;
+use crate::first_sight::{Keyed, keep_firsts, number_each};
+use crate::ids::Ids;
+use crate::known::are_numbered;
+use crate::renumbering::Renumbering;
+use pp_base::{List, Memory};
+use pp_model::{Line, Location, Mapping, Profile, Sample};
+use std::alloc::Global;
+use std::mem;
+
+/// What tells a mapping apart where texts stand once, and text 0 is empty: how long it is, and which place of which
+/// file it maps.
+#[derive(Clone, Copy, Debug, PartialEq, Eq, Hash)]
+pub struct MappingKey {
+    pub size: u64,
+    pub offset: u64,
+    /// The index of the build id's text, or of the path's where that is empty.
+    pub identity: i64,
+}
+
+impl Keyed<MappingKey> for Mapping {
+    ghost key_of = { mapping_key };
+
+    fn key(&self) -> MappingKey {
+        MappingKey {
+            size: self.limit.saturating_sub(self.start),
+            offset: self.offset,
+            identity: if self.build_id == 0 {
+                self.file
+            } else {
+                self.build_id
+            },
+        }
+    }
+}
+
+/// What tells a location apart where mappings and functions stand once.
+#[derive(Debug, Drop, PartialEq, Eq, Hash)]
+pub struct LocationKey {
+    pub mapping_id: u64,
+    /// How far behind the start of its mapping the location lies, modulo 2^64.
+    pub distance: u64,
+    pub line: Vec<Line>,
+    pub folded: bool,
+}
+
+/// The profile, whose texts and functions stand once, with each mapping and each location once, in the order of first
+/// sight.
+pub fn share_places(alloc: Global, mut p: Profile) -> Result<Profile, Memory>
+    requires { AllByRecursion (NamesLocations (length p.location)) p.sample }
+    ensures { IfOk result (λ r. r ≡ with_shared_places p) }
+{
+    let (mappings, mapping_ids) = keep_firsts(alloc, p.mapping.as_slice())?;
+    let old = mem::replace(&mut p.mapping, mappings);
+    let locations = mem::replace(&mut p.location, List::new(alloc));
+    let keys = location_keys(alloc, locations, old.as_slice(), &Ids::By(mapping_ids))?;
+    let (locations, ids) = share_locations(alloc, keys, p.mapping.as_slice())?;
+    p.location = locations;
+    move_samples(&mut p.sample, ids);
+    Ok(p)
+}
+
+// The locations without repeats, in the order of first sight, and the id of each. Their mappings are these.
+fn share_locations(
+    alloc: Global,
+    keys: Vec<LocationKey>,
+    mappings: &[Mapping],
+) -> Result<(List<Location>, List<u64>), Memory>
+    ensures table { IfOk result (λ r. r.0
+        ≡ map (near mappings.now) (distinct same_place (map place_of_key keys.items))) }
+    ensures ids { IfOk result (λ r. r.1 ≡ ids same_place (map place_of_key keys.items)) }
+{
+    let (keys, ids) = number_each(alloc, keys)?;
+    let locations = locations_of(alloc, keys, mappings)?;
+    Ok((locations, ids))
+}
+
+// Gives the samples these ids of their locations. Where no location repeats, all ids stay: samples name many, so they
+// are not gone through then.
+fn move_samples(samples: &mut List<Sample>, ids: List<u64>)
+    requires { AllByRecursion (NamesLocations (length ids)) samples.old }
+    ensures { samples.new ≡ map (renumbered_sample (by_locations ids)) samples.old }
+{
+    if are_numbered(ids.as_slice()) {
+        return;
+    }
+    let by = Renumbering {
+        text: Ids::Same,
+        mapping: Ids::Same,
+        function: Ids::Same,
+        location: Ids::By(ids),
+    };
+    change_each(samples, &by);
+}
+
+// The keys of the locations, whose mappings are these and get new ids.
+fn location_keys(
+    alloc: Global,
+    locations: List<Location>,
+    mappings: &[Mapping],
+    ids: &Ids,
+) -> Result<Vec<LocationKey>, Memory>
+    ensures { IfOk result (λ keys. map place_of_key keys.items
+        ≡ map (distant mappings.now ids.now) locations) }
+{
+    let mut keys = Vec::new(alloc);
+    for location in locations.into_vec() {
+        keys.push(location_key(location, mappings, ids))?;
+    }
+    Ok(keys)
+}
+
+// The key of the location.
+fn location_key(location: Location, mappings: &[Mapping], ids: &Ids) -> LocationKey
+    ensures { place_of_key result ≡ distant mappings.now ids.now location }
+{
+    LocationKey {
+        mapping_id: ids.id(location.mapping_id),
+        distance: location
+            .address
+            .wrapping_sub(start_at(mappings, location.mapping_id)),
+        line: location.line.into_vec(),
+        folded: location.folded,
+    }
+}
+
+// The locations of the keys, whose mappings are these.
+fn locations_of(
+    alloc: Global,
+    keys: Vec<LocationKey>,
+    mappings: &[Mapping],
+) -> Result<List<Location>, Memory>
+    ensures { IfOk result (λ locations. locations
+        ≡ map (near mappings.now) (map place_of_key keys.items)) }
+{
+    let mut locations = List::new(alloc);
+    for key in keys {
+        locations.push(location_of(key, mappings))?;
+    }
+    Ok(locations)
+}
+
+// The location of the key.
+fn location_of(key: LocationKey, mappings: &[Mapping]) -> Location
+    ensures { result ≡ near mappings.now (place_of_key key) }
+{
+    Location {
+        id: 0,
+        mapping_id: key.mapping_id,
+        address: key
+            .distance
+            .wrapping_add(start_at(mappings, key.mapping_id)),
+        line: List::from_vec(key.line),
+        folded: key.folded,
+    }
+}
+
+// Where the mapping with the id starts, and 0 where there is none.
+fn start_at(mappings: &[Mapping], id: u64) -> u64
+    ensures { result ≡ start_at mappings.now id }
+{
+    if id == 0 {
+        return 0;
+    }
+    match mappings.get((id - 1) as usize) {
+        None => 0,
+        Some(mapping) => mapping.start,
+    }
+}

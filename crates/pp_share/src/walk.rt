@@ -1,0 +1,151 @@
+//! Ids in the order in which a walk meets them.
+ghost use Rattle.std.specs.Prelude.{◌≡◌, ℕ, List, [], ◌∷◌, OnOk};
+ghost use Rattle.std.specs.List.{flat_map};
+ghost use Rattle.pp_share.specs.Walk.{met_with, met_after, function_refs, mapping_ref, text_ids, type_text_ids, label_text_ids, sample_text_ids, mapping_text_ids, function_text_ids, location_refs};
+
+use crate::ids::id_of_index;
+use crate::met::Met;
+use pp_base::Memory;
+use pp_model::{Function, Label, Line, Location, Mapping, Sample, ValueType};
+
+/// The table that ids are of.
+#[derive(Clone, Copy, Debug)]
+pub struct Texts;
+
+#[derive(Clone, Copy, Debug)]
+pub struct Mappings;
+
+#[derive(Clone, Copy, Debug)]
+pub struct Functions;
+
+#[derive(Clone, Copy, Debug)]
+pub struct Locations;
+
+/// What refers to entries of a table.
+pub trait Refers<Table> {
+    /// The ids to which it refers, in order, with 0 for none.
+    ghost refs: { Self → List ℕ };
+
+    /// Adds the ids that were not met yet.
+    fn meet(&self, met: &mut Met) -> Result<(), Memory>
+        ensures { OnOk result (met.new ≡ met_after met.old (refs self.now)) };
+}
+
+/// Adds the ids to which the items refer, in order.
+pub fn meet_each<Table, T: Refers<Table>>(items: &[T], met: &mut Met) -> Result<(), Memory>
+    ensures { OnOk result (met.new ≡ met_after met.old (flat_map T.refs items.now)) }
+{
+    for item in items {
+        item.meet(met)?;
+    }
+    Ok(())
+}
+
+/// Adds the id, unless it is 0 or was met.
+#[inline(always)]
+pub fn meet_id(id: u64, met: &mut Met) -> Result<(), Memory>
+    ensures { OnOk result (met.new ≡ met_with met.old id) }
+{
+    met.meet(id)
+}
+
+// Adds the id of the text with the index.
+fn meet_text(index: i64, met: &mut Met) -> Result<(), Memory>
+    ensures { OnOk result (met.new ≡ met_after met.old (text_ids index)) }
+{
+    meet_id(id_of_index(index), met)
+}
+
+impl Refers<Locations> for u64 {
+    ghost refs = { λ id. id ∷ [] };
+
+    fn meet(&self, met: &mut Met) -> Result<(), Memory> {
+        meet_id(*self, met)
+    }
+}
+
+impl Refers<Locations> for Sample {
+    ghost refs = { location_refs };
+
+    fn meet(&self, met: &mut Met) -> Result<(), Memory> {
+        meet_each::<Locations, u64>(self.location_id.as_slice(), met)
+    }
+}
+
+impl Refers<Mappings> for Location {
+    ghost refs = { mapping_ref };
+
+    fn meet(&self, met: &mut Met) -> Result<(), Memory> {
+        meet_id(self.mapping_id, met)
+    }
+}
+
+impl Refers<Functions> for Line {
+    ghost refs = { λ line. line.function_id ∷ [] };
+
+    fn meet(&self, met: &mut Met) -> Result<(), Memory> {
+        meet_id(self.function_id, met)
+    }
+}
+
+impl Refers<Functions> for Location {
+    ghost refs = { function_refs };
+
+    fn meet(&self, met: &mut Met) -> Result<(), Memory> {
+        meet_each::<Functions, Line>(self.line.as_slice(), met)
+    }
+}
+
+impl Refers<Texts> for i64 {
+    ghost refs = { text_ids };
+
+    fn meet(&self, met: &mut Met) -> Result<(), Memory> {
+        meet_text(*self, met)
+    }
+}
+
+impl Refers<Texts> for ValueType {
+    ghost refs = { type_text_ids };
+
+    fn meet(&self, met: &mut Met) -> Result<(), Memory> {
+        meet_text(self.kind, met)?;
+        meet_text(self.unit, met)
+    }
+}
+
+impl Refers<Texts> for Label {
+    ghost refs = { label_text_ids };
+
+    fn meet(&self, met: &mut Met) -> Result<(), Memory> {
+        meet_text(self.key, met)?;
+        meet_text(self.text, met)?;
+        meet_text(self.num_unit, met)
+    }
+}
+
+impl Refers<Texts> for Sample {
+    ghost refs = { sample_text_ids };
+
+    fn meet(&self, met: &mut Met) -> Result<(), Memory> {
+        meet_each::<Texts, Label>(self.label.as_slice(), met)
+    }
+}
+
+impl Refers<Texts> for Mapping {
+    ghost refs = { mapping_text_ids };
+
+    fn meet(&self, met: &mut Met) -> Result<(), Memory> {
+        meet_text(self.file, met)?;
+        meet_text(self.build_id, met)
+    }
+}
+
+impl Refers<Texts> for Function {
+    ghost refs = { function_text_ids };
+
+    fn meet(&self, met: &mut Met) -> Result<(), Memory> {
+        meet_text(self.name, met)?;
+        meet_text(self.system_name, met)?;
+        meet_text(self.filename, met)
+    }
+}

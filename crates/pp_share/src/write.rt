@@ -1,0 +1,113 @@
+//! A profile's tables in the order in which a walk over its samples meets their entries.
+ghost use Rattle.std.specs.Prelude.{◌≡◌, ◌<◌, ◌^◌, length, IfOk, OnOk};
+ghost use Rattle.pp_share.specs.Walked.{locations_met, with_locations, first_id, mappings_met, with_mappings, functions_met, with_functions, texts_met, with_texts, walked_texts_of, walked, IsWalked};
+ghost use Rattle.pp_share.specs.Walk.{met_after, profile_text_ids, header_text_ids};
+
+use crate::gather::gather;
+use crate::ids::Ids;
+use crate::met::Met;
+use crate::renumbering::{Renumbering, renumber};
+use crate::walk::{Functions, Locations, Mappings, Refers, Texts, meet_each, meet_id};
+use pp_base::Memory;
+use pp_model::{Function, Location, Mapping, Profile, Sample, ValueType};
+use std::alloc::Global;
+
+/// The profile with what its samples name, in the order in which a walk over them meets it: mappings after the first
+/// one, locations, functions, and texts after text 0. Ids are places plus 1, and all else is left out.
+pub fn write(alloc: Global, mut p: Profile) -> Result<Profile, Memory>
+    ensures { IfOk result (λ r. IsWalked p r) }
+{
+    let location = Ids::Listed(keep_locations(alloc, &mut p)?);
+    let mapping = Ids::Listed(keep_mappings(alloc, &mut p)?);
+    let function = Ids::Listed(keep_functions(alloc, &mut p)?);
+    let text = Ids::Listed(keep_texts(alloc, &mut p)?);
+    let by = Renumbering {
+        text,
+        mapping,
+        function,
+        location,
+    };
+    renumber(&mut p, &by);
+    Ok(p)
+}
+
+// Keeps the locations of the samples, and gives their ids in order.
+fn keep_locations(alloc: Global, p: &mut Profile) -> Result<Met, Memory>
+    ensures met { IfOk result (λ met. met ≡ locations_met p.old) }
+    ensures kept { OnOk result (p.new ≡ with_locations p.old) }
+{
+    let mut met = Met::new(alloc, p.location.len().saturating_add(1))?;
+    meet_each::<Locations, Sample>(p.sample.as_slice(), &mut met)?;
+    p.location = gather(alloc, p.location.as_slice(), met.as_slice())?;
+    Ok(met)
+}
+
+// Keeps the first mapping and those of the locations, and gives their ids in order.
+fn keep_mappings(alloc: Global, p: &mut Profile) -> Result<Met, Memory>
+    ensures met { IfOk result (λ met. met ≡ mappings_met p.old) }
+    ensures kept { OnOk result (p.new ≡ with_mappings p.old) }
+{
+    let mut met = Met::new(alloc, p.mapping.len().saturating_add(1))?;
+    meet_id(first_id(p), &mut met)?;
+    meet_each::<Mappings, Location>(p.location.as_slice(), &mut met)?;
+    p.mapping = gather(alloc, p.mapping.as_slice(), met.as_slice())?;
+    Ok(met)
+}
+
+// The id of the first mapping, and 0 where there is none.
+fn first_id(p: &Profile) -> u64
+    ensures { result ≡ first_id p.now }
+{
+    if p.mapping.len() == 0 { 0 } else { 1 }
+}
+
+// Keeps the functions of the locations, and gives their ids in order.
+fn keep_functions(alloc: Global, p: &mut Profile) -> Result<Met, Memory>
+    ensures met { IfOk result (λ met. met ≡ functions_met p.old) }
+    ensures kept { OnOk result (p.new ≡ with_functions p.old) }
+{
+    let mut met = Met::new(alloc, p.function.len().saturating_add(1))?;
+    meet_each::<Functions, Location>(p.location.as_slice(), &mut met)?;
+    p.function = gather(alloc, p.function.as_slice(), met.as_slice())?;
+    Ok(met)
+}
+
+// Keeps the texts that the profile names, and gives their ids in order.
+fn keep_texts(alloc: Global, p: &mut Profile) -> Result<Met, Memory>
+    ensures met { IfOk result (λ met. met ≡ texts_met p.old) }
+    ensures few { IfOk result (λ met. length met < 2 ^ 62) }
+    ensures kept { OnOk result (p.new ≡ with_texts p.old) }
+{
+    let mut met = Met::new(alloc, p.text.len().saturating_add(1))?;
+    meet_texts(p, &mut met)?;
+    // No memory holds so many, and an index of a text has 63 bits.
+    if met.len() >= 1 << 62 {
+        return Err(Memory);
+    }
+    p.text = gather(alloc, p.text.as_slice(), met.as_slice())?;
+    Ok(met)
+}
+
+// Meets the texts in the order in which they are numbered.
+fn meet_texts(p: &Profile, met: &mut Met) -> Result<(), Memory>
+    ensures { OnOk result (met.new ≡ met_after met.old (profile_text_ids p.now)) }
+{
+    meet_id(1, met)?;
+    meet_each::<Texts, ValueType>(p.sample_type.as_slice(), met)?;
+    meet_each::<Texts, Sample>(p.sample.as_slice(), met)?;
+    meet_each::<Texts, Mapping>(p.mapping.as_slice(), met)?;
+    meet_each::<Texts, Function>(p.function.as_slice(), met)?;
+    meet_header(p, met)
+}
+
+// Meets the texts that the header names after its types.
+fn meet_header(p: &Profile, met: &mut Met) -> Result<(), Memory>
+    ensures { OnOk result (met.new ≡ met_after met.old (header_text_ids p.now)) }
+{
+    <i64 as Refers<Texts>>::meet(&p.drop_frames, met)?;
+    <i64 as Refers<Texts>>::meet(&p.keep_frames, met)?;
+    <ValueType as Refers<Texts>>::meet(&p.period_type, met)?;
+    meet_each::<Texts, i64>(p.comment.as_slice(), met)?;
+    <i64 as Refers<Texts>>::meet(&p.default_sample_type, met)?;
+    <i64 as Refers<Texts>>::meet(&p.doc_url, met)
+}
