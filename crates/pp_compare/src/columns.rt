@@ -36,7 +36,7 @@ fn figure_name(sort: Sort) -> &'static [u8]
     }
 }
 
-// "%10s %10s %10s %8s": before, after, change and change%. The scratch text is written over.
+/// Appends before, after, change and change%: `"%10s %10s %10s %8s"`. The scratch text is written over.
 pub fn put_columns(
     head: &Head,
     d: &Difference,

@@ -5,8 +5,11 @@ ghost use Rattle.pp_compare.specs.Rows.{wrapped};
 /// A figure of the base, of the source, and how far the source's is above the base's.
 #[derive(Clone, Copy, Debug)]
 pub struct Difference {
+    /// The figure over the base's samples, as the base alone has it.
     pub before: i64,
+    /// The figure over the other samples.
     pub after: i64,
+    /// The figure over all samples: `after` less `before`.
     pub change: i64,
 }
 

@@ -23,10 +23,15 @@ use std::alloc::Global;
 /// What the rows of keys are made of.
 #[derive(Clone, Copy)]
 pub struct Table<'a> {
+    /// The profile whose keys they are.
     pub l: &'a Loaded,
+    /// The sums over all samples, by key number.
     pub sums: &'a Sums,
+    /// The sums over the base's samples, by key number. Their values are negated.
     pub base: &'a BaseSums,
+    /// Which figure of a key is compared.
     pub sort: Sort,
+    /// How values are printed.
     pub head: &'a Head,
 }
 

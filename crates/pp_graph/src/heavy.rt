@@ -26,7 +26,9 @@ pub struct Row<'a> {
 /// The rows of the heavy keys, and how many keys are too light.
 #[derive(Drop)]
 pub struct Heavy<'a> {
+    /// A row for each heavy key, in report order.
     pub rows: Vec<Row<'a>>,
+    /// How many keys are too light.
     pub light: u64,
 }
 

@@ -15,6 +15,7 @@ pub struct Hooks {
 /// An edge, linked into the list of its caller and into that of its callee.
 #[derive(Clone, Copy, Debug, PartialEq, Eq)]
 pub struct Slot {
+    /// The edge with its weight.
     pub edge: Edge,
     /// Beside it in the list of the edges that leave its caller.
     pub out: Hooks,
@@ -27,6 +28,7 @@ pub struct Slot {
 /// A node, with the first edge of its two lists.
 #[derive(Clone, Copy, Debug, PartialEq, Eq)]
 pub struct Spot {
+    /// The node with its sums.
     pub node: Node,
     /// The first edge that leaves it.
     pub first_out: Option<u64>,

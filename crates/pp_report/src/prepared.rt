@@ -8,7 +8,9 @@ use pp_model::{Loaded, Verdicts};
 /// What the patterns of a report find, and what its samples come to.
 #[derive(Drop)]
 pub struct Counts {
+    /// What the patterns find, by text or by tag.
     pub verdicts: Verdicts,
+    /// What the samples that the filters leave come to.
     pub counted: Counted,
 }
 
@@ -17,6 +19,7 @@ pub struct Counts {
 pub struct Prepared {
     /// A line for each option that is in force and matches nothing.
     pub notes: Text,
+    /// The column of values, and the unit that is asked for.
     pub shows: Shows,
     /// None for a comments report, which counts nothing.
     pub counts: Option<Counts>,

@@ -12,7 +12,9 @@ use std::alloc::Global;
 /// Keys with their sums, and by a key's number the table of its tags.
 #[derive(Drop)]
 pub struct KeyTable {
+    /// The keys of labels, by number.
     pub keys: TagTable,
+    /// By a key's number, its tags.
     pub tags: Vec<TagTable>,
 }
 

@@ -23,7 +23,9 @@ use std::alloc::Global;
 /// The tags that were counted so far, and where each label that was seen has its tag: so a label's texts are read once.
 #[derive(Drop)]
 pub struct TagCounts {
+    /// The keys and their tags so far.
     pub keys: KeyTable,
+    /// Where the tag of a label stands that was seen before.
     pub places: IndexMap<Label, TagPlace>,
 }
 

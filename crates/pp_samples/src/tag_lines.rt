@@ -31,8 +31,11 @@ use std::cmp::Ordering;
 /// A tag with what the samples come to that have it, and its number in its table.
 #[derive(Clone, Copy)]
 pub struct TagLine<'a> {
+    /// What the tag says.
     pub name: &'a TagName,
+    /// What the samples that have it come to.
     pub sum: TagSum,
+    /// Its number in its table, in the order of first sight.
     pub number: u64,
 }
 

@@ -13,12 +13,15 @@ use std::cmp::Ordering;
 /// A key with its text, or with its number and the number's unit. A key alone has the empty text.
 #[derive(Debug, Drop, PartialEq, Eq, Hash)]
 pub struct TagName {
+    /// The label's key.
     pub key: Vec<u8>,
+    /// Whether it is a number label.
     pub is_number: bool,
     /// The text of a text label.
     pub text: Vec<u8>,
     /// The number of a number label, in its unit.
     pub num: i64,
+    /// The unit of the number, empty where there is none.
     pub unit: Vec<u8>,
 }
 

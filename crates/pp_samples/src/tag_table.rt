@@ -34,7 +34,9 @@ impl TagSum {
 /// Tags with their sums.
 #[derive(Drop)]
 pub struct TagTable {
+    /// The tags, by number.
     pub names: TagNames,
+    /// By a tag's number, what its samples come to.
     pub sums: Vec<TagSum>,
 }
 

@@ -30,9 +30,11 @@ const SEPARATOR: &[u8] = b"-----------+-----------------------------------------
 /// What all samples of a report are written by.
 #[derive(Clone, Copy)]
 pub struct Traces<'a> {
+    /// The profile, and what the report asks of it.
     pub scope: Scope<'a>,
     /// What the patterns on frames find.
     pub tables: &'a VerdictTables,
+    /// The lines of frames, by key number.
     pub lines: &'a FrameLines,
 }
 

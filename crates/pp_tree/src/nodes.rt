@@ -32,9 +32,13 @@ const NODE_GAP: &[u8] = b"                     | ";
 /// What the lines of all nodes are made of.
 #[derive(Clone, Copy)]
 pub struct Table<'a> {
+    /// The profile whose keys the nodes are.
     pub p: &'a Profile,
+    /// The sums of each key, by key number.
     pub sums: &'a Sums,
+    /// The edges that are shown, linked by their ends.
     pub graph: &'a Graph,
+    /// How values are printed.
     pub head: &'a Head,
 }
 
