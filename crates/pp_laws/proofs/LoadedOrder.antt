@@ -119,7 +119,7 @@ loaded_order_is_free p samples f config column values own_starts moved =
     let first : IsSettled (contents p []) = settled_contents p [] starts in
     let second : IsSettled (contents q []) = settled_contents q [] starts in
     same_figures (sees_item f config column) (value_item f config column) (is_base_item f config column) (contents p []).samples (contents q []).samples
-    (sums_moved same_sample sample_decides (length p.sample_type) (all_samples (p ∷ [])) (all_samples (q ∷ [])) items_moved wide (contents p []).samples (contents q []).samples refl refl first.apart second.apart)
+    (sums_moved same_sample sample_decides (length p.sample_type) (all_samples (p ∷ [])) (all_samples (q ∷ [])) items_moved wide)
     (merged p []) (merged q []) f config column (contents_told f config column (contents p []) first) (contents_told f config column (contents q []) second)
     (λ text. sym (column_is (merged p []) text)
     ∙ ap (λ (c : Contents). column_by c.header text) (contents_again (contents p []) first)

@@ -1,26 +1,29 @@
 -- Keys with values in another order, and the sums of each key.
-use Rattle.std.proofs.Common.{◌≡◌, ℕ, ◌<◌, Bool, true, false, cond, not, ◌||◌, ℤ, pos, List, [], ◌∷◌, length, map, get_or, Option, Some, None, refl, sym, ap, subst, ◌∙◌}
+use Rattle.std.proofs.Common.{◌≡◌, ℕ, ◌<◌, Bool, true, false, cond, not, ◌||◌, ℤ, pos, List, [], ◌∷◌, length, map, get_or, Some, None, refl, sym, ap, subst, ◌∙◌}
 use Rattle.std.specs.Prelude.{is_some, find}
 use Rattle.std.specs.Bool.{Decides}
 use Rattle.std.specs.Map.{lookup}
-use Rattle.std.specs.List.{AllByRecursion, IsDistinct, filter, list_any}
+use Rattle.std.specs.Ordering.{int_eq}
+use Rattle.std.specs.List.{AllByRecursion, IsDistinct, filter, list_any, list_all}
 use Rattle.std.specs.List.Sorted.{IsPermutation}
 use Rattle.std.proofs.lemmas.List.{ext_get_or}
 use Rattle.std.proofs.lemmas.List.Sorted.{IsPermutation-refl, IsPermutation-trans, IsPermutation-cons, IsPermutation-middle, IsPermutation-map, list_any-IsPermutation, All-permutation}
-use Rattle.std.proofs.lemmas.Map.Entries.{lookup-filter-keys}
+use Rattle.std.proofs.lemmas.Map.Entries.{option_filter, lookup-filter-keys, lookup-filter-values}
 use Rattle.std.proofs.lemmas.Map.Keys.{IsDistinct-head, IsDistinct-tail}
 use Rattle.std.proofs.lemmas.Map.Made.{IsDistinct-keys_filter}
 use Rattle.std.proofs.lemmas.Option.{none-some, same_Some}
 use Rattle.std.proofs.lemmas.List.Elements.{All-from_recursion, recursion_from_All}
 use Rattle.pp_model.specs.FirstSight.{distinct}
+use Rattle.pp_model.proofs.FirstSightLemmas.{distinct_apart}
 use Rattle.pp_share.specs.Sums.{counts, keys_of, rows_of, summed, sum_of}
 use Rattle.pp_share.proofs.DistinctLemmas.{deciding_laws}
 use Rattle.pp_share.proofs.NumberedLemmas.{all_mapped}
 use Rattle.pp_share.proofs.Once.{find_distinct}
 use Rattle.pp_share.proofs.SumLemmas.{length-total_of}
 use Rattle.pp_merge.proofs.MergedTotals.{at_total}
-use Rattle.pp_merge.proofs.SettledLemmas.{all_filtered}
+use Rattle.pp_merge.proofs.SettledLemmas.{all_any, all_filtered}
 use Rattle.pp_merge.proofs.TotalLemmas.{total-map, adding_ℤ}
+use Rattle.pp_merge.proofs.WrittenAgain.{map_back}
 use Rattle.pp_laws.proofs.Grouped.{total_passing}
 use Rattle.pp_laws.proofs.IntSums.{sum_over, sum_permuted}
 use Rattle.pp_laws.proofs.Shards.{sum_total}
@@ -79,31 +82,21 @@ module _ {K X : Type 0} (same : K → K → Bool) (decides : (a b : K) → Decid
 
 -- Keys with rows of values, in another order.
 module _ {K : Type 0} (same : K → K → Bool) (decides : (a b : K) → Decides (same a b) (a ≡ b)) (columns : ℕ) where
-  -- the sum of a key, where it counts
-  abbrev counted : (K → List ℤ) → K → Option (List ℤ)
-  counted sum key = cond (counts (key, sum key)) (Some (sum key)) None
-
-  -- what the sums that count have for a key
-  looked_up : (sum : K → List ℤ) (q : K) (keys : List K)
-      → lookup (same q) (filter counts (map (λ key. (key, sum key)) keys)) ≡ cond (list_any (same q) keys) (counted sum q) None
+  -- the sum that a key has, where it is one of these
+  looked_up : (sum : K → List ℤ) (q : K) (keys : List K) → lookup (same q) (map (λ key. (key, sum key)) keys) ≡ cond (list_any (same q) keys) (Some (sum q)) None
   looked_up sum q [] = refl
   looked_up sum q (k ∷ keys) =
-      let rest : List (K × List ℤ) = filter counts (map (λ key. (key, sum key)) keys) in
-      let later : lookup (same q) rest ≡ cond (list_any (same q) keys) (counted sum q) None = looked_up sum q keys in
-      let passed : (b : Bool) → counted sum q ≡ None → cond b (counted sum q) None ≡ None = λ b none.
-      elim b as (λ t. cond t (counted sum q) None ≡ None) [ true ↦ none | false ↦ refl ] in
-      let own : lookup (same q) (cond (counts (q, sum q)) ((q, sum q) ∷ rest) rest) ≡ counted sum q =
-      elim (counts (q, sum q)) as (λ t. counts (q, sum q) ≡ t → lookup (same q) (cond t ((q, sum q) ∷ rest) rest) ≡ cond t (Some (sum q)) None) [
-        | true ↦ λ is. ap (λ b. cond b (Some (sum q)) (lookup (same q) rest)) ((decides q q).1 refl)
-        | false ↦ λ is. later ∙ passed (list_any (same q) keys) (ap (λ t. cond t (Some (sum q)) None) is)
-      ] refl in
-      elim (same q k) as (λ b. same q k ≡ b → lookup (same q) (cond (counts (k, sum k)) ((k, sum k) ∷ rest) rest) ≡ cond (b || list_any (same q) keys) (counted sum q) None) [
-        | true ↦ λ is. subst (λ x. lookup (same q) (cond (counts (x, sum x)) ((x, sum x) ∷ rest) rest) ≡ counted sum q) ((decides q k).0 is) own
-        | false ↦ λ is. elim (counts (k, sum k)) as (λ t. lookup (same q) (cond t ((k, sum k) ∷ rest) rest) ≡ cond (list_any (same q) keys) (counted sum q) None) [
-          | true ↦ ap (λ b. cond b (Some (sum k)) (lookup (same q) rest)) is ∙ later
-          | false ↦ later
-        ]
+      elim (same q k) as (λ b. same q k ≡ b → cond b (Some (sum k)) (lookup (same q) (map (λ key. (key, sum key)) keys)) ≡ cond (b || list_any (same q) keys) (Some (sum q)) None) [
+        | true ↦ λ is. ap (λ key. Some (sum key)) (sym ((decides q k).0 is))
+        | false ↦ λ is. looked_up sum q keys
       ] refl
+
+  keys_apart : (items : List (K × List ℤ)) → IsDistinct same (keys_of same (summed same columns items))
+  keys_apart items =
+      let keys : List K = distinct same (keys_of same items) in
+      subst (IsDistinct same)
+      (sym (map_back (λ (item : K × List ℤ). item.0) (λ key. (key, sum_of same columns items key)) keys (all_any _ (λ key. refl) keys)))
+      (distinct_apart same (deciding_laws same decides) (keys_of same items))
 
   -- the value of a column, of the sum of a key
   at_sum : (items : List (K × List ℤ)) → AllByRecursion (λ item. length item.1 ≡ columns) items → (key : K) (column : ℕ) → column < columns
@@ -132,7 +125,7 @@ module _ {K : Type 0} (same : K → K → Bool) (decides : (a b : K) → Decides
         let inside : column < columns = subst (λ n. column < n) (length-total_of columns (rows_of same xs key)) within in
         at_sum xs wide key column inside
         ∙ sym (sum_permuted (λ item. cond (same key item.0) (get_or item.1 column (pos 0)) (pos 0)) xs ys moved)
-        ∙ sym (at_sum ys (wide_moved) key column inside))
+        ∙ sym (at_sum ys wide_moved key column inside))
 
     -- and each key of the ones is a key of the others
     key_moved : (key : K) → list_any (same key) (distinct same (keys_of same xs)) ≡ list_any (same key) (distinct same (keys_of same ys))
@@ -143,10 +136,16 @@ module _ {K : Type 0} (same : K → K → Bool) (decides : (a b : K) → Decides
         once xs ∙ list_any-IsPermutation (same key) (keys_of same xs) (keys_of same ys) (IsPermutation-map (λ (item : K × List ℤ). item.0) xs ys moved) ∙ sym (once ys)
 
     -- So the sums that count are the same, in another order.
-    pub sums_moved : (some others : List (K × List ℤ)) → some ≡ filter counts (summed same columns xs) → others ≡ filter counts (summed same columns ys)
-        → IsDistinct same (keys_of same some) → IsDistinct same (keys_of same others) → IsPermutation some others
-    sums_moved some others some_is others_is apart others_apart =
-        same_entries same decides some others apart others_apart (λ q.
-        ap (lookup (same q)) some_is ∙ looked_up (sum_of same columns xs) q (distinct same (keys_of same xs))
-        ∙ (λ i. cond (key_moved q i) (cond (counts (q, sum_moved q i)) (Some (sum_moved q i)) None) None)
-        ∙ sym (looked_up (sum_of same columns ys) q (distinct same (keys_of same ys))) ∙ sym (ap (lookup (same q)) others_is))
+    pub sums_moved : IsPermutation (filter counts (summed same columns xs)) (filter counts (summed same columns ys))
+    sums_moved =
+        let some_value : List ℤ → Bool = λ row. not (list_all (int_eq (pos 0)) row) in
+        let counted : (q : K) (items : List (K × List ℤ)) → lookup (same q) (filter counts (summed same columns items)) ≡ option_filter some_value (lookup (same q) (summed same columns items)) = λ q items.
+        lookup-filter-values (deciding_laws same decides) some_value q (summed same columns items) (keys_apart items) in
+        same_entries same decides (filter counts (summed same columns xs)) (filter counts (summed same columns ys))
+        (IsDistinct-keys_filter same counts (summed same columns xs) (keys_apart xs)) (IsDistinct-keys_filter same counts (summed same columns ys) (keys_apart ys))
+        (λ q.
+        counted q xs
+        ∙ ap (option_filter some_value)
+        (looked_up (sum_of same columns xs) q (distinct same (keys_of same xs)) ∙ (λ i. cond (key_moved q i) (Some (sum_moved q i)) None)
+        ∙ sym (looked_up (sum_of same columns ys) q (distinct same (keys_of same ys))))
+        ∙ sym (counted q ys))
