@@ -1,7 +1,7 @@
 -- A comparison shows both sides.
-use Rattle.std.proofs.Common.{◌≡◌, ℕ, ◌+◌, ◌<◌, ◌^◌, Bool, true, false, true≢false, cond, not, ◌&&◌, ◌||◌, ℤ, pos, neg_ℤ, ◌+ℤ◌, ◌-ℤ◌, List, [], ◌∷◌, ◌++◌, length, map, get_or, Option, Some, refl, sym, ap, ◌∙◌, append_assoc, length-append, arith}
+use Rattle.std.proofs.Common.{◌≡◌, ℕ, ◌+◌, Bool, true, false, true≢false, cond, not, ◌&&◌, ◌||◌, ℤ, pos, neg_ℤ, ◌+ℤ◌, ◌-ℤ◌, List, [], ◌∷◌, ◌++◌, length, map, get_or, Option, Some, refl, sym, ap, ◌∙◌, append_assoc, length-append, arith}
 use Rattle.std.specs.Prelude.{codes, bytes_eq}
-use Rattle.std.specs.List.{AllByRecursion, filter, list_any}
+use Rattle.std.specs.List.{filter, list_any}
 use Rattle.std.specs.Option.{option_map_or}
 use Rattle.std.proofs.Math.Seq.{get_or-append_seam}
 use Rattle.std.proofs.lemmas.Int.{ints}
@@ -21,7 +21,7 @@ use Rattle.pp_grain.specs.Keys.{key_cmp}
 use Rattle.pp_share.specs.Described.{LabelText, label_text}
 use Rattle.pp_share.proofs.NumberedLemmas.{all_mapped}
 use Rattle.pp_merge.specs.Merge.{merged}
-use Rattle.pp_merge.specs.Scale.{base_label, base_texts}
+use Rattle.pp_merge.specs.Scale.{base_label}
 use Rattle.pp_merge.proofs.SettledLemmas.{all_any}
 use Rattle.pp_merge.proofs.TotalLemmas.{total, total_same, adding_ℤ}
 use Rattle.pp_count.specs.Base.{has_base, base_report_samples}
@@ -71,10 +71,10 @@ sides_are_apart p f config column = record {
 }
 
 -- whether labels say that their sample is a base's
-abbrev tell_base : List LabelText → Bool
+abbrev pub tell_base : List LabelText → Bool
 tell_base labels = list_any (λ label. bytes_eq label.key (codes "pprof::base") && bytes_eq label.text (codes "true")) labels
 
-base_told : (p : Profile) (s : Sample) → is_base p s ≡ tell_base (map (label_text (text_of p)) s.label)
+pub base_told : (p : Profile) (s : Sample) → is_base p s ≡ tell_base (map (label_text (text_of p)) s.label)
 base_told p s = sym (list_any-map (label_text (text_of p)) (λ label. bytes_eq label.key (codes "pprof::base") && bytes_eq label.text (codes "true")) s.label)
 
 neither : (a b : Bool) → (a || b) ≡ false → (a ≡ false) × (b ≡ false)

@@ -12,7 +12,7 @@ use Rattle.pp_model.specs.FirstSight.{distinct}
 use Rattle.pp_share.specs.Described.{SampleText, location_found, sample_text, samples_found}
 use Rattle.pp_share.specs.Alike.{same_sample, first_alike}
 use Rattle.pp_merge.specs.Merge.{all_mappings, all_samples, contents}
-use Rattle.pp_share.specs.Sums.{added, counts, keys_of, rows_of, summed, sum_of}
+use Rattle.pp_share.specs.Sums.{counts, keys_of, rows_of, summed, sum_of}
 use Rattle.pp_share.proofs.Deciding.{sample_decides}
 use Rattle.pp_share.proofs.DistinctLemmas.{deciding_laws}
 use Rattle.pp_model.proofs.FirstSightLemmas.{IsSeen, all_seen, distinct_apart}

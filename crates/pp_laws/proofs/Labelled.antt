@@ -36,7 +36,8 @@ use Rattle.pp_laws.proofs.Multiplying.{value_negated, if_negated}
 use Rattle.pp_laws.proofs.Grouped.{told_in}
 use Rattle.pp_laws.proofs.Tagging.{tags_told, selects_told}
 use Rattle.pp_laws.proofs.Telling.{told_from}
-use Rattle.pp_laws.proofs.Shards.{passes, says, shards_add_up}
+use Rattle.pp_laws.proofs.SeenAs.{passes}
+use Rattle.pp_laws.proofs.Shards.{says, shards_add_up}
 use Rattle.pp_laws.proofs.Subtracting.{said, figure, alone, added_less, total_negated}
 
 -- More texts change nothing of what a valid profile says.

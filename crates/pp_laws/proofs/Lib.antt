@@ -12,8 +12,10 @@ pub mod Grouped
 pub mod Stages
 pub mod Telling
 pub mod Tagging
-pub mod Alone
+pub mod SeenAs
 pub mod Shards
 pub mod Subtracting
 pub mod Labelled
-mod Comparing
+pub mod Comparing
+mod SumsMoved
+mod LoadedOrder

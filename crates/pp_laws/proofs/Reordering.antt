@@ -1,5 +1,5 @@
 -- The order of samples does not matter.
-use Rattle.std.proofs.Common.{◌≡◌, ℕ, ◌+◌, Bool, true, false, cond, not, ◌&&◌, ◌||◌, pos, nat_abs, List, [], ◌∷◌, Option, Some, None, refl, sym, ap, ◌∙◌, arith}
+use Rattle.std.proofs.Common.{◌≡◌, ℕ, ◌+◌, Bool, true, false, cond, not, ◌&&◌, ◌||◌, ℤ, pos, nat_abs, List, [], ◌∷◌, Option, Some, None, option_map, refl, sym, ap, ◌∙◌, arith}
 use Rattle.std.specs.List.{filter, filter_map, list_any, sum_by, cons_option}
 use Rattle.std.specs.List.Sorted.{IsPermutation}
 use Rattle.std.specs.Option.{is_some, option_map_or}
@@ -10,15 +10,16 @@ use Rattle.std.proofs.lemmas.Map.Views.{any-filter_same}
 use Rattle.pp_model.specs.declared.config.Config.{Config}
 use Rattle.pp_model.specs.declared.config.Sort.{Sort}
 use Rattle.pp_model.specs.declared.config.Sort.TheVariants as sorts
+use Rattle.pp_model.specs.declared.frame.Frame.{Frame}
 use Rattle.pp_model.specs.declared.profile.Profile.{Profile}
 use Rattle.pp_model.specs.declared.profile.Sample.{Sample}
 use Rattle.pp_model.specs.Finders.{Finders}
 use Rattle.pp_model.specs.FrameTexts.{Written}
 use Rattle.pp_grain.specs.Keys.{key_cmp}
-use Rattle.pp_count.specs.Column.{selected}
+use Rattle.pp_count.specs.Column.{column_of, selected}
 use Rattle.pp_count.specs.Sums.{Seen, weighed, sum_where, has, leads, occurs, flat, cum, all_keys}
 use Rattle.pp_count.specs.EdgeSums.{has_edge}
-use Rattle.pp_count.specs.Seeing.{filtered_stack, seen}
+use Rattle.pp_count.specs.Seeing.{filtered_stack, seen_with, seen}
 use Rattle.pp_count.specs.Counts.{is_base, filtered_samples, total_by, total_over, total_of}
 use Rattle.pp_count.specs.Counted.{report_samples}
 use Rattle.pp_count.specs.Ranks.{by_size, each_once, is_heavy}
@@ -26,7 +27,7 @@ use Rattle.pp_count.proofs.Renaming.{all_keys_occur}
 use Rattle.pp_count.proofs.Ties.{tied}
 use Rattle.pp_graph.specs.Trim.{is_heavy_key, report_order, shown_keys}
 use Rattle.pp_graph.proofs.Ordering.{report_total, report_same}
-use Rattle.pp_laws.specs.Order.{with_samples, OrderIsFree}
+use Rattle.pp_laws.specs.Order.{HaveSameFigures, with_samples, OrderIsFree}
 use Rattle.pp_laws.proofs.IntSums.{sum_permuted}
 use Rattle.pp_laws.proofs.Sampling.{part, sum_seen}
 use Rattle.pp_laws.proofs.Listed.{each_once_same}
@@ -62,7 +63,7 @@ same_order sorts.Flat ss ts flats cums = λ i. then_cmp (by_size (flats i)) (the
 same_order sorts.Cum ss ts flats cums = λ i. then_cmp (by_size (cums i)) (then_cmp (by_size (flats i)) key_cmp)
 
 -- samples with the same sums and the same keys show the same rows
-pub same_rows : (sort : Sort) (total other billionths : ℕ) (ss ts : List (Seen Written)) → total ≡ other
+same_rows : (sort : Sort) (total other billionths : ℕ) (ss ts : List (Seen Written)) → total ≡ other
     → ((k : Written) → flat key_cmp ss k ≡ flat key_cmp ts k) → ((k : Written) → cum key_cmp ss k ≡ cum key_cmp ts k)
     → ((k : Written) → occurs key_cmp ss k ≡ occurs key_cmp ts k)
     → each_once (report_order key_cmp sort ss) (filter (is_heavy_key key_cmp total billionths ss) (all_keys ss))
@@ -79,52 +80,86 @@ same_rows sort total other billionths ss ts totals flats cums occur =
     ∙ ap (λ b. heavy k && b) (all_keys_occur key_cmp ss k ∙ occur k ∙ sym (all_keys_occur key_cmp ts k))
     ∙ sym (among (all_keys ts) k) ∙ (λ i. list_any (sym ties i k) (filter heavy (all_keys ts))))
 
-module _ (p : Profile) (samples : List Sample) (f : Finders) (config : Config) (column : Option ℕ) (moved : IsPermutation p.sample samples) where
-  sums : (test : List Written → Bool) → sum_where test (report_samples p f config column) ≡ sum_where test (report_samples (with_samples samples p) f config column)
-  sums test =
-      sum_seen test (seen p f config column) p.sample
-      ∙ sym (sum_permuted (λ s. option_map_or (part test) (seen p f config column s) (pos 0)) p.sample samples moved)
-      ∙ sym (sum_seen test (seen p f config column) samples)
+-- What reports are told from: items of which each is seen or dropped, has a value, and is of the base or isn't.
+module _ {X : Type 0} (sees : X → Option (Seen Written)) (value : X → ℤ) (is_one : X → Bool) where
+  -- what an item adds to a sum over all, or over those that the filters leave
+  abbrev among : Bool → (X → ℕ) → X → ℕ
+  among relative size x = cond (cond relative (is_some (sees x)) true) (size x) 0
 
-  finds : (test : List Written → Bool) → list_any (λ s. test s.keys) (report_samples p f config column) ≡ list_any (λ s. test s.keys) (report_samples (with_samples samples p) f config column)
-  finds test =
-      any_seen (λ s. test s.keys) (seen p f config column) p.sample
-      ∙ list_any-IsPermutation (λ s. option_map_or (λ t. not (int_eq t.value (pos 0)) && test t.keys) (seen p f config column s) false) p.sample samples moved
-      ∙ sym (any_seen (λ s. test s.keys) (seen p f config column) samples)
+  -- what it adds to the total of all, and to that of the base
+  abbrev pub all_size : Bool → X → ℕ
+  all_size relative = among relative (λ x. nat_abs (value x))
 
+  abbrev pub base_size : Bool → X → ℕ
+  base_size relative = among relative (λ x. cond (is_one x) (nat_abs (value x)) 0)
+
+  -- A report of the profile is told from these items.
+  pub record IsToldFrom (xs : List X) (p : Profile) (f : Finders) (config : Config) (column : Option ℕ) : Type 0 where
+    pub samples : report_samples p f config column ≡ weighed (filter_map sees xs)
+    pub total : total_of p f config column
+        ≡ total_by (sum_by (base_size config.relative_percentages) xs) (sum_by (all_size config.relative_percentages) xs)
+
+  -- Reports that are told from the same items, in any order, have the same figures.
+  module _ (xs ys : List X) (moved : IsPermutation xs ys) (p q : Profile) (f : Finders) (config : Config) (column : Option ℕ)
+      (first : IsToldFrom xs p f config column) (second : IsToldFrom ys q f config column) where
+    sums : (test : List Written → Bool) → sum_where test (report_samples p f config column) ≡ sum_where test (report_samples q f config column)
+    sums test =
+        ap (sum_where test) first.samples ∙ sum_seen test sees xs
+        ∙ sym (sum_permuted (λ x. option_map_or (part test) (sees x) (pos 0)) xs ys moved)
+        ∙ sym (sum_seen test sees ys) ∙ ap (sum_where test) (sym second.samples)
+
+    finds : (test : List Written → Bool) → list_any (λ s. test s.keys) (report_samples p f config column) ≡ list_any (λ s. test s.keys) (report_samples q f config column)
+    finds test =
+        ap (list_any (λ s. test s.keys)) first.samples ∙ any_seen (λ s. test s.keys) sees xs
+        ∙ list_any-IsPermutation (λ x. option_map_or (λ s. not (int_eq s.value (pos 0)) && test s.keys) (sees x) false) xs ys moved
+        ∙ sym (any_seen (λ s. test s.keys) sees ys) ∙ ap (list_any (λ s. test s.keys)) (sym second.samples)
+
+    totals : total_of p f config column ≡ total_of q f config column
+    totals =
+        first.total
+        ∙ (λ i. total_by (sym (sum_by-IsPermutation (base_size config.relative_percentages) xs ys moved) i) (sym (sum_by-IsPermutation (all_size config.relative_percentages) xs ys moved) i))
+        ∙ sym second.total
+
+    pub same_figures : ((text : List ℕ) → column_of p text ≡ column_of q text) → HaveSameFigures p q f config column
+    same_figures columns = record {
+      columns = columns;
+      occur = λ k. finds (has key_cmp k);
+      flat = λ k. sums (leads key_cmp k);
+      cum = λ k. sums (has key_cmp k);
+      edge_occurs = λ kept a b. finds (has_edge key_cmp kept a b);
+      edge = λ kept a b. sums (has_edge key_cmp kept a b);
+      total = totals;
+      rows = λ limit. ap (shown_keys limit) (same_rows config.sort (total_of p f config column) (total_of q f config column) config.nodefraction.billionths
+          (report_samples p f config column) (report_samples q f config column) totals
+          (λ k. sums (leads key_cmp k)) (λ k. sums (has key_cmp k)) (λ k. finds (has key_cmp k)));
+    }
+
+module _ (p : Profile) (f : Finders) (config : Config) (column : Option ℕ) where
   abbrev size : Sample → ℕ
   size s = nat_abs (selected column config.divide_by s)
 
-  sizes : (test : Sample → Bool) → sum_by size (filter test p.sample) ≡ sum_by size (filter test samples)
-  sizes test = sum_filtered size test p.sample ∙ sym (sum_by-IsPermutation (λ s. cond (test s) (size s) 0) p.sample samples moved) ∙ sym (sum_filtered size test samples)
+  -- the total as sums over all samples
+  total_told : total_of p f config column
+      ≡ total_by (sum_by (base_size (seen p f config column) (selected column config.divide_by) (is_base p) config.relative_percentages) p.sample)
+      (sum_by (all_size (seen p f config column) (selected column config.divide_by) (is_base p) config.relative_percentages) p.sample)
+  total_told =
+      let kept_seen : (s : Sample) → is_some (filtered_stack p f config s) ≡ is_some (seen p f config column s) = λ s.
+      elim (filtered_stack p f config s) as (λ (o : Option (List Frame)). is_some o ≡ is_some (option_map (seen_with p config column s) o)) [ None ↦ refl | Some stack ↦ refl ] in
+      elim config.relative_percentages as (λ b. total_over p config column (cond b (filtered_samples p f config p.sample) p.sample)
+      ≡ total_by (sum_by (base_size (seen p f config column) (selected column config.divide_by) (is_base p) b) p.sample)
+      (sum_by (all_size (seen p f config column) (selected column config.divide_by) (is_base p) b) p.sample)) [
+        | true ↦
+            let kept : Sample → Bool = λ s. is_some (seen p f config column s) in
+            (λ i. total_over p config column (filter (λ s. kept_seen s i) p.sample))
+            ∙ (λ i. total_by ((sum_filtered size (is_base p) (filter kept p.sample) ∙ sum_filtered (λ s. cond (is_base p s) (size s) 0) kept p.sample) i) (sum_filtered size kept p.sample i))
+        | false ↦ λ i. total_by (sum_filtered size (is_base p) p.sample i) (sum_by size p.sample)
+      ]
 
-  filtered_sizes : (first second : Sample → Bool) → sum_by size (filter second (filter first p.sample)) ≡ sum_by size (filter second (filter first samples))
-  filtered_sizes first second =
-      sum_filtered size second (filter first p.sample)
-      ∙ sum_filtered (λ s. cond (second s) (size s) 0) first p.sample
-      ∙ sym (sum_by-IsPermutation (λ s. cond (first s) (cond (second s) (size s) 0) 0) p.sample samples moved)
-      ∙ sym (sum_filtered (λ s. cond (second s) (size s) 0) first samples)
-      ∙ sym (sum_filtered size second (filter first samples))
-
-  totals : total_of p f config column ≡ total_of (with_samples samples p) f config column
-  totals = elim config.relative_percentages as (λ b. total_over p config column (cond b (filtered_samples p f config p.sample) p.sample) ≡ total_over p config column (cond b (filtered_samples p f config samples) samples)) [
-    | true ↦ λ i. total_by (filtered_sizes (λ s. is_some (filtered_stack p f config s)) (is_base p) i) (sizes (λ s. is_some (filtered_stack p f config s)) i)
-    | false ↦ λ i. total_by (sizes (is_base p) i) (sym (sum_by-IsPermutation (λ s. nat_abs (selected column config.divide_by s)) p.sample samples moved) i)
-  ]
+  -- A report is told from the profile's own samples.
+  pub own_told : IsToldFrom (seen p f config column) (selected column config.divide_by) (is_base p) p.sample p f config column
+  own_told = record { samples = refl; total = total_told }
 
 pub order_is_free : OrderIsFree
-order_is_free p samples f config column moved = record {
-  columns = λ text. refl;
-  occur = λ k. finds p samples f config column moved (has key_cmp k);
-  flat = λ k. sums p samples f config column moved (leads key_cmp k);
-  cum = λ k. sums p samples f config column moved (has key_cmp k);
-  edge_occurs = λ kept a b. finds p samples f config column moved (has_edge key_cmp kept a b);
-  edge = λ kept a b. sums p samples f config column moved (has_edge key_cmp kept a b);
-  total = totals p samples f config column moved;
-  rows = λ limit. ap (shown_keys limit) (same_rows config.sort (total_of p f config column) (total_of (with_samples samples p) f config column) config.nodefraction.billionths
-      (report_samples p f config column) (report_samples (with_samples samples p) f config column)
-      (totals p samples f config column moved)
-      (λ k. sums p samples f config column moved (leads key_cmp k))
-      (λ k. sums p samples f config column moved (has key_cmp k))
-      (λ k. finds p samples f config column moved (has key_cmp k)));
-}
+order_is_free p samples f config column moved =
+    same_figures (seen p f config column) (selected column config.divide_by) (is_base p) p.sample samples moved p (with_samples samples p) f config column
+    (own_told p f config column) (own_told (with_samples samples p) f config column) (λ text. refl)

@@ -1,11 +1,13 @@
 -- The order of samples does not matter.
-use Rattle.std.specs.Prelude.{◌≡◌, ℕ, Bool, List, Option}
+use Rattle.std.specs.Prelude.{◌≡◌, ℕ, ◌<◌, ◌^◌, Bool, List, [], length, Option}
+use Rattle.std.specs.List.{AllByRecursion}
 use Rattle.std.specs.List.Sorted.{IsPermutation}
 use Rattle.pp_model.specs.declared.config.Config.{Config}
 use Rattle.pp_model.specs.declared.profile.Profile.{Profile}
 use Rattle.pp_model.specs.declared.profile.Sample.{Sample}
 use Rattle.pp_model.specs.Finders.{Finders}
 use Rattle.pp_model.specs.FrameTexts.{Written}
+use Rattle.pp_merge.specs.Merge.{merged}
 use Rattle.pp_grain.specs.Keys.{key_cmp}
 use Rattle.pp_count.specs.Column.{column_of}
 use Rattle.pp_count.specs.Sums.{occurs, flat, cum}
@@ -13,6 +15,7 @@ use Rattle.pp_count.specs.EdgeSums.{edge_occurs, edge_sum}
 use Rattle.pp_count.specs.Counts.{total_of}
 use Rattle.pp_count.specs.Counted.{report_samples}
 use Rattle.pp_graph.specs.Trim.{report_keys}
+use Rattle.pp_laws.specs.Merged.{HasValues}
 
 -- Reports of the two profiles show the same keys, edges and figures.
 pub record HaveSameFigures (p q : Profile) (f : Finders) (config : Config) (column : Option ℕ) : Type 0 where
@@ -45,3 +48,12 @@ OrderIsFree =
     (p : Profile) (samples : List Sample) (f : Finders) (config : Config) (column : Option ℕ)
     → IsPermutation p.sample samples
     → HaveSameFigures p (with_samples samples p) f config column
+
+-- So have the two once each is loaded, which merges it alone and numbers its tables anew, along the samples: where each
+-- sample has a value for each type, and no mapping starts past 64 bits.
+abbrev pub LoadedOrderIsFree : Type 0
+LoadedOrderIsFree =
+    (p : Profile) (samples : List Sample) (f : Finders) (config : Config) (column : Option ℕ)
+    → HasValues (length p.sample_type) p → AllByRecursion (λ m. m.start < 2 ^ 64) p.mapping
+    → IsPermutation p.sample samples
+    → HaveSameFigures (merged p []) (merged (with_samples samples p) []) f config column

@@ -22,7 +22,7 @@ pub use bounds::{
 pub use compared::comparisons_show_both_sides;
 pub use flats::nothing_is_lost;
 pub use merged::merged_reports_are_sums;
-pub use order::order_of_samples_is_free;
+pub use order::{order_in_a_file_is_free, order_of_samples_is_free};
 pub use parts::focus_and_ignore_part;
 pub use rows::trimming_only_hides;
 pub use scales::{bases_count_against, scaling_scales};
