@@ -1,2 +1,7 @@
 pub mod ChangeLemmas
 pub mod ValidLemmas
+pub mod FilterLemmas
+pub mod FrameLemmas
+pub mod LastLemmas
+pub mod StackLemmas
+pub mod ReportLemmas

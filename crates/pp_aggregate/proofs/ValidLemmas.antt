@@ -1,5 +1,5 @@
 -- A valid profile with what is kept of it is valid, and a compact one is compact.
-use Rattle.std.proofs.Common.{◌≡◌, ℕ, zero, suc, Bool, true, false, cond, ◌&&◌, List, [], ◌∷◌, map, length, drop, refl, sym, ap, ap₂, ◌∙◌, subst, arith}
+use Rattle.std.proofs.Common.{◌≡◌, ℕ, zero, suc, Bool, true, false, cond, ◌&&◌, List, [], ◌∷◌, map, length, drop, get_or, refl, sym, ap, ap₂, ◌∙◌, subst, arith}
 use Rattle.std.specs.Prelude.{ℤ, None, nat_lt}
 use Rattle.std.specs.List.{list_all}
 use Rattle.std.proofs.lemmas.Bool.{and_parts, false≢true, lt-ltb}
@@ -11,6 +11,7 @@ use Rattle.pp_model.specs.declared.profile.Line.{Line}
 use Rattle.pp_model.specs.declared.profile.Location.{Location}
 use Rattle.pp_model.specs.declared.profile.Mapping.{Mapping}
 use Rattle.pp_model.specs.declared.profile.Profile.{Profile}
+use Rattle.pp_model.specs.Lookup.{text_at}
 use Rattle.pp_model.specs.Rules.{NoRuleFails, IsCompact, AreNumbered, begins_empty, zero_unless, is_text, is_zero_or_in, stands_in, mapping_ids, function_ids, location_ids, mapping_has_texts, function_has_texts, location_refers, first_failing, first_repeated}
 use Rattle.pp_model.proofs.RuleLemmas.{passes}
 use Rattle.pp_share.proofs.NumberedLemmas.{all_by, all_mapped, nowhere}
@@ -47,6 +48,15 @@ begins false is = absurd (none-some 0 (sym is))
 some_text : (texts : List (List ℕ)) → begins_empty texts ≡ true → nat_lt 0 (length texts) ≡ true
 some_text [] is = absurd (false≢true is)
 some_text (text ∷ texts) is = lt-ltb 0 (length (text ∷ texts)) (omega arith)
+
+empty_text : (texts : List (List ℕ)) → begins_empty texts ≡ true → get_or texts 0 [] ≡ []
+empty_text [] is = refl
+empty_text ([] ∷ texts) is = refl
+empty_text ((b ∷ bs) ∷ texts) is = absurd (false≢true is)
+
+-- text 0 is empty
+pub first_empty : (p : Profile) → NoRuleFails p → text_at p 0 ≡ []
+first_empty p valid = empty_text p.text (begins (begins_empty p.text) valid.text_zero)
 
 module _ (keep : Kept) (p : Profile) where
   abbrev kept : Profile

@@ -1,6 +1,7 @@
 //! What a profile keeps, and the profile with that alone.
 ghost use Rattle.std.specs.Prelude.{◌≡◌, map};
 ghost use Rattle.pp_model.specs.Rules.{IsCompact};
+ghost use Rattle.pp_model.specs.Sizes.{IsCountable};
 ghost use Rattle.pp_aggregate.specs.Aggregated.{aggregated, aggregated_mapping, aggregated_function};
 
 use crate::location::aggregate_locations;
@@ -29,6 +30,7 @@ pub struct Kept {
 pub fn aggregate(p: Valid, keep: &Kept) -> Valid
     ensures same { result ≡ aggregated keep.now p }
     ensures compact { IsCompact p → IsCompact result }
+    ensures countable { IsCountable p → IsCountable result }
 {
     let mut p = p.into_profile();
     aggregate_tables(&mut p, keep);

@@ -3,6 +3,8 @@
 #![tactic(auto)]
 
 mod aggregating;
+mod law;
 mod location;
 
 pub use aggregating::{Kept, aggregate};
+pub use law::coarser_reports_stay;

@@ -1,0 +1,239 @@
+-- Reports of an aggregated profile.
+use Rattle.std.proofs.Common.{◌≡◌, ℕ, ◌+◌, Bool, true, false, cond, not, ◌&&◌, ◌||◌, pos, List, [], ◌∷◌, map, Option, Some, None, option_map, refl, sym, ap, ◌∙◌}
+use Rattle.std.specs.List.{filter, filter_map, cons_option}
+use Rattle.std.specs.Option.{is_some, option_map_or}
+use Rattle.std.proofs.lemmas.Bool.{and_parts, false≢true}
+use Rattle.std.proofs.lemmas.Option.{none-some}
+use Rattle.pp_model.specs.declared.config.Config.{Config}
+use Rattle.pp_model.specs.declared.config.Grain.{Grain}
+use Rattle.pp_model.specs.declared.config.Grain.TheVariants.{Functions, FileFunctions, Files, Lines, Addresses}
+use Rattle.pp_model.specs.declared.frame.Frame.{Frame}
+use Rattle.pp_model.specs.declared.profile.Profile.{Profile}
+use Rattle.pp_model.specs.declared.profile.Sample.{Sample}
+use Rattle.pp_model.specs.Finders.{Finder, Finders}
+use Rattle.pp_model.specs.FrameTexts.{Written, written}
+use Rattle.pp_model.specs.Frames.{stack_of}
+use Rattle.pp_model.specs.Lookup.{text_at}
+use Rattle.pp_model.specs.Rules.{NoRuleFails, begins_empty, zero_unless}
+use Rattle.pp_grain.specs.Keys.{key_texts, with_object, column_if}
+use Rattle.pp_stack.specs.Filters.{filtered, frames_of_sample}
+use Rattle.pp_count.specs.Column.{selected}
+use Rattle.pp_count.specs.Sums.{Seen, renamed, weighed}
+use Rattle.pp_count.specs.Seeing.{counted_frames, keys_of_stack, key_of_frame, passes_tags, filtered_stack, framed_with, framed_samples, numbers_from, filtered_from}
+use Rattle.pp_count.specs.Counts.{filtered_samples, total_over, total_of}
+use Rattle.pp_count.specs.Counted.{report_samples, report_frames}
+use Rattle.pp_count.proofs.CallerLemmas.{key_of_written, weighed-renamed, keyed_report}
+use Rattle.pp_count.proofs.Keyed.{map_twice}
+use Rattle.pp_aggregate.specs.declared.aggregating.Kept.{Kept}
+use Rattle.pp_aggregate.specs.Aggregated.{number_if, aggregated}
+use Rattle.pp_aggregate.specs.Left.{left_of, keeps_lines, keeps_keys, keeps_counted, finds, names, prunes, FindsLeft, AsksNoFrame, patterns_stay, FramesStay}
+use Rattle.pp_aggregate.specs.Laws.{KeysStay, AreLeft, FramesAreLeft, SamplesStay, PatternsStay}
+use Rattle.pp_aggregate.proofs.FilterLemmas.{same_filtered, unfiltered}
+use Rattle.pp_aggregate.proofs.StackLemmas.{frames_whole, frame_whole, counted_left}
+use Rattle.pp_aggregate.proofs.ValidLemmas.{first_empty}
+
+-- what keys of lines look at
+record LineParts (keep : Kept) (showcolumns : Bool) : Type 0 where
+  functions : keep.functions ≡ true
+  filenames : keep.filenames ≡ true
+  lines : keep.lines ≡ true
+  columns : (not showcolumns || keep.columns) ≡ true
+
+line_parts : (keep : Kept) (showcolumns : Bool) → keeps_lines keep showcolumns ≡ true → LineParts keep showcolumns
+line_parts keep showcolumns all =
+    let (functions, others) = and_parts _ _ all in
+    let (filenames, numbers) = and_parts _ _ others in
+    let (lines, columns) = and_parts _ _ numbers in
+    record { functions = functions; filenames = filenames; lines = lines; columns = columns }
+
+-- a column that is shown is kept
+column_left : (showcolumns columns : Bool) (column : _) → (not showcolumns || columns) ≡ true → column_if showcolumns (number_if columns column) ≡ column_if showcolumns column
+column_left true columns column shown = ap (λ b. number_if b column) shown
+column_left false columns column shown = refl
+
+-- a key of a line with what is left of it
+lines_left : (keep : Kept) (showcolumns : Bool) (w : Written) (address left : ℕ) → LineParts keep showcolumns → left ≡ address
+    → with_object (record {
+      function = cond keep.functions w.function [];
+      file = cond keep.filenames w.file [];
+      line = number_if keep.lines w.line;
+      column = column_if showcolumns (number_if (keep.lines && keep.columns) w.column);
+      address = left;
+      object = [];
+    }) w.object
+    ≡ with_object (record {
+      function = w.function;
+      file = w.file;
+      line = w.line;
+      column = column_if showcolumns w.column;
+      address = address;
+      object = [];
+    }) w.object
+lines_left keep showcolumns w address left parts same = λ i. with_object (record {
+  function = cond (parts.functions i) w.function [];
+  file = cond (parts.filenames i) w.file [];
+  line = number_if (parts.lines i) w.line;
+  column = column_left showcolumns (keep.lines && keep.columns) w.column ((λ j. not showcolumns || (parts.lines j && keep.columns)) ∙ parts.columns) i;
+  address = same i;
+  object = [];
+}) w.object
+
+-- A key that looks at nothing that is dropped is the same of what is left.
+key_left : (keep : Kept) (grain : Grain) (showcolumns : Bool) (w : Written) → keeps_keys keep grain showcolumns ≡ true
+    → key_texts grain showcolumns (left_of keep w) ≡ key_texts grain showcolumns w
+key_left keep Functions showcolumns w all = λ i.
+    with_object (record { function = cond (all i) w.function []; file = []; line = pos 0; column = pos 0; address = 0; object = [] }) w.object
+key_left keep FileFunctions showcolumns w all =
+    let (functions, filenames) = and_parts _ _ all in λ i.
+    with_object (record { function = cond (functions i) w.function []; file = cond (filenames i) w.file []; line = pos 0; column = pos 0; address = 0; object = [] }) w.object
+key_left keep Files showcolumns w all = λ i.
+    with_object (record { function = []; file = cond (all i) w.file []; line = pos 0; column = pos 0; address = 0; object = [] }) w.object
+key_left keep Lines showcolumns w all = lines_left keep showcolumns w 0 0 (line_parts keep showcolumns all) refl
+key_left keep Addresses showcolumns w all =
+    let (lines, addresses) = and_parts _ _ all in
+    lines_left keep showcolumns w w.address (cond keep.addresses w.address 0) (line_parts keep showcolumns lines) (ap (λ b. cond b w.address 0) addresses)
+
+-- what is seen of samples, with something else in the place of keys
+seen_mapped : {X J K : Type 0} (f : J → K) (g : X → Option (Seen J)) (xs : List X)
+    → filter_map (λ x. option_map (renamed f) (g x)) xs ≡ map (renamed f) (filter_map g xs)
+seen_mapped f g [] = refl
+seen_mapped f g (x ∷ xs) =
+    (λ i. cons_option (option_map (renamed f) (g x)) (seen_mapped f g xs i))
+    ∙ elim (g x) as (λ o. cons_option (option_map (renamed f) o) (map (renamed f) (filter_map g xs)) ≡ map (renamed f) (cons_option o (filter_map g xs))) [
+      | None ↦ refl
+      | Some s ↦ refl
+    ]
+
+module _ (keep : Kept) (p : Profile) (f : Finders) (config : Config) (column : Option ℕ) (empty : text_at p 0 ≡ []) where
+  abbrev kept : Profile
+  kept = aggregated keep p
+
+  -- what is seen of a sample
+  abbrev framed : Profile → Sample → Option (Seen Written)
+  framed q s = option_map (framed_with q config column s) (filtered_stack q f config s)
+
+  -- The sample is dropped as before, or has what is left of its frames that count.
+  record IsLeft (s : Sample) : Type 0 where
+    some : is_some (filtered_stack kept f config s) ≡ is_some (filtered_stack p f config s)
+    frames : framed kept s ≡ option_map (renamed (left_of keep)) (framed p s)
+
+  -- of one stack
+  stack_left : (s : Sample) (o : Option (List Frame)) → ((x : Frame) → written kept x ≡ left_of keep (written p x))
+      → option_map (framed_with kept config column s) o ≡ option_map (renamed (left_of keep)) (option_map (framed_with p config column s) o)
+  stack_left s None each = refl
+  stack_left s (Some stack) each = λ i. Some (record {
+    value = selected column config.divide_by s;
+    keys = ((λ j. map (λ x. each x j) (counted_frames config.noinlines stack)) ∙ sym (map_twice (left_of keep) (written p) (counted_frames config.noinlines stack))) i;
+  })
+
+  -- with inlined frames
+  whole_left : keep.inline_frames ≡ true → FindsLeft keep p f → (s : Sample) → IsLeft s
+  whole_left whole left s =
+      let each : (x : Frame) → written kept x ≡ left_of keep (written p x) = frame_whole keep p empty whole in
+      let stays : (test : Written → Bool) → ((x : Frame) → test (left_of keep (written p x)) ≡ test (written p x)) → (x : Frame) → test (written kept x) ≡ test (written p x) = λ test same x.
+      ap test (each x) ∙ same x in
+      let stacks : frames_of_sample kept f s ≡ frames_of_sample p f s =
+      ap (λ stack. frames_of_stack (written kept) stack) (frames_whole keep p empty whole 0 s.location_id)
+      ∙ same_filtered (written kept) (written p) f (record {
+        drop = stays (prunes f) left.drop;
+        focus = stays (finds f.focus) left.focus;
+        ignore = stays (finds f.ignore) left.ignore;
+        hide = stays (finds f.hide) left.hide;
+        show = stays (finds f.show) left.show;
+        show_from = stays (finds f.show_from) left.show_from;
+        prune_from = stays (names f.prune_from) left.prune_from;
+      }) (stack_of p s) in
+      let filtered_same : filtered_stack kept f config s ≡ filtered_stack p f config s = ap (λ o. cond (passes_tags p f config s) o None) stacks in
+      record {
+        some = ap is_some filtered_same;
+        frames = ap (option_map (framed_with kept config column s)) filtered_same ∙ stack_left s (filtered_stack p f config s) each;
+      }
+    where
+      frames_of_stack : (Frame → Written) → List Frame → Option (List Frame)
+      frames_of_stack told stack = filtered told f stack
+
+  -- without them
+  last_left : keeps_counted keep config ≡ true → AsksNoFrame f → (s : Sample) → IsLeft s
+  last_left counted none s =
+      let before : filtered_stack p f config s ≡ cond (passes_tags p f config s) (Some (stack_of p s)) None =
+      ap (λ o. cond (passes_tags p f config s) o None) (unfiltered (written p) f (stack_of p s) none) in
+      let after : filtered_stack kept f config s ≡ cond (passes_tags p f config s) (Some (stack_of kept s)) None =
+      ap (λ o. cond (passes_tags p f config s) o None) (unfiltered (written kept) f (stack_of kept s) none) in
+      record {
+        some = ap is_some after ∙ by_tags (passes_tags p f config s) ∙ sym (ap is_some before);
+        frames =
+            ap (option_map (framed_with kept config column s)) after
+            ∙ framed_tags (passes_tags p f config s) (counted_left keep p empty config.noinlines 0 s.location_id counted)
+            ∙ sym (ap (λ o. option_map (renamed (left_of keep)) (option_map (framed_with p config column s) o)) before);
+      }
+    where
+      by_tags : (b : Bool) → is_some (cond b (Some (stack_of kept s)) None) ≡ is_some (cond b (Some (stack_of p s)) None)
+      by_tags true = refl
+      by_tags false = refl
+
+      framed_tags : (b : Bool)
+          → map (written kept) (counted_frames config.noinlines (stack_of kept s)) ≡ map (left_of keep) (map (written p) (counted_frames config.noinlines (stack_of p s)))
+          → option_map (framed_with kept config column s) (cond b (Some (stack_of kept s)) None)
+          ≡ option_map (renamed (left_of keep)) (option_map (framed_with p config column s) (cond b (Some (stack_of p s)) None))
+      framed_tags true keys = λ i. Some (record { value = selected column config.divide_by s; keys = keys i })
+      framed_tags false keys = refl
+
+  -- either way
+  each_left : FramesStay keep p f config → (s : Sample) → IsLeft s
+  each_left stay = by keep.inline_frames refl stay.patterns
+    where
+      by : (b : Bool) → keep.inline_frames ≡ b → patterns_stay b keep p f → (s : Sample) → IsLeft s
+      by true is patterns = whole_left is patterns
+      by false is patterns = last_left stay.counted patterns
+
+  module _ (stay : FramesStay keep p f config) where
+    some_left : (s : Sample) → is_some (filtered_stack kept f config s) ≡ is_some (filtered_stack p f config s)
+    some_left s = (each_left stay s).some
+
+    pub frames_left : report_frames kept f config column ≡ map (renamed (left_of keep)) (report_frames p f config column)
+    frames_left =
+        (λ i. weighed (filter_map (λ s. (each_left stay s).frames i) p.sample))
+        ∙ ap weighed (seen_mapped (left_of keep) (framed p) p.sample)
+        ∙ weighed-renamed (left_of keep) (framed_samples p f config column p.sample)
+
+    pub are_left : AreLeft keep p f config column
+    are_left = record {
+      numbers = λ i. numbers_from (λ s. some_left s i) 0 p.sample;
+      total = λ i. total_over p config column (cond config.relative_percentages (filter (λ s. some_left s i) p.sample) p.sample);
+      frames = frames_left;
+    }
+
+    pub samples_stay : keeps_keys keep config.grain config.showcolumns ≡ true → report_samples kept f config column ≡ report_samples p f config column
+    samples_stay all =
+        sym (keyed_report kept f config column)
+        ∙ ap (map (renamed (key_of_written config))) frames_left
+        ∙ map_twice (renamed (key_of_written config)) (renamed (left_of keep)) (report_frames p f config column)
+        ∙ (λ i. map (λ s. keys_same s i) (report_frames p f config column))
+        ∙ keyed_report p f config column
+      where
+        keys_same : (s : Seen Written) → renamed (key_of_written config) (renamed (left_of keep) s) ≡ renamed (key_of_written config) s
+        keys_same s = λ i. record {
+          value = s.value;
+          keys = (map_twice (key_of_written config) (left_of keep) s.keys ∙ (λ j. map (λ w. key_left keep config.grain config.showcolumns w all j) s.keys)) i;
+        }
+
+pub frames_are_left : FramesAreLeft
+frames_are_left keep p f config column valid stay = are_left keep p f config column (first_empty p valid) stay
+
+pub samples_are_same : SamplesStay
+samples_are_same keep p f config column valid stay all = samples_stay keep p f config column (first_empty p valid) stay all
+
+-- stacks that no filter cut
+pub keys_are_same : KeysStay
+keys_are_same keep p config s valid counted all =
+    sym (map_twice key (written kept) (counted_frames config.noinlines (stack_of kept s)))
+    ∙ ap (map key) (counted_left keep p (first_empty p valid) config.noinlines 0 s.location_id counted)
+    ∙ map_twice key (left_of keep) (map (written p) (counted_frames config.noinlines (stack_of p s)))
+    ∙ (λ i. map (λ w. key_left keep config.grain config.showcolumns w all i) (map (written p) (counted_frames config.noinlines (stack_of p s))))
+    ∙ map_twice key (written p) (counted_frames config.noinlines (stack_of p s))
+  where
+    kept : Profile
+    kept = aggregated keep p
+
+    key : Written → Written
+    key = key_of_written config
