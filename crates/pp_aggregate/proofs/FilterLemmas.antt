@@ -1,17 +1,17 @@
 -- Stack filters see of a frame what their patterns find.
-use Rattle.std.proofs.Common.{◌≡◌, Bool, true, false, cond, not, ◌&&◌, List, [], ◌∷◌, refl, sym, ap, ◌∙◌}
+use Rattle.std.proofs.Common.{◌≡◌, Bool, true, false, cond, not, ◌&&◌, List, [], ◌∷◌, refl, ◌∙◌}
 use Rattle.std.specs.Prelude.{filter, Option, Some, None, option_map}
 use Rattle.std.specs.List.{list_any}
 use Rattle.std.specs.Option.{option_map_or}
 use Rattle.pp_model.specs.Finders.{Finder, Finders}
 use Rattle.pp_model.specs.FrameTexts.{Written}
 use Rattle.pp_stack.specs.Runs.{up_to_last, from_first, pruned}
-use Rattle.pp_stack.specs.Filters.{finds_frame, finds_function, is_prunable, load_pruned, is_kept, not_hidden, shown, cut, shown_from, pruned_from, is_empty, is_emptied, shortened, passed, filtered}
+use Rattle.pp_stack.specs.Filters.{finds_frame, finds_function, is_prunable, load_pruned, is_kept, not_hidden, shown, cut, shown_from, pruned_from, is_emptied, shortened, passed, filtered}
 use Rattle.pp_aggregate.specs.Left.{finds, names, prunes, AsksNoFrame}
 
 module _ {X : Type 0} (t u : X → Written) where
   -- what depends on a pattern's answers alone
-  by_answers : {A : Type 0} (test : Finder → Written → Bool) (of : (X → Bool) → A) (other : A) (pattern : Option Finder)
+  pub by_answers : {A : Type 0} (test : Finder → Written → Bool) (of : (X → Bool) → A) (other : A) (pattern : Option Finder)
       → ((x : X) → option_map_or (λ find. test find (t x)) pattern false ≡ option_map_or (λ find. test find (u x)) pattern false)
       → option_map_or (λ find. of (λ x. test find (t x))) pattern other ≡ option_map_or (λ find. of (λ x. test find (u x))) pattern other
   by_answers test of other None same = refl
@@ -28,7 +28,7 @@ module _ {X : Type 0} (t u : X → Written) where
     pub prune_from : (x : X) → names f.prune_from (t x) ≡ names f.prune_from (u x)
 
   module _ (f : Finders) (same : FindSame f) where
-    same_pruned : (stack : List X) → load_pruned t f stack ≡ load_pruned u f stack
+    pub same_pruned : (stack : List X) → load_pruned t f stack ≡ load_pruned u f stack
     same_pruned stack = by_answers (λ drop. is_prunable drop f.keep) (λ test. pruned test stack) stack f.drop same.drop
 
     same_kept : (stack : List X) → is_kept t f stack ≡ is_kept u f stack

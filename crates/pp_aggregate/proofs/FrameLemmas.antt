@@ -1,11 +1,8 @@
 -- What frames of an aggregated profile stand for.
-use Rattle.std.proofs.Common.{◌≡◌, ◌≢◌, ℕ, zero, suc, ◌+◌, ◌-◌, ◌==◌, Bool, true, false, cond, not, ◌&&◌, ◌||◌, ℤ, pos, List, [], ◌∷◌, ◌++◌, map, length, drop, get_or, Option, Some, None, option_map, refl, sym, ap, ◌∙◌, arith}
-use Rattle.std.specs.Prelude.{find, slice_get}
-use Rattle.std.specs.List.{range_with_len}
+use Rattle.std.proofs.Common.{◌≡◌, ℕ, ◌==◌, Bool, true, false, cond, ◌&&◌, ℤ, pos, List, [], ◌∷◌, map, get_or, Option, Some, None, option_map, refl, ap, ◌∙◌}
+use Rattle.std.specs.Prelude.{find}
 use Rattle.std.specs.Option.{option_and_then, option_map_or}
 use Rattle.std.proofs.Math.ListN.{get_or-map}
-use Rattle.std.proofs.lemmas.List.{length-map}
-use Rattle.std.proofs.lemmas.Option.{slice_get-map}
 use Rattle.pp_model.specs.declared.frame.Frame.{Frame}
 use Rattle.pp_model.specs.declared.profile.Function.{Function}
 use Rattle.pp_model.specs.declared.profile.Line.{Line}
@@ -14,10 +11,10 @@ use Rattle.pp_model.specs.declared.profile.Mapping.{Mapping}
 use Rattle.pp_model.specs.declared.profile.Profile.{Profile}
 use Rattle.pp_model.specs.Conditions.{no_location, location_at}
 use Rattle.pp_model.specs.Lookup.{text_at, text_number, function_with, mapping_with}
-use Rattle.pp_model.specs.Frames.{row_frame, rows, frames_from, line_at}
+use Rattle.pp_model.specs.Frames.{line_at}
 use Rattle.pp_model.specs.FrameTexts.{Written, written}
 use Rattle.pp_aggregate.specs.declared.aggregating.Kept.{Kept}
-use Rattle.pp_aggregate.specs.Aggregated.{number_if, aggregated_mapping, aggregated_function, aggregated_line, aggregated_location, aggregated, outermost}
+use Rattle.pp_aggregate.specs.Aggregated.{number_if, aggregated_mapping, aggregated_function, aggregated_line, aggregated_location, aggregated}
 use Rattle.pp_aggregate.specs.Left.{left_of}
 
 -- a search that a change of the items doesn't see

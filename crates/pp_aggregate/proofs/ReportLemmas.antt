@@ -1,9 +1,8 @@
 -- Reports of an aggregated profile.
-use Rattle.std.proofs.Common.{◌≡◌, ℕ, ◌+◌, Bool, true, false, cond, not, ◌&&◌, ◌||◌, pos, List, [], ◌∷◌, map, Option, Some, None, option_map, refl, sym, ap, ◌∙◌}
-use Rattle.std.specs.List.{filter, filter_map, cons_option}
+use Rattle.std.proofs.Common.{◌≡◌, ℕ, Bool, true, false, cond, not, ◌&&◌, ◌||◌, pos, List, [], ◌∷◌, map, Option, Some, None, option_map, refl, sym, ap, ◌∙◌}
+use Rattle.std.specs.List.{filter, filter_map, cons_option, list_any}
 use Rattle.std.specs.Option.{is_some, option_map_or}
-use Rattle.std.proofs.lemmas.Bool.{and_parts, false≢true}
-use Rattle.std.proofs.lemmas.Option.{none-some}
+use Rattle.std.proofs.lemmas.Bool.{and_parts}
 use Rattle.pp_model.specs.declared.config.Config.{Config}
 use Rattle.pp_model.specs.declared.config.Grain.{Grain}
 use Rattle.pp_model.specs.declared.config.Grain.TheVariants.{Functions, FileFunctions, Files, Lines, Addresses}
@@ -14,21 +13,22 @@ use Rattle.pp_model.specs.Finders.{Finder, Finders}
 use Rattle.pp_model.specs.FrameTexts.{Written, written}
 use Rattle.pp_model.specs.Frames.{stack_of}
 use Rattle.pp_model.specs.Lookup.{text_at}
-use Rattle.pp_model.specs.Rules.{NoRuleFails, begins_empty, zero_unless}
 use Rattle.pp_grain.specs.Keys.{key_texts, with_object, column_if}
-use Rattle.pp_stack.specs.Filters.{filtered, frames_of_sample}
+use Rattle.pp_stack.specs.Filters.{finds_frame, load_pruned, filtered, frames_of_sample}
+use Rattle.pp_stack.proofs.ToldLemmas.{list_any-map}
 use Rattle.pp_count.specs.Column.{selected}
 use Rattle.pp_count.specs.Sums.{Seen, renamed, weighed}
-use Rattle.pp_count.specs.Seeing.{counted_frames, keys_of_stack, key_of_frame, passes_tags, filtered_stack, framed_with, framed_samples, numbers_from, filtered_from}
-use Rattle.pp_count.specs.Counts.{filtered_samples, total_over, total_of}
-use Rattle.pp_count.specs.Counted.{report_samples, report_frames}
+use Rattle.pp_count.specs.Seeing.{counted_frames, passes_tags, filtered_stack, framed_with, framed_samples, numbers_from}
+use Rattle.pp_count.specs.Counts.{total_over}
+use Rattle.pp_count.specs.Counted.{report_samples, report_frames, is_own}
+use Rattle.pp_count.specs.Matches.{frame_match, key_match, tag_match, matches_of}
 use Rattle.pp_count.proofs.CallerLemmas.{key_of_written, weighed-renamed, keyed_report}
 use Rattle.pp_count.proofs.Keyed.{map_twice}
 use Rattle.pp_aggregate.specs.declared.aggregating.Kept.{Kept}
 use Rattle.pp_aggregate.specs.Aggregated.{number_if, aggregated}
-use Rattle.pp_aggregate.specs.Left.{left_of, keeps_lines, keeps_keys, keeps_counted, finds, names, prunes, FindsLeft, AsksNoFrame, patterns_stay, FramesStay}
-use Rattle.pp_aggregate.specs.Laws.{KeysStay, AreLeft, FramesAreLeft, SamplesStay, PatternsStay}
-use Rattle.pp_aggregate.proofs.FilterLemmas.{same_filtered, unfiltered}
+use Rattle.pp_aggregate.specs.Left.{left_of, keeps_lines, keeps_keys, keeps_counted, finds, names, prunes, Stays, FindsLeft, AsksNoFrame, patterns_stay, FramesStay}
+use Rattle.pp_aggregate.specs.Laws.{KeysStay, AreLeft, FramesAreLeft, SamplesStay}
+use Rattle.pp_aggregate.proofs.FilterLemmas.{FindSame, by_answers, same_pruned, same_filtered, unfiltered}
 use Rattle.pp_aggregate.proofs.StackLemmas.{frames_whole, frame_whole, counted_left}
 use Rattle.pp_aggregate.proofs.ValidLemmas.{first_empty}
 
@@ -126,31 +126,68 @@ module _ (keep : Kept) (p : Profile) (f : Finders) (config : Config) (column : O
     keys = ((λ j. map (λ x. each x j) (counted_frames config.noinlines stack)) ∙ sym (map_twice (left_of keep) (written p) (counted_frames config.noinlines stack))) i;
   })
 
-  -- with inlined frames
+  -- With inlined frames patterns find the same.
+  find_same : keep.inline_frames ≡ true → FindsLeft keep p f → FindSame (written kept) (written p) f
+  find_same whole left = record {
+    drop = stays (prunes f) left.drop;
+    focus = stays (finds f.focus) left.focus;
+    ignore = stays (finds f.ignore) left.ignore;
+    hide = stays (finds f.hide) left.hide;
+    show = stays (finds f.show) left.show;
+    show_from = stays (finds f.show_from) left.show_from;
+    prune_from = stays (names f.prune_from) left.prune_from;
+  }
+    where
+      stays : (test : Written → Bool) → Stays keep p test → (x : Frame) → test (written kept x) ≡ test (written p x)
+      stays test same x = ap test (frame_whole keep p empty whole x) ∙ same x
+
   whole_left : keep.inline_frames ≡ true → FindsLeft keep p f → (s : Sample) → IsLeft s
   whole_left whole left s =
-      let each : (x : Frame) → written kept x ≡ left_of keep (written p x) = frame_whole keep p empty whole in
-      let stays : (test : Written → Bool) → ((x : Frame) → test (left_of keep (written p x)) ≡ test (written p x)) → (x : Frame) → test (written kept x) ≡ test (written p x) = λ test same x.
-      ap test (each x) ∙ same x in
       let stacks : frames_of_sample kept f s ≡ frames_of_sample p f s =
-      ap (λ stack. frames_of_stack (written kept) stack) (frames_whole keep p empty whole 0 s.location_id)
-      ∙ same_filtered (written kept) (written p) f (record {
-        drop = stays (prunes f) left.drop;
-        focus = stays (finds f.focus) left.focus;
-        ignore = stays (finds f.ignore) left.ignore;
-        hide = stays (finds f.hide) left.hide;
-        show = stays (finds f.show) left.show;
-        show_from = stays (finds f.show_from) left.show_from;
-        prune_from = stays (names f.prune_from) left.prune_from;
-      }) (stack_of p s) in
-      let filtered_same : filtered_stack kept f config s ≡ filtered_stack p f config s = ap (λ o. cond (passes_tags p f config s) o None) stacks in
+      ap (filtered (written kept) f) (frames_whole keep p empty whole 0 s.location_id)
+      ∙ same_filtered (written kept) (written p) f (find_same whole left) (stack_of p s) in
+      let same : filtered_stack kept f config s ≡ filtered_stack p f config s = ap (λ o. cond (passes_tags p f config s) o None) stacks in
       record {
-        some = ap is_some filtered_same;
-        frames = ap (option_map (framed_with kept config column s)) filtered_same ∙ stack_left s (filtered_stack p f config s) each;
+        some = ap is_some same;
+        frames = ap (option_map (framed_with kept config column s)) same ∙ stack_left s (filtered_stack p f config s) (frame_whole keep p empty whole);
       }
+
+  -- the pattern has a match where it had one
+  abbrev Matches : Option Finder → Type 0
+  Matches pattern = frame_match kept f pattern p.sample ≡ frame_match p f pattern p.sample
+
+  match_whole : keep.inline_frames ≡ true → FindsLeft keep p f → (pattern : Option Finder)
+      → ((x : Frame) → finds pattern (written kept x) ≡ finds pattern (written p x)) → Matches pattern
+  match_whole whole left pattern same =
+      (λ i. option_map_or (λ find. list_any (λ s. list_any (λ x. finds_frame find (written kept x)) (pruned_same s i)) p.sample) pattern false)
+      ∙ by_answers (written kept) (written p) finds_frame (λ test. list_any (λ s. list_any test (load_pruned (written p) f (stack_of p s))) p.sample) false pattern same
     where
-      frames_of_stack : (Frame → Written) → List Frame → Option (List Frame)
-      frames_of_stack told stack = filtered told f stack
+      pruned_same : (s : Sample) → load_pruned (written kept) f (stack_of kept s) ≡ load_pruned (written p) f (stack_of p s)
+      pruned_same s =
+          ap (load_pruned (written kept) f) (frames_whole keep p empty whole 0 s.location_id)
+          ∙ same_pruned (written kept) (written p) f (find_same whole left) (stack_of p s)
+
+  match_none : (pattern : Option Finder) → pattern ≡ None → Matches pattern
+  match_none pattern none =
+      ap (λ o. frame_match kept f o p.sample) none ∙ sym (ap (λ o. frame_match p f o p.sample) none)
+
+  matches_left : FramesStay keep p f config → matches_of kept f config ≡ matches_of p f config
+  matches_left stay = by keep.inline_frames refl stay.patterns
+    where
+      all : Matches f.focus → Matches f.ignore → Matches f.hide → Matches f.show → Matches f.show_from → matches_of kept f config ≡ matches_of p f config
+      all focus ignore hide show show_from = λ i.
+          focus i ∷ ignore i ∷ hide i ∷ show i ∷ show_from i
+          ∷ tag_match p config.tagfocus f.tagfocus p.sample ∷ tag_match p config.tagignore f.tagignore p.sample
+          ∷ true ∷ key_match p f.tagshow p.sample ∷ key_match p f.taghide p.sample ∷ []
+
+      by : (b : Bool) → keep.inline_frames ≡ b → patterns_stay b keep p f → matches_of kept f config ≡ matches_of p f config
+      by true is left =
+          let same = find_same is left in
+          let each = match_whole is left in
+          all (each f.focus same.focus) (each f.ignore same.ignore) (each f.hide same.hide) (each f.show same.show) (each f.show_from same.show_from)
+      by false is none =
+          all (match_none f.focus none.focus) (match_none f.ignore none.ignore) (match_none f.hide none.hide) (match_none f.show none.show)
+          (match_none f.show_from none.show_from)
 
   -- without them
   last_left : keeps_counted keep config ≡ true → AsksNoFrame f → (s : Sample) → IsLeft s
@@ -201,7 +238,17 @@ module _ (keep : Kept) (p : Profile) (f : Finders) (config : Config) (column : O
       numbers = λ i. numbers_from (λ s. some_left s i) 0 p.sample;
       total = λ i. total_over p config column (cond config.relative_percentages (filter (λ s. some_left s i) p.sample) p.sample);
       frames = frames_left;
+      matches = matches_left stay;
+      own = λ functions.
+          ap (list_any (λ s. list_any (is_own f) s.keys)) frames_left
+          ∙ list_any-map (renamed (left_of keep)) (λ s. list_any (is_own f) s.keys) (report_frames p f config column)
+          ∙ (λ i. list_any (λ s. own_left functions s.keys i) (report_frames p f config column));
     }
+      where
+        own_left : keep.functions ≡ true → (ws : List Written) → list_any (is_own f) (map (left_of keep) ws) ≡ list_any (is_own f) ws
+        own_left functions ws =
+            list_any-map (left_of keep) (is_own f) ws
+            ∙ (λ i. list_any (λ w. option_map_or (λ find. find (cond (functions i) w.function [])) f.own false) ws)
 
     pub samples_stay : keeps_keys keep config.grain config.showcolumns ≡ true → report_samples kept f config column ≡ report_samples p f config column
     samples_stay all =

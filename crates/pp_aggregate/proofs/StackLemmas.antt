@@ -1,5 +1,5 @@
 -- The frames of an aggregated profile's stacks that count.
-use Rattle.std.proofs.Common.{◌≡◌, ◌≢◌, ℕ, zero, suc, ◌+◌, ◌-◌, ◌==◌, Bool, true, false, cond, not, ◌||◌, List, [], ◌∷◌, ◌++◌, map, length, Option, Some, None, option_map, refl, sym, ap, ◌∙◌, arith}
+use Rattle.std.proofs.Common.{◌≡◌, ℕ, zero, suc, ◌+◌, ◌-◌, ◌==◌, Bool, true, false, cond, not, ◌||◌, List, [], ◌∷◌, ◌++◌, map, length, Option, Some, None, option_map, refl, sym, ap, ◌∙◌, arith}
 use Rattle.std.specs.Prelude.{slice_get}
 use Rattle.std.specs.List.{range_with_len}
 use Rattle.std.specs.Option.{option_and_then}
@@ -10,10 +10,9 @@ use Rattle.pp_model.specs.declared.frame.Frame.{Frame}
 use Rattle.pp_model.specs.declared.profile.Line.{Line}
 use Rattle.pp_model.specs.declared.profile.Location.{Location}
 use Rattle.pp_model.specs.declared.profile.Profile.{Profile}
-use Rattle.pp_model.specs.Conditions.{location_at}
 use Rattle.pp_model.specs.Lookup.{text_at}
-use Rattle.pp_model.specs.Frames.{row_frame, rows, frames_from, line_at, lines_at}
-use Rattle.pp_model.specs.FrameTexts.{Written, written}
+use Rattle.pp_model.specs.Frames.{row_frame, rows, frames_from, lines_at}
+use Rattle.pp_model.specs.FrameTexts.{written}
 use Rattle.pp_count.specs.Seeing.{counted_frames}
 use Rattle.pp_count.proofs.Keyed.{map_twice}
 use Rattle.pp_aggregate.specs.declared.aggregating.Kept.{Kept}

@@ -1,5 +1,5 @@
 -- A profile with what is kept of it.
-use Rattle.std.specs.Prelude.{ℕ, ◌-◌, ℤ, pos, Bool, ◌&&◌, List, length, map, drop, if◌then◌else◌}
+use Rattle.std.specs.Prelude.{◌-◌, ℤ, pos, Bool, ◌&&◌, List, length, map, drop, if◌then◌else◌}
 use Rattle.pp_model.specs.declared.profile.Function.{Function}
 use Rattle.pp_model.specs.declared.profile.Line.{Line}
 use Rattle.pp_model.specs.declared.profile.Location.{Location}

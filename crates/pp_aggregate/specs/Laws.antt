@@ -4,14 +4,14 @@ use Rattle.pp_model.specs.declared.config.Config.{Config}
 use Rattle.pp_model.specs.declared.profile.Profile.{Profile}
 use Rattle.pp_model.specs.declared.profile.Sample.{Sample}
 use Rattle.pp_model.specs.Finders.{Finders}
-use Rattle.pp_model.specs.FrameTexts.{written}
 use Rattle.pp_model.specs.Frames.{stack_of}
 use Rattle.pp_model.specs.Rules.{NoRuleFails}
 use Rattle.pp_count.specs.Column.{column_of}
 use Rattle.pp_count.specs.Sums.{renamed}
-use Rattle.pp_count.specs.Seeing.{counted_frames, keys_of_stack, framed_samples, seen_samples, filtered_from}
+use Rattle.pp_count.specs.Seeing.{keys_of_stack, filtered_from}
 use Rattle.pp_count.specs.Counts.{total_of}
-use Rattle.pp_count.specs.Counted.{report_samples, report_frames}
+use Rattle.pp_count.specs.Counted.{report_samples, report_frames, has_own_match}
+use Rattle.pp_count.specs.Matches.{matches_of}
 use Rattle.pp_aggregate.specs.declared.aggregating.Kept.{Kept}
 use Rattle.pp_aggregate.specs.Aggregated.{aggregated}
 use Rattle.pp_aggregate.specs.Left.{left_of, keeps_keys, keeps_counted, FramesStay, FindsLeft, AsksNoFrame}
@@ -25,7 +25,8 @@ KeysStay =
     → keys_of_stack (aggregated keep p) config (stack_of (aggregated keep p) s)
     ≡ keys_of_stack p config (stack_of p s)
 
--- With filters, the samples that are left are the same, of the same values, with what is left of the frames that count.
+-- With filters, the samples that are kept are the same, of the same values, with what is left of the frames that count.
+-- The same options match something, and the own pattern of a report finds a function where it found one.
 pub record AreLeft (keep : Kept) (p : Profile) (f : Finders) (config : Config) (column : Option ℕ) : Type 0 where
   pub numbers
       : filtered_from (aggregated keep p) f config 0 p.sample ≡ filtered_from p f config 0 p.sample
@@ -33,6 +34,9 @@ pub record AreLeft (keep : Kept) (p : Profile) (f : Finders) (config : Config) (
   pub frames
       : report_frames (aggregated keep p) f config column
       ≡ map (renamed (left_of keep)) (report_frames p f config column)
+  pub matches : matches_of (aggregated keep p) f config ≡ matches_of p f config
+  pub own : keep.functions ≡ true
+      → has_own_match (aggregated keep p) f config column ≡ has_own_match p f config column
 
 -- So it is at every grain, where no pattern misses what is dropped, and no frame that is dropped counts.
 abbrev pub FramesAreLeft : Type 0
