@@ -1,5 +1,5 @@
 -- Reports of an aggregated profile.
-use Rattle.std.proofs.Common.{◌≡◌, ℕ, Bool, true, false, cond, not, ◌&&◌, ◌||◌, pos, List, [], ◌∷◌, map, Option, Some, None, option_map, refl, sym, ap, ◌∙◌}
+use Rattle.std.proofs.Common.{◌≡◌, ℕ, Bool, true, false, cond, not, ◌&&◌, ◌||◌, pos, List, [], ◌∷◌, map, Option, Some, None, option_map, refl, sym, ap, subst, ◌∙◌}
 use Rattle.std.specs.List.{filter, filter_map, cons_option, list_any}
 use Rattle.std.specs.Option.{is_some, option_map_or}
 use Rattle.std.proofs.lemmas.Bool.{and_parts}
@@ -19,7 +19,7 @@ use Rattle.pp_stack.proofs.ToldLemmas.{list_any-map}
 use Rattle.pp_count.specs.Column.{selected}
 use Rattle.pp_count.specs.Sums.{Seen, renamed, weighed}
 use Rattle.pp_count.specs.Seeing.{counted_frames, passes_tags, filtered_stack, framed_with, framed_samples, numbers_from}
-use Rattle.pp_count.specs.Counts.{total_over}
+use Rattle.pp_count.specs.Counts.{AreSumsOf, total_over}
 use Rattle.pp_count.specs.Counted.{report_samples, report_frames, is_own}
 use Rattle.pp_count.specs.Matches.{frame_match, key_match, tag_match, matches_of}
 use Rattle.pp_count.proofs.CallerLemmas.{key_of_written, weighed-renamed, keyed_report}
@@ -27,7 +27,7 @@ use Rattle.pp_count.proofs.Keyed.{map_twice}
 use Rattle.pp_aggregate.specs.declared.aggregating.Kept.{Kept}
 use Rattle.pp_aggregate.specs.Aggregated.{number_if, aggregated}
 use Rattle.pp_aggregate.specs.Left.{left_of, keeps_lines, keeps_keys, keeps_counted, finds, names, prunes, Stays, FindsLeft, AsksNoFrame, patterns_stay, FramesStay}
-use Rattle.pp_aggregate.specs.Laws.{KeysStay, AreLeft, FramesAreLeft, SamplesStay}
+use Rattle.pp_aggregate.specs.Laws.{KeysStay, AreLeft, FramesAreLeft, SamplesStay, SumsStay}
 use Rattle.pp_aggregate.proofs.FilterLemmas.{FindSame, by_answers, same_pruned, same_filtered, unfiltered}
 use Rattle.pp_aggregate.proofs.StackLemmas.{frames_whole, frame_whole, counted_left}
 use Rattle.pp_aggregate.proofs.ValidLemmas.{first_empty}
@@ -269,6 +269,17 @@ frames_are_left keep p f config column valid stay = are_left keep p f config col
 
 pub samples_are_same : SamplesStay
 samples_are_same keep p f config column valid stay all = samples_stay keep p f config column (first_empty p valid) stay all
+
+-- sums by keys, over the same samples and the same texts
+pub sums_are_same : SumsStay
+sums_are_same keep p f config column sums valid stay all given =
+    let own : AreSumsOf (aggregated keep p) (report_samples p f config column) sums = record {
+      occur = given.occur;
+      once = given.once;
+      flat = given.flat;
+      cum = given.cum;
+    } in
+    subst (λ (samples : List (Seen Written)). AreSumsOf (aggregated keep p) samples sums) (sym (samples_are_same keep p f config column valid stay all)) own
 
 -- stacks that no filter cut
 pub keys_are_same : KeysStay

@@ -9,7 +9,8 @@ use Rattle.pp_model.specs.Rules.{NoRuleFails}
 use Rattle.pp_count.specs.Column.{column_of}
 use Rattle.pp_count.specs.Sums.{renamed}
 use Rattle.pp_count.specs.Seeing.{keys_of_stack, filtered_from}
-use Rattle.pp_count.specs.Counts.{total_of}
+use Rattle.pp_count.specs.declared.sums.Sums.{Sums}
+use Rattle.pp_count.specs.Counts.{AreSumsOf, total_of}
 use Rattle.pp_count.specs.Counted.{report_samples, report_frames, has_own_match}
 use Rattle.pp_count.specs.Matches.{matches_of}
 use Rattle.pp_aggregate.specs.declared.aggregating.Kept.{Kept}
@@ -51,6 +52,15 @@ SamplesStay =
     → NoRuleFails p → FramesStay keep p f config
     → keeps_keys keep config.grain config.showcolumns ≡ true
     → report_samples (aggregated keep p) f config column ≡ report_samples p f config column
+
+-- Sums by keys, as counting gives them of the one, are those of the other: their keys name the same texts.
+abbrev pub SumsStay : Type 0
+SumsStay =
+    (keep : Kept) (p : Profile) (f : Finders) (config : Config) (column : Option ℕ) (sums : Sums)
+    → NoRuleFails p → FramesStay keep p f config
+    → keeps_keys keep config.grain config.showcolumns ≡ true
+    → AreSumsOf p (report_samples p f config column) sums
+    → AreSumsOf (aggregated keep p) (report_samples (aggregated keep p) f config column) sums
 
 -- The same column is meant.
 abbrev pub ColumnsStay : Type 0

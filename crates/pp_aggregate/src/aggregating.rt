@@ -5,7 +5,7 @@ ghost use Rattle.pp_model.specs.Sizes.{IsCountable};
 ghost use Rattle.pp_aggregate.specs.Aggregated.{aggregated, aggregated_mapping, aggregated_function};
 
 use crate::location::aggregate_locations;
-use pp_model::{Function, Mapping, Profile, Valid};
+use pp_model::{Compact, Function, Mapping, Profile, Valid};
 
 /// What is kept of a profile's code. All else of it is kept whatever is said here: the samples with their values and
 /// labels, the mappings with their files and limits, and the header.
@@ -35,6 +35,15 @@ pub fn aggregate(p: Valid, keep: &Kept) -> Valid
     let mut p = p.into_profile();
     aggregate_tables(&mut p, keep);
     Valid::claim(p)
+}
+
+/// The same of a compact profile, which stays compact. It can be counted as it is, or merged, so that what is equal now
+/// becomes one.
+pub fn aggregate_compact(p: Compact, keep: &Kept) -> Compact
+    ensures same { result ≡ aggregated keep.now p }
+    ensures countable { IsCountable p → IsCountable result }
+{
+    Compact::claim(aggregate(p.into_valid(), keep))
 }
 
 fn aggregate_tables(p: &mut Profile, keep: &Kept)

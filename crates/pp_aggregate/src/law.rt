@@ -1,5 +1,5 @@
 //! Reports that look at nothing that is dropped stay the same.
-ghost use Rattle.pp_aggregate.specs.Laws.{KeysStay, FramesAreLeft, SamplesStay, ColumnsStay, PatternsStay};
+ghost use Rattle.pp_aggregate.specs.Laws.{KeysStay, FramesAreLeft, SamplesStay, SumsStay, ColumnsStay, PatternsStay};
 
 // What would break it: an `outermost` (`Aggregated`) that keeps another line of a location than the last, which is the
 // one that `noinlines` counts, or a key (pp_grain, `Keys`) that falls back to what its grain does not look at.
@@ -13,6 +13,7 @@ pub fn coarser_reports_stay()
     ensures keys { KeysStay }
     ensures frames { FramesAreLeft }
     ensures samples { SamplesStay }
+    ensures sums { SumsStay }
     ensures columns { ColumnsStay }
     ensures patterns { PatternsStay }
 {}

@@ -6,5 +6,5 @@ mod aggregating;
 mod law;
 mod location;
 
-pub use aggregating::{Kept, aggregate};
+pub use aggregating::{Kept, aggregate, aggregate_compact};
 pub use law::coarser_reports_stay;
