@@ -4,4 +4,5 @@ pub mod FilterLemmas
 pub mod FrameLemmas
 pub mod LastLemmas
 pub mod StackLemmas
+pub mod KeyLemmas
 pub mod ReportLemmas

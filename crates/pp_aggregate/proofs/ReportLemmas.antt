@@ -1,11 +1,8 @@
 -- Reports of an aggregated profile.
-use Rattle.std.proofs.Common.{◌≡◌, ℕ, Bool, true, false, cond, not, ◌&&◌, ◌||◌, pos, List, [], ◌∷◌, map, Option, Some, None, option_map, refl, sym, ap, subst, ◌∙◌}
+use Rattle.std.proofs.Common.{◌≡◌, ℕ, Bool, true, false, cond, List, [], ◌∷◌, map, Option, Some, None, option_map, refl, sym, ap, subst, ◌∙◌}
 use Rattle.std.specs.List.{filter, filter_map, cons_option, list_any}
 use Rattle.std.specs.Option.{is_some, option_map_or}
-use Rattle.std.proofs.lemmas.Bool.{and_parts}
 use Rattle.pp_model.specs.declared.config.Config.{Config}
-use Rattle.pp_model.specs.declared.config.Grain.{Grain}
-use Rattle.pp_model.specs.declared.config.Grain.TheVariants.{Functions, FileFunctions, Files, Lines, Addresses}
 use Rattle.pp_model.specs.declared.frame.Frame.{Frame}
 use Rattle.pp_model.specs.declared.profile.Profile.{Profile}
 use Rattle.pp_model.specs.declared.profile.Sample.{Sample}
@@ -13,7 +10,6 @@ use Rattle.pp_model.specs.Finders.{Finder, Finders}
 use Rattle.pp_model.specs.FrameTexts.{Written, written}
 use Rattle.pp_model.specs.Frames.{stack_of}
 use Rattle.pp_model.specs.Lookup.{text_at}
-use Rattle.pp_grain.specs.Keys.{key_texts, with_object, column_if}
 use Rattle.pp_stack.specs.Filters.{finds_frame, load_pruned, filtered, frames_of_sample}
 use Rattle.pp_stack.proofs.ToldLemmas.{list_any-map}
 use Rattle.pp_count.specs.Column.{selected}
@@ -25,73 +21,13 @@ use Rattle.pp_count.specs.Matches.{frame_match, key_match, tag_match, matches_of
 use Rattle.pp_count.proofs.CallerLemmas.{key_of_written, weighed-renamed, keyed_report}
 use Rattle.pp_count.proofs.Keyed.{map_twice}
 use Rattle.pp_aggregate.specs.declared.aggregating.Kept.{Kept}
-use Rattle.pp_aggregate.specs.Aggregated.{number_if, aggregated}
-use Rattle.pp_aggregate.specs.Left.{left_of, keeps_lines, keeps_keys, keeps_counted, finds, names, prunes, Stays, FindsLeft, AsksNoFrame, patterns_stay, FramesStay}
+use Rattle.pp_aggregate.specs.Aggregated.{aggregated}
+use Rattle.pp_aggregate.specs.Left.{left_of, keeps_keys, keeps_counted, finds, names, prunes, Stays, FindsLeft, AsksNoFrame, patterns_stay, FramesStay}
 use Rattle.pp_aggregate.specs.Laws.{KeysStay, AreLeft, FramesAreLeft, SamplesStay, SumsStay}
 use Rattle.pp_aggregate.proofs.FilterLemmas.{FindSame, by_answers, same_pruned, same_filtered, unfiltered}
+use Rattle.pp_aggregate.proofs.KeyLemmas.{key_left}
 use Rattle.pp_aggregate.proofs.StackLemmas.{frames_whole, frame_whole, counted_left}
 use Rattle.pp_aggregate.proofs.ValidLemmas.{first_empty}
-
--- what keys of lines look at
-record LineParts (keep : Kept) (showcolumns : Bool) : Type 0 where
-  functions : keep.functions ≡ true
-  filenames : keep.filenames ≡ true
-  lines : keep.lines ≡ true
-  columns : (not showcolumns || keep.columns) ≡ true
-
-line_parts : (keep : Kept) (showcolumns : Bool) → keeps_lines keep showcolumns ≡ true → LineParts keep showcolumns
-line_parts keep showcolumns all =
-    let (functions, others) = and_parts _ _ all in
-    let (filenames, numbers) = and_parts _ _ others in
-    let (lines, columns) = and_parts _ _ numbers in
-    record { functions = functions; filenames = filenames; lines = lines; columns = columns }
-
--- a column that is shown is kept
-column_left : (showcolumns columns : Bool) (column : _) → (not showcolumns || columns) ≡ true → column_if showcolumns (number_if columns column) ≡ column_if showcolumns column
-column_left true columns column shown = ap (λ b. number_if b column) shown
-column_left false columns column shown = refl
-
--- a key of a line with what is left of it
-lines_left : (keep : Kept) (showcolumns : Bool) (w : Written) (address left : ℕ) → LineParts keep showcolumns → left ≡ address
-    → with_object (record {
-      function = cond keep.functions w.function [];
-      file = cond keep.filenames w.file [];
-      line = number_if keep.lines w.line;
-      column = column_if showcolumns (number_if (keep.lines && keep.columns) w.column);
-      address = left;
-      object = [];
-    }) w.object
-    ≡ with_object (record {
-      function = w.function;
-      file = w.file;
-      line = w.line;
-      column = column_if showcolumns w.column;
-      address = address;
-      object = [];
-    }) w.object
-lines_left keep showcolumns w address left parts same = λ i. with_object (record {
-  function = cond (parts.functions i) w.function [];
-  file = cond (parts.filenames i) w.file [];
-  line = number_if (parts.lines i) w.line;
-  column = column_left showcolumns (keep.lines && keep.columns) w.column ((λ j. not showcolumns || (parts.lines j && keep.columns)) ∙ parts.columns) i;
-  address = same i;
-  object = [];
-}) w.object
-
--- A key that looks at nothing that is dropped is the same of what is left.
-key_left : (keep : Kept) (grain : Grain) (showcolumns : Bool) (w : Written) → keeps_keys keep grain showcolumns ≡ true
-    → key_texts grain showcolumns (left_of keep w) ≡ key_texts grain showcolumns w
-key_left keep Functions showcolumns w all = λ i.
-    with_object (record { function = cond (all i) w.function []; file = []; line = pos 0; column = pos 0; address = 0; object = [] }) w.object
-key_left keep FileFunctions showcolumns w all =
-    let (functions, filenames) = and_parts _ _ all in λ i.
-    with_object (record { function = cond (functions i) w.function []; file = cond (filenames i) w.file []; line = pos 0; column = pos 0; address = 0; object = [] }) w.object
-key_left keep Files showcolumns w all = λ i.
-    with_object (record { function = []; file = cond (all i) w.file []; line = pos 0; column = pos 0; address = 0; object = [] }) w.object
-key_left keep Lines showcolumns w all = lines_left keep showcolumns w 0 0 (line_parts keep showcolumns all) refl
-key_left keep Addresses showcolumns w all =
-    let (lines, addresses) = and_parts _ _ all in
-    lines_left keep showcolumns w w.address (cond keep.addresses w.address 0) (line_parts keep showcolumns lines) (ap (λ b. cond b w.address 0) addresses)
 
 -- what is seen of samples, with something else in the place of keys
 seen_mapped : {X J K : Type 0} (f : J → K) (g : X → Option (Seen J)) (xs : List X)

@@ -9,6 +9,7 @@ pub claim-requires : goal.claim-requires
 claim-requires c =
     subst NoRuleFails (sym c.aggregate_tables.ensures) (aggregated_valid c.args.keep.now c.into_profile-p.result c.into_profile-p.ensures.valid)
 
+-- ids and texts are as they were
 pub returns-clause-compact : goal.returns-clause-compact
 returns-clause-compact c compact =
     subst IsCompact (sym (c.claim.ensures ∙ c.aggregate_tables.ensures ∙ ap (aggregated c.args.keep.now) c.into_profile-p.ensures.same))

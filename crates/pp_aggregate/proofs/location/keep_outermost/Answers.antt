@@ -15,6 +15,7 @@ first_is_last (line ∷ lines) read count d same is some =
     ∙ ap (λ l. l ∷ []) (get_or_from_slice_get (line ∷ lines) (length lines) (last_of line lines) d (last_read line lines))
     ∙ sym (outermost_last line lines)
 
+-- the last line is written over the first, and the others are cut off
 pub returns-then-count-gt1 : goal.returns-then-count-gt1
 returns-then-count-gt1 c =
     c.truncate.ensures ∙ first_is_last c.args.lines.now c.as_slice.result.now c.len-count.result _ c.as_slice.ensures c.len-count.ensures c.if-count-gt1.true
