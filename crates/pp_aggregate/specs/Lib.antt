@@ -1,0 +1,3 @@
+pub mod Aggregated
+pub mod Left
+pub mod Laws
