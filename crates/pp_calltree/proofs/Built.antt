@@ -1,26 +1,35 @@
 -- From the samples of a profile to the nodes of its call tree.
-use Rattle.std.proofs.Common.{◌≡◌, ℕ, ◌<◌, ◌^◌, not, pos, List, [], ◌∷◌, ◌++◌, length, map, reverse, get_or, All, refl, sym, ap, subst, ◌∙◌, arith}
+use Rattle.std.proofs.Common.{◌≡◌, ℕ, ◌<◌, ◌≤◌, ◌^◌, not, nat_abs, pos, List, [], ◌∷◌, ◌++◌, length, map, reverse, get_or, All, refl, sym, ap, subst, ◌∙◌, arith}
 use Rattle.std.specs.Ordering.{int_eq}
 use Rattle.std.proofs.lemmas.Grind.{reverse_onto}
 use Rattle.std.proofs.lemmas.List.{map-append}
 use Rattle.std.proofs.lemmas.List.Elements.{All-map, All-filter, All-from_get_or}
+use Rattle.std.specs.List.Sorted.{IsPermutation}
+use Rattle.std.proofs.lemmas.List.Sorted.{All-permutation, IsPermutation-map, sum_by-IsPermutation}
 use Rattle.std.proofs.lemmas.List.Sums.{get_or-le-sum_by}
 use Rattle.pp_model.specs.declared.profile.Sample.{Sample}
 use Rattle.pp_model.specs.declared.profile.Profile.{Profile}
 use Rattle.pp_model.specs.Conditions.{IsSampleOf}
 use Rattle.pp_model.specs.Finders.{Finders}
+use Rattle.pp_model.specs.FrameTexts.{Written}
 use Rattle.pp_model.specs.Values.{no_sample}
 use Rattle.pp_model.proofs.RuleLemmas.{sample_at}
+use Rattle.pp_grain.specs.declared.key.Key.{Key}
+use Rattle.pp_grain.specs.Keys.{key_cmp}
+use Rattle.pp_count.specs.Table.{written_key}
 use Rattle.pp_count.specs.declared.scope.Scope.{Scope}
 use Rattle.pp_count.specs.Sums.{Seen, weighed, renamed}
 use Rattle.pp_count.specs.Parts.{HasBelow}
 use Rattle.pp_count.specs.Seeing.{HoldsFilters}
 use Rattle.pp_count.specs.Scope.{profile_of, config_of, size_of, AreSeen}
 use Rattle.pp_count.proofs.CallerLemmas.{weighed-renamed}
-use Rattle.pp_calltree.specs.CallTree.{rooted, all_lengths, path_samples}
+use Rattle.pp_calltree.specs.declared.path.Path.{Path}
+use Rattle.pp_calltree.specs.CallTree.{any_row, rooted, all_lengths, path_samples, rows_below, tree_rows}
 use Rattle.pp_calltree.specs.Laid.{written_out, HasRoom}
 use Rattle.pp_calltree.proofs.Gathering.{paths_within}
+use Rattle.pp_calltree.specs.Paths.{below, path_of}
 use Rattle.pp_calltree.proofs.LaidOut.{all_reversed}
+use Rattle.pp_calltree.proofs.Permuted.{alike_permuted, rows_alike}
 
 -- the samples of a profile are its own
 pub all_members : (p q : Profile) → q ≡ p → All (IsSampleOf p) q.sample
@@ -58,3 +67,27 @@ pub paths_written : (scope : Scope) (S : List (Seen ℕ)) (f : Finders) → Hold
     → written_out (profile_of scope) scope.table.now.names (map rooted (weighed S)) ≡ path_samples (profile_of scope) f (config_of scope) scope.column
 paths_written scope S f holds are =
     rooted-renamed _ (weighed S) ∙ ap (map rooted) (sym (weighed-renamed _ S) ∙ ap weighed (are.are f holds))
+
+-- what can be laid out can be so in any order
+pub sorted_room : (names : List Key) (S R : List (Seen ℕ)) → IsPermutation S R → HasRoom names (all_lengths S) S → HasRoom names (all_lengths R) R
+sorted_room names S R moved room =
+    let same : all_lengths S ≡ all_lengths R = sym (sum_by-IsPermutation (λ (s : Seen ℕ). length s.keys) S R moved) in
+    record {
+      below = All-permutation (HasBelow (length names)) S R moved room.below;
+      short = All-permutation (λ (s : Seen ℕ). length s.keys ≤ all_lengths R) S R moved (subst (λ n. All (λ (s : Seen ℕ). length s.keys ≤ n) S) same room.short);
+      fits = omega (arith, room.fits, sum_by-IsPermutation (λ (s : Seen ℕ). nat_abs s.value) S R moved);
+    }
+
+-- and comes to the same nodes
+pub sorted_rows : (p : Profile) (names : List Key) (S R : List (Seen ℕ)) → IsPermutation S R
+    → tree_rows key_cmp any_row (written_out p names R) ≡ tree_rows key_cmp any_row (written_out p names S)
+sorted_rows p names S R moved =
+    let W : List (Seen Written) = written_out p names S in
+    let V : List (Seen Written) = written_out p names R in
+    let written : IsPermutation W V = IsPermutation-map (renamed (written_key p names)) S R moved in
+    sym (rows_alike (all_lengths W) 0 W V (alike_permuted W V written)
+    ∙ ap (λ n. rows_below key_cmp any_row n 0 V) (sym (sum_by-IsPermutation (λ (s : Seen Written). length s.keys) W V written)))
+
+-- paths in another order
+pub moved_paths : (S : List (Seen ℕ)) (cut sorted : List Path) → map path_of cut ≡ S → IsPermutation cut sorted → IsPermutation S (below 0 sorted)
+moved_paths S cut sorted is moved = subst (λ (r : List (Seen ℕ)). IsPermutation r (below 0 sorted)) is (IsPermutation-map path_of cut sorted moved)

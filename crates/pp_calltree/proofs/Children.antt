@@ -1,5 +1,5 @@
 -- The sorted branches of a node are its children in the call tree.
-use Rattle.std.proofs.Common.{◌≡◌, ℕ, zero, suc, ◌+◌, ◌<◌, Bool, true, false, ◌||◌, nat_eq, nat_abs, pos, List, [], ◌∷◌, length, map, get_or, All, refl, sym, ap, subst, ◌∙◌, arith}
+use Rattle.std.proofs.Common.{◌≡◌, ℕ, zero, suc, ◌+◌, ◌<◌, Bool, true, false, ◌||◌, nat_eq, nat_abs, List, [], ◌∷◌, length, map, get_or, All, refl, sym, ap, subst, ◌∙◌, arith}
 use Rattle.std.specs.List.{list_any, IsDistinct, AllByRecursion}
 use Rattle.std.specs.List.Sorted.{IsPermutation, IsSorted}
 use Rattle.std.specs.Ordering.{nat_cmp, eq_by_cmp, is_lt, is_eq, ordering_then}
@@ -28,11 +28,11 @@ use Rattle.pp_calltree.specs.Siblings.{texts_at, size_cmp, branch_cmp}
 use Rattle.pp_calltree.proofs.Under.{first_keys-renamed, path_cum-renamed, path_flat-renamed, first_below}
 
 -- the branches of samples, in any order
-pub listed : (at : ℕ → List (Seen ℕ)) (depth : ℕ) (S : List (Seen ℕ)) (xs list : List Branch) → AreBranches at depth S xs → IsPermutation xs list → AreBranches at depth S list
-listed at depth S xs list are moved =
+pub listed : (depth : ℕ) (S : List (Seen ℕ)) (xs list : List Branch) → AreBranches depth S xs → IsPermutation xs list → AreBranches depth S list
+listed depth S xs list are moved =
     let keys : IsPermutation (map (λ (b : Branch). b.key) xs) (map (λ (b : Branch). b.key) list) = IsPermutation-map (λ (b : Branch). b.key) _ _ moved in
     record {
-      said_are = All-permutation (λ (b : Branch). said at b ≡ branch_of depth S b.key) _ _ moved are.said_are;
+      said_are = All-permutation (λ (b : Branch). said b ≡ branch_of depth S b.key) _ _ moved are.said_are;
       present = λ m. sym (list_any-IsPermutation (nat_eq m) _ _ keys) ∙ are.present m;
       distinct = IsDistinct-IsPermutation nat_eq nat_eq_equiv.symm _ _ keys are.distinct;
     }
@@ -50,7 +50,7 @@ module _ (W : List (Seen Written)) where
       (then_total (back_total (on_total (λ k. nat_abs (path_cum key_cmp W k)) nat_cmp_total)) (back_total (on_total (λ k. nat_abs (path_flat key_cmp W k)) nat_cmp_total)))
       key_cmp_total
 
-  order_same : IsAntisymmetric (sibling_order key_cmp W)
+  pub order_same : IsAntisymmetric (sibling_order key_cmp W)
   order_same x y e = key_cmp_ties x y (both_equal _ _ e).1
 
   -- it ties exactly what the order of keys ties
@@ -73,6 +73,12 @@ get_or-mapped g [] j d e h = absurd (omega arith)
 get_or-mapped g (x ∷ xs) zero d e h = refl
 get_or-mapped g (x ∷ xs) (suc j) d e h = get_or-mapped g xs j d e (omega arith)
 
+-- the item at a place
+item_at : {A : Type 0} (xs : List A) (j : ℕ) → j < length xs → A
+item_at [] j h = absurd (omega arith)
+item_at (x ∷ xs) zero h = x
+item_at (x ∷ xs) (suc j) h = item_at xs j (omega arith)
+
 or_later : (a b : Bool) → b ≡ true → (a || b) ≡ true
 or_later true b e = refl
 or_later false b e = e
@@ -83,7 +89,7 @@ has_at p (k ∷ ks) zero d here e = ap (λ b. b || list_any p ks) e
 has_at p (k ∷ ks) (suc i) d here e = or_later (p k) (list_any p ks) (has_at p ks i d (omega arith) e)
 
 module _ (texts : Texts) (name : ℕ → Written) (n : ℕ) (apart : (a b : ℕ) → a < n → b < n → eq_by_cmp key_cmp (name a) (name b) ≡ eq_by_cmp nat_cmp a b)
-    (texts_are : (k : ℕ) → k < n → texts_at texts k ≡ name k) (at : ℕ → List (Seen ℕ)) (depth : ℕ) (S : List (Seen ℕ)) (below : All (HasBelow n) S) (list : List Branch) (are : AreBranches at depth S list) where
+    (texts_are : (k : ℕ) → k < n → texts_at texts k ≡ name k) (depth : ℕ) (S : List (Seen ℕ)) (below : All (HasBelow n) S) (list : List Branch) (are : AreBranches depth S list) where
   abbrev W : List (Seen Written)
   W = map (renamed name) S
 
@@ -103,7 +109,7 @@ module _ (texts : Texts) (name : ℕ → Written) (n : ℕ) (apart : (a b : ℕ)
   nodes_are i d here =
       let b : Branch = get_or list i d in
       let in_n : b.key < n = keys_below i d here in
-      let is : said at b ≡ branch_of depth S b.key = are.said_are i d here in
+      let is : said b ≡ branch_of depth S b.key = are.said_are i d here in
       record {
         in_n = in_n;
         cum_is = path_cum-renamed key_cmp name n apart b.key S in_n below ∙ sym (ap (λ (s : Said). s.cum) is);
@@ -121,7 +127,7 @@ module _ (texts : Texts) (name : ℕ → Written) (n : ℕ) (apart : (a b : ℕ)
       let len : length (map (λ (b : Branch). name b.key) list) ≡ length list = length-map list (λ (b : Branch). name b.key) in
       let here : k < length list = omega (arith, len, high) in
       let next : k + 1 < length list = omega (arith, len, high) in
-      let e : Branch = record { depth = 0; key = 0; flat = pos 0; cum = pos 0; node = 0 } in
+      let e : Branch = item_at list k here in
       (λ i. is_lt (sibling_order key_cmp W (get_or-mapped (λ (b : Branch). name b.key) list (k + 1) d e next i) (get_or-mapped (λ (b : Branch). name b.key) list k d e here i)))
       ∙ ap is_lt (nodes_order (get_or list (k + 1) e) (get_or list k e) (nodes_are (k + 1) e next) (nodes_are k e here)) ∙ sorted k e low next
 

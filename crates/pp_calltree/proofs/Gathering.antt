@@ -19,10 +19,9 @@ use Rattle.pp_count.specs.Scope.{profile_of, config_of, size_of, AreSeen}
 use Rattle.pp_count.specs.Seeing.{HoldsFilters, keys_of_stack, filtered_stack, numbers_from, filtered_from}
 use Rattle.pp_count.proofs.Sizes.{part_within}
 use Rattle.pp_count.proofs.Ranges.{IsSeen, name_of, by_numbers, seen_more, seen_same}
-use Rattle.pp_calltree.specs.declared.trie.Trie.{Trie}
+use Rattle.pp_calltree.specs.declared.paths.Paths.{Paths}
 use Rattle.pp_calltree.specs.CallTree.{rooted}
-use Rattle.pp_calltree.specs.Paths.{rooted_if, stands_at, HasPaths}
-use Rattle.pp_calltree.specs.Trie.{none_waits, Holds, IsTrieOf}
+use Rattle.pp_calltree.specs.Paths.{rooted_if, stands_at, AreKeptAs, HasPaths}
 
 take_one : (samples : List Sample) (i : ℕ) (s : Sample) → i < length samples → s ≡ get_or samples i s → take i samples ++ s ∷ [] ≡ take (i + 1) samples
 take_one samples i s here is = ap (λ r. take i samples ++ r ∷ []) is ∙ sym (take_more samples i s here)
@@ -45,45 +44,29 @@ pub paths_within : (S : List (Seen ℕ)) → absolute (map rooted (weighed S)) �
 paths_within S =
     omega (arith, rooted_size (weighed S), part_within (λ (s : Seen ℕ). nat_abs s.value) (λ (s : Seen ℕ). not (int_eq s.value (pos 0))) S)
 
--- there is room for the value of one more sample
-pub sample_fits : (scope : Scope) (samples : List Sample) (i : ℕ) (s : Sample) (trie : Trie) → i < length samples → s ≡ get_or samples i s → size_of scope samples < 2 ^ 63
-    → (so_far : HasPaths scope (take i samples) trie) → absolute (map rooted (weighed so_far.seen)) + nat_abs (selected scope.column (config_of scope).divide_by s) < 2 ^ 63
-sample_fits scope samples i s trie here at_i fits so_far =
-    let size : Sample → ℕ = λ x. nat_abs (selected scope.column (config_of scope).divide_by x) in
-    omega (
-      arith,
-      fits,
-      paths_within so_far.seen,
-      so_far.are.within,
-      ap (sum_by size) (take_one samples i s here at_i),
-      sum_by_push size (take i samples) s,
-      sum_by-take-le size samples (i + 1),
-    )
-
 -- one more sample, which the filters keep
-pub paths_more : (scope : Scope) (samples : List Sample) (i : ℕ) (s : Sample) (keys : List ℕ) (trie new : Trie)
-    → i < length samples → s ≡ get_or samples i s → IsSeen scope s true keys → All (λ k. k < length scope.table.now.names) keys → size_of scope samples < 2 ^ 63
-    → ((paths : List (Seen ℕ)) → IsTrieOf trie paths → absolute paths + nat_abs (selected scope.column (config_of scope).divide_by s) < 2 ^ 63
-    → IsTrieOf new (paths ++ rooted_if (selected scope.column (config_of scope).divide_by s) keys))
-    → HasPaths scope (take i samples) trie → HasPaths scope (take (i + 1) samples) new
-paths_more scope samples i s keys trie new here at_i is below fits more so_far =
+pub paths_more : (scope : Scope) (samples : List Sample) (i : ℕ) (s : Sample) (keys : List ℕ) (old new : Paths)
+    → i < length samples → s ≡ get_or samples i s → IsSeen scope s true keys → All (λ k. k < length scope.table.now.names) keys
+    → ((paths : List (Seen ℕ)) → AreKeptAs old paths → AreKeptAs new (paths ++ rooted_if (selected scope.column (config_of scope).divide_by s) keys))
+    → HasPaths scope (take i samples) old → HasPaths scope (take (i + 1) samples) new
+paths_more scope samples i s keys old new here at_i is below more so_far =
     let one : Seen ℕ = by_numbers scope s keys in
     record {
       seen = so_far.seen ++ one ∷ [];
       are = subst (λ (r : List Sample). AreSeen scope r (so_far.seen ++ one ∷ [])) (take_one samples i s here at_i)
           (seen_more scope (take i samples) so_far.seen s keys is below so_far.are);
-      stands = subst (IsTrieOf new)
+      stands = subst (AreKeptAs new)
           (ap (λ r. map rooted (weighed so_far.seen) ++ r) (sym (rooted_one one.value keys))
           ∙ sym (ap (map rooted) (filter-append (λ (x : Seen ℕ). not (int_eq x.value (pos 0))) so_far.seen (one ∷ []))
           ∙ map-append rooted (weighed so_far.seen) (weighed (one ∷ []))))
-          (more (map rooted (weighed so_far.seen)) so_far.stands (sample_fits scope samples i s trie here at_i fits so_far));
+          (more (map rooted (weighed so_far.seen)) so_far.stands);
     }
 
 -- one more sample, which they drop
-pub paths_same : (scope : Scope) (samples : List Sample) (i : ℕ) (s : Sample) (keys : List ℕ) (trie : Trie)
+pub paths_same : (scope : Scope) (samples : List Sample) (i : ℕ) (s : Sample) (keys : List ℕ) (old : Paths)
     → i < length samples → s ≡ get_or samples i s → IsSeen scope s false keys
-    → HasPaths scope (take i samples) trie → HasPaths scope (take (i + 1) samples) trie
-paths_same scope samples i s keys trie here at_i is so_far = record {
+    → HasPaths scope (take i samples) old → HasPaths scope (take (i + 1) samples) old
+paths_same scope samples i s keys old here at_i is so_far = record {
   seen = so_far.seen;
   are = subst (λ (r : List Sample). AreSeen scope r so_far.seen) (take_one samples i s here at_i)
       (seen_same scope (take i samples) so_far.seen s keys is so_far.are);
@@ -92,8 +75,8 @@ paths_same scope samples i s keys trie here at_i is so_far = record {
 
 -- The paths of the first samples are those of the numbers before this place, and the numbers from there on are those of
 -- the samples that the filters leave of the others.
-pub record GatheredTo (scope : Scope) (samples : List Sample) (kept : List ℕ) (met i : ℕ) (trie : Trie) : Type 0 where
-  pub paths_are : HasPaths scope (take i samples) trie
+pub record GatheredTo (scope : Scope) (samples : List Sample) (kept : List ℕ) (met i : ℕ) (old : Paths) : Type 0 where
+  pub paths_are : HasPaths scope (take i samples) old
   pub left_are : (f : Finders) → HoldsFilters scope.l.now scope.v.now (config_of scope) f
       → drop met kept ≡ filtered_from (profile_of scope) f (config_of scope) i (drop i samples)
 
@@ -142,18 +125,18 @@ module _ (scope : Scope) (samples : List Sample) (kept : List ℕ) (met i : ℕ)
   dropped (Some x) keys none = absurd (false≢true (sym none))
 
   -- the next number is another sample's
-  pub passed_over : (trie : Trie) → stands_at kept met i ≡ false → GatheredTo scope samples kept met i trie → GatheredTo scope samples kept met (i + 1) trie
-  passed_over trie other so_far = record {
-    paths_are = paths_same scope samples i s [] trie here at_i
+  pub passed_over : (old : Paths) → stands_at kept met i ≡ false → GatheredTo scope samples kept met i old → GatheredTo scope samples kept met (i + 1) old
+  passed_over old other so_far = record {
+    paths_are = paths_same scope samples i s [] old here at_i
         (λ f holds. dropped (filtered_stack (profile_of scope) f (config_of scope) s) [] (sym (meets f (so_far.left_are f holds)) ∙ other)) so_far.paths_are;
     left_are = λ f holds.
         so_far.left_are f holds ∙ step f ∙ ap (λ b. cond b (i ∷ later f) (later f)) (sym (meets f (so_far.left_are f holds)) ∙ other);
   }
 
   -- the next number is this sample's
-  pub met_next : (trie new : Trie) → stands_at kept met i ≡ true → (HasPaths scope (take i samples) trie → HasPaths scope (take (i + 1) samples) new)
-      → GatheredTo scope samples kept met i trie → GatheredTo scope samples kept (met + 1) (i + 1) new
-  met_next trie new own more so_far = record {
+  pub met_next : (old new : Paths) → stands_at kept met i ≡ true → (HasPaths scope (take i samples) old → HasPaths scope (take (i + 1) samples) new)
+      → GatheredTo scope samples kept met i old → GatheredTo scope samples kept (met + 1) (i + 1) new
+  met_next old new own more so_far = record {
     paths_are = more so_far.paths_are;
     left_are = λ f holds.
         sym (drop-drop 1 met kept)
@@ -161,10 +144,10 @@ module _ (scope : Scope) (samples : List Sample) (kept : List ℕ) (met i : ℕ)
   }
 
 -- before the first sample
-pub gathered_none : (scope : Scope) (samples : List Sample) (kept : List ℕ) (trie : Trie) → Holds trie.edges.keys trie.sums.items none_waits []
+pub gathered_none : (scope : Scope) (samples : List Sample) (kept : List ℕ) (old : Paths) → AreKeptAs old []
     → ((f : Finders) → HoldsFilters scope.l.now scope.v.now (config_of scope) f → kept ≡ filtered_from (profile_of scope) f (config_of scope) 0 samples)
-    → GatheredTo scope samples kept 0 0 trie
-gathered_none scope samples kept trie none are = record {
+    → GatheredTo scope samples kept 0 0 old
+gathered_none scope samples kept old none are = record {
   paths_are = record {
     seen = [];
     are = record { below = All-nil (HasBelow (length scope.table.now.names)); within = omega arith; are = λ f holds. refl };
@@ -174,6 +157,6 @@ gathered_none scope samples kept trie none are = record {
 }
 
 -- past the last one
-pub gathered_all : (scope : Scope) (samples : List Sample) (kept : List ℕ) (met i : ℕ) (trie : Trie) → length samples ≤ i
-    → GatheredTo scope samples kept met i trie → HasPaths scope samples trie
-gathered_all scope samples kept met i trie past so_far = subst (λ (r : List Sample). HasPaths scope r trie) (take_all i samples past) so_far.paths_are
+pub gathered_all : (scope : Scope) (samples : List Sample) (kept : List ℕ) (met i : ℕ) (old : Paths) → length samples ≤ i
+    → GatheredTo scope samples kept met i old → HasPaths scope samples old
+gathered_all scope samples kept met i old past so_far = subst (λ (r : List Sample). HasPaths scope r old) (take_all i samples past) so_far.paths_are

@@ -22,9 +22,9 @@ use Rattle.pp_calltree.specs.declared.branch.Branch.{Branch}
 use Rattle.pp_calltree.specs.declared.texts.Texts.{Texts}
 use Rattle.pp_calltree.specs.declared.tree.PathNode.{PathNode}
 use Rattle.pp_calltree.specs.CallTree.{TreeRow, any_row, is_end, under, row_of, rows_below}
-use Rattle.pp_calltree.specs.Branches.{Said, said, branch_of, AreBranches}
+use Rattle.pp_calltree.specs.Branches.{Said, samples_of, said, branch_of, weight, AreBranches, AreOrdered}
 use Rattle.pp_calltree.specs.Siblings.{branch_cmp}
-use Rattle.pp_calltree.specs.Laid.{node_row, written_out, samples_of, branch_row, whole_branch, CanLay, HasRoom, IsLayable, WaitBelow, Laying}
+use Rattle.pp_calltree.specs.Laid.{node_row, written_out, branch_row, whole_branch, CanLay, HasRoom, IsLayable, WaitBelow, Laying}
 use Rattle.pp_calltree.proofs.Under.{under-renamed, under_all, under_size, none_first, parted}
 use Rattle.pp_calltree.proofs.Children.{siblings_are, keys_below, row_cum, row_flat}
 
@@ -36,27 +36,30 @@ flat_map-mapped F g H (x ∷ xs) all =
     ∙ (λ i. All-head (λ y. F (g y) ≡ H y) x xs all i ++ flat_map-mapped F g H xs (All-tail (λ y. F (g y) ≡ H y) x xs all) i)
     ∙ sym (flat_map-cons H x xs)
 
-module _ (p : Profile) (names : List Key) (texts : Texts) (can : CanLay p names texts) (at : ℕ → List (Seen ℕ)) where
+module _ (p : Profile) (names : List Key) (texts : Texts) (can : CanLay p names texts) where
   abbrev name : ℕ → Written
   name = written_key p names
 
   -- paths without keys have no branch
-  no_branches : (depth : ℕ) (S : List (Seen ℕ)) (list : List Branch) → All (λ s. length s.keys ≤ 0) S → AreBranches at depth S list → list ≡ []
+  no_branches : (depth : ℕ) (S : List (Seen ℕ)) (list : List Branch) → All (λ s. length s.keys ≤ 0) S → AreBranches depth S list → list ≡ []
   no_branches depth S [] short are = refl
   no_branches depth S (b ∷ bs) short are =
       absurd (false≢true (sym (none_first b.key S short) ∙ sym (are.present b.key) ∙ ap (λ e. e || list_any (nat_eq b.key) (map (λ (c : Branch). c.key) bs)) (eq-eqb b.key b.key refl)))
 
-  module _ (most depth : ℕ) (S : List (Seen ℕ)) (list : List Branch) (are : AreBranches at depth S list) (sorted : IsSorted (branch_cmp texts) list) where
+  module _ (most depth : ℕ) (S : List (Seen ℕ)) (list : List Branch) (ordered : AreOrdered depth S list) (sorted : IsSorted (branch_cmp texts) list) where
+    abbrev are : AreBranches depth S list
+    are = ordered.are
+
     -- a branch has room for what is left of its paths
-    layable_at : (left : ℕ) → HasRoom names (suc left) S → most ≡ depth + suc left → All (IsLayable names at most) list
+    layable_at : (left : ℕ) → HasRoom names (suc left) S → most ≡ depth + suc left → All (IsLayable names most) list
     layable_at left room same i d here =
         let b : Branch = get_or list i d in
-        let is : said at b ≡ branch_of depth S b.key = are.said_are i d here in
+        let is : said b ≡ branch_of depth S b.key = are.said_are i d here in
         let depth_is : b.depth ≡ depth = ap (λ (s : Said). s.depth) is in
-        let samples_are : samples_of at b ≡ under nat_cmp b.key S = ap (λ (s : Said). s.samples) is in
+        let samples_are : samples_of b ≡ under nat_cmp b.key S = ap (λ (s : Said). s.samples) is in
         record {
           depth_fits = omega (arith, depth_is, same);
-          key_below = keys_below texts name (length names) can.apart can.texts_are at depth S room.below list are i d here;
+          key_below = keys_below texts name (length names) can.apart can.texts_are depth S room.below list are i d here;
           room = record {
             below = subst (All (HasBelow (length names))) (sym samples_are)
                 (under_all (HasBelow (length names)) (HasBelow (length names)) (λ v q path all. All-tail (λ k. k < length names) q path all) b.key S room.below);
@@ -65,47 +68,48 @@ module _ (p : Profile) (names : List Key) (texts : Texts) (can : CanLay p names 
             fits = omega (arith, ap absolute samples_are, under_size b.key S, room.fits);
           };
           flat_is = ap (λ (s : Said). s.flat) is ∙ ap (sum_where is_end) (sym samples_are);
+          rises = ordered.rise i d here;
         }
 
     -- the samples of the branches, and those that end here, are within all
-    pub branch_sizes : sum_by (λ (b : Branch). absolute (samples_of at b)) list + nat_abs (sum_where is_end S) ≤ absolute S
+    pub branch_sizes : sum_by (λ (b : Branch). absolute (samples_of b)) list + nat_abs (sum_where is_end S) ≤ absolute S
     branch_sizes = omega (arith, sizes_are list are.said_are, parted (map (λ (b : Branch). b.key) list) are.distinct S) where
-      sizes_are : (xs : List Branch) → All (λ (b : Branch). said at b ≡ branch_of depth S b.key) xs
-          → sum_by (λ (b : Branch). absolute (samples_of at b)) xs ≡ sum_by (λ k. absolute (under nat_cmp k S)) (map (λ (b : Branch). b.key) xs)
+      sizes_are : (xs : List Branch) → All (λ (b : Branch). said b ≡ branch_of depth S b.key) xs
+          → sum_by (λ (b : Branch). absolute (samples_of b)) xs ≡ sum_by (λ k. absolute (under nat_cmp k S)) (map (λ (b : Branch). b.key) xs)
       sizes_are [] all = refl
       sizes_are (x ∷ xs) all = omega (
         arith,
-        sizes_are xs (All-tail (λ (b : Branch). said at b ≡ branch_of depth S b.key) x xs all),
-        ap (λ (s : Said). absolute s.samples) (All-head (λ (b : Branch). said at b ≡ branch_of depth S b.key) x xs all),
-        sum_by-cons (λ (b : Branch). absolute (samples_of at b)) x xs,
+        sizes_are xs (All-tail (λ (b : Branch). said b ≡ branch_of depth S b.key) x xs all),
+        ap (λ (s : Said). absolute s.samples) (All-head (λ (b : Branch). said b ≡ branch_of depth S b.key) x xs all),
+        sum_by-cons (λ (b : Branch). absolute (samples_of b)) x xs,
         sum_by-cons (λ k. absolute (under nat_cmp k S)) x.key (map (λ (b : Branch). b.key) xs),
       )
 
     branch_at : (left : ℕ) → HasRoom names (suc left) S → most ≡ depth + suc left
-        → All (λ (b : Branch). (row_of key_cmp depth (written_out p names S) (name b.key) ∷ rows_below key_cmp any_row left (depth + 1) (under key_cmp (name b.key) (written_out p names S))) ≡ whole_branch p names at most b) list
+        → All (λ (b : Branch). (row_of key_cmp depth (written_out p names S) (name b.key) ∷ rows_below key_cmp any_row left (depth + 1) (under key_cmp (name b.key) (written_out p names S))) ≡ whole_branch p names most b) list
     branch_at left room same i d here =
         let b : Branch = get_or list i d in
-        let is : said at b ≡ branch_of depth S b.key = are.said_are i d here in
+        let is : said b ≡ branch_of depth S b.key = are.said_are i d here in
         let depth_is : depth ≡ b.depth = sym (ap (λ (s : Said). s.depth) is) in
-        let in_n : b.key < length names = keys_below texts name (length names) can.apart can.texts_are at depth S room.below list are i d here in
-        let flat_is = row_flat texts name (length names) can.apart can.texts_are at depth S room.below list are i d here in
-        let cum_is = row_cum texts name (length names) can.apart can.texts_are at depth S room.below list are i d here in
+        let in_n : b.key < length names = keys_below texts name (length names) can.apart can.texts_are depth S room.below list are i d here in
+        let flat_is = row_flat texts name (length names) can.apart can.texts_are depth S room.below list are i d here in
+        let cum_is = row_cum texts name (length names) can.apart can.texts_are depth S room.below list are i d here in
         let left_is : left ≡ most - (b.depth + 1) = omega (arith, depth_is, same) in
-        let samples_are : under key_cmp (name b.key) (written_out p names S) ≡ written_out p names (samples_of at b) =
+        let samples_are : under key_cmp (name b.key) (written_out p names S) ≡ written_out p names (samples_of b) =
         under-renamed key_cmp name (length names) can.apart b.key S in_n room.below ∙ ap (map (renamed name)) (sym (ap (λ (s : Said). s.samples) is)) in
         λ j. record { depth = depth_is j; key = name b.key; flat = flat_is j; cum = cum_is j } ∷ rows_below key_cmp any_row (left_is j) (depth_is j + 1) (samples_are j)
 
     -- The branches below so many keys give the rows below them.
     pub laid : (left : ℕ) → HasRoom names left S → most ≡ depth + left
-        → (rows_below key_cmp any_row left depth (written_out p names S) ≡ flat_map (whole_branch p names at most) list) × All (IsLayable names at most) list
+        → (rows_below key_cmp any_row left depth (written_out p names S) ≡ flat_map (whole_branch p names most) list) × All (IsLayable names most) list
     laid zero room same =
         let none : list ≡ [] = no_branches depth S list room.short are in
-        (sym (ap (flat_map (whole_branch p names at most)) none), subst (All (IsLayable names at most)) (sym none) (All-nil (IsLayable names at most)))
+        (sym (ap (flat_map (whole_branch p names most)) none), subst (All (IsLayable names most)) (sym none) (All-nil (IsLayable names most)))
     laid (suc left) room same = (
       ap (flat_map (λ k. row_of key_cmp depth (written_out p names S) k ∷ rows_below key_cmp any_row left (depth + 1) (under key_cmp k (written_out p names S))))
-          (siblings_are texts name (length names) can.apart can.texts_are at depth S room.below list are sorted)
+          (siblings_are texts name (length names) can.apart can.texts_are depth S room.below list are sorted)
           ∙ flat_map-mapped (λ k. row_of key_cmp depth (written_out p names S) k ∷ rows_below key_cmp any_row left (depth + 1) (under key_cmp k (written_out p names S)))
-          (λ (b : Branch). name b.key) (whole_branch p names at most) list (branch_at left room same),
+          (λ (b : Branch). name b.key) (whole_branch p names most) list (branch_at left room same),
       layable_at left room same,
     )
 
@@ -115,13 +119,13 @@ all_reversed P [] all = All-nil P
 all_reversed P (x ∷ xs) all = subst (All P) (sym (reverse_onto xs x [])) (All-push P (reverse xs) x (all_reversed P xs (All-tail P x xs all)) (All-head P x xs all))
 
 -- one more node is laid out
-pub laying_more : (p : Profile) (names : List Key) (at : ℕ → List (Seen ℕ)) (most : ℕ) (samples : List (Seen ℕ)) (nodes new_nodes : List PathNode) (before new : List Branch) (b : Branch) (node : PathNode)
-    → Laying p names at most samples nodes (before ++ b ∷ []) → new_nodes ≡ nodes ++ node ∷ [] → node_row p node ≡ branch_row p names b → IsKeyOf p node.key
-    → b.flat ≡ sum_where is_end (samples_of at b)
-    → WaitBelow p names at most (b.depth + 1) (most - (b.depth + 1)) (samples_of at b) before new
-    → Laying p names at most samples new_nodes new
-laying_more p names at most samples nodes new_nodes before new b node so_far more row key flat_is wait =
-    let whole : Branch → List (TreeRow Written) = whole_branch p names at most in
+pub laying_more : (p : Profile) (names : List Key) (most : ℕ) (samples : List (Seen ℕ)) (nodes new_nodes : List PathNode) (before new : List Branch) (b : Branch) (node : PathNode)
+    → Laying p names most samples nodes (before ++ b ∷ []) → new_nodes ≡ nodes ++ node ∷ [] → node_row p node ≡ branch_row p names b → IsKeyOf p node.key
+    → b.flat ≡ sum_where is_end (samples_of b)
+    → WaitBelow p names most (b.depth + 1) (most - (b.depth + 1)) (samples_of b) before new
+    → Laying p names most samples new_nodes new
+laying_more p names most samples nodes new_nodes before new b node so_far more row key flat_is wait =
+    let whole : Branch → List (TreeRow Written) = whole_branch p names most in
     let front : List (TreeRow Written) = map (node_row p) nodes in
     let turned : reverse new ≡ wait.branches ++ reverse before =
     ap reverse wait.added ∙ reverse-append before (reverse wait.branches) ∙ ap (λ r. r ++ reverse before) (reverse-reverse wait.branches) in
@@ -136,8 +140,8 @@ laying_more p names at most samples nodes new_nodes before new b node so_far mor
           ∙ ap (λ r. front ++ (branch_row p names b ∷ (r ++ flat_map whole (reverse before)))) (sym wait.rows)
           ∙ ap (λ r. front ++ r) (sym (ap (flat_map whole) old_turned ∙ flat_map-cons whole b (reverse before)))
           ∙ so_far.rows;
-      layable = subst (All (IsLayable names at most)) (sym wait.added)
-          (All-append (IsLayable names at most) before (reverse wait.branches) (fronts before so_far.layable) (all_reversed (IsLayable names at most) wait.branches wait.layable));
+      layable = subst (All (IsLayable names most)) (sym wait.added)
+          (All-append (IsLayable names most) before (reverse wait.branches) (fronts before so_far.layable) (all_reversed (IsLayable names most) wait.branches wait.layable));
       keys = subst (All (λ (n : PathNode). IsKeyOf p n.key)) (sym more) (All-push (λ (n : PathNode). IsKeyOf p n.key) nodes node so_far.keys key);
       sizes = omega (
         arith,
@@ -146,42 +150,53 @@ laying_more p names at most samples nodes new_nodes before new b node so_far mor
         ap (λ (r : TreeRow Written). nat_abs r.flat) row,
         ap nat_abs flat_is,
         ap (sum_by (λ (n : PathNode). nat_abs n.flat)) more ∙ sum_by_push (λ (n : PathNode). nat_abs n.flat) nodes node,
-        sum_by_push (λ (x : Branch). absolute (samples_of at x)) before b,
-        ap (sum_by (λ (x : Branch). absolute (samples_of at x))) wait.added ∙ sum_by-append (λ (x : Branch). absolute (samples_of at x)) before (reverse wait.branches),
-        sum_by-IsPermutation (λ (x : Branch). absolute (samples_of at x)) wait.branches (reverse wait.branches) (IsPermutation-reverse wait.branches),
+        sum_by_push (λ (x : Branch). absolute (samples_of x)) before b,
+        ap (sum_by (λ (x : Branch). absolute (samples_of x))) wait.added ∙ sum_by-append (λ (x : Branch). absolute (samples_of x)) before (reverse wait.branches),
+        sum_by-IsPermutation (λ (x : Branch). absolute (samples_of x)) wait.branches (reverse wait.branches) (IsPermutation-reverse wait.branches),
       );
     } where
-      fronts : (xs : List Branch) → All (IsLayable names at most) (xs ++ b ∷ []) → All (IsLayable names at most) xs
-      fronts [] all = All-nil (IsLayable names at most)
-      fronts (x ∷ xs) all = All-cons (IsLayable names at most) x xs (All-head (IsLayable names at most) x (xs ++ b ∷ []) all) (fronts xs (All-tail (IsLayable names at most) x (xs ++ b ∷ []) all))
+      fronts : (xs : List Branch) → All (IsLayable names most) (xs ++ b ∷ []) → All (IsLayable names most) xs
+      fronts [] all = All-nil (IsLayable names most)
+      fronts (x ∷ xs) all = All-cons (IsLayable names most) x xs (All-head (IsLayable names most) x (xs ++ b ∷ []) all) (fronts xs (All-tail (IsLayable names most) x (xs ++ b ∷ []) all))
 
 -- the branch that was popped
-pub last_layable : (names : List Key) (at : ℕ → List (Seen ℕ)) (most : ℕ) (before : List Branch) (b : Branch) → All (IsLayable names at most) (before ++ b ∷ []) → IsLayable names at most b
-last_layable names at most [] b all = All-head (IsLayable names at most) b [] all
-last_layable names at most (x ∷ xs) b all = last_layable names at most xs b (All-tail (IsLayable names at most) x (xs ++ b ∷ []) all)
+pub last_layable : (names : List Key) (most : ℕ) (before : List Branch) (b : Branch) → All (IsLayable names most) (before ++ b ∷ []) → IsLayable names most b
+last_layable names most [] b all = All-head (IsLayable names most) b [] all
+last_layable names most (x ∷ xs) b all = last_layable names most xs b (All-tail (IsLayable names most) x (xs ++ b ∷ []) all)
 
 -- the branches of all samples wait
-pub laying_start : (p : Profile) (names : List Key) (at : ℕ → List (Seen ℕ)) (most : ℕ) (samples : List (Seen ℕ)) (nodes : List PathNode) (new : List Branch)
-    → WaitBelow p names at most 0 most samples [] new → nodes ≡ [] → Laying p names at most samples nodes new
-laying_start p names at most samples nodes new wait none = record {
-  rows = (λ i. map (node_row p) (none i) ++ flat_map (whole_branch p names at most) (turned i)) ∙ sym wait.rows;
-  layable = subst (All (IsLayable names at most)) (sym wait.added)
-      (all_reversed (IsLayable names at most) wait.branches wait.layable);
+pub laying_start : (p : Profile) (names : List Key) (most : ℕ) (samples : List (Seen ℕ)) (nodes : List PathNode) (new : List Branch)
+    → WaitBelow p names most 0 most samples [] new → nodes ≡ [] → Laying p names most samples nodes new
+laying_start p names most samples nodes new wait none = record {
+  rows = (λ i. map (node_row p) (none i) ++ flat_map (whole_branch p names most) (turned i)) ∙ sym wait.rows;
+  layable = subst (All (IsLayable names most)) (sym wait.added)
+      (all_reversed (IsLayable names most) wait.branches wait.layable);
   keys = subst (All (λ (n : PathNode). IsKeyOf p n.key)) (sym none) (All-nil (λ (n : PathNode). IsKeyOf p n.key));
   sizes = omega (
     arith,
     wait.sizes,
     ap (sum_by (λ (n : PathNode). nat_abs n.flat)) none,
-    ap (sum_by (λ (x : Branch). absolute (samples_of at x))) wait.added,
-    sum_by-IsPermutation (λ (x : Branch). absolute (samples_of at x)) wait.branches (reverse wait.branches) (IsPermutation-reverse wait.branches),
+    ap (sum_by (λ (x : Branch). absolute (samples_of x))) wait.added,
+    sum_by-IsPermutation (λ (x : Branch). absolute (samples_of x)) wait.branches (reverse wait.branches) (IsPermutation-reverse wait.branches),
   );
 } where
   turned : reverse new ≡ wait.branches
   turned = ap reverse wait.added ∙ reverse-reverse wait.branches
 
+-- a branch is heavier than those below it
+pub lighter_more : (p : Profile) (names : List Key) (most depth left : ℕ) (before new : List Branch) (b : Branch) → WaitBelow p names most depth left (samples_of b) before new
+    → sum_by weight new < sum_by weight (before ++ b ∷ [])
+lighter_more p names most depth left before new b wait = omega (
+  arith,
+  wait.lighter,
+  sum_by_push weight before b,
+  ap (sum_by weight) wait.added ∙ sum_by-append weight before (reverse wait.branches),
+  sum_by-IsPermutation weight wait.branches (reverse wait.branches) (IsPermutation-reverse wait.branches),
+)
+
 -- no branch waits any more
-pub laying_end : (p : Profile) (names : List Key) (at : ℕ → List (Seen ℕ)) (most : ℕ) (samples : List (Seen ℕ)) (nodes : List PathNode) (waiting : List Branch)
-    → Laying p names at most samples nodes waiting → waiting ≡ []
+pub laying_end : (p : Profile) (names : List Key) (most : ℕ) (samples : List (Seen ℕ)) (nodes : List PathNode) (waiting : List Branch)
+    → Laying p names most samples nodes waiting → waiting ≡ []
     → map (node_row p) nodes ≡ rows_below key_cmp any_row most 0 (written_out p names samples)
-laying_end p names at most samples nodes waiting so_far none =
-    sym (append-nil (map (node_row p) nodes)) ∙ (λ i. map (node_row p) nodes ++ flat_map (whole_branch p names at most) (reverse (sym none i))) ∙ so_far.rows
+laying_end p names most samples nodes waiting so_far none =
+    sym (append-nil (map (node_row p) nodes)) ∙ (λ i. map (node_row p) nodes ++ flat_map (whole_branch p names most) (reverse (sym none i))) ∙ so_far.rows

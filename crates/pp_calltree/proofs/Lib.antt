@@ -1,8 +1,10 @@
-pub mod Edges
-pub mod Walking
-pub mod Chaining
 pub mod SiblingOrder
 pub mod Gathering
+pub mod Kept
+pub mod Sorting
+pub mod Runs
+pub mod RunSums
+pub mod Permuted
 pub mod Naming
 pub mod Under
 pub mod Children

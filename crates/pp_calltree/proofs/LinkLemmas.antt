@@ -1,18 +1,16 @@
 -- The links of nodes, from how deep these stand.
-use Rattle.std.proofs.Common.{◌≡◌, ℕ, zero, suc, ◌+◌, ◌-◌, ◌<◌, ◌≤◌, ◌==◌, inl, inr, nat_lt, cond, List, [], ◌∷◌, ◌++◌, length, map, reverse, take, drop, get_or, replicate, Option, Some, None, refl, sym, ap, subst, ◌∙◌, arith, length-append, length-take}
+use Rattle.std.proofs.Common.{◌≡◌, ℕ, zero, suc, ◌+◌, ◌-◌, ◌<◌, ◌≤◌, ◌==◌, inl, inr, nat_lt, cond, List, [], ◌∷◌, ◌++◌, length, map, set, take, drop, get_or, replicate, Option, Some, None, refl, sym, ap, subst, ◌∙◌, arith, length-append, length-take}
 use Rattle.std.specs.List.{slice_get}
-use Rattle.std.specs.Option.{option_map, option_map_or, unwrap_or}
+use Rattle.std.specs.Option.{option_map, option_map_or}
 use Rattle.std.proofs.lemmas.Bool.{cases_lt, lt-ltb, le-ltb, eq-eqb, ne_eqb}
-use Rattle.std.proofs.lemmas.Grind.{reverse_onto}
-use Rattle.std.proofs.lemmas.List.{drop_more, drop_all, take_more, get_or_append_left, get_or-append_right, get_or_past, get_or-take, get_or-replicate, get_or_default, length-map, length-replicate, reverse-reverse}
+use Rattle.std.proofs.lemmas.List.{drop_more, drop_all, take_more, get_or_append_left, get_or-append_right, get_or_past, get_or-take, get_or-replicate, get_or_default, get_or-set_same, get_or-set_other, length-map, length-replicate, length-set}
 use Rattle.std.proofs.Math.Seq.{get_or-append_seam}
 use Rattle.std.proofs.lemmas.Option.{slice_get-map, slice_get-get_or}
 use Rattle.pp_grain.specs.declared.key.Key.{Key}
 use Rattle.pp_calltree.specs.declared.tree.PathNode.{PathNode}
 use Rattle.pp_calltree.specs.declared.tree.NumberedNode.{NumberedNode}
-use Rattle.pp_calltree.specs.declared.tree.LinkedNode.{LinkedNode}
 use Rattle.pp_calltree.specs.Tree.{depth_at, next_sibling, sibling_in, above_in, parent}
-use Rattle.pp_calltree.specs.Links.{node_by, nodes_by, nodes_of, linked, linked_from, AreLinked, AreParents}
+use Rattle.pp_calltree.specs.Links.{node_by, nodes_by, AreNexts, AreParents}
 
 -- the depth of a node that is there
 pub depth_is : (nodes : List PathNode) (n : ℕ) (d : PathNode) → n < length nodes → depth_at nodes n ≡ (get_or nodes n d).depth
@@ -24,47 +22,11 @@ numbered_depth names nodes n d here =
     ap (λ o. option_map_or (λ (x : PathNode). x.depth) o 0)
     (slice_get-map (node_by names) nodes n ∙ ap (option_map (node_by names)) (slice_get-get_or nodes n d here))
 
--- links leave the nodes as they are
-nodes-linked : (nodes : List PathNode) (rest : List NumberedNode) (place : ℕ) → map (λ (x : LinkedNode). x.node) (linked_from nodes place rest) ≡ rest
-nodes-linked nodes [] place = refl
-nodes-linked nodes (x ∷ rest) place = ap (λ r. x ∷ r) (nodes-linked nodes rest (place + 1))
-
--- keys may be read before or after the links are taken off
-pub nodes_twice : (names : List Key) (list : List LinkedNode) → nodes_of names list ≡ nodes_by names (map (λ (x : LinkedNode). x.node) list)
-nodes_twice names [] = refl
-nodes_twice names (x ∷ list) = ap (λ r. node_by names x.node ∷ r) (nodes_twice names list)
-
-slice_get-linked : (nodes : List PathNode) (rest : List NumberedNode) (place k : ℕ) → slice_get (linked_from nodes place rest) k ≡ option_map (linked nodes (place + k)) (slice_get rest k)
-slice_get-linked nodes [] place k = refl
-slice_get-linked nodes (x ∷ rest) place zero = ap (λ n. Some (linked nodes n x)) (omega arith)
-slice_get-linked nodes (x ∷ rest) place (suc k) =
-    let same : (place + 1) + k ≡ place + suc k = omega arith in
-    slice_get-linked nodes rest (place + 1) k ∙ ap (λ n. option_map (linked nodes n) (slice_get rest k)) same
-
-both_some : (a b : LinkedNode) → Some a ≡ Some b → a ≡ b
-both_some a b same = ap (λ o. unwrap_or o a) same
-
--- the one that is read at a place
-pub linked_read : (names : List Key) (list seen : List LinkedNode) (nodes : List PathNode) (n : ℕ) (d : LinkedNode) → seen ≡ list → AreLinked names list → nodes_of names list ≡ nodes
-    → n < length nodes → get_or seen n d ≡ linked nodes n (get_or seen n d).node
-linked_read names list seen nodes n d seen_is are same here =
-    let N : List PathNode = nodes_of names list in
-    let M : List NumberedNode = map (λ (x : LinkedNode). x.node) list in
-    let s : LinkedNode = get_or list n d in
-    let within : n < length list = omega (arith, here, ap length same, length-map list (λ (x : LinkedNode). node_by names x.node)) in
-    let found : slice_get list n ≡ Some s = slice_get-get_or list n d within in
-    let node : slice_get M n ≡ Some s.node = slice_get-map (λ (x : LinkedNode). x.node) list n ∙ ap (option_map (λ (x : LinkedNode). x.node)) found in
-    let whole : 0 + n ≡ n = omega arith in
-    subst (λ (xs : List LinkedNode). get_or xs n d ≡ linked nodes n (get_or xs n d).node) (sym seen_is)
-    (both_some s (linked nodes n s.node)
-    (sym found ∙ ap (λ xs. slice_get xs n) are.are ∙ slice_get-linked N M 0 n ∙ ap (option_map (linked N (0 + n))) node
-    ∙ (λ i. Some (linked (same i) (whole i) s.node))))
-
--- The nodes from this place on have their links, the last of them first. The table has the next sibling of a node to the
--- left, by its depth.
-pub record LinkedBack (names : List Key) (nodes : List NumberedNode) (place : ℕ) (list : List LinkedNode) (right : List (Option ℕ)) : Type 0 where
+-- The nodes from this place on have their next siblings. The table has that of a node to the left, by its depth.
+pub record NextsFrom (names : List Key) (nodes : List NumberedNode) (place : ℕ) (nexts right : List (Option ℕ)) : Type 0 where
   pub within : place ≤ length nodes
-  pub list_is : list ≡ reverse (linked_from (nodes_by names nodes) place (drop place nodes))
+  pub count : length nexts ≡ length nodes
+  pub each : (n : ℕ) → place ≤ n → n < length nodes → get_or nexts n None ≡ next_sibling (nodes_by names nodes) n
   pub right_are : (depth : ℕ) → get_or right depth None ≡ sibling_in depth place (nodes_by names (drop place nodes))
 
 drop-by : (names : List Key) (n : ℕ) (nodes : List NumberedNode) → drop n (nodes_by names nodes) ≡ nodes_by names (drop n nodes)
@@ -73,60 +35,50 @@ drop-by names (suc n) [] = refl
 drop-by names (suc n) (x ∷ nodes) = drop-by names n nodes
 
 -- at the end
-pub linked_none : (names : List Key) (nodes : List NumberedNode) (list : List LinkedNode) (right : List (Option ℕ)) → list ≡ [] → right ≡ []
-    → LinkedBack names nodes (length nodes) list right
-linked_none names nodes list right none empty =
+pub nexts_none : (names : List Key) (nodes : List NumberedNode) (nexts right : List (Option ℕ)) → length nexts ≡ length nodes → right ≡ []
+    → NextsFrom names nodes (length nodes) nexts right
+nexts_none names nodes nexts right count empty =
     let past : drop (length nodes) nodes ≡ [] = drop_all (length nodes) nodes (omega arith) in
     record {
       within = omega arith;
-      list_is = none ∙ sym (ap (λ r. reverse (linked_from (nodes_by names nodes) (length nodes) r)) past);
+      count = count;
+      each = λ n low here. absurd (omega (arith, low, here));
       right_are = λ depth. ap (λ r. get_or r depth None) empty ∙ sym (ap (λ r. sibling_in depth (length nodes) (nodes_by names r)) past);
     }
 
--- the next sibling of the node before
-pub sibling_is : (names : List Key) (nodes : List NumberedNode) (place next : ℕ) (x d : NumberedNode) (list : List LinkedNode) (right : List (Option ℕ)) → next + 1 ≡ place → x ≡ get_or nodes next d
-    → LinkedBack names nodes place list right → get_or right x.depth None ≡ next_sibling (nodes_by names nodes) next
-sibling_is names nodes place next x d list right before is so_far =
-    let here : next < length nodes = omega (arith, before, so_far.within) in
-    so_far.right_are x.depth
-    ∙ (λ i. sibling_in ((ap (λ (y : NumberedNode). y.depth) is ∙ sym (numbered_depth names nodes next d here)) i) (sym before i) (sym (drop-by names (sym before i) nodes) i))
-
 -- one more node, to the left
-pub linked_more : (names : List Key) (nodes : List NumberedNode) (place next : ℕ) (x d : NumberedNode) (one : LinkedNode) (list new : List LinkedNode) (right after : List (Option ℕ))
-    → next + 1 ≡ place → x ≡ get_or nodes next d → one ≡ linked (nodes_by names nodes) next x → new ≡ list ++ one ∷ []
-    → ((depth : ℕ) → get_or after depth None ≡ cond (nat_lt depth x.depth) (get_or right depth None) (cond (x.depth == depth) (Some next) None))
-    → LinkedBack names nodes place list right → LinkedBack names nodes next new after
-linked_more names nodes place next x d one list new right after before is linked_is more table so_far =
-    let at : LinkedBack names nodes (next + 1) list right = subst (λ p. LinkedBack names nodes p list right) (sym before) so_far in
+pub nexts_more : (names : List Key) (nodes : List NumberedNode) (place next : ℕ) (d : NumberedNode) (nexts new right after : List (Option ℕ))
+    → next + 1 ≡ place → new ≡ set nexts next (get_or right (get_or nodes next d).depth None)
+    → ((depth : ℕ) → get_or after depth None ≡ cond (nat_lt depth (get_or nodes next d).depth) (get_or right depth None) (cond ((get_or nodes next d).depth == depth) (Some next) None))
+    → NextsFrom names nodes place nexts right → NextsFrom names nodes next new after
+nexts_more names nodes place next d nexts new right after before more table so_far =
+    let at : NextsFrom names nodes (next + 1) nexts right = subst (λ p. NextsFrom names nodes p nexts right) (sym before) so_far in
     let here : next < length nodes = omega (arith, at.within) in
-    let N : List PathNode = nodes_by names nodes in
-    let rest : List NumberedNode = drop (next + 1) nodes in
-    let whole : drop next nodes ≡ x ∷ rest = drop_more nodes next d here ∙ ap (λ y. y ∷ rest) (sym is) in
+    let x : NumberedNode = get_or nodes next d in
+    let whole : drop next nodes ≡ x ∷ drop (next + 1) nodes = drop_more nodes next d here in
+    let sibling : get_or right x.depth None ≡ next_sibling (nodes_by names nodes) next =
+    at.right_are x.depth ∙ (λ i. sibling_in (sym (numbered_depth names nodes next d here) i) (next + 1) (sym (drop-by names (next + 1) nodes) i)) in
     record {
       within = omega (arith, here);
-      list_is = more ∙ (λ i. at.list_is i ++ linked_is i ∷ [])
-          ∙ sym (ap (λ r. reverse (linked_from N next r)) whole ∙ reverse_onto (linked_from N (next + 1) rest) (linked N next x) []);
+      count = ap length more ∙ length-set nexts next (get_or right x.depth None) ∙ at.count;
+      each = λ n low high. ap (λ xs. get_or xs n None) more ∙ elim (cases_lt next n) as (λ _. get_or (set nexts next (get_or right x.depth None)) n None ≡ next_sibling (nodes_by names nodes) n) [
+        | inl above ↦ get_or-set_other nexts next n (get_or right x.depth None) None (omega (arith, above)) ∙ at.each n (omega (arith, above)) high
+        | inr least ↦
+            let same : n ≡ next = omega (arith, low, least) in
+            ap (λ m. get_or (set nexts next (get_or right x.depth None)) m None) same ∙ get_or-set_same nexts next (get_or right x.depth None) None (omega (arith, here, at.count))
+            ∙ sibling ∙ ap (next_sibling (nodes_by names nodes)) (sym same)
+      ];
       right_are = λ depth.
           table depth ∙ ap (λ o. cond (nat_lt depth x.depth) o (cond (x.depth == depth) (Some next) None)) (at.right_are depth)
           ∙ sym (ap (λ r. sibling_in depth next (nodes_by names r)) whole);
     }
 
 -- all nodes
-pub linked_all : (names : List Key) (nodes : List NumberedNode) (place : ℕ) (list all : List LinkedNode) (right : List (Option ℕ)) → place ≤ 0 → all ≡ reverse list
-    → LinkedBack names nodes place list right → all ≡ linked_from (nodes_by names nodes) 0 nodes
-linked_all names nodes place list all right first turned so_far =
-    let none : place ≡ 0 = omega (arith, first) in
-    let N : List PathNode = nodes_by names nodes in
-    turned ∙ ap reverse so_far.list_is ∙ reverse-reverse (linked_from N place (drop place nodes))
-    ∙ (λ i. linked_from N (none i) (drop (none i) nodes))
-
-pub their_nodes : (names : List Key) (nodes : List NumberedNode) (list : List LinkedNode) → list ≡ linked_from (nodes_by names nodes) 0 nodes → map (λ (x : LinkedNode). x.node) list ≡ nodes
-their_nodes names nodes list are = ap (map (λ (x : LinkedNode). x.node)) are ∙ nodes-linked (nodes_by names nodes) nodes 0
-
-pub are_linked : (names : List Key) (nodes : List NumberedNode) (list : List LinkedNode) → list ≡ linked_from (nodes_by names nodes) 0 nodes → AreLinked names list
-are_linked names nodes list are =
-    let back : nodes ≡ map (λ (x : LinkedNode). x.node) list = sym (their_nodes names nodes list are) in
-    record { are = are ∙ (λ i. linked_from ((ap (nodes_by names) back ∙ sym (nodes_twice names list)) i) 0 (back i)) }
+pub nexts_all : (names : List Key) (nodes : List NumberedNode) (place : ℕ) (nexts right : List (Option ℕ)) → place ≤ 0 → NextsFrom names nodes place nexts right → AreNexts (nodes_by names nodes) nexts
+nexts_all names nodes place nexts right first so_far = record {
+  count = so_far.count ∙ sym (length-map nodes (node_by names));
+  each = λ n here. so_far.each n (omega (arith, first)) (omega (arith, here, length-map nodes (node_by names)));
+}
 
 -- a table that is cut or filled up with what stands past its end
 pub fitted : (n k : ℕ) (xs : List (Option ℕ)) (past d : Option ℕ) → k < n → get_or (take n xs ++ replicate (n - length xs) past) k d ≡ get_or xs k past

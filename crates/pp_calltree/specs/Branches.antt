@@ -1,10 +1,12 @@
--- The branches of a node as the code holds them. No public clause cites it.
-use Rattle.std.specs.Prelude.{◌≡◌, ℕ, nat_eq, ℤ, List, map, All}
-use Rattle.std.specs.List.{list_any, IsDistinct}
+-- The branches of paths as the code holds them. No public clause cites it.
+use Rattle.std.specs.Prelude.{◌≡◌, ℕ, suc, ◌+◌, ◌≤◌, nat_eq, ℤ, List, [], ◌∷◌, ◌++◌, map, All, MatchOption}
+use Rattle.std.specs.List.{list_any, slice_get, sum_by, IsDistinct}
 use Rattle.std.specs.Ordering.{nat_cmp, eq_by_cmp}
-use Rattle.pp_count.specs.Sums.{Seen}
+use Rattle.pp_count.specs.Sums.{Seen, sum_where}
 use Rattle.pp_calltree.specs.declared.branch.Branch.{Branch}
-use Rattle.pp_calltree.specs.CallTree.{first_keys, under, path_cum, path_flat}
+use Rattle.pp_calltree.specs.declared.path.Path.{Path}
+use Rattle.pp_calltree.specs.CallTree.{all_lengths, any_path, is_end, first_keys, under, path_cum, path_flat}
+use Rattle.pp_calltree.specs.Paths.{below, Rises}
 
 -- What a branch says: its depth, its key number, its sums, and the samples below it.
 pub record Said : Type 0 where
@@ -14,10 +16,14 @@ pub record Said : Type 0 where
   pub cum : ℤ
   pub samples : List (Seen ℕ)
 
--- what this one says, where these samples are at each node
-abbrev pub said : (ℕ → List (Seen ℕ)) → Branch → Said
-said at b =
-    record { depth = b.depth; key = b.key; flat = b.flat; cum = b.cum; samples = at b.node }
+-- what is left of a branch's paths below its key
+abbrev pub samples_of : Branch → List (Seen ℕ)
+samples_of b = below (b.depth + 1) b.paths.now
+
+-- what this one says
+abbrev pub said : Branch → Said
+said b =
+    record { depth = b.depth; key = b.key; flat = b.flat; cum = b.cum; samples = samples_of b }
 
 -- what the branch of the key says, over samples below so many keys
 abbrev pub branch_of : ℕ → List (Seen ℕ) → ℕ → Said
@@ -30,9 +36,43 @@ branch_of depth samples k = record {
 }
 
 -- The list has the branches of these samples below so many keys, each once.
-pub record AreBranches (at : ℕ → List (Seen ℕ)) (depth : ℕ) (samples : List (Seen ℕ))
-    (list : List Branch) : Type 0 where
-  pub said_are : All (λ b. said at b ≡ branch_of depth samples b.key) list
+pub record AreBranches (depth : ℕ) (samples : List (Seen ℕ)) (list : List Branch) : Type 0 where
+  pub said_are : All (λ b. said b ≡ branch_of depth samples b.key) list
   pub present : (m : ℕ) → list_any (nat_eq m) (map (λ b. b.key) list)
       ≡ list_any (eq_by_cmp nat_cmp m) (first_keys samples)
   pub distinct : IsDistinct nat_eq (map (λ b. b.key) list)
+
+-- more than the nodes at a branch and below it
+abbrev pub weight : Branch → ℕ
+weight b = suc (all_lengths (samples_of b))
+
+-- They are the branches of samples whose paths are in order, and so are those below them.
+pub record AreOrdered (depth : ℕ) (samples : List (Seen ℕ)) (list : List Branch) : Type 0 where
+  pub are : AreBranches depth samples list
+  pub rise : All (λ b. Rises (samples_of b)) list
+  pub lighter : sum_by weight list ≤ all_lengths samples
+
+-- the branches of what is left of these paths below so many keys
+abbrev pub HasBranches : ℕ → List Path → List Branch → Type 0
+HasBranches depth paths list = AreOrdered depth (below depth paths) list
+
+-- The branch is that of the key, over the paths that have it below so many others.
+pub record IsBranchOf (depth key : ℕ) (run : List Path) (b : Branch) : Type 0 where
+  pub depth_is : b.depth ≡ depth
+  pub key_is : b.key ≡ key
+  pub flat_is : b.flat ≡ sum_where is_end (below (depth + 1) run)
+  pub cum_is : b.cum ≡ sum_where any_path (below (depth + 1) run)
+  pub paths_are : b.paths.now ≡ run
+
+-- The branch of the key is added at the end.
+pub record GainsBranch (depth key : ℕ) (run : List Path) (old new : List Branch) : Type 0 where
+  pub branch : Branch
+  pub is : IsBranchOf depth key run branch
+  pub added : new ≡ old ++ branch ∷ []
+
+-- The branch of a run is added at the end, if its first path has a key below so many others.
+abbrev pub IsStep : ℕ → List Path → List Branch → List Branch → Type 0
+IsStep depth [] old new = new ≡ old
+IsStep depth (first ∷ run) old new =
+    MatchOption (slice_get first.keys.now depth) (new ≡ old)
+    (λ key. GainsBranch depth key (first ∷ run) old new)

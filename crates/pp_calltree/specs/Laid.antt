@@ -1,4 +1,4 @@
--- The nodes as they are laid out. No public clause cites it.
+-- The nodes of call trees with their keys written out, and how they are laid out. Of it, public clauses cite `node_row`.
 use Rattle.std.specs.Prelude.{◌≡◌, ℕ, ◌+◌, ◌-◌, ◌<◌, ◌≤◌, ◌^◌, nat_abs, List, ◌∷◌, ◌++◌, length, map, flat_map, reverse, All}
 use Rattle.std.specs.List.{sum_by}
 use Rattle.std.specs.Ordering.{nat_cmp, eq_by_cmp}
@@ -12,10 +12,10 @@ use Rattle.pp_count.specs.Table.{written_key}
 use Rattle.pp_calltree.specs.declared.branch.Branch.{Branch}
 use Rattle.pp_calltree.specs.declared.texts.Texts.{Texts}
 use Rattle.pp_calltree.specs.declared.tree.PathNode.{PathNode}
+use Rattle.pp_calltree.specs.Branches.{samples_of, weight}
 use Rattle.pp_calltree.specs.CallTree.{TreeRow, all_lengths, any_row, is_end, rows_below}
+use Rattle.pp_calltree.specs.Paths.{Rises}
 use Rattle.pp_calltree.specs.Siblings.{texts_at}
-use Rattle.pp_calltree.specs.declared.twigs.Twigs.{Twigs}
-use Rattle.pp_calltree.specs.Twigs.{AreTwigsOf}
 
 -- the node, with its key written out
 abbrev pub node_row : Profile → PathNode → TreeRow Written
@@ -26,22 +26,17 @@ node_row p n =
 abbrev pub written_out : Profile → List Key → List (Seen ℕ) → List (Seen Written)
 written_out p names samples = map (renamed (written_key p names)) samples
 
--- the samples of a branch
-abbrev pub samples_of : (ℕ → List (Seen ℕ)) → Branch → List (Seen ℕ)
-samples_of at b = at b.node
-
 -- the node of a branch
 abbrev pub branch_row : Profile → List Key → Branch → TreeRow Written
 branch_row p names b =
     record { depth = b.depth; key = written_key p names b.key; flat = b.flat; cum = b.cum }
 
 -- the nodes of a branch, its own first, where no path has more keys than this in all
-abbrev pub whole_branch : Profile → List Key → (ℕ → List (Seen ℕ)) → ℕ → Branch
-    → List (TreeRow Written)
-whole_branch p names at most b =
+abbrev pub whole_branch : Profile → List Key → ℕ → Branch → List (TreeRow Written)
+whole_branch p names most b =
     branch_row p names b
     ∷ rows_below key_cmp any_row (most - (b.depth + 1)) (b.depth + 1)
-    (written_out p names (samples_of at b))
+    (written_out p names (samples_of b))
 
 -- Different numbers are different keys, and the texts are those of the names.
 pub record CanLay (p : Profile) (names : List Key) (texts : Texts) : Type 0 where
@@ -56,34 +51,30 @@ pub record HasRoom (names : List Key) (most : ℕ) (samples : List (Seen ℕ)) :
   pub fits : absolute samples < 2 ^ 63
 
 -- The branch can be laid out.
-pub record IsLayable (names : List Key) (at : ℕ → List (Seen ℕ)) (most : ℕ) (b : Branch) : Type 0 where
+pub record IsLayable (names : List Key) (most : ℕ) (b : Branch) : Type 0 where
   pub depth_fits : b.depth < most
   pub key_below : b.key < length names
-  pub room : HasRoom names (most - (b.depth + 1)) (samples_of at b)
-  pub flat_is : b.flat ≡ sum_where is_end (samples_of at b)
+  pub room : HasRoom names (most - (b.depth + 1)) (samples_of b)
+  pub flat_is : b.flat ≡ sum_where is_end (samples_of b)
+  pub rises : Rises (samples_of b)
 
 -- The branches of the samples below so many keys wait in the place of the samples, the last of them first.
-pub record WaitBelow (p : Profile) (names : List Key) (at : ℕ → List (Seen ℕ)) (most depth left : ℕ)
+pub record WaitBelow (p : Profile) (names : List Key) (most depth left : ℕ)
     (samples : List (Seen ℕ)) (old new : List Branch) : Type 0 where
   pub branches : List Branch
   pub added : new ≡ old ++ reverse branches
   pub rows : rows_below key_cmp any_row left depth (written_out p names samples)
-      ≡ flat_map (whole_branch p names at most) branches
-  pub layable : All (IsLayable names at most) branches
-  pub sizes : sum_by (λ b. absolute (samples_of at b)) branches + nat_abs (sum_where is_end samples)
+      ≡ flat_map (whole_branch p names most) branches
+  pub layable : All (IsLayable names most) branches
+  pub sizes : sum_by (λ b. absolute (samples_of b)) branches + nat_abs (sum_where is_end samples)
       ≤ absolute samples
+  pub lighter : sum_by weight branches ≤ all_lengths samples
 
 -- The nodes so far, and those of the branches that wait, are those of the samples.
-pub record Laying (p : Profile) (names : List Key) (at : ℕ → List (Seen ℕ)) (most : ℕ)
-    (samples : List (Seen ℕ)) (nodes : List PathNode) (waiting : List Branch) : Type 0 where
-  pub rows : map (node_row p) nodes ++ flat_map (whole_branch p names at most) (reverse waiting)
+pub record Laying (p : Profile) (names : List Key) (most : ℕ) (samples : List (Seen ℕ)) (nodes : List PathNode) (waiting : List Branch) : Type 0 where
+  pub rows : map (node_row p) nodes ++ flat_map (whole_branch p names most) (reverse waiting)
       ≡ rows_below key_cmp any_row most 0 (written_out p names samples)
-  pub layable : All (IsLayable names at most) waiting
+  pub layable : All (IsLayable names most) waiting
   pub keys : All (λ n. IsKeyOf p n.key) nodes
-  pub sizes : sum_by (λ n. nat_abs n.flat) nodes + sum_by (λ b. absolute (samples_of at b)) waiting
+  pub sizes : sum_by (λ n. nat_abs n.flat) nodes + sum_by (λ b. absolute (samples_of b)) waiting
       ≤ absolute samples
-
--- The nodes are those of the samples, which can be laid out.
-pub record IsLaidFrom (names : List Key) (t : Twigs) (samples : List (Seen ℕ)) : Type 0 where
-  pub twigs : AreTwigsOf t samples
-  pub room : HasRoom names (all_lengths samples) samples

@@ -1,8 +1,6 @@
 pub mod CallTree
-pub mod Trie
 pub mod Paths
 pub mod Branches
-pub mod Twigs
 pub mod Siblings
 pub mod Laid
 pub mod Tree

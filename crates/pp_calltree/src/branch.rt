@@ -1,8 +1,10 @@
 //! The nodes of the tree of paths, as they wait to be laid out.
 
+use crate::path::Path;
+
 /// A node of the tree of paths.
 #[derive(Clone, Copy, Debug)]
-pub struct Branch {
+pub struct Branch<'a> {
     /// How many keys stand above its own.
     pub depth: u32,
     /// The number of its key.
@@ -11,6 +13,6 @@ pub struct Branch {
     pub flat: i64,
     /// The sum over the paths that go through here.
     pub cum: i64,
-    /// Its number.
-    pub node: u32,
+    /// The paths that go through here, whole.
+    pub paths: &'a [Path<'a>],
 }

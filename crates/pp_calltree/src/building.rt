@@ -4,9 +4,10 @@ ghost use Rattle.std.specs.List.{sum_by};
 ghost use Rattle.pp_model.specs.Finders.{Finders};
 ghost use Rattle.pp_grain.specs.Keys.{IsKeyOf};
 ghost use Rattle.pp_count.specs.Seeing.{HoldsFilters, filtered_from};
-ghost use Rattle.pp_count.specs.Scope.{IsSound, size_of};
 ghost use Rattle.pp_count.specs.Filters.{AreFilters};
 ghost use Rattle.pp_count.specs.Table.{IsKeyTable};
+ghost use Rattle.pp_count.specs.Scope.{IsSound, size_of};
+ghost use Rattle.pp_calltree.specs.Paths.{IsScopeOf};
 ghost use Rattle.pp_count.specs.Counts.{written_names};
 ghost use Rattle.pp_count.specs.Counted.{CanCount, IsCountedOf};
 ghost use Rattle.pp_calltree.specs.CallTree.{tree_nodes};
@@ -16,13 +17,12 @@ ghost use Rattle.pp_calltree.specs.Tree.{IsTreeOf, flats_at};
 ghost use Rattle.pp_calltree.specs.Walk.{IsWalkOf};
 
 use crate::laying::lay_out;
-use crate::linking::link;
+use crate::linking::{nexts_of, parents_of};
+use crate::path::{cut_paths, sort_paths};
 use crate::paths::gather_paths;
 use crate::tree::{CallTree, NumberedNode};
-use crate::twigs::Twigs;
 use pp_base::{List, Memory};
 use pp_count::{Counted, Filters, KeyTable, Scope, key_table};
-use pp_grain::{Key, Names};
 use pp_model::{Config, Loaded, Verdicts};
 use std::alloc::Global;
 
@@ -54,50 +54,36 @@ impl CallTree {
     {
         let table = key_table(alloc, l, config)?;
         let filters = Filters::new(alloc, l, v, config)?;
-        let kept = c.kept.as_slice();
-        let nodes = list_by(alloc, l, v, kept, config, &filters, column, &table)?;
-        let list = link(alloc, nodes.as_slice())?;
-        let names = listed(alloc, &table.names)?;
-        Ok(CallTree { names, list })
+        let scope = scope_of(l, v, config, &filters, column, &table);
+        let nodes = nodes_by(alloc, &scope, c.kept.as_slice())?;
+        let parents = parents_of(alloc, nodes.as_slice())?;
+        let nexts = nexts_of(alloc, nodes.as_slice())?;
+        let KeyTable { names, location: _ } = table;
+        Ok(CallTree {
+            names,
+            nodes,
+            parents,
+            nexts,
+        })
     }
 }
 
-// The keys by number.
-fn listed(alloc: Global, names: &Names) -> Result<List<Key>, Memory>
-    ensures { IfOk result (λ list. list ≡ names.now) }
-{
-    let mut list = List::new(alloc);
-    for number in 0..names.len() {
-        list.push(names.key(number))?;
-    }
-    Ok(list)
-}
-
-// The nodes of the samples with these numbers, by this table of the profile's keys and these filters.
-fn list_by<'x>(
-    alloc: Global,
+// How all samples are seen, each key by its number in the table.
+fn scope_of<'x>(
     l: &'x Loaded,
     v: &'x Verdicts,
-    kept: &[u32],
     config: &'x Config,
     filters: &'x Filters,
     column: Option<u32>,
     table: &'x KeyTable,
-) -> Result<List<NumberedNode>, Memory>
+) -> Scope<'x>
     requires can { CanCount l.now.profile v.now config.now column }
     requires filters { AreFilters l.now.profile v.now config.now filters.now }
     requires table { IsKeyTable l.now.profile config.now table.now }
-    requires kept { (f : Finders) → HoldsFilters l.now v.now config.now f →
-        kept.now ≡ filtered_from l.now.profile f config.now 0 l.now.profile.sample }
-    ensures rows { (f : Finders) → HoldsFilters l.now v.now config.now f →
-        IfOk result (λ nodes. map (node_row l.now.profile) (nodes_by table.now.names nodes)
-        ≡ tree_nodes l.now.profile f config.now column) }
-    ensures keys { IfOk result (λ nodes.
-        All (λ n. IsKeyOf l.now.profile n.key) (nodes_by table.now.names nodes)) }
-    ensures fits { IfOk result (λ nodes.
-        sum_by (λ n. nat_abs n.flat) (nodes_by table.now.names nodes) < 2 ^ 63) }
+    ensures sound { IsSound result }
+    ensures same { IsScopeOf l.now v.now config.now column table.now result }
 {
-    let scope = Scope {
+    Scope {
         l,
         v,
         config,
@@ -106,8 +92,7 @@ fn list_by<'x>(
         table,
         over: None,
         chosen: None,
-    };
-    nodes_by(alloc, &scope, kept)
+    }
 }
 
 // The nodes of the samples with these numbers.
@@ -129,8 +114,8 @@ fn nodes_by(alloc: Global, scope: &Scope, kept: &[u32]) -> Result<List<NumberedN
         sum_by (λ n. nat_abs n.flat) (nodes_by scope.now.table.now.names nodes) < 2 ^ 63) }
 {
     let p = scope.l.profile.get();
-    let trie = gather_paths(alloc, scope, p.sample.as_slice(), kept)?;
-    let twigs = Twigs::new(alloc, trie)?;
-    let nodes = lay_out(alloc, p, &scope.table.names, &twigs)?;
-    Ok(nodes)
+    let gathered = gather_paths(alloc, scope, p.sample.as_slice(), kept)?;
+    let mut paths = cut_paths(alloc, &gathered.keys, &gathered.parts)?;
+    sort_paths(&mut paths)?;
+    lay_out(alloc, p, &scope.table.names, &paths)
 }

@@ -2,16 +2,16 @@
 #![tactic(auto)]
 
 mod branch;
+mod branching;
 mod building;
 mod laying;
 mod linking;
+mod path;
 mod paths;
 mod shown;
 mod siblings;
 mod texts;
 mod tree;
-mod trie;
-mod twigs;
 mod writing;
 
 pub use tree::{CallTree, PathNode};

@@ -2,40 +2,34 @@
 ghost use Rattle.std.specs.Prelude.{◌≡◌, ◌<◌, ◌+◌, ◌==◌, ℕ, nat_lt, List as Seq, Some, None, length, map, slice_index_or, IfOk, if◌then◌else◌};
 ghost use Rattle.pp_grain.specs.declared.key.Key.{Key};
 ghost use Rattle.pp_calltree.specs.Tree.{first_child};
-ghost use Rattle.pp_calltree.specs.Links.{nodes_by, AreLinked, AreParents};
+ghost use Rattle.pp_calltree.specs.Links.{nodes_by, AreNexts, AreParents};
 
-use crate::tree::{LinkedNode, NumberedNode};
-use crate::trie::number;
-use pp_base::{List, Memory};
+use crate::paths::number;
+use crate::tree::NumberedNode;
+use pp_base::Memory;
 use std::alloc::Global;
 
-/// The nodes with their links. Parents stand before their children, and these before the parent's next sibling.
-pub fn link(alloc: Global, nodes: &[NumberedNode]) -> Result<List<LinkedNode>, Memory>
-    ensures nodes { IfOk result (λ list. map (λ s. s.node) list ≡ nodes.now) }
-    ensures linked { (names : Seq Key) → IfOk result (AreLinked names) }
+/// The sibling after each node. Parents stand before their children, and these before the parent's next sibling.
+pub fn nexts_of(alloc: Global, nodes: &[NumberedNode]) -> Result<Vec<Option<u32>>, Memory>
+    ensures { (names : Seq Key) →
+        IfOk result (λ nexts. AreNexts (nodes_by names nodes.now) nexts.items) }
 {
-    let parents = parents_of(alloc, nodes)?;
-    let mut list = Vec::with_capacity(alloc, nodes.len())?;
+    let mut nexts = Vec::new(alloc);
+    nexts.resize(nodes.len(), None)?;
     // By depth, the place of the node that the next one to the left has for a sibling.
     let mut right = Vec::new(alloc);
     let mut place = nodes.len();
     while place > 0 {
         place -= 1;
-        let node = nodes[place];
-        list.push(LinkedNode {
-            node,
-            first_child: child_at(nodes, place)?,
-            next_sibling: entry(&right, node.depth),
-            parent: parents[place],
-        })?;
-        put_right(&mut right, node.depth, number(place as u64)?)?;
+        let depth = nodes[place].depth;
+        nexts[place] = entry(&right, depth);
+        put_right(&mut right, depth, number(place as u64)?)?;
     }
-    list.reverse();
-    Ok(List::from_vec(list))
+    Ok(nexts)
 }
 
-// The parent of each node.
-fn parents_of(alloc: Global, nodes: &[NumberedNode]) -> Result<Vec<Option<u32>>, Memory>
+/// The parent of each node, of which these stand as above.
+pub fn parents_of(alloc: Global, nodes: &[NumberedNode]) -> Result<Vec<Option<u32>>, Memory>
     ensures { (names : Seq Key) →
         IfOk result (λ parents. AreParents (nodes_by names nodes.now) parents.items) }
 {
@@ -72,27 +66,22 @@ fn entry(table: &[Option<u32>], depth: u32) -> Option<u32>
     }
 }
 
-// The place after this one, where the node there is deeper.
-fn child_at(nodes: &[NumberedNode], place: usize) -> Result<Option<u32>, Memory>
+/// The place after this one, where the node there is deeper.
+pub fn child_at(nodes: &[NumberedNode], place: usize) -> Option<u64>
     requires { place < length nodes.now }
-    ensures { (names : Seq Key) →
-        IfOk result (λ child. child ≡ first_child (nodes_by names nodes.now) place) }
+    ensures { (names : Seq Key) → result ≡ first_child (nodes_by names nodes.now) place }
 {
     match nodes.get(place + 1) {
-        None => Ok(None),
+        None => None,
         Some(next) => child_if(next.depth, nodes[place].depth, place as u64 + 1),
     }
 }
 
 // The place, where a node stands there that is a child of one of the other depth.
-fn child_if(depth: u32, above: u32, place: u64) -> Result<Option<u32>, Memory>
-    ensures { IfOk result (λ child. child ≡ (if nat_lt above depth then Some place else None)) }
+fn child_if(depth: u32, above: u32, place: u64) -> Option<u64>
+    ensures { result ≡ (if nat_lt above depth then Some place else None) }
 {
-    if depth <= above {
-        return Ok(None);
-    }
-    let child = number(place)?;
-    Ok(Some(child))
+    if depth <= above { None } else { Some(place) }
 }
 
 // Puts the place of a node of this depth into the table. What stands deeper to its right is no sibling of what stands

@@ -1,19 +1,56 @@
-//! The samples of a report, put into a tree of their paths.
-ghost use Rattle.std.specs.Prelude.{◌≡◌, ℕ, ◌++◌, ◌+◌, ◌<◌, ◌^◌, nat_abs, true, length, List as Seq, All, IfOk};
+//! The paths of a report's samples.
+ghost use Rattle.std.specs.Prelude.{◌≡◌, ℕ, ◌++◌, ◌∷◌, [], ◌<◌, true, length, reverse, List as Seq, All, IfOk};
 ghost use Rattle.pp_model.specs.Conditions.{RefersTo, IsSampleOf};
 ghost use Rattle.pp_model.specs.Finders.{Finders};
 ghost use Rattle.pp_count.specs.Column.{selected};
-ghost use Rattle.pp_count.specs.Scope.{IsSound, size_of};
+ghost use Rattle.pp_count.specs.Scope.{IsSound};
 ghost use Rattle.pp_count.specs.Seeing.{HoldsFilters, filtered_from};
-ghost use Rattle.pp_count.specs.Sums.{Seen, absolute};
-ghost use Rattle.pp_calltree.specs.Paths.{rooted_if, stands_at, HasPaths};
-ghost use Rattle.pp_calltree.specs.Trie.{IsTrieOf};
+ghost use Rattle.pp_count.specs.Sums.{Seen};
+ghost use Rattle.pp_calltree.specs.CallTree.{rooted};
+ghost use Rattle.pp_calltree.specs.Paths.{rooted_if, stands_at, AreKeptAs, HasPaths};
 
-use crate::trie::Trie;
+use crate::path::Part;
 use pp_base::{List, Memory};
 use pp_count::{Scope, see, selected};
 use pp_model::Sample;
 use std::alloc::Global;
+
+/// The paths of samples, one behind the other.
+#[derive(Drop)]
+pub struct Paths {
+    /// The key numbers of all paths, each root first.
+    pub keys: Vec<u32>,
+    /// Which of these each path has, in order.
+    pub parts: Vec<Part>,
+}
+
+impl Paths {
+    // Adds a sample of this value with these keys, leaf first.
+    fn add(&mut self, value: i64, keys: &[u64]) -> Result<(), Memory>
+        ensures { (samples : Seq (Seen ℕ)) → AreKeptAs self.old samples →
+            IfOk result (λ _. AreKeptAs self.new
+            (samples ++ rooted (record { value = value; keys = keys.now }) ∷ [])) }
+    {
+        put_rooted(keys, &mut self.keys)?;
+        self.parts.push(Part {
+            value,
+            len: keys.len(),
+        })?;
+        Ok(())
+    }
+}
+
+// Adds the keys at the end, the last one first.
+fn put_rooted(keys: &[u64], out: &mut Vec<u32>) -> Result<(), Memory>
+    ensures { IfOk result (λ _. out.new.items ≡ out.old.items ++ reverse keys.now) }
+{
+    let mut left = keys.len();
+    while left > 0 {
+        left -= 1;
+        out.push(number(keys[left])?)?;
+    }
+    Ok(())
+}
 
 /// The paths of the samples with these numbers, which rise, but for samples of value 0.
 pub fn gather_paths(
@@ -21,9 +58,8 @@ pub fn gather_paths(
     scope: &Scope,
     samples: &[Sample],
     kept: &[u32],
-) -> Result<Trie, Memory>
+) -> Result<Paths, Memory>
     requires sound { IsSound scope.now }
-    requires fits { size_of scope.now samples.now < 2 ^ 63 }
     requires members { All (IsSampleOf scope.now.l.now.profile) samples.now }
     requires refers { All (RefersTo scope.now.l.now.profile) samples.now }
     requires kept { (f : Finders) →
@@ -33,7 +69,10 @@ pub fn gather_paths(
 {
     let mut stack = List::new(alloc);
     let mut keys = Vec::new(alloc);
-    let mut trie = Trie::new(alloc);
+    let mut paths = Paths {
+        keys: Vec::new(alloc),
+        parts: Vec::new(alloc),
+    };
     let mut met = 0;
     for (number, sample) in samples.iter().enumerate() {
         if !stands_at(kept, met, number) {
@@ -41,10 +80,10 @@ pub fn gather_paths(
         }
         met += 1;
         if see(scope, sample, &mut stack, &mut keys)? {
-            add_sample(scope, &mut trie, sample, &keys)?;
+            add_sample(scope, &mut paths, sample, &keys)?;
         }
     }
-    Ok(trie)
+    Ok(paths)
 }
 
 // Whether the number stands at the place.
@@ -59,29 +98,33 @@ fn stands_at(numbers: &[u32], place: usize, number: usize) -> bool
 }
 
 // Adds a sample with these keys, leaf first.
-fn add_sample(scope: &Scope, trie: &mut Trie, sample: &Sample, keys: &[u64]) -> Result<(), Memory>
-    requires sound { IsSound scope.now }
-    requires fits { (samples : Seq (Seen ℕ)) × IsTrieOf trie.old samples × (absolute samples
-        + nat_abs (selected scope.now.column scope.now.config.now.divide_by sample.now) < 2 ^ 63) }
-    ensures { (samples : Seq (Seen ℕ)) → IsTrieOf trie.old samples → absolute samples
-        + nat_abs (selected scope.now.column scope.now.config.now.divide_by sample.now) < 2 ^ 63 →
-        IfOk result (λ _. IsTrieOf trie.new (samples ++ rooted_if
+fn add_sample(scope: &Scope, paths: &mut Paths, sample: &Sample, keys: &[u64]) -> Result<(), Memory>
+    requires { IsSound scope.now }
+    ensures { (samples : Seq (Seen ℕ)) → AreKeptAs paths.old samples →
+        IfOk result (λ _. AreKeptAs paths.new (samples ++ rooted_if
         (selected scope.now.column scope.now.config.now.divide_by sample.now) keys.now)) }
 {
     let value = selected(scope.l, sample, scope.column, scope.config.divide_by);
-    add_path(trie, value, keys)
+    add_path(paths, value, keys)
 }
 
 // Adds a sample of this value with these keys, leaf first. One of value 0 has no path.
-fn add_path(trie: &mut Trie, value: i64, keys: &[u64]) -> Result<(), Memory>
-    requires { (samples : Seq (Seen ℕ)) × IsTrieOf trie.old samples
-        × (absolute samples + nat_abs value < 2 ^ 63) }
-    ensures { (samples : Seq (Seen ℕ)) → IsTrieOf trie.old samples →
-        absolute samples + nat_abs value < 2 ^ 63 →
-        IfOk result (λ _. IsTrieOf trie.new (samples ++ rooted_if value keys.now)) }
+fn add_path(paths: &mut Paths, value: i64, keys: &[u64]) -> Result<(), Memory>
+    ensures { (samples : Seq (Seen ℕ)) → AreKeptAs paths.old samples →
+        IfOk result (λ _. AreKeptAs paths.new (samples ++ rooted_if value keys.now)) }
 {
     if value == 0 {
         return Ok(());
     }
-    trie.add(value, keys)
+    paths.add(value, keys)
+}
+
+/// The number, where it is below 2^32. No more nodes or keys than that have room.
+pub fn number(n: u64) -> Result<u32, Memory>
+    ensures { IfOk result (λ r. r ≡ n) }
+{
+    if n > u32::MAX as u64 {
+        return Err(Memory);
+    }
+    Ok(n as u32)
 }

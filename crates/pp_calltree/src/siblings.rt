@@ -1,5 +1,5 @@
 //! The branches of a node, as siblings stand.
-ghost use Rattle.std.specs.Prelude.{◌≡◌, IfOk};
+ghost use Rattle.std.specs.Prelude.{◌≡◌, OnOk};
 ghost use Rattle.std.specs.List.Sorted.{IsPermutation, IsSorted};
 ghost use Rattle.pp_calltree.specs.Siblings.{branch_cmp};
 
@@ -9,13 +9,13 @@ use pp_base::Memory;
 use pp_grain::texts_order;
 use std::cmp::Ordering;
 
-/// The branches by absolute cum falling, then by absolute flat falling, then by the order of their keys.
-pub fn sort_branches(texts: &Texts, mut list: Vec<Branch>) -> Result<Vec<Branch>, Memory>
-    ensures sorted { IfOk result (λ sorted. IsSorted (branch_cmp texts.now) sorted.items) }
-    ensures same { IfOk result (λ sorted. IsPermutation list.items sorted.items) }
+/// Sorts the branches by absolute cum falling, then by absolute flat falling, then by the order of their keys.
+pub fn sort_branches(texts: &Texts, list: &mut Vec<Branch>) -> Result<(), Memory>
+    ensures sorted { OnOk result (IsSorted (branch_cmp texts.now) list.new.items) }
+    ensures same { IsPermutation list.old.items list.new.items }
 {
     list.sort_by(|a, b| branch_order(texts, a, b))?;
-    Ok(list)
+    Ok(())
 }
 
 fn branch_order(texts: &Texts, a: &Branch, b: &Branch) -> Ordering

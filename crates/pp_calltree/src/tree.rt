@@ -1,10 +1,12 @@
 //! A call tree, and the walk of its nodes.
-ghost use Rattle.std.specs.Prelude.{◌≡◌, ◌<◌, Some, length, slice_get};
+ghost use Rattle.std.specs.Prelude.{◌≡◌, ◌<◌, Some, None, length, slice_get, slice_index_or};
+ghost use Rattle.pp_count.specs.Table.{no_key};
 ghost use Rattle.pp_calltree.specs.Tree.{first_root, first_child, next_sibling, parent};
-ghost use Rattle.pp_calltree.specs.Links.{linked, node_by};
+ghost use Rattle.pp_calltree.specs.Links.{node_by};
 
+use crate::linking::child_at;
 use pp_base::List;
-use pp_grain::Key;
+use pp_grain::{Key, Names};
 use std::marker::Model;
 
 /// A node of a call tree.
@@ -32,24 +34,16 @@ pub struct NumberedNode {
     pub cum: i64,
 }
 
-/// A node, with the places of those that it is linked to.
-#[derive(Clone, Copy, Debug)]
-pub struct LinkedNode {
-    pub node: NumberedNode,
-    /// None where it has no children.
-    pub first_child: Option<u32>,
-    /// The sibling after it, None for the last one.
-    pub next_sibling: Option<u32>,
-    /// None for a root.
-    pub parent: Option<u32>,
-}
-
 /// The call tree of a report. Contracts see the list of its nodes, parents before children.
-#[derive(Debug, Drop)]
+#[derive(Drop)]
 pub struct CallTree {
     /// The keys, by number.
-    pub(crate) names: List<Key>,
-    pub(crate) list: List<LinkedNode>,
+    pub(crate) names: Names,
+    pub(crate) nodes: List<NumberedNode>,
+    /// For each node, the place of its parent, none for a root.
+    pub(crate) parents: Vec<Option<u32>>,
+    /// For each node, the place of the sibling after it, none for the last one.
+    pub(crate) nexts: Vec<Option<u32>>,
 }
 
 impl Model for CallTree {
@@ -58,11 +52,11 @@ impl Model for CallTree {
 
     ghost Value = { Seq PathNode };
 
-    ghost use Rattle.pp_calltree.specs.Links.{nodes_of, AreLinked};
+    ghost use Rattle.pp_calltree.specs.Links.{nodes_by, AreLinked};
 
-    ghost view = { λ t. nodes_of t.names t.list };
+    ghost view = { λ t. nodes_by t.names t.nodes };
 
-    ghost invariant = { λ t. AreLinked t.names t.list };
+    ghost invariant = { λ t. AreLinked (nodes_by t.names t.nodes) t.parents.items t.nexts.items };
 }
 
 impl CallTree {
@@ -70,14 +64,14 @@ impl CallTree {
     pub fn nodes(&self) -> u64
         ensures { result ≡ length self.now }
     {
-        self.list.len() as u64
+        self.nodes.len() as u64
     }
 
     /// The first root, None where there is no node.
     pub fn first_root(&self) -> Option<u64>
         ensures { result ≡ first_root self.now }
     {
-        match self.list.as_slice() {
+        match self.nodes.as_slice() {
             [] => None,
             [_, ..] => Some(0),
         }
@@ -88,7 +82,7 @@ impl CallTree {
         requires { n < length self.now }
         ensures { result ≡ first_child self.now n }
     {
-        place_of(self.linked_node(n).first_child)
+        child_at(self.nodes.as_slice(), n as usize)
     }
 
     /// The sibling after the node, None where it is the last one.
@@ -96,7 +90,7 @@ impl CallTree {
         requires { n < length self.now }
         ensures { result ≡ next_sibling self.now n }
     {
-        place_of(self.linked_node(n).next_sibling)
+        place_at(&self.nexts, n)
     }
 
     /// The node whose child this one is, None where it is a root.
@@ -104,7 +98,7 @@ impl CallTree {
         requires { n < length self.now }
         ensures { result ≡ parent self.now n }
     {
-        place_of(self.linked_node(n).parent)
+        place_at(&self.parents, n)
     }
 
     /// The node with the number.
@@ -112,41 +106,36 @@ impl CallTree {
         requires { n < length self.now }
         ensures { slice_get self.now n ≡ Some result }
     {
-        named(&self.names, &self.list.as_slice()[n as usize].node)
-    }
-
-    // The node with its links.
-    fn linked_node(&self, n: u64) -> LinkedNode
-        requires { n < length self.now }
-        ensures { result ≡ linked self.now n result.node }
-    {
-        self.list.as_slice()[n as usize]
+        named(&self.names, &self.nodes.as_slice()[n as usize])
     }
 }
 
-fn place_of(link: Option<u32>) -> Option<u64>
-    ensures { result ≡ link }
+// The place that stands at the number, none past the end.
+fn place_at(links: &[Option<u32>], n: u64) -> Option<u64>
+    ensures { result ≡ slice_index_or links.now n None }
 {
-    match link {
-        Some(place) => Some(place as u64),
-        None => None,
+    match links.get(n as usize) {
+        Some(Some(place)) => Some(*place as u64),
+        _ => None,
     }
 }
 
 // The node with its key. Each number has one.
-fn named(names: &List<Key>, node: &NumberedNode) -> PathNode
+fn named(names: &Names, node: &NumberedNode) -> PathNode
     ensures { result ≡ node_by names.now node.now }
 {
-    let key = match names.as_slice().get(node.key as usize) {
-        Some(key) => *key,
-        None => NO_KEY,
-    };
     PathNode {
-        key,
+        key: key_at(names, node.key as u64),
         flat: node.flat,
         cum: node.cum,
         depth: node.depth as u64,
     }
+}
+
+fn key_at(names: &Names, n: u64) -> Key
+    ensures { result ≡ slice_index_or names.now n no_key }
+{
+    if n < names.len() { names.key(n) } else { NO_KEY }
 }
 
 // What no number stands for.

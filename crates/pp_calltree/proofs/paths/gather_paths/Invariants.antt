@@ -3,4 +3,4 @@ use Rattle.pp_calltree.proofs.paths.gather_paths.Given as goal
 
 -- the paths of the samples so far
 abbrev pub invariant-loop-number : goal.invariant-loop-number
-invariant-loop-number l = GatheredTo l.scope l.samples l.kept l.met l.number l.trie
+invariant-loop-number l = GatheredTo l.scope l.samples l.kept l.met l.number l.paths
