@@ -21,7 +21,7 @@ use Rattle.pp_merge.specs.Merge.{contents}
 use Rattle.pp_restack.specs.Stacks.{by_place, made_contents}
 use Rattle.pp_restack.specs.Places.{IsCutSample, with_cut, told, spread_in}
 use Rattle.pp_restack.proofs.MadeContents.{groups_told, contents_made}
-use Rattle.pp_dump.specs.Saved.{cut_sample, cut_samples, saved_contents}
+use Rattle.pp_dump.specs.Saved.{cut_sample, saved_contents}
 use Rattle.pp_dump.specs.Places.{spread_of, AddsSamples}
 use Rattle.pp_count.proofs.KeptSamples.{made_of_kept}
 

@@ -1,7 +1,7 @@
 -- What the filters leave of a profile can be counted where the profile can.
-use Rattle.std.proofs.Common.{◌≡◌, ◌≢◌, ℕ, ℤ, ◌+◌, ◌<◌, ◌≤◌, Bool, true, false, cond, List, [], ◌∷◌, ◌++◌, map, length, Option, Some, None, refl, sym, ap, ◌∙◌, arith}
+use Rattle.std.proofs.Common.{◌≡◌, ℕ, ℤ, ◌+◌, ◌≤◌, List, [], ◌∷◌, ◌++◌, map, length, Option, Some, None, refl, sym, ap, ◌∙◌, arith}
 use Rattle.std.specs.Prelude.{pos, nat_abs, slice_index_or}
-use Rattle.std.specs.List.{flat_map, filter, sum_by}
+use Rattle.std.specs.List.{flat_map, sum_by}
 use Rattle.std.specs.Option.{is_some, option_map_or}
 use Rattle.std.proofs.lemmas.List.Sums.{sum_by-cons}
 use Rattle.pp_model.specs.declared.frame.Frame.{Frame}
@@ -12,7 +12,7 @@ use Rattle.pp_model.specs.declared.profile.Profile.{Profile}
 use Rattle.pp_model.specs.declared.verdicts.Verdicts.{Verdicts}
 use Rattle.pp_model.specs.Conditions.{HasVerdicts}
 use Rattle.pp_model.specs.Finders.{Finders}
-use Rattle.pp_model.specs.Sizes.{IsCountable, absolute_sum, value_in}
+use Rattle.pp_model.specs.Sizes.{IsCountable}
 use Rattle.pp_stack.specs.Filters.{frames_of_sample}
 use Rattle.pp_count.specs.Counts.{samples_at}
 use Rattle.pp_count.specs.Seeing.{filtered_stack}

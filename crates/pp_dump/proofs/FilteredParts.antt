@@ -5,7 +5,7 @@ use Rattle.std.specs.Option.{option_map_or}
 use Rattle.pp_model.specs.Finders.{Finder, Finders}
 use Rattle.pp_model.specs.FrameTexts.{Written}
 use Rattle.pp_stack.specs.Runs.{through_last, up_to_last, from_first, pruned}
-use Rattle.pp_stack.specs.Filters.{finds_frame, finds_function, is_prunable, load_pruned, is_kept, not_hidden, shown, cut, shown_from, pruned_from, is_emptied, shortened, passed, filtered}
+use Rattle.pp_stack.specs.Filters.{finds_frame, finds_function, is_prunable, load_pruned, is_kept, not_hidden, shown, cut, shown_from, pruned_from, is_emptied, shortened, filtered}
 
 module _ {X : Type 0} (told : X → Written) (f : Finders) (Q : List X → Type 0)
     (filtering : (test : X → Bool) (xs : List X) → Q xs → Q (filter test xs))

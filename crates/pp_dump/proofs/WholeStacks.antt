@@ -6,6 +6,7 @@ use Rattle.std.proofs.lemmas.List.{length-map, same_lists, get_or_default}
 use Rattle.std.proofs.lemmas.List.Elements.{All-nil, All-cons, All-tail, recursion_from_All}
 use Rattle.std.proofs.lemmas.List.FromFn.{length-range_with_len, get_or-range_with_len, get_or-map-range_with_len}
 use Rattle.std.proofs.lemmas.Option.{slice_get-get_or}
+use Rattle.pp_base.specs.Front.{IsFront}
 use Rattle.pp_model.specs.declared.config.Config.{Config}
 use Rattle.pp_model.specs.declared.frame.Frame.{Frame}
 use Rattle.pp_model.specs.declared.profile.Label.{Label}
@@ -25,10 +26,12 @@ use Rattle.pp_stack.specs.Filters.{filtered}
 use Rattle.pp_tags.specs.TagFilters.{filter_in_force, is_tag_kept, shown_labels}
 use Rattle.pp_count.specs.Seeing.{filtered_stack}
 use Rattle.pp_share.specs.Described.{label_text}
+use Rattle.pp_restack.specs.Places.{AreEntries, IsWithin, entry_in, without_id}
 use Rattle.pp_restack.specs.Stacks.{by_place, lines_of, cut_location}
 use Rattle.pp_dump.specs.Stacks.{place_text, whole_place, left_place, whole_stack, left_stack, whole_stacks, left_stacks}
 use Rattle.pp_model.specs.Finders.{no_finders}
 use Rattle.pp_restack.proofs.Grouping.{alone, joined}
+use Rattle.pp_restack.proofs.Placing.{entries_still, all_within_still}
 use Rattle.pp_dump.proofs.StackGroups.{rows_place, places_from}
 
 -- the frames of one place that stand before those of other places
@@ -76,6 +79,33 @@ module _ (p : Profile) where
       omega (arith, here, get_or-range_with_len 0 (length all) k e here)) in
       ap (λ ls. record (location_at p location) { line = ls }) (lines_read place location all line is numbers below ∙ all_lines all line ∙ sym is)
 
+  -- the frames of the first id are the first group
+  first_group : (place id : ℕ) (ids : List ℕ)
+      → by_place (frames_from p place (id ∷ ids)) ≡ rows place (id - 1) (location_at p (id - 1)).line ∷ by_place (frames_from p (place + 1) ids)
+  first_group place id ids =
+      grouped (rows place (id - 1) (location_at p (id - 1)).line) (rows_some (location_at p (id - 1)).line) (rows_place p place (id - 1) (location_at p (id - 1)).line)
+    where
+      rows_some : (lines : List Line) → 0 < length (rows place (id - 1) lines)
+      rows_some [] = omega arith
+      rows_some (line ∷ lines) = omega (arith, length-map (range_with_len 0 (length (line ∷ lines))) (row_frame place (id - 1)), length-range_with_len 0 (length (line ∷ lines)))
+
+      grouped : (frames : List Frame) → 0 < length frames → AllByRecursion (λ f. f.place ≡ place) frames
+          → by_place (frames ++ frames_from p (place + 1) ids) ≡ frames ∷ by_place (frames_from p (place + 1) ids)
+      grouped [] some all = absurd (omega (arith, some))
+      grouped (f ∷ more) some all = one_group place f more (frames_from p (place + 1) ids) all.0 all.1 (places_from p (place + 1) ids)
+
+  -- the locations of the groups of ids are those of the ids
+  groups_located : (place : ℕ) (ids : List ℕ) → map (cut_location p) (by_place (frames_from p place ids)) ≡ map (λ id. location_at p (id - 1)) ids
+  groups_located place [] = refl
+  groups_located place (id ∷ ids) =
+      ap (map (cut_location p)) (first_group place id ids)
+      ∙ (λ i. rows_located place (id - 1) (location_at p (id - 1)).line refl i ∷ groups_located (place + 1) ids i)
+
+  -- and their entries are these with no id
+  entries_read : (ids : List ℕ) → map (entry_in p.location) ids ≡ map without_id (map (λ id. location_at p (id - 1)) ids)
+  entries_read [] = refl
+  entries_read (id ∷ ids) = ap (λ rest. without_id (location_at p (id - 1)) ∷ rest) (entries_read ids)
+
   module _ (numbered : AreNumbered (location_ids p)) where
     -- the place of an id
     place_whole : (place id : ℕ) → Contains (location_ids p) id → left_place p (rows place (id - 1) (location_at p (id - 1)).line) ≡ whole_place p id
@@ -95,18 +125,30 @@ module _ (p : Profile) where
     places_whole : (place : ℕ) (ids : List ℕ) → All (Contains (location_ids p)) ids → map (left_place p) (by_place (frames_from p place ids)) ≡ map (whole_place p) ids
     places_whole place [] inside = refl
     places_whole place (id ∷ ids) inside =
-        let rest : List Frame = frames_from p (place + 1) ids in
-        ap (map (left_place p)) (grouped (rows place (id - 1) (location_at p (id - 1)).line) (rows_some (location_at p (id - 1)).line) (rows_place p place (id - 1) (location_at p (id - 1)).line))
+        ap (map (left_place p)) (first_group place id ids)
         ∙ (λ i. place_whole place id (inside 0 0 (omega arith)) i ∷ places_whole (place + 1) ids (All-tail (Contains (location_ids p)) id ids inside) i)
-      where
-        rows_some : (lines : List Line) → 0 < length (rows place (id - 1) lines)
-        rows_some [] = omega arith
-        rows_some (line ∷ lines) = omega (arith, length-map (range_with_len 0 (length (line ∷ lines))) (row_frame place (id - 1)), length-range_with_len 0 (length (line ∷ lines)))
 
-        grouped : (frames : List Frame) → 0 < length frames → AllByRecursion (λ f. f.place ≡ place) frames
-            → by_place (frames ++ frames_from p (place + 1) ids) ≡ frames ∷ by_place (frames_from p (place + 1) ids)
-        grouped [] some all = absurd (omega (arith, some))
-        grouped (f ∷ more) some all = one_group place f more (frames_from p (place + 1) ids) all.0 all.1 (places_from p (place + 1) ids)
+    -- the ids of a sample are those of locations of the profile
+    ids_within : (ids : List ℕ) → All (Contains (location_ids p)) ids → AllByRecursion (IsWithin p.location) ids
+    ids_within ids inside =
+        recursion_from_All (IsWithin p.location) ids
+        (λ k d below.
+        let id : ℕ = get_or ids k d in
+        let one : 1 ≤ id = one_le_id (location_ids p) id numbered (inside k d below) in
+        let within = place_within (location_ids p) id numbered (inside k d below) in
+        record { positive = one; within = omega (arith, one, within, length-map p.location (λ (l : Location). l.id)) })
+
+    -- Where the locations of the profile stand first, a sample's ids are those of the locations of its whole stack.
+    pub whole_entries : (s : Sample) (locations : List Location) → RefersTo p s → IsFront p.location locations
+        → AreEntries locations (map (cut_location p) (by_place (stack_of p s))) s.location_id
+    whole_entries s locations refers front =
+        let own = ids_within s.location_id refers in
+        record {
+          within = all_within_still p.location locations front s.location_id own;
+          same =
+              entries_still p.location locations front s.location_id own ∙ entries_read s.location_id
+              ∙ ap (map without_id) (sym (groups_located 0 s.location_id));
+        }
 
     module _ (config : Config) (tagfocus : config.tagfocus ≡ []) (tagignore : config.tagignore ≡ []) where
       -- what is left of a sample is its stack

@@ -1,5 +1,5 @@
 -- Samples that the filters leave, with locations that are cut. No public clause cites them.
-use Rattle.std.specs.Prelude.{◌≡◌, ℕ, ◌<◌, ◌^◌, List, [], ◌∷◌, ◌++◌, map}
+use Rattle.std.specs.Prelude.{◌≡◌, ℕ, ◌<◌, ◌^◌, Bool, true, List, [], ◌∷◌, ◌++◌, map}
 use Rattle.std.specs.List.{flat_map, AllByRecursion}
 use Rattle.std.specs.Option.{option_map_or}
 use Rattle.pp_base.specs.Front.{IsFront}
@@ -13,9 +13,10 @@ use Rattle.pp_model.specs.Finders.{Finders, HoldsFinders}
 use Rattle.pp_model.specs.Rules.{NoRuleFails, IsCompact}
 use Rattle.pp_count.specs.Counts.{samples_at}
 use Rattle.pp_stack.specs.Filters.{frames_of_sample}
+use Rattle.pp_stack.specs.Runs.{kept_if}
 use Rattle.pp_tags.specs.TagFilters.{shown_labels}
 use Rattle.pp_restack.specs.Stacks.{by_place, cut_location}
-use Rattle.pp_restack.specs.Places.{without_id, ArePlaces, IsCutSample, Spread, spread_in, with_cut}
+use Rattle.pp_restack.specs.Places.{without_id, ArePlaces, AreEntries, IsCutSample, Spread, spread_in, with_cut}
 
 -- the sample of which the filters leave this stack
 abbrev pub spread_of : Profile → Finders → Sample → List Frame → List Spread
@@ -29,6 +30,18 @@ spread_of p f s stack =
 -- the sample, where the stack filters leave something of it
 abbrev pub spread_left : Profile → Finders → Sample → List Spread
 spread_left p f s = option_map_or (spread_of p f s) (frames_of_sample p f s) []
+
+-- The ids are those of the locations of what the stack filters leave of the sample, and locations that were there stay.
+pub record PlacesLeft (l : Loaded) (v : Verdicts) (s : Sample) (old new : List Location)
+    (kept : Bool) (ids : List ℕ) : Type 0 where
+  pub places : ArePlaces l.profile new
+  pub front : IsFront old new
+  pub stack : List Frame
+  pub left : (f : Finders) → HoldsFinders l v f
+      → kept_if kept stack ≡ frames_of_sample l.profile f s
+  pub entries : kept ≡ true → AreEntries new (map (cut_location l.profile) (by_place stack)) ids
+  pub valid : NoRuleFails l.profile
+  pub compact : IsCompact l.profile
 
 -- What the stack filters leave of these samples is added, and locations that were there stay.
 pub record AddsSamples (l : Loaded) (v : Verdicts) (samples : List Sample) (before : List Sample)

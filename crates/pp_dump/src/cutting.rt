@@ -1,24 +1,45 @@
 //! What the filters of a report leave of the samples of a profile.
 ghost use Rattle.std.specs.Prelude.{◌≡◌, ◌∷◌, [], IfOk, OnOk};
+ghost use Rattle.pp_base.specs.Front.{IsFront};
 ghost use Rattle.pp_model.specs.Conditions.{HasVerdicts, IsSampleOf, RefersTo};
-ghost use Rattle.pp_model.specs.Finders.{Finders, HoldsFinders};
-ghost use Rattle.pp_tags.specs.TagFilters.{shown_labels};
+ghost use Rattle.pp_stack.specs.Tables.{AreTables};
 ghost use Rattle.pp_count.specs.Counts.{samples_at};
 ghost use Rattle.pp_restack.specs.Places.{ArePlaces};
-ghost use Rattle.pp_dump.specs.Places.{AddsSamples};
+ghost use Rattle.pp_dump.specs.Places.{AddsSamples, PlacesLeft};
 
 use pp_base::{List, Memory};
-use pp_model::{Loaded, Sample, Verdicts};
-use pp_restack::{Places, place_stack};
-use pp_stack::filter_stack;
-use pp_tags::show_tags;
+use pp_model::{Label, Loaded, Profile, Sample, Stack, Verdicts};
+use pp_restack::{Places, no_items, place_stack, places_of, same_items};
+use pp_stack::{VerdictTables, filter_into, keeps_all};
+use pp_tags::show_tags_into;
 use std::alloc::Global;
 
-/// Samples of which frames and labels were taken off, and the locations that they name.
+/// Samples of which frames and labels were taken off, and the locations that they name, with room for what is left of
+/// one sample.
 #[derive(Drop)]
 pub struct Cut {
     pub samples: List<Sample>,
     pub places: Places,
+    /// Its frames, leaf first.
+    pub stack: Stack,
+    /// The ids of its locations, leaf first.
+    pub ids: List<u64>,
+    /// Its labels that are shown.
+    pub labels: List<Label>,
+}
+
+/// No samples, with room for so many, and the locations of the profile.
+pub fn none_cut(alloc: Global, p: &Profile, room: usize) -> Result<Cut, Memory>
+    ensures samples { IfOk result (λ cut. cut.samples ≡ []) }
+    ensures locations { IfOk result (λ cut. cut.places.locations ≡ p.now.location) }
+{
+    Ok(Cut {
+        samples: no_items(alloc, room)?,
+        places: places_of(alloc, p)?,
+        stack: List::new(alloc),
+        ids: List::new(alloc),
+        labels: List::new(alloc),
+    })
 }
 
 /// Adds what the stack filters and the label filters leave of the samples with these numbers.
@@ -26,16 +47,19 @@ pub fn cut_samples(
     alloc: Global,
     l: &Loaded,
     v: &Verdicts,
+    tables: &VerdictTables,
     kept: &[u32],
     cut: &mut Cut,
 ) -> Result<(), Memory>
     requires verdicts { HasVerdicts l.now.profile v.now }
+    requires tables { AreTables l.now.profile v.now tables.now }
     requires places { ArePlaces l.now.profile cut.old.places.locations }
+    requires front { IsFront l.now.profile.location cut.old.places.locations }
     ensures { OnOk result (AddsSamples l.now v.now (samples_at l.now.profile kept.now)
         cut.old.samples cut.old.places.locations cut.new.samples cut.new.places.locations) }
 {
     for number in kept {
-        cut_numbered(alloc, l, v, *number, cut)?;
+        cut_numbered(alloc, l, v, tables, *number, cut)?;
     }
     Ok(())
 }
@@ -45,11 +69,14 @@ fn cut_numbered(
     alloc: Global,
     l: &Loaded,
     v: &Verdicts,
+    tables: &VerdictTables,
     number: u32,
     cut: &mut Cut,
 ) -> Result<(), Memory>
     requires verdicts { HasVerdicts l.now.profile v.now }
+    requires tables { AreTables l.now.profile v.now tables.now }
     requires places { ArePlaces l.now.profile cut.old.places.locations }
+    requires front { IsFront l.now.profile.location cut.old.places.locations }
     ensures { OnOk result (AddsSamples l.now v.now (samples_at l.now.profile (number ∷ []))
         cut.old.samples cut.old.places.locations cut.new.samples cut.new.places.locations) }
 {
@@ -58,60 +85,75 @@ fn cut_numbered(
     if place >= samples.len() {
         return Ok(());
     }
-    cut_sample(alloc, l, v, &samples[place], cut)
+    cut_sample(alloc, l, v, tables, &samples[place], cut)
 }
 
 fn cut_sample(
     alloc: Global,
     l: &Loaded,
     v: &Verdicts,
+    tables: &VerdictTables,
     s: &Sample,
     cut: &mut Cut,
 ) -> Result<(), Memory>
     requires verdicts { HasVerdicts l.now.profile v.now }
+    requires tables { AreTables l.now.profile v.now tables.now }
     requires places { ArePlaces l.now.profile cut.old.places.locations }
+    requires front { IsFront l.now.profile.location cut.old.places.locations }
     requires member { IsSampleOf l.now.profile s.now }
     requires refers { RefersTo l.now.profile s.now }
     ensures { OnOk result (AddsSamples l.now v.now (s.now ∷ [])
         cut.old.samples cut.old.places.locations cut.new.samples cut.new.places.locations) }
 {
-    let Some(stack) = filter_stack(alloc, l, v, s)? else {
+    if !place_sample(alloc, l, v, tables, s, cut)? {
         return Ok(());
-    };
-    let mut ids = no_items(alloc, s.location_id.len())?;
-    let places = &mut cut.places;
-    place_stack(alloc, l.profile.get(), stack.as_slice(), &mut ids, places)?;
-    let sample = sample_with(alloc, l, v, s, ids)?;
+    }
+    show_tags_into(l, v, s, &mut cut.labels)?;
+    let sample = sample_with(alloc, s, cut.ids.as_slice(), cut.labels.as_slice())?;
     cut.samples.push(sample)
 }
 
-/// No items, with room for so many.
-pub fn no_items<T>(alloc: Global, room: usize) -> Result<List<T>, Memory>
-    ensures { IfOk result (λ items. items ≡ []) }
-{
-    Ok(List::from_vec(Vec::with_capacity(alloc, room)?))
-}
-
-// The sample with these locations, and with its labels that are shown.
-fn sample_with(
+// Puts the ids of what is left of the sample's stack in the place of those in the room. False says that the sample is
+// dropped.
+fn place_sample(
     alloc: Global,
     l: &Loaded,
     v: &Verdicts,
+    tables: &VerdictTables,
     s: &Sample,
-    ids: List<u64>,
-) -> Result<Sample, Memory>
-    requires { IsSampleOf l.now.profile s.now }
-    ensures ids { IfOk result (λ sample. sample.location_id ≡ ids) }
-    ensures values { IfOk result (λ sample. sample.value ≡ s.now.value) }
-    ensures labels { (f : Finders) → HoldsFinders l.now v.now f →
-        IfOk result (λ sample. sample.label ≡ shown_labels l.now.profile f s.now.label) }
+    cut: &mut Cut,
+) -> Result<bool, Memory>
+    requires verdicts { HasVerdicts l.now.profile v.now }
+    requires tables { AreTables l.now.profile v.now tables.now }
+    requires places { ArePlaces l.now.profile cut.old.places.locations }
+    requires front { IsFront l.now.profile.location cut.old.places.locations }
+    requires refers { RefersTo l.now.profile s.now }
+    ensures samples { OnOk result (cut.new.samples ≡ cut.old.samples) }
+    ensures left { IfOk result (λ kept. PlacesLeft l.now v.now s.now
+        cut.old.places.locations cut.new.places.locations kept cut.new.ids) }
 {
-    let label = show_tags(alloc, l, v, s)?;
-    let mut value = List::new(alloc);
-    value.extend(s.value.as_slice())?;
+    let p = l.profile.get();
+    cut.ids.truncate(0);
+    if keeps_all(l, v) {
+        cut.ids.extend(s.location_id.as_slice())?;
+        return Ok(true);
+    }
+    if !filter_into(l, v, tables, s, &mut cut.stack)? {
+        return Ok(false);
+    }
+    let stack = cut.stack.as_slice();
+    place_stack(alloc, p, stack, &mut cut.ids, &mut cut.places)?;
+    Ok(true)
+}
+
+// The sample with these locations and labels.
+fn sample_with(alloc: Global, s: &Sample, ids: &[u64], labels: &[Label]) -> Result<Sample, Memory>
+    ensures { IfOk result (λ sample.
+        sample ≡ record s.now { location_id = ids.now; label = labels.now }) }
+{
     Ok(Sample {
-        location_id: ids,
-        value,
-        label,
+        location_id: same_items(alloc, ids)?,
+        value: same_items(alloc, s.value.as_slice())?,
+        label: same_items(alloc, labels)?,
     })
 }

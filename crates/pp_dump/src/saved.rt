@@ -12,14 +12,14 @@ ghost use Rattle.pp_count.specs.Seeing.{HoldsFilters, filtered_from};
 ghost use Rattle.pp_dump.specs.Saved.{AreKept, saved};
 ghost use Rattle.pp_dump.specs.Stacks.{KeepsStacks};
 ghost use Rattle.pp_dump.specs.Unfiltered.{KeepsSums, KeepsKeys, KeepsHeader};
-ghost use Rattle.pp_restack.specs.Places.{with_cut};
 ghost use Rattle.pp_dump.specs.Places.{IsCutOf};
 
-use crate::cutting::{Cut, cut_samples, no_items};
+use crate::cutting::{cut_samples, none_cut};
 use pp_base::Memory;
 use pp_count::Counted;
-use pp_model::{Compact, Loaded, Profile, Valid, Verdicts};
-use pp_restack::{Places, merge_alone, places_of, with_cut};
+use pp_model::{Compact, Loaded, Valid, Verdicts};
+use pp_restack::{merge_alone, with_cut};
+use pp_stack::VerdictTables;
 use std::alloc::Global;
 
 /// What the filters leave of the profile, merged alone: the samples with the frames and labels that they leave and with
@@ -73,26 +73,10 @@ fn cut_profile(alloc: Global, l: &Loaded, v: &Verdicts, kept: &[u32]) -> Result<
     ensures { IfOk result (λ q. IsCutOf l.now v.now kept.now q) }
 {
     let p = l.profile.get();
-    let samples = no_items(alloc, kept.len())?;
-    let mut cut = Cut {
-        samples,
-        places: places_of(alloc, p)?,
-    };
-    cut_samples(alloc, l, v, kept, &mut cut)?;
-    let q = profile_with(alloc, p, cut)?;
+    let tables = VerdictTables::new(alloc, l, v)?;
+    let mut cut = none_cut(alloc, p, kept.len())?;
+    cut_samples(alloc, l, v, &tables, kept, &mut cut)?;
+    let places = cut.places;
+    let q = with_cut(alloc, p, cut.samples, places.locations)?;
     Ok(Valid::claim(q))
-}
-
-// The profile with these samples and locations.
-fn profile_with(alloc: Global, p: &Profile, cut: Cut) -> Result<Profile, Memory>
-    ensures same { IfOk result (λ q. q ≡ with_cut p.now cut.samples cut.places.locations) }
-    ensures starts { IfOk result (λ q. AllByRecursion (λ m. m.start < 2 ^ 64) p.now.mapping) }
-{
-    let Cut { samples, places } = cut;
-    let Places {
-        locations,
-        hints: _hints,
-        lines: _lines,
-    } = places;
-    with_cut(alloc, p, samples, locations)
 }

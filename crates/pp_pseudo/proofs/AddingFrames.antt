@@ -1,7 +1,7 @@
 -- Frames that are added one after the other, and samples.
-use Rattle.std.proofs.Common.{◌≡◌, ℕ, zero, suc, ◌+◌, ◌-◌, ◌<◌, ◌≤◌, Bool, true, false, cond, List, [], ◌∷◌, ◌++◌, map, reverse, length, get_or, drop, All, Option, Some, None, option_map, refl, sym, ap, subst, ◌∙◌, arith, append_assoc, length-append}
+use Rattle.std.proofs.Common.{◌≡◌, ℕ, ◌+◌, ◌-◌, ◌<◌, ◌≤◌, Bool, true, false, cond, List, [], ◌∷◌, ◌++◌, map, reverse, length, get_or, drop, All, Option, Some, None, refl, sym, ap, subst, ◌∙◌, arith, append_assoc, length-append}
 use Rattle.std.specs.Prelude.{slice_get, ◌==◌, pos}
-use Rattle.std.specs.List.{AllByRecursion, filter_map, cons_option, list_all}
+use Rattle.std.specs.List.{AllByRecursion, cons_option, list_all}
 use Rattle.std.specs.Option.{option_to_list}
 use Rattle.std.proofs.lemmas.Bool.{eqb-true}
 use Rattle.std.proofs.lemmas.List.{append-nil, map-append, reverse-append, get_or_append_left, drop_all, drop_more}
@@ -16,15 +16,13 @@ use Rattle.pp_model.specs.declared.profile.Location.{Location}
 use Rattle.pp_model.specs.declared.profile.Sample.{Sample}
 use Rattle.pp_model.specs.declared.profile.Profile.{Profile}
 use Rattle.pp_model.specs.Conditions.{IsFrameOf, IsSampleOf}
-use Rattle.pp_model.specs.Lookup.{text_of}
 use Rattle.pp_model.specs.Rules.{NoRuleFails, IsCompact, location_refers, label_has_texts}
 use Rattle.pp_model.proofs.RuleLemmas.{passes}
 use Rattle.pp_stack.specs.Runs.{kept_if}
-use Rattle.pp_share.specs.Described.{LocationText, label_text}
-use Rattle.pp_model.proofs.FirstSightLemmas.{map_agree}
+use Rattle.pp_share.specs.Described.{LocationText}
 use Rattle.pp_share.proofs.NumberedLemmas.{all_by, all_pass}
-use Rattle.pp_restack.specs.Stacks.{by_place, grouped_with, cut_location, cut_text, lines_of}
-use Rattle.pp_restack.specs.Places.{ArePlaces, KeepsPlaces, TakesPlace, IsEntry, IsWithin, AreEntries, AppendsEntries, IsCutSample, entry_in, without_id, spread_in, line_location, located, told, with_lines}
+use Rattle.pp_restack.specs.Stacks.{by_place, grouped_with, cut_location, cut_text}
+use Rattle.pp_restack.specs.Places.{KeepsPlaces, TakesPlace, IsEntry, IsWithin, AppendsEntries, IsCutSample, entry_in, without_id, spread_in, line_location, located, told}
 use Rattle.pp_restack.proofs.PlacesLemmas.{all_with, group_refers}
 use Rattle.pp_restack.proofs.CutValid.{some_type}
 use Rattle.pp_restack.proofs.Placing.{entries_still, all_within_still, samples_still, spreads_still, front_front, all_append}
@@ -32,7 +30,7 @@ use Rattle.pp_pseudo.specs.Grown.{grown, name_id}
 use Rattle.pp_pseudo.specs.Names.{IsNumberedName}
 use Rattle.pp_pseudo.specs.Values.{frame_name, frame_names}
 use Rattle.pp_pseudo.specs.WithTags.{tag_location, tag_locations, pruned_stack, tagged_sample}
-use Rattle.pp_pseudo.specs.Framed.{Placing, Extends, AddsFrames, AreTagged}
+use Rattle.pp_pseudo.specs.Framed.{Placing, AddsFrames, AreTagged}
 use Rattle.pp_pseudo.proofs.GrownLemmas.{has_tables, name_refers, name_located, location_same, labels_same, label_still}
 
 -- what the front of a list has at a place, the list has there

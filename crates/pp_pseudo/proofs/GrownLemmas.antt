@@ -1,9 +1,9 @@
 -- A profile that has grown says of its own parts what it said before, and of each further name that it is a function.
 use Rattle.std.proofs.Common.{◌≡◌, ℕ, ◌+◌, ◌-◌, ◌<◌, ◌≤◌, Bool, true, false, true≢false, cond, ◌&&◌, ◌||◌, List, [], ◌∷◌, ◌++◌, map, length, get_or, Option, Some, None, option_map, refl, sym, ap, subst, ◌∙◌, inl, inr, arith, length-append, zero-add}
 use Rattle.std.specs.Prelude.{◌==◌, ℤ, pos, negsuc, find, slice_get, slice_index_or}
-use Rattle.std.specs.List.{AllByRecursion, list_any, list_all, range_with_len}
-use Rattle.std.proofs.lemmas.Bool.{and_parts, and_from, lt-ltb, ltb-true, cases_lt, cases_eq, eq-eqb, eqb-true}
-use Rattle.std.proofs.lemmas.List.{length-map, map-append, get_or-map, get_or_append_left, get_or-append-add, get_or_default}
+use Rattle.std.specs.List.{AllByRecursion, list_all, range_with_len}
+use Rattle.std.proofs.lemmas.Bool.{and_parts, and_from, lt-ltb, ltb-true, cases_lt, eqb-true}
+use Rattle.std.proofs.lemmas.List.{length-map, map-append, get_or-map, get_or_append_left, get_or-append-add}
 use Rattle.std.proofs.lemmas.List.Elements.{recursion_from_All}
 use Rattle.std.proofs.lemmas.List.Folds.{list_any-append}
 use Rattle.std.proofs.lemmas.List.FromFn.{get_or-range_with_len, length-range_with_len, map-range_with_len_more}
@@ -17,10 +17,10 @@ use Rattle.pp_model.specs.declared.profile.Location.{Location}
 use Rattle.pp_model.specs.declared.profile.Profile.{Profile}
 use Rattle.pp_model.specs.declared.profile.Sample.{Sample}
 use Rattle.pp_model.specs.declared.profile.ValueType.{ValueType}
-use Rattle.pp_model.specs.Lookup.{text_of, text_number, place_read, function_with}
-use Rattle.pp_model.specs.Rules.{NoRuleFails, IsCompact, AreNumbered, begins_empty, zero_unless, is_text, header_texts, type_has_texts, label_has_texts, mapping_has_texts, function_has_texts, function_ids, mapping_ids, is_zero_or_in, stands_in, location_refers}
+use Rattle.pp_model.specs.Lookup.{text_of, place_read, function_with}
+use Rattle.pp_model.specs.Rules.{NoRuleFails, IsCompact, AreNumbered, begins_empty, is_text, header_texts, type_has_texts, label_has_texts, mapping_has_texts, function_has_texts, function_ids, is_zero_or_in, stands_in, location_refers}
 use Rattle.pp_model.proofs.RuleLemmas.{passes, contains_from}
-use Rattle.pp_model.proofs.CompactLemmas.{find_by_place, id_at, place_of}
+use Rattle.pp_model.proofs.CompactLemmas.{find_by_place, place_of}
 use Rattle.pp_share.specs.Described.{FunctionText, MappingText, LocationText, SampleText, less, start_of, function_text, mapping_text, function_found, mapping_found, line_text, label_text}
 use Rattle.pp_share.specs.Alike.{first_alike}
 use Rattle.pp_model.specs.FirstSight.{distinct}
@@ -28,7 +28,7 @@ use Rattle.pp_share.specs.Header.{type_text, header_of, first_nonempty}
 use Rattle.std.specs.Str.{bytes_eq}
 use Rattle.pp_merge.specs.Merge.{all_mappings}
 use Rattle.pp_model.proofs.FirstSightLemmas.{map_agree}
-use Rattle.pp_share.proofs.NumberedLemmas.{all_by, all_mapped, all_pass, nowhere, nonzero, unrepeated, stands_at}
+use Rattle.pp_share.proofs.NumberedLemmas.{all_by, all_pass, nowhere, nonzero, unrepeated, stands_at}
 use Rattle.pp_merge.proofs.NegatedLemmas.{still_valid}
 use Rattle.pp_share.proofs.Prefix.{map_same}
 use Rattle.pp_restack.specs.Stacks.{made_contents, patternless}

@@ -1,11 +1,12 @@
 -- A name and its place among the names that were met.
-use Rattle.std.proofs.Common.{◌≡◌, ℕ, Bool, true, false, cond, Vec, Global, List, [], ◌∷◌, ◌++◌, map, get_or, Some, option_map, refl, sym, ap, ◌∙◌}
+use Rattle.std.proofs.Common.{◌≡◌, ℕ, ◌<◌, Bool, false, cond, Vec, Global, List, [], ◌∷◌, ◌++◌, map, length, get_or, Some, option_map, sym, ap, ◌∙◌, arith}
 use Rattle.std.specs.Prelude.{slice_get, position, bytes_eq}
-use Rattle.std.proofs.lemmas.List.{append-nil, map-append}
+use Rattle.std.specs.List.{list_any}
+use Rattle.std.proofs.Math.Seq.{get_or-append_seam}
+use Rattle.std.proofs.lemmas.List.{append-nil, map-append, length-append}
 use Rattle.std.proofs.lemmas.List.Quantifiers.{position-Some}
 use Rattle.std.proofs.lemmas.Option.{none-some, slice_get-get_or, slice_get-map}
 use Rattle.std.proofs.lemmas.Slice.Eq.{bytes_eq-Decides}
-use Rattle.pp_base.specs.Front.{IsFront}
 use Rattle.pp_pseudo.specs.Names.{IsNumberedName}
 
 -- the bytes of a key
@@ -30,16 +31,18 @@ known keys names name n same is = record {
 }
 
 -- A name that is new stands behind the others.
-pub added : (old new : List (Vec ℕ Global)) (names : List (List ℕ)) (key stored : Vec ℕ Global) (name : List ℕ) (n : ℕ) (there : Bool) → map bytes_of old ≡ names
-    → new ≡ cond there old (old ++ key ∷ []) → slice_get new n ≡ Some stored → bytes_eq key.items stored.items ≡ true → key.items ≡ name
-    → IsNumberedName names (map bytes_of new) name n
-added old new names key stored name n there same is at alike own = record {
-  front = front there is;
-  named =
-      slice_get-map bytes_of new n ∙ ap (option_map bytes_of) at
-      ∙ ap Some (sym ((bytes_eq-Decides key.items stored.items).0 alike) ∙ own);
-}
-  where
-    front : (b : Bool) → new ≡ cond b old (old ++ key ∷ []) → IsFront names (map bytes_of new)
-    front true e = ([], ap (map bytes_of) e ∙ same ∙ sym (append-nil names))
-    front false e = (key.items ∷ [], ap (map bytes_of) e ∙ map-append bytes_of old (key ∷ []) ∙ ap (λ ns. ns ++ key.items ∷ []) same)
+pub added : (old new : List (Vec ℕ Global)) (names : List (List ℕ)) (key : Vec ℕ Global) (name : List ℕ) (n : ℕ) → map bytes_of old ≡ names
+    → new ≡ cond (list_any (λ (k : Vec ℕ Global). bytes_eq key.items k.items) old) old (old ++ key ∷ []) → key.items ≡ name
+    → false ≡ list_any (λ (k : Vec ℕ Global). bytes_eq name k.items) old → n ≡ length names → IsNumberedName names (map bytes_of new) name n
+added old new names key name n same is own absent last =
+    let behind : new ≡ old ++ key ∷ [] =
+    is ∙ ap (λ (bytes : List ℕ). cond (list_any (λ (k : Vec ℕ Global). bytes_eq bytes k.items) old) old (old ++ key ∷ [])) own
+    ∙ ap (λ (there : Bool). cond there old (old ++ key ∷ [])) (sym absent) in
+    let all : map bytes_of new ≡ names ++ name ∷ [] = ap (map bytes_of) behind ∙ map-append bytes_of old (key ∷ []) ∙ (λ i. same i ++ own i ∷ []) in
+    let within : length names < length (names ++ name ∷ []) = omega (arith, length-append names (name ∷ [])) in
+    record {
+      front = (name ∷ [], all);
+      named =
+          ap (λ ns. slice_get ns n) all ∙ ap (slice_get (names ++ name ∷ [])) last ∙ slice_get-get_or (names ++ name ∷ []) (length names) name within
+          ∙ ap Some (get_or-append_seam names name [] name);
+    }

@@ -1,5 +1,5 @@
 -- The sums over the samples with a frame made from labels are those over the samples with the labels.
-use Rattle.std.proofs.Common.{◌≡◌, ◌≢◌, ℕ, ℤ, ◌+◌, ◌<◌, Bool, true, false, true≢false, cond, ◌&&◌, ◌||◌, List, [], ◌∷◌, ◌++◌, map, reverse, length, get_or, drop, Option, Some, None, option_map, refl, sym, ap, subst, ◌∙◌, arith, All}
+use Rattle.std.proofs.Common.{◌≡◌, ◌≢◌, ℕ, ℤ, Bool, true, false, true≢false, cond, ◌&&◌, ◌||◌, List, [], ◌∷◌, ◌++◌, map, reverse, length, get_or, drop, Option, Some, None, option_map, refl, sym, ap, subst, ◌∙◌, arith, All}
 use Rattle.std.specs.Prelude.{◌==◌, pos, ◌+ℤ◌, filter, find, bytes_eq, Contains, slice_index_or}
 use Rattle.std.specs.List.{AllByRecursion, list_any, flat_map, cons_option}
 use Rattle.std.specs.Option.{option_map_or}

@@ -1,5 +1,5 @@
 -- The profile that is merged alone says what the profile with the frames of the keys says.
-use Rattle.std.proofs.Common.{◌≡◌, true, ℕ, ℤ, ◌+◌, ◌<◌, ◌≤◌, ◌^◌, ◌-◌, List, [], ◌∷◌, ◌++◌, map, length, refl, sym, ap, subst, ◌∙◌, arith}
+use Rattle.std.proofs.Common.{◌≡◌, true, ℕ, ℤ, ◌+◌, ◌<◌, ◌^◌, List, [], ◌∷◌, map, length, refl, sym, ap, subst, ◌∙◌, arith}
 use Rattle.std.specs.Prelude.{◌==◌, pos, nat_abs, slice_index_or}
 use Rattle.std.specs.List.{AllByRecursion, sum_by}
 use Rattle.std.proofs.lemmas.Bool.{eqb-true}
@@ -21,7 +21,7 @@ use Rattle.pp_share.specs.Described.{SampleText}
 use Rattle.pp_merge.specs.Merge.{contents, merged}
 use Rattle.pp_share.specs.Written.{written}
 use Rattle.pp_restack.specs.Stacks.{made_contents}
-use Rattle.pp_restack.specs.Places.{IsCutSample, spread_in, told, with_cut}
+use Rattle.pp_restack.specs.Places.{spread_in, told, with_cut}
 use Rattle.pp_merge.specs.Settled.{IsSettled}
 use Rattle.pp_merge.proofs.SettledLemmas.{settled_contents}
 use Rattle.pp_restack.proofs.MadeContents.{contents_made, starts_of}

@@ -1,7 +1,7 @@
 -- Frames that are added to a sample, and samples that are added, while names are still met. What is said of the
 -- locations holds in each profile that has grown by the names met, and by any others behind them. No public clause
 -- cites it.
-use Rattle.std.specs.Prelude.{◌≡◌, ℕ, ◌<◌, ◌^◌, List, [], ◌++◌, map}
+use Rattle.std.specs.Prelude.{◌≡◌, ℕ, ◌<◌, ◌^◌, List, ◌++◌, map}
 use Rattle.std.specs.List.{AllByRecursion}
 use Rattle.pp_base.specs.Front.{IsFront}
 use Rattle.pp_model.specs.declared.loaded.Loaded.{Loaded}

@@ -12,7 +12,7 @@ use crate::frame_name::put_frame_name;
 use crate::growing::name_id;
 use crate::names::Names;
 use pp_base::{List, Memory, Text};
-use pp_model::{Label, Line, Loaded, Profile, Sample, frames as frames_of};
+use pp_model::{Label, Line, Loaded, Profile, Sample, Stack, frames_into};
 use pp_restack::{Places, place_line, place_stack};
 use pp_stack::load_prune;
 use std::alloc::Global;
@@ -24,6 +24,8 @@ pub struct Frames {
     pub places: Places,
     /// The name that is being put together.
     pub name: Text,
+    /// The frames that load pruning leaves of a sample.
+    pub stack: Stack,
 }
 
 /// Appends the ids of the sample's frames, leaf first: those of the leaves, those that load pruning leaves, those of
@@ -105,13 +107,12 @@ fn put_named(
         (tag_location frames.old.name ∷ [])) }
 {
     let number = frames.names.number(alloc, frames.name.as_slice())?;
-    let function_id = name_id(p, number)?;
     let line = Line {
-        function_id,
+        function_id: name_id(p, number),
         line: 0,
         column: 0,
     };
-    let place = (p.location.len() as u64).saturating_add(number);
+    let place = p.location.as_slice().len() as u64 + number;
     let id = place_line(alloc, line, place, &mut frames.places)?;
     ids.push(id)
 }
@@ -129,9 +130,10 @@ fn put_stack(
         (placing frames.old ids.old) (placing frames.new ids.new)
         (map (cut_text l.now.profile) (by_place (pruned_stack l.now s.now)))) }
 {
-    let mut stack = frames_of(alloc, l, s)?;
-    load_prune(l, &mut stack);
+    frames_into(l, s, &mut frames.stack)?;
+    load_prune(l, &mut frames.stack);
     let p = l.profile.get();
-    place_stack(alloc, p, stack.as_slice(), ids, &mut frames.places)?;
+    let stack = frames.stack.as_slice();
+    place_stack(alloc, p, stack, ids, &mut frames.places)?;
     Ok(())
 }

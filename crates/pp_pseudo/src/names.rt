@@ -21,7 +21,7 @@ impl Model for Names {
 }
 
 impl Names {
-    ghost use Rattle.std.specs.Prelude.{◌≡◌, [], length, IfOk};
+    ghost use Rattle.std.specs.Prelude.{◌≡◌, ◌<◌, ◌^◌, [], length, IfOk};
     ghost use Rattle.pp_pseudo.specs.Names.{IsNumberedName};
 
     /// No names.
@@ -35,21 +35,24 @@ impl Names {
 
     /// The name's number. A name that is new gets the next one; one that is known takes no memory.
     pub fn number(&mut self, alloc: Global, name: &[u8]) -> Result<u64, Memory>
-        ensures { IfOk result (λ n. IsNumberedName self.old self.new name.now n) }
+        ensures numbered { IfOk result (λ n. IsNumberedName self.old self.new name.now n) }
+        ensures small { IfOk result (λ n. n < 2 ^ 60) }
     {
+        let next = self.len();
         if let Some(n) = self.seen.get_index_of(name) {
             return Ok(n as u64);
         }
         let key = Text::from_slice(alloc, name)?.into_vec();
-        let (n, _) = self.seen.insert_full(key)?;
-        Ok(n as u64)
+        self.seen.insert(key)?;
+        Ok(next)
     }
 
-    /// The number of names.
+    /// The number of names, which memory bounds.
     pub fn len(&self) -> u64
-        ensures { result ≡ length self.now }
+        ensures len { result ≡ length self.now }
+        ensures small { result < 2 ^ 60 }
     {
-        self.seen.len() as u64
+        self.seen.as_slice().len() as u64
     }
 
     /// The names as texts, in the order of their numbers.

@@ -13,7 +13,7 @@ use crate::growing::grow;
 use crate::names::Names;
 use pp_base::{List, Memory, Text};
 use pp_model::{Loaded, Profile, Sample, Valid};
-use pp_restack::{Places, merge_alone, places_of, with_cut};
+use pp_restack::{merge_alone, no_items, places_of, same_items, with_cut};
 use std::alloc::Global;
 
 /// The profile with a frame for each listed key of which a sample has a label, at the root for the keys of `roots` and
@@ -47,12 +47,13 @@ fn tagged_alone(alloc: Global, l: &Loaded, roots: &[Text], leaves: &[Text]) -> R
     ensures { IfOk result (λ q. IsTagged l.now roots.now leaves.now q) }
 {
     let p = l.profile.get();
-    let mut samples = List::new(alloc);
+    let mut samples = no_items(alloc, p.sample.len())?;
     let places = places_of(alloc, p)?;
     let mut frames = Frames {
         names: Names::new(alloc),
         places,
         name: Text::new(alloc),
+        stack: List::new(alloc),
     };
     tag_samples(alloc, l, roots, leaves, &mut samples, &mut frames)?;
     let q = grown_with(alloc, p, samples, frames)?;
@@ -74,27 +75,24 @@ fn tag_samples(
         frames.new.names frames.new.places.locations samples.new) }
 {
     let p = l.profile.get();
+    let mut ids = List::new(alloc);
     for s in p.sample.as_slice() {
-        let mut ids = List::new(alloc);
+        ids.truncate(0);
         put_frames(alloc, l, roots, leaves, s, &mut ids, frames)?;
-        let sample = sample_with(alloc, s, ids)?;
+        let sample = sample_with(alloc, s, ids.as_slice())?;
         samples.push(sample)?;
     }
     Ok(())
 }
 
 // The sample with these locations.
-fn sample_with(alloc: Global, s: &Sample, ids: List<u64>) -> Result<Sample, Memory>
-    ensures { IfOk result (λ sample. sample ≡ record s.now { location_id = ids }) }
+fn sample_with(alloc: Global, s: &Sample, ids: &[u64]) -> Result<Sample, Memory>
+    ensures { IfOk result (λ sample. sample ≡ record s.now { location_id = ids.now }) }
 {
-    let mut value = List::new(alloc);
-    value.extend(s.value.as_slice())?;
-    let mut label = List::new(alloc);
-    label.extend(s.label.as_slice())?;
     Ok(Sample {
-        location_id: ids,
-        value,
-        label,
+        location_id: same_items(alloc, ids)?,
+        value: same_items(alloc, s.value.as_slice())?,
+        label: same_items(alloc, s.label.as_slice())?,
     })
 }
 
@@ -109,16 +107,7 @@ fn grown_with(
         q ≡ with_cut (grown p.now frames.names) samples frames.places.locations) }
     ensures starts { IfOk result (λ q. AllByRecursion (λ m. m.start < 2 ^ 64) p.now.mapping) }
 {
-    let Frames {
-        names,
-        places,
-        name: _name,
-    } = frames;
-    let Places {
-        locations,
-        hints: _hints,
-        lines: _lines,
-    } = places;
-    let q = with_cut(alloc, p, samples, locations)?;
-    grow(alloc, q, names)
+    let places = frames.places;
+    let q = with_cut(alloc, p, samples, places.locations)?;
+    grow(alloc, q, frames.names)
 }

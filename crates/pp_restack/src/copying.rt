@@ -1,5 +1,5 @@
 //! The tables of a profile once more.
-ghost use Rattle.std.specs.Prelude.{◌≡◌, ◌<◌, ◌^◌, length, IfOk};
+ghost use Rattle.std.specs.Prelude.{◌≡◌, ◌<◌, ◌^◌, [], IfOk};
 ghost use Rattle.std.specs.List.{AllByRecursion};
 ghost use Rattle.pp_restack.specs.Places.{with_cut};
 
@@ -36,12 +36,20 @@ pub fn with_cut(
     })
 }
 
-fn same_items<T: Copy>(alloc: Global, items: &[T]) -> Result<List<T>, Memory>
+/// The same items, in a list of just their size.
+pub fn same_items<T: Copy>(alloc: Global, items: &[T]) -> Result<List<T>, Memory>
     ensures { IfOk result (λ list. list ≡ items.now) }
 {
-    let mut list = List::new(alloc);
+    let mut list = no_items(alloc, items.len())?;
     list.extend(items)?;
     Ok(list)
+}
+
+/// No items, with room for so many.
+pub fn no_items<T>(alloc: Global, room: usize) -> Result<List<T>, Memory>
+    ensures { IfOk result (λ items. items ≡ []) }
+{
+    Ok(List::from_vec(Vec::with_capacity(alloc, room)?))
 }
 
 // One by one, since only a number that is read is known to have 64 bits.
@@ -49,7 +57,7 @@ fn same_mappings(alloc: Global, mappings: &[Mapping]) -> Result<List<Mapping>, M
     ensures same { IfOk result (λ list. list ≡ mappings.now) }
     ensures starts { IfOk result (λ list. AllByRecursion (λ m. m.start < 2 ^ 64) mappings.now) }
 {
-    let mut list = List::new(alloc);
+    let mut list = no_items(alloc, mappings.len())?;
     for m in mappings {
         let _start = m.start;
         list.push(*m)?;
@@ -60,7 +68,7 @@ fn same_mappings(alloc: Global, mappings: &[Mapping]) -> Result<List<Mapping>, M
 fn same_texts(alloc: Global, texts: &[Text]) -> Result<List<Text>, Memory>
     ensures { IfOk result (λ list. list ≡ texts.now) }
 {
-    let mut list = List::new(alloc);
+    let mut list = no_items(alloc, texts.len())?;
     for text in texts {
         let copy = Text::from_slice(alloc, text.as_slice())?;
         list.push(copy)?;
@@ -72,7 +80,7 @@ fn same_texts(alloc: Global, texts: &[Text]) -> Result<List<Text>, Memory>
 pub fn same_locations(alloc: Global, locations: &[Location]) -> Result<List<Location>, Memory>
     ensures { IfOk result (λ list. list ≡ locations.now) }
 {
-    let mut list = List::new(alloc);
+    let mut list = no_items(alloc, locations.len())?;
     for location in locations {
         let copy = same_location(alloc, location)?;
         list.push(copy)?;

@@ -8,6 +8,6 @@ mod places;
 mod stacks;
 
 pub use alone::merge_alone;
-pub use copying::with_cut;
+pub use copying::{no_items, same_items, with_cut};
 pub use places::{Places, place_line, places_of};
 pub use stacks::place_stack;

@@ -7,7 +7,7 @@ ghost use Rattle.pp_model.specs.Rules.{NoRuleFails};
 ghost use Rattle.pp_restack.specs.Stacks.{lines_of, cut_location};
 ghost use Rattle.pp_restack.specs.Places.{with_lines, without_id, line_location, KeepsPlaces, TakesPlace, IsEntry};
 
-use crate::copying::same_locations;
+use crate::copying::{no_items, same_items, same_locations};
 use pp_base::{List, Memory};
 use pp_model::{Frame, Line, Location, Profile};
 use std::alloc::Global;
@@ -26,7 +26,7 @@ pub struct Places {
 pub fn places_of(alloc: Global, p: &Profile) -> Result<Places, Memory>
     ensures { IfOk result (λ places. places.locations ≡ p.now.location) }
 {
-    let mut hints = List::new(alloc);
+    let mut hints = no_items(alloc, p.location.len())?;
     for _ in 0..p.location.len() {
         hints.push(0)?;
     }
@@ -203,18 +203,13 @@ fn add(alloc: Global, location: &Location, places: &mut Places) -> Result<u64, M
     ensures locations { IfOk result (λ id. places.new.locations ≡ places.old.locations
         ++ record (with_lines location.now places.old.lines) { id = id } ∷ []) }
 {
-    let count = places.locations.len() as u64;
-    if count == u64::MAX {
-        return Err(Memory);
-    }
-    let mut line = List::new(alloc);
-    line.extend(places.lines.as_slice())?;
+    let id = places.locations.as_slice().len() as u64 + 1;
     places.locations.push(Location {
-        id: count + 1,
+        id,
         mapping_id: location.mapping_id,
         address: location.address,
-        line,
+        line: same_items(alloc, places.lines.as_slice())?,
         folded: location.folded,
     })?;
-    Ok(count + 1)
+    Ok(id)
 }

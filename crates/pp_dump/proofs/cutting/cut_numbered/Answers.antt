@@ -1,5 +1,6 @@
 use Rattle.std.proofs.Common.{◌≡◌, ◌≤◌, ◌<◌, List, [], ◌∷◌, length, ap, sym, subst, ◌∙◌, arith, get_or}
 use Rattle.std.specs.List.{flat_map}
+use Rattle.std.proofs.lemmas.List.{append-nil}
 use Rattle.std.specs.Result.{OnOk}
 use Rattle.pp_model.specs.declared.profile.Sample.{Sample}
 use Rattle.pp_model.specs.declared.profile.Profile.{Profile}
@@ -17,7 +18,8 @@ returns-then-place-samples c =
     let p = c.args.l.now.profile in
     let past : length p.sample ≤ c.args.number =
     omega (arith, c.if-place-samples.true, ap length c.as_slice-samples.ensures, ap (λ (q : Profile). length q.sample) c.get.ensures.same) in
-    adds_none c.args.l.now c.args.v.now (samples_at p (c.args.number ∷ [])) c.args.cut.now.samples c.args.cut.now.places.locations c.requires.places
+    let locations = c.args.cut.now.places.locations in
+    adds_none c.args.l.now c.args.v.now (samples_at p (c.args.number ∷ [])) c.args.cut.now.samples locations locations c.requires.places ([], sym (append-nil locations))
     (λ f finds. ap (flat_map (spread_left p f)) (none_at p c.args.number past))
 
 pub cut_sample-requires-clause-refers : goal.cut_sample-requires-clause-refers

@@ -1,6 +1,8 @@
-use Rattle.std.proofs.Common.{◌≡◌, [], ◌∷◌, ◌++◌, List, get_or, take, refl, sym, subst}
+use Rattle.std.proofs.Common.{[], ◌∷◌, List, get_or, take, refl, sym, subst}
 use Rattle.pp_model.specs.declared.profile.Sample.{Sample}
+use Rattle.std.proofs.lemmas.List.{append-nil}
 use Rattle.pp_count.specs.Counts.{samples_at}
+use Rattle.pp_restack.proofs.Placing.{front_front}
 use Rattle.pp_dump.specs.Places.{AddsSamples}
 use Rattle.pp_count.proofs.KeptSamples.{samples_more}
 use Rattle.pp_dump.proofs.AddingSamples.{adds_none, adds_both}
@@ -8,7 +10,13 @@ use Rattle.pp_dump.proofs.cutting.cut_samples.Goals as goal
 
 pub loop-number-init : goal.loop-number-init
 loop-number-init c =
-    adds_none c.args.l.now c.args.v.now [] c.args.cut.now.samples c.args.cut.now.places.locations c.requires.places (λ f finds. refl)
+    let locations = c.args.cut.now.places.locations in
+    adds_none c.args.l.now c.args.v.now [] c.args.cut.now.samples locations locations c.requires.places ([], sym (append-nil locations)) (λ f finds. refl)
+
+-- the locations of the profile still stand first
+pub cut_numbered-requires-clause-front : goal.cut_numbered-requires-clause-front
+cut_numbered-requires-clause-front c =
+    front_front c.args.l.now.profile.location c.args.cut.now.places.locations c.loop-number.cut.places.locations c.requires.front c.loop-number.invariant.front
 
 -- one number more
 pub loop-number-preserved : goal.loop-number-preserved

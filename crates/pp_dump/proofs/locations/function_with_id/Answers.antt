@@ -1,5 +1,4 @@
 use Rattle.std.proofs.Common.{ap, ◌∙◌, pos, List}
-use Rattle.std.specs.Option.{option_copied}
 use Rattle.pp_model.specs.declared.profile.Function.{Function}
 use Rattle.pp_model.specs.Lookup.{place_read}
 use Rattle.pp_model.proofs.CompactLemmas.{find_by_place}

@@ -1,4 +1,4 @@
-use Rattle.std.proofs.Common.{◌≡◌, ◌++◌, take, codes}
+use Rattle.std.proofs.Common.{◌≡◌, ◌++◌, take}
 use Rattle.std.specs.List.{flat_map}
 use Rattle.pp_dump.specs.Raw.{label_line}
 use Rattle.pp_dump.proofs.samples.put_labels.Given as goal

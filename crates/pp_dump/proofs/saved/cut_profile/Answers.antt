@@ -1,5 +1,6 @@
-use Rattle.std.proofs.Common.{◌≡◌, ◌<◌, ◌^◌, ◌++◌, List, [], sym, ap, subst, ◌∙◌}
+use Rattle.std.proofs.Common.{◌<◌, ◌^◌, ◌++◌, List, [], sym, ap, subst, ◌∙◌}
 use Rattle.std.specs.List.{AllByRecursion}
+use Rattle.std.proofs.lemmas.List.{append-nil}
 use Rattle.pp_model.specs.declared.profile.Location.{Location}
 use Rattle.pp_model.specs.declared.profile.Mapping.{Mapping}
 use Rattle.pp_model.specs.declared.profile.Sample.{Sample}
@@ -14,9 +15,14 @@ use Rattle.pp_dump.proofs.saved.cut_profile.Goals as goal
 -- the locations of the profile are places of it
 pub cut_samples-requires-clause-places : goal.cut_samples-requires-clause-places
 cut_samples-requires-clause-places c =
-    subst (λ (locations : List Location). ArePlaces c.args.l.now.profile locations) (sym c.in_ok-places_of.ensures)
+    subst (λ (locations : List Location). ArePlaces c.args.l.now.profile locations) (sym c.in_ok-cut.ensures.locations)
     (subst (λ (p : Profile). ArePlaces p c.get-p.result.now.location) c.get-p.ensures.same
     (own_places c.get-p.result.now c.get-p.ensures.valid c.get-p.ensures.compact))
+
+-- and so they stand first
+pub cut_samples-requires-clause-front : goal.cut_samples-requires-clause-front
+cut_samples-requires-clause-front c =
+    ([], c.in_ok-cut.ensures.locations ∙ ap (λ (p : Profile). p.location) c.get-p.ensures.same ∙ sym (append-nil c.args.l.now.profile.location))
 
 -- what is merged alone keeps the table rules
 pub claim-requires : goal.claim-requires
@@ -29,7 +35,7 @@ claim-requires c =
     (cut_valid p new.samples new.places.locations c.get-p.ensures.valid
     (subst (λ (q : Profile). ArePlaces q new.places.locations) (sym same) adds.places)
     (subst (λ (q : Profile). AllByRecursion (IsCutSample q new.places.locations) new.samples) (sym same)
-    (subst (AllByRecursion (IsCutSample c.args.l.now.profile new.places.locations)) (sym (adds.is ∙ ap (λ (samples : List Sample). samples ++ adds.added) c.in_ok-samples.ensures)) adds.each)))
+    (subst (AllByRecursion (IsCutSample c.args.l.now.profile new.places.locations)) (sym (adds.is ∙ ap (λ (samples : List Sample). samples ++ adds.added) c.in_ok-cut.ensures.samples)) adds.each)))
 
 pub returns : goal.returns
 returns c =
@@ -43,9 +49,9 @@ returns c =
       locations = new.places.locations;
       is = c.claim.ensures ∙ c.in_ok-q.ensures.same ∙ ap (λ (p : Profile). with_cut p new.samples new.places.locations) same;
       adds =
-          subst (λ (samples : List Sample). AddsSamples l v numbered samples l.profile.location new.samples new.places.locations) c.in_ok-samples.ensures
-          (subst (λ (locations : List Location). AddsSamples l v numbered c.in_ok-samples.samples locations new.samples new.places.locations)
-          (c.in_ok-places_of.ensures ∙ ap (λ (p : Profile). p.location) same) c.in_ok-cut_samples.ensures);
+          subst (λ (samples : List Sample). AddsSamples l v numbered samples l.profile.location new.samples new.places.locations) c.in_ok-cut.ensures.samples
+          (subst (λ (locations : List Location). AddsSamples l v numbered c.in_ok-cut.cut.samples locations new.samples new.places.locations)
+          (c.in_ok-cut.ensures.locations ∙ ap (λ (p : Profile). p.location) same) c.in_ok-cut_samples.ensures);
       valid = subst NoRuleFails same c.get-p.ensures.valid;
       compact = subst IsCompact same c.get-p.ensures.compact;
       starts = subst (λ (p : Profile). AllByRecursion (λ (m : Mapping). m.start < 2 ^ 64) p.mapping) same c.in_ok-q.ensures.starts;

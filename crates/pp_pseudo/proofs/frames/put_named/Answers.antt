@@ -12,7 +12,7 @@ returns c =
     then_ok c.push.result
     (adds_name c.args.p.now c.requires.valid c.requires.compact (placing frames c.args.ids.now)
     (placing (record frames { names = c.number.new.self; places = c.place_line.new.places }) c.push.new.self)
-    frames.name c.in_ok-number.number c.in_ok-function_id.function_id c.in_ok-id.id c.in_ok-function_id.ensures
-    (subst (λ (name : List ℕ). IsNumberedName frames.names c.number.new.self name c.in_ok-number.number) c.as_slice.ensures c.in_ok-number.ensures)
+    frames.name c.in_ok-number.number c.name_id.result c.in_ok-id.id c.name_id.ensures
+    (subst (λ (name : List ℕ). IsNumberedName frames.names c.number.new.self name c.in_ok-number.number) c.as_slice.ensures c.in_ok-number.ensures.numbered)
     c.in_ok-id.ensures.places c.in_ok-id.ensures.front c.in_ok-id.ensures.entry)
     c.push.ensures.ok

@@ -1,4 +1,4 @@
-use Rattle.std.proofs.Common.{◌≡◌, List, map, refl, sym, ap, subst, ◌∙◌}
+use Rattle.std.proofs.Common.{◌≡◌, List, map, refl, ap, subst, ◌∙◌}
 use Rattle.pp_model.specs.declared.frame.Frame.{Frame}
 use Rattle.pp_model.specs.declared.profile.Profile.{Profile}
 use Rattle.pp_model.specs.FrameTexts.{written}
@@ -25,9 +25,9 @@ returns c =
     let new = c.place_stack.new.places.locations in
     let pruned : c.load_prune.new.stack ≡ pruned_stack l c.args.s.now =
     c.load_prune.ensures.places (load_finders l) (same_judged p l.drop compact l.drop_fits) (same_judged p l.keep compact l.keep_fits)
-    ∙ ap (load_pruned (written p) (load_finders l)) c.in_ok-stack.ensures.places in
-    let all = subst (λ (stack : List Frame). AppendsEntries new (map (cut_location p) (by_place stack)) c.args.ids.now c.place_stack.new.ids) c.as_slice.ensures
-    (subst (λ (q : Profile). AppendsEntries new (map (cut_location q) (by_place c.as_slice.result.now)) c.args.ids.now c.place_stack.new.ids) same c.in_ok-place_stack.ensures.ids) in
+    ∙ ap (load_pruned (written p) (load_finders l)) c.in_ok-frames_into.ensures.places in
+    let all = subst (λ (stack : List Frame). AppendsEntries new (map (cut_location p) (by_place stack)) c.args.ids.now c.place_stack.new.ids) c.as_slice-stack.ensures
+    (subst (λ (q : Profile). AppendsEntries new (map (cut_location q) (by_place c.as_slice-stack.result.now)) c.args.ids.now c.place_stack.new.ids) same c.in_ok-place_stack.ensures.ids) in
     subst (λ (stack : List Frame). AddsFrames p (placing c.args.frames.now c.args.ids.now) (placing (record c.args.frames.now { places = c.place_stack.new.places }) c.place_stack.new.ids) (map (cut_text p) (by_place stack))) pruned
     (adds_stack p valid compact (placing c.args.frames.now c.args.ids.now) (placing (record c.args.frames.now { places = c.place_stack.new.places }) c.place_stack.new.ids)
     c.load_prune.new.stack c.load_prune.ensures.of_profile refl

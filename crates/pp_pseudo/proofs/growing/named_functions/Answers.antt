@@ -7,4 +7,4 @@ use Rattle.pp_pseudo.proofs.growing.named_functions.Goals as goal
 pub loop-number-preserved : goal.loop-number-preserved
 loop-number-preserved c =
     functions_more c.args.p.now c.loop-number.number c.loop-number.functions _ c.loop-number.invariant
-    (c.in_ok-push.ensures.ok ∙ ap (λ (f : Function). c.loop-number.functions ++ f ∷ []) c.in_ok-named_function.ensures)
+    (c.in_ok-push.ensures.ok ∙ ap (λ (f : Function). c.loop-number.functions ++ f ∷ []) c.named_function.ensures)

@@ -1,4 +1,4 @@
-use Rattle.std.proofs.Common.{◌≡◌, ◌+◌, ◌++◌, ◌∷◌, [], List, length, take, get_or, arith, sym, ap, subst, ◌∙◌}
+use Rattle.std.proofs.Common.{◌≡◌, ◌+◌, ◌++◌, ◌∷◌, [], List, ℕ, length, take, get_or, arith, sym, ap, subst, ◌∙◌}
 use Rattle.std.proofs.lemmas.List.{take_more}
 use Rattle.pp_model.specs.declared.profile.Profile.{Profile}
 use Rattle.pp_model.specs.declared.profile.Sample.{Sample}
@@ -33,5 +33,5 @@ loop-s-preserved c =
     take_more items i s c.loop-s-test.true ∙ ap (λ (x : Sample). take i items ++ x ∷ []) (sym c.s-item.is) in
     subst (λ (done : List Sample). AreTagged l roots leaves done new.names new.places.locations c.push.new.self) (sym more)
     (tagged_more l roots leaves (subst NoRuleFails same c.get-p.ensures.valid) (subst IsCompact same c.get-p.ensures.compact) (take i items) s c.in_ok-sample.sample
-    (placing c.loop-s.frames c.new-ids.result) (placing new c.put_frames.new.ids) c.loop-s.samples c.push.new.self c.loop-s.invariant member c.new-ids.ensures
-    c.in_ok-put_frames.ensures c.in_ok-sample.ensures c.in_ok-push.ensures.ok)
+    (placing c.loop-s.frames c.truncate.new.self) (placing new c.put_frames.new.ids) c.loop-s.samples c.push.new.self c.loop-s.invariant member c.truncate.ensures
+    c.in_ok-put_frames.ensures (c.in_ok-sample.ensures ∙ ap (λ (ids : List ℕ). record s { location_id = ids }) c.as_slice.ensures) c.in_ok-push.ensures.ok)

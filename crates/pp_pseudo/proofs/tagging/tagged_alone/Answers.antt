@@ -1,4 +1,4 @@
-use Rattle.std.proofs.Common.{◌≡◌, [], List, ℕ, sym, ap, subst, ◌∙◌}
+use Rattle.std.proofs.Common.{[], List, ℕ, sym, ap, subst, ◌∙◌}
 use Rattle.pp_model.specs.declared.profile.Location.{Location}
 use Rattle.pp_model.specs.declared.profile.Profile.{Profile}
 use Rattle.pp_model.specs.declared.profile.Sample.{Sample}
@@ -15,7 +15,7 @@ tag_samples-requires c =
     let leaves = c.args.leaves.now in
     let same = c.get-p.ensures.same in
     record {
-      none = subst (λ (samples : List Sample). AreTagged l roots leaves [] c.new.result c.in_ok-places.places.locations samples) (sym c.new-samples.ensures)
+      none = subst (λ (samples : List Sample). AreTagged l roots leaves [] c.new.result c.in_ok-places.places.locations samples) (sym c.in_ok-samples.ensures)
           (subst (λ (names : List (List ℕ)). AreTagged l roots leaves [] names c.in_ok-places.places.locations []) (sym c.new.ensures)
           (subst (λ (locations : List Location). AreTagged l roots leaves [] [] locations []) (sym (c.in_ok-places.ensures ∙ ap (λ (p : Profile). p.location) same))
           (tagged_none l roots leaves (subst NoRuleFails same c.get-p.ensures.valid) (subst IsCompact same c.get-p.ensures.compact))));
