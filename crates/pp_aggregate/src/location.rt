@@ -6,6 +6,7 @@ use crate::aggregating::Kept;
 use pp_base::List;
 use pp_model::{Line, Location};
 
+/// Drops of each location what is not kept. It takes no memory.
 pub fn aggregate_locations(locations: &mut [Location], keep: &Kept)
     ensures { locations.new ≡ map (aggregated_location keep.now) locations.old }
 {
