@@ -1,15 +1,17 @@
 -- What samples say where their labels are others, under the table rules.
-use Rattle.std.proofs.Common.{◌≡◌, ◌≢◌, ℕ, ◌<◌, ◌≤◌, Bool, true, false, true≢false, cond, not, List, [], ◌∷◌, ◌++◌, map, length, length-append, append-nil, get_or, Option, Some, None, refl, sym, ap, subst, ◌∙◌, arith}
-use Rattle.std.specs.Prelude.{pos, ◌==◌, find}
-use Rattle.std.specs.List.{AllByRecursion, AllPairs, filter, flat_map, list_all}
+use Rattle.std.proofs.Common.{◌≡◌, ◌≢◌, ℕ, ◌<◌, ◌≤◌, Bool, true, false, true≢false, cond, not, ◌&&◌, ◌||◌, List, [], ◌∷◌, ◌++◌, map, length, length-append, append-nil, get_or, Option, Some, None, refl, sym, ap, subst, ◌∙◌, arith}
+use Rattle.std.specs.Prelude.{pos, ◌==◌, All, find}
+use Rattle.std.specs.List.{AllByRecursion, AllPairs, filter, flat_map, list_all, list_any}
 use Rattle.std.specs.Option.{option_map_or}
+use Rattle.std.specs.Ordering.{int_eq}
 use Rattle.std.specs.Str.{bytes_eq}
 use Rattle.std.proofs.lemmas.List.{get_or_append_left, map-append}
 use Rattle.std.proofs.lemmas.List.Concat.{flat_map-cons}
-use Rattle.std.proofs.lemmas.List.Elements.{recursion_from_All, All-filter}
+use Rattle.std.proofs.lemmas.List.Elements.{recursion_from_All, All-filter, All-map}
 use Rattle.std.proofs.lemmas.List.Sums.{AllPass-from_list_all, list_all-from_AllPass}
-use Rattle.std.proofs.lemmas.Bool.{and_parts, and_from, lt-ltb}
-use Rattle.std.proofs.lemmas.List.Folds.{list_all-append}
+use Rattle.std.proofs.lemmas.Bool.{and_parts, and_from, lt-ltb, or_right}
+use Rattle.std.proofs.lemmas.Bool.Decides.{Decides-int_eq}
+use Rattle.std.proofs.lemmas.List.Folds.{list_all-append, list_any-append}
 use Rattle.std.proofs.lemmas.Slice.Eq.{bytes_eq-Decides}
 use Rattle.std.proofs.lemmas.Option.{none-some}
 use Rattle.pp_base.specs.Front.{IsFront}
@@ -21,7 +23,7 @@ use Rattle.pp_model.specs.declared.profile.Function.{Function}
 use Rattle.pp_model.specs.declared.profile.Sample.{Sample}
 use Rattle.pp_model.specs.declared.profile.Profile.{Profile}
 use Rattle.pp_model.specs.Rules.{NoRuleFails, IsCompact, zero_unless, begins_empty, is_text, label_has_texts, function_has_texts, mapping_has_texts}
-use Rattle.pp_model.specs.FirstSight.{seen_after}
+use Rattle.pp_model.specs.FirstSight.{place_of, seen_after}
 use Rattle.pp_model.specs.Lookup.{text_number, text_at, text_of, function_with, mapping_with, location_with}
 use Rattle.pp_model.specs.FrameTexts.{name_number, file_number, object_number, written_line, written_lines, written_at}
 use Rattle.pp_model.proofs.FirstSightLemmas.{IsSeen, all_seen}
@@ -31,8 +33,9 @@ use Rattle.pp_share.proofs.Deciding.{place_gets}
 use Rattle.pp_share.proofs.DistinctLemmas.{place_below}
 use Rattle.pp_share.proofs.NumberedLemmas.{all_by}
 use Rattle.pp_merge.proofs.NegatedLemmas.{all_then, label_then, still_valid}
+use Rattle.pp_tags.specs.Labels.{has_text}
 use Rattle.pp_build.specs.Said.{SaidSample, said_sample, said_samples}
-use Rattle.pp_edit.specs.Labels.{has_key, label_in, relabelled, relabelled_sample, said_with, said_without, texts_of, with_label, with_texts_of, without_label}
+use Rattle.pp_edit.specs.Labels.{has_key, has_label, has_number, label_in, relabelled, relabelled_sample, said_with, said_without, texts_of, with_label, with_texts_of, without_label}
 use Rattle.pp_edit.proofs.TextLemmas.{apart_after, front_after, laws}
 
 -- a rule that fails nowhere
@@ -221,6 +224,23 @@ module _ (p : Profile) (key : List ℕ) where
     texts = compact.texts;
   }
 
+-- the empty text stands first
+first_place : (texts : List (List ℕ)) → begins_empty texts ≡ true → place_of bytes_eq texts [] ≡ 0
+first_place [] is = absurd (true≢false (sym is))
+first_place ([] ∷ texts) is = refl
+first_place ((b ∷ bs) ∷ texts) is = absurd (true≢false (sym is))
+
+-- it is the first text
+first_empty : (texts : List (List ℕ)) → begins_empty texts ≡ true → get_or texts 0 [] ≡ []
+first_empty [] is = absurd (true≢false (sym is))
+first_empty ([] ∷ texts) is = refl
+first_empty ((b ∷ bs) ∷ texts) is = absurd (true≢false (sym is))
+
+-- a test that fails
+fails : (b : Bool) → (b ≡ true → ⊥) → not b ≡ true
+fails true other = absurd (other refl)
+fails false other = refl
+
 -- A profile with a label.
 module _ (p : Profile) (l : LabelText) where
   abbrev texts : List (List ℕ)
@@ -250,3 +270,34 @@ module _ (p : Profile) (l : LabelText) where
 
   pub with_compact : NoRuleFails p → IsCompact p → IsCompact (with_label p l)
   with_compact valid compact = relabelled_compact p valid texts (front_after p.text (texts_of l)) l.key (label_in texts l ∷ []) compact (apart_after p.text (texts_of l) compact.texts)
+
+  -- there is an empty first text
+  texts_begin : NoRuleFails p → begins_empty texts ≡ true
+  texts_begin valid =
+      let front = front_after p.text (texts_of l) in
+      subst (λ all. begins_empty all ≡ true) (sym front.1) (begins_then p.text front.0 (begins_from (begins_empty p.text) valid.text_zero))
+
+  -- a test that the label passes finds it in each sample
+  each_has : (test : Label → Bool) → test (label_in texts l) ≡ true → All (λ s. list_any test s.label ≡ true) (with_label p l).sample
+  each_has test own =
+      All-map (λ s. list_any test s.label ≡ true) (relabelled_sample (has_key (with_texts_of p l) l.key) (label_in texts l ∷ [])) p.sample
+      (λ k d within. list_any-append test _ (label_in texts l ∷ []) ∙ or_right _ _ (ap (λ b. b || false) own))
+
+  -- it has its key
+  own_key : has_key (with_texts_of p l) l.key (label_in texts l) ≡ true
+  own_key = (bytes_eq-Decides _ _).1 (sym (ap (λ (own : LabelText). own.key) own_said))
+
+  -- Each sample has the text label,
+  pub with_has : NoRuleFails p → l.text ≢ [] → All (λ s. has_label (with_label p l) l.key l.text s ≡ true) (with_label p l).sample
+  with_has valid some =
+      each_has (λ label. has_text label && (has_key (with_texts_of p l) l.key label && bytes_eq l.text (text_of (with_texts_of p l) label.text)))
+      (and_from _ _ (fails _ (λ zeroth. some (sym (ap (λ (own : LabelText). own.text) own_said)
+      ∙ ap (λ i. get_or texts (text_number i) []) ((Decides-int_eq (label_in texts l).text (pos 0)).0 zeroth) ∙ first_empty texts (texts_begin valid))))
+      (and_from _ _ own_key ((bytes_eq-Decides _ _).1 (sym (ap (λ (own : LabelText). own.text) own_said)))))
+
+  -- or the number label.
+  pub with_has_number : NoRuleFails p → l.text ≡ [] → All (λ s. has_number (with_label p l) l.key l.num l.unit s ≡ true) (with_label p l).sample
+  with_has_number valid none =
+      each_has (λ label. not (has_text label) && (has_key (with_texts_of p l) l.key label && (int_eq l.num label.num && bytes_eq l.unit (text_of (with_texts_of p l) label.num_unit))))
+      (and_from _ _ (ap (λ place. not (not (int_eq (pos place) (pos 0)))) (ap (place_of bytes_eq texts) none ∙ first_place texts (texts_begin valid)))
+      (and_from _ _ own_key (and_from _ _ ((Decides-int_eq l.num l.num).1 refl) ((bytes_eq-Decides _ _).1 (sym (ap (λ (own : LabelText). own.unit) own_said))))))

@@ -1,6 +1,7 @@
 -- Labels of samples: which ones have a key, and profiles from which they are taken or in which they are set.
 use Rattle.std.specs.Prelude.{ℕ, Bool, ◌&&◌, not, ℤ, pos, List, [], ◌∷◌, ◌++◌, map}
 use Rattle.std.specs.List.{filter, list_any}
+use Rattle.std.specs.Ordering.{int_eq}
 use Rattle.std.specs.Str.{bytes_eq}
 use Rattle.pp_model.specs.declared.profile.Label.{Label}
 use Rattle.pp_model.specs.declared.profile.Sample.{Sample}
@@ -19,6 +20,14 @@ has_key p key label = bytes_eq key (text_of p label.key)
 abbrev pub has_label : Profile → List ℕ → List ℕ → Sample → Bool
 has_label p key text s =
     list_any (λ label. has_text label && (has_key p key label && bytes_eq text (text_of p label.text))) s.label
+
+-- one of the sample's labels is a number label of this key, number and unit
+abbrev pub has_number : Profile → List ℕ → ℤ → List ℕ → Sample → Bool
+has_number p key num unit s =
+    list_any
+    (λ label. not (has_text label)
+    && (has_key p key label && (int_eq num label.num && bytes_eq unit (text_of p label.num_unit))))
+    s.label
 
 -- the sample with these labels behind those of other keys
 abbrev pub relabelled_sample : (Label → Bool) → List Label → Sample → Sample

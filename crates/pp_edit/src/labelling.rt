@@ -1,12 +1,12 @@
 //! Labels taken off each sample, and set on each.
-ghost use Rattle.std.specs.Prelude.{◌≡◌, ◌≢◌, ◌∷◌, pos, [], IfOk, OnOk, map, not, position};
+ghost use Rattle.std.specs.Prelude.{◌≡◌, ◌≢◌, ◌∷◌, pos, [], true, All, IfOk, OnOk, map, not, position};
 ghost use Rattle.std.specs.List.{filter};
 ghost use Rattle.std.specs.Str.{bytes_eq};
 ghost use Rattle.pp_model.specs.FirstSight.{place_of, seen_with, seen_after};
 ghost use Rattle.pp_model.specs.Rules.{IsCompact};
 ghost use Rattle.pp_build.specs.Said.{said_samples};
 ghost use Rattle.pp_edit.specs.Keys.{names};
-ghost use Rattle.pp_edit.specs.Labels.{label_in, number_label, relabelled, relabelled_sample, said_with, said_without, text_label, with_label, without_label};
+ghost use Rattle.pp_edit.specs.Labels.{has_label, has_number, label_in, number_label, relabelled, relabelled_sample, said_with, said_without, text_label, with_label, without_label};
 
 use crate::key::{Key, key_in};
 use pp_base::{List, Memory, Text};
@@ -33,6 +33,7 @@ pub fn set_label(alloc: Global, p: Valid, key: &[u8], text: &[u8]) -> Result<Val
     ensures with { IfOk result (λ q. q ≡ with_label p (text_label key.now text.now)) }
     ensures said { IfOk result (λ q. said_samples q
         ≡ map (said_with (text_label key.now text.now)) (said_samples p)) }
+    ensures has { IfOk result (λ q. All (λ s. has_label q key.now text.now s ≡ true) q.sample) }
     ensures compact { IsCompact p → IfOk result IsCompact }
 {
     set(alloc, p, key, text, 0, b"")
@@ -41,7 +42,7 @@ pub fn set_label(alloc: Global, p: Valid, key: &[u8], text: &[u8]) -> Result<Val
 /// The profile whose samples have a number label of this key, number and unit, behind their labels of other keys. All
 /// labels of the key that a sample had go, text labels and number labels alike. With an empty unit the key decides. On
 /// want of memory, the only error, the profile is gone.
-pub fn set_num_label(
+pub fn set_number_label(
     alloc: Global,
     p: Valid,
     key: &[u8],
@@ -51,6 +52,7 @@ pub fn set_num_label(
     ensures with { IfOk result (λ q. q ≡ with_label p (number_label key.now num unit.now)) }
     ensures said { IfOk result (λ q. said_samples q
         ≡ map (said_with (number_label key.now num unit.now)) (said_samples p)) }
+    ensures has { IfOk result (λ q. All (λ s. has_number q key.now num unit.now s ≡ true) q.sample) }
     ensures compact { IsCompact p → IfOk result IsCompact }
 {
     set(alloc, p, key, b"", num, unit)
@@ -70,6 +72,10 @@ fn set(
     ensures said { IfOk result (λ q. said_samples q
         ≡ map (said_with (record { key = key.now; text = text.now; num = num; unit = unit.now }))
             (said_samples p)) }
+    ensures text { text.now ≢ [] → IfOk result (λ q.
+        All (λ s. has_label q key.now text.now s ≡ true) q.sample) }
+    ensures number { text.now ≡ [] → IfOk result (λ q.
+        All (λ s. has_number q key.now num unit.now s ≡ true) q.sample) }
     ensures compact { IsCompact p → IfOk result IsCompact }
 {
     let mut p = p.into_profile();

@@ -12,5 +12,5 @@ mod verdicts;
 pub use asking::{find_label, has_label, is_of_base};
 pub use copying::{copy_compact, copy_profile, copy_valid};
 pub use counting::is_countable;
-pub use labelling::{remove_label, set_label, set_num_label};
+pub use labelling::{remove_label, set_label, set_number_label};
 pub use verdicts::no_verdicts;
