@@ -1,11 +1,11 @@
 -- What samples say where their labels are others, under the table rules.
 use Rattle.std.proofs.Common.{◌≡◌, ◌≢◌, ℕ, ◌<◌, ◌≤◌, Bool, true, false, true≢false, cond, not, ◌&&◌, ◌||◌, List, [], ◌∷◌, ◌++◌, map, length, length-append, append-nil, get_or, Option, Some, None, refl, sym, ap, subst, ◌∙◌, arith}
-use Rattle.std.specs.Prelude.{pos, ◌==◌, All, find}
+use Rattle.std.specs.Prelude.{pos, ◌==◌, All, find, nat_abs}
 use Rattle.std.specs.List.{AllByRecursion, AllPairs, filter, flat_map, list_all, list_any}
 use Rattle.std.specs.Option.{option_map_or}
 use Rattle.std.specs.Ordering.{int_eq}
 use Rattle.std.specs.Str.{bytes_eq}
-use Rattle.std.proofs.lemmas.List.{get_or_append_left, map-append}
+use Rattle.std.proofs.lemmas.List.{get_or_append_left, length-map, map-append}
 use Rattle.std.proofs.lemmas.List.Concat.{flat_map-cons}
 use Rattle.std.proofs.lemmas.List.Elements.{recursion_from_All, All-filter, All-map}
 use Rattle.std.proofs.lemmas.List.Sums.{AllPass-from_list_all, list_all-from_AllPass}
@@ -23,6 +23,7 @@ use Rattle.pp_model.specs.declared.profile.Function.{Function}
 use Rattle.pp_model.specs.declared.profile.Sample.{Sample}
 use Rattle.pp_model.specs.declared.profile.Profile.{Profile}
 use Rattle.pp_model.specs.Rules.{NoRuleFails, IsCompact, zero_unless, begins_empty, is_text, label_has_texts, function_has_texts, mapping_has_texts}
+use Rattle.pp_model.specs.Sizes.{IsCountable, value_in}
 use Rattle.pp_model.specs.FirstSight.{place_of, seen_after}
 use Rattle.pp_model.specs.Lookup.{text_number, text_at, text_of, function_with, mapping_with, location_with}
 use Rattle.pp_model.specs.FrameTexts.{name_number, file_number, object_number, written_line, written_lines, written_at}
@@ -32,6 +33,7 @@ use Rattle.pp_share.specs.Described.{LabelText, label_text}
 use Rattle.pp_share.proofs.Deciding.{place_gets}
 use Rattle.pp_share.proofs.DistinctLemmas.{place_below}
 use Rattle.pp_share.proofs.NumberedLemmas.{all_by}
+use Rattle.pp_share.proofs.SampleKeyLemmas.{sum_by-map}
 use Rattle.pp_merge.proofs.NegatedLemmas.{all_then, label_then, still_valid}
 use Rattle.pp_tags.specs.Labels.{has_text}
 use Rattle.pp_build.specs.Said.{SaidSample, said_sample, said_samples}
@@ -189,6 +191,15 @@ module _ (p : Profile) (valid : NoRuleFails p) (texts : List (List ℕ)) (front 
         longer : length p.text ≤ length texts
         longer = omega (arith, ap length front.1, length-append p.text front.0)
 
+    -- Values stay as they are.
+    pub relabelled_countable : IsCountable p → IsCountable (relabelled more key labels)
+    relabelled_countable countable = record {
+      samples = omega (arith, countable.samples, length-map p.sample (relabelled_sample (has_key more key) labels));
+      columns = countable.columns;
+      sums = λ column within.
+          omega (arith, countable.sums column within, sum_by-map (λ s. nat_abs (value_in s column)) (relabelled_sample (has_key more key) labels) p.sample);
+    }
+
     -- Ids stay places plus 1, and texts that differ stay so.
     pub relabelled_compact : IsCompact p → AllPairs (λ a b. a ≢ b) texts → IsCompact (relabelled more key labels)
     relabelled_compact compact apart = record {
@@ -215,6 +226,9 @@ module _ (p : Profile) (key : List ℕ) where
 
   pub without_valid : NoRuleFails p → NoRuleFails (without_label p key)
   without_valid valid = subst NoRuleFails without_is (relabelled_valid p valid p.text (own_front p.text) key [] refl)
+
+  pub without_countable : NoRuleFails p → IsCountable p → IsCountable (without_label p key)
+  without_countable valid countable = subst IsCountable without_is (relabelled_countable p valid p.text (own_front p.text) key [] countable)
 
   pub without_compact : IsCompact p → IsCompact (without_label p key)
   without_compact compact = record {
@@ -267,6 +281,9 @@ module _ (p : Profile) (l : LabelText) where
 
   pub with_valid : NoRuleFails p → NoRuleFails (with_label p l)
   with_valid valid = relabelled_valid p valid texts (front_after p.text (texts_of l)) l.key (label_in texts l ∷ []) own_texts
+
+  pub with_countable : NoRuleFails p → IsCountable p → IsCountable (with_label p l)
+  with_countable valid = relabelled_countable p valid texts (front_after p.text (texts_of l)) l.key (label_in texts l ∷ [])
 
   pub with_compact : NoRuleFails p → IsCompact p → IsCompact (with_label p l)
   with_compact valid compact = relabelled_compact p valid texts (front_after p.text (texts_of l)) l.key (label_in texts l ∷ []) compact (apart_after p.text (texts_of l) compact.texts)

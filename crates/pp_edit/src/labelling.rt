@@ -4,6 +4,7 @@ ghost use Rattle.std.specs.List.{filter};
 ghost use Rattle.std.specs.Str.{bytes_eq};
 ghost use Rattle.pp_model.specs.FirstSight.{place_of, seen_with, seen_after};
 ghost use Rattle.pp_model.specs.Rules.{IsCompact};
+ghost use Rattle.pp_model.specs.Sizes.{IsCountable};
 ghost use Rattle.pp_build.specs.Said.{said_samples};
 ghost use Rattle.pp_edit.specs.Keys.{names};
 ghost use Rattle.pp_edit.specs.Labels.{has_label, has_number, label_in, number_label, relabelled, relabelled_sample, said_with, said_without, text_label, with_label, without_label};
@@ -19,6 +20,7 @@ use std::mem;
 pub fn remove_label(alloc: Global, p: Valid, key: &[u8]) -> Result<Valid, Memory>
     ensures without { IfOk result (λ q. q ≡ without_label p key.now) }
     ensures said { IfOk result (λ q. said_samples q ≡ map (said_without key.now) (said_samples p)) }
+    ensures countable { IsCountable p → IfOk result IsCountable }
     ensures compact { IsCompact p → IfOk result IsCompact }
 {
     let p = relabel(alloc, p.into_profile(), key, &[])?;
@@ -34,6 +36,7 @@ pub fn set_label(alloc: Global, p: Valid, key: &[u8], text: &[u8]) -> Result<Val
     ensures said { IfOk result (λ q. said_samples q
         ≡ map (said_with (text_label key.now text.now)) (said_samples p)) }
     ensures has { IfOk result (λ q. All (λ s. has_label q key.now text.now s ≡ true) q.sample) }
+    ensures countable { IsCountable p → IfOk result IsCountable }
     ensures compact { IsCompact p → IfOk result IsCompact }
 {
     set(alloc, p, key, text, 0, b"")
@@ -53,6 +56,7 @@ pub fn set_number_label(
     ensures said { IfOk result (λ q. said_samples q
         ≡ map (said_with (number_label key.now num unit.now)) (said_samples p)) }
     ensures has { IfOk result (λ q. All (λ s. has_number q key.now num unit.now s ≡ true) q.sample) }
+    ensures countable { IsCountable p → IfOk result IsCountable }
     ensures compact { IsCompact p → IfOk result IsCompact }
 {
     set(alloc, p, key, b"", num, unit)
@@ -76,6 +80,7 @@ fn set(
         All (λ s. has_label q key.now text.now s ≡ true) q.sample) }
     ensures number { text.now ≡ [] → IfOk result (λ q.
         All (λ s. has_number q key.now num unit.now s ≡ true) q.sample) }
+    ensures countable { IsCountable p → IfOk result IsCountable }
     ensures compact { IsCompact p → IfOk result IsCompact }
 {
     let mut p = p.into_profile();

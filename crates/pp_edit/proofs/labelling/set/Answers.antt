@@ -1,10 +1,11 @@
 use Rattle.std.proofs.Common.{◌≡◌, ap, sym, subst, true, ◌∙◌, rules}
 use Rattle.std.specs.Prelude.{All}
 use Rattle.pp_model.specs.Rules.{IsCompact, NoRuleFails}
+use Rattle.pp_model.specs.Sizes.{IsCountable}
 use Rattle.pp_build.specs.Said.{said_samples}
 use Rattle.pp_share.specs.Described.{LabelText}
 use Rattle.pp_edit.specs.Labels.{has_label, has_number, with_label}
-use Rattle.pp_edit.proofs.LabelLemmas.{with_said, with_valid, with_has, with_has_number, with_compact}
+use Rattle.pp_edit.proofs.LabelLemmas.{with_said, with_valid, with_has, with_has_number, with_countable, with_compact}
 use Rattle.pp_edit.proofs.labelling.set.Goals as goal
 
 -- what holds of the profile with the label
@@ -19,6 +20,12 @@ returns-clause-said c =
     let l : LabelText = record { key = c.args.key.now; text = c.args.text.now; num = c.args.num; unit = c.args.unit.now } in
     let is : c.claim.result ≡ with_label c.args.p l = search rules in
     ap said_samples is ∙ with_said c.args.p l (subst NoRuleFails c.into_profile-p.ensures.same c.into_profile-p.ensures.valid)
+
+pub returns-clause-countable : goal.returns-clause-countable
+returns-clause-countable c countable =
+    let l : LabelText = record { key = c.args.key.now; text = c.args.text.now; num = c.args.num; unit = c.args.unit.now } in
+    let is : c.claim.result ≡ with_label c.args.p l = search rules in
+    subst IsCountable (sym is) (with_countable c.args.p l (subst NoRuleFails c.into_profile-p.ensures.same c.into_profile-p.ensures.valid) countable)
 
 pub returns-clause-compact : goal.returns-clause-compact
 returns-clause-compact c compact =
