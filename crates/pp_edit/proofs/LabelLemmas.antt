@@ -1,12 +1,11 @@
 -- What samples say where their labels are others, under the table rules.
-use Rattle.std.proofs.Common.{◌≡◌, ◌≢◌, ℕ, ◌<◌, ◌≤◌, Bool, true, false, true≢false, cond, not, ◌&&◌, ◌||◌, List, [], ◌∷◌, ◌++◌, map, length, length-append, append-nil, get_or, Option, Some, None, refl, sym, ap, subst, ◌∙◌, arith}
+use Rattle.std.proofs.Common.{◌≡◌, ◌≢◌, ℕ, ◌<◌, ◌≤◌, Bool, true, false, true≢false, cond, not, ◌&&◌, ◌||◌, List, [], ◌∷◌, ◌++◌, map, length, length-append, append-nil, get_or, Some, None, refl, sym, ap, subst, ◌∙◌, arith}
 use Rattle.std.specs.Prelude.{pos, ◌==◌, All, find, nat_abs}
 use Rattle.std.specs.List.{AllByRecursion, AllPairs, filter, flat_map, list_all, list_any}
 use Rattle.std.specs.Option.{option_map_or}
 use Rattle.std.specs.Ordering.{int_eq}
 use Rattle.std.specs.Str.{bytes_eq}
 use Rattle.std.proofs.lemmas.List.{get_or_append_left, length-map, map-append}
-use Rattle.std.proofs.lemmas.List.Concat.{flat_map-cons}
 use Rattle.std.proofs.lemmas.List.Elements.{recursion_from_All, All-filter, All-map}
 use Rattle.std.proofs.lemmas.List.Sums.{AllPass-from_list_all, list_all-from_AllPass}
 use Rattle.std.proofs.lemmas.Bool.{and_parts, and_from, lt-ltb, or_right}
@@ -22,11 +21,11 @@ use Rattle.pp_model.specs.declared.profile.Mapping.{Mapping}
 use Rattle.pp_model.specs.declared.profile.Function.{Function}
 use Rattle.pp_model.specs.declared.profile.Sample.{Sample}
 use Rattle.pp_model.specs.declared.profile.Profile.{Profile}
-use Rattle.pp_model.specs.Rules.{NoRuleFails, IsCompact, zero_unless, begins_empty, is_text, label_has_texts, function_has_texts, mapping_has_texts}
+use Rattle.pp_model.specs.Rules.{NoRuleFails, IsCompact, zero_unless, begins_empty, label_has_texts, function_has_texts, mapping_has_texts}
 use Rattle.pp_model.specs.Sizes.{IsCountable, value_in}
 use Rattle.pp_model.specs.FirstSight.{place_of, seen_after}
-use Rattle.pp_model.specs.Lookup.{text_number, text_at, text_of, function_with, mapping_with, location_with}
-use Rattle.pp_model.specs.FrameTexts.{name_number, file_number, object_number, written_line, written_lines, written_at}
+use Rattle.pp_model.specs.Lookup.{text_number, text_at, text_of, location_with}
+use Rattle.pp_model.specs.FrameTexts.{name_number, file_number, object_number, written_lines, written_at}
 use Rattle.pp_model.proofs.FirstSightLemmas.{IsSeen, all_seen}
 use Rattle.pp_model.proofs.RuleLemmas.{passes, text_below}
 use Rattle.pp_share.specs.Described.{LabelText, label_text}

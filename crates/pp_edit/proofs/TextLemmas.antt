@@ -1,12 +1,12 @@
 -- Texts that are found or added, and verdicts on them.
-use Rattle.std.proofs.Common.{◌≡◌, ◌≢◌, ℕ, ◌+◌, ◌<◌, ◌≤◌, Bool, true, false, true≢false, cond, not, ◌||◌, List, [], ◌∷◌, ◌++◌, map, length, length-append, get_or, if◌then◌else◌, append-nil, append_assoc, refl, sym, ap, subst, ◌∙◌, arith}
-use Rattle.std.specs.Prelude.{◌==◌, pos, position, Some, None}
+use Rattle.std.proofs.Common.{◌≡◌, ◌≢◌, ℕ, ◌+◌, Bool, true, false, true≢false, cond, not, ◌||◌, List, [], ◌∷◌, ◌++◌, map, length, get_or, if◌then◌else◌, append-nil, append_assoc, refl, sym, ap, ◌∙◌, arith}
+use Rattle.std.specs.Prelude.{position, Some, None}
 use Rattle.std.specs.Cmp.{IsEquivalence}
 use Rattle.std.specs.List.{AllPairs, list_any}
 use Rattle.std.specs.Option.{unwrap_or}
 use Rattle.std.specs.Str.{bytes_eq}
 use Rattle.std.proofs.Math.ListN.{get_or-map}
-use Rattle.std.proofs.lemmas.Bool.{eq-eqb, ne_eqb, lt-ltb, le-ltb}
+use Rattle.std.proofs.lemmas.Bool.{lt-ltb, le-ltb}
 use Rattle.std.proofs.lemmas.Map.Made.{AllPairs-from_IsDistinct, IsDistinct-from_AllPairs}
 use Rattle.std.proofs.lemmas.Slice.Eq.{bytes_eq-Decides}
 use Rattle.pp_base.specs.Front.{IsFront}
@@ -19,7 +19,7 @@ use Rattle.pp_model.proofs.FirstSightLemmas.{apart_seen_after, place-seen_after,
 use Rattle.pp_share.proofs.DistinctLemmas.{deciding_laws, place_below}
 use Rattle.pp_share.specs.Described.{LabelText}
 use Rattle.pp_edit.specs.Keys.{IsKeyOf, names}
-use Rattle.pp_edit.specs.Labels.{has_key, label_in, relabelled, relabelled_sample, texts_of}
+use Rattle.pp_edit.specs.Labels.{has_key, relabelled, relabelled_sample}
 
 -- the profile as it is relabelled by verdicts on its texts
 pub relabelled_is : (p : Profile) (key : List ℕ) (k : _) (labels : List Label) (texts : List (List ℕ)) (samples : List Sample) → texts ≡ p.text → IsKeyOf texts key k
@@ -77,14 +77,13 @@ pub label_added : (all one two three : List (List ℕ)) (l : LabelText) → one 
     → (place_of bytes_eq three l.key ≡ place_of bytes_eq all l.key) × (place_of bytes_eq three l.text ≡ place_of bytes_eq one l.text) × (place_of bytes_eq three l.unit ≡ place_of bytes_eq two l.unit)
 label_added all one two three l first second third =
     let self = (laws []).refl in
-    let seen = seen_with bytes_eq in
-    (
+    let seen = seen_with bytes_eq in (
       ap (λ xs. place_of bytes_eq xs l.key) (third ∙ (λ i. seen (second i) l.unit) ∙ (λ i. seen (seen (first i) l.text) l.unit))
-      ∙ place-seen_after bytes_eq (seen all l.key) (l.text ∷ l.unit ∷ []) l.key (seen_now bytes_eq self all l.key)
-      ∙ place_when_seen bytes_eq self all l.key,
+          ∙ place-seen_after bytes_eq (seen all l.key) (l.text ∷ l.unit ∷ []) l.key (seen_now bytes_eq self all l.key)
+          ∙ place_when_seen bytes_eq self all l.key,
       ap (λ xs. place_of bytes_eq xs l.text) (third ∙ (λ i. seen (second i) l.unit))
-      ∙ place-seen_after bytes_eq (seen one l.text) (l.unit ∷ []) l.text (seen_now bytes_eq self one l.text)
-      ∙ place_when_seen bytes_eq self one l.text,
+          ∙ place-seen_after bytes_eq (seen one l.text) (l.unit ∷ []) l.text (seen_now bytes_eq self one l.text)
+          ∙ place_when_seen bytes_eq self one l.text,
       ap (λ xs. place_of bytes_eq xs l.unit) third ∙ place_when_seen bytes_eq self two l.unit,
     )
 

@@ -1,7 +1,6 @@
 //! Labels that a sample has.
-ghost use Rattle.std.specs.Prelude.{◌≡◌, codes, find};
+ghost use Rattle.std.specs.Prelude.{◌≡◌, bytes_eq, codes, find};
 ghost use Rattle.std.specs.Option.{option_copied};
-ghost use Rattle.std.specs.Prelude.{bytes_eq};
 ghost use Rattle.pp_model.specs.Lookup.{text_of};
 ghost use Rattle.pp_edit.specs.Labels.{has_key, has_label};
 
@@ -12,11 +11,9 @@ use pp_tags::has_text;
 pub fn has_label(p: &Profile, sample: &Sample, key: &[u8], text: &[u8]) -> bool
     ensures { result ≡ has_label p.now key.now text.now sample.now }
 {
-    sample
-        .label
-        .as_slice()
-        .iter()
-        .any(|label| has_text(label) && has_key(p, key, label) && is_text(p, text, label.text))
+    sample.label.as_slice().iter().any(|label| has_text(label)
+        && has_key(p, key, label)
+        && is_text(p, text, label.text))
 }
 
 /// The first label of the sample with this key, be it a text label or a number label.

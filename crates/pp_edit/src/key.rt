@@ -1,7 +1,5 @@
 //! The key of labels that are taken off.
-ghost use Rattle.std.specs.Prelude.{◌≡◌, IfOk, map, slice_index_or};
-ghost use Rattle.std.specs.Str.{bytes_eq};
-ghost use Rattle.pp_model.specs.Lookup.{text_number};
+ghost use Rattle.std.specs.Prelude.{◌≡◌, IfOk};
 ghost use Rattle.pp_edit.specs.Keys.{IsKeyOf, names};
 
 use pp_base::{List, Memory, Text};
@@ -36,11 +34,7 @@ impl Key {
     pub fn is_of(&self, label: &Label) -> bool
         ensures { result ≡ names self.now label.now }
     {
-        let place = if label.key < 0 {
-            0
-        } else {
-            label.key as usize
-        };
+        let place = if label.key < 0 { 0 } else { label.key as usize };
         match self.texts.as_slice().get(place) {
             None => self.past,
             Some(is) => *is,

@@ -1,8 +1,8 @@
 //! Labels taken off each sample, and set on each.
-ghost use Rattle.std.specs.Prelude.{◌≡◌, ◌≢◌, ◌∷◌, pos, [], true, All, IfOk, OnOk, map, not, position};
+ghost use Rattle.std.specs.Prelude.{◌≡◌, ◌≢◌, ◌∷◌, [], true, All, IfOk, OnOk, map, not};
 ghost use Rattle.std.specs.List.{filter};
 ghost use Rattle.std.specs.Str.{bytes_eq};
-ghost use Rattle.pp_model.specs.FirstSight.{place_of, seen_with, seen_after};
+ghost use Rattle.pp_model.specs.FirstSight.{seen_after};
 ghost use Rattle.pp_model.specs.Rules.{IsCompact};
 ghost use Rattle.pp_model.specs.Sizes.{IsCountable};
 ghost use Rattle.pp_build.specs.Said.{said_samples};
@@ -10,6 +10,7 @@ ghost use Rattle.pp_edit.specs.Keys.{names};
 ghost use Rattle.pp_edit.specs.Labels.{has_label, has_number, label_in, number_label, relabelled, relabelled_sample, said_with, said_without, text_label, with_label, without_label};
 
 use crate::key::{Key, key_in};
+use crate::texts::index_of;
 use pp_base::{List, Memory, Text};
 use pp_model::{Label, Profile, Sample, Valid};
 use std::alloc::Global;
@@ -75,7 +76,7 @@ fn set(
         ≡ with_label p (record { key = key.now; text = text.now; num = num; unit = unit.now })) }
     ensures said { IfOk result (λ q. said_samples q
         ≡ map (said_with (record { key = key.now; text = text.now; num = num; unit = unit.now }))
-            (said_samples p)) }
+        (said_samples p)) }
     ensures text { text.now ≢ [] → IfOk result (λ q.
         All (λ s. has_label q key.now text.now s ≡ true) q.sample) }
     ensures number { text.now ≡ [] → IfOk result (λ q.
@@ -109,31 +110,6 @@ fn label_of(
         num,
         num_unit: index_of(alloc, texts, unit)?,
     })
-}
-
-// The index of the text, which is added where it is not there.
-fn index_of(alloc: Global, texts: &mut List<Text>, text: &[u8]) -> Result<i64, Memory>
-    ensures index { IfOk result (λ i. i ≡ pos (place_of bytes_eq texts.old text.now)) }
-    ensures texts { OnOk result (texts.new ≡ seen_with bytes_eq texts.old text.now) }
-{
-    let place = place_of(texts.as_slice(), text);
-    if place == texts.len() {
-        texts.push(Text::from_slice(alloc, text)?)?;
-    }
-    i64::try_from(place).map_err(|_| Memory)
-}
-
-// The first place of the text, which is the number of the texts where it is not there.
-fn place_of(texts: &[Text], text: &[u8]) -> usize
-    ensures { result ≡ place_of bytes_eq texts.now text.now }
-{
-    find_text(texts, text).unwrap_or(texts.len())
-}
-
-fn find_text(texts: &[Text], text: &[u8]) -> Option<usize>
-    ensures { result ≡ position (bytes_eq text.now) texts.now }
-{
-    texts.iter().position(|other| text == other.as_slice())
 }
 
 // Puts the labels in the place of those of the key, in each sample.

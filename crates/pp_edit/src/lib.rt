@@ -1,5 +1,5 @@
-//! What a program does with a profile that it holds, beside reports: copies of it, whether it can be counted, and the
-//! verdicts of a report without patterns.
+//! What a program does with a profile that it holds, beside reports: copies of it, labels that are asked for, set and
+//! removed, whether it can be counted, and the verdicts of a report without patterns.
 #![tactic(auto)]
 
 mod asking;
@@ -7,6 +7,7 @@ mod copying;
 mod counting;
 mod key;
 mod labelling;
+mod texts;
 mod verdicts;
 
 pub use asking::{find_label, has_label, is_of_base};

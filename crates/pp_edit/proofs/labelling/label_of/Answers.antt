@@ -1,4 +1,4 @@
-use Rattle.std.proofs.Common.{ℤ, pos, [], ◌∷◌, ◌∙◌, sym, ap, w64, rules}
+use Rattle.std.proofs.Common.{pos, ◌∙◌, sym, ap, w64, rules}
 use Rattle.std.proofs.lemmas.Int.{to_z-of_z}
 use Rattle.pp_edit.proofs.TextLemmas.{label_added}
 use Rattle.pp_edit.proofs.labelling.label_of.Goals as goal

@@ -1,4 +1,3 @@
-use Rattle.std.proofs.Common.{sym}
 use Rattle.pp_edit.proofs.TextLemmas.{relabelled_is}
 use Rattle.pp_edit.proofs.labelling.relabel.Goals as goal
 

@@ -1,5 +1,4 @@
-use Rattle.std.proofs.Common.{not, ◌++◌, ap, refl, ◌∙◌}
-use Rattle.std.specs.List.{filter}
+use Rattle.std.proofs.Common.{◌++◌, ap, refl, ◌∙◌}
 use Rattle.std.proofs.lemmas.List.{length-set}
 use Rattle.pp_model.specs.declared.profile.Sample.{Sample}
 use Rattle.pp_share.proofs.ChangeLemmas.{change_next}

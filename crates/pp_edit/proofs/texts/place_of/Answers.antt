@@ -1,7 +1,7 @@
 use Rattle.std.proofs.Common.{length, ◌∙◌, ap}
 use Rattle.std.specs.Option.{unwrap_or}
 use Rattle.pp_edit.proofs.TextLemmas.{place_or}
-use Rattle.pp_edit.proofs.labelling.place_of.Goals as goal
+use Rattle.pp_edit.proofs.texts.place_of.Goals as goal
 
 -- the first place
 pub returns : goal.returns
