@@ -1,2 +1,4 @@
 pub mod TextLemmas
-pub mod LabelLemmas
+pub mod StayingLemmas
+pub mod RelabelledLemmas
+pub mod WithLabelLemmas

@@ -1,5 +1,5 @@
-//! The program `pp_example`: a server's allocations of two hours. They are recorded, written to files, read back and
-//! merged, and shown as a table of its own and as the report top. The server is made up.
+//! The program `pp_example`: a server's allocations of two hours. They are recorded, written to files, read back,
+//! labelled and merged, and shown as a table of its own and as the report top. The server is made up.
 #![tactic(auto)]
 
 ghost use Rattle.std.specs.Prelude.{◌≡◌, ◌<◌, ◌≤◌, ◌^◌, IfOk, length};

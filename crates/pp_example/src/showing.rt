@@ -58,14 +58,6 @@ fn put_table(
     text.extend(b"\n")
 }
 
-// The number of samples of the second hour.
-fn put_hour(alloc: Global, p: &Profile, text: &mut Text) -> Result<(), Memory> {
-    let samples = p.sample.as_slice().iter();
-    let own = samples.filter(|sample| has_label(p, sample, b"hour", b"2"));
-    let line = format!(in alloc; "samples of hour 2: {}\n\n", own.count())?;
-    text.extend(line.as_bytes())
-}
-
 fn put_row(
     alloc: Global,
     l: &Loaded,
@@ -83,4 +75,12 @@ fn put_row(
     text.extend(figures.as_bytes())?;
     write_name(l, &sums.names.key(number), text)?;
     text.extend(b"\n")
+}
+
+// The number of samples of the second hour.
+fn put_hour(alloc: Global, p: &Profile, text: &mut Text) -> Result<(), Memory> {
+    let samples = p.sample.as_slice().iter();
+    let own = samples.filter(|sample| has_label(p, sample, b"hour", b"2"));
+    let line = format!(in alloc; "samples of hour 2: {}\n\n", own.count())?;
+    text.extend(line.as_bytes())
 }

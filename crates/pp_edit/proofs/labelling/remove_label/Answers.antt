@@ -3,7 +3,7 @@ use Rattle.pp_model.specs.Rules.{IsCompact, NoRuleFails}
 use Rattle.pp_model.specs.Sizes.{IsCountable}
 use Rattle.pp_build.specs.Said.{said_samples}
 use Rattle.pp_edit.specs.Labels.{without_label}
-use Rattle.pp_edit.proofs.LabelLemmas.{without_is, without_said, without_valid, without_countable, without_compact}
+use Rattle.pp_edit.proofs.RelabelledLemmas.{without_is, without_said, without_valid, without_countable, without_compact}
 use Rattle.pp_edit.proofs.labelling.remove_label.Goals as goal
 
 -- no labels are put behind the others

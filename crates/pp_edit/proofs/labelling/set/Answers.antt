@@ -5,7 +5,7 @@ use Rattle.pp_model.specs.Sizes.{IsCountable}
 use Rattle.pp_build.specs.Said.{said_samples}
 use Rattle.pp_share.specs.Described.{LabelText}
 use Rattle.pp_edit.specs.Labels.{has_label, has_number, with_label}
-use Rattle.pp_edit.proofs.LabelLemmas.{with_said, with_valid, with_has, with_has_number, with_countable, with_compact}
+use Rattle.pp_edit.proofs.WithLabelLemmas.{with_said, with_valid, with_has, with_has_number, with_countable, with_compact}
 use Rattle.pp_edit.proofs.labelling.set.Goals as goal
 
 -- what holds of the profile with the label
