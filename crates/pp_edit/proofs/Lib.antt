@@ -1,0 +1,4 @@
+pub mod TextLemmas
+pub mod StayingLemmas
+pub mod RelabelledLemmas
+pub mod WithLabelLemmas

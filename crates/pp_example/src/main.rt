@@ -1,5 +1,5 @@
-//! The program `pp_example`: a server's allocations of two hours. They are recorded, written to files, read back and
-//! merged, and shown as a table of its own and as the report top. The server is made up.
+//! The program `pp_example`: a server's allocations of two hours. They are recorded, written to files, read back,
+//! labelled and merged, and shown as a table of its own and as the report top. The server is made up.
 #![tactic(auto)]
 
 ghost use Rattle.std.specs.Prelude.{◌≡◌, ◌<◌, ◌≤◌, ◌^◌, IfOk, length};
@@ -11,7 +11,7 @@ mod showing;
 use anyhow::{Result, ensure};
 use pp_base::{FileRead, FileWrite, Files, List, Text, write_all};
 use pp_check::check;
-use pp_edit::is_countable;
+use pp_edit::{is_countable, set_label};
 use pp_merge::merge;
 use pp_model::{Compact, Loaded, Valid};
 use pp_real::{Output, RealFiles};
@@ -43,7 +43,7 @@ fn show_countable<R: Threads + Sync>(rt: &R, alloc: Global, profile: Compact) ->
     show(rt, alloc, &l)
 }
 
-// Two hours, each through a file of its own.
+// Two hours, each through a file of its own, and labelled.
 fn hours<F: Files>(alloc: Global, files: &mut F) -> Result<List<Valid>>
     ensures some { IfOk result (λ hours. length hours ≡ 2) }
     ensures samples { IfOk result (λ hours. sum_by (λ p. length p.sample) hours < 2 ^ 32) }
@@ -51,8 +51,8 @@ fn hours<F: Files>(alloc: Global, files: &mut F) -> Result<List<Valid>>
     let first = through_file(alloc, files, b"hour-1.pb", &record_hour(alloc, 300)?)?;
     let second = through_file(alloc, files, b"hour-2.pb", &record_hour(alloc, 500)?)?;
     let mut hours = List::new(alloc);
-    hours.push(first)?;
-    hours.push(second)?;
+    hours.push(set_label(alloc, first, b"hour", b"1")?)?;
+    hours.push(set_label(alloc, second, b"hour", b"2")?)?;
     Ok(hours)
 }
 

@@ -1,4 +1,4 @@
-//! The figures of a profile, as a table of the program's own and as the report top.
+//! The figures of a profile, as a table of the program's own and as the report top, and a count of samples by a label.
 ghost use Rattle.std.specs.Prelude.{◌<◌, length, All};
 ghost use Rattle.pp_model.specs.Sizes.{IsCountable};
 ghost use Rattle.pp_grain.specs.Keys.{IsKeyOf};
@@ -7,10 +7,10 @@ ghost use Rattle.pp_count.specs.Counted.{FitSums};
 use anyhow::Result;
 use pp_base::{Memory, OpenGate, Text};
 use pp_count::{Sums, column_of, count};
-use pp_edit::no_verdicts;
+use pp_edit::{has_label, no_verdicts};
 use pp_grain::write_name;
 use pp_graph::rank;
-use pp_model::{Config, Loaded};
+use pp_model::{Config, Loaded, Profile};
 use pp_top::write_top;
 use pp_units::{Head, pick_unit};
 use std::alloc::Global;
@@ -27,6 +27,7 @@ pub fn show<R: Threads + Sync>(rt: &R, alloc: Global, l: &Loaded) -> Result<Text
     let ranked = rank(alloc, l, &counted, &config, 0)?;
     let mut text = Text::new(alloc);
     put_table(alloc, l, &counted.sums, ranked.order.as_slice(), &mut text)?;
+    put_hour(alloc, l.profile.get(), &mut text)?;
     let head = Head {
         file: Text::from_slice(alloc, b"server")?,
         kind: Text::from_slice(alloc, b"alloc_space")?,
@@ -74,4 +75,12 @@ fn put_row(
     text.extend(figures.as_bytes())?;
     write_name(l, &sums.names.key(number), text)?;
     text.extend(b"\n")
+}
+
+// The number of samples of the second hour.
+fn put_hour(alloc: Global, p: &Profile, text: &mut Text) -> Result<(), Memory> {
+    let samples = p.sample.as_slice().iter();
+    let own = samples.filter(|sample| has_label(p, sample, b"hour", b"2"));
+    let line = format!(in alloc; "samples of hour 2: {}\n\n", own.count())?;
+    text.extend(line.as_bytes())
 }

@@ -1,0 +1,15 @@
+-- The key of labels that are taken off, as a verdict on each text. No public clause cites it.
+use Rattle.std.specs.Prelude.{◌≡◌, ℕ, Bool, List, [], map, slice_index_or}
+use Rattle.std.specs.Str.{bytes_eq}
+use Rattle.pp_model.specs.declared.profile.Label.{Label}
+use Rattle.pp_model.specs.Lookup.{text_number}
+use Rattle.pp_edit.specs.declared.key.Key.{Key}
+
+-- The verdicts are those of these texts on this key.
+pub record IsKeyOf (all : List (List ℕ)) (key : List ℕ) (k : Key) : Type 0 where
+  pub texts : k.texts ≡ map (bytes_eq key) all
+  pub past : k.past ≡ bytes_eq key []
+
+-- the verdict on the text of the label's key
+abbrev pub names : Key → Label → Bool
+names k label = slice_index_or k.texts (text_number label.key) k.past

@@ -1,0 +1,43 @@
+//! The key of labels that are taken off.
+ghost use Rattle.std.specs.Prelude.{◌≡◌, IfOk};
+ghost use Rattle.pp_edit.specs.Keys.{IsKeyOf, names};
+
+use pp_base::{List, Memory, Text};
+use pp_model::Label;
+use std::alloc::Global;
+
+// Which texts of a profile are a key, so that no text is compared once a label.
+#[derive(Drop)]
+pub struct Key {
+    // For each text, whether it is the key.
+    pub texts: List<bool>,
+    // Whether the empty text is, for which an index past the texts stands.
+    pub past: bool,
+}
+
+// The key among these texts.
+pub fn key_in(alloc: Global, texts: &[Text], key: &[u8]) -> Result<Key, Memory>
+    ensures { IfOk result (λ k. IsKeyOf texts.now key.now k) }
+{
+    let mut are = List::from_vec(Vec::with_capacity(alloc, texts.len())?);
+    for text in texts {
+        are.push(key == text.as_slice())?;
+    }
+    Ok(Key {
+        texts: are,
+        past: key.is_empty(),
+    })
+}
+
+impl Key {
+    // Whether it is the key of the label.
+    pub fn is_of(&self, label: &Label) -> bool
+        ensures { result ≡ names self.now label.now }
+    {
+        let place = if label.key < 0 { 0 } else { label.key as usize };
+        match self.texts.as_slice().get(place) {
+            None => self.past,
+            Some(is) => *is,
+        }
+    }
+}
