@@ -4,17 +4,17 @@ ghost use Rattle.pp_model.specs.FrameTexts.{Written};
 ghost use Rattle.pp_units.specs.Shown.{shown};
 ghost use Rattle.pp_units.specs.Head.{facts};
 ghost use Rattle.pp_count.specs.Sums.{Seen};
-ghost use Rattle.pp_source.specs.Ledgers.{IsLedgerOf, IsLineOf, line_texts};
+ghost use Rattle.pp_source.specs.Ledgers.{IsLineIn, ListsOf, line_texts};
 ghost use Rattle.pp_source.specs.SourceText.{file_lines, is_shown, line_row, numbered_text, past_row, row_text, rows_text, shown_rows, sum_column, sums_text};
 
 use crate::amounts::Amounts;
+use crate::found::key_at;
 use crate::ledger::Ledger;
 use crate::lines::FoundLine;
 use crate::tallies::amounts_at;
 use itoa::Buffer;
 use pp_base::{Memory, Text};
-use pp_grain::Key;
-use pp_model::Loaded;
+use pp_model::{Loaded, Verdicts};
 use pp_units::{Head, cut_at, put_right};
 use std::alloc::Global;
 
@@ -25,6 +25,7 @@ const AROUND: u64 = 5;
 #[derive(Clone, Copy)]
 pub struct Listing<'a> {
     pub l: &'a Loaded,
+    pub v: &'a Verdicts,
     pub head: &'a Head,
     pub ledger: &'a Ledger,
 }
@@ -39,10 +40,10 @@ pub fn write_rows(
     numbers: &[u64],
     out: &mut Text,
 ) -> Result<(), Memory>
-    requires line { IsLineOf listing.now.l.now.profile line.now }
+    requires line { IsLineIn listing.now line.now }
     requires small { All (λ n. n < 2 ^ 63) numbers.now }
     ensures { (samples : Seq (Seen Written)) →
-        IsLedgerOf listing.now.l.now.profile samples listing.now.ledger.now → IfOk result (λ _.
+        ListsOf listing.now samples → IfOk result (λ _.
         out.new ≡ out.old ++ rows_text samples (facts listing.now.head.now) (line_texts line.now)
         (file_lines bytes.now) numbers.now) }
 {
@@ -65,11 +66,11 @@ fn write_shown(
     scratch: &mut Text,
     out: &mut Text,
 ) -> Result<u64, Memory>
-    requires line { IsLineOf listing.now.l.now.profile line.now }
+    requires line { IsLineIn listing.now line.now }
     requires last { last < 2 ^ 63 }
     ensures count { IfOk result (λ count. count ≡ length (file_lines bytes.now)) }
     ensures rows { (samples : Seq (Seen Written)) →
-        IsLedgerOf listing.now.l.now.profile samples listing.now.ledger.now → IfOk result (λ _.
+        ListsOf listing.now samples → IfOk result (λ _.
         out.new ≡ out.old ++ shown_rows samples (facts listing.now.head.now) (line_texts line.now)
         first last 1 (file_lines bytes.now)) }
 {
@@ -116,10 +117,10 @@ fn write_past(
     scratch: &mut Text,
     out: &mut Text,
 ) -> Result<(), Memory>
-    requires line { IsLineOf listing.now.l.now.profile line.now }
+    requires line { IsLineIn listing.now line.now }
     requires small { All (λ n. n < 2 ^ 63) numbers.now }
     ensures { (samples : Seq (Seen Written)) →
-        IsLedgerOf listing.now.l.now.profile samples listing.now.ledger.now → IfOk result (λ _.
+        ListsOf listing.now samples → IfOk result (λ _.
         out.new ≡ out.old ++ flat_map (past_row samples (facts listing.now.head.now)
         (line_texts line.now) count) numbers.now) }
 {
@@ -140,22 +141,15 @@ fn write_row(
     scratch: &mut Text,
     out: &mut Text,
 ) -> Result<(), Memory>
-    requires line { IsLineOf listing.now.l.now.profile line.now }
+    requires line { IsLineIn listing.now line.now }
     requires small { number < 2 ^ 63 }
     ensures { (samples : Seq (Seen Written)) →
-        IsLedgerOf listing.now.l.now.profile samples listing.now.ledger.now → IfOk result (λ _.
+        ListsOf listing.now samples → IfOk result (λ _.
         out.new ≡ out.old ++ line_row samples (facts listing.now.head.now) (line_texts line.now)
         number bytes.now) }
 {
     let _valid = listing.l.profile.get();
-    let key = Key {
-        function: line.key.function,
-        file: line.key.file,
-        line: number as i64,
-        column: 0,
-        address: 0,
-        object: 0,
-    };
+    let key = key_at(&line.key, number as i64);
     let sums = amounts_at(&listing.ledger.lines, &key);
     put_row(listing.head, sums, number, bytes, scratch, out)
 }
