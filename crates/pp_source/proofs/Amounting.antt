@@ -1,5 +1,5 @@
 -- What a ledger has of a line and of a routine.
-use Rattle.std.proofs.Common.{◌≡◌, ℕ, ◌<◌, true, ℤ, pos, List, [], length, map, Option, Bool, refl, ap, ◌∙◌, sym}
+use Rattle.std.proofs.Common.{◌≡◌, ℕ, ◌<◌, ℤ, pos, List, [], length, map, Option, Bool, ap, ◌∙◌, sym}
 use Rattle.pp_model.specs.declared.profile.Profile.{Profile}
 use Rattle.pp_model.specs.Lookup.{text_at}
 use Rattle.pp_model.specs.FrameTexts.{Written}

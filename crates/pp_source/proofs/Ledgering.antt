@@ -1,6 +1,5 @@
 -- What a whole walk comes to.
 use Rattle.std.proofs.Common.{◌≡◌, ℕ, ◌<◌, ◌||◌, Bool, true, false, cond, not, pos, List, [], ◌∷◌, length, map, get_or, All, Option, refl, sym, ap, ◌∙◌, subst}
-use Rattle.std.specs.List.{list_any}
 use Rattle.std.specs.Ordering.{eq_by_cmp, int_eq, nat_cmp}
 use Rattle.std.proofs.lemmas.Bool.{false≢true}
 use Rattle.std.proofs.lemmas.List.Elements.{All-filter, All-head, All-tail}
@@ -15,20 +14,19 @@ use Rattle.pp_model.specs.Rules.{IsCompact}
 use Rattle.pp_grain.specs.declared.key.Key.{Key}
 use Rattle.pp_grain.specs.Keys.{key_cmp, key_texts, key_written, IsKeyOf}
 use Rattle.pp_grain.specs.Sight.{same_key}
-use Rattle.pp_count.specs.Counted.{report_frames, report_samples}
+use Rattle.pp_count.specs.Counted.{report_frames}
 use Rattle.pp_count.specs.Counts.{samples_at}
 use Rattle.pp_count.specs.Parts.{HasBelow}
 use Rattle.pp_count.specs.Seeing.{filtered_from, seen_samples}
 use Rattle.pp_count.specs.Sums.{Seen, weighed, renamed, has, occurs}
 use Rattle.pp_count.specs.Table.{no_key, written_key}
 use Rattle.pp_count.proofs.Based.{kept_seen}
-use Rattle.pp_count.proofs.CallerLemmas.{keyed_report, key_of_written, weighed-renamed}
+use Rattle.pp_count.proofs.CallerLemmas.{keyed_report, weighed-renamed}
 use Rattle.pp_count.proofs.Ties.{tied}
 use Rattle.pp_source.specs.declared.found.Found.{Found}
 use Rattle.pp_source.specs.declared.found.Part.{Part}
 use Rattle.pp_source.specs.declared.found.Part.TheVariants.{Routine, Line}
 use Rattle.pp_source.specs.declared.tallies.Tallies.{Tallies}
-use Rattle.pp_source.specs.declared.tally.Tally.{Tally}
 use Rattle.pp_source.specs.Found.{IsFoundOf, has_key, is_own_key, part_key, part_of}
 use Rattle.pp_source.specs.Ledgers.{AreAdded, HasKey, HasTallies, by_lines}
 use Rattle.pp_source.specs.Tally.{no_tally, number_of, tally_of, IsTallyOf}

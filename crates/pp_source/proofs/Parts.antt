@@ -1,5 +1,5 @@
 -- The parts of keys that the own pattern finds, and their numbers.
-use Rattle.std.proofs.Common.{◌≡◌, ℕ, zero, suc, ◌+◌, ◌<◌, ◌≤◌, ◌||◌, Bool, true, false, cond, not, ℤ, pos, List, [], ◌∷◌, ◌++◌, length, map, take, get_or, All, Option, Some, None, nat_lt, position, refl, sym, ap, ◌∙◌, subst, arith}
+use Rattle.std.proofs.Common.{◌≡◌, ℕ, zero, suc, ◌+◌, ◌<◌, ◌≤◌, ◌||◌, Bool, true, false, cond, not, pos, List, [], ◌∷◌, ◌++◌, length, map, take, get_or, All, Option, Some, None, nat_lt, position, refl, sym, ap, ◌∙◌, subst, arith}
 use Rattle.std.specs.List.{list_any, filter, slice_get}
 use Rattle.std.specs.Ordering.{nat_cmp, eq_by_cmp}
 use Rattle.std.proofs.lemmas.Bool.{false≢true}
@@ -24,7 +24,7 @@ use Rattle.pp_count.proofs.Ties.{tied, tied_self}
 use Rattle.pp_source.specs.declared.found.Found.{Found}
 use Rattle.pp_source.specs.declared.found.Part.{Part}
 use Rattle.pp_source.specs.declared.found.Part.TheVariants.{Routine, Line}
-use Rattle.pp_source.specs.Found.{IsFoundOf, has_key, is_own_key, key_at, part_key, part_number, part_of, parts_found}
+use Rattle.pp_source.specs.Found.{IsFoundOf, has_key, is_own_key, part_key, part_number, part_of, parts_found}
 use Rattle.pp_source.specs.Ledgers.{AreFound}
 use Rattle.pp_source.specs.Tally.{number_of}
 use Rattle.pp_source.proofs.Keys.{refuted, ties}

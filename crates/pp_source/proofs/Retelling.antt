@@ -1,5 +1,5 @@
 -- Sums over samples by numbers are the sums by what the numbers stand for.
-use Rattle.std.proofs.Common.{◌≡◌, ℕ, ◌<◌, ◌||◌, Bool, true, false, cond, pos, ◌+ℤ◌, List, [], ◌∷◌, map, All, refl, sym, ap, ◌∙◌}
+use Rattle.std.proofs.Common.{◌≡◌, ℕ, ◌<◌, ◌||◌, false, cond, pos, ◌+ℤ◌, List, [], ◌∷◌, map, All, refl, sym, ap, ◌∙◌}
 use Rattle.std.specs.Ordering.{eq_by_cmp}
 use Rattle.std.specs.declared.cmp.Ordering.{Ordering}
 use Rattle.std.proofs.Math.IntN.{+ℤ_idl}

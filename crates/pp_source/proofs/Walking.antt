@@ -1,19 +1,17 @@
 -- How sums grow with one more sample.
-use Rattle.std.proofs.Common.{◌≡◌, ℕ, ◌+◌, ◌<◌, ◌≤◌, ◌^◌, Bool, true, false, nat_abs, List, [], ◌∷◌, ◌++◌, length, take, get_or, replicate, ℤ, All, refl, sym, ap, ◌∙◌, subst, ⊎_elim, arith}
+use Rattle.std.proofs.Common.{◌≡◌, ℕ, ◌+◌, ◌<◌, ◌≤◌, ◌^◌, true, false, nat_abs, List, [], ◌∷◌, ◌++◌, length, take, get_or, replicate, ℤ, All, refl, sym, ap, ◌∙◌, subst, ⊎_elim, arith}
 use Rattle.std.proofs.lemmas.Bool.{cases_lt}
 use Rattle.std.proofs.lemmas.List.{take_more, get_or-replicate, get_or_past, length-replicate}
-use Rattle.std.proofs.lemmas.List.Elements.{All-nil}
 use Rattle.std.proofs.lemmas.List.Sums.{sum_by_more_le}
 use Rattle.pp_model.specs.declared.profile.Sample.{Sample}
-use Rattle.pp_count.specs.declared.scope.Scope.{Scope}
 use Rattle.pp_count.specs.Column.{selected}
-use Rattle.pp_count.specs.Scope.{config_of, samples_of, size_of}
+use Rattle.pp_count.specs.Scope.{samples_of, size_of}
 use Rattle.pp_count.proofs.Ranges.{IsSeen, by_numbers, seen_more, seen_same}
 use Rattle.pp_source.specs.declared.found.Found.{Found}
 use Rattle.pp_source.specs.declared.tally.Tally.{Tally}
 use Rattle.pp_source.specs.declared.walk.Sums.{Sums}
 use Rattle.pp_source.specs.declared.walk.Walk.{Walk}
-use Rattle.pp_source.specs.Ledgers.{AreAdded, IsSoundWalk, WalkedTo}
+use Rattle.pp_source.specs.Ledgers.{AreAdded, WalkedTo}
 use Rattle.pp_source.specs.Tally.{AddsKeys, IsReady, IsTallyOf, no_tally, tally_of}
 use Rattle.std.specs.Ordering.{nat_cmp}
 use Rattle.pp_count.specs.Sums.{absolute}

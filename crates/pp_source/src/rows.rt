@@ -30,6 +30,13 @@ pub struct Listing<'a> {
     pub ledger: &'a Ledger,
 }
 
+/// The first and the last line of a routine that have a frame.
+#[derive(Clone, Copy)]
+pub struct Span {
+    pub first: u64,
+    pub last: u64,
+}
+
 /// Appends the lines of the file about those with frames, and the numbers of those past its end. `numbers` are the
 /// lines with frames, rising.
 pub fn write_rows(
@@ -50,36 +57,38 @@ pub fn write_rows(
     let [first, ..] = numbers else {
         return Ok(());
     };
-    let last = numbers[numbers.len() - 1];
+    let span = Span {
+        first: *first,
+        last: numbers[numbers.len() - 1],
+    };
     let mut scratch = Text::new(alloc);
-    let count = write_shown(listing, line, bytes, *first, last, &mut scratch, out)?;
+    let count = write_shown(listing, line, bytes, span, &mut scratch, out)?;
     write_past(listing, line, count, numbers, &mut scratch, out)
 }
 
-// Appends the lines of the file that are shown where these are the first and the last with a frame, and counts all.
+// Appends the lines of the file about this span, and counts all.
 fn write_shown(
     listing: &Listing<'_>,
     line: &FoundLine<'_>,
     bytes: &[u8],
-    first: u64,
-    last: u64,
+    span: Span,
     scratch: &mut Text,
     out: &mut Text,
 ) -> Result<u64, Memory>
     requires line { IsLineIn listing.now line.now }
-    requires last { last < 2 ^ 63 }
+    requires last { span.last < 2 ^ 63 }
     ensures count { IfOk result (λ count. count ≡ length (file_lines bytes.now)) }
     ensures rows { (samples : Seq (Seen Written)) →
         ListsOf listing.now samples → IfOk result (λ _.
         out.new ≡ out.old ++ shown_rows samples (facts listing.now.head.now) (line_texts line.now)
-        first last 1 (file_lines bytes.now)) }
+        span.first span.last 1 (file_lines bytes.now)) }
 {
     let mut number = 0;
     let mut rest = bytes;
     while !rest.is_empty() {
         let (text, after) = cut_line(rest);
         number += 1;
-        if is_shown(first, last, number) {
+        if is_shown(span, number) {
             write_row(listing, line, number, text, scratch, out)?;
         }
         rest = after;
@@ -99,13 +108,13 @@ fn cut_line(bytes: &[u8]) -> (&[u8], &[u8])
     }
 }
 
-// Whether the line is shown where these are the first and the last with a frame.
-fn is_shown(first: u64, last: u64, number: u64) -> bool
-    requires last { last < 2 ^ 63 }
+// Whether the line is shown.
+fn is_shown(span: Span, number: u64) -> bool
+    requires last { span.last < 2 ^ 63 }
     requires number { number < 2 ^ 64 - 5 }
-    ensures { result ≡ is_shown first last number }
+    ensures { result ≡ is_shown span.first span.last number }
 {
-    first <= number + AROUND && number <= last + AROUND
+    span.first <= number + AROUND && number <= span.last + AROUND
 }
 
 // Appends the lines with frames past the file's end.

@@ -1,4 +1,4 @@
-use Rattle.std.proofs.Common.{◌∙◌, ap, sym}
+use Rattle.std.proofs.Common.{◌∙◌, sym}
 use Rattle.pp_source.proofs.Parts.{parts_more, parts_same}
 use Rattle.pp_source.proofs.found.names_found.Goals.{then-is_own+in_ok-insert, else-is_own}
 use Rattle.pp_source.proofs.found.names_found.Goals as goal

@@ -1,4 +1,4 @@
-use Rattle.std.proofs.Common.{◌++◌, ◌∷◌, [], ap, ◌∙◌, sym}
+use Rattle.std.proofs.Common.{◌∙◌}
 use Rattle.pp_source.specs.Found.{part_number}
 use Rattle.pp_source.proofs.Parts.{mapped_more}
 use Rattle.pp_source.proofs.found.numbers_of.Goals as goal

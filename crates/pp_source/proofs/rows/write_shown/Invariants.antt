@@ -12,7 +12,7 @@ abbrev pub invariant-loop-rest : goal.invariant-loop-rest
 invariant-loop-rest l =
     (l.number + length (file_lines l.rest) ≡ length (file_lines l.bytes)) × (l.number + length l.rest ≤ length l.bytes)
     × ((samples : List (Seen Written)) → ListsOf l.listing samples
-    → ShownTo samples (facts l.listing.head.now) (line_texts l.line) l.first l.last l.bytes l.fn.out l.out l.number l.rest)
+    → ShownTo samples (facts l.listing.head.now) (line_texts l.line) l.span.first l.span.last l.bytes l.fn.out l.out l.number l.rest)
 
 abbrev pub decreases-loop-rest : goal.decreases-loop-rest
 decreases-loop-rest l = length l.rest

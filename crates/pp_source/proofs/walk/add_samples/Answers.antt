@@ -1,7 +1,6 @@
-use Rattle.std.proofs.Common.{◌≡◌, ◌<◌, List, length, get_or, map, take, sym, ap, ◌∙◌, subst, arith, rules}
+use Rattle.std.proofs.Common.{◌≡◌, ◌<◌, length, get_or, map, take, sym, ap, ◌∙◌, subst, arith, rules}
 use Rattle.std.proofs.lemmas.List.{take_all}
 use Rattle.std.proofs.lemmas.Option.{get_or_from_slice_get}
-use Rattle.pp_model.specs.declared.profile.Sample.{Sample}
 use Rattle.pp_stack.specs.Runs.{kept_if}
 use Rattle.pp_count.specs.Scope.{samples_of}
 use Rattle.pp_count.proofs.Chosen.{chosen_length}
