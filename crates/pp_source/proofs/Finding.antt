@@ -1,21 +1,19 @@
--- The keys of a ledger that the own pattern finds are its found lines.
+-- The keys of a ledger that some sample had are the found lines.
 use Rattle.std.proofs.Common.{◌≡◌, ℕ, ◌+◌, ◌<◌, nat_lt, Bool, true, false, cond, ◌&&◌, ◌||◌, List, [], ◌∷◌, ◌++◌, length, map, take, get_or, All, Option, Some, None, refl, sym, ap, ◌∙◌, subst, arith}
-use Rattle.std.specs.List.{list_any, filter, slice_get, IsDistinct, AllByRecursion}
+use Rattle.std.specs.List.{list_any, filter, IsDistinct, AllByRecursion}
 use Rattle.std.specs.List.Sorted.{IsSorted, IsSortedBy, IsPermutation}
-use Rattle.std.specs.Map.{lookup}
-use Rattle.std.specs.Option.{unwrap_or, option_map_or}
+use Rattle.std.specs.Option.{option_map_or}
 use Rattle.std.specs.Ordering.{eq_by_cmp, is_lt}
-use Rattle.std.proofs.lemmas.Bool.{and_parts}
-use Rattle.std.proofs.lemmas.List.{length-map, get_or-map, map-append, append-nil, take_more}
-use Rattle.std.proofs.lemmas.Option.{get_or_from_slice_get, slice_get_within}
-use Rattle.indexmap.specs.IndexMap.{IndexMap, get}
-use Rattle.std.proofs.lemmas.List.Elements.{All-nil, All-cons, All-head, All-tail, All-push, filter-append}
+use Rattle.std.proofs.lemmas.Bool.{false≢true, and_parts}
+use Rattle.std.proofs.lemmas.List.{length-map, get_or-map, get_or_default, map-append, append-nil, take_more}
+use Rattle.std.proofs.lemmas.List.Elements.{All-filter, All-head, All-tail, All-push, filter-append}
 use Rattle.std.proofs.lemmas.List.Folds.{list_any-append}
 use Rattle.std.proofs.lemmas.List.Sorted.{IsPermutation-map, list_any-IsPermutation}
 use Rattle.std.proofs.lemmas.Map.Keys.{IsDistinct-IsPermutation}
 use Rattle.std.proofs.lemmas.Map.Views.{any-filter_same}
 use Rattle.pp_model.specs.declared.profile.Profile.{Profile}
 use Rattle.pp_model.specs.Finders.{Finders}
+use Rattle.pp_model.specs.FirstSight.{place_of}
 use Rattle.pp_model.specs.FrameTexts.{Written}
 use Rattle.pp_model.specs.Judged.{judged}
 use Rattle.pp_model.specs.Rules.{IsCompact}
@@ -26,72 +24,70 @@ use Rattle.pp_grain.proofs.SightLemmas.{key_decides}
 use Rattle.pp_grain.proofs.CallerLemmas.{key_cmp_total, key_cmp_ties}
 use Rattle.pp_count.specs.Counted.{is_own}
 use Rattle.pp_count.specs.Sums.{Seen, has, occurs, renamed}
+use Rattle.pp_count.specs.Table.{no_key}
+use Rattle.pp_count.proofs.EachOnce.{ranked}
 use Rattle.pp_count.proofs.Renaming.{same_bool}
+use Rattle.pp_count.proofs.Ties.{tied, tied_self}
 use Rattle.pp_source.specs.declared.ledger.Ledger.{Ledger}
 use Rattle.pp_source.specs.declared.lines.FoundLine.{FoundLine}
-use Rattle.pp_source.specs.declared.tally.Tally.{Tally}
+use Rattle.pp_source.specs.declared.tallies.Tallies.{Tallies}
 use Rattle.pp_source.specs.Amounts.{line_of}
-use Rattle.pp_source.specs.Ledgers.{HasKey, IsLedgerOf, IsLineOf, is_found, is_own_key, keys_found, line_texts, lines_texts}
+use Rattle.pp_source.specs.Found.{has_key, is_own_key}
+use Rattle.pp_source.specs.Ledgers.{AreFound, HasKey, IsLedgerOf, IsLineOf, keys_seen, line_texts, lines_texts, tally_at}
 use Rattle.pp_source.specs.Routines.{all_lines, found_lines}
-use Rattle.pp_source.specs.Tally.{no_tally, tally_at, has_key}
-use Rattle.pp_count.proofs.EachOnce.{ranked}
-use Rattle.pp_count.proofs.Ties.{tied, tied_self}
+use Rattle.pp_source.specs.Tally.{no_tally, tally_of}
 use Rattle.pp_source.proofs.InOrder.{distinct_apart}
-use Rattle.pp_source.proofs.Tallying.{has_told, known_among, same_told}
+use Rattle.pp_source.proofs.Parts.{has_told, placed, same_told}
 
--- what is kept of a key in these entries
-abbrev pub kept_in : List (Key × Tally) → Key → Tally
-kept_in es k = unwrap_or (lookup (same_key k) es) no_tally
+and_flips : (a b : Bool) → (a && b) ≡ (b && a)
+and_flips true true = refl
+and_flips true false = refl
+and_flips false true = refl
+and_flips false false = refl
 
--- the keys of entries
-abbrev pub keys_in : List (Key × Tally) → List Key
-keys_in es = map (λ e. e.0) es
+-- a key of those that are found is found
+found_own : (p : Profile) (own : Option (List Bool)) (names : List Key) → AreFound p own names → (k : Key) → has_key k names ≡ true → is_own_key own k ≡ true
+found_own p own names found k there =
+    let at = placed k names there in
+    subst (λ q. is_own_key own q ≡ true) at.there (found.is_own (place_of same_key names k) no_key at.within)
 
--- a key is found where its entry is
-apart_found : (found : Option (List Bool)) (k x : Key) (es : List (Key × Tally)) → k ≡ x → AllByRecursion (λ y. same_key x y ≡ false) (keys_in es) → has_key k (keys_found found es) ≡ false
-apart_found found k x [] is apart = refl
-apart_found found k x (e ∷ es) is apart =
-    elim (is_found found e) as (λ b. has_key k (map (λ y. y.0) (cond b (e ∷ filter (is_found found) es) (filter (is_found found) es))) ≡ false) [
-      | true ↦ ap (λ b. b || has_key k (keys_found found es)) (ap (λ y. same_key y e.0) is ∙ apart.0) ∙ apart_found found k x es is apart.1
-      | false ↦ apart_found found k x es is apart.1
+-- the keys that some sample had
+seen_is : (p : Profile) (own : Option (List Bool)) (t : Tallies) → AreFound p own t.names.keys → (k : Key) → has_key k (keys_seen t) ≡ (is_own_key own k && nat_lt 0 (tally_at t k).last)
+seen_is p own t found k =
+    any-filter_same (same_key k) (λ q. nat_lt 0 (tally_at t q).last) (nat_lt 0 (tally_at t k).last) (λ q same. ap (λ x. nat_lt 0 (tally_at t x).last) (sym ((key_decides k q).0 same))) t.names.keys
+    ∙ by (has_key k t.names.keys) refl where
+      by : (b : Bool) → has_key k t.names.keys ≡ b → (nat_lt 0 (tally_at t k).last && has_key k t.names.keys) ≡ (is_own_key own k && nat_lt 0 (tally_at t k).last)
+      by true there = and_flips (nat_lt 0 (tally_at t k).last) (has_key k t.names.keys) ∙ (λ i. (there ∙ sym (found_own p own t.names.keys found k there)) i && nat_lt 0 (tally_at t k).last)
+      by false none =
+          let zero : nat_lt 0 (tally_at t k).last ≡ false = ap (λ b. nat_lt 0 (cond b (tally_of t.sums.items (place_of same_key t.names.keys k)) no_tally).last) none in
+          (λ i. zero i && has_key k t.names.keys) ∙ sym (ap (λ b. is_own_key own k && b) zero ∙ and_flips (is_own_key own k) false)
+
+-- keys that are left of distinct ones are distinct
+still_apart : (test : Key → Bool) (x : Key) (keys : List Key) → AllByRecursion (λ y. same_key x y ≡ false) keys → AllByRecursion (λ y. same_key x y ≡ false) (filter test keys)
+still_apart test x [] apart = tt
+still_apart test x (k ∷ keys) apart =
+    elim (test k) as (λ b. AllByRecursion (λ y. same_key x y ≡ false) (cond b (k ∷ filter test keys) (filter test keys))) [
+      | true ↦ (apart.0, still_apart test x keys apart.1)
+      | false ↦ still_apart test x keys apart.1
     ]
 
-pub found_is : (found : Option (List Bool)) (k : Key) (es : List (Key × Tally)) → IsDistinct same_key (keys_in es) → has_key k (keys_found found es) ≡ is_found found (k, kept_in es k)
+still_distinct : (test : Key → Bool) (keys : List Key) → IsDistinct same_key keys → IsDistinct same_key (filter test keys)
 unfolding IsDistinct
-found_is found k [] distinct = refl
-found_is found k (e ∷ es) distinct =
-    elim (same_key k e.0) as (λ s. same_key k e.0 ≡ s → has_key k (keys_found found (e ∷ es)) ≡ is_found found (k, unwrap_or (cond s (Some e.1) (lookup (same_key k) es)) no_tally)) [
-      | true ↦ λ same.
-          let is : k ≡ e.0 = (key_decides k e.0).0 same in
-          elim (is_found found e) as (λ b. is_found found e ≡ b → has_key k (map (λ y. y.0) (cond b (e ∷ filter (is_found found) es) (filter (is_found found) es))) ≡ is_found found (k, e.1)) [
-            | true ↦ λ here. ap (λ b. b || has_key k (keys_found found es)) same ∙ sym here ∙ ap (λ y. is_found found (y, e.1)) (sym is)
-            | false ↦ λ not_here. apart_found found k e.0 es is distinct.0 ∙ sym not_here ∙ ap (λ y. is_found found (y, e.1)) (sym is)
-          ] refl
-      | false ↦ λ other.
-          elim (is_found found e) as (λ b. has_key k (map (λ y. y.0) (cond b (e ∷ filter (is_found found) es) (filter (is_found found) es))) ≡ is_found found (k, kept_in es k)) [
-            | true ↦ ap (λ b. b || has_key k (keys_found found es)) other ∙ found_is found k es distinct.1
-            | false ↦ found_is found k es distinct.1
-          ]
-    ] refl
-
--- keys that are found are distinct
-still_apart : (found : Option (List Bool)) (x : Key) (es : List (Key × Tally)) → AllByRecursion (λ y. same_key x y ≡ false) (keys_in es)
-    → AllByRecursion (λ y. same_key x y ≡ false) (keys_found found es)
-still_apart found x [] apart = tt
-still_apart found x (e ∷ es) apart =
-    elim (is_found found e) as (λ b. AllByRecursion (λ y. same_key x y ≡ false) (map (λ y. y.0) (cond b (e ∷ filter (is_found found) es) (filter (is_found found) es)))) [
-      | true ↦ (apart.0, still_apart found x es apart.1)
-      | false ↦ still_apart found x es apart.1
+still_distinct test [] distinct = tt
+still_distinct test (k ∷ keys) distinct =
+    elim (test k) as (λ b. IsDistinct same_key (cond b (k ∷ filter test keys) (filter test keys))) [
+      | true ↦ (still_apart test k keys distinct.0, still_distinct test keys distinct.1)
+      | false ↦ still_distinct test keys distinct.1
     ]
 
-pub found_distinct : (found : Option (List Bool)) (es : List (Key × Tally)) → IsDistinct same_key (keys_in es) → IsDistinct same_key (keys_found found es)
-unfolding IsDistinct
-found_distinct found [] distinct = tt
-found_distinct found (e ∷ es) distinct =
-    elim (is_found found e) as (λ b. IsDistinct same_key (map (λ y. y.0) (cond b (e ∷ filter (is_found found) es) (filter (is_found found) es)))) [
-      | true ↦ (still_apart found e.0 es distinct.0, found_distinct found es distinct.1)
-      | false ↦ found_distinct found es distinct.1
-    ]
+-- what stands among keys of the profile is told by one of them
+known_among : (p : Profile) (q : Written) (keys : List Key) → All (IsKeyOf p) keys → list_any (eq_by_cmp key_cmp q) (map (key_written p) keys) ≡ true → HasKey p q
+known_among p q [] all found = absurd (false≢true found)
+known_among p q (k ∷ keys) all found =
+    elim (eq_by_cmp key_cmp q (key_written p k)) as (λ b. eq_by_cmp key_cmp q (key_written p k) ≡ b → (b || list_any (eq_by_cmp key_cmp q) (map (key_written p) keys)) ≡ true → HasKey p q) [
+      | true ↦ λ same _. record { key = k; of_profile = All-head (IsKeyOf p) k keys all; told = sym (tied q (key_written p k) same) }
+      | false ↦ λ _ more. known_among p q keys (All-tail (IsKeyOf p) k keys all) more
+    ] refl found
 
 -- a line stands among all lines where it occurs
 all_lines_occur : (ss : List (Seen Written)) (q : Written) → list_any (eq_by_cmp key_cmp q) (all_lines ss) ≡ occurs key_cmp (map (renamed line_of) ss) q
@@ -124,14 +120,9 @@ told_distinct p compact (k ∷ keys) all distinct =
     (apart_told p compact k keys (All-head (IsKeyOf p) k keys all) (All-tail (IsKeyOf p) k keys all) distinct.0, told_distinct p compact keys (All-tail (IsKeyOf p) k keys all) distinct.1)
 
 -- lines stand for what their keys do
-texts_told : (p : Profile) (lines : List FoundLine) → All (IsLineOf p) lines → lines_texts lines ≡ map (key_written p) (map (λ line. line.key) lines)
-texts_told p [] all = refl
-texts_told p (line ∷ lines) all = λ i. (All-head (IsLineOf p) line lines all).texts i ∷ texts_told p lines (All-tail (IsLineOf p) line lines all) i
-
-keys_of_lines : (p : Profile) (lines : List FoundLine) → All (IsLineOf p) lines → All (IsKeyOf p) (map (λ line. line.key) lines)
-keys_of_lines p [] all = All-nil (IsKeyOf p)
-keys_of_lines p (line ∷ lines) all =
-    All-cons (IsKeyOf p) line.key (map (λ l. l.key) lines) (All-head (IsLineOf p) line lines all).key (keys_of_lines p lines (All-tail (IsLineOf p) line lines all))
+texts_told : (p : Profile) (own : Option (List Bool)) (lines : List FoundLine) → All (IsLineOf p own) lines → lines_texts lines ≡ map (key_written p) (map (λ line. line.key) lines)
+texts_told p own [] all = refl
+texts_told p own (line ∷ lines) all = λ i. (All-head (IsLineOf p own) line lines all).texts i ∷ texts_told p own lines (All-tail (IsLineOf p own) line lines all) i
 
 -- lines in order stand for keys in order
 texts_sorted : (lines : List FoundLine) → IsSortedBy (λ a b. is_lt (key_cmp (line_texts a) (line_texts b))) lines → IsSorted key_cmp (lines_texts lines)
@@ -144,86 +135,87 @@ texts_sorted (line ∷ lines) sorted = λ k d low high.
     let at : (j : ℕ) → j < length all → get_or (lines_texts all) j d ≡ line_texts (get_or all j line) = λ j h. get_or-map line_texts all j line d h in
     (λ i. is_lt (key_cmp (at (k + 1) next i) (at k here i))) ∙ sorted k line low next
 
-module _ (p : Profile) (compact : IsCompact p) (f : Finders) (found : Option (List Bool)) (judges : found ≡ judged p f.own)
-    (samples : List (Seen Written)) (ledger : Ledger) (is : IsLedgerOf p samples ledger) (distinct : IsDistinct same_key (keys_in ledger.lines.entries)) where
-  -- what the keys that are found stand for
+module _ (p : Profile) (compact : IsCompact p) (f : Finders) (own : Option (List Bool)) (judges : own ≡ judged p f.own)
+    (samples : List (Seen Written)) (ledger : Ledger) (is : IsLedgerOf p own samples ledger) (found : AreFound p own ledger.lines.names.keys) (distinct : IsDistinct same_key ledger.lines.names.keys) where
+  -- what the keys that some sample had stand for
   abbrev told_keys : List Written
-  told_keys = map (key_written p) (keys_found found ledger.lines.entries)
+  told_keys = map (key_written p) (keys_seen ledger.lines)
+
+  of_keys : All (IsKeyOf p) (keys_seen ledger.lines)
+  of_keys = All-filter (λ k. nat_lt 0 (tally_at ledger.lines k).last) (IsKeyOf p) ledger.lines.names.keys found.of_profile
+
+  -- where the pattern finds the key, some sample has it where it occurs
+  seen_where : (k : Key) → IsKeyOf p k → (b : Bool) → is_own_key own k ≡ b → (b && occurs key_cmp (map (renamed line_of) samples) (key_written p k)) ≡ (b && nat_lt 0 (tally_at ledger.lines k).last)
+  seen_where k of_k true own_k = sym (is.lines.tallies k of_k own_k).occurs
+  seen_where k of_k false own_k = refl
 
   -- a key of the profile is told where its line is found
-  at_key : (k : Key) → IsKeyOf p k → All (IsKeyOf p) (keys_found found ledger.lines.entries)
-      → list_any (eq_by_cmp key_cmp (key_written p k)) (filter (is_own f) (all_lines samples)) ≡ list_any (eq_by_cmp key_cmp (key_written p k)) told_keys
-  at_key k of_k all =
+  at_key : (k : Key) → IsKeyOf p k → list_any (eq_by_cmp key_cmp (key_written p k)) (filter (is_own f) (all_lines samples)) ≡ list_any (eq_by_cmp key_cmp (key_written p k)) told_keys
+  at_key k of_k =
       let w : Written = key_written p k in
       any-filter_same (eq_by_cmp key_cmp w) (is_own f) (is_own f w) (λ x e. ap (is_own f) (sym (tied w x e))) (all_lines samples)
-      ∙ (λ j. sym (own_told p f found k judges of_k) j && (all_lines_occur samples w ∙ sym (is.lines k of_k).occurs) j)
-      ∙ and_flips (is_own_key found k) (nat_lt 0 (tally_at ledger.lines k).last)
-      ∙ sym (found_is found k ledger.lines.entries distinct) ∙ sym (has_told p compact k (keys_found found ledger.lines.entries) of_k all) where
-        and_flips : (a b : Bool) → (a && b) ≡ (b && a)
-        and_flips true true = refl
-        and_flips true false = refl
-        and_flips false true = refl
-        and_flips false false = refl
+      ∙ (λ j. sym (own_told p f own k judges of_k) j && all_lines_occur samples w j)
+      ∙ seen_where k of_k (is_own_key own k) refl
+      ∙ sym (seen_is p own ledger.lines found k) ∙ sym (has_told p compact k (keys_seen ledger.lines) of_k of_keys)
 
-  -- The keys that are found stand for the lines that the own pattern finds.
-  pub same_members : (q : Written) → All (IsKeyOf p) (keys_found found ledger.lines.entries)
-      → list_any (eq_by_cmp key_cmp q) (filter (is_own f) (all_lines samples)) ≡ list_any (eq_by_cmp key_cmp q) told_keys
-  same_members q all = same_bool _ _
-      (λ there. sym (by_key (is.known q (sym (all_lines_occur samples q) ∙ (and_parts _ _ (sym (any-filter_same (eq_by_cmp key_cmp q) (is_own f) (is_own f q) (λ x e. ap (is_own f) (sym (tied q x e))) (all_lines samples)) ∙ there)).1))) ∙ there)
-      (λ there. by_key (known_among p q (keys_found found ledger.lines.entries) all there) ∙ there) where
+  -- The keys that some sample had stand for the lines that the own pattern finds.
+  same_members : (q : Written) → list_any (eq_by_cmp key_cmp q) (filter (is_own f) (all_lines samples)) ≡ list_any (eq_by_cmp key_cmp q) told_keys
+  same_members q = same_bool _ _
+      (λ there. sym (by_key (is.lines.known q (sym (all_lines_occur samples q) ∙ (and_parts _ _ (sym (any-filter_same (eq_by_cmp key_cmp q) (is_own f) (is_own f q) (λ x e. ap (is_own f) (sym (tied q x e))) (all_lines samples)) ∙ there)).1))) ∙ there)
+      (λ there. by_key (known_among p q (keys_seen ledger.lines) of_keys there) ∙ there) where
         by_key : HasKey p q → list_any (eq_by_cmp key_cmp q) (filter (is_own f) (all_lines samples)) ≡ list_any (eq_by_cmp key_cmp q) told_keys
-        by_key h = subst (λ x. list_any (eq_by_cmp key_cmp x) (filter (is_own f) (all_lines samples)) ≡ list_any (eq_by_cmp key_cmp x) told_keys) h.told (at_key h.key h.of_profile all)
+        by_key h = subst (λ x. list_any (eq_by_cmp key_cmp x) (filter (is_own f) (all_lines samples)) ≡ list_any (eq_by_cmp key_cmp x) told_keys) h.told (at_key h.key h.of_profile)
 
   -- In order they are the found lines.
-  pub lines_are : (lines sorted : List FoundLine) → map (λ line. line.key) lines ≡ keys_found found ledger.lines.entries → All (IsLineOf p) lines
+  pub lines_are : (lines sorted : List FoundLine) → map (λ line. line.key) lines ≡ keys_seen ledger.lines → All (IsLineOf p own) lines
       → IsPermutation lines sorted → IsSortedBy (λ a b. is_lt (key_cmp (line_texts a) (line_texts b))) sorted
       → lines_texts sorted ≡ found_lines f samples
   lines_are lines sorted keys all moved in_order =
-      let told : lines_texts lines ≡ told_keys = texts_told p lines all ∙ ap (map (key_written p)) keys in
-      let of_keys : All (IsKeyOf p) (keys_found found ledger.lines.entries) = subst (All (IsKeyOf p)) keys (keys_of_lines p lines all) in
+      let told : lines_texts lines ≡ told_keys = texts_told p own lines all ∙ ap (map (key_written p)) keys in
       let perm : IsPermutation (lines_texts lines) (lines_texts sorted) = IsPermutation-map line_texts lines sorted moved in
       sym (ranked key_cmp_total key_cmp_ties (filter (is_own f) (all_lines samples)) (lines_texts sorted) (texts_sorted sorted in_order)
       (distinct_apart key_cmp ties_flip (lines_texts sorted)
       (IsDistinct-IsPermutation (eq_by_cmp key_cmp) ties_flip (lines_texts lines) (lines_texts sorted) perm
-      (subst (IsDistinct (eq_by_cmp key_cmp)) (sym told) (told_distinct p compact (keys_found found ledger.lines.entries) of_keys (found_distinct found ledger.lines.entries distinct)))))
-      (λ q. same_members q of_keys ∙ ap (list_any (eq_by_cmp key_cmp q)) (sym told) ∙ list_any-IsPermutation (eq_by_cmp key_cmp q) (lines_texts lines) (lines_texts sorted) perm))
+      (subst (IsDistinct (eq_by_cmp key_cmp)) (sym told) (told_distinct p compact (keys_seen ledger.lines) of_keys (still_distinct (λ k. nat_lt 0 (tally_at ledger.lines k).last) ledger.lines.names.keys distinct)))))
+      (λ q. same_members q ∙ ap (list_any (eq_by_cmp key_cmp q)) (sym told) ∙ list_any-IsPermutation (eq_by_cmp key_cmp q) (lines_texts lines) (lines_texts sorted) perm))
 
--- The entries so far: their keys that are found, each as a line.
-abbrev pub CollectedTo : Profile → Option (List Bool) → List (Key × Tally) → ℕ → List FoundLine → Type 0
-CollectedTo p found es i lines = (map (λ line. line.key) lines ≡ keys_found found (take i es)) × All (IsLineOf p) lines
+-- The keys so far: those that some sample had, each as a line.
+abbrev pub CollectedTo : Profile → Option (List Bool) → Tallies → ℕ → List FoundLine → Type 0
+CollectedTo p own t i lines = (map (λ line. line.key) lines ≡ filter (λ k. nat_lt 0 (tally_at t k).last) (take i t.names.keys)) × All (IsLineOf p own) lines
 
--- the key of an entry that stays
-one_key : (b : Bool) (e : Key × Tally) → map (λ (x : Key × Tally). x.0) (cond b (e ∷ []) []) ≡ cond b (e.0 ∷ []) []
-one_key true e = refl
-one_key false e = refl
+-- The next key, as it was read.
+module _ (p : Profile) (own : Option (List Bool)) (t : Tallies) (read : List Key) (i : ℕ) (d : Key) (lines : List FoundLine) (lent : read ≡ t.names.keys) (here : i < length read)
+    (so_far : CollectedTo p own t i lines) where
+  abbrev key : Key
+  key = get_or read i d
 
-module _ (p : Profile) (found : Option (List Bool)) (es : List (Key × Tally)) (i : ℕ) (key : Key) (tally : Tally) (lines : List FoundLine) (at : slice_get es i ≡ Some (key, tally))
-    (so_far : CollectedTo p found es i lines) where
-  found_next : keys_found found (take (i + 1) es) ≡ keys_found found (take i es) ++ cond (is_found found (key, tally)) (key ∷ []) []
-  found_next =
-      let e : Key × Tally = (key, tally) in
-      ap (keys_found found) (take_more es i e (slice_get_within es i e at) ∙ ap (λ x. take i es ++ x ∷ []) (get_or_from_slice_get es i e e at))
-      ∙ ap (map (λ (x : Key × Tally). x.0)) (filter-append (is_found found) (take i es) (e ∷ []))
-      ∙ map-append (λ (x : Key × Tally). x.0) (filter (is_found found) (take i es)) (filter (is_found found) (e ∷ []))
-      ∙ ap (λ r. keys_found found (take i es) ++ r) (one_key (is_found found e) e)
+  abbrev has_some : Key → Bool
+  has_some k = nat_lt 0 (tally_at t k).last
 
-  -- one more entry, which is found
-  pub collected_more : (line : FoundLine) → nat_lt 0 tally.last ≡ true → is_own_key found key ≡ true → line.key ≡ key → IsLineOf p line → CollectedTo p found es (i + 1) (lines ++ line ∷ [])
-  collected_more line some own is of_p = (
-    map-append (λ l. l.key) lines (line ∷ []) ∙ (λ j. so_far.0 j ++ is j ∷ []) ∙ ap (λ b. keys_found found (take i es) ++ cond b (key ∷ []) []) (λ j. sym some j && sym own j) ∙ sym found_next,
-    All-push (IsLineOf p) lines line so_far.1 of_p,
+  inside : i < length t.names.keys
+  inside = omega (arith, here, ap length lent)
+
+  at : key ≡ get_or t.names.keys i key
+  at = ap (λ ks. get_or ks i d) lent ∙ get_or_default t.names.keys i d key inside
+
+  next : (b : Bool) → has_some key ≡ b → filter has_some (take (i + 1) t.names.keys) ≡ filter has_some (take i t.names.keys) ++ cond b (key ∷ []) []
+  next b is =
+      ap (filter has_some) (take_more t.names.keys i key inside ∙ ap (λ x. take i t.names.keys ++ x ∷ []) (sym at))
+      ∙ filter-append has_some (take i t.names.keys) (key ∷ [])
+      ∙ ap (λ x. filter has_some (take i t.names.keys) ++ cond x (key ∷ []) []) is
+
+  -- a key that some sample had
+  pub collected_more : (line : FoundLine) (q : Profile) → AreFound p own t.names.keys → has_some key ≡ true → line.key ≡ key → q ≡ p → line_texts line ≡ key_written q key
+      → CollectedTo p own t (i + 1) (lines ++ line ∷ [])
+  collected_more line q found some is same texts = (
+    map-append (λ l. l.key) lines (line ∷ []) ∙ (λ j. so_far.0 j ++ is j ∷ []) ∙ sym (next true some),
+    All-push (IsLineOf p own) lines line so_far.1 (record {
+      key = subst (IsKeyOf p) (sym (is ∙ at)) (found.of_profile i key inside);
+      is_own = subst (λ k. is_own_key own k ≡ true) (sym (is ∙ at)) (found.is_own i key inside);
+      texts = texts ∙ ap (λ r. key_written r key) same ∙ ap (key_written p) (sym is);
+    }),
   )
 
-  -- one more entry, which isn't
-  pub collected_same : is_found found (key, tally) ≡ false → CollectedTo p found es (i + 1) lines
-  collected_same other =
-      (so_far.0 ∙ sym (append-nil (keys_found found (take i es))) ∙ ap (λ b. keys_found found (take i es) ++ cond b (key ∷ []) []) (sym other) ∙ sym found_next, so_far.1)
-
--- the key of an entry that some sample had is one of the profile
-pub entry_key : {S : Type 0} (p : Profile) (m : IndexMap Key Tally S) (k : Key) (t : Tally) → get same_key m k ≡ Some t → 0 < t.last → ((q : Key) → 0 < (tally_at m q).last → IsKeyOf p q) → IsKeyOf p k
-entry_key p m k t is some all = all k (omega (arith, some, ap (λ o. (unwrap_or o no_tally).last) is))
-
--- what the pattern doesn't find is not found
-pub other_own : (a b : Bool) → b ≡ false → (a && b) ≡ false
-other_own true b other = other
-other_own false b other = refl
+  -- a key that none had
+  pub collected_same : has_some key ≡ false → CollectedTo p own t (i + 1) lines
+  collected_same none = (so_far.0 ∙ sym (append-nil (filter has_some (take i t.names.keys))) ∙ sym (next false none), so_far.1)

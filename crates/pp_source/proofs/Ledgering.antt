@@ -1,120 +1,103 @@
 -- What a whole walk comes to.
-use Rattle.std.proofs.Common.{◌≡◌, ℕ, ◌≤◌, true, false, cond, not, pos, nat_abs, List, [], ◌∷◌, length, map, Option, Some, None, refl, ap, ◌∙◌, subst, arith}
-use Rattle.std.specs.List.{filter, cons_option}
-use Rattle.std.specs.Option.{option_map, is_some, unwrap_or}
-use Rattle.std.specs.Ordering.{int_eq}
+use Rattle.std.proofs.Common.{◌≡◌, ℕ, ◌<◌, ◌||◌, Bool, true, false, cond, not, pos, List, [], ◌∷◌, length, map, get_or, All, Option, refl, sym, ap, ◌∙◌, subst}
+use Rattle.std.specs.Ordering.{eq_by_cmp, int_eq, nat_cmp}
 use Rattle.std.proofs.lemmas.Bool.{false≢true}
-use Rattle.std.proofs.lemmas.List.Sums.{sum_by-cons}
+use Rattle.std.proofs.lemmas.List.Elements.{All-filter, All-head, All-tail}
 use Rattle.pp_model.specs.declared.config.Config.{Config}
-use Rattle.pp_model.specs.declared.frame.Frame.{Frame}
-use Rattle.pp_model.specs.declared.loaded.Loaded.{Loaded}
+use Rattle.pp_model.specs.declared.config.Grain.TheVariants.{Lines}
 use Rattle.pp_model.specs.declared.profile.Profile.{Profile}
-use Rattle.pp_model.specs.declared.profile.Sample.{Sample}
-use Rattle.pp_model.specs.declared.verdicts.Verdicts.{Verdicts}
 use Rattle.pp_model.specs.Finders.{Finders}
+use Rattle.pp_model.specs.FirstSight.{place_of}
 use Rattle.pp_model.specs.FrameTexts.{Written}
+use Rattle.pp_model.specs.Lookup.{text_at}
+use Rattle.pp_model.specs.Rules.{IsCompact}
 use Rattle.pp_grain.specs.declared.key.Key.{Key}
-use Rattle.pp_grain.specs.Keys.{key_cmp, key_written}
+use Rattle.pp_grain.specs.Keys.{key_cmp, key_texts, key_written, IsKeyOf}
 use Rattle.pp_grain.specs.Sight.{same_key}
-use Rattle.std.specs.Map.{lookup}
-use Rattle.pp_stack.specs.Filters.{frames_of_sample}
-use Rattle.pp_count.specs.declared.counted.Counted.{Counted}
-use Rattle.pp_count.specs.Column.{selected}
-use Rattle.pp_count.specs.Counted.{CanCount, IsCountedOf, report_frames}
+use Rattle.pp_count.specs.Counted.{report_frames}
 use Rattle.pp_count.specs.Counts.{samples_at}
-use Rattle.pp_count.specs.Seeing.{HoldsFilters, absolute_all, filtered_stack, framed_samples, framed_with, passes_tags}
-use Rattle.pp_count.specs.Sums.{Seen, weighed, renamed, absolute, occurs}
-use Rattle.pp_count.proofs.Kept.{kept_samples, values_fit}
-use Rattle.pp_source.specs.declared.ledger.Ledger.{Ledger}
-use Rattle.pp_source.specs.declared.tally.Tally.{Tally}
-use Rattle.pp_source.specs.Amounts.{line_of, routine_of}
-use Rattle.pp_source.specs.Ledgers.{AddedTo, IsLedgerOf, Walked, stack_samples}
-use Rattle.pp_source.specs.Tally.{no_tally, tally_at, IsTallyOf}
-use Rattle.pp_source.proofs.Walking.{line_samples}
+use Rattle.pp_count.specs.Parts.{HasBelow}
+use Rattle.pp_count.specs.Seeing.{filtered_from, seen_samples}
+use Rattle.pp_count.specs.Sums.{Seen, weighed, renamed, has, occurs}
+use Rattle.pp_count.specs.Table.{no_key, written_key}
+use Rattle.pp_count.proofs.Based.{kept_seen}
+use Rattle.pp_count.proofs.CallerLemmas.{keyed_report, weighed-renamed}
+use Rattle.pp_count.proofs.Ties.{tied}
+use Rattle.pp_source.specs.declared.found.Found.{Found}
+use Rattle.pp_source.specs.declared.found.Part.{Part}
+use Rattle.pp_source.specs.declared.found.Part.TheVariants.{Routine, Line}
+use Rattle.pp_source.specs.declared.tallies.Tallies.{Tallies}
+use Rattle.pp_source.specs.Found.{IsFoundOf, has_key, is_own_key, part_key, part_of}
+use Rattle.pp_source.specs.Ledgers.{AreAdded, HasKey, HasTallies, by_lines}
+use Rattle.pp_source.specs.Tally.{no_tally, number_of, tally_of, IsTallyOf}
+use Rattle.pp_source.proofs.Parts.{part_of_profile, part_told, ties_none, ties_there}
+use Rattle.pp_source.proofs.Retelling.{no_tally_of, renamed_twice, tally_same}
 
--- tallies to which nothing was added
-none_added : (p : Profile) (at : Key → Tally) → ((k : Key) → at k ≡ no_tally) → AddedTo p 0 [] at
-none_added p at none = record {
-  tallies = λ k of_k. rw (none k) (record { flat = refl; cum = refl; occurs = refl });
-  known = λ w found. absurd (false≢true found);
-  earlier = λ k. rw (none k) (omega arith);
-  of_profile = λ k some. absurd (omega (arith, some, ap (λ (t : Tally). t.last) (none k)));
-  flats = λ k. rw (none k) (omega arith);
-  cums = λ k. rw (none k) (omega arith);
-}
+-- a part of a line is that of the frame
+part_of_line : (part : Part) (w : Written) → part_of part (key_texts Lines false w) ≡ part_of part w
+part_of_line Routine w = refl
+part_of_line Line w = refl
 
-pub none_walked : (l : Loaded) (v : Verdicts) (config : Config) (column : Option ℕ) (ledger : Ledger) → ledger.lines.entries ≡ [] → ledger.routines.entries ≡ []
-    → Walked l v config column 0 [] ledger
-none_walked l v config column ledger lines routines = record {
-  seen = [];
-  are = λ f holds. refl;
-  lines = none_added l.profile (tally_at ledger.lines) (λ k. ap (λ es. unwrap_or (lookup (same_key k) es) no_tally) lines);
-  routines = none_added l.profile (tally_at ledger.routines) (λ k. ap (λ es. unwrap_or (lookup (same_key k) es) no_tally) routines);
-}
+parts_of_lines : (part : Part) (ws : List Written) → map (part_of part) (map (key_texts Lines false) ws) ≡ map (part_of part) ws
+parts_of_lines part [] = refl
+parts_of_lines part (w ∷ ws) = λ i. part_of_line part w i ∷ parts_of_lines part ws i
 
-module _ (p : Profile) (f : Finders) (config : Config) (column : Option ℕ) where
-  -- a sample that the tag filters leave
-  one_kept : (s : Sample) (kept : List Sample) (framed : List (Seen Written)) (o : Option (List Frame)) → frames_of_sample p f s ≡ o → stack_samples p f config column kept ≡ framed
-      → stack_samples p f config column (cond (is_some o) (s ∷ kept) kept) ≡ cons_option (option_map (framed_with p config column s) o) framed
-  one_kept s kept framed None is rest = rest
-  one_kept s kept framed (Some stack) is rest = λ i. cons_option (option_map (framed_with p config column s) (is i)) (rest i)
+parts_of_frames : (part : Part) (ss : List (Seen Written)) → map (renamed (part_of part)) (map (renamed (key_texts Lines false)) ss) ≡ map (renamed (part_of part)) ss
+parts_of_frames part [] = refl
+parts_of_frames part (s ∷ ss) = λ i. record { value = s.value; keys = parts_of_lines part s.keys i } ∷ parts_of_frames part ss i
 
-  -- of the samples that all filters leave the stack filters leave the same
-  kept_stacks : (ss : List Sample) → stack_samples p f config column (filter (λ s. is_some (filtered_stack p f config s)) ss) ≡ framed_samples p f config column ss
-  kept_stacks [] = refl
-  kept_stacks (s ∷ ss) =
-      let kept : List Sample = filter (λ x. is_some (filtered_stack p f config x)) ss in
-      let rest : stack_samples p f config column kept ≡ framed_samples p f config column ss = kept_stacks ss in
-      elim (passes_tags p f config s) as (λ b. stack_samples p f config column (cond (is_some (cond b (frames_of_sample p f s) None)) (s ∷ kept) kept)
-      ≡ cons_option (option_map (framed_with p config column s) (cond b (frames_of_sample p f s) None)) (framed_samples p f config column ss)) [
-        | true ↦ one_kept s kept (framed_samples p f config column ss) (frames_of_sample p f s) refl rest
-        | false ↦ rest
-      ]
+module _ (p : Profile) (config : Config) (by : config ≡ by_lines config) (column : Option ℕ) (kept : List ℕ) (names : List Key) (seen : List (Seen ℕ)) (part : Part) where
+  -- what is seen by lines has the parts of the report's frames
+  pub parts_seen : (f : Finders) → kept ≡ filtered_from p f config 0 p.sample → map (renamed (written_key p names)) seen ≡ seen_samples p f config column (samples_at p kept)
+      → map (renamed (λ n. part_of part (written_key p names n))) (weighed seen) ≡ map (renamed (part_of part)) (report_frames p f config column)
+  parts_seen f kept_is are =
+      let keyed : map (renamed (written_key p names)) (weighed seen) ≡ map (renamed (key_texts Lines false)) (report_frames p f config column) =
+      sym (weighed-renamed (written_key p names) seen) ∙ ap weighed (are ∙ kept_seen p f config column kept kept_is) ∙ sym (keyed_report p f config column)
+      ∙ ap (λ (c : Config). map (renamed (key_texts c.grain c.showcolumns)) (report_frames p f config column)) by in
+      sym (renamed_twice (part_of part) (written_key p names) (weighed seen)) ∙ ap (map (renamed (part_of part))) keyed ∙ parts_of_frames part (report_frames p f config column)
 
-  -- one sample is within its own value
-  one_size : (s : Sample) (ss : List Sample) (o : Option (List Frame)) → absolute (weighed (framed_samples p f config column ss)) ≤ absolute_all column config.divide_by ss
-      → absolute (weighed (cons_option (option_map (framed_with p config column s) o) (framed_samples p f config column ss))) ≤ absolute_all column config.divide_by (s ∷ ss)
-  one_size s ss None rest = omega (arith, rest, sum_by-cons (λ (x : Sample). nat_abs (selected column config.divide_by x)) s ss)
-  one_size s ss (Some stack) rest =
-      elim (not (int_eq (selected column config.divide_by s) (pos 0))) as (λ b. absolute (cond b (framed_with p config column s stack ∷ weighed (framed_samples p f config column ss)) (weighed (framed_samples p f config column ss))) ≤ absolute_all column config.divide_by (s ∷ ss)) [
-        | true ↦ omega (
-          arith,
-          rest,
-          sum_by-cons (λ (x : Sample). nat_abs (selected column config.divide_by x)) s ss,
-          sum_by-cons (λ (x : Seen Written). nat_abs x.value) (framed_with p config column s stack) (weighed (framed_samples p f config column ss)),
-        )
-        | false ↦ omega (arith, rest, sum_by-cons (λ (x : Sample). nat_abs (selected column config.divide_by x)) s ss)
-      ]
+module _ (p : Profile) (compact : IsCompact p) (zero_text : (text_at p 0 ≡ []) × (0 < length p.text)) (own : Option (List Bool)) (part : Part) (keys : List Key) (of_p : All (IsKeyOf p) keys)
+    (found : Found) (is : IsFoundOf own part keys found) where
+  abbrev told : ℕ → Written
+  told n = part_of part (written_key p keys n)
 
-  -- the values of the samples that are left are within those of all
-  framed_size : (ss : List Sample) → absolute (weighed (framed_samples p f config column ss)) ≤ absolute_all column config.divide_by ss
-  framed_size [] = omega arith
-  framed_size (s ∷ ss) = one_size s ss (filtered_stack p f config s) (framed_size ss)
+  -- what is told of a sample is told by a key
+  known_in : (q : Written) (ns : List ℕ) → All (λ n. n < length keys) ns → has key_cmp q (map told ns) ≡ true → HasKey p q
+  known_in q [] below there = absurd (false≢true there)
+  known_in q (n ∷ ns) below there =
+      elim (eq_by_cmp key_cmp q (told n)) as (λ b. eq_by_cmp key_cmp q (told n) ≡ b → (b || has key_cmp q (map told ns)) ≡ true → HasKey p q) [
+        | true ↦ λ same _. record {
+          key = part_key part (get_or keys n no_key);
+          of_profile = part_of_profile p zero_text part (get_or keys n no_key) (of_p n no_key (All-head (λ m. m < length keys) n ns below));
+          told = part_told p zero_text part (get_or keys n no_key) ∙ sym (tied q (told n) same);
+        }
+        | false ↦ λ _ more. known_in q ns (All-tail (λ m. m < length keys) n ns below) more
+      ] refl there
 
--- the routine of a line is that of the frame
-same_routines : (ws : List Written) → map routine_of (map line_of ws) ≡ map routine_of ws
-same_routines [] = refl
-same_routines (w ∷ ws) = ap (λ r. routine_of w ∷ r) (same_routines ws)
+  known : (q : Written) (ss : List (Seen ℕ)) → All (HasBelow (length keys)) ss → occurs key_cmp (map (renamed told) ss) q ≡ true → HasKey p q
+  known q [] below there = absurd (false≢true there)
+  known q (s ∷ ss) below there =
+      elim (has key_cmp q (map told s.keys)) as (λ b. has key_cmp q (map told s.keys) ≡ b → (b || occurs key_cmp (map (renamed told) ss) q) ≡ true → HasKey p q) [
+        | true ↦ λ here _. known_in q s.keys (All-head (HasBelow (length keys)) s ss below) here
+        | false ↦ λ _ more. known q ss (All-tail (HasBelow (length keys)) s ss below) more
+      ] refl there
 
-routines_of_lines : (ss : List (Seen Written)) → map (renamed routine_of) (map (renamed line_of) ss) ≡ map (renamed routine_of) ss
-routines_of_lines [] = refl
-routines_of_lines (s ∷ ss) = λ i. record { value = s.value; keys = same_routines s.keys i } ∷ routines_of_lines ss i
-
--- The ledger of the samples that the filters leave is that of the report.
-pub ledger_is : (l : Loaded) (v : Verdicts) (c : Counted) (config : Config) (column : Option ℕ) (ledger : Ledger) → CanCount l.profile v config column → IsCountedOf l v config column c
-    → Walked l v config column (length c.kept) (samples_at l.profile c.kept) ledger
-    → (f : Finders) → HoldsFilters l v config f → IsLedgerOf l.profile (report_frames l.profile f config column) ledger
-ledger_is l v c config column ledger can counted w f holds =
-    let p : Profile = l.profile in
-    let samples : List (Seen Written) = report_frames p f config column in
-    let seen : w.seen ≡ map (renamed line_of) samples =
-    w.are f holds.found
-    ∙ ap (line_samples p f config column) (kept_samples p f config c.kept (counted.kept f holds))
-    ∙ ap (λ ss. map (renamed line_of) (weighed ss)) (kept_stacks p f config column p.sample) in
-    record {
-      lines = λ k of_k. subst (λ ss. IsTallyOf ss (key_written p k) (tally_at ledger.lines k)) seen (w.lines.tallies k of_k);
-      routines = λ k of_k.
-          subst (λ ss. IsTallyOf ss (key_written p k) (tally_at ledger.routines k)) (ap (map (renamed routine_of)) seen ∙ routines_of_lines samples) (w.routines.tallies k of_k);
-      known = λ q found. w.lines.known q (ap (λ ss. occurs key_cmp ss q) seen ∙ found);
-      fits = omega (arith, framed_size p f config column p.sample, values_fit p column config.divide_by can.countable can.column);
-    }
+  -- The tallies of what was found are those of these samples.
+  pub has_tallies : (turn : ℕ) (seen : List (Seen ℕ)) (t : Tallies) (samples : List (Seen Written)) → All (HasBelow (length keys)) seen → t.names.keys ≡ found.names.keys
+      → AreAdded found turn seen t.sums.items → map (renamed told) (weighed seen) ≡ samples → HasTallies p own samples t
+  has_tallies turn seen t samples below names_are added seen_is =
+      let ss : List (Seen ℕ) = weighed seen in
+      let ss_below : All (HasBelow (length keys)) ss = All-filter (λ (s : Seen ℕ). not (int_eq s.value (pos 0))) (HasBelow (length keys)) seen below in
+      subst (λ r. HasTallies p own r t) seen_is (record {
+        tallies = λ k of_k own_k. by k of_k own_k (has_key k found.names.keys) refl ss_below;
+        known = λ q there. known q ss ss_below there;
+      }) where
+        by : (k : Key) → IsKeyOf p k → is_own_key own k ≡ true → (b : Bool) → has_key k found.names.keys ≡ b → All (HasBelow (length keys)) (weighed seen)
+            → IsTallyOf key_cmp (map (renamed told) (weighed seen)) (key_written p k) (cond (has_key k t.names.keys) (tally_of t.sums.items (place_of same_key t.names.keys k)) no_tally)
+        by k of_k own_k true there ss_below =
+            rw (names_are, there)
+            (tally_same key_cmp nat_cmp told (number_of found.numbers.items) (key_written p k) (place_of same_key found.names.keys k) (length keys)
+            (λ n within. ties_there p zero_text own part keys of_p found is k n compact of_k there within) (weighed seen) _ ss_below (added.each (place_of same_key found.names.keys k)))
+        by k of_k own_k false there ss_below =
+            rw (names_are, there)
+            (no_tally_of key_cmp told (key_written p k) (length keys) (λ n within. ties_none p zero_text own part keys of_p found is k n compact of_k own_k there within) (weighed seen) ss_below)

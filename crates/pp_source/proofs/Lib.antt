@@ -2,7 +2,6 @@ pub mod Amounting
 mod Examples
 pub mod FileLemmas
 pub mod Finding
-pub mod Gathering
 pub mod InOrder
 pub mod Keys
 pub mod Ledgering
@@ -10,8 +9,10 @@ pub mod ListLemmas
 pub mod LookLemmas
 pub mod Matching
 pub mod Numbering
+pub mod Parts
 pub mod PathLemmas
 pub mod ReadLemmas
+pub mod Retelling
 pub mod RowLemmas
 pub mod RunLemmas
 pub mod Tallying

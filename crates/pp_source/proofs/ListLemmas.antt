@@ -6,7 +6,7 @@ use Rattle.std.proofs.Math.Seq.{drop-append_seam}
 use Rattle.pp_desk.specs.declared.stop.Stop.{Stop}
 use Rattle.pp_desk.specs.declared.stop.Stop.TheVariants as stops
 use Rattle.pp_desk.specs.World.{World}
-use Rattle.pp_desk.specs.Script.{Script, Give, ◌>>=◌}
+use Rattle.pp_desk.specs.Script.{Script, Give}
 use Rattle.pp_desk.specs.Went.{Went}
 use Rattle.pp_desk.proofs.Going.{gives, wants, stops_first, goes_second, goes_give}
 use Rattle.pp_model.specs.declared.config.Config.{Config}

@@ -1,5 +1,6 @@
 pub mod Amounts
 pub mod Files
+pub mod Found
 pub mod Ledgers
 pub mod Listing
 pub mod Paths

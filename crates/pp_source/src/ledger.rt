@@ -1,29 +1,25 @@
-//! What samples come to in each line and in each routine.
-ghost use Rattle.std.specs.Prelude.{◌≡◌, ◌+◌, ◌<◌, [], length, map, take, slice_get, All, IfOk};
-ghost use Rattle.std.specs.Option.{option_copied};
-ghost use Rattle.pp_model.specs.Conditions.{HasVerdicts, IsColumnOf, IsFrameOf, IsStackOf};
+//! What samples come to in the lines and in the routines that a report's own pattern finds.
+ghost use Rattle.std.specs.Prelude.{◌≡◌, length, IfOk, Some};
 ghost use Rattle.pp_model.specs.Finders.{Finders};
-ghost use Rattle.pp_model.specs.FrameTexts.{written};
-ghost use Rattle.pp_grain.specs.declared.key.Key.{Key as KeyOf};
-ghost use Rattle.pp_grain.specs.Keys.{key_written, IsKeyOf};
 ghost use Rattle.pp_count.specs.Counted.{CanCount, IsCountedOf, report_frames};
-ghost use Rattle.pp_count.specs.Counts.{samples_at};
-ghost use Rattle.pp_count.specs.Seeing.{HoldsFilters, counted_frames};
-ghost use Rattle.pp_source.specs.Amounts.{line_of, routine_of};
-ghost use Rattle.pp_source.specs.Ledgers.{AddsStack, IsLedgerOf, IsReadyAt, Walked, routine_key};
-ghost use Rattle.pp_source.specs.Tally.{tally_at};
+ghost use Rattle.pp_count.specs.Filters.{AreFilters};
+ghost use Rattle.pp_count.specs.Rising.{AreRising};
+ghost use Rattle.pp_count.specs.Scope.{AreCountable, IsSound, chosen_of, samples_of};
+ghost use Rattle.pp_count.specs.Seeing.{HoldsFilters, filtered_from};
+ghost use Rattle.pp_count.specs.Table.{IsKeyTable};
+ghost use Rattle.pp_source.specs.Ledgers.{AreFound, IsLedgerOf, by_lines};
 
-use crate::tallies::{Tallies, add_sample};
-use indexmap::IndexMap;
+use crate::found::{Part, found_parts};
+use crate::report::Report;
+use crate::tallies::Tallies;
+use crate::walk::{Walk, add_samples};
 use pp_base::Memory;
-use pp_count::{Counted, selected};
-use pp_grain::{Key, counted};
-use pp_model::{Config, Frame, Loaded, Sample, Stack, Verdicts, file_of, function_of, line_of};
-use pp_stack::filter_stack;
+use pp_count::{Filters, KeyTable, Scope, key_table};
+use pp_model::{Config, Grain};
 use std::alloc::Global;
 
 /// Sums by the lines and by the routines of frames.
-#[derive(Drop)]
+#[derive(Debug, Drop)]
 pub struct Ledger {
     /// By function, file and line.
     pub lines: Tallies,
@@ -32,173 +28,105 @@ pub struct Ledger {
 }
 
 /// The sums over the samples that the filters leave, in one pass. `Err` is want of memory.
-pub fn ledger_of(
-    alloc: Global,
-    l: &Loaded,
-    v: &Verdicts,
-    c: &Counted,
-    config: &Config,
-    column: Option<u32>,
-) -> Result<Ledger, Memory>
-    requires can { CanCount l.now.profile v.now config.now column }
-    requires counted { IsCountedOf l.now v.now config.now column c.now }
-    ensures keys { IfOk result (λ ledger. (k : KeyOf) → 0 < (tally_at ledger.lines k).last →
-        IsKeyOf l.now.profile k) }
-    ensures sums { (f : Finders) → HoldsFilters l.now v.now config.now f → IfOk result
-        (IsLedgerOf l.now.profile (report_frames l.now.profile f config.now column)) }
+pub fn ledger_of(alloc: Global, report: &Report<'_>) -> Result<Ledger, Memory>
+    requires can { CanCount report.now.l.now.profile report.now.v.now report.now.config.now
+        report.now.column }
+    requires counted { IsCountedOf report.now.l.now report.now.v.now report.now.config.now
+        report.now.column report.now.counted.now }
+    ensures found { IfOk result (λ ledger.
+        AreFound report.now.l.now.profile report.now.v.now.own ledger.lines.names.keys) }
+    ensures sums { (f : Finders) →
+        HoldsFilters report.now.l.now report.now.v.now report.now.config.now f → IfOk result
+        (IsLedgerOf report.now.l.now.profile report.now.v.now.own
+        (report_frames report.now.l.now.profile f report.now.config.now report.now.column)) }
 {
-    let ledger = walk(alloc, l, v, c.kept.as_slice(), config, column)?;
+    let config = by_lines(alloc, report.config)?;
+    let filters = Filters::new(alloc, report.l, report.v, &config)?;
+    let table = key_table(alloc, report.l, &config)?;
+    let ledger = ledger_in(alloc, report, &config, &filters, &table)?;
     Ok(ledger)
 }
 
-// The sums over the samples with these numbers.
-fn walk(
-    alloc: Global,
-    l: &Loaded,
-    v: &Verdicts,
-    kept: &[u32],
-    config: &Config,
-    column: Option<u32>,
-) -> Result<Ledger, Memory>
-    requires verdicts { HasVerdicts l.now.profile v.now }
-    ensures { IfOk result (Walked l.now v.now config.now column (length kept.now)
-        (samples_at l.now.profile kept.now)) }
+// The configuration under which the lines of frames are counted.
+fn by_lines(alloc: Global, config: &Config) -> Result<Config, Memory>
+    ensures { IfOk result (λ lines. lines ≡ by_lines config.now) }
 {
-    let mut ledger = Ledger {
-        lines: IndexMap::new(alloc),
-        routines: IndexMap::new(alloc),
+    let mut lines = config.copy(alloc)?;
+    lines.grain = Grain::Lines;
+    lines.showcolumns = false;
+    Ok(lines)
+}
+
+// The same under this configuration, by its filters and its table.
+fn ledger_in<'x>(
+    alloc: Global,
+    report: &'x Report<'x>,
+    config: &'x Config,
+    filters: &'x Filters,
+    table: &'x KeyTable,
+) -> Result<Ledger, Memory>
+    requires can { CanCount report.now.l.now.profile report.now.v.now config.now report.now.column }
+    requires rising { AreRising 0 (length report.now.l.now.profile.sample)
+        report.now.counted.now.kept }
+    requires lines { config.now ≡ by_lines config.now }
+    requires filters { AreFilters report.now.l.now.profile report.now.v.now config.now filters.now }
+    requires table { IsKeyTable report.now.l.now.profile config.now table.now }
+    ensures found { IfOk result (λ ledger.
+        AreFound report.now.l.now.profile report.now.v.now.own ledger.lines.names.keys) }
+    ensures sums { (f : Finders) → HoldsFilters report.now.l.now report.now.v.now config.now f →
+        report.now.counted.now.kept
+        ≡ filtered_from report.now.l.now.profile f config.now 0 report.now.l.now.profile.sample →
+        IfOk result (IsLedgerOf report.now.l.now.profile report.now.v.now.own
+        (report_frames report.now.l.now.profile f config.now report.now.column)) }
+{
+    let kept = report.counted.kept.as_slice();
+    let scope = Scope {
+        l: report.l,
+        v: report.v,
+        config,
+        filters,
+        column: report.column,
+        table,
+        over: None,
+        chosen: Some(kept),
     };
-    let mut keys = Vec::new(alloc);
-    for place in 0..kept.len() {
-        add_at(
-            alloc,
-            l,
-            v,
-            kept,
-            place,
-            config,
-            column,
-            &mut keys,
-            &mut ledger,
-        )?;
-    }
+    let ledger = ledger_by(alloc, &scope, kept)?;
     Ok(ledger)
 }
 
-// Adds the sample whose number stands at the place.
-fn add_at(
-    alloc: Global,
-    l: &Loaded,
-    v: &Verdicts,
-    kept: &[u32],
-    place: usize,
-    config: &Config,
-    column: Option<u32>,
-    keys: &mut Vec<Key>,
-    ledger: &mut Ledger,
-) -> Result<(), Memory>
-    requires verdicts { HasVerdicts l.now.profile v.now }
-    requires within { place < length kept.now }
-    requires walked { Walked l.now v.now config.now column place
-        (samples_at l.now.profile (take place kept.now)) ledger.old }
-    ensures { IfOk result (λ _. Walked l.now v.now config.now column (place + 1)
-        (samples_at l.now.profile (take (place + 1) kept.now)) ledger.new) }
+// The sums over the samples with these numbers, which are those that the scope chooses.
+fn ledger_by(alloc: Global, scope: &Scope<'_>, kept: &[u32]) -> Result<Ledger, Memory>
+    requires sound { IsSound scope.now }
+    requires countable { AreCountable scope.now (samples_of scope.now) }
+    requires chosen { chosen_of scope.now ≡ Some kept.now }
+    requires lines { scope.now.config.now ≡ by_lines scope.now.config.now }
+    ensures found { IfOk result (λ ledger.
+        AreFound scope.now.l.now.profile scope.now.v.now.own ledger.lines.names.keys) }
+    ensures sums { (f : Finders) →
+        HoldsFilters scope.now.l.now scope.now.v.now scope.now.config.now f →
+        kept.now ≡ filtered_from scope.now.l.now.profile f scope.now.config.now 0
+        scope.now.l.now.profile.sample → IfOk result
+        (IsLedgerOf scope.now.l.now.profile scope.now.v.now.own
+        (report_frames scope.now.l.now.profile f scope.now.config.now scope.now.column)) }
 {
-    let _compact = l.profile.get();
-    let Some(s) = sample_at(l, kept[place]) else {
-        return Ok(());
+    let _valid = scope.l.profile.get();
+    let keys = &scope.table.names;
+    let lines = found_parts(alloc, scope.l, scope.v, Part::Line, keys)?;
+    let routines = found_parts(alloc, scope.l, scope.v, Part::Routine, keys)?;
+    let walk = Walk {
+        scope: *scope,
+        lines: &lines,
+        routines: &routines,
     };
-    let value = selected(l, s, column, config.divide_by);
-    if value == 0 {
-        return Ok(());
-    }
-    let Some(stack) = filter_stack(alloc, l, v, s)? else {
-        return Ok(());
-    };
-    add_stack(
-        l,
-        &stack,
-        config.noinlines,
-        value,
-        place as u64 + 1,
-        keys,
-        ledger,
-    )
-}
-
-// The sample of the number.
-fn sample_at(l: &Loaded, number: u32) -> Option<&Sample>
-    ensures { option_copied result ≡ slice_get l.now.profile.sample number }
-{
-    l.profile.get().sample.as_slice().get(number as usize)
-}
-
-// Adds the value to the sums of the lines and the routines of the frames that count.
-fn add_stack(
-    l: &Loaded,
-    stack: &Stack,
-    noinlines: bool,
-    value: i64,
-    turn: u64,
-    keys: &mut Vec<Key>,
-    ledger: &mut Ledger,
-) -> Result<(), Memory>
-    requires frames { IsStackOf l.now.profile stack.now }
-    requires lines { IsReadyAt turn (tally_at ledger.old.lines) }
-    requires routines { IsReadyAt turn (tally_at ledger.old.routines) }
-    ensures { IfOk result (λ _.
-        AddsStack l.now.profile noinlines stack.now value turn ledger.old ledger.new) }
-{
-    gather_lines(l, stack, noinlines, keys)?;
-    add_sample(&mut ledger.lines, value, keys, turn)?;
-    take_lines_off(keys);
-    add_sample(&mut ledger.routines, value, keys, turn)
-}
-
-// The lines of the frames that count, leaf first, in the place of what `keys` held.
-fn gather_lines(
-    l: &Loaded,
-    stack: &Stack,
-    noinlines: bool,
-    keys: &mut Vec<Key>,
-) -> Result<(), Memory>
-    requires { IsStackOf l.now.profile stack.now }
-    ensures of_profile { IfOk result (λ _. All (IsKeyOf l.now.profile) keys.new.items) }
-    ensures lines { IfOk result (λ _. map (key_written l.now.profile) keys.new.items
-        ≡ map line_of (map (written l.now.profile) (counted_frames noinlines stack.now))) }
-{
-    keys.clear();
-    let frames = stack.as_slice();
-    for (place, frame) in frames.iter().enumerate() {
-        if counted(stack, place, noinlines) {
-            keys.push(line_key(l, frame))?;
-        }
-    }
-    Ok(())
-}
-
-// The function, the file and the line of the frame. Text 0, the object, is empty.
-fn line_key(l: &Loaded, frame: &Frame) -> Key
-    requires { IsFrameOf l.now.profile frame.now }
-    ensures of_profile { IsKeyOf l.now.profile result }
-    ensures written { key_written l.now.profile result ≡ line_of (written l.now.profile frame.now) }
-{
-    let _valid = l.profile.get();
-    Key {
-        function: function_of(l, frame),
-        file: file_of(l, frame),
-        line: line_of(l, frame),
-        column: 0,
-        address: 0,
-        object: 0,
-    }
-}
-
-// Leaves the function and the file of each key.
-fn take_lines_off(keys: &mut Vec<Key>)
-    ensures { keys.new.items ≡ map routine_key keys.old.items }
-{
-    for key in keys.iter_mut() {
-        key.line = 0;
-    }
+    let sums = add_samples(alloc, &walk, kept)?;
+    Ok(Ledger {
+        lines: Tallies {
+            names: lines.names,
+            sums: sums.lines,
+        },
+        routines: Tallies {
+            names: routines.names,
+            sums: sums.routines,
+        },
+    })
 }

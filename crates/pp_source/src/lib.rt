@@ -3,18 +3,21 @@
 
 mod amounts;
 mod files;
+mod found;
 mod ledger;
 mod lines;
 mod listing;
 mod looking;
 mod paths;
 mod refusal;
+mod report;
 mod routine;
 mod rows;
 mod runs;
 mod source;
 mod tallies;
 mod tally;
+mod walk;
 
 pub use listing::write_list;
 pub use refusal::ListRefusal;

@@ -8,7 +8,7 @@ ghost use Rattle.pp_count.specs.Counted.{CanCount, IsCountedOf};
 ghost use Rattle.pp_count.specs.Sums.{Seen};
 ghost use Rattle.pp_count.specs.Seeing.{HoldsFilters};
 ghost use Rattle.pp_source.specs.Files.{source_in};
-ghost use Rattle.pp_source.specs.Ledgers.{IsLedgerOf, IsLineOf, lines_texts};
+ghost use Rattle.pp_source.specs.Ledgers.{IsLineIn, ListsOf, lines_texts};
 ghost use Rattle.pp_source.specs.Listing.{added_report, list_lines, list_report};
 ghost use Rattle.pp_source.specs.SourceText.{lines_text, total_line};
 
@@ -16,6 +16,7 @@ use crate::files::{Sources, files_of, read_sources};
 use crate::ledger::ledger_of;
 use crate::lines::{FoundLine, found_lines};
 use crate::refusal::ListRefusal;
+use crate::report::Report;
 use crate::routine::write_routines;
 use crate::rows::Listing;
 use pp_base::{Memory, Text};
@@ -52,10 +53,18 @@ pub fn write_list<D: Desk>(
         (beside out.new result) }
     ensures stopped { OnErr result (out.new ≡ out.old) }
 {
-    let Some(report) = list_report(alloc, l, v, c, config, column, head, desk)? else {
+    let report = Report {
+        l,
+        v,
+        counted: c,
+        config,
+        column,
+        head,
+    };
+    let Some(text) = list_report(alloc, &report, desk)? else {
         return Ok(Err(ListRefusal::NoMatch));
     };
-    out.append(report)?;
+    out.append(text)?;
     Ok(Ok(()))
 }
 
@@ -63,32 +72,32 @@ pub fn write_list<D: Desk>(
 #[tactic(auto, using(pp_desk::proofs::Going::going))]
 fn list_report<D: Desk>(
     alloc: Global,
-    l: &Loaded,
-    v: &Verdicts,
-    c: &Counted,
-    config: &Config,
-    column: Option<u32>,
-    head: &Head,
+    report: &Report<'_>,
     desk: &mut D,
 ) -> Result<Option<Text>, Stop>
-    requires can { CanCount l.now.profile v.now config.now column }
-    requires counted { IsCountedOf l.now v.now config.now column c.now }
-    requires total { head.now.total < 2 ^ 63 }
-    ensures { (f : Finders) → HoldsFilters l.now v.now config.now f →
+    requires can { CanCount report.now.l.now.profile report.now.v.now report.now.config.now
+        report.now.column }
+    requires counted { IsCountedOf report.now.l.now report.now.v.now report.now.config.now
+        report.now.column report.now.counted.now }
+    requires total { report.now.head.now.total < 2 ^ 63 }
+    ensures { (f : Finders) →
+        HoldsFilters report.now.l.now report.now.v.now report.now.config.now f →
         Went (D.world desk.old) (D.world desk.new)
-        (list_report l.now.profile f config.now column (facts head.now)) result }
+        (list_report report.now.l.now.profile f report.now.config.now report.now.column
+        (facts report.now.head.now)) result }
 {
-    let ledger = ledger_of(alloc, l, v, c, config, column)?;
-    let lines = found_lines(alloc, l, v, &ledger)?;
+    let ledger = ledger_of(alloc, report)?;
+    let lines = found_lines(alloc, report, &ledger)?;
     if lines.is_empty() {
         return Ok(None);
     }
     let listing = Listing {
-        l,
-        head,
+        l: report.l,
+        v: report.v,
+        head: report.head,
         ledger: &ledger,
     };
-    let text = list_lines(alloc, &listing, config, &lines, desk)?;
+    let text = list_lines(alloc, &listing, report.config, &lines, desk)?;
     Ok(Some(text))
 }
 
@@ -101,10 +110,10 @@ fn list_lines<D: Desk>(
     lines: &[FoundLine<'_>],
     desk: &mut D,
 ) -> Result<Text, Stop>
-    requires lines { All (IsLineOf listing.now.l.now.profile) lines.now }
+    requires lines { All (IsLineIn listing.now) lines.now }
     requires total { listing.now.head.now.total < 2 ^ 63 }
     ensures { (samples : Seq (Seen Written)) →
-        IsLedgerOf listing.now.l.now.profile samples listing.now.ledger.now →
+        ListsOf listing.now samples →
         Went (D.world desk.old) (D.world desk.new) (list_lines config.now samples
         (facts listing.now.head.now) (lines_texts lines.now)) result }
 {
@@ -122,10 +131,10 @@ fn lines_text(
     sources: &Sources<'_>,
     lines: &[FoundLine<'_>],
 ) -> Result<Text, Memory>
-    requires lines { All (IsLineOf listing.now.l.now.profile) lines.now }
+    requires lines { All (IsLineIn listing.now) lines.now }
     requires total { listing.now.head.now.total < 2 ^ 63 }
     ensures { (samples : Seq (Seen Written)) →
-        IsLedgerOf listing.now.l.now.profile samples listing.now.ledger.now → IfOk result (λ text.
+        ListsOf listing.now samples → IfOk result (λ text.
         text ≡ lines_text samples (facts listing.now.head.now) (source_in sources.now)
         (lines_texts lines.now)) }
 {

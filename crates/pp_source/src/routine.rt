@@ -6,19 +6,19 @@ ghost use Rattle.pp_units.specs.Head.{facts};
 ghost use Rattle.pp_units.specs.Shown.{shown};
 ghost use Rattle.pp_count.specs.Sums.{Seen};
 ghost use Rattle.pp_source.specs.Amounts.{routine_amounts};
-ghost use Rattle.pp_source.specs.Ledgers.{IsLedgerOf, IsLineOf, line_texts, lines_texts};
+ghost use Rattle.pp_source.specs.Ledgers.{IsLineIn, ListsOf, line_texts, lines_texts};
 ghost use Rattle.pp_source.specs.Files.{source_in};
 ghost use Rattle.pp_source.specs.SourceText.{both_text, error_line, file_of, number_above, numbers_of, part_text, routine_line, routine_text, routines_text, source_text, title_line};
 
 use crate::amounts::Amounts;
 use crate::files::Sources;
+use crate::found::{Part, part_key};
 use crate::lines::FoundLine;
 use crate::rows::{Listing, write_rows};
 use crate::runs::cut_routine;
 use crate::source::Source;
 use crate::tallies::amounts_at;
 use pp_base::{Memory, Text};
-use pp_grain::Key;
 use pp_units::{Head, Small, write_percent};
 use std::alloc::Global;
 
@@ -30,9 +30,9 @@ pub fn write_routines(
     lines: &[FoundLine<'_>],
     out: &mut Text,
 ) -> Result<(), Memory>
-    requires { All (IsLineOf listing.now.l.now.profile) lines.now }
+    requires { All (IsLineIn listing.now) lines.now }
     ensures { (samples : Seq (Seen Written)) →
-        IsLedgerOf listing.now.l.now.profile samples listing.now.ledger.now → IfOk result (λ _.
+        ListsOf listing.now samples → IfOk result (λ _.
         out.new ≡ out.old ++ routines_text samples (facts listing.now.head.now)
         (source_in sources.now) (lines_texts lines.now)) }
 {
@@ -53,9 +53,9 @@ fn write_found(
     lines: &[FoundLine<'_>],
     out: &mut Text,
 ) -> Result<(), Memory>
-    requires { All (IsLineOf listing.now.l.now.profile) lines.now }
+    requires { All (IsLineIn listing.now) lines.now }
     ensures { (samples : Seq (Seen Written)) →
-        IsLedgerOf listing.now.l.now.profile samples listing.now.ledger.now → IfOk result (λ _.
+        ListsOf listing.now samples → IfOk result (λ _.
         out.new ≡ out.old ++ routine_text samples (facts listing.now.head.now)
         (source_in sources.now (file_of (lines_texts lines.now))) (lines_texts lines.now)) }
 {
@@ -82,9 +82,9 @@ fn write_routine(
     lines: &[FoundLine<'_>],
     out: &mut Text,
 ) -> Result<(), Memory>
-    requires { All (IsLineOf listing.now.l.now.profile) lines.now }
+    requires { All (IsLineIn listing.now) lines.now }
     ensures { (samples : Seq (Seen Written)) →
-        IsLedgerOf listing.now.l.now.profile samples listing.now.ledger.now → IfOk result (λ _.
+        ListsOf listing.now samples → IfOk result (λ _.
         out.new ≡ out.old
         ++ routine_text samples (facts listing.now.head.now) source.now (lines_texts lines.now)) }
 {
@@ -114,21 +114,14 @@ fn write_sums(
     line: &FoundLine<'_>,
     out: &mut Text,
 ) -> Result<(), Memory>
-    requires { IsLineOf listing.now.l.now.profile line.now }
+    requires { IsLineIn listing.now line.now }
     ensures { (samples : Seq (Seen Written)) →
-        IsLedgerOf listing.now.l.now.profile samples listing.now.ledger.now → IfOk result (λ _.
+        ListsOf listing.now samples → IfOk result (λ _.
         out.new ≡ out.old ++ routine_line (facts listing.now.head.now)
         (routine_amounts samples (line_texts line.now))) }
 {
     let _valid = listing.l.profile.get();
-    let key = Key {
-        function: line.key.function,
-        file: line.key.file,
-        line: 0,
-        column: 0,
-        address: 0,
-        object: 0,
-    };
+    let key = part_key(Part::Routine, &line.key);
     let sums = amounts_at(&listing.ledger.routines, &key);
     put_routine(alloc, listing.head, sums, out)
 }
@@ -177,10 +170,10 @@ fn write_source(
     lines: &[FoundLine<'_>],
     out: &mut Text,
 ) -> Result<(), Memory>
-    requires line { IsLineOf listing.now.l.now.profile line.now }
-    requires lines { All (IsLineOf listing.now.l.now.profile) lines.now }
+    requires line { IsLineIn listing.now line.now }
+    requires lines { All (IsLineIn listing.now) lines.now }
     ensures { (samples : Seq (Seen Written)) →
-        IsLedgerOf listing.now.l.now.profile samples listing.now.ledger.now → IfOk result (λ _.
+        ListsOf listing.now samples → IfOk result (λ _.
         out.new ≡ out.old ++ source_text samples (facts listing.now.head.now) source.now
         (line_texts line.now) (lines_texts lines.now)) }
 {

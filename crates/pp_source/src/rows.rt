@@ -4,17 +4,17 @@ ghost use Rattle.pp_model.specs.FrameTexts.{Written};
 ghost use Rattle.pp_units.specs.Shown.{shown};
 ghost use Rattle.pp_units.specs.Head.{facts};
 ghost use Rattle.pp_count.specs.Sums.{Seen};
-ghost use Rattle.pp_source.specs.Ledgers.{IsLedgerOf, IsLineOf, line_texts};
+ghost use Rattle.pp_source.specs.Ledgers.{IsLineIn, ListsOf, line_texts};
 ghost use Rattle.pp_source.specs.SourceText.{file_lines, is_shown, line_row, numbered_text, past_row, row_text, rows_text, shown_rows, sum_column, sums_text};
 
 use crate::amounts::Amounts;
+use crate::found::key_at;
 use crate::ledger::Ledger;
 use crate::lines::FoundLine;
 use crate::tallies::amounts_at;
 use itoa::Buffer;
 use pp_base::{Memory, Text};
-use pp_grain::Key;
-use pp_model::Loaded;
+use pp_model::{Loaded, Verdicts};
 use pp_units::{Head, cut_at, put_right};
 use std::alloc::Global;
 
@@ -25,8 +25,16 @@ const AROUND: u64 = 5;
 #[derive(Clone, Copy)]
 pub struct Listing<'a> {
     pub l: &'a Loaded,
+    pub v: &'a Verdicts,
     pub head: &'a Head,
     pub ledger: &'a Ledger,
+}
+
+/// The first and the last line of a routine that have a frame.
+#[derive(Clone, Copy)]
+pub struct Span {
+    pub first: u64,
+    pub last: u64,
 }
 
 /// Appends the lines of the file about those with frames, and the numbers of those past its end. `numbers` are the
@@ -39,46 +47,48 @@ pub fn write_rows(
     numbers: &[u64],
     out: &mut Text,
 ) -> Result<(), Memory>
-    requires line { IsLineOf listing.now.l.now.profile line.now }
+    requires line { IsLineIn listing.now line.now }
     requires small { All (λ n. n < 2 ^ 63) numbers.now }
     ensures { (samples : Seq (Seen Written)) →
-        IsLedgerOf listing.now.l.now.profile samples listing.now.ledger.now → IfOk result (λ _.
+        ListsOf listing.now samples → IfOk result (λ _.
         out.new ≡ out.old ++ rows_text samples (facts listing.now.head.now) (line_texts line.now)
         (file_lines bytes.now) numbers.now) }
 {
     let [first, ..] = numbers else {
         return Ok(());
     };
-    let last = numbers[numbers.len() - 1];
+    let span = Span {
+        first: *first,
+        last: numbers[numbers.len() - 1],
+    };
     let mut scratch = Text::new(alloc);
-    let count = write_shown(listing, line, bytes, *first, last, &mut scratch, out)?;
+    let count = write_shown(listing, line, bytes, span, &mut scratch, out)?;
     write_past(listing, line, count, numbers, &mut scratch, out)
 }
 
-// Appends the lines of the file that are shown where these are the first and the last with a frame, and counts all.
+// Appends the lines of the file about this span, and counts all.
 fn write_shown(
     listing: &Listing<'_>,
     line: &FoundLine<'_>,
     bytes: &[u8],
-    first: u64,
-    last: u64,
+    span: Span,
     scratch: &mut Text,
     out: &mut Text,
 ) -> Result<u64, Memory>
-    requires line { IsLineOf listing.now.l.now.profile line.now }
-    requires last { last < 2 ^ 63 }
+    requires line { IsLineIn listing.now line.now }
+    requires last { span.last < 2 ^ 63 }
     ensures count { IfOk result (λ count. count ≡ length (file_lines bytes.now)) }
     ensures rows { (samples : Seq (Seen Written)) →
-        IsLedgerOf listing.now.l.now.profile samples listing.now.ledger.now → IfOk result (λ _.
+        ListsOf listing.now samples → IfOk result (λ _.
         out.new ≡ out.old ++ shown_rows samples (facts listing.now.head.now) (line_texts line.now)
-        first last 1 (file_lines bytes.now)) }
+        span.first span.last 1 (file_lines bytes.now)) }
 {
     let mut number = 0;
     let mut rest = bytes;
     while !rest.is_empty() {
         let (text, after) = cut_line(rest);
         number += 1;
-        if is_shown(first, last, number) {
+        if is_shown(span, number) {
             write_row(listing, line, number, text, scratch, out)?;
         }
         rest = after;
@@ -98,13 +108,13 @@ fn cut_line(bytes: &[u8]) -> (&[u8], &[u8])
     }
 }
 
-// Whether the line is shown where these are the first and the last with a frame.
-fn is_shown(first: u64, last: u64, number: u64) -> bool
-    requires last { last < 2 ^ 63 }
+// Whether the line is shown.
+fn is_shown(span: Span, number: u64) -> bool
+    requires last { span.last < 2 ^ 63 }
     requires number { number < 2 ^ 64 - 5 }
-    ensures { result ≡ is_shown first last number }
+    ensures { result ≡ is_shown span.first span.last number }
 {
-    first <= number + AROUND && number <= last + AROUND
+    span.first <= number + AROUND && number <= span.last + AROUND
 }
 
 // Appends the lines with frames past the file's end.
@@ -116,10 +126,10 @@ fn write_past(
     scratch: &mut Text,
     out: &mut Text,
 ) -> Result<(), Memory>
-    requires line { IsLineOf listing.now.l.now.profile line.now }
+    requires line { IsLineIn listing.now line.now }
     requires small { All (λ n. n < 2 ^ 63) numbers.now }
     ensures { (samples : Seq (Seen Written)) →
-        IsLedgerOf listing.now.l.now.profile samples listing.now.ledger.now → IfOk result (λ _.
+        ListsOf listing.now samples → IfOk result (λ _.
         out.new ≡ out.old ++ flat_map (past_row samples (facts listing.now.head.now)
         (line_texts line.now) count) numbers.now) }
 {
@@ -140,22 +150,15 @@ fn write_row(
     scratch: &mut Text,
     out: &mut Text,
 ) -> Result<(), Memory>
-    requires line { IsLineOf listing.now.l.now.profile line.now }
+    requires line { IsLineIn listing.now line.now }
     requires small { number < 2 ^ 63 }
     ensures { (samples : Seq (Seen Written)) →
-        IsLedgerOf listing.now.l.now.profile samples listing.now.ledger.now → IfOk result (λ _.
+        ListsOf listing.now samples → IfOk result (λ _.
         out.new ≡ out.old ++ line_row samples (facts listing.now.head.now) (line_texts line.now)
         number bytes.now) }
 {
     let _valid = listing.l.profile.get();
-    let key = Key {
-        function: line.key.function,
-        file: line.key.file,
-        line: number as i64,
-        column: 0,
-        address: 0,
-        object: 0,
-    };
+    let key = key_at(&line.key, number as i64);
     let sums = amounts_at(&listing.ledger.lines, &key);
     put_row(listing.head, sums, number, bytes, scratch, out)
 }

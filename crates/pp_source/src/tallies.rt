@@ -1,16 +1,21 @@
-//! Tallies by key.
-ghost use Rattle.std.specs.Prelude.{◌≡◌, ◌≢◌, ◌+◌, ◌+ℤ◌, ◌<◌, ◌^◌, nat_abs, IfOk};
-ghost use Rattle.pp_grain.specs.declared.key.Key.{Key as KeyOf};
-ghost use Rattle.pp_source.specs.Tally.{tally_at, amounts_of_tally, credited, with_cum, with_flat, with_sample};
+//! Tallies by number, and by key.
+ghost use Rattle.std.specs.Prelude.{◌≡◌, ◌≢◌, ℕ, ◌+◌, ◌<◌, ◌^◌, nat_abs, length, map, All};
+ghost use Rattle.pp_source.specs.Ledgers.{tally_at};
+ghost use Rattle.pp_source.specs.Tally.{amounts_of_tally, credited, led, number_of, tally_of, with_sample, IsReady};
 
 use crate::amounts::Amounts;
 use crate::tally::Tally;
-use indexmap::IndexMap;
-use pp_base::Memory;
+use indexmap::IndexSet;
 use pp_grain::Key;
 
-/// What each key has so far.
-pub type Tallies = IndexMap<Key, Tally>;
+/// Keys, and what samples come to in each.
+#[derive(Debug, Drop)]
+pub struct Tallies {
+    /// The keys, by number.
+    pub names: IndexSet<Key>,
+    /// What each has, by number. One more has what is none of them.
+    pub sums: Vec<Tally>,
+}
 
 /// What the key comes to.
 pub fn amounts_at(tallies: &Tallies, key: &Key) -> Amounts
@@ -19,79 +24,63 @@ pub fn amounts_at(tallies: &Tallies, key: &Key) -> Amounts
     tally_at(tallies, key).amounts()
 }
 
-fn tally_at(tallies: &Tallies, key: &Key) -> Tally
+/// What is kept of the key.
+pub fn tally_at(tallies: &Tallies, key: &Key) -> Tally
     ensures { result ≡ tally_at tallies.now key.now }
 {
-    match tallies.get(key) {
+    match tallies.names.get_index_of(key) {
+        None => Tally::NONE,
+        Some(number) => tally_of(&tallies.sums, number),
+    }
+}
+
+fn tally_of(sums: &[Tally], number: usize) -> Tally
+    ensures { result ≡ tally_of sums.now number }
+{
+    match sums.get(number) {
         None => Tally::NONE,
         Some(tally) => *tally,
     }
 }
 
-/// Adds one sample with these keys, leaf first. Its turn is after those of the samples before it.
-pub fn add_sample(tallies: &mut Tallies, value: i64, keys: &[Key], turn: u64) -> Result<(), Memory>
-    requires earlier { (k : KeyOf) → (tally_at tallies.old k).last < turn }
-    requires cum_fits { (k : KeyOf) →
-        nat_abs (tally_at tallies.old k).cum + nat_abs value < 2 ^ 127 }
-    requires flat_fits { (k : KeyOf) →
-        nat_abs (tally_at tallies.old k).flat + nat_abs value < 2 ^ 127 }
-    ensures { IfOk result (λ _. (k : KeyOf) → tally_at tallies.new k
-        ≡ with_sample value turn keys.now k (tally_at tallies.old k)) }
-{
-    add_cum(tallies, value, keys, turn)?;
-    add_flat(tallies, value, keys)
-}
-
-// Adds the value to the cum of each of the keys, once.
-fn add_cum(tallies: &mut Tallies, value: i64, keys: &[Key], turn: u64) -> Result<(), Memory>
-    requires earlier { (k : KeyOf) → (tally_at tallies.old k).last < turn }
-    requires fits { (k : KeyOf) → nat_abs (tally_at tallies.old k).cum + nat_abs value < 2 ^ 127 }
-    ensures { IfOk result (λ _. (k : KeyOf) → tally_at tallies.new k
-        ≡ with_cum value turn keys.now k (tally_at tallies.old k)) }
+/// Adds one sample with these keys, leaf first, to the tallies of their numbers. Its turn is after those of the samples
+/// before it.
+pub fn add_keys(tallies: &mut Vec<Tally>, numbers: &[u64], value: i64, keys: &[u64], turn: u64)
+    requires keys { All (λ k. k < length numbers.now) keys.now }
+    requires numbers { All (λ n. n < length tallies.old.items) numbers.now }
+    requires ready { IsReady value turn tallies.old.items }
+    ensures count { length tallies.new.items ≡ length tallies.old.items }
+    ensures added { (k : ℕ) → tally_of tallies.new.items k ≡ with_sample value turn
+        (map (number_of numbers.now) keys.now) k (tally_of tallies.old.items k) }
 {
     for key in keys {
-        credit_key(tallies, value, *key, turn)?;
+        let number = numbers[*key as usize];
+        credit_at(tallies, number, value, turn);
     }
-    Ok(())
-}
-
-// Adds the value to the cum of the key, where the sample of that turn was not yet added.
-fn credit_key(tallies: &mut Tallies, value: i64, key: Key, turn: u64) -> Result<(), Memory>
-    requires { (tally_at tallies.old key).last ≢ turn →
-        nat_abs (tally_at tallies.old key).cum + nat_abs value < 2 ^ 127 }
-    ensures key { IfOk result (λ _.
-        tally_at tallies.new key ≡ credited value turn (tally_at tallies.old key)) }
-    ensures others { IfOk result (λ _. (k : KeyOf) → k ≢ key →
-        tally_at tallies.new k ≡ tally_at tallies.old k) }
-{
-    let mut tally = tally_at(tallies, &key);
-    tally.credit(value, turn);
-    tallies.insert(key, tally)?;
-    Ok(())
-}
-
-// Adds the value to the flat of the leaf's key.
-fn add_flat(tallies: &mut Tallies, value: i64, keys: &[Key]) -> Result<(), Memory>
-    requires fits { (k : KeyOf) → nat_abs (tally_at tallies.old k).flat + nat_abs value < 2 ^ 127 }
-    ensures { IfOk result (λ _. (k : KeyOf) → tally_at tallies.new k
-        ≡ with_flat value keys.now k (tally_at tallies.old k)) }
-{
-    match keys {
-        [] => Ok(()),
-        [leaf, ..] => lead_key(tallies, value, *leaf),
+    if let [leaf, ..] = keys {
+        lead_at(tallies, numbers[*leaf as usize], value);
     }
 }
 
-// Adds the value to the flat of the key.
-fn lead_key(tallies: &mut Tallies, value: i64, key: Key) -> Result<(), Memory>
-    requires { nat_abs (tally_at tallies.old key).flat + nat_abs value < 2 ^ 127 }
-    ensures key { IfOk result (λ _. tally_at tallies.new key
-        ≡ record (tally_at tallies.old key) { flat = (tally_at tallies.old key).flat +ℤ value }) }
-    ensures others { IfOk result (λ _. (k : KeyOf) → k ≢ key →
-        tally_at tallies.new k ≡ tally_at tallies.old k) }
+// Adds the value to the cum of the number, where the sample of that turn was not yet added.
+fn credit_at(tallies: &mut Vec<Tally>, number: u64, value: i64, turn: u64)
+    requires within { number < length tallies.old.items }
+    requires fits { (tally_of tallies.old.items number).last ≢ turn →
+        nat_abs (tally_of tallies.old.items number).cum + nat_abs value < 2 ^ 63 }
+    ensures count { length tallies.new.items ≡ length tallies.old.items }
+    ensures number { tally_of tallies.new.items number ≡ credited value turn (tally_of tallies.old.items number) }
+    ensures others { (k : ℕ) → k ≢ number → tally_of tallies.new.items k ≡ tally_of tallies.old.items k }
 {
-    let mut tally = tally_at(tallies, &key);
-    tally.lead(value);
-    tallies.insert(key, tally)?;
-    Ok(())
+    tallies[number as usize].credit(value, turn);
+}
+
+// Adds the value to the flat of the number.
+fn lead_at(tallies: &mut Vec<Tally>, number: u64, value: i64)
+    requires within { number < length tallies.old.items }
+    requires fits { nat_abs (tally_of tallies.old.items number).flat + nat_abs value < 2 ^ 63 }
+    ensures count { length tallies.new.items ≡ length tallies.old.items }
+    ensures number { tally_of tallies.new.items number ≡ led value (tally_of tallies.old.items number) }
+    ensures others { (k : ℕ) → k ≢ number → tally_of tallies.new.items k ≡ tally_of tallies.old.items k }
+{
+    tallies[number as usize].lead(value);
 }

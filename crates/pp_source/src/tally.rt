@@ -1,16 +1,16 @@
 //! What is kept for one key while samples are added up.
-ghost use Rattle.std.specs.Prelude.{◌≡◌, ◌≢◌, ◌+◌, ◌+ℤ◌, ◌<◌, ◌^◌, nat_abs};
-ghost use Rattle.pp_source.specs.Tally.{credited, amounts_of_tally, narrowed};
+ghost use Rattle.std.specs.Prelude.{◌≡◌, ◌≢◌, ◌+◌, ◌<◌, ◌^◌, nat_abs};
+ghost use Rattle.pp_source.specs.Tally.{credited, led, amounts_of_tally};
 
 use crate::amounts::Amounts;
 
-/// What one key has so far. The sums are wide enough for any samples, however often one is added.
+/// What one key has so far.
 #[derive(Clone, Copy, Debug, PartialEq, Eq)]
 pub struct Tally {
     /// The sum over the samples whose leaf has the key.
-    pub flat: i128,
+    pub flat: i64,
     /// The sum over the samples that have the key, each sample once.
-    pub cum: i128,
+    pub cum: i64,
     /// The turn of the last sample that had it, from 1; 0 where none had.
     pub last: u64,
 }
@@ -24,22 +24,21 @@ impl Tally {
 
     /// Adds the value to the cum, where the sample of that turn was not yet added.
     pub fn credit(&mut self, value: i64, turn: u64)
-        requires { self.old.last ≢ turn → nat_abs self.old.cum + nat_abs value < 2 ^ 127 }
+        requires { self.old.last ≢ turn → nat_abs self.old.cum + nat_abs value < 2 ^ 63 }
         ensures { self.new ≡ credited value turn self.old }
     {
         if self.last != turn {
             self.last = turn;
-            self.cum += i128::from(value);
+            self.cum += value;
         }
     }
 
     /// Adds the value to the flat.
     pub fn lead(&mut self, value: i64)
-        requires { nat_abs self.old.flat + nat_abs value < 2 ^ 127 }
-        ensures { self.new
-            ≡ record { flat = self.old.flat +ℤ value; cum = self.old.cum; last = self.old.last } }
+        requires { nat_abs self.old.flat + nat_abs value < 2 ^ 63 }
+        ensures { self.new ≡ led value self.old }
     {
-        self.flat += i128::from(value);
+        self.flat += value;
     }
 
     /// The sums as a report prints them.
@@ -47,21 +46,8 @@ impl Tally {
         ensures { result ≡ amounts_of_tally self.now }
     {
         Amounts {
-            flat: narrowed(self.flat),
-            cum: narrowed(self.cum),
+            flat: self.flat,
+            cum: self.cum,
         }
-    }
-}
-
-// The sum, or the nearest number that fits. The sums of samples that are added once fit.
-fn narrowed(sum: i128) -> i64
-    ensures { result ≡ narrowed sum }
-{
-    if sum > i128::from(i64::MAX) {
-        i64::MAX
-    } else if sum < i128::from(i64::MIN) {
-        i64::MIN
-    } else {
-        sum as i64
     }
 }

@@ -1,12 +1,11 @@
 -- The keys that the own pattern finds, as they are gathered.
-use Rattle.std.proofs.Common.{◌≡◌, ℕ, suc, ◌+◌, ◌<◌, ◌≤◌, Bool, true, false, cond, not, ltb, ◌&&◌, ◌||◌, List, [], ◌∷◌, ◌++◌, length, map, drop, take, get_or, All, Option, Some, None, Result, Ok, Err, IfOk, pos, refl, sym, ap, subst, ◌∙◌, arith, append_assoc}
-use Rattle.std.specs.List.{list_any, slice_get, position_or_len}
+use Rattle.std.proofs.Common.{◌≡◌, ℕ, ◌+◌, ◌<◌, ◌≤◌, Bool, true, false, cond, not, ◌&&◌, ◌||◌, List, [], ◌∷◌, ◌++◌, length, map, drop, take, get_or, All, Option, Some, None, Result, Ok, Err, IfOk, pos, refl, sym, ap, subst, ◌∙◌}
+use Rattle.std.specs.List.{list_any, slice_get}
 use Rattle.std.specs.Option.{option_map_or}
 use Rattle.std.proofs.lemmas.Option.{get_or_from_slice_get, slice_get_within}
-use Rattle.std.proofs.lemmas.Bool.{false≢true, lt-ltb, le-ltb, ltb-true}
+use Rattle.std.proofs.lemmas.Bool.{false≢true}
 use Rattle.std.proofs.lemmas.List.{drop_more, drop_all, take_more, map-append, get_or_default}
 use Rattle.std.proofs.lemmas.List.Elements.{All-push}
-use Rattle.pp_base.specs.Front.{IsFront}
 use Rattle.pp_model.specs.declared.config.Config.{Config}
 use Rattle.pp_model.specs.declared.frame.Frame.{Frame}
 use Rattle.pp_model.specs.declared.profile.Profile.{Profile}
@@ -26,7 +25,6 @@ use Rattle.pp_stack.specs.Filters.{frames_of_sample}
 use Rattle.pp_count.specs.Column.{selected}
 use Rattle.pp_count.specs.Seeing.{counted_frames, key_of_frame}
 use Rattle.pp_count.proofs.CountedFrames.{counts_here}
-use Rattle.pp_count.proofs.Renaming.{same_bool}
 use Rattle.pp_tree.specs.Found.{has_key, is_own_frame, is_own_at, has_own_frame, has_own_sample, has_own_number, no_frame}
 use Rattle.pp_tree.proofs.Shown.{any-append}
 
@@ -120,40 +118,13 @@ module _ (test : Written → ℕ → Bool) (p : Profile) where
   gathered_all numbers i keys past so_far k =
       sym (or-false (has_key p keys k)) ∙ ap (λ ns. has_key p keys k || list_any (test k) ns) (sym (drop_all i numbers past)) ∙ so_far k
 
--- a key's place is among the first keys where it is one of them
-first_place : (t : Key → Bool) (keys more : List Key) → ltb (position_or_len t (keys ++ more)) (length keys) ≡ list_any t keys
-first_place t [] more = le-ltb (position_or_len t more) 0 (omega arith)
-first_place t (x ∷ keys) more =
-    elim (t x) as (λ b. ltb (cond (not b) (1 + position_or_len t (keys ++ more)) 0) (suc (length keys)) ≡ (b || list_any t keys)) [
-      | true ↦ lt-ltb 0 (suc (length keys)) (omega arith)
-      | false ↦ same_bool _ _
-          (λ e. sym (first_place t keys more) ∙ lt-ltb _ _ (let below : 1 + position_or_len t (keys ++ more) < suc (length keys) = ltb-true _ _ e in omega (arith, below)))
-          (λ e. lt-ltb _ _ (let below : position_or_len t (keys ++ more) < length keys = ltb-true _ _ (first_place t keys more ∙ e) in omega (arith, below)))
-    ]
-
--- The marks so far, and the keys, of which more may have come.
-pub record MarkedTo (names keys : List Key) (i : ℕ) (now : List Key) (list : List Bool) : Type 0 where
-  pub front : IsFront keys now
-  pub marks : list ≡ map (λ key. list_any (same_key key) keys) (take i names)
-
-pub marked_more : (names keys : List Key) (i : ℕ) (now new : List Key) (marks more : List Bool) (key : Key) (place : ℕ)
-    → slice_get names i ≡ Some key → place ≡ position_or_len (same_key key) now → new ≡ seen_with now key → more ≡ marks ++ ltb place (length keys) ∷ []
-    → MarkedTo names keys i now marks → MarkedTo names keys (i + 1) new more
-marked_more names keys i now new marks more key place at found grown pushed so_far = record {
-  front = longer now new key so_far.front grown;
-  marks = pushed
-      ∙ (λ j. so_far.marks j ++ (ap (λ n. ltb n (length keys)) (found ∙ ap (position_or_len (same_key key)) so_far.front.1) ∙ first_place (same_key key) keys so_far.front.0) j ∷ [])
-      ∙ ap (λ k. map (λ x. list_any (same_key x) keys) (take i names) ++ list_any (same_key k) keys ∷ []) (sym (get_or_from_slice_get names i key key at))
-      ∙ sym (map-append (λ x. list_any (same_key x) keys) (take i names) (get_or names i key ∷ []))
-      ∙ sym (ap (map (λ x. list_any (same_key x) keys)) (take_more names i key (slice_get_within names i key at)));
-} where
-  longer : (now new : List Key) (key : Key) → IsFront keys now → new ≡ seen_with now key → IsFront keys new
-  longer now new key front grown =
-      subst (λ ks. IsFront keys ks) (sym grown)
-      (elim (list_any (same_key key) now) as (λ b. IsFront keys (cond b now (now ++ key ∷ []))) [
-        | true ↦ front
-        | false ↦ let f : IsFront keys (now ++ key ∷ []) = (front.0 ++ key ∷ [], ap (λ ks. ks ++ key ∷ []) front.1 ∙ append_assoc keys front.0 (key ∷ [])) in f
-      ])
+-- the marks so far, with one more
+pub marked_more : (names keys : List Key) (i : ℕ) (marks : List Bool) (key : Key) (mark : Bool) → slice_get names i ≡ Some key → mark ≡ list_any (same_key key) keys
+    → marks ≡ map (λ x. list_any (same_key x) keys) (take i names) → marks ++ mark ∷ [] ≡ map (λ x. list_any (same_key x) keys) (take (i + 1) names)
+marked_more names keys i marks key mark at is so_far =
+    (λ j. so_far j ++ is j ∷ [])
+    ∙ sym (map-append (λ x. list_any (same_key x) keys) (take i names) (key ∷ []))
+    ∙ ap (map (λ x. list_any (same_key x) keys)) (sym (take_more names i key (slice_get_within names i key at) ∙ ap (λ k. take i names ++ k ∷ []) (get_or_from_slice_get names i key key at)))
 
 module _ (p : Profile) (config : Config) (find : Finder) where
   -- what is asked of the frame at the place, where it counts and is found

@@ -1,5 +1,5 @@
 -- What is written of a graph in which nothing is trimmed is the peek report.
-use Rattle.std.proofs.Common.{◌≡◌, ℕ, zero, suc, ◌+◌, ◌<◌, ◌≤◌, Bool, true, false, cond, not, ◌&&◌, ◌||◌, nat_abs, ℤ, pos, ◌+ℤ◌, List, [], ◌∷◌, ◌++◌, length, map, drop, get_or, replicate, All, Option, Some, refl, sym, ap, subst, ◌∙◌, arith, append_assoc, length-append}
+use Rattle.std.proofs.Common.{◌≡◌, ℕ, zero, suc, ◌+◌, ◌<◌, ◌≤◌, Bool, true, false, cond, not, ◌&&◌, ◌||◌, nat_abs, pos, ◌+ℤ◌, List, [], ◌∷◌, ◌++◌, length, map, drop, get_or, replicate, All, Option, Some, refl, sym, ap, subst, ◌∙◌, arith, append_assoc, length-append}
 use Rattle.std.proofs.Math.Seq.{get_or-append_seam}
 use Rattle.std.specs.List.{filter, filter_map, list_any, sum_by, range_with_len}
 use Rattle.std.specs.Ordering.{eq_by_cmp}

@@ -1,8 +1,10 @@
 -- Which keys the own pattern of a report finds, frame by frame. No public clause cites this file.
-use Rattle.std.specs.Prelude.{ℕ, pos, Bool, false, not, ◌&&◌, List, map, slice_get, slice_index_or, Option}
+use Rattle.std.specs.Prelude.{◌≡◌, ℕ, pos, length, Bool, false, not, ◌&&◌, List, map, slice_get, slice_index_or, Option}
 use Rattle.std.specs.List.{list_any}
 use Rattle.std.specs.Option.{option_map_or}
 use Rattle.std.specs.Ordering.{eq_by_cmp, int_eq}
+use Rattle.pp_tree.specs.declared.own.Asked.{Asked}
+use Rattle.pp_model.specs.Conditions.{HasVerdicts}
 use Rattle.pp_model.specs.declared.config.Config.{Config}
 use Rattle.pp_model.specs.declared.frame.Frame.{Frame}
 use Rattle.pp_model.specs.declared.profile.Profile.{Profile}
@@ -49,3 +51,8 @@ has_own_sample p f config column find k s =
 abbrev pub has_own_number : Profile → Finders → Config → Option ℕ → Finder → Written → ℕ → Bool
 has_own_number p f config column find k n =
     option_map_or (has_own_sample p f config column find k) (slice_get p.sample n) false
+
+-- The verdicts are those of the profile, with one of the own pattern for each text.
+pub record CanAsk (asked : Asked) : Type 0 where
+  pub verdicts : HasVerdicts asked.l.now.profile asked.v.now
+  pub fits : length asked.own.now ≡ length asked.l.now.profile.text

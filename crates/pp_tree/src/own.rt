@@ -8,17 +8,31 @@ ghost use Rattle.pp_model.specs.FrameTexts.{Written, written};
 ghost use Rattle.pp_grain.specs.Keys.{key_written, IsKeyOf};
 ghost use Rattle.pp_grain.specs.Sight.{same_key};
 ghost use Rattle.pp_stack.specs.Filters.{AreVerdicts};
+ghost use Rattle.pp_stack.specs.Tables.{AreTables};
 ghost use Rattle.pp_count.specs.Counted.{IsCountedOf, has_own_match};
 ghost use Rattle.pp_count.specs.Seeing.{HoldsFilters};
 ghost use Rattle.pp_tree.specs.Peek.{is_own_key};
-ghost use Rattle.pp_tree.specs.Found.{has_key, is_own_at, has_own_frame, has_own_number, no_frame};
+ghost use Rattle.pp_tree.specs.Found.{has_key, has_own_frame, has_own_number, is_own_at, no_frame, CanAsk};
 
+use indexmap::IndexSet;
 use pp_base::{List, MatchRefusal, Memory};
 use pp_count::{Counted, selected};
-use pp_grain::{Names, counted, key_of};
+use pp_grain::{Key, Names, counted, key_of};
 use pp_model::{Config, Frame, Loaded, Stack, Verdicts, function_of};
-use pp_stack::filter_stack;
+use pp_stack::{VerdictTables, filter_into};
 use std::alloc::Global;
+
+/// What samples are asked by.
+#[derive(Clone, Copy)]
+pub struct Asked<'a> {
+    pub l: &'a Loaded,
+    pub v: &'a Verdicts,
+    /// The own pattern's verdicts on texts.
+    pub own: &'a List<bool>,
+    pub config: &'a Config,
+    /// The column of values that is counted.
+    pub column: Option<u32>,
+}
 
 /// For each name whether the own pattern finds the function of a frame that counts and has the name's key. `NoMatch`
 /// says that it finds none of any frame.
@@ -45,147 +59,136 @@ pub fn found_names(
     let Some(own) = &v.own else {
         return Err(MatchRefusal::NoMatch);
     };
-    let keys = own_keys(alloc, l, v, own, c.kept.as_slice(), config, column)?;
+    let asked = Asked {
+        l,
+        v,
+        own,
+        config,
+        column,
+    };
+    let keys = own_keys(alloc, &asked, c.kept.as_slice())?;
     if keys.len() == 0 {
         return Err(MatchRefusal::NoMatch);
     }
-    let found = marks(alloc, &c.sums.names, keys)?;
+    let found = marks(alloc, &c.sums.names, &keys)?;
     Ok(found)
 }
 
 // The keys of the frames that count and that the pattern finds, over the samples of these numbers whose value isn't 0.
-fn own_keys(
-    alloc: Global,
-    l: &Loaded,
-    v: &Verdicts,
-    own: &List<bool>,
-    kept: &[u32],
-    config: &Config,
-    column: Option<u32>,
-) -> Result<Names, Memory>
-    requires verdicts { HasVerdicts l.now.profile v.now }
-    requires fits { length own.now ≡ length l.now.profile.text }
-    ensures of_profile { IfOk result (All (IsKeyOf l.now.profile)) }
-    ensures found { (f : Finders) (find : Finder) → HoldsFinders l.now v.now f →
-        AreVerdicts l.now.profile own.now find →
-        IfOk result (λ keys. (k : Written) → has_key l.now.profile keys k
-        ≡ list_any (has_own_number l.now.profile f config.now column find k) kept.now) }
+fn own_keys(alloc: Global, asked: &Asked<'_>, kept: &[u32]) -> Result<IndexSet<Key>, Memory>
+    requires { CanAsk asked.now }
+    ensures of_profile { IfOk result (λ keys. All (IsKeyOf asked.now.l.now.profile) keys.keys) }
+    ensures found { (f : Finders) (find : Finder) → HoldsFinders asked.now.l.now asked.now.v.now f →
+        AreVerdicts asked.now.l.now.profile asked.now.own.now find →
+        IfOk result (λ keys. (k : Written) → has_key asked.now.l.now.profile keys.keys k
+        ≡ list_any (has_own_number asked.now.l.now.profile f asked.now.config.now asked.now.column find k)
+        kept.now) }
 {
-    let mut keys = Names::new(alloc)?;
+    let tables = VerdictTables::new(alloc, asked.l, asked.v)?;
+    let mut stack = List::new(alloc);
+    let mut keys = IndexSet::new(alloc);
     for number in kept {
-        add_sample(alloc, l, v, own, *number, config, column, &mut keys)?;
+        add_sample(asked, &tables, *number, &mut stack, &mut keys)?;
     }
     Ok(keys)
 }
 
-// Adds the keys of the sample with the number, if it is there.
+// Adds the keys of the sample with the number, if it is there. The stack is room for its frames.
 fn add_sample(
-    alloc: Global,
-    l: &Loaded,
-    v: &Verdicts,
-    own: &List<bool>,
+    asked: &Asked<'_>,
+    tables: &VerdictTables,
     number: u32,
-    config: &Config,
-    column: Option<u32>,
-    keys: &mut Names,
+    stack: &mut Stack,
+    keys: &mut IndexSet<Key>,
 ) -> Result<(), Memory>
-    requires verdicts { HasVerdicts l.now.profile v.now }
-    requires fits { length own.now ≡ length l.now.profile.text }
-    ensures of_profile { All (IsKeyOf l.now.profile) keys.old →
-        IfOk result (λ _. All (IsKeyOf l.now.profile) keys.new) }
-    ensures found { (f : Finders) (find : Finder) → HoldsFinders l.now v.now f →
-        AreVerdicts l.now.profile own.now find →
-        IfOk result (λ _. (k : Written) → has_key l.now.profile keys.new k
-        ≡ (has_key l.now.profile keys.old k
-        || has_own_number l.now.profile f config.now column find k number)) }
+    requires can { CanAsk asked.now }
+    requires tables { AreTables asked.now.l.now.profile asked.now.v.now tables.now }
+    ensures of_profile { All (IsKeyOf asked.now.l.now.profile) keys.old.keys →
+        IfOk result (λ _. All (IsKeyOf asked.now.l.now.profile) keys.new.keys) }
+    ensures found { (f : Finders) (find : Finder) → HoldsFinders asked.now.l.now asked.now.v.now f →
+        AreVerdicts asked.now.l.now.profile asked.now.own.now find →
+        IfOk result (λ _. (k : Written) → has_key asked.now.l.now.profile keys.new.keys k
+        ≡ (has_key asked.now.l.now.profile keys.old.keys k
+        || has_own_number asked.now.l.now.profile f asked.now.config.now asked.now.column find k number)) }
 {
-    let samples = l.profile.get().sample.as_slice();
+    let samples = asked.l.profile.get().sample.as_slice();
     let Some(sample) = samples.get(number as usize) else {
         return Ok(());
     };
-    if selected(l, sample, column, config.divide_by) == 0 {
+    if selected(asked.l, sample, asked.column, asked.config.divide_by) == 0 {
         return Ok(());
     }
-    let Some(stack) = filter_stack(alloc, l, v, sample)? else {
+    if !filter_into(asked.l, asked.v, tables, sample, stack)? {
         return Ok(());
-    };
-    add_stack(l, own, &stack, config, keys)
+    }
+    add_stack(asked, stack, keys)
 }
 
-fn add_stack(
-    l: &Loaded,
-    own: &List<bool>,
-    stack: &Stack,
-    config: &Config,
-    keys: &mut Names,
-) -> Result<(), Memory>
-    requires frames { IsStackOf l.now.profile stack.now }
-    requires fits { length own.now ≡ length l.now.profile.text }
-    ensures of_profile { All (IsKeyOf l.now.profile) keys.old →
-        IfOk result (λ _. All (IsKeyOf l.now.profile) keys.new) }
-    ensures found { (find : Finder) → AreVerdicts l.now.profile own.now find →
-        IfOk result (λ _. (k : Written) → has_key l.now.profile keys.new k
-        ≡ (has_key l.now.profile keys.old k
-        || has_own_frame l.now.profile config.now find k stack.now)) }
+fn add_stack(asked: &Asked<'_>, stack: &Stack, keys: &mut IndexSet<Key>) -> Result<(), Memory>
+    requires can { CanAsk asked.now }
+    requires frames { IsStackOf asked.now.l.now.profile stack.now }
+    ensures of_profile { All (IsKeyOf asked.now.l.now.profile) keys.old.keys →
+        IfOk result (λ _. All (IsKeyOf asked.now.l.now.profile) keys.new.keys) }
+    ensures found { (find : Finder) → AreVerdicts asked.now.l.now.profile asked.now.own.now find →
+        IfOk result (λ _. (k : Written) → has_key asked.now.l.now.profile keys.new.keys k
+        ≡ (has_key asked.now.l.now.profile keys.old.keys k
+        || has_own_frame asked.now.l.now.profile asked.now.config.now find k stack.now)) }
 {
     for place in 0..stack.len() {
-        add_frame(l, own, stack, place, config, keys)?;
+        add_frame(asked, stack, place, keys)?;
     }
     Ok(())
 }
 
 // Adds the key of the frame at the place, if it counts and the pattern finds it.
 fn add_frame(
-    l: &Loaded,
-    own: &List<bool>,
+    asked: &Asked<'_>,
     stack: &Stack,
     place: usize,
-    config: &Config,
-    keys: &mut Names,
+    keys: &mut IndexSet<Key>,
 ) -> Result<(), Memory>
+    requires can { CanAsk asked.now }
     requires place { place < length stack.now }
-    requires frames { IsStackOf l.now.profile stack.now }
-    requires fits { length own.now ≡ length l.now.profile.text }
-    ensures of_profile { All (IsKeyOf l.now.profile) keys.old →
-        IfOk result (λ _. All (IsKeyOf l.now.profile) keys.new) }
-    ensures found { (find : Finder) → AreVerdicts l.now.profile own.now find →
-        IfOk result (λ _. (k : Written) → has_key l.now.profile keys.new k
-        ≡ (has_key l.now.profile keys.old k
-        || is_own_at l.now.profile config.now find k stack.now place)) }
+    requires frames { IsStackOf asked.now.l.now.profile stack.now }
+    ensures of_profile { All (IsKeyOf asked.now.l.now.profile) keys.old.keys →
+        IfOk result (λ _. All (IsKeyOf asked.now.l.now.profile) keys.new.keys) }
+    ensures found { (find : Finder) → AreVerdicts asked.now.l.now.profile asked.now.own.now find →
+        IfOk result (λ _. (k : Written) → has_key asked.now.l.now.profile keys.new.keys k
+        ≡ (has_key asked.now.l.now.profile keys.old.keys k
+        || is_own_at asked.now.l.now.profile asked.now.config.now find k stack.now place)) }
 {
+    let config = asked.config;
     let frame = &stack.as_slice()[place];
     if !counted(stack, place, config.noinlines) {
         return Ok(());
     }
-    if !is_own(l, own, frame) {
+    if !is_own(asked, frame) {
         return Ok(());
     }
-    let key = key_of(l, frame, config.grain, config.showcolumns);
-    keys.number(key)?;
+    let key = key_of(asked.l, frame, config.grain, config.showcolumns);
+    keys.insert(key)?;
     Ok(())
 }
 
 // Whether the pattern finds the frame's function.
-fn is_own(l: &Loaded, own: &List<bool>, frame: &Frame) -> bool
-    requires frame { IsFrameOf l.now.profile frame.now }
-    requires fits { length own.now ≡ length l.now.profile.text }
-    ensures { (find : Finder) → AreVerdicts l.now.profile own.now find →
-        result ≡ find (written l.now.profile frame.now).function }
+fn is_own(asked: &Asked<'_>, frame: &Frame) -> bool
+    requires can { CanAsk asked.now }
+    requires frame { IsFrameOf asked.now.l.now.profile frame.now }
+    ensures { (find : Finder) → AreVerdicts asked.now.l.now.profile asked.now.own.now find →
+        result ≡ find (written asked.now.l.now.profile frame.now).function }
 {
-    own.as_slice()[function_of(l, frame) as usize]
+    asked.own.as_slice()[function_of(asked.l, frame) as usize]
 }
 
 // For each name whether it is one of these keys.
-fn marks(alloc: Global, names: &Names, keys: Names) -> Result<List<bool>, Memory>
-    ensures { IfOk result (λ marks. marks ≡ map (λ key. list_any (same_key key) keys) names.now) }
+fn marks(alloc: Global, names: &Names, keys: &IndexSet<Key>) -> Result<List<bool>, Memory>
+    ensures { IfOk result (λ marks.
+        marks ≡ map (λ key. list_any (same_key key) keys.now.keys) names.now) }
 {
-    let mut keys = keys;
-    let count = keys.len();
     let mut marks = List::new(alloc);
     for number in 0..names.len() {
-        // A key that isn't among them gets a number after theirs.
-        let place = keys.number(names.key(number))?;
-        marks.push(place < count)?;
+        let key = names.key(number);
+        marks.push(keys.contains(&key))?;
     }
     Ok(marks)
 }

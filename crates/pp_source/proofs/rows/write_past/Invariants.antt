@@ -2,12 +2,12 @@ use Rattle.std.proofs.Common.{List}
 use Rattle.pp_model.specs.FrameTexts.{Written}
 use Rattle.pp_units.specs.Head.{facts}
 use Rattle.pp_count.specs.Sums.{Seen}
-use Rattle.pp_source.specs.Ledgers.{IsLedgerOf, line_texts}
+use Rattle.pp_source.specs.Ledgers.{ListsOf, line_texts}
 use Rattle.pp_source.proofs.RowLemmas.{PastTo}
 use Rattle.pp_source.proofs.rows.write_past.Given as goal
 
 -- the rows past the end so far
 abbrev pub invariant-loop-number : goal.invariant-loop-number
 invariant-loop-number l =
-    (samples : List (Seen Written)) → IsLedgerOf l.listing.l.now.profile samples l.listing.ledger.now
+    (samples : List (Seen Written)) → ListsOf l.listing samples
     → PastTo samples (facts l.listing.head.now) (line_texts l.line) l.count l.numbers l.fn.out l.out l.number-index

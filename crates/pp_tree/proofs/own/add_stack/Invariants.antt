@@ -8,6 +8,6 @@ use Rattle.pp_tree.proofs.own.add_stack.Given as goal
 -- the keys of the frames so far are added
 abbrev pub invariant-loop-place : goal.invariant-loop-place
 invariant-loop-place l = record {
-  of_profile : All (IsKeyOf l.l.profile) l.initial.keys → All (IsKeyOf l.l.profile) l.keys;
-  found : (find : Finder) → AreVerdicts l.l.profile l.own find → AddedTo l.l.profile l.config find l.stack l.initial.keys l.place l.keys;
+  of_profile : All (IsKeyOf l.asked.l.now.profile) l.initial.keys.keys → All (IsKeyOf l.asked.l.now.profile) l.keys.keys;
+  found : (find : Finder) → AreVerdicts l.asked.l.now.profile l.asked.own.now find → AddedTo l.asked.l.now.profile l.asked.config.now find l.stack l.initial.keys.keys l.place l.keys.keys;
 }

@@ -1,9 +1,7 @@
-use Rattle.std.proofs.Common.{◌++◌, ◌∷◌, [], ltb, ap, ◌∙◌}
+use Rattle.std.proofs.Common.{◌∙◌}
 use Rattle.pp_tree.proofs.Marking.{marked_more}
 use Rattle.pp_tree.proofs.own.marks.Goals as goal
 
 pub loop-number-preserved : goal.loop-number-preserved
 loop-number-preserved c =
-    marked_more c.args.names.now c.args.keys c.loop-number.number c.loop-number.keys c.number.new.self c.loop-number.marks c.push.new.self c.key.result c.in_ok-place.place c.key.ensures
-    c.in_ok-place.ensures.number c.in_ok-place.ensures.seen
-    (c.in_ok-push.ensures.ok ∙ ap (λ n. c.loop-number.marks ++ ltb c.in_ok-place.place n ∷ []) c.len-count.ensures.len) c.loop-number.invariant
+    c.in_ok-push.ensures.ok ∙ marked_more c.args.names.now c.args.keys.now.keys c.loop-number.number c.loop-number.marks c.key-key.result _ c.key-key.ensures c.contains.ensures c.loop-number.invariant

@@ -1,6 +1,8 @@
-use Rattle.pp_tree.proofs.Marking.{MarkedTo}
+use Rattle.std.proofs.Common.{◌≡◌, map, take}
+use Rattle.std.specs.List.{list_any}
+use Rattle.pp_grain.specs.Sight.{same_key}
 use Rattle.pp_tree.proofs.own.marks.Given as goal
 
 -- the names so far are marked
 abbrev pub invariant-loop-number : goal.invariant-loop-number
-invariant-loop-number l = MarkedTo l.names l.fn.keys l.number l.keys l.marks
+invariant-loop-number l = l.marks ≡ map (λ key. list_any (same_key key) l.keys.keys) (take l.number l.names)

@@ -9,7 +9,7 @@ use Rattle.pp_tree.proofs.own.own_keys.Given as goal
 -- the keys of the samples so far are gathered
 abbrev pub invariant-loop-number : goal.invariant-loop-number
 invariant-loop-number l = record {
-  of_profile : All (IsKeyOf l.l.profile) l.keys;
-  found : (f : Finders) (find : Finder) → HoldsFinders l.l l.v f → AreVerdicts l.l.profile l.own find
-      → GatheredTo (has_own_number l.l.profile f l.config l.column find) l.l.profile l.kept l.number-index l.keys;
+  of_profile : All (IsKeyOf l.asked.l.now.profile) l.keys.keys;
+  found : (f : Finders) (find : Finder) → HoldsFinders l.asked.l.now l.asked.v.now f → AreVerdicts l.asked.l.now.profile l.asked.own.now find
+      → GatheredTo (has_own_number l.asked.l.now.profile f l.asked.config.now l.asked.column find) l.asked.l.now.profile l.kept l.number-index l.keys.keys;
 }
