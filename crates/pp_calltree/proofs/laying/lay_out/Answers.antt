@@ -1,4 +1,4 @@
-use Rattle.std.proofs.Common.{◌≡◌, ℕ, ◌+◌, ◌-◌, ◌<◌, ◌∙◌, take, ap, subst, sym, arith, List, [], ◌∷◌}
+use Rattle.std.proofs.Common.{ℕ, ◌+◌, ◌-◌, ◌<◌, ◌∙◌, take, ap, subst, sym, arith, List, [], ◌∷◌}
 use Rattle.std.specs.List.{sum_by}
 use Rattle.std.proofs.lemmas.List.{append-nil, map-append}
 use Rattle.pp_model.specs.declared.profile.Profile.{Profile as Tables}
@@ -8,7 +8,7 @@ use Rattle.pp_count.specs.Sums.{Seen}
 use Rattle.pp_count.specs.Table.{no_key, written_key}
 use Rattle.pp_count.proofs.Keyed.{apart}
 use Rattle.pp_calltree.specs.declared.branch.Branch.{Branch}
-use Rattle.pp_calltree.specs.Branches.{samples_of, weight}
+use Rattle.pp_calltree.specs.Branches.{weight}
 use Rattle.pp_calltree.specs.CallTree.{all_lengths, any_row, rows_below}
 use Rattle.pp_calltree.specs.Laid.{CanLay, IsLayable, node_row, written_out}
 use Rattle.pp_calltree.specs.Links.{node_by, nodes_by}
