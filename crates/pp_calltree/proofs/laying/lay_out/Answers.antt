@@ -25,8 +25,8 @@ loop-branch-init c =
     let S : List (Seen ℕ) = below 0 c.args.paths.now in
     let can : CanLay p names c.in_ok-texts.texts =
     record { apart = apart p c.requires.compact names c.requires.keys c.requires.distinct; texts_are = texts_are p names c.in_ok-texts.texts c.in_ok-texts.ensures } in
-    laying_start p names (all_lengths S) S (nodes_by names c.new-nodes.result) c.push_branches.new.waiting.items
-    (rw c.new-waiting.ensures.items at c.in_ok-push_branches.ensures p names (all_lengths S) (all_lengths S) can c.requires.room (omega arith)) (ap (nodes_by names) c.new-nodes.ensures)
+    laying_start p names (all_lengths S) S (nodes_by names c.from_vec-nodes.result) c.push_branches.new.waiting.items
+    (rw c.new-waiting.ensures.items at c.in_ok-push_branches.ensures p names (all_lengths S) (all_lengths S) can c.requires.room (omega arith)) (ap (nodes_by names) (c.from_vec-nodes.ensures ∙ c.in_ok-with_capacity.ensures.items))
 
 pub push_branches-requires-in-Some-clause-rises : goal.push_branches-requires-in-Some-clause-rises
 push_branches-requires-in-Some-clause-rises c =
