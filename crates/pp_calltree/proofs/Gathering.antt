@@ -1,12 +1,13 @@
 -- The paths of the counted samples, with one more sample.
-use Rattle.std.proofs.Common.{◌≡◌, ℕ, zero, suc, ◌+◌, ◌<◌, ◌≤◌, ◌^◌, ◌==◌, nat_abs, Bool, true, false, cond, not, ℤ, pos, List, [], ◌∷◌, ◌++◌, length, take, drop, get_or, map, All, Option, Some, None, option_map, refl, sym, ap, ◌∙◌, subst, arith}
-use Rattle.std.specs.List.{slice_get, sum_by}
+use Rattle.std.proofs.Common.{◌≡◌, ◌≢◌, ◌⊎◌, inl, inr, ⊎_elim, ℕ, zero, suc, ◌+◌, ◌-◌, ◌<◌, ◌≤◌, ◌==◌, nat_abs, Bool, true, false, cond, not, ℤ, pos, List, [], ◌∷◌, ◌++◌, length, take, drop, get_or, map, All, Option, Some, None, option_map, refl, sym, ap, ◌∙◌, subst, arith}
+use Rattle.std.specs.List.{slice_get}
 use Rattle.std.specs.Option.{is_some, option_map_or}
 use Rattle.std.specs.Ordering.{int_eq}
-use Rattle.std.proofs.lemmas.Bool.{false≢true, eq-eqb, ne_eqb}
-use Rattle.std.proofs.lemmas.List.{take_more, take_all, drop_more, drop-drop, map-append}
+use Rattle.std.proofs.lemmas.Bool.{cases_lt, false≢true, eq-eqb, ne_eqb}
+use Rattle.std.proofs.lemmas.List.{take_more, take_all, drop_more, drop-drop, get_or_default, map-append}
+use Rattle.std.proofs.lemmas.Option.{slice_get-get_or, slice_get_past}
 use Rattle.std.proofs.lemmas.List.Elements.{filter-append, All-nil}
-use Rattle.std.proofs.lemmas.List.Sums.{sum_by-cons, sum_by_push, sum_by-take-le}
+use Rattle.std.proofs.lemmas.List.Sums.{sum_by-cons}
 use Rattle.pp_model.specs.declared.frame.Frame.{Frame}
 use Rattle.pp_model.specs.declared.profile.Sample.{Sample}
 use Rattle.pp_model.specs.Finders.{Finders}
@@ -14,8 +15,10 @@ use Rattle.pp_stack.specs.Runs.{kept_if}
 use Rattle.pp_count.specs.declared.scope.Scope.{Scope}
 use Rattle.pp_count.specs.Column.{selected}
 use Rattle.pp_count.specs.Sums.{Seen, absolute, weighed}
+use Rattle.pp_model.specs.Values.{no_sample}
 use Rattle.pp_count.specs.Parts.{HasBelow}
-use Rattle.pp_count.specs.Scope.{profile_of, config_of, size_of, AreSeen}
+use Rattle.pp_count.specs.Rising.{AreRising}
+use Rattle.pp_count.specs.Scope.{profile_of, config_of, AreSeen}
 use Rattle.pp_count.specs.Seeing.{HoldsFilters, keys_of_stack, filtered_stack, numbers_from, filtered_from}
 use Rattle.pp_count.proofs.Sizes.{part_within}
 use Rattle.pp_count.proofs.Ranges.{IsSeen, name_of, by_numbers, seen_more, seen_same}
@@ -125,7 +128,7 @@ module _ (scope : Scope) (samples : List Sample) (kept : List ℕ) (met i : ℕ)
   dropped (Some x) keys none = absurd (false≢true (sym none))
 
   -- the next number is another sample's
-  pub passed_over : (old : Paths) → stands_at kept met i ≡ false → GatheredTo scope samples kept met i old → GatheredTo scope samples kept met (i + 1) old
+  passed_over : (old : Paths) → stands_at kept met i ≡ false → GatheredTo scope samples kept met i old → GatheredTo scope samples kept met (i + 1) old
   passed_over old other so_far = record {
     paths_are = paths_same scope samples i s [] old here at_i
         (λ f holds. dropped (filtered_stack (profile_of scope) f (config_of scope) s) [] (sym (meets f (so_far.left_are f holds)) ∙ other)) so_far.paths_are;
@@ -134,7 +137,7 @@ module _ (scope : Scope) (samples : List Sample) (kept : List ℕ) (met i : ℕ)
   }
 
   -- the next number is this sample's
-  pub met_next : (old new : Paths) → stands_at kept met i ≡ true → (HasPaths scope (take i samples) old → HasPaths scope (take (i + 1) samples) new)
+  met_next : (old new : Paths) → stands_at kept met i ≡ true → (HasPaths scope (take i samples) old → HasPaths scope (take (i + 1) samples) new)
       → GatheredTo scope samples kept met i old → GatheredTo scope samples kept (met + 1) (i + 1) new
   met_next old new own more so_far = record {
     paths_are = more so_far.paths_are;
@@ -157,6 +160,58 @@ gathered_none scope samples kept old none are = record {
 }
 
 -- past the last one
-pub gathered_all : (scope : Scope) (samples : List Sample) (kept : List ℕ) (met i : ℕ) (old : Paths) → length samples ≤ i
+gathered_all : (scope : Scope) (samples : List Sample) (kept : List ℕ) (met i : ℕ) (old : Paths) → length samples ≤ i
     → GatheredTo scope samples kept met i old → HasPaths scope samples old
 gathered_all scope samples kept met i old past so_far = subst (λ (r : List Sample). HasPaths scope r old) (take_all i samples past) so_far.paths_are
+
+stands_false : (kept : List ℕ) (i m : ℕ) → (get_or kept i 0 ≢ m) ⊎ (length kept ≤ i) → stands_at kept i m ≡ false
+stands_false kept i m apart = elim (cases_lt i (length kept)) as (λ _. stands_at kept i m ≡ false) [
+  | inl here ↦ ap (λ o. option_map_or (λ other. other == m) o false) (slice_get-get_or kept i 0 here)
+      ∙ ⊎_elim (λ other. ne_eqb (get_or kept i 0) m other) (λ past. absurd (omega (arith, here, past))) apart
+  | inr past ↦ ap (λ o. option_map_or (λ other. other == m) o false) (slice_get_past kept i past)
+]
+
+-- samples without a number are passed over
+skip_to : (scope : Scope) (samples : List Sample) (kept : List ℕ) (i count n : ℕ) (old : Paths) → n + count ≤ length samples
+    → ((m : ℕ) → m < n + count → stands_at kept i m ≡ false) → GatheredTo scope samples kept i n old → GatheredTo scope samples kept i (n + count) old
+skip_to scope samples kept i zero n old fits none so_far = subst (λ m. GatheredTo scope samples kept i m old) (omega arith) so_far
+skip_to scope samples kept i (suc count) n old fits none so_far =
+    let next : (n + 1) + count ≡ n + suc count = omega arith in
+    let here : n < length samples = omega (arith, fits) in
+    subst (λ m. GatheredTo scope samples kept i m old) next
+    (skip_to scope samples kept i count (n + 1) old (omega (arith, fits)) (λ m less. none m (omega (arith, less)))
+    (passed_over scope samples kept i n (get_or samples n no_sample) here (get_or_default samples n no_sample (get_or samples n no_sample) here) old (none n (omega arith)) so_far))
+
+-- The paths of the samples that the first numbers are those of, and of all samples before the next one.
+pub record MetTo (scope : Scope) (samples : List Sample) (kept : List ℕ) (i : ℕ) (old : Paths) : Type 0 where
+  pub next : ℕ
+  pub within : next ≤ length samples
+  pub so_far : GatheredTo scope samples kept i next old
+  pub later : (j : ℕ) → i ≤ j → j < length kept → next ≤ get_or kept j 0
+
+pub met_none : (scope : Scope) (samples : List Sample) (kept : List ℕ) (old : Paths) → GatheredTo scope samples kept 0 0 old → MetTo scope samples kept 0 old
+met_none scope samples kept old so_far = record { next = 0; within = omega arith; so_far = so_far; later = λ j low here. omega arith }
+
+pub met_more : (scope : Scope) (samples : List Sample) (kept : List ℕ) (i number : ℕ) (s : Sample) (old new : Paths) → i < length kept → number ≡ get_or kept i 0 → s ≡ get_or samples number s
+    → AreRising 0 (length samples) kept → (HasPaths scope (take number samples) old → HasPaths scope (take (number + 1) samples) new)
+    → MetTo scope samples kept i old → MetTo scope samples kept (i + 1) new
+met_more scope samples kept i number s old new here is at_s rising more met =
+    let below : number < length samples = omega (arith, is, rising.below i 0 here) in
+    let low : met.next ≤ number = omega (arith, is, met.later i (omega arith) here) in
+    let whole : met.next + (number - met.next) ≡ number = omega (arith, low) in
+    let own : stands_at kept i number ≡ true = ap (λ o. option_map_or (λ other. other == number) o false) (slice_get-get_or kept i 0 here) ∙ eq-eqb (get_or kept i 0) number (sym is) in
+    record {
+      next = number + 1;
+      within = omega (arith, below);
+      so_far = met_next scope samples kept i number s below at_s old new own more
+          (subst (λ m. GatheredTo scope samples kept i m old) whole (skip_to scope samples kept i (number - met.next) met.next old (omega (arith, whole, below))
+          (λ m less. stands_false kept i m (inl (λ same. omega (arith, less, whole, is, same)))) met.so_far));
+      later = λ j high there. omega (arith, is, rising.order i j 0 (omega (arith, high)) there);
+    }
+
+pub met_all : (scope : Scope) (samples : List Sample) (kept : List ℕ) (i : ℕ) (old : Paths) → length kept ≤ i → MetTo scope samples kept i old → HasPaths scope samples old
+met_all scope samples kept i old past met =
+    let whole : met.next + (length samples - met.next) ≡ length samples = omega (arith, met.within) in
+    gathered_all scope samples kept i (length samples) old (omega arith)
+    (subst (λ m. GatheredTo scope samples kept i m old) whole
+    (skip_to scope samples kept i (length samples - met.next) met.next old (omega (arith, whole)) (λ m less. stands_false kept i m (inr past)) met.so_far))

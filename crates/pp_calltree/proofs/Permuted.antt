@@ -1,5 +1,5 @@
 -- In which order samples stand doesn't matter to the call tree.
-use Rattle.std.proofs.Common.{◌≡◌, ℕ, zero, suc, ◌+◌, Bool, true, false, cond, ◌||◌, ℤ, pos, negsuc, ◌+ℤ◌, List, [], ◌∷◌, map, Option, Some, None, refl, sym, ap, ◌∙◌, arith}
+use Rattle.std.proofs.Common.{◌≡◌, ℕ, zero, suc, ◌+◌, Bool, false, cond, ◌||◌, ℤ, pos, negsuc, ◌+ℤ◌, List, [], ◌∷◌, map, Option, Some, None, refl, sym, ap, ◌∙◌, arith}
 use Rattle.std.specs.Prelude.{flat_map}
 use Rattle.std.specs.List.{cons_option, filter_map, list_any, sum_by}
 use Rattle.std.specs.List.Sorted.{IsPermutation}
@@ -18,7 +18,7 @@ use Rattle.pp_grain.specs.Keys.{key_cmp}
 use Rattle.pp_count.specs.Ranks.{by_size, each_once, set_entry}
 use Rattle.pp_count.specs.Sums.{Seen, sum_where}
 use Rattle.pp_count.proofs.EachOnce.{keys-items}
-use Rattle.pp_calltree.specs.CallTree.{TreeRow, any_path, any_row, is_end, first_key, first_keys, below_key, under, path_cum, path_flat, sibling_order, siblings, rows_below}
+use Rattle.pp_calltree.specs.CallTree.{any_path, any_row, is_end, first_key, first_keys, below_key, under, path_cum, path_flat, sibling_order, siblings, rows_below}
 use Rattle.pp_calltree.proofs.Children.{order_total, order_same}
 
 -- Whatever is added up or looked for over one of the lists is the same over the other.

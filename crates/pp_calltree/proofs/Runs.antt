@@ -1,15 +1,15 @@
 -- Sorted paths fall into runs, a branch for each.
-use Rattle.std.proofs.Common.{◌≡◌, ℕ, zero, suc, ◌+◌, ◌<◌, ◌≤◌, ◌^◌, ◌==◌, ◌||◌, Bool, true, false, cond, nat_eq, nat_lt, ℤ, pos, ◌+ℤ◌, nat_abs, List, [], ◌∷◌, ◌++◌, length, take, drop, get_or, map, All, Option, Some, None, inl, inr, refl, sym, ap, subst, ◌∙◌, append_assoc, arith}
+use Rattle.std.proofs.Common.{◌≡◌, ℕ, zero, suc, ◌+◌, ◌<◌, ◌≤◌, ◌^◌, ◌==◌, ◌||◌, Bool, true, false, cond, nat_eq, nat_lt, ℤ, nat_abs, List, [], ◌∷◌, ◌++◌, length, take, drop, get_or, map, All, Option, Some, None, inl, inr, refl, sym, ap, subst, ◌∙◌, append_assoc, arith}
 use Rattle.std.specs.Prelude.{MatchOption}
 use Rattle.std.specs.Cmp.Lexicographic.{slice_cmp}
 use Rattle.std.specs.Cmp.{unsigned_tied}
-use Rattle.std.specs.List.{cons_option, list_any, slice_get, sum_by, AllByRecursion, IsDistinct}
+use Rattle.std.specs.List.{cons_option, list_any, slice_get, AllByRecursion, IsDistinct}
 use Rattle.std.specs.List.Sorted.{IsPermutation}
 use Rattle.std.specs.Option.{option_map_or}
 use Rattle.std.specs.Ordering.{is_lt, nat_cmp, ordering_then, eq_by_cmp}
 use Rattle.std.specs.declared.cmp.Ordering.{Ordering}
 use Rattle.std.specs.declared.cmp.Ordering.TheVariants.{Less, Equal, Greater}
-use Rattle.std.proofs.lemmas.Bool.{false≢true, true≢false, cases_Bool, cases_lt, cases_order, eq-eqb, eqb-true, lt-ltb, le-ltb, ltb-true, ne_eqb, or_parts}
+use Rattle.std.proofs.lemmas.Bool.{false≢true, true≢false, cases_Bool, cases_lt, cases_order, eq-eqb, eqb-true, lt-ltb, le-ltb, ne_eqb, or_parts}
 use Rattle.std.proofs.lemmas.List.{append-nil, drop_all, map-append, take-append-drop}
 use Rattle.std.proofs.lemmas.List.Elements.{All-nil, All-cons, All-head, All-tail, filter_map-append}
 use Rattle.std.proofs.lemmas.List.Folds.{list_any-append}
@@ -18,7 +18,6 @@ use Rattle.std.proofs.lemmas.List.Sums.{sum_by-append, sum_by-cons, sum_by_push}
 use Rattle.std.proofs.lemmas.Map.Keys.{IsDistinct-cons}
 use Rattle.std.proofs.lemmas.Option.{slice_get-get_or}
 use Rattle.pp_count.specs.Sums.{Seen, absolute, sum_where}
-use Rattle.pp_count.proofs.Renaming.{tied_is}
 use Rattle.pp_count.proofs.Adding.{or-false}
 use Rattle.pp_calltree.specs.declared.branch.Branch.{Branch}
 use Rattle.pp_calltree.specs.declared.path.Path.{Path}
@@ -435,7 +434,7 @@ found_next depth paths x after now other list new (Some k) here run_is other_is 
     let run_list : now ≡ x ∷ take m after = run_is ∙ ap (λ n. take n (x ∷ after)) long in
     let gains : GainsBranch depth k (x ∷ take m after) list new = subst (λ p. MatchOption p (new ≡ list) (λ key. GainsBranch depth key (x ∷ take m after) list new)) here
     (subst (λ r. IsStep depth r list new) run_list step) in
-  found_more depth k paths x after list new gains.branch own so_far (x ∷ take m after) other
+    found_more depth k paths x after list new gains.branch own so_far (x ∷ take m after) other
     (sym run_list ∙ run_is ∙ ap (λ n. take n (x ∷ after)) count) (other_is ∙ ap (λ n. drop n (x ∷ after)) count) gains.is gains.added
 
 pub found_step : (depth : ℕ) (paths rest run other : List Path) (list new : List Branch) → 0 < length rest

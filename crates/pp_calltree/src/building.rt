@@ -1,5 +1,5 @@
 //! The call tree of a report's samples.
-ghost use Rattle.std.specs.Prelude.{◌≡◌, ◌<◌, ◌^◌, nat_abs, None, map, All, IfOk};
+ghost use Rattle.std.specs.Prelude.{◌≡◌, ◌<◌, ◌^◌, nat_abs, length, map, All, IfOk};
 ghost use Rattle.std.specs.List.{sum_by};
 ghost use Rattle.pp_model.specs.Finders.{Finders};
 ghost use Rattle.pp_grain.specs.Keys.{IsKeyOf};
@@ -8,6 +8,7 @@ ghost use Rattle.pp_count.specs.Filters.{AreFilters};
 ghost use Rattle.pp_count.specs.Table.{IsKeyTable};
 ghost use Rattle.pp_count.specs.Scope.{IsSound, size_of};
 ghost use Rattle.pp_calltree.specs.Paths.{IsScopeOf};
+ghost use Rattle.pp_count.specs.Rising.{AreRising};
 ghost use Rattle.pp_count.specs.Counts.{written_names};
 ghost use Rattle.pp_count.specs.Counted.{CanCount, IsCountedOf};
 ghost use Rattle.pp_calltree.specs.CallTree.{tree_nodes};
@@ -99,6 +100,7 @@ fn scope_of<'x>(
 fn nodes_by(alloc: Global, scope: &Scope, kept: &[u32]) -> Result<List<NumberedNode>, Memory>
     requires sound { IsSound scope.now }
     requires fits { size_of scope.now scope.now.l.now.profile.sample < 2 ^ 63 }
+    requires rising { AreRising 0 (length scope.now.l.now.profile.sample) kept.now }
     requires kept { (f : Finders) →
         HoldsFilters scope.now.l.now scope.now.v.now scope.now.config.now f →
         kept.now ≡ filtered_from scope.now.l.now.profile f scope.now.config.now 0

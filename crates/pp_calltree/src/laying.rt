@@ -13,7 +13,7 @@ ghost use Rattle.pp_calltree.specs.Paths.{below, Rises};
 
 use crate::branch::Branch;
 use crate::branching::find_branches;
-use crate::path::Path;
+use crate::path::{Path, node_count};
 use crate::siblings::sort_branches;
 use crate::texts::Texts;
 use crate::tree::NumberedNode;
@@ -41,7 +41,7 @@ pub fn lay_out(
         sum_by (λ n. nat_abs n.flat) (nodes_by names.now nodes) < 2 ^ 63) }
 {
     let texts = Texts::new(alloc, p, names)?;
-    let mut nodes = List::new(alloc);
+    let mut nodes = List::from_vec(Vec::with_capacity(alloc, node_count(paths))?);
     let mut found = Vec::new(alloc);
     let mut waiting = Vec::new(alloc);
     push_branches(&texts, paths, 0, &mut found, &mut waiting)?;

@@ -2,7 +2,8 @@
 ghost use Rattle.std.specs.Prelude.{◌≡◌, ◌≤◌, ℕ, List as Seq, length, map, IfOk, OnOk};
 ghost use Rattle.std.specs.List.{sum_by};
 ghost use Rattle.std.specs.List.Sorted.{IsPermutation, IsSorted};
-ghost use Rattle.pp_calltree.specs.Paths.{path_of, path_cmp, parts_of};
+ghost use Rattle.pp_calltree.specs.CallTree.{all_lengths};
+ghost use Rattle.pp_calltree.specs.Paths.{below, path_of, path_cmp, parts_of};
 
 use pp_base::Memory;
 use std::alloc::Global;
@@ -54,4 +55,32 @@ pub fn sort_paths(paths: &mut Vec<Path>) -> Result<(), Memory>
 {
     paths.sort_by(|a, b| a.keys.cmp(&b.keys))?;
     Ok(())
+}
+
+/// How many nodes the tree of these sorted paths has.
+pub fn node_count(paths: &[Path]) -> usize
+    ensures { result ≤ all_lengths (below 0 paths.now) }
+{
+    let mut count: usize = 0;
+    for (place, path) in paths.iter().enumerate() {
+        let shared = if place > 0 {
+            shared_length(paths[place - 1].keys, path.keys)
+        } else {
+            0
+        };
+        count = count.saturating_add(path.keys.len() - shared);
+    }
+    count
+}
+
+// With how many keys both begin.
+fn shared_length(before: &[u32], keys: &[u32]) -> usize
+    ensures { result ≤ length keys.now }
+{
+    for (place, key) in keys.iter().enumerate() {
+        if before.get(place) != Some(key) {
+            return place;
+        }
+    }
+    keys.len()
 }

@@ -1,13 +1,14 @@
 //! The paths of a report's samples.
-ghost use Rattle.std.specs.Prelude.{◌≡◌, ℕ, ◌++◌, ◌∷◌, [], ◌<◌, true, length, reverse, List as Seq, All, IfOk};
+ghost use Rattle.std.specs.Prelude.{◌≡◌, ℕ, ◌++◌, ◌∷◌, [], length, reverse, List as Seq, All, IfOk};
 ghost use Rattle.pp_model.specs.Conditions.{RefersTo, IsSampleOf};
 ghost use Rattle.pp_model.specs.Finders.{Finders};
 ghost use Rattle.pp_count.specs.Column.{selected};
+ghost use Rattle.pp_count.specs.Rising.{AreRising};
 ghost use Rattle.pp_count.specs.Scope.{IsSound};
 ghost use Rattle.pp_count.specs.Seeing.{HoldsFilters, filtered_from};
 ghost use Rattle.pp_count.specs.Sums.{Seen};
 ghost use Rattle.pp_calltree.specs.CallTree.{rooted};
-ghost use Rattle.pp_calltree.specs.Paths.{rooted_if, stands_at, AreKeptAs, HasPaths};
+ghost use Rattle.pp_calltree.specs.Paths.{rooted_if, AreKeptAs, HasPaths};
 
 use crate::path::Part;
 use pp_base::{List, Memory};
@@ -52,7 +53,7 @@ fn put_rooted(keys: &[u64], out: &mut Vec<u32>) -> Result<(), Memory>
     Ok(())
 }
 
-/// The paths of the samples with these numbers, which rise, but for samples of value 0.
+/// The paths of the samples with these numbers, but for samples of value 0.
 pub fn gather_paths(
     alloc: Global,
     scope: &Scope,
@@ -62,6 +63,7 @@ pub fn gather_paths(
     requires sound { IsSound scope.now }
     requires members { All (IsSampleOf scope.now.l.now.profile) samples.now }
     requires refers { All (RefersTo scope.now.l.now.profile) samples.now }
+    requires rising { AreRising 0 (length samples.now) kept.now }
     requires kept { (f : Finders) →
         HoldsFilters scope.now.l.now scope.now.v.now scope.now.config.now f →
         kept.now ≡ filtered_from scope.now.l.now.profile f scope.now.config.now 0 samples.now }
@@ -73,28 +75,13 @@ pub fn gather_paths(
         keys: Vec::new(alloc),
         parts: Vec::new(alloc),
     };
-    let mut met = 0;
-    for (number, sample) in samples.iter().enumerate() {
-        if !stands_at(kept, met, number) {
-            continue;
-        }
-        met += 1;
+    for number in kept {
+        let sample = &samples[*number as usize];
         if see(scope, sample, &mut stack, &mut keys)? {
             add_sample(scope, &mut paths, sample, &keys)?;
         }
     }
     Ok(paths)
-}
-
-// Whether the number stands at the place.
-fn stands_at(numbers: &[u32], place: usize, number: usize) -> bool
-    ensures value { result ≡ stands_at numbers.now place number }
-    ensures within { result ≡ true → place < length numbers.now }
-{
-    match numbers.get(place) {
-        Some(other) => *other as usize == number,
-        None => false,
-    }
 }
 
 // Adds a sample with these keys, leaf first.

@@ -135,7 +135,11 @@ fn named(names: &Names, node: &NumberedNode) -> PathNode
 fn key_at(names: &Names, n: u64) -> Key
     ensures { result ≡ slice_index_or names.now n no_key }
 {
-    if n < names.len() { names.key(n) } else { NO_KEY }
+    if n < names.len() {
+        names.key(n)
+    } else {
+        NO_KEY
+    }
 }
 
 // What no number stands for.

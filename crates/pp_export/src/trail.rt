@@ -71,8 +71,17 @@ impl Trail {
 fn put_frame_name(name: &[u8], text: &mut Vec<u8>) -> Result<(), Memory>
     ensures { IfOk result (λ _. text.new.items ≡ text.old.items ++ frame_name name.now) }
 {
-    for byte in name {
-        text.push(frame_byte(*byte))?;
-    }
+    let start = text.len();
+    text.extend_from_slice(name)?;
+    write_frame_bytes(&mut text[start..]);
     Ok(())
+}
+
+// Writes over each byte what stands for it in a path.
+fn write_frame_bytes(name: &mut [u8])
+    ensures { name.new ≡ frame_name name.old }
+{
+    for byte in name.iter_mut() {
+        *byte = frame_byte(*byte);
+    }
 }

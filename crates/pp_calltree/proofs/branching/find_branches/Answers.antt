@@ -1,8 +1,6 @@
-use Rattle.std.proofs.Common.{◌≡◌, ℕ, ◌+◌, ◌-◌, ◌<◌, ◌^◌, List, length, take, drop, refl, sym, ap, subst, ◌∙◌, arith, length-take}
+use Rattle.std.proofs.Common.{◌≡◌, ℕ, ◌-◌, ◌<◌, List, length, take, drop, refl, sym, ap, subst, ◌∙◌, arith}
 use Rattle.std.proofs.lemmas.List.{drop-drop, length-drop, take_all}
-use Rattle.pp_count.specs.Sums.{absolute}
 use Rattle.pp_calltree.specs.declared.path.Path.{Path}
-use Rattle.pp_calltree.specs.Paths.{below, first_run}
 use Rattle.pp_calltree.proofs.Runs.{FoundTo, found_none, found_step, run_fits}
 use Rattle.pp_calltree.proofs.branching.find_branches.Goals as goal
 

@@ -1,4 +1,4 @@
-use Rattle.std.proofs.Common.{pos, [], ◌≡◌, to_z, w64, arith}
+use Rattle.std.proofs.Common.{pos, [], to_z, w64}
 use Rattle.pp_calltree.specs.declared.path.Path.{Path}
 use Rattle.pp_calltree.proofs.RunSums.{cum_fits, flat_fits, sums_more}
 use Rattle.pp_calltree.proofs.branching.sums_of.Goals as goal

@@ -21,6 +21,9 @@ pub gather_paths-requires-clause-refers : goal.gather_paths-requires-clause-refe
 gather_paths-requires-clause-refers c =
     rw c.as_slice.ensures (all_refer c.args.scope.now.l.now.profile c.get-p.result.now c.get-p.ensures.same c.get-p.ensures.valid)
 
+pub gather_paths-requires-clause-rising : goal.gather_paths-requires-clause-rising
+gather_paths-requires-clause-rising c = rw (c.as_slice.ensures, c.get-p.ensures.same) c.requires.rising
+
 pub lay_out-requires-clause-room : goal.lay_out-requires-clause-room
 lay_out-requires-clause-room c =
     let paths = rw (c.as_slice.ensures, c.get-p.ensures.same) at c.in_ok-gathered.ensures in

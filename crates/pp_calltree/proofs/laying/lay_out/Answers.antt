@@ -1,4 +1,4 @@
-use Rattle.std.proofs.Common.{◌≡◌, ℕ, ◌+◌, ◌-◌, ◌<◌, ◌∙◌, take, ap, subst, sym, arith, List, [], ◌∷◌}
+use Rattle.std.proofs.Common.{ℕ, ◌+◌, ◌-◌, ◌<◌, ◌∙◌, take, ap, subst, sym, arith, List, [], ◌∷◌}
 use Rattle.std.specs.List.{sum_by}
 use Rattle.std.proofs.lemmas.List.{append-nil, map-append}
 use Rattle.pp_model.specs.declared.profile.Profile.{Profile as Tables}
@@ -8,7 +8,7 @@ use Rattle.pp_count.specs.Sums.{Seen}
 use Rattle.pp_count.specs.Table.{no_key, written_key}
 use Rattle.pp_count.proofs.Keyed.{apart}
 use Rattle.pp_calltree.specs.declared.branch.Branch.{Branch}
-use Rattle.pp_calltree.specs.Branches.{samples_of, weight}
+use Rattle.pp_calltree.specs.Branches.{weight}
 use Rattle.pp_calltree.specs.CallTree.{all_lengths, any_row, rows_below}
 use Rattle.pp_calltree.specs.Laid.{CanLay, IsLayable, node_row, written_out}
 use Rattle.pp_calltree.specs.Links.{node_by, nodes_by}
@@ -25,8 +25,8 @@ loop-branch-init c =
     let S : List (Seen ℕ) = below 0 c.args.paths.now in
     let can : CanLay p names c.in_ok-texts.texts =
     record { apart = apart p c.requires.compact names c.requires.keys c.requires.distinct; texts_are = texts_are p names c.in_ok-texts.texts c.in_ok-texts.ensures } in
-    laying_start p names (all_lengths S) S (nodes_by names c.new-nodes.result) c.push_branches.new.waiting.items
-    (rw c.new-waiting.ensures.items at c.in_ok-push_branches.ensures p names (all_lengths S) (all_lengths S) can c.requires.room (omega arith)) (ap (nodes_by names) c.new-nodes.ensures)
+    laying_start p names (all_lengths S) S (nodes_by names c.from_vec-nodes.result) c.push_branches.new.waiting.items
+    (rw c.new-waiting.ensures.items at c.in_ok-push_branches.ensures p names (all_lengths S) (all_lengths S) can c.requires.room (omega arith)) (ap (nodes_by names) (c.from_vec-nodes.ensures ∙ c.in_ok-with_capacity.ensures.items))
 
 pub push_branches-requires-in-Some-clause-rises : goal.push_branches-requires-in-Some-clause-rises
 push_branches-requires-in-Some-clause-rises c =

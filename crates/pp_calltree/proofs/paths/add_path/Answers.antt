@@ -1,11 +1,11 @@
-use Rattle.std.proofs.Common.{◌≡◌, ℕ, ℤ, pos, false, cond, List, ◌++◌, ◌∷◌, [], IfOk, sym, ap, subst, ◌∙◌, w64, of_z}
+use Rattle.std.proofs.Common.{◌≡◌, ℕ, pos, false, cond, List, ◌++◌, ◌∷◌, [], IfOk, sym, ap, subst, ◌∙◌, w64, of_z}
 use Rattle.std.specs.Ordering.{int_eq}
 use Rattle.std.proofs.lemmas.Bool.{false_from_ne_true}
 use Rattle.std.proofs.lemmas.Bool.Decides.{Decides-int_eq}
 use Rattle.std.proofs.lemmas.Int.{to_z-of_z}
 use Rattle.pp_count.specs.Sums.{Seen}
 use Rattle.pp_calltree.specs.CallTree.{rooted}
-use Rattle.pp_calltree.specs.Paths.{rooted_if, AreKeptAs}
+use Rattle.pp_calltree.specs.Paths.{AreKeptAs}
 use Rattle.pp_calltree.proofs.paths.add_path.Goals as goal
 
 pub returns : goal.returns

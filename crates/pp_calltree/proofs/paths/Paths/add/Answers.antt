@@ -1,4 +1,4 @@
-use Rattle.std.proofs.Common.{◌≡◌, ℤ, ◌++◌, ◌∷◌, [], length, reverse, sym, subst, w64, to_z, of_z}
+use Rattle.std.proofs.Common.{ℤ, ◌++◌, ◌∷◌, [], length, reverse, sym, subst, w64, to_z, of_z}
 use Rattle.std.proofs.lemmas.Int.{to_z-of_z}
 use Rattle.std.proofs.lemmas.List.{length-reverse}
 use Rattle.pp_calltree.specs.Paths.{AreKeptAs}
