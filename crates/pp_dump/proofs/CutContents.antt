@@ -12,12 +12,15 @@ use Rattle.pp_model.specs.declared.profile.Profile.{Profile}
 use Rattle.pp_model.specs.declared.verdicts.Verdicts.{Verdicts}
 use Rattle.pp_model.specs.Finders.{Finders, HoldsFinders}
 use Rattle.pp_model.specs.Lookup.{text_of}
-use Rattle.pp_model.specs.Rules.{NoRuleFails}
+use Rattle.pp_model.specs.Rules.{NoRuleFails, IsCompact}
 use Rattle.pp_tags.specs.TagFilters.{shown_labels}
 use Rattle.pp_count.specs.Counts.{samples_at}
 use Rattle.pp_count.specs.Seeing.{filtered_stack, filtered_from}
 use Rattle.pp_share.specs.Described.{SampleText, label_text}
-use Rattle.pp_merge.specs.Merge.{contents}
+use Rattle.pp_merge.specs.Merge.{contents, merged}
+use Rattle.pp_merge.proofs.MergeLemmas.{fits_contents}
+use Rattle.pp_merge.proofs.WrittenCompact.{compact_written}
+use Rattle.pp_merge.proofs.WrittenValid.{valid_written}
 use Rattle.pp_restack.specs.Stacks.{by_place, made_contents}
 use Rattle.pp_restack.specs.Places.{IsCutSample, with_cut, told, spread_in}
 use Rattle.pp_restack.proofs.MadeContents.{groups_told, contents_made}
@@ -54,3 +57,11 @@ contents_saved l v f config kept samples locations valid finds is adds =
     (ap (λ (xs : List Sample). map (told p) (map (spread_in locations) xs)) adds.is
     ∙ ap (map (told p)) (adds.are f finds ∙ sym (made_of_kept p f config (spread_of p f) kept is))
     ∙ all_told p f config p.sample)
+
+-- What is merged alone keeps the table rules,
+pub alone_valid : (cut q : Profile) → q ≡ merged cut [] → NoRuleFails q
+alone_valid cut q is = subst NoRuleFails (sym is) (valid_written (contents cut []) (fits_contents cut []))
+
+-- and its ids are places.
+pub alone_compact : (cut q : Profile) → q ≡ merged cut [] → IsCompact q
+alone_compact cut q is = subst IsCompact (sym is) (compact_written (contents cut []))

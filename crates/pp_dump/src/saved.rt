@@ -62,8 +62,6 @@ pub fn saved_profile(
 {
     let cut = cut_profile(alloc, l, v, c.kept.as_slice())?;
     let q = merge_alone(alloc, cut)?;
-    // What is merged keeps the table rules.
-    let _valid = q.get();
     Ok(q)
 }
 

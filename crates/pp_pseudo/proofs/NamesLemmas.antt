@@ -1,12 +1,14 @@
 -- A name and its place among the names that were met.
-use Rattle.std.proofs.Common.{◌≡◌, ℕ, ◌<◌, Bool, false, cond, Vec, Global, List, [], ◌∷◌, ◌++◌, map, length, get_or, Some, option_map, sym, ap, ◌∙◌, arith}
+use Rattle.std.proofs.Common.{◌≡◌, ℕ, ◌<◌, Bool, true, false, cond, Vec, Global, List, [], ◌∷◌, ◌++◌, map, length, Contains, get_or, Some, option_map, sym, ap, ◌∙◌, arith}
 use Rattle.std.specs.Prelude.{slice_get, position, bytes_eq}
 use Rattle.std.specs.List.{list_any}
 use Rattle.std.proofs.Math.Seq.{get_or-append_seam}
 use Rattle.std.proofs.lemmas.List.{append-nil, map-append, length-append}
+use Rattle.std.proofs.lemmas.List.Folds.{list_any_at}
 use Rattle.std.proofs.lemmas.List.Quantifiers.{position-Some}
 use Rattle.std.proofs.lemmas.Option.{none-some, slice_get-get_or, slice_get-map}
 use Rattle.std.proofs.lemmas.Slice.Eq.{bytes_eq-Decides}
+use Rattle.pp_stack.proofs.ToldLemmas.{list_any-map}
 use Rattle.pp_pseudo.specs.Names.{IsNumberedName}
 
 -- the bytes of a key
@@ -29,6 +31,13 @@ known keys names name n same is = record {
   front = ([], sym (append-nil names));
   named = ap (λ ns. slice_get ns n) (sym same) ∙ found_at keys name n is;
 }
+
+-- A name that is not found was not met.
+pub met : (keys : List (Vec ℕ Global)) (names : List (List ℕ)) (name : List ℕ) → map bytes_of keys ≡ names
+    → false ≡ list_any (λ (k : Vec ℕ Global). bytes_eq name k.items) keys → Contains names name → false ≡ true
+met keys names name same absent (k, within, at) =
+    absent ∙ sym (list_any-map bytes_of (bytes_eq name) keys) ∙ ap (list_any (bytes_eq name)) same
+    ∙ list_any_at (bytes_eq name) names k name within ((bytes_eq-Decides name (get_or names k name)).1 (sym at))
 
 -- A name that is new stands behind the others.
 pub added : (old new : List (Vec ℕ Global)) (names : List (List ℕ)) (key : Vec ℕ Global) (name : List ℕ) (n : ℕ) → map bytes_of old ≡ names

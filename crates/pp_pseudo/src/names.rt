@@ -21,7 +21,7 @@ impl Model for Names {
 }
 
 impl Names {
-    ghost use Rattle.std.specs.Prelude.{◌≡◌, ◌<◌, ◌^◌, [], length, IfOk};
+    ghost use Rattle.std.specs.Prelude.{◌≡◌, ◌<◌, ◌^◌, [], length, Contains, IfOk, IsOk};
     ghost use Rattle.pp_pseudo.specs.Names.{IsNumberedName};
 
     /// No names.
@@ -37,6 +37,7 @@ impl Names {
     pub fn number(&mut self, alloc: Global, name: &[u8]) -> Result<u64, Memory>
         ensures numbered { IfOk result (λ n. IsNumberedName self.old self.new name.now n) }
         ensures small { IfOk result (λ n. n < 2 ^ 60) }
+        ensures known { Contains self.old name.now → IsOk result }
     {
         let next = self.len();
         if let Some(n) = self.seen.get_index_of(name) {

@@ -18,7 +18,7 @@ use Rattle.pp_dump.proofs.NaturalStacks.{keeps_keys}
 use Rattle.pp_dump.proofs.SavedHeader.{header_cut, same_column}
 use Rattle.pp_dump.proofs.SeenStacks.{keeps_sums}
 use Rattle.pp_dump.proofs.WholeStacks.{whole_left}
-use Rattle.pp_dump.proofs.CutContents.{contents_saved}
+use Rattle.pp_dump.proofs.CutContents.{contents_saved, alone_valid, alone_compact}
 use Rattle.pp_dump.proofs.CutSizes.{cut_countable}
 use Rattle.pp_dump.proofs.saved.saved_profile.Goals as goal
 
@@ -59,16 +59,16 @@ returns-clause-again c =
     subst (λ (q : Profile). merged q [] ≡ q) (sym merge)
     (ap written (contents_again (contents cut []) (settled_contents cut [] (starts_of c.args.l.now.profile is.samples is.locations is.starts))))
 
--- what is compact keeps the table rules
+-- what is merged keeps the table rules
 pub returns-clause-valid : goal.returns-clause-valid
-returns-clause-valid c = subst NoRuleFails c.get-valid.ensures.same c.get-valid.ensures.valid
+returns-clause-valid c = alone_valid c.in_ok-cut.cut c.in_ok-q.q c.in_ok-q.ensures
 
 -- without filters its stacks are left whole, so the sums are kept
 pub returns-clause-sums : goal.returns-clause-sums
 returns-clause-sums c f config holds kept again =
     let q = c.in_ok-q.q in
-    let compact = subst IsCompact c.get-valid.ensures.same c.get-valid.ensures.compact in
-    let valid = subst NoRuleFails c.get-valid.ensures.same c.get-valid.ensures.valid in
+    let compact : IsCompact q = alone_compact c.in_ok-cut.cut q c.in_ok-q.ensures in
+    let valid : NoRuleFails q = alone_valid c.in_ok-cut.cut q c.in_ok-q.ensures in
     keeps_sums c.args.l.now.profile f config q (returns-clause-stacks c f config holds kept again)
     (λ d tagfocus tagignore. whole_left q compact.locations d tagfocus tagignore valid)
 
@@ -78,8 +78,8 @@ returns-clause-keys c f config holds kept again =
     let is = c.in_ok-cut.ensures in
     let p = c.args.l.now.profile in
     let q = c.in_ok-q.q in
-    let compact = subst IsCompact c.get-valid.ensures.same c.get-valid.ensures.compact in
-    let valid = subst NoRuleFails c.get-valid.ensures.same c.get-valid.ensures.valid in
+    let compact : IsCompact q = alone_compact c.in_ok-cut.cut q c.in_ok-q.ensures in
+    let valid : NoRuleFails q = alone_valid c.in_ok-cut.cut q c.in_ok-q.ensures in
     let cut = with_cut p is.samples is.locations in
     let starts = starts_of p is.samples is.locations is.starts in
     let same : contents cut [] ≡ saved_contents p f config =
