@@ -7,6 +7,7 @@ pub mod Sights
 pub mod Located
 pub mod Rising
 pub mod Ranges
+pub mod Matching
 pub mod Pieces
 pub mod Chosen
 pub mod Totals

@@ -1,5 +1,5 @@
 //! How the samples of a count are seen.
-ghost use Rattle.std.specs.Prelude.{◌≡◌, ◌<◌, ◌^◌, length, Some};
+ghost use Rattle.std.specs.Prelude.{◌≡◌, ◌<◌, ◌^◌, length, Some, None};
 ghost use Rattle.std.specs.List.{slice_get};
 ghost use Rattle.pp_model.specs.Conditions.{RefersTo, IsSampleOf};
 ghost use Rattle.pp_count.specs.Scope.{IsSound, profile_of, samples_of};
@@ -27,7 +27,33 @@ pub struct Scope<'a> {
     pub chosen: Option<&'a [u32]>,
 }
 
-impl Scope<'_> {
+impl<'a> Scope<'a> {
+    /// All samples, counted by keys.
+    pub(crate) fn whole(
+        l: &'a Loaded,
+        v: &'a Verdicts,
+        config: &'a Config,
+        filters: &'a Filters,
+        column: Option<u32>,
+        table: &'a KeyTable,
+    ) -> Scope<'a>
+        ensures { result ≡ record {
+            l = l.entry; v = v.entry; config = config.entry; filters = filters.entry;
+            column = column; table = table.entry; over = None; chosen = None;
+        } }
+    {
+        Scope {
+            l,
+            v,
+            config,
+            filters,
+            column,
+            table,
+            over: None,
+            chosen: None,
+        }
+    }
+
     /// How many key numbers there can be, or numbers of pairs of keys where pairs are counted.
     pub fn numbers(&self) -> usize {
         match self.over {
