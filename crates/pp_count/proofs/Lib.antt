@@ -18,7 +18,8 @@ pub mod Sizes
 pub mod Keyed
 pub mod Kept
 pub mod Based
-pub mod Pairing
+pub mod Paired
+pub mod Placed
 pub mod Edged
 pub mod EachOnce
 pub mod Ties

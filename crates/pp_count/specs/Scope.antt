@@ -8,6 +8,7 @@ use Rattle.pp_model.specs.Conditions.{HasVerdicts}
 use Rattle.pp_model.specs.Finders.{Finders}
 use Rattle.pp_count.specs.declared.scope.Scope.{Scope}
 use Rattle.pp_count.specs.declared.part.Part.{Part}
+use Rattle.pp_count.specs.declared.pairs.Pairing.{Pairing}
 use Rattle.pp_count.specs.declared.sofar.Sofar.{Sofar}
 use Rattle.pp_count.specs.declared.tally.Tally.{Tally}
 use Rattle.pp_count.specs.Filters.{AreFilters}
@@ -16,7 +17,7 @@ use Rattle.pp_count.specs.Table.{written_key, IsKeyTable}
 use Rattle.pp_count.specs.Sums.{Seen, weighed, absolute, renamed}
 use Rattle.pp_count.specs.Seeing.{HoldsFilters, seen_samples, filtered_from, absolute_all}
 use Rattle.pp_count.specs.Parts.{AreSums, HasBelow}
-use Rattle.pp_count.specs.Edges.{counted_keys}
+use Rattle.pp_count.specs.Edges.{counted_keys, HasPlaces}
 use Rattle.pp_count.specs.Counts.{samples_at}
 use Rattle.pp_count.specs.Matches.{matches_among}
 use Rattle.pp_count.specs.Rising.{AreRising}
@@ -29,9 +30,9 @@ profile_of scope = scope.l.now.profile
 abbrev pub config_of : Scope → Config
 config_of scope = scope.config.now
 
--- for each key number, whether pairs are counted over its key; none where keys are counted
-abbrev pub keep_of : Scope → Option (List Bool)
-keep_of scope = option_map (λ keep. keep.now) scope.over
+-- the keys that pairs are counted over; none where keys are counted
+abbrev pub over_of : Scope → Option Pairing
+over_of scope = option_map (λ over. over.now) scope.over
 
 -- the numbers of the samples that are counted; none where all are
 abbrev pub chosen_of : Scope → Option (List ℕ)
@@ -47,7 +48,7 @@ pub record IsSound (scope : Scope) : Type 0 where
   pub filters : AreFilters (profile_of scope) scope.v.now (config_of scope) scope.filters.now
   pub verdicts : HasVerdicts (profile_of scope) scope.v.now
   pub table : IsKeyTable (profile_of scope) (config_of scope) scope.table.now
-  pub few_kept : MatchOption (keep_of scope) ⊤ (λ keep. length keep < 2 ^ 32)
+  pub few_kept : MatchOption (over_of scope) ⊤ HasPlaces
   pub chosen : MatchOption (chosen_of scope) ⊤ (AreRising 0 (length (profile_of scope).sample))
 
 -- the sum of the absolute selected values of the samples
@@ -69,7 +70,7 @@ pub record AreSeen (scope : Scope) (samples : List Sample) (seen : List (Seen �
 
 -- the sample with what is counted of its keys
 abbrev pub counted_as : Scope → Seen ℕ → Seen ℕ
-counted_as scope s = record { value = s.value; keys = counted_keys (keep_of scope) s.keys }
+counted_as scope s = record { value = s.value; keys = counted_keys (over_of scope) s.keys }
 
 -- The slots are the matches of these samples. Samples that are chosen are not searched.
 abbrev pub HasMatches : Scope → List Sample → List Bool → Type 0

@@ -3,7 +3,7 @@ ghost use Rattle.std.specs.Prelude.{◌≡◌, ℕ, ◌+◌, ◌<◌, ◌≤◌,
 ghost use Rattle.pp_count.specs.Column.{selected};
 ghost use Rattle.pp_count.specs.Edges.{counted_keys};
 ghost use Rattle.pp_count.specs.Tally.{tally_at, no_tally, with_seen};
-ghost use Rattle.pp_count.specs.Scope.{keep_of, samples_of, IsSound, AreCountable, IsPartOf, CountedTo};
+ghost use Rattle.pp_count.specs.Scope.{over_of, samples_of, IsSound, AreCountable, IsPartOf, CountedTo};
 
 use crate::matched::{Matched, range_matches};
 use crate::pairs::gather_pairs;
@@ -103,12 +103,12 @@ fn add_seen(
         + nat_abs (selected scope.now.column scope.now.config.now.divide_by sample.now) < 2 ^ 63 }
     ensures { IfOk result (λ _. (k : ℕ) → tally_at tallies.new k
         ≡ with_seen (selected scope.now.column scope.now.config.now.divide_by sample.now) turn
-        (counted_keys (keep_of scope.now) keys.now) k (tally_at tallies.old k)) }
+        (counted_keys (over_of scope.now) keys.now) k (tally_at tallies.old k)) }
 {
     let value = selected(scope.l, sample, scope.column, scope.config.divide_by);
-    let Some(keep) = scope.over else {
+    let Some(over) = scope.over else {
         return add_sample(tallies, value, keys, turn);
     };
-    gather_pairs(pairs, keys, keep)?;
+    gather_pairs(pairs, keys, over)?;
     add_sample(tallies, value, pairs, turn)
 }

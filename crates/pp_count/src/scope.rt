@@ -5,6 +5,7 @@ ghost use Rattle.pp_model.specs.Conditions.{RefersTo, IsSampleOf};
 ghost use Rattle.pp_count.specs.Scope.{IsSound, profile_of, samples_of};
 
 use crate::filters::Filters;
+use crate::pairs::Pairing;
 use crate::table::KeyTable;
 use pp_model::{Config, Loaded, Sample, Verdicts};
 
@@ -20,9 +21,8 @@ pub struct Scope<'a> {
     pub column: Option<u32>,
     /// The table of key numbers of `l` and `config`.
     pub table: &'a KeyTable,
-    /// None where keys are counted. Else pairs are, over the keys that are kept here, by
-    /// key number; keys past the end are not kept.
-    pub over: Option<&'a [bool]>,
+    /// None where keys are counted. Else pairs of these keys are.
+    pub over: Option<&'a Pairing>,
     /// The numbers of the samples that are counted, rising; none where all are.
     pub chosen: Option<&'a [u32]>,
 }
@@ -58,7 +58,7 @@ impl<'a> Scope<'a> {
     pub fn numbers(&self) -> usize {
         match self.over {
             None => self.table.names.len() as usize,
-            Some(keep) => keep.len().saturating_mul(keep.len()),
+            Some(over) => over.marked.len().saturating_mul(over.marked.len()),
         }
     }
 }
