@@ -53,7 +53,7 @@ other_keys k (e ∷ es) none =
 
 module _ (names : List Key) (distinct : AllPairs (λ a b. a ≢ b) names) where
   -- different numbers stand for different keys
-  numbers_apart : (a b : ℕ) → a < length names → b < length names → a ≢ b → get_or names a no_key ≢ get_or names b no_key
+  pub numbers_apart : (a b : ℕ) → a < length names → b < length names → a ≢ b → get_or names a no_key ≢ get_or names b no_key
   numbers_apart a b in_a in_b other same = elim (cases_order a b) [
     | inl is ↦ other is
     | inr (inl below) ↦ distinct a b no_key below in_b same

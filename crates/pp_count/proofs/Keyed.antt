@@ -180,7 +180,7 @@ module _ (p : Profile) (compact : IsCompact p) (names : List Key) (keys : All (I
 -- where keys are counted, the keys of a sample are what is counted of it
 pub plain : (scope : Scope) → scope.over ≡ None → (ss : List (Seen ℕ)) → map (counted_as scope) ss ≡ ss
 plain scope none [] = refl
-plain scope none (s ∷ ss) = λ i. record { value = s.value; keys = counted_keys (option_map (λ keep. keep.now) (none i)) s.keys } ∷ plain scope none ss i
+plain scope none (s ∷ ss) = λ i. record { value = s.value; keys = counted_keys (option_map (λ over. over.now) (none i)) s.keys } ∷ plain scope none ss i
 
 -- What the sums of all samples stand on.
 pub record Holding (scope : Scope) (seen : List (Seen ℕ)) (at : ℕ → Tally) : Type 0 where

@@ -7,6 +7,7 @@ pub mod Sights
 pub mod Located
 pub mod Rising
 pub mod Ranges
+pub mod Matching
 pub mod Pieces
 pub mod Chosen
 pub mod Totals
@@ -17,7 +18,8 @@ pub mod Sizes
 pub mod Keyed
 pub mod Kept
 pub mod Based
-pub mod Pairing
+pub mod Paired
+pub mod Placed
 pub mod Edged
 pub mod EachOnce
 pub mod Ties

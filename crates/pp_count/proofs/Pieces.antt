@@ -19,16 +19,19 @@ use Rattle.pp_count.specs.declared.tally.Tally.{Tally}
 use Rattle.pp_count.specs.declared.part.KeySum.{KeySum}
 use Rattle.pp_count.specs.declared.part.Part.{Part}
 use Rattle.pp_count.specs.declared.counting.Counting.{Counting}
+use Rattle.pp_count.specs.declared.sofar.Sofar.{Sofar}
+use Rattle.pp_count.specs.Matches.{no_matches, either}
 use Rattle.pp_count.specs.Column.{selected}
 use Rattle.pp_count.specs.Sums.{Seen, weighed, renamed, has, leads, occurs}
 use Rattle.pp_count.specs.Seeing.{filtered_stack, seen}
-use Rattle.pp_count.specs.Tally.{added, plus, no_tally, IsTallyOf}
+use Rattle.pp_count.specs.Tally.{added, plus, no_tally, tally_at, IsTallyOf}
 use Rattle.pp_count.specs.Parts.{piece_samples, sums_of, key_sum, flat_size, cum_size, HasBelow}
-use Rattle.pp_count.specs.Scope.{profile_of, config_of, size_of, counted_as, samples_of, AreSeen, IsPartOf, CountedTo}
+use Rattle.pp_count.specs.Scope.{profile_of, config_of, size_of, counted_as, samples_of, AreSeen, IsPartOf, CountedTo, AreCounted}
 use Rattle.pp_count.proofs.Adding.{sum_bound}
 use Rattle.pp_count.proofs.Joining.{tallies_joined}
 use Rattle.pp_count.specs.Rising.{AreRising}
 use Rattle.pp_count.proofs.Rising.{rising_high, rising-append}
+use Rattle.pp_count.proofs.Matching.{none_match, matches_more}
 use Rattle.pp_count.proofs.Ranges.{name_of, numbers-append, counted_size, counted_none}
 
 -- so many samples from the piece's first on are the piece
@@ -151,13 +154,18 @@ front_within scope samples j =
     )
 
 -- with the part of the next piece
-pub piece_more : (scope : Scope) (samples : List Sample) (j : ℕ) (at new : ℕ → Tally) (old_kept new_kept : List ℕ) (part : Part)
-    → 1024 * j ≤ length samples → CountedTo scope 0 1 (front_of samples j) at old_kept → IsPartOf scope (j * 1024) (piece_samples samples j) part
-    → new_kept ≡ old_kept ++ part.kept → ((k : ℕ) → new k ≡ added (at k) (sums_of k part.sums))
-    → CountedTo scope 0 1 (front_of samples (j + 1)) new new_kept
-piece_more scope samples j at new old_kept new_kept part here before is kept each =
-    subst (λ (r : List Sample). CountedTo scope 0 1 r new new_kept) (sym (front_more samples j))
-    (counted_more scope 0 (j * 1024) (front_of samples j) (piece_samples samples j) at new old_kept new_kept part (omega (arith, length-take-le (1024 * j) samples here)) before is kept each)
+pub piece_more : (scope : Scope) (samples : List Sample) (j : ℕ) (sofar new : Sofar) (part : Part)
+    → 1024 * j ≤ length samples → AreCounted scope (front_of samples j) sofar → IsPartOf scope (j * 1024) (piece_samples samples j) part
+    → new.kept ≡ sofar.kept ++ part.kept → ((k : ℕ) → tally_at new.tallies k ≡ added (tally_at sofar.tallies k) (sums_of k part.sums))
+    → new.matched.slots ≡ either sofar.matched.slots part.matched.slots
+    → AreCounted scope (front_of samples (j + 1)) new
+piece_more scope samples j sofar new part here before is kept each matched =
+    subst (λ (r : List Sample). AreCounted scope r new) (sym (front_more samples j))
+    (record {
+      counted = counted_more scope 0 (j * 1024) (front_of samples j) (piece_samples samples j) (tally_at sofar.tallies) (tally_at new.tallies) sofar.kept new.kept part
+          (omega (arith, length-take-le (1024 * j) samples here)) before.counted is kept each;
+      matched = matches_more scope (front_of samples j) (piece_samples samples j) sofar.matched.slots part.matched.slots new.matched.slots matched before.matched is.matched;
+    })
 
 -- The outcome of a piece of the wave is the part of its samples.
 pub part_at : (job : Counting) (outcomes items : List Part) (i : ℕ) (part : Part)
@@ -173,9 +181,12 @@ pub piece_starts : (job : Counting) (i : ℕ) → i < job.pieces → 1024 * (job
 piece_starts job i here = omega (arith, job.within)
 
 -- before the first piece nothing is counted
-pub none_counted : (scope : Scope) (m : ℕ) (samples : List Sample) (at : ℕ → Tally) (kept : List ℕ) → m ≡ 0 → ((k : ℕ) → at k ≡ no_tally) → kept ≡ []
-    → CountedTo scope 0 1 (front_of samples m) at kept
-none_counted scope m samples at kept first none empty =
-    let start = counted_none scope 0 at kept none empty in
-    subst (λ (n : ℕ). CountedTo scope 0 1 (front_of samples n) at kept) (sym first)
-    (record { seen = start.seen; are = start.are; tallies = start.tallies; earlier = λ k. omega (arith, start.earlier k); kept = start.kept; rising = start.rising })
+pub none_counted : (scope : Scope) (m : ℕ) (samples : List Sample) (sofar : Sofar) → m ≡ 0 → ((k : ℕ) → tally_at sofar.tallies k ≡ no_tally) → sofar.kept ≡ []
+    → sofar.matched.slots ≡ no_matches → AreCounted scope (front_of samples m) sofar
+none_counted scope m samples sofar first none empty matched =
+    let start = counted_none scope 0 (tally_at sofar.tallies) sofar.kept none empty in
+    subst (λ (n : ℕ). AreCounted scope (front_of samples n) sofar) (sym first)
+    (record {
+      counted = record { seen = start.seen; are = start.are; tallies = start.tallies; earlier = λ k. omega (arith, start.earlier k); kept = start.kept; rising = start.rising };
+      matched = λ all f holds. matched ∙ none_match (profile_of scope) f (config_of scope);
+    })

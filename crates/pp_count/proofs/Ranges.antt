@@ -20,7 +20,7 @@ use Rattle.pp_count.specs.Seeing.{HoldsFilters, keys_of_stack, filtered_stack, s
 use Rattle.pp_count.specs.Tally.{no_tally, with_seen, IsTallyOf}
 use Rattle.pp_count.specs.Parts.{HasBelow}
 use Rattle.pp_count.specs.Edges.{counted_keys}
-use Rattle.pp_count.specs.Scope.{profile_of, config_of, keep_of, size_of, AreSeen, counted_as, CountedTo}
+use Rattle.pp_count.specs.Scope.{profile_of, config_of, over_of, size_of, AreSeen, counted_as, CountedTo}
 use Rattle.pp_count.specs.Rising.{AreRising}
 use Rattle.pp_count.proofs.Adding.{Added, added_more, sum_bound}
 use Rattle.pp_count.proofs.Rising.{rising_none, rising_high, rising_push}
@@ -135,7 +135,7 @@ counted_none scope number at kept none empty = record {
 -- one more sample that is kept
 pub counted_kept : (scope : Scope) (number i : ℕ) (samples : List Sample) (s : Sample) (keys : List ℕ) (at new : ℕ → Tally) (kept : List ℕ)
     → i < length samples → s ≡ get_or samples i s → IsSeen scope s true keys → All (λ k. k < length scope.table.now.names) keys
-    → ((k : ℕ) → new k ≡ with_seen (selected scope.column (config_of scope).divide_by s) (i + 1) (counted_keys (keep_of scope) keys) k (at k))
+    → ((k : ℕ) → new k ≡ with_seen (selected scope.column (config_of scope).divide_by s) (i + 1) (counted_keys (over_of scope) keys) k (at k))
     → CountedTo scope number i (take i samples) at kept → CountedTo scope number (i + 1) (take (i + 1) samples) new (kept ++ (number + i) ∷ [])
 counted_kept scope number i samples s keys at new kept here at_i is below each so_far =
     let more : List (Seen ℕ) = so_far.seen ++ by_numbers scope s keys ∷ [] in

@@ -44,7 +44,7 @@ rising_high low high more ns le is = record { from = is.from; below = λ i d her
 pub rising_none : (low high : ℕ) → AreRising low high []
 rising_none low high = record { from = All-nil (λ n. low ≤ n); below = All-nil (λ n. n < high); order = λ i j d before here. absurd (omega (arith, here)) }
 
-rising_one : (low high n : ℕ) (ns : List ℕ) → low ≤ n → n < high → AreRising (n + 1) high ns → AreRising low high (n ∷ ns)
+pub rising_one : (low high n : ℕ) (ns : List ℕ) → low ≤ n → n < high → AreRising (n + 1) high ns → AreRising low high (n ∷ ns)
 rising_one low high n ns above below rest = record {
   from = All-cons (λ m. low ≤ m) n ns above (λ i d here. omega (arith, above, rest.from i d here));
   below = All-cons (λ m. m < high) n ns below rest.below;

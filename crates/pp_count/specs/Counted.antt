@@ -13,13 +13,16 @@ use Rattle.pp_model.specs.Sizes.{IsCountable}
 use Rattle.pp_grain.specs.Keys.{IsKeyOf}
 use Rattle.pp_tags.specs.TagFilters.{HasItsTags, filter_in_force}
 use Rattle.pp_count.specs.declared.counted.Counted.{Counted}
+use Rattle.pp_count.specs.declared.scope.Scope.{Scope}
 use Rattle.pp_count.specs.declared.sums.Sums.{Sums}
+use Rattle.pp_count.specs.declared.sums.NumberedSums.{NumberedSums}
 use Rattle.pp_count.specs.Sums.{Seen, weighed}
 use Rattle.pp_count.specs.Seeing.{HoldsFilters, seen_samples, framed_samples, filtered_from}
 use Rattle.pp_count.specs.Matches.{matches_of}
 use Rattle.pp_count.specs.Counts.{AreSumsOf, total_of}
 use Rattle.pp_count.specs.Filters.{AreFilters}
 use Rattle.pp_count.specs.Rising.{AreRising}
+use Rattle.pp_count.specs.Scope.{profile_of, config_of}
 use Rattle.pp_count.specs.Table.{key_at, IsKeyTable}
 
 -- What a report counts of a profile can be counted: samples and columns are few, sums
@@ -54,6 +57,15 @@ pub record FitSums (sums : Sums) : Type 0 where
   pub flats : length sums.flat ≡ length sums.names
   pub cums : length sums.cum ≡ length sums.names
   pub small : sum_by nat_abs sums.flat < 2 ^ 63
+
+-- The sums of all samples of the scope are under the keys of these numbers. No public clause cites it.
+pub record AreKeyed (scope : Scope) (keyed : NumberedSums) : Type 0 where
+  pub sums : (f : Finders) → HoldsFilters scope.l.now scope.v.now (config_of scope) f
+      → AreSumsOf (profile_of scope) (report_samples (profile_of scope) f (config_of scope) scope.column) keyed.sums
+  pub fits : FitSums keyed.sums
+  pub of_profile : All (IsKeyOf (profile_of scope)) keyed.sums.names
+  pub names : keyed.sums.names ≡ map (key_at scope.table.now.names) keyed.numbers
+  pub numbered : All (λ n. n < length scope.table.now.names) keyed.numbers
 
 -- What is counted is what the report's samples come to, whatever its patterns find. What it was counted by is at hand.
 pub record IsCountedOf (l : Loaded) (v : Verdicts) (config : Config) (column : Option ℕ) (c : Counted)

@@ -13,10 +13,11 @@ use Rattle.pp_model.specs.declared.config.Config.{Config}
 use Rattle.pp_model.specs.declared.loaded.Loaded.{Loaded}
 use Rattle.pp_model.specs.declared.verdicts.Verdicts.{Verdicts}
 use Rattle.pp_model.specs.Finders.{Finders}
+use Rattle.pp_count.specs.declared.pairs.Pairing.{Pairing}
 use Rattle.pp_count.specs.declared.part.KeySum.{KeySum}
 use Rattle.pp_count.specs.Seeing.{HoldsFilters, seen_samples}
 use Rattle.pp_count.specs.Parts.{AreSums, HasBelow}
-use Rattle.pp_count.specs.Edges.{is_kept_key, paired}
+use Rattle.pp_count.specs.Edges.{is_kept_key, is_marked, paired}
 use Rattle.pp_count.specs.declared.edge.Edge.{Edge}
 
 module _ {K : Type 0} (order : K → K → Ordering) where
@@ -75,12 +76,29 @@ pub record AreEdgesOf (p : Profile) (samples : List (Seen Written)) (names : Lis
       } ∷ []
       else [])
 
--- The sums of pairs by their numbers, over the keys that are kept. No public clause cites it.
+-- The edges are those of these samples over the names that are kept, of which an end is marked: each pair that occurs has
+-- one, and no other has any.
+pub record AreEdgesAbout (p : Profile) (samples : List (Seen Written)) (names : List Key)
+    (keep marked : List Bool) (edges : List Edge) : Type 0 where
+  pub within : All (λ e. (e.from < length names) × (e.to < length names)) edges
+  pub each : (a b : ℕ) → a < length names → b < length names
+      → edges_between a b edges
+      ≡ (if (is_marked marked a || is_marked marked b)
+      && edge_occurs key_cmp (is_kept_name p names keep) samples (written_key p names a)
+      (written_key p names b)
+      then record {
+        from = a;
+        to = b;
+        value = edge_sum key_cmp (is_kept_name p names keep) samples (written_key p names a) (written_key p names b);
+      } ∷ []
+      else [])
+
+-- The sums of pairs by their numbers, over the keys that have a place. No public clause cites it.
 pub record HasPairSums (l : Loaded) (v : Verdicts) (config : Config) (column : Option ℕ)
-    (names : List Key) (keep : List Bool) (sums : List KeySum) : Type 0 where
+    (names : List Key) (over : Pairing) (sums : List KeySum) : Type 0 where
   pub seen : List (Seen ℕ)
   pub below : All (HasBelow (length names)) seen
   pub are : (f : Finders) → HoldsFilters l v config f
       → map (renamed (written_key l.profile names)) seen
       ≡ seen_samples l.profile f config column l.profile.sample
-  pub listed : AreSums (weighed (map (paired keep) seen)) sums
+  pub listed : AreSums (weighed (map (paired over) seen)) sums

@@ -12,6 +12,7 @@ use Rattle.pp_grain.specs.declared.key.Key.{Key}
 use Rattle.pp_grain.specs.Keys.{key_cmp}
 use Rattle.pp_count.specs.declared.part.KeySum.{KeySum}
 use Rattle.pp_count.specs.declared.part.Part.{Part}
+use Rattle.pp_count.specs.Matches.{matches_among}
 use Rattle.pp_count.specs.Parts.{sums_of, flat_size, cum_size}
 use Rattle.pp_count.specs.Seeing.{HoldsFilters, seen_samples, filtered_from, absolute_all}
 use Rattle.pp_count.specs.Sums.{Seen, flat, cum, occurs, weighed}
@@ -39,13 +40,15 @@ pub record AreWithin (size : ℕ) (sums : List KeySum) : Type 0 where
   pub cum : cum_size sums ≤ size
 
 -- The part is what these samples come to, of which the first has this number, whatever the patterns find: the numbers
--- of those that the filters leave, in order, and the sums of the names that occur in them.
+-- of those that the filters leave, in order, the sums of the names that occur in them, and the matches of all of them.
 pub record IsRangePart (l : Loaded) (v : Verdicts) (config : Config) (column : Option ℕ)
     (names : List Key) (number : ℕ) (samples : List Sample) (part : Part) : Type 0 where
   pub kept : (f : Finders) → HoldsFilters l v config f
       → part.kept ≡ filtered_from l.profile f config number samples
   pub sums : (f : Finders) → HoldsFilters l v config f
       → AreNamedSums l.profile names (weighed (seen_samples l.profile f config column samples)) part.sums
+  pub matched : (f : Finders) → HoldsFilters l v config f
+      → part.matched.slots ≡ matches_among l.profile f config samples
   pub within : (k : ℕ) → AreWithin (absolute_all column config.divide_by samples) (sums_of k part.sums)
 
 -- The parts are those of these ranges, one after the other, of which the first begins at this number.

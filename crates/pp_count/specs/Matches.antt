@@ -1,5 +1,5 @@
--- Which options of a report match something, over all loaded samples. Samples that other filters drop count too.
-use Rattle.std.specs.Prelude.{ℕ, Bool, true, false, List, [], ◌∷◌, Option}
+-- Which options of a report match something among samples. Samples that other filters drop count too.
+use Rattle.std.specs.Prelude.{ℕ, Bool, true, false, ◌||◌, List, [], ◌∷◌, drop, slice_index_or, Option}
 use Rattle.std.specs.List.{list_any}
 use Rattle.std.specs.Option.{option_map_or}
 use Rattle.pp_model.specs.declared.config.Config.{Config}
@@ -35,18 +35,32 @@ key_match p pattern samples =
 abbrev pub tag_match : Profile → List ℕ → List Finder → List Sample → Bool
 tag_match p text parts samples = list_any (selects_or false p (filter_in_force text) parts) samples
 
--- Whether each option has a match: focus, ignore, hide, show, show_from, tagfocus, tagignore, prune_from, tagshow and
--- taghide. prune_from is never without one.
-abbrev pub matches_of : Profile → Finders → Config → List Bool
-matches_of p f config =
-    frame_match p f f.focus p.sample
-    ∷ frame_match p f f.ignore p.sample
-    ∷ frame_match p f f.hide p.sample
-    ∷ frame_match p f f.show p.sample
-    ∷ frame_match p f f.show_from p.sample
-    ∷ tag_match p config.tagfocus f.tagfocus p.sample
-    ∷ tag_match p config.tagignore f.tagignore p.sample
+-- Whether each option has a match among these samples: focus, ignore, hide, show, show_from, tagfocus, tagignore,
+-- prune_from, tagshow and taghide. prune_from is never without one.
+abbrev pub matches_among : Profile → Finders → Config → List Sample → List Bool
+matches_among p f config samples =
+    frame_match p f f.focus samples
+    ∷ frame_match p f f.ignore samples
+    ∷ frame_match p f f.hide samples
+    ∷ frame_match p f f.show samples
+    ∷ frame_match p f f.show_from samples
+    ∷ tag_match p config.tagfocus f.tagfocus samples
+    ∷ tag_match p config.tagignore f.tagignore samples
     ∷ true
-    ∷ key_match p f.tagshow p.sample
-    ∷ key_match p f.taghide p.sample
+    ∷ key_match p f.tagshow samples
+    ∷ key_match p f.taghide samples
     ∷ []
+
+-- whether each option has a match among all loaded samples
+abbrev pub matches_of : Profile → Finders → Config → List Bool
+matches_of p f config = matches_among p f config p.sample
+
+-- the matches of no samples
+abbrev pub no_matches : List Bool
+no_matches = false ∷ false ∷ false ∷ false ∷ false ∷ false ∷ false ∷ true ∷ false ∷ false ∷ []
+
+-- the matches of two ranges of samples: slot by slot, those of either
+abbrev pub either : List Bool → List Bool → List Bool
+either [] others = []
+either (slot ∷ slots) others =
+    (slot || slice_index_or others 0 false) ∷ either slots (drop 1 others)

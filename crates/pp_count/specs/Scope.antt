@@ -1,5 +1,5 @@
 -- What a range of samples comes to, as its parts are made on the lanes.
-use Rattle.std.specs.Prelude.{◌≡◌, ℕ, ◌+◌, ◌<◌, ◌≤◌, ◌^◌, Bool, List, length, map, All, Option, MatchOption, option_map, ⊤}
+use Rattle.std.specs.Prelude.{◌≡◌, ℕ, ◌+◌, ◌<◌, ◌≤◌, ◌^◌, Bool, List, length, map, All, Option, None, MatchOption, option_map, ⊤}
 use Rattle.std.specs.Option.{option_map_or}
 use Rattle.pp_model.specs.declared.config.Config.{Config}
 use Rattle.pp_model.specs.declared.profile.Sample.{Sample}
@@ -8,15 +8,18 @@ use Rattle.pp_model.specs.Conditions.{HasVerdicts}
 use Rattle.pp_model.specs.Finders.{Finders}
 use Rattle.pp_count.specs.declared.scope.Scope.{Scope}
 use Rattle.pp_count.specs.declared.part.Part.{Part}
+use Rattle.pp_count.specs.declared.pairs.Pairing.{Pairing}
+use Rattle.pp_count.specs.declared.sofar.Sofar.{Sofar}
 use Rattle.pp_count.specs.declared.tally.Tally.{Tally}
 use Rattle.pp_count.specs.Filters.{AreFilters}
-use Rattle.pp_count.specs.Tally.{IsTallyOf}
+use Rattle.pp_count.specs.Tally.{IsTallyOf, tally_at}
 use Rattle.pp_count.specs.Table.{written_key, IsKeyTable}
 use Rattle.pp_count.specs.Sums.{Seen, weighed, absolute, renamed}
 use Rattle.pp_count.specs.Seeing.{HoldsFilters, seen_samples, filtered_from, absolute_all}
 use Rattle.pp_count.specs.Parts.{AreSums, HasBelow}
-use Rattle.pp_count.specs.Edges.{counted_keys}
+use Rattle.pp_count.specs.Edges.{counted_keys, HasPlaces}
 use Rattle.pp_count.specs.Counts.{samples_at}
+use Rattle.pp_count.specs.Matches.{matches_among}
 use Rattle.pp_count.specs.Rising.{AreRising}
 
 -- the profile whose samples are counted
@@ -27,9 +30,9 @@ profile_of scope = scope.l.now.profile
 abbrev pub config_of : Scope → Config
 config_of scope = scope.config.now
 
--- for each key number, whether pairs are counted over its key; none where keys are counted
-abbrev pub keep_of : Scope → Option (List Bool)
-keep_of scope = option_map (λ keep. keep.now) scope.over
+-- the keys that pairs are counted over; none where keys are counted
+abbrev pub over_of : Scope → Option Pairing
+over_of scope = option_map (λ over. over.now) scope.over
 
 -- the numbers of the samples that are counted; none where all are
 abbrev pub chosen_of : Scope → Option (List ℕ)
@@ -45,7 +48,7 @@ pub record IsSound (scope : Scope) : Type 0 where
   pub filters : AreFilters (profile_of scope) scope.v.now (config_of scope) scope.filters.now
   pub verdicts : HasVerdicts (profile_of scope) scope.v.now
   pub table : IsKeyTable (profile_of scope) (config_of scope) scope.table.now
-  pub few_kept : MatchOption (keep_of scope) ⊤ (λ keep. length keep < 2 ^ 32)
+  pub few_kept : MatchOption (over_of scope) ⊤ HasPlaces
   pub chosen : MatchOption (chosen_of scope) ⊤ (AreRising 0 (length (profile_of scope).sample))
 
 -- the sum of the absolute selected values of the samples
@@ -67,7 +70,13 @@ pub record AreSeen (scope : Scope) (samples : List Sample) (seen : List (Seen �
 
 -- the sample with what is counted of its keys
 abbrev pub counted_as : Scope → Seen ℕ → Seen ℕ
-counted_as scope s = record { value = s.value; keys = counted_keys (keep_of scope) s.keys }
+counted_as scope s = record { value = s.value; keys = counted_keys (over_of scope) s.keys }
+
+-- The slots are the matches of these samples. Samples that are chosen are not searched.
+abbrev pub HasMatches : Scope → List Sample → List Bool → Type 0
+HasMatches scope samples slots =
+    scope.chosen ≡ None → (f : Finders) → HoldsFilters scope.l.now scope.v.now (config_of scope) f
+    → slots ≡ matches_among (profile_of scope) f (config_of scope) samples
 
 -- The part is that of these samples, of which the first has this number.
 pub record IsPartOf (scope : Scope) (number : ℕ) (samples : List Sample) (part : Part)
@@ -78,6 +87,7 @@ pub record IsPartOf (scope : Scope) (number : ℕ) (samples : List Sample) (part
   pub kept : (f : Finders) → HoldsFilters scope.l.now scope.v.now (config_of scope) f
       → part.kept ≡ filtered_from (profile_of scope) f (config_of scope) number samples
   pub rising : AreRising number (number + length samples) part.kept
+  pub matched : HasMatches scope samples part.matched.slots
 
 -- The samples so far are added to the tallies, none of them at a turn after this one, and the numbers of those that the
 -- filters leave are listed. No public clause cites it.
@@ -90,3 +100,8 @@ pub record CountedTo (scope : Scope) (number turn : ℕ) (samples : List Sample)
   pub kept : (f : Finders) → HoldsFilters scope.l.now scope.v.now (config_of scope) f
       → numbers ≡ filtered_from (profile_of scope) f (config_of scope) number samples
   pub rising : AreRising number (number + length samples) numbers
+
+-- These samples are added up, and searched for matches. No public clause cites it.
+pub record AreCounted (scope : Scope) (samples : List Sample) (sofar : Sofar) : Type 0 where
+  pub counted : CountedTo scope 0 1 samples (tally_at sofar.tallies) sofar.kept
+  pub matched : HasMatches scope samples sofar.matched.slots

@@ -1,21 +1,14 @@
 //! What a report's samples come to.
-ghost use Rattle.std.specs.Prelude.{◌≡◌, ◌<◌, ◌^◌, None, length, map, All, IfOk};
-ghost use Rattle.pp_model.specs.Conditions.{HasVerdicts, IsColumnOf};
+ghost use Rattle.std.specs.Prelude.{◌≡◌, ◌<◌, ◌^◌, None, IfOk};
 ghost use Rattle.pp_model.specs.Finders.{Finders};
-ghost use Rattle.pp_model.specs.Sizes.{IsCountable};
-ghost use Rattle.pp_grain.specs.Keys.{IsKeyOf};
-ghost use Rattle.pp_count.specs.Seeing.{HoldsFilters, filtered_from, absolute_all};
-ghost use Rattle.pp_count.specs.Matches.{matches_of};
-ghost use Rattle.pp_count.specs.Counts.{AreSumsOf, total_of};
-ghost use Rattle.pp_count.specs.Filters.{AreFilters};
-ghost use Rattle.pp_count.specs.Counted.{CanCount, FitSums, IsCountedOf, report_samples};
-ghost use Rattle.pp_count.specs.Rising.{AreRising};
-ghost use Rattle.pp_count.specs.Table.{key_at, IsKeyTable};
+ghost use Rattle.pp_count.specs.Seeing.{filtered_from, absolute_all};
+ghost use Rattle.pp_count.specs.Counts.{total_of};
+ghost use Rattle.pp_count.specs.Counted.{CanCount, AreKeyed, IsCountedOf};
 ghost use Rattle.pp_count.specs.Scope.{IsSound, CountedTo, size_of};
 ghost use Rattle.pp_count.specs.Tally.{tally_at};
 
 use crate::filters::Filters;
-use crate::matched::{Matched, matches};
+use crate::matched::Matched;
 use crate::scope::Scope;
 use crate::sofar::Sofar;
 use crate::sums::{NumberedSums, Sums, sums_by_keys};
@@ -64,61 +57,19 @@ pub fn count<R: Threads + Sync, G: Gate>(
 {
     let table = key_table(alloc, l, config)?;
     let filters = Filters::new(alloc, l, v, config)?;
-    let (sofar, keyed) = count_by(rt, alloc, l, v, config, &filters, column, &table, gate)?;
-    let matched = matches(alloc, l, v, config, &filters)?;
+    let scope = Scope::whole(l, v, config, &filters, column, &table);
+    let sofar = count_all(rt, alloc, &scope, gate)?;
+    let keyed = sums_so_far(alloc, &scope, &sofar)?;
     let total = report_total(l, config, column, sofar.kept.as_slice());
     Ok(Counted {
         kept: sofar.kept,
         sums: keyed.sums,
-        matched,
+        matched: sofar.matched,
         total,
         table,
         filters,
         numbers: keyed.numbers,
     })
-}
-
-// What all samples come to, by this table of the profile's keys and these filters.
-fn count_by<'x, R: Threads + Sync, G: Gate>(
-    rt: &R,
-    alloc: Global,
-    l: &'x Loaded,
-    v: &'x Verdicts,
-    config: &'x Config,
-    filters: &'x Filters,
-    column: Option<u32>,
-    table: &'x KeyTable,
-    gate: &G,
-) -> Result<(Sofar, NumberedSums), Memory>
-    requires countable { IsCountable l.now.profile }
-    requires column { IsColumnOf l.now.profile column }
-    requires verdicts { HasVerdicts l.now.profile v.now }
-    requires filters { AreFilters l.now.profile v.now config.now filters.now }
-    requires table { IsKeyTable l.now.profile config.now table.now }
-    ensures kept { (f : Finders) → HoldsFilters l.now v.now config.now f →
-        IfOk result (λ c. c.0.kept ≡ filtered_from l.now.profile f config.now 0 l.now.profile.sample) }
-    ensures sums { (f : Finders) → HoldsFilters l.now v.now config.now f →
-        IfOk result (λ c. AreSumsOf l.now.profile
-        (report_samples l.now.profile f config.now column) c.1.sums) }
-    ensures fits { IfOk result (λ c. FitSums c.1.sums) }
-    ensures of_profile { IfOk result (λ c. All (IsKeyOf l.now.profile) c.1.sums.names) }
-    ensures rising { IfOk result (λ c. AreRising 0 (length l.now.profile.sample) c.0.kept) }
-    ensures names { IfOk result (λ c. c.1.sums.names ≡ map (key_at table.now.names) c.1.numbers) }
-    ensures numbered { IfOk result (λ c. All (λ n. n < length table.now.names) c.1.numbers) }
-{
-    let scope = Scope {
-        l,
-        v,
-        config,
-        filters,
-        column,
-        table,
-        over: None,
-        chosen: None,
-    };
-    let sofar = count_all(rt, alloc, &scope, gate)?;
-    let keyed = sums_so_far(alloc, &scope, &sofar)?;
-    Ok((sofar, keyed))
 }
 
 // What percentages are taken of, where these are the numbers of the samples that the filters leave.
@@ -142,18 +93,7 @@ fn sums_so_far(alloc: Global, scope: &Scope, sofar: &Sofar) -> Result<NumberedSu
     requires keys { scope.now.over ≡ None }
     requires counted { CountedTo scope.now 0 1 scope.now.l.now.profile.sample
         (tally_at sofar.now.tallies) sofar.now.kept }
-    ensures sums { (f : Finders) →
-        HoldsFilters scope.now.l.now scope.now.v.now scope.now.config.now f →
-        IfOk result (λ keyed. AreSumsOf scope.now.l.now.profile
-        (report_samples scope.now.l.now.profile f scope.now.config.now scope.now.column)
-        keyed.sums) }
-    ensures fits { IfOk result (λ keyed. FitSums keyed.sums) }
-    ensures of_profile { IfOk result (λ keyed.
-        All (IsKeyOf scope.now.l.now.profile) keyed.sums.names) }
-    ensures names { IfOk result (λ keyed.
-        keyed.sums.names ≡ map (key_at scope.now.table.now.names) keyed.numbers) }
-    ensures numbered { IfOk result (λ keyed.
-        All (λ n. n < length scope.now.table.now.names) keyed.numbers) }
+    ensures { IfOk result (AreKeyed scope.now) }
 {
     let _compact = scope.l.profile.get();
     let entries = entries(alloc, &sofar.tallies)?;

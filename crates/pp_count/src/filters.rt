@@ -1,12 +1,16 @@
 //! The filters of a report, made ready for its samples.
-ghost use Rattle.std.specs.Prelude.{◌≡◌, IfOk};
+ghost use Rattle.std.specs.Prelude.{◌≡◌, IfOk, Option, List as Seq, Bool};
+ghost use Rattle.std.specs.List.{list_any};
 ghost use Rattle.pp_model.specs.Conditions.{HasVerdicts};
 ghost use Rattle.pp_tags.specs.TagFilters.{HasItsTags, filter_in_force};
-ghost use Rattle.pp_count.specs.Filters.{AreFilters};
+ghost use Rattle.pp_model.specs.declared.profile.Profile.{Profile};
+ghost use Rattle.pp_model.specs.declared.verdicts.Verdicts.{Verdicts};
+ghost use Rattle.pp_stack.specs.Tables.{AreTables, FitsPattern};
+ghost use Rattle.pp_count.specs.Filters.{AreFilters, AreReached, IsReach};
 
 use pp_base::Memory;
 use pp_model::{Config, Loaded, Verdicts};
-use pp_stack::VerdictTables;
+use pp_stack::{VerdictTable, VerdictTables};
 use pp_tags::TagFilter;
 use std::alloc::Global;
 
@@ -19,6 +23,19 @@ pub struct Filters {
     pub tagignore: Option<TagFilter>,
     /// What the patterns on frames find of each line.
     pub tables: VerdictTables,
+    /// Which of those patterns may find a line.
+    pub reach: Reach,
+}
+
+/// For each pattern on frames, whether it may find a line of the profile. One that finds none has no match, and isn't
+/// searched for.
+#[derive(Clone, Copy, Debug, PartialEq, Eq)]
+pub struct Reach {
+    pub focus: bool,
+    pub ignore: bool,
+    pub hide: bool,
+    pub show: bool,
+    pub show_from: bool,
 }
 
 impl Filters {
@@ -55,12 +72,47 @@ fn with_tables(alloc: Global, config: &Config, tables: VerdictTables) -> Result<
     ensures focus { IfOk result (λ filters. filters.tagfocus ≡ filter_in_force config.now.tagfocus) }
     ensures ignore { IfOk result (λ filters. filters.tagignore ≡ filter_in_force config.now.tagignore) }
     ensures tables { IfOk result (λ filters. filters.tables ≡ tables) }
+    ensures reach { (p : Profile) → (v : Verdicts) → AreTables p v tables →
+        IfOk result (λ filters. AreReached p v filters.reach) }
 {
+    let reach = reach_of(&tables);
     let tagfocus = TagFilter::in_force(alloc, config.tagfocus.as_slice())?;
     let tagignore = TagFilter::in_force(alloc, config.tagignore.as_slice())?;
     Ok(Filters {
         tagfocus,
         tagignore,
         tables,
+        reach,
     })
+}
+
+// Which of the patterns may find a line, by these tables.
+fn reach_of(tables: &VerdictTables) -> Reach
+    ensures { (p : Profile) → (v : Verdicts) → AreTables p v tables.now → AreReached p v result }
+{
+    Reach {
+        focus: reaches(&tables.focus),
+        ignore: reaches(&tables.ignore),
+        hide: reaches(&tables.hide),
+        show: reaches(&tables.show),
+        show_from: reaches(&tables.show_from),
+    }
+}
+
+// Whether a pattern may find a line. Without a table that isn't known.
+fn reaches(table: &Option<VerdictTable>) -> bool
+    ensures { (p : Profile) → (texts : Option (Seq Bool)) → FitsPattern p texts table.now →
+        IsReach p texts result }
+{
+    match table {
+        None => true,
+        Some(table) => finds_line(table),
+    }
+}
+
+// Whether the table's pattern finds a line.
+fn finds_line(table: &VerdictTable) -> bool
+    ensures { result ≡ list_any (λ found. found) table.now.found }
+{
+    table.found.as_slice().iter().any(|found| *found)
 }

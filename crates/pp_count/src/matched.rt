@@ -1,21 +1,22 @@
 //! Which options of a report match something.
-ghost use Rattle.std.specs.Prelude.{◌≡◌, length, All, IfOk, Option, List as Seq, false};
+ghost use Rattle.std.specs.Prelude.{◌≡◌, ◌+◌, ◌<◌, ◌≤◌, ◌^◌, length, take, drop, slice_index_or, All, IfOk, Option, List as Seq, false};
 ghost use Rattle.std.specs.List.{list_any};
 ghost use Rattle.std.specs.Option.{ForSome, option_map_or};
-ghost use Rattle.pp_model.specs.Conditions.{HasOnePerText, HasVerdicts, IsSampleOf, RefersTo};
+ghost use Rattle.pp_model.specs.Conditions.{HasOnePerText, IsSampleOf, RefersTo};
 ghost use Rattle.pp_model.specs.Finders.{Finder, Finders};
 ghost use Rattle.pp_model.specs.Judged.{judged};
 ghost use Rattle.pp_stack.specs.Filters.{AreVerdicts};
 ghost use Rattle.pp_stack.specs.Tables.{FitsPattern, IsVerdictTable};
 ghost use Rattle.pp_tags.specs.TagFilters.{AreTagVerdicts, HasItsTags, selects_or};
-ghost use Rattle.pp_count.specs.Filters.{AreFilters};
+ghost use Rattle.pp_count.specs.Filters.{IsReach};
 ghost use Rattle.pp_count.specs.Seeing.{HoldsFilters};
-ghost use Rattle.pp_count.specs.Matches.{stack_has, label_has, frame_match, key_match, matches_of};
+ghost use Rattle.pp_count.specs.Matches.{stack_has, label_has, frame_match, key_match, matches_among, no_matches, either};
+ghost use Rattle.pp_count.specs.Scope.{IsSound, HasMatches, samples_of};
 
-use crate::filters::Filters;
 use crate::finding::finds_key;
+use crate::scope::Scope;
 use pp_base::{List, Memory};
-use pp_model::{Config, Loaded, Sample, Stack, Tag, Verdicts, frames_into};
+use pp_model::{Loaded, Sample, Stack, Tag, frames_into};
 use pp_stack::{VerdictTable, finds_some, load_prune};
 use pp_tags::{TagFilter, selects};
 use std::alloc::Global;
@@ -28,31 +29,90 @@ pub struct Matched {
     pub slots: List<bool>,
 }
 
-/// The matches over all loaded samples. What other filters drop counts too.
-pub(crate) fn matches(
-    alloc: Global,
-    l: &Loaded,
-    v: &Verdicts,
-    config: &Config,
-    filters: &Filters,
-) -> Result<Matched, Memory>
-    requires verdicts { HasVerdicts l.now.profile v.now }
-    requires filters { AreFilters l.now.profile v.now config.now filters.now }
-    ensures { (f : Finders) → HoldsFilters l.now v.now config.now f →
-        IfOk result (λ m. m.slots ≡ matches_of l.now.profile f config.now) }
+impl Matched {
+    /// The matches of no samples.
+    pub(crate) fn none(alloc: Global) -> Result<Matched, Memory>
+        ensures { IfOk result (λ none. none.slots ≡ no_matches) }
+    {
+        let mut slots = List::new(alloc);
+        slots.extend(&[
+            false, false, false, false, false, false, false, true, false, false,
+        ])?;
+        Ok(Matched { slots })
+    }
+
+    /// The matches of two ranges of samples.
+    pub(crate) fn or(&self, alloc: Global, others: &Matched) -> Result<Matched, Memory>
+        ensures { IfOk result (λ both. both.slots ≡ either self.now.slots others.now.slots) }
+    {
+        let mut slots = List::new(alloc);
+        for (place, slot) in self.slots.as_slice().iter().enumerate() {
+            slots.push(*slot || has_slot(others, place))?;
+        }
+        Ok(Matched { slots })
+    }
+}
+
+// Whether the slot at the place has a match.
+fn has_slot(matched: &Matched, place: usize) -> bool
+    ensures { result ≡ slice_index_or matched.now.slots place false }
 {
+    match matched.slots.as_slice().get(place) {
+        None => false,
+        Some(slot) => *slot,
+    }
+}
+
+/// The matches of so many samples, of which the first has this number. Chosen samples are not searched.
+pub(crate) fn range_matches(
+    alloc: Global,
+    scope: &Scope,
+    first: u32,
+    count: u32,
+) -> Result<Matched, Memory>
+    requires sound { IsSound scope.now }
+    requires few { length (samples_of scope.now) < 2 ^ 32 }
+    requires within { first + count ≤ length (samples_of scope.now) }
+    ensures { IfOk result (λ m.
+        HasMatches scope.now (take count (drop first (samples_of scope.now))) m.slots) }
+{
+    match scope.chosen {
+        Some(_) => Ok(Matched {
+            slots: List::new(alloc),
+        }),
+        None => {
+            let samples = scope.l.profile.get().sample.as_slice();
+            let range = &samples[first as usize..first as usize + count as usize];
+            let found = matches(alloc, scope, range)?;
+            Ok(found)
+        }
+    }
+}
+
+// The matches of these samples. What other filters drop counts too.
+fn matches(alloc: Global, scope: &Scope, samples: &[Sample]) -> Result<Matched, Memory>
+    requires sound { IsSound scope.now }
+    requires members { All (IsSampleOf scope.now.l.now.profile) samples.now }
+    requires refers { All (RefersTo scope.now.l.now.profile) samples.now }
+    ensures { (f : Finders) →
+        HoldsFilters scope.now.l.now scope.now.v.now scope.now.config.now f →
+        IfOk result (λ m. m.slots
+        ≡ matches_among scope.now.l.now.profile f scope.now.config.now samples.now) }
+{
+    let (l, v) = (scope.l, scope.v);
+    let filters = scope.filters;
+    let (tables, reach) = (&filters.tables, &filters.reach);
     let mut slots = List::new(alloc);
-    let tables = &filters.tables;
-    slots.push(some_frame(alloc, l, &v.focus, &tables.focus)?)?;
-    slots.push(some_frame(alloc, l, &v.ignore, &tables.ignore)?)?;
-    slots.push(some_frame(alloc, l, &v.hide, &tables.hide)?)?;
-    slots.push(some_frame(alloc, l, &v.show, &tables.show)?)?;
-    slots.push(some_frame(alloc, l, &v.show_from, &tables.show_from)?)?;
-    slots.push(some_selected(l, &filters.tagfocus, &v.tag, &v.tagfocus))?;
-    slots.push(some_selected(l, &filters.tagignore, &v.tag, &v.tagignore))?;
+    slots.push(some_frame(alloc, l, &v.focus, &tables.focus, reach.focus, samples)?)?;
+    slots.push(some_frame(alloc, l, &v.ignore, &tables.ignore, reach.ignore, samples)?)?;
+    slots.push(some_frame(alloc, l, &v.hide, &tables.hide, reach.hide, samples)?)?;
+    slots.push(some_frame(alloc, l, &v.show, &tables.show, reach.show, samples)?)?;
+    slots.push(some_frame(alloc, l, &v.show_from, &tables.show_from, reach.show_from, samples)?)?;
+    slots.push(some_selected(l, &filters.tagfocus, &v.tag, &v.tagfocus, samples))?;
+    slots.push(some_selected(l, &filters.tagignore, &v.tag, &v.tagignore, samples))?;
     slots.push(true)?;
-    slots.push(some_key(l, &v.tagshow))?;
-    slots.push(some_key(l, &v.taghide))?;
+    slots.push(some_key(l, &v.tagshow, samples))?;
+    slots.push(some_key(l, &v.taghide, samples))?;
     Ok(Matched { slots })
 }
 
@@ -62,19 +122,27 @@ fn some_frame(
     l: &Loaded,
     found: &Option<List<bool>>,
     table: &Option<VerdictTable>,
+    reaches: bool,
+    samples: &[Sample],
 ) -> Result<bool, Memory>
+    requires refers { All (RefersTo l.now.profile) samples.now }
     requires fits { HasOnePerText l.now.profile found.now }
     requires table { FitsPattern l.now.profile found.now table.now }
+    requires reach { IsReach l.now.profile found.now reaches }
     ensures { (f : Finders) → l.now.drop ≡ judged l.now.profile f.drop →
         l.now.keep ≡ judged l.now.profile f.keep →
         (pattern : Option Finder) → found.now ≡ judged l.now.profile pattern →
-        IfOk result (λ some. some ≡ frame_match l.now.profile f pattern l.now.profile.sample) }
+        IfOk result (λ some. some ≡ frame_match l.now.profile f pattern samples.now) }
 {
     let Some(found) = found else {
         return Ok(false);
     };
-    let some = some_stack(alloc, l, found, table, l.profile.get().sample.as_slice())?;
-    Ok(some)
+    if !reaches {
+        // The stacks have frames of the profile alone.
+        let _compact = l.profile.get();
+        return Ok(false);
+    }
+    some_stack(alloc, l, found, table, samples)
 }
 
 fn some_stack(
@@ -128,13 +196,14 @@ fn some_selected(
     filter: &Option<TagFilter>,
     tag: &List<Tag>,
     parts: &List<List<bool>>,
+    samples: &[Sample],
 ) -> bool
-    requires { HasItsTags l.now.profile tag.now filter.now }
+    requires members { All (IsSampleOf l.now.profile) samples.now }
+    requires tags { HasItsTags l.now.profile tag.now filter.now }
     ensures { (finders : Seq Finder) →
         AreTagVerdicts l.now.profile tag.now filter.now finders parts.now →
-        result ≡ list_any (selects_or false l.now.profile filter.now finders) l.now.profile.sample }
+        result ≡ list_any (selects_or false l.now.profile filter.now finders) samples.now }
 {
-    let samples = l.profile.get().sample.as_slice();
     for s in samples {
         if selects_or(l, filter, tag, parts, s) {
             return true;
@@ -163,21 +232,22 @@ fn selects_or(
 }
 
 // Whether the pattern, where it is in force, finds the key of some label.
-fn some_key(l: &Loaded, found: &Option<List<bool>>) -> bool
+fn some_key(l: &Loaded, found: &Option<List<bool>>, samples: &[Sample]) -> bool
+    requires { All (IsSampleOf l.now.profile) samples.now }
     ensures { (pattern : Option Finder) → found.now ≡ judged l.now.profile pattern →
-        result ≡ key_match l.now.profile pattern l.now.profile.sample }
+        result ≡ key_match l.now.profile pattern samples.now }
 {
     let Some(found) = found else {
         return false;
     };
-    some_label(l, found)
+    some_label(l, found, samples)
 }
 
-fn some_label(l: &Loaded, found: &List<bool>) -> bool
+fn some_label(l: &Loaded, found: &List<bool>, samples: &[Sample]) -> bool
+    requires { All (IsSampleOf l.now.profile) samples.now }
     ensures { (find : Finder) → AreVerdicts l.now.profile found.now find →
-        result ≡ list_any (label_has l.now.profile find) l.now.profile.sample }
+        result ≡ list_any (label_has l.now.profile find) samples.now }
 {
-    let samples = l.profile.get().sample.as_slice();
     for s in samples {
         if has_key(l, found, s) {
             return true;

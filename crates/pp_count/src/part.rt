@@ -3,8 +3,9 @@ ghost use Rattle.std.specs.Prelude.{◌≡◌, ℕ, ◌+◌, ◌<◌, ◌≤◌,
 ghost use Rattle.pp_count.specs.Column.{selected};
 ghost use Rattle.pp_count.specs.Edges.{counted_keys};
 ghost use Rattle.pp_count.specs.Tally.{tally_at, no_tally, with_seen};
-ghost use Rattle.pp_count.specs.Scope.{keep_of, samples_of, IsSound, AreCountable, IsPartOf, CountedTo};
+ghost use Rattle.pp_count.specs.Scope.{over_of, samples_of, IsSound, AreCountable, IsPartOf, CountedTo};
 
+use crate::matched::{Matched, range_matches};
 use crate::pairs::gather_pairs;
 use crate::scope::{Scope, sample_at};
 use crate::seeing::see;
@@ -32,6 +33,8 @@ pub struct Part {
     pub kept: List<u32>,
     /// The sums of each key that occurs, once.
     pub sums: List<KeySum>,
+    /// Which options have a match among all of the range's samples.
+    pub matched: Matched,
 }
 
 /// Counts so many samples, of which the first stands at this place among those that are counted.
@@ -44,7 +47,12 @@ pub fn count_range(alloc: Global, scope: &Scope, first: u32, count: u32) -> Resu
     let mut tallies = Tallies::new(alloc, scope.numbers())?;
     let kept = add_samples(alloc, scope, &mut tallies, first, count)?;
     let sums = entries(alloc, &tallies)?;
-    Ok(Part { kept, sums })
+    let matched = range_matches(alloc, scope, first, count)?;
+    Ok(Part {
+        kept,
+        sums,
+        matched,
+    })
 }
 
 // Adds the samples that the filters leave to tallies that have none yet. The places of those samples.
@@ -95,12 +103,12 @@ fn add_seen(
         + nat_abs (selected scope.now.column scope.now.config.now.divide_by sample.now) < 2 ^ 63 }
     ensures { IfOk result (λ _. (k : ℕ) → tally_at tallies.new k
         ≡ with_seen (selected scope.now.column scope.now.config.now.divide_by sample.now) turn
-        (counted_keys (keep_of scope.now) keys.now) k (tally_at tallies.old k)) }
+        (counted_keys (over_of scope.now) keys.now) k (tally_at tallies.old k)) }
 {
     let value = selected(scope.l, sample, scope.column, scope.config.divide_by);
-    let Some(keep) = scope.over else {
+    let Some(over) = scope.over else {
         return add_sample(tallies, value, keys, turn);
     };
-    gather_pairs(pairs, keys, keep)?;
+    gather_pairs(pairs, keys, over)?;
     add_sample(tallies, value, pairs, turn)
 }

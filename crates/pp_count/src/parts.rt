@@ -1,9 +1,6 @@
 //! The part of one piece, and the part of pieces joined, for callers that run the pieces themselves.
 ghost use Rattle.std.specs.Prelude.{◌≡◌, ◌*◌, ◌<◌, length, IfOk};
-ghost use Rattle.pp_model.specs.Conditions.{HasVerdicts, IsColumnOf};
-ghost use Rattle.pp_model.specs.Sizes.{IsCountable};
 ghost use Rattle.pp_count.specs.Counted.{CanCount};
-ghost use Rattle.pp_count.specs.Filters.{AreFilters};
 ghost use Rattle.pp_count.specs.Joined.{IsRangePart, CanJoin, IsJoinedPart};
 ghost use Rattle.pp_count.specs.Parts.{piece_samples};
 ghost use Rattle.pp_count.specs.Table.{IsKeyTable};
@@ -35,42 +32,9 @@ pub fn count_piece(
     ensures { IfOk result (IsRangePart l.now v.now config.now column table.now.names
         (1024 * piece) (piece_samples l.now.profile.sample piece)) }
 {
-    let filters = Filters::without_tables(alloc, l, v, config)?;
-    let part = count_piece_by(alloc, l, v, config, &filters, column, table, piece)?;
-    Ok(part)
-}
-
-// The part of the piece, by these filters.
-fn count_piece_by<'x>(
-    alloc: Global,
-    l: &'x Loaded,
-    v: &'x Verdicts,
-    config: &'x Config,
-    filters: &'x Filters,
-    column: Option<u32>,
-    table: &'x KeyTable,
-    piece: u32,
-) -> Result<Part, Memory>
-    requires countable { IsCountable l.now.profile }
-    requires column { IsColumnOf l.now.profile column }
-    requires verdicts { HasVerdicts l.now.profile v.now }
-    requires filters { AreFilters l.now.profile v.now config.now filters.now }
-    requires table { IsKeyTable l.now.profile config.now table.now }
-    requires starts { 1024 * piece < length l.now.profile.sample }
-    ensures { IfOk result (IsRangePart l.now v.now config.now column table.now.names
-        (1024 * piece) (piece_samples l.now.profile.sample piece)) }
-{
     let _compact = l.profile.get();
-    let scope = Scope {
-        l,
-        v,
-        config,
-        filters,
-        column,
-        table,
-        over: None,
-        chosen: None,
-    };
+    let filters = Filters::without_tables(alloc, l, v, config)?;
+    let scope = Scope::whole(l, v, config, &filters, column, table);
     let part = count_piece_of(alloc, &scope, piece)?;
     Ok(part)
 }
@@ -84,7 +48,7 @@ pub fn join_parts(alloc: Global, parts: List<Part>) -> Result<Part, Memory>
     // The parts don't tell how many key numbers there are.
     let mut sofar = Sofar::new(alloc, 0)?;
     for part in parts.as_slice() {
-        sofar.add(part)?;
+        sofar.add(alloc, part)?;
     }
     let whole = sofar.into_part(alloc)?;
     Ok(whole)

@@ -1,24 +1,31 @@
 //! The edges between the keys that are kept.
-ghost use Rattle.std.specs.Prelude.{◌≡◌, ◌*◌, ◌<◌, ◌^◌, length, map, All, IfOk};
+ghost use Rattle.std.specs.Prelude.{◌≡◌, ◌++◌, ◌*◌, ◌<◌, ◌^◌, [], ◌∷◌, if◌then◌else◌, None, length, map, replicate, slice_index_or, All, IfOk};
 ghost use Rattle.pp_model.specs.Finders.{Finders};
 ghost use Rattle.pp_count.specs.Seeing.{HoldsFilters};
 ghost use Rattle.pp_count.specs.Counted.{CanCount, IsCountedOf, report_samples};
-ghost use Rattle.pp_count.specs.Table.{IsKeyTable};
-ghost use Rattle.pp_count.specs.Edges.{edge_of_sum};
-ghost use Rattle.pp_count.specs.EdgeSums.{AreEdgesOf, HasPairSums};
+ghost use Rattle.pp_count.specs.Edges.{is_kept_key, is_marked, edge_of_sum, AreOnce, ArePlaces, HasPlaces};
+ghost use Rattle.pp_count.specs.EdgeSums.{AreEdgesOf, AreEdgesAbout, HasPairSums, kept_numbers};
 
 use crate::counted::Counted;
 use crate::edge::Edge;
+use crate::pairs::Pairing;
 use crate::part::KeySum;
 use crate::scope::Scope;
-use crate::table::{KeyTable, table_after};
 use crate::tallies::entries;
 use crate::waves::count_all;
 use pp_base::{Gate, List, Memory};
-use pp_grain::Names;
 use pp_model::{Config, Loaded, Verdicts};
 use std::alloc::Global;
 use std::thread::Threads;
+
+/// Which names an edge may join.
+#[derive(Clone, Copy)]
+pub struct Ends<'k, 'm> {
+    /// For each name, whether it is kept. The others are left out of each stack.
+    pub keep: &'k [bool],
+    /// For each name, whether it is marked. An edge of two names that aren't is left out.
+    pub marked: &'m [bool],
+}
 
 /// The edges between the names of `counted` that are kept, after the other keys are left out of each stack: for each
 /// pair that occurs, the sum over the samples in which it does. `keep` has one entry per name. `Err` is want of memory.
@@ -45,32 +52,53 @@ pub fn recount<R: Threads + Sync, G: Gate>(
     ensures within { IfOk result (All (λ e.
         (e.from < length counted.now.sums.names) × (e.to < length counted.now.sums.names))) }
 {
-    let _compact = l.profile.get();
+    // Both ends of an edge are kept.
     let keep = keep.as_slice();
-    // The number of a pair has to fit.
-    if keep.len() >= 1 << 32 {
-        return Err(Memory);
-    }
-    let names = same_names(alloc, &counted.sums.names)?;
-    let table = table_after(alloc, l, config, names)?;
-    let sums = pair_sums(rt, alloc, l, v, counted, config, column, &table, keep, gate)?;
-    let edges = edges_of(alloc, sums.as_slice(), keep.len() as u64)?;
+    let ends = Ends { keep, marked: keep };
+    let edges = recount_about(rt, alloc, l, v, counted, &ends, config, column, gate)?;
     Ok(edges)
 }
 
-// The same names, with their numbers.
-fn same_names(alloc: Global, names: &Names) -> Result<Names, Memory>
-    ensures { IfOk result (λ same. same ≡ names.now) }
+/// The edges of `recount` of which an end is marked: all of them, where each name that is kept is. No other pair is
+/// counted, so that a few names cost a few sums.
+pub fn recount_about<R: Threads + Sync, G: Gate>(
+    rt: &R,
+    alloc: Global,
+    l: &Loaded,
+    v: &Verdicts,
+    counted: &Counted,
+    ends: &Ends,
+    config: &Config,
+    column: Option<u32>,
+    gate: &G,
+) -> Result<List<Edge>, Memory>
+    requires can { CanCount l.now.profile v.now config.now column }
+    requires counted { IsCountedOf l.now v.now config.now column counted.now }
+    requires keep { length ends.now.keep.now ≡ length counted.now.sums.names }
+    ensures edges { (f : Finders) → HoldsFilters l.now v.now config.now f →
+        IfOk result (λ edges. AreEdgesAbout l.now.profile
+        (report_samples l.now.profile f config.now column)
+        counted.now.sums.names ends.now.keep.now ends.now.marked.now edges) }
+    ensures all { (f : Finders) → HoldsFilters l.now v.now config.now f →
+        ends.now.keep.now ≡ ends.now.marked.now →
+        IfOk result (λ edges. AreEdgesOf l.now.profile
+        (report_samples l.now.profile f config.now column)
+        counted.now.sums.names ends.now.keep.now edges) }
+    ensures within { IfOk result (All (λ e.
+        (e.from < length counted.now.sums.names) × (e.to < length counted.now.sums.names))) }
 {
-    let mut same = Names::new(alloc)?;
-    for number in 0..names.len() {
-        let key = names.key(number);
-        same.number(key)?;
-    }
-    Ok(same)
+    let _compact = l.profile.get();
+    let _distinct = counted.sums.names.len();
+    let kept = kept_names(alloc, ends.keep)?;
+    let names = kept.as_slice();
+    let over = pairing(alloc, counted, names, ends.marked)?;
+    let list = pair_sums(rt, alloc, l, v, counted, config, column, &over, gate)?;
+    let sums = list.as_slice();
+    let edges = edges_of(alloc, sums, names)?;
+    Ok(edges)
 }
 
-// The sums of the pairs over the keys that are kept, by the numbers of the pairs. The samples of `counted` are gone over.
+// The sums of the pairs, by their numbers. The samples of `counted` are gone over.
 fn pair_sums<'x, R: Threads + Sync, G: Gate>(
     rt: &R,
     alloc: Global,
@@ -79,15 +107,14 @@ fn pair_sums<'x, R: Threads + Sync, G: Gate>(
     counted: &'x Counted,
     config: &'x Config,
     column: Option<u32>,
-    table: &'x KeyTable,
-    keep: &'x [bool],
+    over: &'x Pairing,
     gate: &G,
 ) -> Result<List<KeySum>, Memory>
     requires can { CanCount l.now.profile v.now config.now column }
     requires counted { IsCountedOf l.now v.now config.now column counted.now }
-    requires table { IsKeyTable l.now.profile config.now table.now }
-    requires few { length keep.now < 2 ^ 32 }
-    ensures { IfOk result (HasPairSums l.now v.now config.now column table.now.names keep.now) }
+    requires over { HasPlaces over.now }
+    ensures { IfOk result
+        (HasPairSums l.now v.now config.now column counted.now.table.names over.now) }
 {
     let kept = counted.kept.as_slice();
     let scope = Scope {
@@ -96,8 +123,8 @@ fn pair_sums<'x, R: Threads + Sync, G: Gate>(
         config,
         filters: &counted.filters,
         column,
-        table,
-        over: Some(keep),
+        table: &counted.table,
+        over: Some(over),
         chosen: Some(kept),
     };
     let sofar = count_all(rt, alloc, &scope, gate)?;
@@ -105,26 +132,130 @@ fn pair_sums<'x, R: Threads + Sync, G: Gate>(
     Ok(sums)
 }
 
+// The numbers of the names that are kept.
+fn kept_names(alloc: Global, keep: &[bool]) -> Result<List<u64>, Memory>
+    ensures { IfOk result (λ kept. kept ≡ kept_numbers keep.now (length keep.now)) }
+{
+    let mut kept = List::new(alloc);
+    for name in 0..keep.len() {
+        push_kept(&mut kept, keep, name)?;
+    }
+    Ok(kept)
+}
+
+// Adds the name, if it is kept.
+fn push_kept(kept: &mut List<u64>, keep: &[bool], name: usize) -> Result<(), Memory>
+    requires { name < length keep.now }
+    ensures { IfOk result (λ _. kept.new
+        ≡ kept.old ++ (if is_kept_key keep.now name then name ∷ [] else [])) }
+{
+    if keep[name] {
+        kept.push(name as u64)?;
+    }
+    Ok(())
+}
+
+// The places of the keys of these names, in their order, with their marks.
+fn pairing(
+    alloc: Global,
+    counted: &Counted,
+    kept: &[u64],
+    marked: &[bool],
+) -> Result<Pairing, Memory>
+    requires names { All (λ n. n < length counted.now.numbers) kept.now }
+    requires below { All (λ n. n < length counted.now.table.names) counted.now.numbers }
+    requires once { AreOnce (map (λ n. slice_index_or counted.now.numbers n 0) kept.now) }
+    ensures places { IfOk result (λ over.
+        ArePlaces (map (λ n. slice_index_or counted.now.numbers n 0) kept.now) over.place) }
+    ensures marks { IfOk result (λ over. over.marked ≡ map (is_marked marked.now) kept.now) }
+    ensures few { IfOk result (λ over. length over.marked < 2 ^ 32) }
+{
+    // The number of a pair has to fit.
+    if kept.len() >= 1 << 32 {
+        return Err(Memory);
+    }
+    let numbers = counted.numbers.as_slice();
+    let list = numbers_of(alloc, numbers, kept)?;
+    let keys = list.as_slice();
+    let count = counted.table.names.len();
+    let place = places(alloc, keys, count)?;
+    let marked = marks_of(alloc, kept, marked)?;
+    Ok(Pairing { place, marked })
+}
+
+// The numbers of these names' keys.
+fn numbers_of(alloc: Global, numbers: &[u64], kept: &[u64]) -> Result<List<u64>, Memory>
+    requires { All (λ n. n < length numbers.now) kept.now }
+    ensures { IfOk result (λ keys. keys ≡ map (λ n. slice_index_or numbers.now n 0) kept.now) }
+{
+    let mut keys = List::new(alloc);
+    for name in kept {
+        keys.push(numbers[*name as usize])?;
+    }
+    Ok(keys)
+}
+
+// The marks of these names.
+fn marks_of(alloc: Global, kept: &[u64], marked: &[bool]) -> Result<List<bool>, Memory>
+    ensures { IfOk result (λ marks. marks ≡ map (is_marked marked.now) kept.now) }
+{
+    let mut marks = List::new(alloc);
+    for name in kept {
+        marks.push(is_marked(marked, *name))?;
+    }
+    Ok(marks)
+}
+
+fn is_marked(marked: &[bool], name: u64) -> bool
+    ensures { result ≡ is_marked marked.now name }
+{
+    match marked.get(name as usize) {
+        None => false,
+        Some(marked) => *marked,
+    }
+}
+
+// For each of so many key numbers its place among these, which are all different.
+fn places(alloc: Global, keys: &[u64], numbers: u64) -> Result<List<Option<u32>>, Memory>
+    requires few { length keys.now < 2 ^ 32 }
+    requires below { All (λ k. k < numbers) keys.now }
+    requires once { AreOnce keys.now }
+    ensures { IfOk result (ArePlaces keys.now) }
+{
+    let mut place = no_places(alloc, numbers)?;
+    for (index, key) in keys.iter().enumerate() {
+        *place.item_mut(*key as usize) = Some(index as u32);
+    }
+    Ok(place)
+}
+
+fn no_places(alloc: Global, numbers: u64) -> Result<List<Option<u32>>, Memory>
+    ensures { IfOk result (λ place. place ≡ replicate numbers None) }
+{
+    Ok(List::from_vec(vec![in alloc; None; numbers as usize]?))
+}
+
 // The edges of the pairs' sums.
-fn edges_of(alloc: Global, sums: &[KeySum], names: u64) -> Result<List<Edge>, Memory>
-    requires { All (λ e. e.key < names * names) sums.now }
-    ensures { IfOk result (λ edges. edges ≡ map (edge_of_sum names) sums.now) }
+fn edges_of(alloc: Global, sums: &[KeySum], kept: &[u64]) -> Result<List<Edge>, Memory>
+    requires { All (λ e. e.key < length kept.now * length kept.now) sums.now }
+    ensures { IfOk result (λ edges. edges ≡ map (edge_of_sum kept.now) sums.now) }
 {
     let mut edges = List::new(alloc);
     for sum in sums {
-        edges.push(edge_of(sum, names))?;
+        edges.push(edge_of(sum, kept))?;
     }
     Ok(edges)
 }
 
 // The edge of a pair's sum.
-fn edge_of(sum: &KeySum, names: u64) -> Edge
-    requires { 0 < names }
-    ensures { result ≡ edge_of_sum names sum.now }
+fn edge_of(sum: &KeySum, kept: &[u64]) -> Edge
+    requires { sum.now.key < length kept.now * length kept.now }
+    ensures { result ≡ edge_of_sum kept.now sum.now }
 {
+    let names = kept.len() as u64;
     Edge {
-        from: sum.key / names,
-        to: sum.key % names,
+        from: kept[(sum.key / names) as usize],
+        to: kept[(sum.key % names) as usize],
         value: sum.cum,
     }
 }

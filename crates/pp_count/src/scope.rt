@@ -1,10 +1,11 @@
 //! How the samples of a count are seen.
-ghost use Rattle.std.specs.Prelude.{◌≡◌, ◌<◌, ◌^◌, length, Some};
+ghost use Rattle.std.specs.Prelude.{◌≡◌, ◌<◌, ◌^◌, length, Some, None};
 ghost use Rattle.std.specs.List.{slice_get};
 ghost use Rattle.pp_model.specs.Conditions.{RefersTo, IsSampleOf};
 ghost use Rattle.pp_count.specs.Scope.{IsSound, profile_of, samples_of};
 
 use crate::filters::Filters;
+use crate::pairs::Pairing;
 use crate::table::KeyTable;
 use pp_model::{Config, Loaded, Sample, Verdicts};
 
@@ -20,19 +21,44 @@ pub struct Scope<'a> {
     pub column: Option<u32>,
     /// The table of key numbers of `l` and `config`.
     pub table: &'a KeyTable,
-    /// None where keys are counted. Else pairs are, over the keys that are kept here, by
-    /// key number; keys past the end are not kept.
-    pub over: Option<&'a [bool]>,
+    /// None where keys are counted. Else pairs of these keys are.
+    pub over: Option<&'a Pairing>,
     /// The numbers of the samples that are counted, rising; none where all are.
     pub chosen: Option<&'a [u32]>,
 }
 
-impl Scope<'_> {
+impl<'a> Scope<'a> {
+    /// All samples, counted by keys.
+    pub(crate) fn whole(
+        l: &'a Loaded,
+        v: &'a Verdicts,
+        config: &'a Config,
+        filters: &'a Filters,
+        column: Option<u32>,
+        table: &'a KeyTable,
+    ) -> Scope<'a>
+        ensures { result ≡ record {
+            l = l.entry; v = v.entry; config = config.entry; filters = filters.entry;
+            column = column; table = table.entry; over = None; chosen = None;
+        } }
+    {
+        Scope {
+            l,
+            v,
+            config,
+            filters,
+            column,
+            table,
+            over: None,
+            chosen: None,
+        }
+    }
+
     /// How many key numbers there can be, or numbers of pairs of keys where pairs are counted.
     pub fn numbers(&self) -> usize {
         match self.over {
             None => self.table.names.len() as usize,
-            Some(keep) => keep.len().saturating_mul(keep.len()),
+            Some(over) => over.marked.len().saturating_mul(over.marked.len()),
         }
     }
 }

@@ -1,8 +1,10 @@
 //! What the samples so far come to, to which the parts of those after them are added in order.
 ghost use Rattle.std.specs.Prelude.{◌≡◌, ◌++◌, ℕ, ◌+◌, ◌<◌, ◌^◌, nat_abs, [], IfOk};
 ghost use Rattle.pp_count.specs.Tally.{tally_at, no_tally, added, entry_of};
+ghost use Rattle.pp_count.specs.Matches.{no_matches, either};
 ghost use Rattle.pp_count.specs.Parts.{sums_of, flat_size, cum_size};
 
+use crate::matched::Matched;
 use crate::part::Part;
 use crate::tallies::{Tallies, add_sums, entries};
 use pp_base::{List, Memory};
@@ -15,6 +17,8 @@ pub struct Sofar {
     pub kept: List<u32>,
     /// A tally for each key number that occurs.
     pub tallies: Tallies,
+    /// Which options have a match.
+    pub matched: Matched,
 }
 
 impl Sofar {
@@ -22,16 +26,19 @@ impl Sofar {
     pub fn new(alloc: Global, numbers: usize) -> Result<Self, Memory>
         ensures kept { IfOk result (λ sofar. sofar.kept ≡ []) }
         ensures none { IfOk result (λ sofar. (k : ℕ) → tally_at sofar.tallies k ≡ no_tally) }
+        ensures matched { IfOk result (λ sofar. sofar.matched.slots ≡ no_matches) }
     {
         let tallies = Tallies::new(alloc, numbers)?;
+        let matched = Matched::none(alloc)?;
         Ok(Sofar {
             kept: List::new(alloc),
             tallies,
+            matched,
         })
     }
 
     /// Adds the part of the samples that follow.
-    pub fn add(&mut self, part: &Part) -> Result<(), Memory>
+    pub fn add(&mut self, alloc: Global, part: &Part) -> Result<(), Memory>
         requires flat_fits { (k : ℕ) → nat_abs (tally_at self.old.tallies k).flat
             + flat_size (sums_of k part.now.sums) < 2 ^ 63 }
         requires cum_fits { (k : ℕ) → nat_abs (tally_at self.old.tallies k).cum
@@ -39,8 +46,11 @@ impl Sofar {
         ensures kept { IfOk result (λ _. self.new.kept ≡ self.old.kept ++ part.now.kept) }
         ensures tallies { IfOk result (λ _. (k : ℕ) → tally_at self.new.tallies k
             ≡ added (tally_at self.old.tallies k) (sums_of k part.now.sums)) }
+        ensures matched { IfOk result (λ _.
+            self.new.matched.slots ≡ either self.old.matched.slots part.now.matched.slots) }
     {
         self.kept.extend(part.kept.as_slice())?;
+        self.matched = self.matched.or(alloc, &part.matched)?;
         add_sums(&mut self.tallies, part.sums.as_slice())
     }
 
@@ -49,11 +59,13 @@ impl Sofar {
         ensures kept { IfOk result (λ part. part.kept ≡ self.kept) }
         ensures sums { IfOk result (λ part. (k : ℕ) →
             sums_of k part.sums ≡ entry_of k (tally_at self.tallies k)) }
+        ensures matched { IfOk result (λ part. part.matched ≡ self.matched) }
     {
         let sums = entries(alloc, &self.tallies)?;
         Ok(Part {
             kept: self.kept,
             sums,
+            matched: self.matched,
         })
     }
 }

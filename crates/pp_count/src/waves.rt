@@ -1,7 +1,6 @@
 //! All samples, or chosen ones, counted in waves of pieces on the lanes.
 ghost use Rattle.std.specs.Prelude.{◌≡◌, ◌+◌, ◌*◌, ◌<◌, take, IfOk};
-ghost use Rattle.pp_count.specs.Tally.{tally_at};
-ghost use Rattle.pp_count.specs.Scope.{samples_of, IsSound, AreCountable, CountedTo};
+ghost use Rattle.pp_count.specs.Scope.{samples_of, IsSound, AreCountable, AreCounted};
 
 use crate::counting::{Counting, PIECE};
 use crate::scope::{Scope, count_of};
@@ -23,8 +22,7 @@ pub fn count_all<'x, R: Threads + Sync, G: Gate>(
 ) -> Result<Sofar, Memory>
     requires sound { IsSound scope.now }
     requires countable { AreCountable scope.now (samples_of scope.now) }
-    ensures { IfOk result (λ sofar. CountedTo scope.now 0 1 (samples_of scope.now)
-        (tally_at sofar.tallies) sofar.kept) }
+    ensures { IfOk result (AreCounted scope.now (samples_of scope.now)) }
 {
     let pieces = count_of(scope).div_ceil(PIECE) as u32;
     let mut sofar = Sofar::new(alloc, scope.numbers())?;
@@ -48,17 +46,15 @@ fn count_wave<R: Threads + Sync, G: Gate>(
     gate: &G,
     sofar: &mut Sofar,
 ) -> Result<(), Memory>
-    requires { CountedTo job.now.scope 0 1
-        (take (1024 * job.now.first) (samples_of job.now.scope))
-        (tally_at sofar.old.tallies) sofar.old.kept }
-    ensures { IfOk result (λ _. CountedTo job.now.scope 0 1
-        (take (1024 * (job.now.first + job.now.pieces)) (samples_of job.now.scope))
-        (tally_at sofar.new.tallies) sofar.new.kept) }
+    requires { AreCounted job.now.scope
+        (take (1024 * job.now.first) (samples_of job.now.scope)) sofar.old }
+    ensures { IfOk result (λ _. AreCounted job.now.scope
+        (take (1024 * (job.now.first + job.now.pieces)) (samples_of job.now.scope)) sofar.new) }
 {
     let workers = job.scope.config.workers;
     let parts = run_pieces(rt, job.alloc, job, job.pieces, workers, Deal::Round, gate)?;
     for part in parts.as_slice() {
-        sofar.add(part)?;
+        sofar.add(job.alloc, part)?;
     }
     Ok(())
 }

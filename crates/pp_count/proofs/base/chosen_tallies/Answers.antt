@@ -16,7 +16,7 @@ count_all-requires-clause-countable g c = λ _ _. record {
 
 pub returns : goal.returns
 returns g c =
-    let counted = c.in_ok-sofar.ensures in
+    let counted = c.in_ok-sofar.ensures.counted in
     record {
       seen = counted.seen;
       below = counted.are.below;

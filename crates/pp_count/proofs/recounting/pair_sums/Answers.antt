@@ -13,8 +13,8 @@ pub count_all-requires-clause-sound : goal.count_all-requires-clause-sound
 count_all-requires-clause-sound g c = λ _ _. record {
   filters = c.requires.counted.filters;
   verdicts = c.requires.can.verdicts;
-  table = c.requires.table;
-  few_kept = c.requires.few;
+  table = c.requires.counted.table;
+  few_kept = c.requires.over;
   chosen = subst (AreRising 0 (length c.args.l.now.profile.sample)) (sym c.as_slice-kept.ensures) c.requires.counted.rising;
 }
 
@@ -29,7 +29,7 @@ count_all-requires-clause-countable g c = λ _ _.
 
 pub returns : goal.returns
 returns g c =
-    let counted = c.in_ok-sofar.ensures in
+    let counted = c.in_ok-sofar.ensures.counted in
     record {
       seen = counted.seen;
       below = counted.are.below;
@@ -37,5 +37,5 @@ returns g c =
           counted.are.are f holds
           ∙ ap (λ (ns : List ℕ). seen_samples c.args.l.now.profile f c.args.config.now c.args.column (samples_at c.args.l.now.profile ns)) c.as_slice-kept.ensures
           ∙ kept_seen c.args.l.now.profile f c.args.config.now c.args.column c.args.counted.now.kept (c.requires.counted.kept f holds);
-      listed = λ k. c.in_ok-sums.ensures k ∙ listed_as (weighed (map (paired c.args.keep.now) counted.seen)) k (tally_at c.in_ok-sofar.sofar.tallies k) (counted.tallies k);
+      listed = λ k. c.in_ok-sums.ensures k ∙ listed_as (weighed (map (paired c.args.over.now) counted.seen)) k (tally_at c.in_ok-sofar.sofar.tallies k) (counted.tallies k);
     }

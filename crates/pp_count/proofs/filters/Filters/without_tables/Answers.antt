@@ -8,4 +8,5 @@ returns c = record {
   focus_tags = rw c.in_ok-filters.ensures.focus c.requires.focus;
   ignore_tags = rw c.in_ok-filters.ensures.ignore c.requires.ignore;
   tables = rw c.in_ok-filters.ensures.tables (c.none.ensures c.args.l.now.profile c.args.v.now);
+  reach = c.in_ok-filters.ensures.reach c.args.l.now.profile c.args.v.now (c.none.ensures c.args.l.now.profile c.args.v.now);
 }
