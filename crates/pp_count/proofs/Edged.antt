@@ -1,5 +1,5 @@
 -- The edges of a report, from the sums of pairs by their numbers.
-use Rattle.std.proofs.Common.{◌≡◌, ◌≢◌, ℕ, zero, suc, ◌+◌, ◌*◌, ◌/◌, ◌%◌, ◌<◌, ◌≤◌, Bool, true, false, cond, not, ◌&&◌, ◌||◌, ◌==◌, pos, List, [], ◌∷◌, ◌++◌, length, get_or, map, All, Option, Some, None, refl, sym, ap, ◌∙◌, subst, arith, inl, inr, map-id}
+use Rattle.std.proofs.Common.{◌≡◌, ◌≢◌, ℕ, zero, suc, ◌+◌, ◌*◌, ◌/◌, ◌%◌, ◌<◌, Bool, true, false, cond, not, ◌&&◌, ◌||◌, ◌==◌, pos, List, [], ◌∷◌, ◌++◌, length, get_or, map, All, Option, Some, None, refl, sym, ap, ◌∙◌, subst, arith, inl, inr, map-id}
 use Rattle.std.specs.Prelude.{AllPairs}
 use Rattle.std.specs.List.{filter, list_any, range_with_len}
 use Rattle.std.specs.Option.{is_some}
@@ -12,7 +12,6 @@ use Rattle.std.proofs.lemmas.Nat.{div-mul-add, mod-mul-add, div-add-mod'}
 use Rattle.std.proofs.Math.Nat.{mod-lt, div-lt_iff_lt-mul}
 use Rattle.pp_model.specs.declared.config.Config.{Config}
 use Rattle.pp_model.specs.declared.loaded.Loaded.{Loaded}
-use Rattle.pp_model.specs.declared.profile.Profile.{Profile}
 use Rattle.pp_model.specs.declared.verdicts.Verdicts.{Verdicts}
 use Rattle.pp_model.specs.Finders.{Finders}
 use Rattle.pp_model.specs.FrameTexts.{Written}
@@ -32,7 +31,7 @@ use Rattle.pp_count.specs.EdgeSums.{edge_occurs, edge_sum, kept_numbers, is_kept
 use Rattle.pp_count.specs.Rising.{AreRising}
 use Rattle.pp_count.proofs.Renaming.{same_bool}
 use Rattle.pp_count.proofs.CallerLemmas.{weighed-renamed}
-use Rattle.pp_count.proofs.Finals.{sums_below, has_root, numbers_apart}
+use Rattle.pp_count.proofs.Finals.{sums_below, has_root}
 use Rattle.pp_count.proofs.Keyed.{apart}
 use Rattle.pp_count.proofs.Paired.{occurs-paired, sum-paired, pairs_below, weighed-paired, none_from, none_to}
 use Rattle.pp_count.proofs.Rising.{rising_none, rising_one, rising-filter}
@@ -268,9 +267,11 @@ module _ (l : Loaded) (v : Verdicts) (config : Config) (column : Option ℕ) (na
   -- a name whose key has a place is kept there
   kept_at : (a q : ℕ) → a < length old → place_of over (number a) ≡ Some q → (q < length kept) × (get_or kept q 0 ≡ a)
   kept_at a q in_a is =
-      let in_kept : q < length kept = omega (arith, (h.places.only (number a) q is).0, length-map kept number) in
-      (in_kept, numbers_once names old numbers h.named h.once (get_or kept q 0) a (omega (arith, in_names q in_kept, many)) (omega (arith, in_a, many))
-      (sym (get_or-map number kept q 0 0 in_kept) ∙ (h.places.only (number a) q is).1))
+      let in_kept : q < length kept = omega (arith, (h.places.only (number a) q is).0, length-map kept number) in (
+        in_kept,
+        numbers_once names old numbers h.named h.once (get_or kept q 0) a (omega (arith, in_names q in_kept, many)) (omega (arith, in_a, many))
+            (sym (get_or-map number kept q 0 0 in_kept) ∙ (h.places.only (number a) q is).1),
+      )
 
   -- one without a place is none of them
   other_name : (a : ℕ) → a < length old → place_of over (number a) ≡ None → (q : ℕ) → q < length kept → (get_or kept q 0 == a) ≡ false
@@ -349,12 +350,12 @@ module _ (l : Loaded) (v : Verdicts) (config : Config) (column : Option ℕ) (na
         ∙ ap (map (edge_of_sum kept)) (h.sums_are.listed x) ∙ one_or_none kept (occurs nat_cmp P x) (key_sum P x)
         ∙ elim (is_marked marked a || is_marked marked b) as (λ w. (is_marked marked a || is_marked marked b) ≡ w → cond (occurs nat_cmp P x) (edge_of_sum kept (key_sum P x) ∷ []) [] ≡ edge_if (w && met a b) a b) [
           | true ↦ λ yes i. cond ((occurs_is ∙ ap (λ w. w && met a b) yes) i) (record {
-              from = (ap (λ j. get_or kept j 0) (div-mul-add p n q there.0) ∙ here.1) i;
-              to = (ap (λ j. get_or kept j 0) (mod-mul-add p n q there.0) ∙ there.1) i;
-              value = (ap (λ r. cum nat_cmp r x) (weighed-paired over h.sums_are.seen) ∙ ap (λ k. cum nat_cmp (map (paired over) S) (p * k + q)) (sym size)
-                  ∙ sum-paired key_cmp name (length names) far keys_of inside over h.places fit p q S in_p in_q (mark ∙ yes) S_below
-                  ∙ (λ j. edge_sum key_cmp kept_by (map (renamed name) S) (name (key_p j)) (name (key_q j))) ∙ sum_is a b in_a in_b) i;
-            } ∷ []) []
+            from = (ap (λ j. get_or kept j 0) (div-mul-add p n q there.0) ∙ here.1) i;
+            to = (ap (λ j. get_or kept j 0) (mod-mul-add p n q there.0) ∙ there.1) i;
+            value = (ap (λ r. cum nat_cmp r x) (weighed-paired over h.sums_are.seen) ∙ ap (λ k. cum nat_cmp (map (paired over) S) (p * k + q)) (sym size)
+                ∙ sum-paired key_cmp name (length names) far keys_of inside over h.places fit p q S in_p in_q (mark ∙ yes) S_below
+                ∙ (λ j. edge_sum key_cmp kept_by (map (renamed name) S) (name (key_p j)) (name (key_q j))) ∙ sum_is a b in_a in_b) i;
+          } ∷ []) []
           | false ↦ λ no. ap (λ w. cond w (edge_of_sum kept (key_sum P x) ∷ []) []) (occurs_is ∙ ap (λ w. w && met a b) no)
         ] refl
 

@@ -11,7 +11,7 @@ use Rattle.pp_model.specs.declared.config.Config.{Config}
 use Rattle.pp_model.specs.declared.frame.Frame.{Frame}
 use Rattle.pp_model.specs.declared.profile.Sample.{Sample}
 use Rattle.pp_model.specs.declared.profile.Profile.{Profile}
-use Rattle.pp_model.specs.Conditions.{IsFrameOf, RefersTo}
+use Rattle.pp_model.specs.Conditions.{RefersTo}
 use Rattle.pp_model.specs.Finders.{Finder, Finders}
 use Rattle.pp_model.specs.Frames.{stack_of}
 use Rattle.pp_model.specs.FrameTexts.{written}

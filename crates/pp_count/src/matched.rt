@@ -107,7 +107,14 @@ fn matches(alloc: Global, scope: &Scope, samples: &[Sample]) -> Result<Matched, 
     slots.push(some_frame(alloc, l, &v.ignore, &tables.ignore, reach.ignore, samples)?)?;
     slots.push(some_frame(alloc, l, &v.hide, &tables.hide, reach.hide, samples)?)?;
     slots.push(some_frame(alloc, l, &v.show, &tables.show, reach.show, samples)?)?;
-    slots.push(some_frame(alloc, l, &v.show_from, &tables.show_from, reach.show_from, samples)?)?;
+    slots.push(some_frame(
+        alloc,
+        l,
+        &v.show_from,
+        &tables.show_from,
+        reach.show_from,
+        samples,
+    )?)?;
     slots.push(some_selected(l, &filters.tagfocus, &v.tag, &v.tagfocus, samples))?;
     slots.push(some_selected(l, &filters.tagignore, &v.tag, &v.tagignore, samples))?;
     slots.push(true)?;

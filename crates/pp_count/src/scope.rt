@@ -38,8 +38,14 @@ impl<'a> Scope<'a> {
         table: &'a KeyTable,
     ) -> Scope<'a>
         ensures { result ≡ record {
-            l = l.entry; v = v.entry; config = config.entry; filters = filters.entry;
-            column = column; table = table.entry; over = None; chosen = None;
+          l = l.entry;
+          v = v.entry;
+          config = config.entry;
+          filters = filters.entry;
+          column = column;
+          table = table.entry;
+          over = None;
+          chosen = None;
         } }
     {
         Scope {

@@ -1,4 +1,4 @@
-use Rattle.std.proofs.Common.{◌≡◌, ◌++◌, ◌+◌, ◌<◌, length, drop, subst, Some, None, ℕ, Option, sym, ap, ◌∙◌, append_assoc}
+use Rattle.std.proofs.Common.{◌++◌, ◌+◌, ◌<◌, length, drop, subst, Some, None, ℕ, Option, sym, ap, ◌∙◌, append_assoc}
 use Rattle.std.specs.List.{filter, filter_map}
 use Rattle.std.specs.Option.{ForSome}
 use Rattle.pp_count.specs.Column.{first_else}
@@ -19,15 +19,14 @@ push_between-requires-clause-callee c = rw c.as_slice-marked.ensures c.loop-key.
 pub loop-key-preserved : goal.loop-key-preserved
 loop-key-preserved c =
     let over = c.args.over.now in
-    let pushed = rw c.as_slice-marked.ensures at c.in_ok-push_between.ensures in
-    (
+    let pushed = rw c.as_slice-marked.ensures at c.in_ok-push_between.ensures in (
       c.loop-key.invariant.0
-      ∙ ap (λ xs. c.loop-key.pairs.items ++ xs)
-      (key_paired over c.args.keys.now c.loop-key.key-index 0 c.loop-key.under c.loop-key-test.true c.place_of-place.result (sym c.place_of-place.ensures))
-      ∙ sym (append_assoc c.loop-key.pairs.items (filter (has_mark over.marked) (pair_between (length over.marked) c.place_of-place.result c.loop-key.under))
-      (filter (has_mark over.marked) (pairs_over (length over.marked) (first_else c.place_of-place.result c.loop-key.under) (filter_map (place_of over) (drop (c.loop-key.key-index + 1) c.args.keys.now)))))
-      ∙ (λ i. sym pushed i
-      ++ filter (has_mark over.marked) (pairs_over (length over.marked) (sym c.first_else-under.ensures i) (filter_map (place_of over) (drop (c.loop-key.key-index + 1) c.args.keys.now)))),
+          ∙ ap (λ xs. c.loop-key.pairs.items ++ xs)
+          (key_paired over c.args.keys.now c.loop-key.key-index 0 c.loop-key.under c.loop-key-test.true c.place_of-place.result (sym c.place_of-place.ensures))
+          ∙ sym (append_assoc c.loop-key.pairs.items (filter (has_mark over.marked) (pair_between (length over.marked) c.place_of-place.result c.loop-key.under))
+          (filter (has_mark over.marked) (pairs_over (length over.marked) (first_else c.place_of-place.result c.loop-key.under) (filter_map (place_of over) (drop (c.loop-key.key-index + 1) c.args.keys.now)))))
+          ∙ (λ i. sym pushed i
+          ++ filter (has_mark over.marked) (pairs_over (length over.marked) (sym c.first_else-under.ensures i) (filter_map (place_of over) (drop (c.loop-key.key-index + 1) c.args.keys.now)))),
       subst (λ o. ForSome o (λ b. b < length over.marked)) (sym c.first_else-under.ensures)
-      (first_below (length over.marked) c.place_of-place.result c.loop-key.under (λ q is. c.requires.below _ q (sym c.place_of-place.ensures ∙ is)) c.loop-key.invariant.1),
+          (first_below (length over.marked) c.place_of-place.result c.loop-key.under (λ q is. c.requires.below _ q (sym c.place_of-place.ensures ∙ is)) c.loop-key.invariant.1),
     )

@@ -1,4 +1,3 @@
-use Rattle.std.proofs.Common.{arith}
 use Rattle.pp_count.proofs.Edged.{kept_more}
 use Rattle.pp_count.proofs.recounting.kept_names.Goals as goal
 

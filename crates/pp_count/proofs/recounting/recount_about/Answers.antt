@@ -1,8 +1,7 @@
-use Rattle.std.proofs.Common.{◌≡◌, ◌<◌, ◌*◌, All, length, get_or, map, sym, ap, ◌∙◌, subst, arith}
+use Rattle.std.proofs.Common.{◌≡◌, ◌<◌, All, length, get_or, map, sym, ap, ◌∙◌, subst, arith}
 use Rattle.std.proofs.lemmas.List.{length-map}
 use Rattle.pp_model.specs.Rules.{IsCompact}
-use Rattle.pp_count.specs.Table.{key_at}
-use Rattle.pp_count.specs.Edges.{AreOnce, edge_of_sum, is_marked}
+use Rattle.pp_count.specs.Edges.{AreOnce, is_marked}
 use Rattle.pp_count.specs.EdgeSums.{kept_numbers}
 use Rattle.pp_count.proofs.Edged.{HasEdges, pair_numbers, ends_within, edges_are, all_edges, kept_rise, names_within, once_rising, numbers_once, keys_once}
 use Rattle.pp_count.proofs.recounting.recount_about.Goals as goal
@@ -39,7 +38,7 @@ edges_of-requires g c =
     let counted = c.args.counted.now in
     let kept_are : c.as_slice-names.result.now ≡ kept_numbers c.args.ends.now.keep.now (length c.args.ends.now.keep.now) = c.as_slice-names.ensures ∙ c.in_ok-kept.ensures in
     let has : HasEdges c.args.l.now c.args.v.now c.args.config.now c.args.column counted.table.names counted.sums.names counted.numbers c.args.ends.now.keep.now c.args.ends.now.marked.now
-        c.as_slice-names.result.now c.in_ok-over.over c.in_ok-list.list = record {
+    c.as_slice-names.result.now c.in_ok-over.over c.in_ok-list.list = record {
       compact = subst IsCompact c.get-compact.ensures.same c.get-compact.ensures.compact;
       keys = c.requires.counted.table.keys;
       distinct = c.requires.counted.table.distinct;
@@ -59,7 +58,7 @@ returns-clause-edges g c =
     let counted = c.args.counted.now in
     let kept_are : c.as_slice-names.result.now ≡ kept_numbers c.args.ends.now.keep.now (length c.args.ends.now.keep.now) = c.as_slice-names.ensures ∙ c.in_ok-kept.ensures in
     let has : HasEdges c.args.l.now c.args.v.now c.args.config.now c.args.column counted.table.names counted.sums.names counted.numbers c.args.ends.now.keep.now c.args.ends.now.marked.now
-        c.as_slice-names.result.now c.in_ok-over.over c.in_ok-list.list = record {
+    c.as_slice-names.result.now c.in_ok-over.over c.in_ok-list.list = record {
       compact = subst IsCompact c.get-compact.ensures.same c.get-compact.ensures.compact;
       keys = c.requires.counted.table.keys;
       distinct = c.requires.counted.table.distinct;
@@ -79,7 +78,7 @@ returns-clause-all g c =
     let counted = c.args.counted.now in
     let kept_are : c.as_slice-names.result.now ≡ kept_numbers c.args.ends.now.keep.now (length c.args.ends.now.keep.now) = c.as_slice-names.ensures ∙ c.in_ok-kept.ensures in
     let has : HasEdges c.args.l.now c.args.v.now c.args.config.now c.args.column counted.table.names counted.sums.names counted.numbers c.args.ends.now.keep.now c.args.ends.now.marked.now
-        c.as_slice-names.result.now c.in_ok-over.over c.in_ok-list.list = record {
+    c.as_slice-names.result.now c.in_ok-over.over c.in_ok-list.list = record {
       compact = subst IsCompact c.get-compact.ensures.same c.get-compact.ensures.compact;
       keys = c.requires.counted.table.keys;
       distinct = c.requires.counted.table.distinct;
@@ -99,7 +98,7 @@ returns-clause-within g c =
     let counted = c.args.counted.now in
     let kept_are : c.as_slice-names.result.now ≡ kept_numbers c.args.ends.now.keep.now (length c.args.ends.now.keep.now) = c.as_slice-names.ensures ∙ c.in_ok-kept.ensures in
     let has : HasEdges c.args.l.now c.args.v.now c.args.config.now c.args.column counted.table.names counted.sums.names counted.numbers c.args.ends.now.keep.now c.args.ends.now.marked.now
-        c.as_slice-names.result.now c.in_ok-over.over c.in_ok-list.list = record {
+    c.as_slice-names.result.now c.in_ok-over.over c.in_ok-list.list = record {
       compact = subst IsCompact c.get-compact.ensures.same c.get-compact.ensures.compact;
       keys = c.requires.counted.table.keys;
       distinct = c.requires.counted.table.distinct;
