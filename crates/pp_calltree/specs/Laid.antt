@@ -1,4 +1,4 @@
--- The nodes of call trees with their keys written out, and how they are laid out. Of it, public clauses cite `node_row`.
+-- Nodes with their keys written out, which public clauses cite (`node_row`), and how nodes are laid out.
 use Rattle.std.specs.Prelude.{◌≡◌, ℕ, ◌+◌, ◌-◌, ◌<◌, ◌≤◌, ◌^◌, nat_abs, List, ◌∷◌, ◌++◌, length, map, flat_map, reverse, All}
 use Rattle.std.specs.List.{sum_by}
 use Rattle.std.specs.Ordering.{nat_cmp, eq_by_cmp}

@@ -1,4 +1,4 @@
--- Nodes that are shown, picked from the list of all. No public clause cites it.
+-- Nodes that are shown, picked from the list of all. Of it, a public clause cites `flat_sizes`.
 use Rattle.std.specs.Prelude.{◌≡◌, ℕ, ◌+◌, ◌≤◌, nat_abs, nat_lt, Bool, false, List, [], ◌∷◌, ◌++◌, length, drop, map, All, Option, Some, None, if◌then◌else◌}
 use Rattle.std.specs.List.{sum_by}
 use Rattle.std.specs.Option.{option_map_or}
