@@ -17,11 +17,6 @@ pub refuted : (b : Bool) → (b ≡ true → ⊥) → b ≡ false
 refuted true never = absurd (never refl)
 refuted false never = refl
 
--- two facts of a result that is Ok
-pub if_both : {T E A B C : Type 0} (r : Result T E) → (A → B → C) → IfOk r (λ _. A) → IfOk r (λ _. B) → IfOk r (λ _. C)
-if_both (Ok x) both a b = both a b
-if_both (Err e) both a b = tt
-
 -- one of a result that is Ok
 pub if_one : {T E A C : Type 0} (r : Result T E) → (A → C) → IfOk r (λ _. A) → IfOk r (λ _. C)
 if_one (Ok x) then_so a = then_so a

@@ -1,7 +1,7 @@
 -- The numbers of lines, one after the other.
-use Rattle.std.proofs.Common.{◌≡◌, ◌<ℤ◌, ℕ, zero, suc, ◌+◌, ◌<◌, ◌^◌, ◌≤◌, ℤ, pos, negsuc, nat_abs, List, [], ◌∷◌, ◌++◌, length, take, get_or, Some, None, FitsSigned, w64, of_z, to_z, refl, sym, ap, ◌∙◌, arith}
+use Rattle.std.proofs.Common.{◌≡◌, ◌<ℤ◌, ℕ, zero, suc, ◌+◌, ◌<◌, ◌^◌, ℤ, pos, negsuc, List, [], ◌∷◌, ◌++◌, length, take, get_or, Some, None, FitsSigned, w64, of_z, refl, sym, ◌∙◌, arith}
 use Rattle.std.specs.List.{cons_option}
-use Rattle.std.proofs.lemmas.Int.{ints, to_z-of_z}
+use Rattle.std.proofs.lemmas.Int.{ints}
 use Rattle.std.proofs.lemmas.List.{append-nil}
 use Rattle.pp_source.specs.declared.lines.FoundLine.{FoundLine}
 use Rattle.pp_source.specs.Ledgers.{lines_texts}
@@ -19,15 +19,6 @@ pub not_above : (z : ℤ) → (pos 0 <ℤ z → ⊥) → number_above z ≡ None
 not_above (pos zero) none = refl
 not_above (pos (suc n)) none = absurd (none (omega (arith, ints)))
 not_above (negsuc n) none = refl
-
--- a number of 64 bits
-pub within_64 : (z : ℤ) → FitsSigned w64 z → nat_abs z ≤ 2 ^ 63
-within_64 (pos n) fits = omega (arith, fits.sfits)
-within_64 (negsuc n) fits = omega (arith, fits.sfits)
-
--- the number whose bits are 0
-pub zero_is : (z : ℤ) → FitsSigned w64 z → of_z w64 z ≡ 0 → z ≡ pos 0
-zero_is z fits bits = sym (to_z-of_z w64 z fits) ∙ ap (to_z w64) bits
 
 -- one more number, above 0
 pub pushed_above : (z : ℤ) (ns : List ℕ) → pos 0 <ℤ z → FitsSigned w64 z → ns ++ of_z w64 z ∷ [] ≡ ns ++ cons_option (number_above z) []
