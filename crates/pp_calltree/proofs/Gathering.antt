@@ -24,7 +24,11 @@ use Rattle.pp_count.proofs.Sizes.{part_within}
 use Rattle.pp_count.proofs.Ranges.{IsSeen, name_of, by_numbers, seen_more, seen_same}
 use Rattle.pp_calltree.specs.declared.paths.Paths.{Paths}
 use Rattle.pp_calltree.specs.CallTree.{rooted}
-use Rattle.pp_calltree.specs.Paths.{rooted_if, stands_at, AreKeptAs, HasPaths}
+use Rattle.pp_calltree.specs.Paths.{rooted_if, AreKeptAs, HasPaths}
+
+-- the number stands at the place
+abbrev stands_at : List ℕ → ℕ → ℕ → Bool
+stands_at numbers place number = option_map_or (λ other. other == number) (slice_get numbers place) false
 
 take_one : (samples : List Sample) (i : ℕ) (s : Sample) → i < length samples → s ≡ get_or samples i s → take i samples ++ s ∷ [] ≡ take (i + 1) samples
 take_one samples i s here is = ap (λ r. take i samples ++ r ∷ []) is ∙ sym (take_more samples i s here)

@@ -21,9 +21,6 @@ within_all p [] = omega arith
 within_all p (s ∷ S) =
     omega (arith, within_all p S, triangle (cond (p s.keys) s.value (pos 0)) (sum_where p S), size_if (p s.keys) s.value, sum_by-cons (λ (t : Seen ℕ). nat_abs t.value) s S)
 
-size_of : Path → ℕ
-size_of x = nat_abs x.value
-
 sizes_are : (depth : ℕ) (paths : List Path) → absolute (below depth paths) ≡ sum_by (λ (x : Path). nat_abs x.value) paths
 sizes_are depth [] = refl
 sizes_are depth (x ∷ paths) =

@@ -23,10 +23,6 @@ abbrev pub rooted_if : ℤ → List ℕ → List (Seen ℕ)
 rooted_if value keys =
     if int_eq value (pos 0) then [] else rooted (record { value = value; keys = keys }) ∷ []
 
--- the number stands at the place
-abbrev pub stands_at : List ℕ → ℕ → ℕ → Bool
-stands_at numbers place number = option_map_or (λ other. other == number) (slice_get numbers place) false
-
 -- the samples that have these parts of the keys
 abbrev pub parts_of : List ℕ → List Part → List (Seen ℕ)
 parts_of keys [] = []
