@@ -9,11 +9,14 @@ use Rattle.pp_model.specs.declared.profile.Location.{Location}
 use Rattle.pp_model.specs.declared.profile.Sample.{Sample}
 use Rattle.pp_model.specs.declared.profile.Profile.{Profile}
 use Rattle.pp_model.specs.declared.verdicts.Verdicts.{Verdicts}
+use Rattle.pp_model.specs.Conditions.{HasVerdicts}
 use Rattle.pp_model.specs.Finders.{Finders, HoldsFinders}
 use Rattle.pp_model.specs.Rules.{NoRuleFails, IsCompact}
 use Rattle.pp_count.specs.Counts.{samples_at}
 use Rattle.pp_stack.specs.Filters.{frames_of_sample}
 use Rattle.pp_stack.specs.Runs.{kept_if}
+use Rattle.pp_stack.specs.Tables.{AreTables}
+use Rattle.pp_stack.specs.declared.tables.VerdictTables.{VerdictTables}
 use Rattle.pp_tags.specs.TagFilters.{shown_labels}
 use Rattle.pp_restack.specs.Stacks.{by_place, cut_location}
 use Rattle.pp_restack.specs.Places.{without_id, ArePlaces, AreEntries, IsCutSample, Spread, spread_in, with_cut}
@@ -30,6 +33,15 @@ spread_of p f s stack =
 -- the sample, where the stack filters leave something of it
 abbrev pub spread_left : Profile → Finders → Sample → List Spread
 spread_left p f s = option_map_or (spread_of p f s) (frames_of_sample p f s) []
+
+-- Samples can be cut: verdicts and tables are those of the profile, and its locations stand first among those that are
+-- named.
+pub record CanCut (l : Loaded) (v : Verdicts) (made : VerdictTables) (locations : List Location)
+    : Type 0 where
+  pub verdicts : HasVerdicts l.profile v
+  pub tables : AreTables l.profile v made
+  pub places : ArePlaces l.profile locations
+  pub front : IsFront l.profile.location locations
 
 -- The ids are those of the locations of what the stack filters leave of the sample, and locations that were there stay.
 pub record PlacesLeft (l : Loaded) (v : Verdicts) (s : Sample) (old new : List Location)

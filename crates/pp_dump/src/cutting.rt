@@ -1,11 +1,8 @@
 //! What the filters of a report leave of the samples of a profile.
 ghost use Rattle.std.specs.Prelude.{◌≡◌, ◌∷◌, [], IfOk, OnOk};
-ghost use Rattle.pp_base.specs.Front.{IsFront};
-ghost use Rattle.pp_model.specs.Conditions.{HasVerdicts, IsSampleOf, RefersTo};
-ghost use Rattle.pp_stack.specs.Tables.{AreTables};
+ghost use Rattle.pp_model.specs.Conditions.{IsSampleOf, RefersTo};
 ghost use Rattle.pp_count.specs.Counts.{samples_at};
-ghost use Rattle.pp_restack.specs.Places.{ArePlaces};
-ghost use Rattle.pp_dump.specs.Places.{AddsSamples, PlacesLeft};
+ghost use Rattle.pp_dump.specs.Places.{CanCut, AddsSamples, PlacesLeft};
 
 use pp_base::{List, Memory};
 use pp_model::{Label, Loaded, Profile, Sample, Stack, Verdicts};
@@ -51,10 +48,7 @@ pub fn cut_samples(
     kept: &[u32],
     cut: &mut Cut,
 ) -> Result<(), Memory>
-    requires verdicts { HasVerdicts l.now.profile v.now }
-    requires tables { AreTables l.now.profile v.now tables.now }
-    requires places { ArePlaces l.now.profile cut.old.places.locations }
-    requires front { IsFront l.now.profile.location cut.old.places.locations }
+    requires { CanCut l.now v.now tables.now cut.old.places.locations }
     ensures { OnOk result (AddsSamples l.now v.now (samples_at l.now.profile kept.now)
         cut.old.samples cut.old.places.locations cut.new.samples cut.new.places.locations) }
 {
@@ -73,10 +67,7 @@ fn cut_numbered(
     number: u32,
     cut: &mut Cut,
 ) -> Result<(), Memory>
-    requires verdicts { HasVerdicts l.now.profile v.now }
-    requires tables { AreTables l.now.profile v.now tables.now }
-    requires places { ArePlaces l.now.profile cut.old.places.locations }
-    requires front { IsFront l.now.profile.location cut.old.places.locations }
+    requires { CanCut l.now v.now tables.now cut.old.places.locations }
     ensures { OnOk result (AddsSamples l.now v.now (samples_at l.now.profile (number ∷ []))
         cut.old.samples cut.old.places.locations cut.new.samples cut.new.places.locations) }
 {
@@ -96,10 +87,7 @@ fn cut_sample(
     s: &Sample,
     cut: &mut Cut,
 ) -> Result<(), Memory>
-    requires verdicts { HasVerdicts l.now.profile v.now }
-    requires tables { AreTables l.now.profile v.now tables.now }
-    requires places { ArePlaces l.now.profile cut.old.places.locations }
-    requires front { IsFront l.now.profile.location cut.old.places.locations }
+    requires can { CanCut l.now v.now tables.now cut.old.places.locations }
     requires member { IsSampleOf l.now.profile s.now }
     requires refers { RefersTo l.now.profile s.now }
     ensures { OnOk result (AddsSamples l.now v.now (s.now ∷ [])
@@ -123,10 +111,7 @@ fn place_sample(
     s: &Sample,
     cut: &mut Cut,
 ) -> Result<bool, Memory>
-    requires verdicts { HasVerdicts l.now.profile v.now }
-    requires tables { AreTables l.now.profile v.now tables.now }
-    requires places { ArePlaces l.now.profile cut.old.places.locations }
-    requires front { IsFront l.now.profile.location cut.old.places.locations }
+    requires can { CanCut l.now v.now tables.now cut.old.places.locations }
     requires refers { RefersTo l.now.profile s.now }
     ensures samples { OnOk result (cut.new.samples ≡ cut.old.samples) }
     ensures left { IfOk result (λ kept. PlacesLeft l.now v.now s.now

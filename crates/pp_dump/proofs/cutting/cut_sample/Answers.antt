@@ -31,6 +31,6 @@ returns c =
     c.in_ok-sample.ensures ∙ (λ i. record s { location_id = c.as_slice.ensures i; label = c.as_slice-2.ensures i }) in
     then_ok c.push.result
     (λ is. adds_one l v s old.samples c.push.new.self old.places.locations placed.places.locations c.in_ok-place_sample.field-0 placed.ids shown
-    left.valid c.requires.member (some_finders l v left.compact.texts c.requires.verdicts) left c.if-not-branch.false c.in_ok-show_tags_into.ensures
+    left.valid c.requires.member (some_finders l v left.compact.texts c.requires.can.verdicts) left c.if-not-branch.false c.in_ok-show_tags_into.ensures
     (is ∙ (λ i. c.in_ok-place_sample.ensures.samples i ++ made i ∷ [])))
     c.push.ensures.ok

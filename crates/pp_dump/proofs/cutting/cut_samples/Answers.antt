@@ -14,9 +14,16 @@ loop-number-init c =
     adds_none c.args.l.now c.args.v.now [] c.args.cut.now.samples locations locations c.requires.places ([], sym (append-nil locations)) (λ f finds. refl)
 
 -- the locations of the profile still stand first
-pub cut_numbered-requires-clause-front : goal.cut_numbered-requires-clause-front
-cut_numbered-requires-clause-front c =
-    front_front c.args.l.now.profile.location c.args.cut.now.places.locations c.loop-number.cut.places.locations c.requires.front c.loop-number.invariant.front
+pub cut_numbered-requires : goal.cut_numbered-requires
+cut_numbered-requires c =
+    let so_far = c.loop-number.invariant in
+    record {
+      verdicts = c.requires.verdicts;
+      tables = c.requires.tables;
+      places = so_far.places;
+      front =
+          front_front c.args.l.now.profile.location c.args.cut.now.places.locations c.loop-number.cut.places.locations c.requires.front so_far.front;
+    }
 
 -- one number more
 pub loop-number-preserved : goal.loop-number-preserved

@@ -21,12 +21,12 @@ returns-then-keeps_all-clause-left c =
     let compact = subst IsCompact same c.get-p.ensures.compact in
     let ids : c.extend.new.self ≡ s.location_id = c.in_ok-extend.ensures.ok ∙ (λ i. c.truncate.ensures i ++ c.as_slice.ensures i) in
     record {
-      places = c.requires.places;
+      places = c.requires.can.places;
       front = ([], sym (append-nil old));
       stack = stack_of p s;
       left = λ f finds. sym (c.keeps_all.ensures f finds c.if-keeps_all.true s);
       entries = λ _. subst (AreEntries old (map (cut_location p) (by_place (stack_of p s)))) (sym ids)
-          (whole_entries p compact.locations s old c.requires.refers c.requires.front);
+          (whole_entries p compact.locations s old c.requires.refers c.requires.can.front);
       valid = subst NoRuleFails same c.get-p.ensures.valid;
       compact = compact;
     }
@@ -37,7 +37,7 @@ returns-then-not-branch-clause-left c =
     let old = c.args.cut.now.places.locations in
     let same = c.get-p.ensures.same in
     record {
-      places = c.requires.places;
+      places = c.requires.can.places;
       front = ([], sym (append-nil old));
       stack = c.filter_into.new.stack;
       left = λ f finds. ap (λ (kept : Bool). kept_if kept c.filter_into.new.stack) (sym c.if-not-branch.true) ∙ c.in_ok-filter_into.ensures.places f finds;
@@ -60,7 +60,7 @@ returns-clause-left c =
     (subst (λ (before : List ℕ). AppendsEntries new (map (cut_location c.get-p.result.now) (by_place c.as_slice-stack.result.now)) before c.place_stack.new.ids) c.truncate.ensures
     c.in_ok-place_stack.ensures.ids)) in
     record {
-      places = subst (λ (q : Profile). KeepsPlaces q old new) same c.in_ok-place_stack.ensures.places p (λ l refers. refers) c.requires.places;
+      places = subst (λ (q : Profile). KeepsPlaces q old new) same c.in_ok-place_stack.ensures.places p (λ l refers. refers) c.requires.can.places;
       front = c.in_ok-place_stack.ensures.front;
       stack = stack;
       left = λ f finds. ap (λ (kept : Bool). kept_if kept stack) (sym c.if-not-branch.false) ∙ c.in_ok-filter_into.ensures.places f finds;

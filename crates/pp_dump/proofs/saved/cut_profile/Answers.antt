@@ -12,17 +12,17 @@ use Rattle.pp_restack.proofs.CutValid.{own_places, cut_valid}
 use Rattle.pp_dump.specs.Places.{AddsSamples}
 use Rattle.pp_dump.proofs.saved.cut_profile.Goals as goal
 
--- the locations of the profile are places of it
-pub cut_samples-requires-clause-places : goal.cut_samples-requires-clause-places
-cut_samples-requires-clause-places c =
-    subst (λ (locations : List Location). ArePlaces c.args.l.now.profile locations) (sym c.in_ok-cut.ensures.locations)
-    (subst (λ (p : Profile). ArePlaces p c.get-p.result.now.location) c.get-p.ensures.same
-    (own_places c.get-p.result.now c.get-p.ensures.valid c.get-p.ensures.compact))
-
--- and so they stand first
-pub cut_samples-requires-clause-front : goal.cut_samples-requires-clause-front
-cut_samples-requires-clause-front c =
-    ([], c.in_ok-cut.ensures.locations ∙ ap (λ (p : Profile). p.location) c.get-p.ensures.same ∙ sym (append-nil c.args.l.now.profile.location))
+-- the locations of the profile are places of it, and stand first
+pub cut_samples-requires : goal.cut_samples-requires
+cut_samples-requires c = record {
+  verdicts = c.requires;
+  tables = c.in_ok-tables.ensures;
+  places =
+      subst (λ (locations : List Location). ArePlaces c.args.l.now.profile locations) (sym c.in_ok-cut.ensures.locations)
+      (subst (λ (p : Profile). ArePlaces p c.get-p.result.now.location) c.get-p.ensures.same
+      (own_places c.get-p.result.now c.get-p.ensures.valid c.get-p.ensures.compact));
+  front = ([], c.in_ok-cut.ensures.locations ∙ ap (λ (p : Profile). p.location) c.get-p.ensures.same ∙ sym (append-nil c.args.l.now.profile.location));
+}
 
 -- what is merged alone keeps the table rules
 pub claim-requires : goal.claim-requires
