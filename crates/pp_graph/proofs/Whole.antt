@@ -55,6 +55,7 @@ module _ (l : Loaded) (v : Verdicts) (config : Config) (column : Option ℕ) (c 
       focus_tags = is.filters.focus_tags;
       ignore_tags = is.filters.ignore_tags;
       tables = is.filters.tables;
+      reach = is.filters.reach;
     };
     names = is.names;
     numbered = is.numbered;
