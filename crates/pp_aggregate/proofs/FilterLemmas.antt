@@ -5,9 +5,9 @@ use Rattle.std.specs.List.{list_any}
 use Rattle.std.specs.Option.{option_map_or}
 use Rattle.pp_model.specs.Finders.{Finder, Finders}
 use Rattle.pp_model.specs.FrameTexts.{Written}
-use Rattle.pp_stack.specs.Runs.{up_to_last, from_first, pruned}
-use Rattle.pp_stack.specs.Filters.{finds_frame, finds_function, is_prunable, load_pruned, is_kept, not_hidden, shown, cut, shown_from, pruned_from, is_emptied, shortened, passed, filtered}
-use Rattle.pp_aggregate.specs.Left.{finds, names, prunes, AsksNoFrame}
+use Rattle.pp_stack.specs.Runs.{up_to_last, from_first, pruned_frames}
+use Rattle.pp_stack.specs.Filters.{finds_frame, finds_function, is_prunable, load_pruned, is_kept, not_hidden, frames_shown, cut, shown_from, pruned_from, is_emptied, left_of_cut, kept_frames, filtered}
+use Rattle.pp_aggregate.specs.Left.{finds_in_force, names_in_force, prunes, AsksNoFrame}
 
 module _ {X : Type 0} (t u : X → Written) where
   -- what depends on a pattern's answers alone
@@ -20,16 +20,16 @@ module _ {X : Type 0} (t u : X → Written) where
   -- The patterns find the same of both.
   pub record FindSame (f : Finders) : Type 0 where
     pub drop : (x : X) → prunes f (t x) ≡ prunes f (u x)
-    pub focus : (x : X) → finds f.focus (t x) ≡ finds f.focus (u x)
-    pub ignore : (x : X) → finds f.ignore (t x) ≡ finds f.ignore (u x)
-    pub hide : (x : X) → finds f.hide (t x) ≡ finds f.hide (u x)
-    pub show : (x : X) → finds f.show (t x) ≡ finds f.show (u x)
-    pub show_from : (x : X) → finds f.show_from (t x) ≡ finds f.show_from (u x)
-    pub prune_from : (x : X) → names f.prune_from (t x) ≡ names f.prune_from (u x)
+    pub focus : (x : X) → finds_in_force f.focus (t x) ≡ finds_in_force f.focus (u x)
+    pub ignore : (x : X) → finds_in_force f.ignore (t x) ≡ finds_in_force f.ignore (u x)
+    pub hide : (x : X) → finds_in_force f.hide (t x) ≡ finds_in_force f.hide (u x)
+    pub show : (x : X) → finds_in_force f.show (t x) ≡ finds_in_force f.show (u x)
+    pub show_from : (x : X) → finds_in_force f.show_from (t x) ≡ finds_in_force f.show_from (u x)
+    pub prune_from : (x : X) → names_in_force f.prune_from (t x) ≡ names_in_force f.prune_from (u x)
 
   module _ (f : Finders) (same : FindSame f) where
     pub same_pruned : (stack : List X) → load_pruned t f stack ≡ load_pruned u f stack
-    same_pruned stack = by_answers (λ drop. is_prunable drop f.keep) (λ test. pruned test stack) stack f.drop same.drop
+    same_pruned stack = by_answers (λ drop. is_prunable drop f.keep) (λ test. pruned_frames test stack) stack f.drop same.drop
 
     same_kept : (stack : List X) → is_kept t f stack ≡ is_kept u f stack
     same_kept stack = λ i.
@@ -39,7 +39,7 @@ module _ {X : Type 0} (t u : X → Written) where
     same_hidden : (stack : List X) → not_hidden t f stack ≡ not_hidden u f stack
     same_hidden stack = by_answers finds_frame (λ test. filter (λ x. not (test x)) stack) stack f.hide same.hide
 
-    same_shown : (stack : List X) → shown t f stack ≡ shown u f stack
+    same_shown : (stack : List X) → frames_shown t f stack ≡ frames_shown u f stack
     same_shown stack = by_answers finds_frame (λ test. filter test stack) stack f.show same.show
 
     same_cut : (stack : List X) → cut t f stack ≡ cut u f stack
@@ -51,12 +51,12 @@ module _ {X : Type 0} (t u : X → Written) where
     same_end : (stack : List X) → pruned_from t f stack ≡ pruned_from u f stack
     same_end stack = by_answers finds_function (λ test. from_first test stack) stack f.prune_from same.prune_from
 
-    same_shortened : (stack : List X) → shortened t f stack ≡ shortened u f stack
+    same_shortened : (stack : List X) → left_of_cut t f stack ≡ left_of_cut u f stack
     same_shortened stack = λ i.
         cond (is_emptied stack (same_cut stack i)) None
         (option_map (λ ys. same_end ys i) (same_from (same_cut stack i) i))
 
-    same_passed : (stack : List X) → passed t f stack ≡ passed u f stack
+    same_passed : (stack : List X) → kept_frames t f stack ≡ kept_frames u f stack
     same_passed stack = λ i. cond (same_kept stack i) (same_shortened stack i) None
 
     -- The filters leave the same of a stack.

@@ -15,7 +15,7 @@ use Rattle.pp_model.specs.Frames.{line_at}
 use Rattle.pp_model.specs.FrameTexts.{Written, written}
 use Rattle.pp_aggregate.specs.declared.aggregating.Kept.{Kept}
 use Rattle.pp_aggregate.specs.Aggregated.{number_if, aggregated_mapping, aggregated_function, aggregated_line, aggregated_location, aggregated}
-use Rattle.pp_aggregate.specs.Left.{left_of}
+use Rattle.pp_aggregate.specs.Left.{left_of_frame}
 
 -- a search that a change of the items doesn't see
 found : {A : Type 0} (test : A → Bool) (change : A → A) → ((x : A) → test (change x) ≡ test x) → (xs : List A)
@@ -93,7 +93,7 @@ module _ (keep : Kept) (p : Profile) where
     file_left (Some f) = text_left keep.filenames f.filename
 
     -- The frame of a line with what is kept of it is what is left of the line's frame.
-    pub told_left : (location : Location) (line : Option Line) → told kept (aggregated_location keep location) (option_map (aggregated_line keep) line) ≡ left_of keep (told p location line)
+    pub told_left : (location : Location) (line : Option Line) → told kept (aggregated_location keep location) (option_map (aggregated_line keep) line) ≡ left_of_frame keep (told p location line)
     told_left location None = λ i. record {
       function = first_left keep.functions i;
       file = first_left keep.filenames i;
@@ -112,7 +112,7 @@ module _ (keep : Kept) (p : Profile) where
     }
 
     -- a frame whose line is known
-    pub frame_left : (x y : Frame) → x.location ≡ y.location → line_at kept x ≡ option_map (aggregated_line keep) (line_at p y) → written kept x ≡ left_of keep (written p y)
+    pub frame_left : (x y : Frame) → x.location ≡ y.location → line_at kept x ≡ option_map (aggregated_line keep) (line_at p y) → written kept x ≡ left_of_frame keep (written p y)
     frame_left x y same line =
         (λ i. told kept (location_at kept (same i)) (line i))
         ∙ (λ i. told kept (location_left y.location i) (option_map (aggregated_line keep) (line_at p y)))

@@ -7,7 +7,7 @@ use Rattle.pp_model.specs.FrameTexts.{Written}
 use Rattle.pp_grain.specs.Keys.{kept_by, key_texts, with_object, column_if}
 use Rattle.pp_aggregate.specs.declared.aggregating.Kept.{Kept}
 use Rattle.pp_aggregate.specs.Aggregated.{number_if}
-use Rattle.pp_aggregate.specs.Left.{left_of, keeps_lines, keeps_keys}
+use Rattle.pp_aggregate.specs.Left.{left_of_frame, keeps_lines, keeps_keys}
 
 -- a column that is shown is kept
 column_left : (showcolumns is_kept : Bool) (column : ℤ) → (not showcolumns || is_kept) ≡ true
@@ -36,7 +36,7 @@ by_parts keep showcolumns all =
 
 -- what the grain keeps of a frame it keeps of what is left of it
 kept_left : (keep : Kept) (grain : Grain) (showcolumns : Bool) (w : Written) → keeps_keys keep grain showcolumns ≡ true
-    → kept_by grain showcolumns (left_of keep w) ≡ kept_by grain showcolumns w
+    → kept_by grain showcolumns (left_of_frame keep w) ≡ kept_by grain showcolumns w
 kept_left keep Functions showcolumns w all = λ i. record (kept_by Functions showcolumns w) { function = cond (all i) w.function [] }
 kept_left keep FileFunctions showcolumns w all =
     let (functions, filenames) = and_parts _ _ all in
@@ -63,5 +63,5 @@ kept_left keep Addresses showcolumns w all =
 
 -- A key that looks at nothing that is dropped is the same of what is left.
 pub key_left : (keep : Kept) (grain : Grain) (showcolumns : Bool) (w : Written) → keeps_keys keep grain showcolumns ≡ true
-    → key_texts grain showcolumns (left_of keep w) ≡ key_texts grain showcolumns w
+    → key_texts grain showcolumns (left_of_frame keep w) ≡ key_texts grain showcolumns w
 key_left keep grain showcolumns w all = ap (λ key. with_object key w.object) (kept_left keep grain showcolumns w all)

@@ -16,13 +16,13 @@ use Rattle.pp_count.specs.Column.{selected}
 use Rattle.pp_count.specs.Sums.{Seen, renamed, weighed}
 use Rattle.pp_count.specs.Seeing.{counted_frames, passes_tags, filtered_stack, framed_with, framed_samples, numbers_from}
 use Rattle.pp_count.specs.Counts.{AreSumsOf, total_over}
-use Rattle.pp_count.specs.Counted.{report_samples, report_frames, is_own}
+use Rattle.pp_count.specs.Counted.{report_samples, report_frames, finds_own}
 use Rattle.pp_count.specs.Matches.{frame_match, key_match, tag_match, matches_of}
 use Rattle.pp_count.proofs.CallerLemmas.{key_of_written, weighed-renamed, keyed_report}
 use Rattle.pp_count.proofs.Keyed.{map_twice}
 use Rattle.pp_aggregate.specs.declared.aggregating.Kept.{Kept}
 use Rattle.pp_aggregate.specs.Aggregated.{aggregated}
-use Rattle.pp_aggregate.specs.Left.{left_of, keeps_keys, keeps_counted, finds, names, prunes, Stays, FindsLeft, AsksNoFrame, patterns_stay, FramesStay}
+use Rattle.pp_aggregate.specs.Left.{left_of_frame, keeps_keys, keeps_counted, finds_in_force, names_in_force, prunes, Stays, FindsLeft, AsksNoFrame, patterns_stay, FramesStay}
 use Rattle.pp_aggregate.specs.Laws.{KeysStay, AreLeft, FramesAreLeft, SamplesStay, SumsStay}
 use Rattle.pp_aggregate.proofs.FilterLemmas.{FindSame, by_answers, same_pruned, same_filtered, unfiltered}
 use Rattle.pp_aggregate.proofs.KeyLemmas.{key_left}
@@ -51,27 +51,27 @@ module _ (keep : Kept) (p : Profile) (f : Finders) (config : Config) (column : O
   -- The sample is dropped as before, or has what is left of its frames that count.
   record IsLeft (s : Sample) : Type 0 where
     some : is_some (filtered_stack kept f config s) ≡ is_some (filtered_stack p f config s)
-    frames : framed kept s ≡ option_map (renamed (left_of keep)) (framed p s)
+    frames : framed kept s ≡ option_map (renamed (left_of_frame keep)) (framed p s)
 
   -- of one stack
-  stack_left : (s : Sample) (o : Option (List Frame)) → ((x : Frame) → written kept x ≡ left_of keep (written p x))
-      → option_map (framed_with kept config column s) o ≡ option_map (renamed (left_of keep)) (option_map (framed_with p config column s) o)
+  stack_left : (s : Sample) (o : Option (List Frame)) → ((x : Frame) → written kept x ≡ left_of_frame keep (written p x))
+      → option_map (framed_with kept config column s) o ≡ option_map (renamed (left_of_frame keep)) (option_map (framed_with p config column s) o)
   stack_left s None each = refl
   stack_left s (Some stack) each = λ i. Some (record {
     value = selected column config.divide_by s;
-    keys = ((λ j. map (λ x. each x j) (counted_frames config.noinlines stack)) ∙ sym (map_twice (left_of keep) (written p) (counted_frames config.noinlines stack))) i;
+    keys = ((λ j. map (λ x. each x j) (counted_frames config.noinlines stack)) ∙ sym (map_twice (left_of_frame keep) (written p) (counted_frames config.noinlines stack))) i;
   })
 
   -- With inlined frames patterns find the same.
   find_same : keep.inline_frames ≡ true → FindsLeft keep p f → FindSame (written kept) (written p) f
   find_same whole left = record {
     drop = stays (prunes f) left.drop;
-    focus = stays (finds f.focus) left.focus;
-    ignore = stays (finds f.ignore) left.ignore;
-    hide = stays (finds f.hide) left.hide;
-    show = stays (finds f.show) left.show;
-    show_from = stays (finds f.show_from) left.show_from;
-    prune_from = stays (names f.prune_from) left.prune_from;
+    focus = stays (finds_in_force f.focus) left.focus;
+    ignore = stays (finds_in_force f.ignore) left.ignore;
+    hide = stays (finds_in_force f.hide) left.hide;
+    show = stays (finds_in_force f.show) left.show;
+    show_from = stays (finds_in_force f.show_from) left.show_from;
+    prune_from = stays (names_in_force f.prune_from) left.prune_from;
   }
     where
       stays : (test : Written → Bool) → Stays keep p test → (x : Frame) → test (written kept x) ≡ test (written p x)
@@ -93,7 +93,7 @@ module _ (keep : Kept) (p : Profile) (f : Finders) (config : Config) (column : O
   Matches pattern = frame_match kept f pattern p.sample ≡ frame_match p f pattern p.sample
 
   match_whole : keep.inline_frames ≡ true → FindsLeft keep p f → (pattern : Option Finder)
-      → ((x : Frame) → finds pattern (written kept x) ≡ finds pattern (written p x)) → Matches pattern
+      → ((x : Frame) → finds_in_force pattern (written kept x) ≡ finds_in_force pattern (written p x)) → Matches pattern
   match_whole whole left pattern same =
       (λ i. option_map_or (λ find. list_any (λ s. list_any (λ x. finds_frame find (written kept x)) (pruned_same s i)) p.sample) pattern false)
       ∙ by_answers (written kept) (written p) finds_frame (λ test. list_any (λ s. list_any test (load_pruned (written p) f (stack_of p s))) p.sample) false pattern same
@@ -137,7 +137,7 @@ module _ (keep : Kept) (p : Profile) (f : Finders) (config : Config) (column : O
         frames =
             ap (option_map (framed_with kept config column s)) after
             ∙ framed_tags (passes_tags p f config s) (counted_left keep p empty config.noinlines 0 s.location_id counted)
-            ∙ sym (ap (λ o. option_map (renamed (left_of keep)) (option_map (framed_with p config column s) o)) before);
+            ∙ sym (ap (λ o. option_map (renamed (left_of_frame keep)) (option_map (framed_with p config column s) o)) before);
       }
     where
       by_tags : (b : Bool) → is_some (cond b (Some (stack_of kept s)) None) ≡ is_some (cond b (Some (stack_of p s)) None)
@@ -145,9 +145,9 @@ module _ (keep : Kept) (p : Profile) (f : Finders) (config : Config) (column : O
       by_tags false = refl
 
       framed_tags : (b : Bool)
-          → map (written kept) (counted_frames config.noinlines (stack_of kept s)) ≡ map (left_of keep) (map (written p) (counted_frames config.noinlines (stack_of p s)))
+          → map (written kept) (counted_frames config.noinlines (stack_of kept s)) ≡ map (left_of_frame keep) (map (written p) (counted_frames config.noinlines (stack_of p s)))
           → option_map (framed_with kept config column s) (cond b (Some (stack_of kept s)) None)
-          ≡ option_map (renamed (left_of keep)) (option_map (framed_with p config column s) (cond b (Some (stack_of p s)) None))
+          ≡ option_map (renamed (left_of_frame keep)) (option_map (framed_with p config column s) (cond b (Some (stack_of p s)) None))
       framed_tags true keys = λ i. Some (record { value = selected column config.divide_by s; keys = keys i })
       framed_tags false keys = refl
 
@@ -163,11 +163,11 @@ module _ (keep : Kept) (p : Profile) (f : Finders) (config : Config) (column : O
     some_left : (s : Sample) → is_some (filtered_stack kept f config s) ≡ is_some (filtered_stack p f config s)
     some_left s = (each_left stay s).some
 
-    pub frames_left : report_frames kept f config column ≡ map (renamed (left_of keep)) (report_frames p f config column)
+    pub frames_left : report_frames kept f config column ≡ map (renamed (left_of_frame keep)) (report_frames p f config column)
     frames_left =
         (λ i. weighed (filter_map (λ s. (each_left stay s).frames i) p.sample))
-        ∙ ap weighed (seen_mapped (left_of keep) (framed p) p.sample)
-        ∙ weighed-renamed (left_of keep) (framed_samples p f config column p.sample)
+        ∙ ap weighed (seen_mapped (left_of_frame keep) (framed p) p.sample)
+        ∙ weighed-renamed (left_of_frame keep) (framed_samples p f config column p.sample)
 
     pub are_left : AreLeft keep p f config column
     are_left = record {
@@ -176,28 +176,28 @@ module _ (keep : Kept) (p : Profile) (f : Finders) (config : Config) (column : O
       frames = frames_left;
       matches = matches_left stay;
       own = λ functions.
-          ap (list_any (λ s. list_any (is_own f) s.keys)) frames_left
-          ∙ list_any-map (renamed (left_of keep)) (λ s. list_any (is_own f) s.keys) (report_frames p f config column)
+          ap (list_any (λ s. list_any (finds_own f) s.keys)) frames_left
+          ∙ list_any-map (renamed (left_of_frame keep)) (λ s. list_any (finds_own f) s.keys) (report_frames p f config column)
           ∙ (λ i. list_any (λ s. own_left functions s.keys i) (report_frames p f config column));
     }
       where
-        own_left : keep.functions ≡ true → (ws : List Written) → list_any (is_own f) (map (left_of keep) ws) ≡ list_any (is_own f) ws
+        own_left : keep.functions ≡ true → (ws : List Written) → list_any (finds_own f) (map (left_of_frame keep) ws) ≡ list_any (finds_own f) ws
         own_left functions ws =
-            list_any-map (left_of keep) (is_own f) ws
+            list_any-map (left_of_frame keep) (finds_own f) ws
             ∙ (λ i. list_any (λ w. option_map_or (λ find. find (cond (functions i) w.function [])) f.own false) ws)
 
     pub samples_stay : keeps_keys keep config.grain config.showcolumns ≡ true → report_samples kept f config column ≡ report_samples p f config column
     samples_stay all =
         sym (keyed_report kept f config column)
         ∙ ap (map (renamed (key_of_written config))) frames_left
-        ∙ map_twice (renamed (key_of_written config)) (renamed (left_of keep)) (report_frames p f config column)
+        ∙ map_twice (renamed (key_of_written config)) (renamed (left_of_frame keep)) (report_frames p f config column)
         ∙ (λ i. map (λ s. keys_same s i) (report_frames p f config column))
         ∙ keyed_report p f config column
       where
-        keys_same : (s : Seen Written) → renamed (key_of_written config) (renamed (left_of keep) s) ≡ renamed (key_of_written config) s
+        keys_same : (s : Seen Written) → renamed (key_of_written config) (renamed (left_of_frame keep) s) ≡ renamed (key_of_written config) s
         keys_same s = λ i. record {
           value = s.value;
-          keys = (map_twice (key_of_written config) (left_of keep) s.keys ∙ (λ j. map (λ w. key_left keep config.grain config.showcolumns w all j) s.keys)) i;
+          keys = (map_twice (key_of_written config) (left_of_frame keep) s.keys ∙ (λ j. map (λ w. key_left keep config.grain config.showcolumns w all j) s.keys)) i;
         }
 
 pub frames_are_left : FramesAreLeft
@@ -222,7 +222,7 @@ pub keys_are_same : KeysStay
 keys_are_same keep p config s valid counted all =
     sym (map_twice key (written kept) (counted_frames config.noinlines (stack_of kept s)))
     ∙ ap (map key) (counted_left keep p (first_empty p valid) config.noinlines 0 s.location_id counted)
-    ∙ map_twice key (left_of keep) (map (written p) (counted_frames config.noinlines (stack_of p s)))
+    ∙ map_twice key (left_of_frame keep) (map (written p) (counted_frames config.noinlines (stack_of p s)))
     ∙ (λ i. map (λ w. key_left keep config.grain config.showcolumns w all i) (map (written p) (counted_frames config.noinlines (stack_of p s))))
     ∙ map_twice key (written p) (counted_frames config.noinlines (stack_of p s))
   where

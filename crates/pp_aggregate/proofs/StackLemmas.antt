@@ -17,7 +17,7 @@ use Rattle.pp_count.specs.Seeing.{counted_frames}
 use Rattle.pp_count.proofs.Keyed.{map_twice}
 use Rattle.pp_aggregate.specs.declared.aggregating.Kept.{Kept}
 use Rattle.pp_aggregate.specs.Aggregated.{aggregated_line, aggregated, outermost}
-use Rattle.pp_aggregate.specs.Left.{left_of}
+use Rattle.pp_aggregate.specs.Left.{left_of_frame}
 use Rattle.pp_aggregate.proofs.LastLemmas.{last_of, last_read, outermost_last}
 use Rattle.pp_aggregate.proofs.FrameLemmas.{location_left, frame_left}
 
@@ -92,7 +92,7 @@ module _ (keep : Kept) (p : Profile) where
           ++ frames_whole (place + 1) ids i
 
       -- and each stands for what is left of it
-      pub frame_whole : (x : Frame) → written kept x ≡ left_of keep (written p x)
+      pub frame_whole : (x : Frame) → written kept x ≡ left_of_frame keep (written p x)
       frame_whole x = frame_left keep p none x x refl (line_whole x.row)
         where
           line_whole : (row : Option ℕ) → option_and_then (λ r. slice_get (lines_at kept x.location) r) row
@@ -108,7 +108,7 @@ module _ (keep : Kept) (p : Profile) where
 
       -- the last frame of a location is the one that is left
       last_left : (place location : ℕ) (lines : List Line) → lines_at p location ≡ lines
-          → written kept (last_frame place location (map (aggregated_line keep) (outermost lines))) ≡ left_of keep (written p (last_frame place location lines))
+          → written kept (last_frame place location (map (aggregated_line keep) (outermost lines))) ≡ left_of_frame keep (written p (last_frame place location lines))
       last_left place location [] is = frame_left keep p none (last_frame place location []) (last_frame place location []) refl refl
       last_left place location (line ∷ lines) is =
           let alone : outermost (line ∷ lines) ≡ last_of line lines ∷ [] = outermost_last line lines in
@@ -119,26 +119,26 @@ module _ (keep : Kept) (p : Profile) where
 
       -- Without inlined frames a stack has what is left of the last frame of each location.
       frames_last : (place : ℕ) (ids : List ℕ) → map (written kept) (counted_frames true (frames_from kept place ids))
-          ≡ map (λ x. left_of keep (written p x)) (counted_frames true (frames_from p place ids))
+          ≡ map (λ x. left_of_frame keep (written p x)) (counted_frames true (frames_from p place ids))
       frames_last place [] = refl
       frames_last place (id ∷ ids) =
           let location : ℕ = id - 1 in
           ap (map (written kept)) (location_counts place location (frames_from kept (place + 1) ids) (further kept place ids) (lines_at kept location))
           ∙ (λ i. written kept (last_frame place location (lines_last location i)) ∷ frames_last (place + 1) ids i)
-          ∙ ap (λ w. w ∷ map (λ x. left_of keep (written p x)) (counted_frames true (frames_from p (place + 1) ids))) (last_left place location (lines_at p location) refl)
-          ∙ ap (map (λ x. left_of keep (written p x))) (sym (location_counts place location (frames_from p (place + 1) ids) (further p place ids) (lines_at p location)))
+          ∙ ap (λ w. w ∷ map (λ x. left_of_frame keep (written p x)) (counted_frames true (frames_from p (place + 1) ids))) (last_left place location (lines_at p location) refl)
+          ∙ ap (map (λ x. left_of_frame keep (written p x))) (sym (location_counts place location (frames_from p (place + 1) ids) (further p place ids) (lines_at p location)))
 
     -- The frames that count stand for what is left of them, where no frame that is dropped counts.
     pub counted_left : (noinlines : Bool) (place : ℕ) (ids : List ℕ) → (keep.inline_frames || noinlines) ≡ true
-        → map (written kept) (counted_frames noinlines (frames_from kept place ids)) ≡ map (left_of keep) (map (written p) (counted_frames noinlines (frames_from p place ids)))
-    counted_left noinlines place ids counted = by keep.inline_frames refl counted ∙ sym (map_twice (left_of keep) (written p) (counted_frames noinlines (frames_from p place ids)))
+        → map (written kept) (counted_frames noinlines (frames_from kept place ids)) ≡ map (left_of_frame keep) (map (written p) (counted_frames noinlines (frames_from p place ids)))
+    counted_left noinlines place ids counted = by keep.inline_frames refl counted ∙ sym (map_twice (left_of_frame keep) (written p) (counted_frames noinlines (frames_from p place ids)))
       where
         by : (b : Bool) → keep.inline_frames ≡ b → (b || noinlines) ≡ true
-            → map (written kept) (counted_frames noinlines (frames_from kept place ids)) ≡ map (λ x. left_of keep (written p x)) (counted_frames noinlines (frames_from p place ids))
+            → map (written kept) (counted_frames noinlines (frames_from kept place ids)) ≡ map (λ x. left_of_frame keep (written p x)) (counted_frames noinlines (frames_from p place ids))
         by true is any =
             ap (λ stack. map (written kept) (counted_frames noinlines stack)) (frames_whole is place ids)
             ∙ (λ i. map (λ x. frame_whole is x i) (counted_frames noinlines (frames_from p place ids)))
         by false is alone =
             ap (λ b. map (written kept) (counted_frames b (frames_from kept place ids))) alone
             ∙ frames_last is place ids
-            ∙ ap (λ b. map (λ x. left_of keep (written p x)) (counted_frames b (frames_from p place ids))) (sym alone)
+            ∙ ap (λ b. map (λ x. left_of_frame keep (written p x)) (counted_frames b (frames_from p place ids))) (sym alone)

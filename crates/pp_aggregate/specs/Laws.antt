@@ -15,7 +15,7 @@ use Rattle.pp_count.specs.Counted.{report_samples, report_frames, has_own_match}
 use Rattle.pp_count.specs.Matches.{matches_of}
 use Rattle.pp_aggregate.specs.declared.aggregating.Kept.{Kept}
 use Rattle.pp_aggregate.specs.Aggregated.{aggregated}
-use Rattle.pp_aggregate.specs.Left.{left_of, keeps_keys, keeps_counted, FramesStay, FindsLeft, AsksNoFrame}
+use Rattle.pp_aggregate.specs.Left.{left_of_frame, keeps_keys, keeps_counted, FramesStay, FindsLeft, AsksNoFrame}
 
 -- Without filters the keys of each stack stay, at each grain that looks at nothing that is dropped.
 abbrev pub KeysStay : Type 0
@@ -34,7 +34,7 @@ pub record AreLeft (keep : Kept) (p : Profile) (f : Finders) (config : Config) (
   pub total : total_of (aggregated keep p) f config column ≡ total_of p f config column
   pub frames
       : report_frames (aggregated keep p) f config column
-      ≡ map (renamed (left_of keep)) (report_frames p f config column)
+      ≡ map (renamed (left_of_frame keep)) (report_frames p f config column)
   pub matches : matches_of (aggregated keep p) f config ≡ matches_of p f config
   pub own : keep.functions ≡ true
       → has_own_match (aggregated keep p) f config column ≡ has_own_match p f config column

@@ -13,8 +13,8 @@ use Rattle.pp_aggregate.specs.declared.aggregating.Kept.{Kept}
 use Rattle.pp_aggregate.specs.Aggregated.{number_if}
 
 -- what is left of a frame; its object always is
-abbrev pub left_of : Kept → Written → Written
-left_of keep w = record {
+abbrev pub left_of_frame : Kept → Written → Written
+left_of_frame keep w = record {
   function = if keep.functions then w.function else [];
   file = if keep.filenames then w.file else [];
   line = number_if keep.lines w.line;
@@ -41,12 +41,12 @@ abbrev pub keeps_counted : Kept → Config → Bool
 keeps_counted keep config = keep.inline_frames || config.noinlines
 
 -- the pattern finds the frame; one that isn't in force finds none
-abbrev pub finds : Option Finder → Written → Bool
-finds pattern w = option_map_or (λ find. finds_frame find w) pattern false
+abbrev pub finds_in_force : Option Finder → Written → Bool
+finds_in_force pattern w = option_map_or (λ find. finds_frame find w) pattern false
 
 -- the pattern finds the frame's function; one that isn't in force finds none
-abbrev pub names : Option Finder → Written → Bool
-names pattern w = option_map_or (λ find. finds_function find w) pattern false
+abbrev pub names_in_force : Option Finder → Written → Bool
+names_in_force pattern w = option_map_or (λ find. finds_function find w) pattern false
 
 -- load pruning may cut the stack at the frame
 abbrev pub prunes : Finders → Written → Bool
@@ -54,17 +54,17 @@ prunes f w = option_map_or (λ drop. is_prunable drop f.keep w) f.drop false
 
 -- the test passes for what is left of a frame where it passes for the frame
 abbrev pub Stays : Kept → Profile → (Written → Bool) → Type 0
-Stays keep p test = (x : Frame) → test (left_of keep (written p x)) ≡ test (written p x)
+Stays keep p test = (x : Frame) → test (left_of_frame keep (written p x)) ≡ test (written p x)
 
 -- What patterns find of each frame they find of what is left of it.
 pub record FindsLeft (keep : Kept) (p : Profile) (f : Finders) : Type 0 where
   pub drop : Stays keep p (prunes f)
-  pub focus : Stays keep p (finds f.focus)
-  pub ignore : Stays keep p (finds f.ignore)
-  pub hide : Stays keep p (finds f.hide)
-  pub show : Stays keep p (finds f.show)
-  pub show_from : Stays keep p (finds f.show_from)
-  pub prune_from : Stays keep p (names f.prune_from)
+  pub focus : Stays keep p (finds_in_force f.focus)
+  pub ignore : Stays keep p (finds_in_force f.ignore)
+  pub hide : Stays keep p (finds_in_force f.hide)
+  pub show : Stays keep p (finds_in_force f.show)
+  pub show_from : Stays keep p (finds_in_force f.show_from)
+  pub prune_from : Stays keep p (names_in_force f.prune_from)
 
 -- no pattern is asked of frames
 pub record AsksNoFrame (f : Finders) : Type 0 where

@@ -15,8 +15,8 @@ use Rattle.pp_model.specs.declared.profile.Profile.{Profile}
 use Rattle.pp_model.specs.Rules.{begins_empty, header_texts}
 use Rattle.pp_model.specs.FirstSight.{seen_with}
 use Rattle.pp_model.proofs.FirstSightLemmas.{all_as, all_push}
-use Rattle.pp_build.specs.Adding.{no_entries, with_text, with_type, with_mapping, with_function, with_location, with_sample}
-use Rattle.pp_build.specs.Same.{same_mapping, same_function, same_location}
+use Rattle.pp_build.specs.Adding.{no_entries, with_new_text, with_type, with_mapping, with_function, with_location, with_new_sample}
+use Rattle.pp_build.specs.Same.{same_mapping_entry, same_function_entry, same_location_entry}
 use Rattle.pp_build.specs.Growing.{IsBuilt, TextIn, TypeIn, LabelIn, MappingIn, FunctionIn, LocationIn, IdIn, SampleIn}
 use Rattle.pp_build.proofs.OnceLemmas.{no_fewer, one_more, all_with, numbered_with}
 
@@ -61,9 +61,9 @@ nothing_built = record {
 
 module _ (p : Profile) (built : IsBuilt p) where
   -- a text more
-  pub text_built : (text : List ℕ) → length p.text < 2 ^ 62 → IsBuilt (with_text p text)
+  pub text_built : (text : List ℕ) → length p.text < 2 ^ 62 → IsBuilt (with_new_text p text)
   text_built text room =
-      let stays = text_stays (length p.text) (length (with_text p text).text) (no_fewer bytes_eq p.text text) in
+      let stays = text_stays (length p.text) (length (with_new_text p text).text) (no_fewer bytes_eq p.text text) in
       record {
         begins = begins_with p.text text built.begins;
         few = omega (arith, room, one_more bytes_eq p.text text);
@@ -107,7 +107,7 @@ module _ (p : Profile) (built : IsBuilt p) where
   pub mapping_built : (m : Mapping) → MappingIn (length p.text) m → IsBuilt (with_mapping p m)
   mapping_built m is =
       let next : Mapping = record m { id = length p.mapping + 1 } in
-      let more = no_fewer same_mapping p.mapping next in
+      let more = no_fewer same_mapping_entry p.mapping next in
       record {
         begins = built.begins;
         few = built.few;
@@ -115,10 +115,10 @@ module _ (p : Profile) (built : IsBuilt p) where
         comments = built.comments;
         types = built.types;
         samples = built.samples;
-        mappings = all_with same_mapping (MappingIn (length p.text)) p.mapping next built.mappings is;
+        mappings = all_with same_mapping_entry (MappingIn (length p.text)) p.mapping next built.mappings is;
         functions = built.functions;
         locations = all_as (LocationIn (length p.mapping) (length p.function)) _ (λ (l : Location) in_it. (omega (arith, in_it.0, more), in_it.1)) p.location built.locations;
-        mapping_ids = numbered_with same_mapping (λ n. n.id) p.mapping next built.mapping_ids refl;
+        mapping_ids = numbered_with same_mapping_entry (λ n. n.id) p.mapping next built.mapping_ids refl;
         function_ids = built.function_ids;
         location_ids = built.location_ids;
       }
@@ -127,7 +127,7 @@ module _ (p : Profile) (built : IsBuilt p) where
   pub function_built : (f : Function) → FunctionIn (length p.text) f → IsBuilt (with_function p f)
   function_built f is =
       let next : Function = record f { id = length p.function + 1 } in
-      let more = no_fewer same_function p.function next in
+      let more = no_fewer same_function_entry p.function next in
       record {
         begins = built.begins;
         few = built.few;
@@ -136,11 +136,11 @@ module _ (p : Profile) (built : IsBuilt p) where
         types = built.types;
         samples = built.samples;
         mappings = built.mappings;
-        functions = all_with same_function (FunctionIn (length p.text)) p.function next built.functions is;
+        functions = all_with same_function_entry (FunctionIn (length p.text)) p.function next built.functions is;
         locations = all_as (LocationIn (length p.mapping) (length p.function)) _
             (λ (l : Location) in_it. (in_it.0, all_as (λ (line : Line). line.function_id ≤ length p.function) _ (λ line low. omega (arith, low, more)) l.line in_it.1)) p.location built.locations;
         mapping_ids = built.mapping_ids;
-        function_ids = numbered_with same_function (λ g. g.id) p.function next built.function_ids refl;
+        function_ids = numbered_with same_function_entry (λ g. g.id) p.function next built.function_ids refl;
         location_ids = built.location_ids;
       }
 
@@ -148,7 +148,7 @@ module _ (p : Profile) (built : IsBuilt p) where
   pub location_built : (l : Location) → LocationIn (length p.mapping) (length p.function) l → IsBuilt (with_location p l)
   location_built l is =
       let next : Location = record l { id = length p.location + 1 } in
-      let more = no_fewer same_location p.location next in
+      let more = no_fewer same_location_entry p.location next in
       record {
         begins = built.begins;
         few = built.few;
@@ -164,14 +164,14 @@ module _ (p : Profile) (built : IsBuilt p) where
             }) p.sample built.samples;
         mappings = built.mappings;
         functions = built.functions;
-        locations = all_with same_location (LocationIn (length p.mapping) (length p.function)) p.location next built.locations is;
+        locations = all_with same_location_entry (LocationIn (length p.mapping) (length p.function)) p.location next built.locations is;
         mapping_ids = built.mapping_ids;
         function_ids = built.function_ids;
-        location_ids = numbered_with same_location (λ n. n.id) p.location next built.location_ids refl;
+        location_ids = numbered_with same_location_entry (λ n. n.id) p.location next built.location_ids refl;
       }
 
   -- a sample more
-  pub sample_built : (s : Sample) → SampleIn (length p.text) (length p.location) (length p.sample_type) s → IsBuilt (with_sample p s)
+  pub sample_built : (s : Sample) → SampleIn (length p.text) (length p.location) (length p.sample_type) s → IsBuilt (with_new_sample p s)
   sample_built s is =
       record {
         begins = built.begins;

@@ -10,8 +10,8 @@ use Rattle.pp_model.specs.FirstSight.{seen_with, place_of}
 use Rattle.pp_build.specs.declared.seen.MappingKey.{MappingKey}
 use Rattle.pp_build.specs.declared.seen.FunctionKey.{FunctionKey}
 use Rattle.pp_build.specs.declared.seen.LocationKey.{LocationKey}
-use Rattle.pp_build.specs.Adding.{with_text, text_index, with_mapping, mapping_number, with_function, function_number, with_location, location_number}
-use Rattle.pp_build.specs.Same.{same_mapping, same_function, same_location}
+use Rattle.pp_build.specs.Adding.{with_new_text, text_index, with_mapping, mapping_number, with_function, function_number, with_location, location_number}
+use Rattle.pp_build.specs.Same.{same_mapping_entry, same_function_entry, same_location_entry}
 use Rattle.pp_build.specs.Seen.{keyed_mapping, bare_mapping, keyed_function, bare_function, keyed_location, bare_location}
 use Rattle.pp_build.specs.Growing.{IsBuilt, IdIn, MappingIn, FunctionIn, LocationIn}
 use Rattle.pp_build.proofs.OnceLemmas.{place_is, table_is, keys_are, place_within}
@@ -47,20 +47,20 @@ abbrev pub text_eq : Vec ℕ Global → Vec ℕ Global → Bool
 text_eq a b = bytes_eq a.items b.items
 
 abbrev pub mapping_eq : MappingKey → MappingKey → Bool
-mapping_eq a b = same_mapping (keyed_mapping a) (keyed_mapping b)
+mapping_eq a b = same_mapping_entry (keyed_mapping a) (keyed_mapping b)
 
 abbrev pub function_eq : FunctionKey → FunctionKey → Bool
-function_eq a b = same_function (keyed_function a) (keyed_function b)
+function_eq a b = same_function_entry (keyed_function a) (keyed_function b)
 
 abbrev pub location_eq : LocationKey → LocationKey → Bool
-location_eq a b = same_location (keyed_location a) (keyed_location b)
+location_eq a b = same_location_entry (keyed_location a) (keyed_location b)
 
 module _ (p now : Profile) (view : p ≡ now) (so_far : IsBuilt p) where
   -- a text
   pub record TextPut (text : List ℕ) (after_keys : List (Vec ℕ Global)) (after : List (List ℕ)) (n : ℕ) : Type 0 where
     pub built : IsBuilt (record p { text = after })
     pub keys : map (λ (k : Vec ℕ Global). k.items) after_keys ≡ map (λ t. t) after
-    pub new : record p { text = after } ≡ with_text now text
+    pub new : record p { text = after } ≡ with_new_text now text
     pub id : n ≡ text_index now text + 1
     pub within : IdIn (length after) n
 
@@ -73,7 +73,7 @@ module _ (p now : Profile) (view : p ≡ now) (so_far : IsBuilt p) where
       record {
         built = subst (λ (ts : List (List ℕ)). IsBuilt (record p { text = ts })) (sym it.table) (text_built p so_far text room);
         keys = it.keys;
-        new = ap (λ (ts : List (List ℕ)). record p { text = ts }) it.table ∙ ap (λ (q : Profile). with_text q text) view;
+        new = ap (λ (ts : List (List ℕ)). record p { text = ts }) it.table ∙ ap (λ (q : Profile). with_new_text q text) view;
         id = it.id ∙ ap (λ (q : Profile). text_index q text + 1) view;
         within = it.within;
       }
@@ -92,7 +92,7 @@ module _ (p now : Profile) (view : p ≡ now) (so_far : IsBuilt p) where
       after_keys ≡ seen_with mapping_eq keys k → after ≡ (if list_any (mapping_eq k) keys then p.mapping else p.mapping ++ item ∷ []) →
       n ≡ place_of mapping_eq keys k + 1 → MappingPut m after_keys after n
   mapping_put k item m keys after_keys after n has is item_is are put_key put_entry placed =
-      let it = put mapping_eq same_mapping keyed_mapping bare_mapping (λ a b. refl) (λ a b. refl) k item (record m { id = length p.mapping + 1 }) keys p.mapping after_keys after n is item_is are put_key put_entry placed in
+      let it = put mapping_eq same_mapping_entry keyed_mapping bare_mapping (λ a b. refl) (λ a b. refl) k item (record m { id = length p.mapping + 1 }) keys p.mapping after_keys after n is item_is are put_key put_entry placed in
       record {
         built = subst (λ (ms : List Mapping). IsBuilt (record p { mapping = ms })) (sym it.table) (mapping_built p so_far m has);
         keys = it.keys;
@@ -115,7 +115,7 @@ module _ (p now : Profile) (view : p ≡ now) (so_far : IsBuilt p) where
       after_keys ≡ seen_with function_eq keys k → after ≡ (if list_any (function_eq k) keys then p.function else p.function ++ item ∷ []) →
       n ≡ place_of function_eq keys k + 1 → FunctionPut f after_keys after n
   function_put k item f keys after_keys after n has is item_is are put_key put_entry placed =
-      let it = put function_eq same_function keyed_function bare_function (λ a b. refl) (λ a b. refl) k item (record f { id = length p.function + 1 }) keys p.function after_keys after n is item_is are put_key put_entry placed in
+      let it = put function_eq same_function_entry keyed_function bare_function (λ a b. refl) (λ a b. refl) k item (record f { id = length p.function + 1 }) keys p.function after_keys after n is item_is are put_key put_entry placed in
       record {
         built = subst (λ (fs : List Function). IsBuilt (record p { function = fs })) (sym it.table) (function_built p so_far f has);
         keys = it.keys;
@@ -139,7 +139,7 @@ module _ (p now : Profile) (view : p ≡ now) (so_far : IsBuilt p) where
       after ≡ (if list_any (location_eq k) keys then p.location else p.location ++ item ∷ []) → n ≡ place_of location_eq keys k + 1 →
       LocationPut l after_keys after n
   location_put k item l keys after_keys after n has is item_is are put_key put_entry placed =
-      let it = put location_eq same_location keyed_location bare_location (λ a b. refl) (λ a b. refl) k item (record l { id = length p.location + 1 }) keys p.location after_keys after n is item_is are put_key put_entry placed in
+      let it = put location_eq same_location_entry keyed_location bare_location (λ a b. refl) (λ a b. refl) k item (record l { id = length p.location + 1 }) keys p.location after_keys after n is item_is are put_key put_entry placed in
       record {
         built = subst (λ (ls : List Location). IsBuilt (record p { location = ls })) (sym it.table) (location_built p so_far l has);
         keys = it.keys;

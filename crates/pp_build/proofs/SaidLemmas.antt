@@ -27,9 +27,9 @@ use Rattle.pp_build.specs.Growing.{IsBuilt, IdIn, TextIn, LabelIn, MappingIn, Fu
 use Rattle.pp_model.specs.FirstSight.{seen_with}
 use Rattle.std.specs.List.{list_any}
 use Rattle.std.specs.Str.{bytes_eq}
-use Rattle.pp_build.specs.Adding.{with_text, with_mapping, with_function, with_location, with_sample}
-use Rattle.pp_build.specs.Same.{same_mapping, same_function, same_location}
-use Rattle.pp_build.specs.Said.{Extends, said_sample, said_samples}
+use Rattle.pp_build.specs.Adding.{with_new_text, with_mapping, with_function, with_location, with_new_sample}
+use Rattle.pp_build.specs.Same.{same_mapping_entry, same_function_entry, same_location_entry}
+use Rattle.pp_build.specs.Said.{ExtendsTables, said_sample, said_samples}
 use Rattle.pp_build.proofs.ChangeLemmas.{mapping_built, function_built, location_built}
 
 -- an item of the front
@@ -68,7 +68,7 @@ number_in : (n : ℕ) (i : ℤ) → TextIn n i → text_number i < n
 number_in n (pos i) is = ltb-true i n is
 number_in n (negsuc i) is = absurd (true≢false (sym is))
 
-module _ (p q : Profile) (built : IsBuilt p) (after : IsBuilt q) (grown : Extends p q) where
+module _ (p q : Profile) (built : IsBuilt p) (after : IsBuilt q) (grown : ExtendsTables p q) where
   text_same : (i : ℕ) → i < length p.text → text_at q i ≡ text_at p i
   text_same i low = front_at p.text q.text i [] grown.texts low
 
@@ -199,8 +199,8 @@ seen_front same xs x = by (list_any (same x) xs)
 
 module _ (p : Profile) (built : IsBuilt p) where
   -- What samples say stays where a text is added.
-  pub text_said : (text : List ℕ) → IsBuilt (with_text p text) → said_samples (with_text p text) ≡ said_samples p
-  text_said text after = said_same p (with_text p text) built after (record {
+  pub text_said : (text : List ℕ) → IsBuilt (with_new_text p text) → said_samples (with_new_text p text) ≡ said_samples p
+  text_said text after = said_same p (with_new_text p text) built after (record {
     texts = seen_front bytes_eq p.text text;
     mappings = own_front p.mapping;
     functions = own_front p.function;
@@ -211,7 +211,7 @@ module _ (p : Profile) (built : IsBuilt p) where
   pub mapping_said : (m : Mapping) → MappingIn (length p.text) m → said_samples (with_mapping p m) ≡ said_samples p
   mapping_said m is = said_same p (with_mapping p m) built (mapping_built p built m is) (record {
     texts = own_front p.text;
-    mappings = seen_front same_mapping p.mapping (record m { id = length p.mapping + 1 });
+    mappings = seen_front same_mapping_entry p.mapping (record m { id = length p.mapping + 1 });
     functions = own_front p.function;
     locations = own_front p.location;
   }) refl
@@ -221,7 +221,7 @@ module _ (p : Profile) (built : IsBuilt p) where
   function_said f is = said_same p (with_function p f) built (function_built p built f is) (record {
     texts = own_front p.text;
     mappings = own_front p.mapping;
-    functions = seen_front same_function p.function (record f { id = length p.function + 1 });
+    functions = seen_front same_function_entry p.function (record f { id = length p.function + 1 });
     locations = own_front p.location;
   }) refl
 
@@ -231,9 +231,9 @@ module _ (p : Profile) (built : IsBuilt p) where
     texts = own_front p.text;
     mappings = own_front p.mapping;
     functions = own_front p.function;
-    locations = seen_front same_location p.location (record l { id = length p.location + 1 });
+    locations = seen_front same_location_entry p.location (record l { id = length p.location + 1 });
   }) refl
 
 -- A sample that is added says what it said.
-pub sample_said : (p : Profile) (s : Sample) → said_samples (with_sample p s) ≡ said_samples p ++ said_sample p s ∷ []
-sample_said p s = map-append (said_sample (with_sample p s)) p.sample (s ∷ [])
+pub sample_said : (p : Profile) (s : Sample) → said_samples (with_new_sample p s) ≡ said_samples p ++ said_sample p s ∷ []
+sample_said p s = map-append (said_sample (with_new_sample p s)) p.sample (s ∷ [])

@@ -26,8 +26,8 @@ use Rattle.pp_model.specs.Lookup.{text_number, text_at, text_of, mapping_with, p
 use Rattle.pp_model.proofs.CompactLemmas.{find_by_place}
 use Rattle.pp_model.proofs.LookupLemmas.{no_function, no_mapping}
 use Rattle.pp_share.specs.Described.{function_text, mapping_text, function_found, mapping_found}
-use Rattle.pp_build.specs.Adding.{with_text, text_index, with_mapping, mapping_number, with_function, function_number, with_location, location_number}
-use Rattle.pp_build.specs.Same.{same_mapping, same_function, same_line, same_location}
+use Rattle.pp_build.specs.Adding.{with_new_text, text_index, with_mapping, mapping_number, with_function, function_number, with_location, location_number}
+use Rattle.pp_build.specs.Same.{same_mapping_entry, same_function_entry, same_line_entry, same_location_entry}
 use Rattle.pp_build.specs.Growing.{IsBuilt}
 
 module _ {T : Type 0} (same : T → T → Bool) where
@@ -79,16 +79,16 @@ read_next xs place =
     ∙ ap (slice_get xs) (let back : place + 1 - 1 ≡ place = omega arith in back)
 
 -- the text stands at its index
-pub text_stands : (p : Profile) (text : List ℕ) → text_at (with_text p text) (text_index p text) ≡ text
+pub text_stands : (p : Profile) (text : List ℕ) → text_at (with_new_text p text) (text_index p text) ≡ text
 text_stands p text =
     let it = stands bytes_eq p.text text in
-    get_or_from_slice_get (with_text p text).text (text_index p text) it.entry [] it.at
+    get_or_from_slice_get (with_new_text p text).text (text_index p text) it.entry [] it.at
     ∙ elim it.is as (λ _. it.entry ≡ text) [ inl same ↦ sym ((bytes_eq-Decides text it.entry).0 same) | inr is ↦ is ]
 
 -- a text that isn't empty isn't the first one
-pub text_some : (p : Profile) (text : List ℕ) → begins_empty (with_text p text).text ≡ true → text ≢ [] → 0 < text_index p text
+pub text_some : (p : Profile) (text : List ℕ) → begins_empty (with_new_text p text).text ≡ true → text ≢ [] → 0 < text_index p text
 text_some p text begins other = elim (cases_eq (text_index p text) 0) [
-  | inl none ↦ absurd (other (sym (text_stands p text) ∙ ap (text_at (with_text p text)) none ∙ first (with_text p text).text begins))
+  | inl none ↦ absurd (other (sym (text_stands p text) ∙ ap (text_at (with_new_text p text)) none ∙ first (with_new_text p text).text begins))
   | inr some ↦ omega (arith, some)
 ]
   where
@@ -102,7 +102,7 @@ ints : (a b : ℤ) → int_eq a b ≡ true → a ≡ b
 ints a b is = (Decides-int_eq a b).0 is
 
 -- functions that are the same have the same texts
-function_texts : (q : Profile) (f g : Function) → same_function f g ≡ true → function_text q g ≡ function_text q f
+function_texts : (q : Profile) (f g : Function) → same_function_entry f g ≡ true → function_text q g ≡ function_text q f
 function_texts q f g is =
     let one = and_parts _ _ is in
     let two = and_parts _ _ one.1 in
@@ -120,10 +120,10 @@ pub function_stands : (p : Profile) (f : Function) → IsBuilt (with_function p 
 function_stands p f built =
     let q = with_function p f in
     let added = record f { id = length p.function + 1 } in
-    let it = stands same_function p.function added in
+    let it = stands same_function_entry p.function added in
     ap (option_map (function_text q))
     (sym (find_by_place (λ (g : Function). g.id) q.function (function_number p f) no_function built.function_ids)
-    ∙ read_next q.function (place_of same_function p.function f) ∙ it.at)
+    ∙ read_next q.function (place_of same_function_entry p.function f) ∙ it.at)
     ∙ ap Some (elim it.is as (λ _. function_text q it.entry ≡ function_text q f) [
       | inl same ↦ function_texts q f it.entry same
       | inr is ↦ ap (function_text q) is
@@ -137,7 +137,7 @@ bools false true is = absurd (false≢true is)
 bools false false is = refl
 
 -- mappings that are the same have the same texts
-mapping_texts : (q : Profile) (a b : Mapping) → same_mapping a b ≡ true → mapping_text q b ≡ mapping_text q a
+mapping_texts : (q : Profile) (a b : Mapping) → same_mapping_entry a b ≡ true → mapping_text q b ≡ mapping_text q a
 mapping_texts q a b is =
     let one = and_parts _ _ is in
     let two = and_parts _ _ one.1 in
@@ -165,17 +165,17 @@ pub mapping_stands : (p : Profile) (m : Mapping) → IsBuilt (with_mapping p m)
 mapping_stands p m built =
     let q = with_mapping p m in
     let added = record m { id = length p.mapping + 1 } in
-    let it = stands same_mapping p.mapping added in
+    let it = stands same_mapping_entry p.mapping added in
     ap (option_map (mapping_text q))
     (sym (find_by_place (λ (n : Mapping). n.id) q.mapping (mapping_number p m) no_mapping built.mapping_ids)
-    ∙ read_next q.mapping (place_of same_mapping p.mapping m) ∙ it.at)
+    ∙ read_next q.mapping (place_of same_mapping_entry p.mapping m) ∙ it.at)
     ∙ ap Some (elim it.is as (λ _. mapping_text q it.entry ≡ mapping_text q m) [
       | inl same ↦ mapping_texts q m it.entry same
       | inr is ↦ ap (mapping_text q) is
     ])
 
--- `same_line` decides whether lines are equal
-line_decides : (a b : Line) → Decides (same_line a b) (a ≡ b)
+-- `same_line_entry` decides whether lines are equal
+line_decides : (a b : Line) → Decides (same_line_entry a b) (a ≡ b)
 line_decides a b = (
   λ is.
       let one = and_parts _ _ is in
@@ -210,12 +210,12 @@ frames_alike q a b mapping address (line ∷ lines) = λ i. map (λ (x : Line). 
 }) (line ∷ lines)
 
 -- locations that are the same have the same frames
-same_frames : (q : Profile) (a b : Location) → same_location a b ≡ true → written_lines q b b.line ≡ written_lines q a a.line
+same_frames : (q : Profile) (a b : Location) → same_location_entry a b ≡ true → written_lines q b b.line ≡ written_lines q a a.line
 same_frames q a b is =
     let one = and_parts _ _ is in
     let two = and_parts _ _ one.1 in
     let three = and_parts _ _ two.1 in
-    let lines : a.line ≡ b.line = (slice_eq-Decides line_decides a.line b.line (pointwise same_line a.line b.line) refl).0 three.0 in
+    let lines : a.line ≡ b.line = (slice_eq-Decides line_decides a.line b.line (pointwise same_line_entry a.line b.line) refl).0 three.0 in
     ap (written_lines q b) (sym lines)
     ∙ frames_alike q b a (sym (eqb-true a.mapping_id b.mapping_id one.0)) (sym (eqb-true a.address b.address two.0)) a.line
 
@@ -225,10 +225,10 @@ pub location_stands : (p : Profile) (l : Location) → IsBuilt (with_location p 
 location_stands p l built =
     let q = with_location p l in
     let added = record l { id = length p.location + 1 } in
-    let it = stands same_location p.location added in
+    let it = stands same_location_entry p.location added in
     ap (λ o. option_map_or (λ (x : Location). written_lines q x x.line) o [])
     (sym (find_by_place (λ (x : Location). x.id) q.location (location_number p l) no_location built.location_ids)
-    ∙ read_next q.location (place_of same_location p.location l) ∙ it.at)
+    ∙ read_next q.location (place_of same_location_entry p.location l) ∙ it.at)
     ∙ elim it.is as (λ _. written_lines q it.entry it.entry.line ≡ written_lines q l l.line) [
       | inl same ↦ same_frames q l it.entry same
       | inr is ↦ ap (λ (x : Location). written_lines q x x.line) is ∙ frames_alike q added l refl refl l.line

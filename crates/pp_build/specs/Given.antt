@@ -17,12 +17,12 @@ use Rattle.pp_build.specs.declared.given.LabelValue.{LabelValue}
 use Rattle.pp_build.specs.declared.given.LabelValue.TheVariants.{Text, Number}
 
 -- what is counted, in which unit
-abbrev pub type_of : TextId → TextId → ValueType
-type_of kind unit = record { kind = pos kind.index; unit = pos unit.index }
+abbrev pub given_type : TextId → TextId → ValueType
+given_type kind unit = record { kind = pos kind.index; unit = pos unit.index }
 
 -- the mapping that is given
-abbrev pub mapping_of : NewMapping → Mapping
-mapping_of m = record {
+abbrev pub given_mapping : NewMapping → Mapping
+given_mapping m = record {
   id = 0;
   start = m.start;
   limit = m.limit;
@@ -46,33 +46,33 @@ function_of name system_name file start_line = record {
 }
 
 -- the line that is given
-abbrev pub line_of : SourceLine → Line
-line_of l = record { function_id = l.function.number; line = l.line; column = l.column }
+abbrev pub given_line : SourceLine → Line
+given_line l = record { function_id = l.function.number; line = l.line; column = l.column }
 
 -- the location in this mapping, of this address and these lines
-abbrev pub location_of : MappingId → ℕ → List SourceLine → Location
-location_of mapping address lines = record {
+abbrev pub given_location : MappingId → ℕ → List SourceLine → Location
+given_location mapping address lines = record {
   id = 0;
   mapping_id = mapping.number;
   address = address;
-  line = map line_of lines;
+  line = map given_line lines;
   folded = false;
 }
 
 -- the label of this name and value
-abbrev pub labelled : TextId → LabelValue → Label
-labelled key (Text t) =
+abbrev pub given_label : TextId → LabelValue → Label
+given_label key (Text t) =
     record { key = pos key.index; text = pos t.index; num = pos 0; num_unit = pos 0 }
-labelled key (Number n unit) =
+given_label key (Number n unit) =
     record { key = pos key.index; text = pos 0; num = n; num_unit = pos unit.index }
 
 -- the label that is given
 abbrev pub label_of : SampleLabel → Label
-label_of l = labelled l.key l.value
+label_of l = given_label l.key l.value
 
 -- the sample of these locations, values and labels
-abbrev pub sample_of : List LocationId → List ℤ → List SampleLabel → Sample
-sample_of locations values labels = record {
+abbrev pub given_sample : List LocationId → List ℤ → List SampleLabel → Sample
+given_sample locations values labels = record {
   location_id = map (λ l. l.number) locations;
   value = values;
   label = map label_of labels;
@@ -84,6 +84,6 @@ ValueFits texts (Text t) = (0 < t.index) × (t.index < texts)
 ValueFits texts (Number n unit) = unit.index < texts
 
 -- The label's texts are among the first of so many, and a text label isn't empty.
-pub record LabelFits (texts : ℕ) (l : SampleLabel) : Type 0 where
+pub record LabelIsWithin (texts : ℕ) (l : SampleLabel) : Type 0 where
   pub key : l.key.index < texts
   pub value : ValueFits texts l.value

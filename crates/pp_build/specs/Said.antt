@@ -31,7 +31,7 @@ abbrev pub location_frames : Profile → Location → List Written
 location_frames p l = written_lines p l l.line
 
 -- Each table that samples refer to begins with what it was.
-pub record Extends (p q : Profile) : Type 0 where
+pub record ExtendsTables (p q : Profile) : Type 0 where
   pub texts : IsFront p.text q.text
   pub mappings : IsFront p.mapping q.mapping
   pub functions : IsFront p.function q.function

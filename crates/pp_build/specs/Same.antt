@@ -9,8 +9,8 @@ use Rattle.pp_model.specs.declared.profile.Line.{Line}
 use Rattle.pp_model.specs.declared.profile.Location.{Location}
 
 -- the mappings are of the same part of the same file, and say the same of their locations
-abbrev pub same_mapping : Mapping → Mapping → Bool
-same_mapping a b =
+abbrev pub same_mapping_entry : Mapping → Mapping → Bool
+same_mapping_entry a b =
     a.start == b.start
     && (a.limit == b.limit
     && (a.offset == b.offset
@@ -21,18 +21,18 @@ same_mapping a b =
     && (beq a.has_line_numbers b.has_line_numbers && beq a.has_inline_frames b.has_inline_frames)))))))
 
 -- the functions have the same names, file and first line
-abbrev pub same_function : Function → Function → Bool
-same_function a b =
+abbrev pub same_function_entry : Function → Function → Bool
+same_function_entry a b =
     int_eq a.name b.name
     && (int_eq a.system_name b.system_name
     && (int_eq a.filename b.filename && int_eq a.start_line b.start_line))
 
 -- the lines are of the same function, and have the same numbers
-abbrev pub same_line : Line → Line → Bool
-same_line a b = a.function_id == b.function_id && (int_eq a.line b.line && int_eq a.column b.column)
+abbrev pub same_line_entry : Line → Line → Bool
+same_line_entry a b = a.function_id == b.function_id && (int_eq a.line b.line && int_eq a.column b.column)
 
 -- the locations have the same mapping, address and lines
-abbrev pub same_location : Location → Location → Bool
-same_location a b =
+abbrev pub same_location_entry : Location → Location → Bool
+same_location_entry a b =
     a.mapping_id == b.mapping_id
-    && (a.address == b.address && (pointwise same_line a.line b.line && beq a.folded b.folded))
+    && (a.address == b.address && (pointwise same_line_entry a.line b.line && beq a.folded b.folded))

@@ -58,7 +58,7 @@ abbrev pub bare_location : Location → Location
 bare_location l = record l { id = 0 }
 
 -- The keys are those of the profile's tables.
-pub record AreKeys (s : Seen) (p : Profile) : Type 0 where
+pub record HoldsKeys (s : Seen) (p : Profile) : Type 0 where
   pub texts : map (λ (k : Vec ℕ Global). k.items) s.texts.keys ≡ map (λ t. t) p.text
   pub mappings : map keyed_mapping s.mappings.keys ≡ map bare_mapping p.mapping
   pub functions : map keyed_function s.functions.keys ≡ map bare_function p.function

@@ -2,9 +2,9 @@
 use Rattle.pp_model.specs.declared.profile.Profile.{Profile}
 use Rattle.pp_build.specs.declared.seen.Seen.{Seen}
 use Rattle.pp_build.specs.Growing.{IsBuilt}
-use Rattle.pp_build.specs.Seen.{AreKeys}
+use Rattle.pp_build.specs.Seen.{HoldsKeys}
 
 -- The profile's references are right, and the keys are those of its tables.
-pub record IsSound (s : Seen) (p : Profile) : Type 0 where
+pub record IsSoundBuilder (s : Seen) (p : Profile) : Type 0 where
   pub built : IsBuilt p
-  pub keys : AreKeys s p
+  pub keys : HoldsKeys s p

@@ -27,13 +27,13 @@ pub struct Builder {
 
 impl Model for Builder {
     ghost use Rattle.pp_model.specs.declared.profile.Profile.{Profile};
-    ghost use Rattle.pp_build.specs.Sound.{IsSound};
+    ghost use Rattle.pp_build.specs.Sound.{IsSoundBuilder};
 
     ghost Value = { Profile };
 
     ghost view = { λ b. b.profile };
 
-    ghost invariant = { λ b. IsSound b.seen b.profile };
+    ghost invariant = { λ b. IsSoundBuilder b.seen b.profile };
 }
 
 impl Builder {
@@ -42,8 +42,8 @@ impl Builder {
     ghost use Rattle.pp_model.specs.Lookup.{text_at};
     ghost use Rattle.pp_model.specs.Rules.{NoRuleFails};
     ghost use Rattle.pp_share.specs.Described.{function_text, function_found, mapping_text, mapping_found};
-    ghost use Rattle.pp_build.specs.Given.{type_of, mapping_of, function_of, location_of, sample_of, LabelFits};
-    ghost use Rattle.pp_build.specs.Adding.{no_entries, with_text, text_index, with_type, with_mapping, mapping_number, with_function, function_number, with_location, location_number, with_sample, with_comment};
+    ghost use Rattle.pp_build.specs.Given.{given_type, given_mapping, function_of, given_location, given_sample, LabelIsWithin};
+    ghost use Rattle.pp_build.specs.Adding.{no_entries, with_new_text, text_index, with_type, with_mapping, mapping_number, with_function, function_number, with_location, location_number, with_new_sample, with_comment};
     ghost use Rattle.pp_build.specs.Growing.{IdIn, Grows};
     ghost use Rattle.pp_build.specs.Said.{location_frames, said_sample, said_samples};
 
@@ -69,7 +69,7 @@ impl Builder {
     /// The text.
     pub fn text(&mut self, bytes: &[u8]) -> Result<TextId, Memory>
         ensures id { IfOk result (λ id. id.index ≡ text_index self.old bytes.now) }
-        ensures new { OnOk result (self.new ≡ with_text self.old bytes.now) }
+        ensures new { OnOk result (self.new ≡ with_new_text self.old bytes.now) }
         ensures err { OnErr result (self.new ≡ self.old) }
         ensures within { IfOk result (λ id. id.index < length self.new.text) }
         ensures some { bytes.now ≢ [] → IfOk result (λ id. 0 < id.index) }
@@ -91,7 +91,7 @@ impl Builder {
         requires kind { kind.index < length self.old.text }
         requires unit { unit.index < length self.old.text }
         requires first { self.old.sample ≡ [] }
-        ensures new { OnOk result (self.new ≡ with_type self.old (type_of kind unit)) }
+        ensures new { OnOk result (self.new ≡ with_type self.old (given_type kind unit)) }
         ensures err { OnErr result (self.new ≡ self.old) }
     {
         self.profile.sample_type.push(ValueType {
@@ -111,13 +111,13 @@ impl Builder {
     pub fn mapping(&mut self, m: &NewMapping) -> Result<MappingId, Memory>
         requires file { m.now.file.index < length self.old.text }
         requires build_id { m.now.build_id.index < length self.old.text }
-        ensures id { IfOk result (λ id. id.number ≡ mapping_number self.old (mapping_of m.now)) }
-        ensures new { OnOk result (self.new ≡ with_mapping self.old (mapping_of m.now)) }
+        ensures id { IfOk result (λ id. id.number ≡ mapping_number self.old (given_mapping m.now)) }
+        ensures new { OnOk result (self.new ≡ with_mapping self.old (given_mapping m.now)) }
         ensures err { OnErr result (self.new ≡ self.old) }
         ensures within { IfOk result (λ id. IdIn (length self.new.mapping) id.number) }
         ensures grows { OnOk result (Grows self.old self.new) }
         ensures stands { IfOk result (λ id. mapping_found self.new id.number
-            ≡ Some (mapping_text self.new (mapping_of m.now))) }
+            ≡ Some (mapping_text self.new (given_mapping m.now))) }
         ensures said { OnOk result (said_samples self.new ≡ said_samples self.old) }
     {
         let mapping = mapping_with(m, next_id(self.profile.mapping.len())?);
@@ -169,14 +169,14 @@ impl Builder {
         requires mapping { mapping.number ≤ length self.old.mapping }
         requires lines { All (λ l. l.function.number ≤ length self.old.function) lines.now }
         ensures id { IfOk result (λ id. id.number
-            ≡ location_number self.old (location_of mapping address lines.now)) }
+            ≡ location_number self.old (given_location mapping address lines.now)) }
         ensures new { OnOk result (self.new
-            ≡ with_location self.old (location_of mapping address lines.now)) }
+            ≡ with_location self.old (given_location mapping address lines.now)) }
         ensures err { OnErr result (self.new ≡ self.old) }
         ensures within { IfOk result (λ id. IdIn (length self.new.location) id.number) }
         ensures grows { OnOk result (Grows self.old self.new) }
         ensures stands { IfOk result (λ id. written_at self.new id.number
-            ≡ location_frames self.new (location_of mapping address lines.now)) }
+            ≡ location_frames self.new (given_location mapping address lines.now)) }
         ensures said { OnOk result (said_samples self.new ≡ said_samples self.old) }
     {
         let location = Location {
@@ -202,13 +202,13 @@ impl Builder {
         requires locations { All (λ l. IdIn (length self.old.location) l.number) locations.now }
         requires values { length values.now ≡ length self.old.sample_type }
         requires typed { 0 < length self.old.sample_type }
-        requires labels { All (LabelFits (length self.old.text)) labels.now }
+        requires labels { All (LabelIsWithin (length self.old.text)) labels.now }
         ensures new { OnOk result (self.new
-            ≡ with_sample self.old (sample_of locations.now values.now labels.now)) }
+            ≡ with_new_sample self.old (given_sample locations.now values.now labels.now)) }
         ensures err { OnErr result (self.new ≡ self.old) }
         ensures grows { OnOk result (Grows self.old self.new) }
         ensures said { OnOk result (said_samples self.new ≡ said_samples self.old
-            ++ said_sample self.old (sample_of locations.now values.now labels.now) ∷ []) }
+            ++ said_sample self.old (given_sample locations.now values.now labels.now) ∷ []) }
     {
         let sample = Sample {
             location_id: ids_of(self.alloc, locations)?,
@@ -233,7 +233,7 @@ impl Builder {
         requires kind { kind.index < length self.old.text }
         requires unit { unit.index < length self.old.text }
         ensures { self.new
-            ≡ record self.old { period_type = type_of kind unit; period = period } }
+            ≡ record self.old { period_type = given_type kind unit; period = period } }
     {
         let profile = &mut self.profile;
         profile.period_type = ValueType {

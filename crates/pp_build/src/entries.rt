@@ -1,7 +1,7 @@
 //! What a builder is given, as entries of the profile's tables, and the keys of entries.
 ghost use Rattle.std.specs.Prelude.{◌≡◌, ◌+◌, ◌<◌, ◌≤◌, ◌^◌, pos, map, IfOk, All};
 ghost use Rattle.pp_build.specs.Adding.{no_tables};
-ghost use Rattle.pp_build.specs.Given.{mapping_of, function_of, line_of, label_of, LabelFits};
+ghost use Rattle.pp_build.specs.Given.{given_mapping, function_of, given_line, label_of, LabelIsWithin};
 ghost use Rattle.pp_build.specs.Seen.{keyed_mapping, bare_mapping, keyed_function, bare_function, keyed_location, bare_location};
 
 use crate::given::{LabelValue, LocationId, NewMapping, SampleLabel, SourceLine, TextId};
@@ -55,7 +55,7 @@ pub fn index_of(text: TextId) -> i64
 pub fn mapping_with(m: &NewMapping, id: u64) -> Mapping
     requires file { m.now.file.index < 2 ^ 63 }
     requires build_id { m.now.build_id.index < 2 ^ 63 }
-    ensures { result ≡ record (mapping_of m.now) { id = id } }
+    ensures { result ≡ record (given_mapping m.now) { id = id } }
 {
     Mapping {
         id,
@@ -137,7 +137,7 @@ pub fn location_key(alloc: Global, l: &Location) -> Result<LocationKey, Memory>
 
 /// The lines, as tables have them.
 pub fn lines_of(alloc: Global, lines: &[SourceLine]) -> Result<List<Line>, Memory>
-    ensures { IfOk result (λ list. list ≡ map line_of lines.now) }
+    ensures { IfOk result (λ list. list ≡ map given_line lines.now) }
 {
     let mut list = List::from_vec(Vec::with_capacity(alloc, lines.len())?);
     for line in lines {
@@ -171,7 +171,7 @@ pub fn values_of(alloc: Global, values: &[i64]) -> Result<List<i64>, Memory>
 
 /// The labels, as tables have them.
 pub fn labels_of(alloc: Global, labels: &[SampleLabel]) -> Result<List<Label>, Memory>
-    requires { All (LabelFits (2 ^ 63)) labels.now }
+    requires { All (LabelIsWithin (2 ^ 63)) labels.now }
     ensures { IfOk result (λ list. list ≡ map label_of labels.now) }
 {
     let mut list = List::from_vec(Vec::with_capacity(alloc, labels.len())?);
@@ -183,7 +183,7 @@ pub fn labels_of(alloc: Global, labels: &[SampleLabel]) -> Result<List<Label>, M
 
 // The label, as tables have it.
 fn label_of(label: &SampleLabel) -> Label
-    requires { LabelFits (2 ^ 63) label.now }
+    requires { LabelIsWithin (2 ^ 63) label.now }
     ensures { result ≡ label_of label.now }
 {
     let key = index_of(label.key);

@@ -21,7 +21,7 @@ use Rattle.pp_count.specs.declared.scope.Scope.{Scope}
 use Rattle.pp_count.specs.Sums.{Seen, weighed, renamed}
 use Rattle.pp_count.specs.Parts.{HasBelow}
 use Rattle.pp_count.specs.Seeing.{HoldsFilters}
-use Rattle.pp_count.specs.Scope.{profile_of, config_of, size_of, AreSeen}
+use Rattle.pp_count.specs.Scope.{profile_in_scope, config_of, size_of, AreSeen}
 use Rattle.pp_count.proofs.CallerLemmas.{weighed-renamed}
 use Rattle.pp_calltree.specs.declared.path.Path.{Path}
 use Rattle.pp_calltree.specs.CallTree.{any_row, rooted, all_lengths, path_samples, rows_below, tree_rows}
@@ -63,8 +63,8 @@ paths_have_room scope samples S are fits =
 
 -- written out, they are the paths of the report's samples
 pub paths_written : (scope : Scope) (S : List (Seen ℕ)) (f : Finders) → HoldsFilters scope.l.now scope.v.now (config_of scope) f
-    → AreSeen scope (profile_of scope).sample S
-    → written_out (profile_of scope) scope.table.now.names (map rooted (weighed S)) ≡ path_samples (profile_of scope) f (config_of scope) scope.column
+    → AreSeen scope (profile_in_scope scope).sample S
+    → written_out (profile_in_scope scope) scope.table.now.names (map rooted (weighed S)) ≡ path_samples (profile_in_scope scope) f (config_of scope) scope.column
 paths_written scope S f holds are =
     rooted-renamed _ (weighed S) ∙ ap (map rooted) (sym (weighed-renamed _ S) ∙ ap weighed (are.are f holds))
 

@@ -23,7 +23,7 @@ use Rattle.pp_count.proofs.Renaming.{same_bool, same_found, list_any-renamed}
 use Rattle.pp_calltree.specs.declared.branch.Branch.{Branch}
 use Rattle.pp_calltree.specs.declared.texts.Texts.{Texts}
 use Rattle.pp_calltree.specs.CallTree.{first_keys, path_cum, path_flat, sibling_order, siblings}
-use Rattle.pp_calltree.specs.Branches.{Said, said, branch_of, AreBranches}
+use Rattle.pp_calltree.specs.Branches.{Said, branch_said, branch_of, AreBranches}
 use Rattle.pp_calltree.specs.Siblings.{texts_at, size_cmp, branch_cmp}
 use Rattle.pp_calltree.proofs.Under.{first_keys-renamed, path_cum-renamed, path_flat-renamed, first_below}
 
@@ -32,7 +32,7 @@ pub listed : (depth : ℕ) (S : List (Seen ℕ)) (xs list : List Branch) → Are
 listed depth S xs list are moved =
     let keys : IsPermutation (map (λ (b : Branch). b.key) xs) (map (λ (b : Branch). b.key) list) = IsPermutation-map (λ (b : Branch). b.key) _ _ moved in
     record {
-      said_are = All-permutation (λ (b : Branch). said b ≡ branch_of depth S b.key) _ _ moved are.said_are;
+      said_are = All-permutation (λ (b : Branch). branch_said b ≡ branch_of depth S b.key) _ _ moved are.said_are;
       present = λ m. sym (list_any-IsPermutation (nat_eq m) _ _ keys) ∙ are.present m;
       distinct = IsDistinct-IsPermutation nat_eq nat_eq_equiv.symm _ _ keys are.distinct;
     }
@@ -109,7 +109,7 @@ module _ (texts : Texts) (name : ℕ → Written) (n : ℕ) (apart : (a b : ℕ)
   nodes_are i d here =
       let b : Branch = get_or list i d in
       let in_n : b.key < n = keys_below i d here in
-      let is : said b ≡ branch_of depth S b.key = are.said_are i d here in
+      let is : branch_said b ≡ branch_of depth S b.key = are.said_are i d here in
       record {
         in_n = in_n;
         cum_is = path_cum-renamed key_cmp name n apart b.key S in_n below ∙ sym (ap (λ (s : Said). s.cum) is);

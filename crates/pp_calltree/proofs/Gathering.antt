@@ -17,8 +17,8 @@ use Rattle.pp_count.specs.Column.{selected}
 use Rattle.pp_count.specs.Sums.{Seen, absolute, weighed}
 use Rattle.pp_model.specs.Values.{no_sample}
 use Rattle.pp_count.specs.Parts.{HasBelow}
-use Rattle.pp_count.specs.Rising.{AreRising}
-use Rattle.pp_count.specs.Scope.{profile_of, config_of, AreSeen}
+use Rattle.pp_count.specs.Rising.{AreRisingBetween}
+use Rattle.pp_count.specs.Scope.{profile_in_scope, config_of, AreSeen}
 use Rattle.pp_count.specs.Seeing.{HoldsFilters, keys_of_stack, filtered_stack, numbers_from, filtered_from}
 use Rattle.pp_count.proofs.Sizes.{part_within}
 use Rattle.pp_count.proofs.Ranges.{IsSeen, name_of, by_numbers, seen_more, seen_same}
@@ -85,7 +85,7 @@ paths_same scope samples i s keys old here at_i is so_far = record {
 pub record GatheredTo (scope : Scope) (samples : List Sample) (kept : List ℕ) (met i : ℕ) (old : Paths) : Type 0 where
   pub paths_are : HasPaths scope (take i samples) old
   pub left_are : (f : Finders) → HoldsFilters scope.l.now scope.v.now (config_of scope) f
-      → drop met kept ≡ filtered_from (profile_of scope) f (config_of scope) i (drop i samples)
+      → drop met kept ≡ filtered_from (profile_in_scope scope) f (config_of scope) i (drop i samples)
 
 slice_get-first : (xs : List ℕ) (n : ℕ) → slice_get xs n ≡ slice_get (drop n xs) 0
 slice_get-first xs zero = refl
@@ -114,20 +114,20 @@ at_first kept met i test later left is so_far late =
 module _ (scope : Scope) (samples : List Sample) (kept : List ℕ) (met i : ℕ) (s : Sample) (here : i < length samples) (at_i : s ≡ get_or samples i s) where
   -- whether the filters leave the next sample
   abbrev left_by : Finders → Sample → Bool
-  left_by f x = is_some (filtered_stack (profile_of scope) f (config_of scope) x)
+  left_by f x = is_some (filtered_stack (profile_in_scope scope) f (config_of scope) x)
 
   abbrev later : Finders → List ℕ
-  later f = filtered_from (profile_of scope) f (config_of scope) (i + 1) (drop (i + 1) samples)
+  later f = filtered_from (profile_in_scope scope) f (config_of scope) (i + 1) (drop (i + 1) samples)
 
-  step : (f : Finders) → filtered_from (profile_of scope) f (config_of scope) i (drop i samples) ≡ cond (left_by f s) (i ∷ later f) (later f)
+  step : (f : Finders) → filtered_from (profile_in_scope scope) f (config_of scope) i (drop i samples) ≡ cond (left_by f s) (i ∷ later f) (later f)
   step f =
       ap (numbers_from (left_by f) i) (drop_more samples i s here ∙ ap (λ x. x ∷ drop (i + 1) samples) (sym at_i))
 
-  meets : (f : Finders) → drop met kept ≡ filtered_from (profile_of scope) f (config_of scope) i (drop i samples) → stands_at kept met i ≡ left_by f s
+  meets : (f : Finders) → drop met kept ≡ filtered_from (profile_in_scope scope) f (config_of scope) i (drop i samples) → stands_at kept met i ≡ left_by f s
   meets f so_far = at_first kept met i (left_by f s) (later f) _ (step f) so_far (begins_late (left_by f) (i + 1) i (drop (i + 1) samples) (omega arith))
 
   dropped : (stack : Option (List Frame)) (keys : List ℕ) → is_some stack ≡ false
-      → option_map (keys_of_stack (profile_of scope) (config_of scope)) stack ≡ kept_if false (map (name_of scope) keys)
+      → option_map (keys_of_stack (profile_in_scope scope) (config_of scope)) stack ≡ kept_if false (map (name_of scope) keys)
   dropped None keys none = refl
   dropped (Some x) keys none = absurd (false≢true (sym none))
 
@@ -135,7 +135,7 @@ module _ (scope : Scope) (samples : List Sample) (kept : List ℕ) (met i : ℕ)
   passed_over : (old : Paths) → stands_at kept met i ≡ false → GatheredTo scope samples kept met i old → GatheredTo scope samples kept met (i + 1) old
   passed_over old other so_far = record {
     paths_are = paths_same scope samples i s [] old here at_i
-        (λ f holds. dropped (filtered_stack (profile_of scope) f (config_of scope) s) [] (sym (meets f (so_far.left_are f holds)) ∙ other)) so_far.paths_are;
+        (λ f holds. dropped (filtered_stack (profile_in_scope scope) f (config_of scope) s) [] (sym (meets f (so_far.left_are f holds)) ∙ other)) so_far.paths_are;
     left_are = λ f holds.
         so_far.left_are f holds ∙ step f ∙ ap (λ b. cond b (i ∷ later f) (later f)) (sym (meets f (so_far.left_are f holds)) ∙ other);
   }
@@ -152,7 +152,7 @@ module _ (scope : Scope) (samples : List Sample) (kept : List ℕ) (met i : ℕ)
 
 -- before the first sample
 pub gathered_none : (scope : Scope) (samples : List Sample) (kept : List ℕ) (old : Paths) → AreKeptAs old []
-    → ((f : Finders) → HoldsFilters scope.l.now scope.v.now (config_of scope) f → kept ≡ filtered_from (profile_of scope) f (config_of scope) 0 samples)
+    → ((f : Finders) → HoldsFilters scope.l.now scope.v.now (config_of scope) f → kept ≡ filtered_from (profile_in_scope scope) f (config_of scope) 0 samples)
     → GatheredTo scope samples kept 0 0 old
 gathered_none scope samples kept old none are = record {
   paths_are = record {
@@ -197,7 +197,7 @@ pub met_none : (scope : Scope) (samples : List Sample) (kept : List ℕ) (old : 
 met_none scope samples kept old so_far = record { next = 0; within = omega arith; so_far = so_far; later = λ j low here. omega arith }
 
 pub met_more : (scope : Scope) (samples : List Sample) (kept : List ℕ) (i number : ℕ) (s : Sample) (old new : Paths) → i < length kept → number ≡ get_or kept i 0 → s ≡ get_or samples number s
-    → AreRising 0 (length samples) kept → (HasPaths scope (take number samples) old → HasPaths scope (take (number + 1) samples) new)
+    → AreRisingBetween 0 (length samples) kept → (HasPaths scope (take number samples) old → HasPaths scope (take (number + 1) samples) new)
     → MetTo scope samples kept i old → MetTo scope samples kept (i + 1) new
 met_more scope samples kept i number s old new here is at_s rising more met =
     let below : number < length samples = omega (arith, is, rising.below i 0 here) in

@@ -22,7 +22,7 @@ use Rattle.pp_calltree.specs.declared.branch.Branch.{Branch}
 use Rattle.pp_calltree.specs.declared.texts.Texts.{Texts}
 use Rattle.pp_calltree.specs.declared.tree.PathNode.{PathNode}
 use Rattle.pp_calltree.specs.CallTree.{TreeRow, any_row, is_end, under, row_of, rows_below}
-use Rattle.pp_calltree.specs.Branches.{Said, samples_of, said, branch_of, weight, AreBranches, AreOrdered}
+use Rattle.pp_calltree.specs.Branches.{Said, branch_samples, branch_said, branch_of, weight, AreBranches, AreOrdered}
 use Rattle.pp_calltree.specs.Siblings.{branch_cmp}
 use Rattle.pp_calltree.specs.Laid.{node_row, written_out, branch_row, whole_branch, CanLay, HasRoom, IsLayable, WaitBelow, Laying}
 use Rattle.pp_calltree.proofs.Under.{under-renamed, under_all, under_size, none_first, parted}
@@ -54,9 +54,9 @@ module _ (p : Profile) (names : List Key) (texts : Texts) (can : CanLay p names 
     layable_at : (left : ℕ) → HasRoom names (suc left) S → most ≡ depth + suc left → All (IsLayable names most) list
     layable_at left room same i d here =
         let b : Branch = get_or list i d in
-        let is : said b ≡ branch_of depth S b.key = are.said_are i d here in
+        let is : branch_said b ≡ branch_of depth S b.key = are.said_are i d here in
         let depth_is : b.depth ≡ depth = ap (λ (s : Said). s.depth) is in
-        let samples_are : samples_of b ≡ under nat_cmp b.key S = ap (λ (s : Said). s.samples) is in
+        let samples_are : branch_samples b ≡ under nat_cmp b.key S = ap (λ (s : Said). s.samples) is in
         record {
           depth_fits = omega (arith, depth_is, same);
           key_below = keys_below texts name (length names) can.apart can.texts_are depth S room.below list are i d here;
@@ -72,16 +72,16 @@ module _ (p : Profile) (names : List Key) (texts : Texts) (can : CanLay p names 
         }
 
     -- the samples of the branches, and those that end here, are within all
-    pub branch_sizes : sum_by (λ (b : Branch). absolute (samples_of b)) list + nat_abs (sum_where is_end S) ≤ absolute S
+    pub branch_sizes : sum_by (λ (b : Branch). absolute (branch_samples b)) list + nat_abs (sum_where is_end S) ≤ absolute S
     branch_sizes = omega (arith, sizes_are list are.said_are, parted (map (λ (b : Branch). b.key) list) are.distinct S) where
-      sizes_are : (xs : List Branch) → All (λ (b : Branch). said b ≡ branch_of depth S b.key) xs
-          → sum_by (λ (b : Branch). absolute (samples_of b)) xs ≡ sum_by (λ k. absolute (under nat_cmp k S)) (map (λ (b : Branch). b.key) xs)
+      sizes_are : (xs : List Branch) → All (λ (b : Branch). branch_said b ≡ branch_of depth S b.key) xs
+          → sum_by (λ (b : Branch). absolute (branch_samples b)) xs ≡ sum_by (λ k. absolute (under nat_cmp k S)) (map (λ (b : Branch). b.key) xs)
       sizes_are [] all = refl
       sizes_are (x ∷ xs) all = omega (
         arith,
-        sizes_are xs (All-tail (λ (b : Branch). said b ≡ branch_of depth S b.key) x xs all),
-        ap (λ (s : Said). absolute s.samples) (All-head (λ (b : Branch). said b ≡ branch_of depth S b.key) x xs all),
-        sum_by-cons (λ (b : Branch). absolute (samples_of b)) x xs,
+        sizes_are xs (All-tail (λ (b : Branch). branch_said b ≡ branch_of depth S b.key) x xs all),
+        ap (λ (s : Said). absolute s.samples) (All-head (λ (b : Branch). branch_said b ≡ branch_of depth S b.key) x xs all),
+        sum_by-cons (λ (b : Branch). absolute (branch_samples b)) x xs,
         sum_by-cons (λ k. absolute (under nat_cmp k S)) x.key (map (λ (b : Branch). b.key) xs),
       )
 
@@ -89,13 +89,13 @@ module _ (p : Profile) (names : List Key) (texts : Texts) (can : CanLay p names 
         → All (λ (b : Branch). (row_of key_cmp depth (written_out p names S) (name b.key) ∷ rows_below key_cmp any_row left (depth + 1) (under key_cmp (name b.key) (written_out p names S))) ≡ whole_branch p names most b) list
     branch_at left room same i d here =
         let b : Branch = get_or list i d in
-        let is : said b ≡ branch_of depth S b.key = are.said_are i d here in
+        let is : branch_said b ≡ branch_of depth S b.key = are.said_are i d here in
         let depth_is : depth ≡ b.depth = sym (ap (λ (s : Said). s.depth) is) in
         let in_n : b.key < length names = keys_below texts name (length names) can.apart can.texts_are depth S room.below list are i d here in
         let flat_is = row_flat texts name (length names) can.apart can.texts_are depth S room.below list are i d here in
         let cum_is = row_cum texts name (length names) can.apart can.texts_are depth S room.below list are i d here in
         let left_is : left ≡ most - (b.depth + 1) = omega (arith, depth_is, same) in
-        let samples_are : under key_cmp (name b.key) (written_out p names S) ≡ written_out p names (samples_of b) =
+        let samples_are : under key_cmp (name b.key) (written_out p names S) ≡ written_out p names (branch_samples b) =
         under-renamed key_cmp name (length names) can.apart b.key S in_n room.below ∙ ap (map (renamed name)) (sym (ap (λ (s : Said). s.samples) is)) in
         λ j. record { depth = depth_is j; key = name b.key; flat = flat_is j; cum = cum_is j } ∷ rows_below key_cmp any_row (left_is j) (depth_is j + 1) (samples_are j)
 
@@ -121,8 +121,8 @@ all_reversed P (x ∷ xs) all = subst (All P) (sym (reverse_onto xs x [])) (All-
 -- one more node is laid out
 pub laying_more : (p : Profile) (names : List Key) (most : ℕ) (samples : List (Seen ℕ)) (nodes new_nodes : List PathNode) (before new : List Branch) (b : Branch) (node : PathNode)
     → Laying p names most samples nodes (before ++ b ∷ []) → new_nodes ≡ nodes ++ node ∷ [] → node_row p node ≡ branch_row p names b → IsKeyOf p node.key
-    → b.flat ≡ sum_where is_end (samples_of b)
-    → WaitBelow p names most (b.depth + 1) (most - (b.depth + 1)) (samples_of b) before new
+    → b.flat ≡ sum_where is_end (branch_samples b)
+    → WaitBelow p names most (b.depth + 1) (most - (b.depth + 1)) (branch_samples b) before new
     → Laying p names most samples new_nodes new
 laying_more p names most samples nodes new_nodes before new b node so_far more row key flat_is wait =
     let whole : Branch → List (TreeRow Written) = whole_branch p names most in
@@ -150,9 +150,9 @@ laying_more p names most samples nodes new_nodes before new b node so_far more r
         ap (λ (r : TreeRow Written). nat_abs r.flat) row,
         ap nat_abs flat_is,
         ap (sum_by (λ (n : PathNode). nat_abs n.flat)) more ∙ sum_by_push (λ (n : PathNode). nat_abs n.flat) nodes node,
-        sum_by_push (λ (x : Branch). absolute (samples_of x)) before b,
-        ap (sum_by (λ (x : Branch). absolute (samples_of x))) wait.added ∙ sum_by-append (λ (x : Branch). absolute (samples_of x)) before (reverse wait.branches),
-        sum_by-IsPermutation (λ (x : Branch). absolute (samples_of x)) wait.branches (reverse wait.branches) (IsPermutation-reverse wait.branches),
+        sum_by_push (λ (x : Branch). absolute (branch_samples x)) before b,
+        ap (sum_by (λ (x : Branch). absolute (branch_samples x))) wait.added ∙ sum_by-append (λ (x : Branch). absolute (branch_samples x)) before (reverse wait.branches),
+        sum_by-IsPermutation (λ (x : Branch). absolute (branch_samples x)) wait.branches (reverse wait.branches) (IsPermutation-reverse wait.branches),
       );
     } where
       fronts : (xs : List Branch) → All (IsLayable names most) (xs ++ b ∷ []) → All (IsLayable names most) xs
@@ -176,15 +176,15 @@ laying_start p names most samples nodes new wait none = record {
     arith,
     wait.sizes,
     ap (sum_by (λ (n : PathNode). nat_abs n.flat)) none,
-    ap (sum_by (λ (x : Branch). absolute (samples_of x))) wait.added,
-    sum_by-IsPermutation (λ (x : Branch). absolute (samples_of x)) wait.branches (reverse wait.branches) (IsPermutation-reverse wait.branches),
+    ap (sum_by (λ (x : Branch). absolute (branch_samples x))) wait.added,
+    sum_by-IsPermutation (λ (x : Branch). absolute (branch_samples x)) wait.branches (reverse wait.branches) (IsPermutation-reverse wait.branches),
   );
 } where
   turned : reverse new ≡ wait.branches
   turned = ap reverse wait.added ∙ reverse-reverse wait.branches
 
 -- a branch is heavier than those below it
-pub lighter_more : (p : Profile) (names : List Key) (most depth left : ℕ) (before new : List Branch) (b : Branch) → WaitBelow p names most depth left (samples_of b) before new
+pub lighter_more : (p : Profile) (names : List Key) (most depth left : ℕ) (before new : List Branch) (b : Branch) → WaitBelow p names most depth left (branch_samples b) before new
     → sum_by weight new < sum_by weight (before ++ b ∷ [])
 lighter_more p names most depth left before new b wait = omega (
   arith,

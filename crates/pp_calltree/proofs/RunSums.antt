@@ -9,7 +9,7 @@ use Rattle.pp_count.specs.Sums.{Seen, absolute, sum_where}
 use Rattle.pp_count.proofs.Adding.{sum_where_push, triangle}
 use Rattle.pp_calltree.specs.declared.path.Path.{Path}
 use Rattle.pp_calltree.specs.CallTree.{any_path, is_end}
-use Rattle.pp_calltree.specs.Paths.{below, left_of, own_value}
+use Rattle.pp_calltree.specs.Paths.{below, path_below, own_path_value}
 
 size_if : (b : Bool) (v : ℤ) → nat_abs (cond b v (pos 0)) ≤ nat_abs v
 size_if true v = omega arith
@@ -24,7 +24,7 @@ within_all p (s ∷ S) =
 sizes_are : (depth : ℕ) (paths : List Path) → absolute (below depth paths) ≡ sum_by (λ (x : Path). nat_abs x.value) paths
 sizes_are depth [] = refl
 sizes_are depth (x ∷ paths) =
-    omega (arith, sizes_are depth paths, sum_by-cons (λ (t : Seen ℕ). nat_abs t.value) (left_of depth x) (below depth paths), sum_by-cons (λ (y : Path). nat_abs y.value) x paths)
+    omega (arith, sizes_are depth paths, sum_by-cons (λ (t : Seen ℕ). nat_abs t.value) (path_below depth x) (below depth paths), sum_by-cons (λ (y : Path). nat_abs y.value) x paths)
 
 own_is : (n : ℕ) (ks : List ℕ) (v : ℤ) → option_map_or (λ key. pos 0) (slice_get ks n) v ≡ cond (is_end (drop n ks)) v (pos 0)
 own_is zero [] v = refl
@@ -62,8 +62,8 @@ module _ (depth : ℕ) (run : List Path) (i : ℕ) (d : Path) (here : i < length
   next_sum : (p : List ℕ → Bool) (sum v : ℤ) → sum ≡ sum_where p (below depth (take i run)) → v ≡ cond (p (drop depth x.keys.now)) x.value (pos 0)
       → sum +ℤ v ≡ sum_where p (below depth (take (i + 1) run))
   next_sum p sum v sum_is v_is =
-      (λ j. sum_is j +ℤ v_is j) ∙ sym (sum_where_push p (below depth (take i run)) (left_of depth x))
-      ∙ ap (sum_where p) (sym (ap (below depth) (take_more run i d here) ∙ map-append (left_of depth) (take i run) (x ∷ [])))
+      (λ j. sum_is j +ℤ v_is j) ∙ sym (sum_where_push p (below depth (take i run)) (path_below depth x))
+      ∙ ap (sum_where p) (sym (ap (below depth) (take_more run i d here) ∙ map-append (path_below depth) (take i run) (x ∷ [])))
 
   small_sum : (p : List ℕ → Bool) (z : ℤ) → z ≡ sum_where p (below depth (take (i + 1) run)) → nat_abs z < 2 ^ 63
   small_sum p z is = omega (
@@ -79,16 +79,16 @@ module _ (depth : ℕ) (run : List Path) (i : ℕ) (d : Path) (here : i < length
   pub cum_fits : (flat cum : ℤ) → SumsTo depth run i flat cum → nat_abs cum + nat_abs (to_z w64 (of_z w64 x.value)) < 2 ^ 63
   cum_fits flat cum so_far = omega (arith, room any_path, ap nat_abs so_far.cum_is, ap nat_abs value_back)
 
-  own_small : (own : ℤ) → own ≡ own_value depth x → nat_abs own ≤ nat_abs x.value
+  own_small : (own : ℤ) → own ≡ own_path_value depth x → nat_abs own ≤ nat_abs x.value
   own_small own is = omega (arith, ap nat_abs (is ∙ own_is depth x.keys.now x.value), size_if (is_end (drop depth x.keys.now)) x.value)
 
-  own_back : (own : ℤ) → own ≡ own_value depth x → to_z w64 (of_z w64 own) ≡ own
+  own_back : (own : ℤ) → own ≡ own_path_value depth x → to_z w64 (of_z w64 own) ≡ own
   own_back own is = read_back own (omega (arith, own_small own is, room any_path))
 
-  pub flat_fits : (flat cum own : ℤ) → own ≡ own_value depth x → SumsTo depth run i flat cum → nat_abs flat + nat_abs (to_z w64 (of_z w64 own)) < 2 ^ 63
+  pub flat_fits : (flat cum own : ℤ) → own ≡ own_path_value depth x → SumsTo depth run i flat cum → nat_abs flat + nat_abs (to_z w64 (of_z w64 own)) < 2 ^ 63
   flat_fits flat cum own is so_far = omega (arith, room is_end, ap nat_abs so_far.flat_is, ap nat_abs (own_back own is), own_small own is)
 
-  pub sums_more : (flat cum own new_flat new_cum : ℤ) → own ≡ own_value depth x → new_cum ≡ cum +ℤ to_z w64 (of_z w64 x.value) → new_flat ≡ flat +ℤ to_z w64 (of_z w64 own)
+  pub sums_more : (flat cum own new_flat new_cum : ℤ) → own ≡ own_path_value depth x → new_cum ≡ cum +ℤ to_z w64 (of_z w64 x.value) → new_flat ≡ flat +ℤ to_z w64 (of_z w64 own)
       → SumsTo depth run i flat cum → SumsTo depth run (i + 1) (to_z w64 (of_z w64 new_flat)) (to_z w64 (of_z w64 new_cum))
   sums_more flat cum own new_flat new_cum own_same cum_same flat_same so_far =
       let cum_is : new_cum ≡ sum_where any_path (below depth (take (i + 1) run)) = cum_same ∙ next_sum any_path cum (to_z w64 (of_z w64 x.value)) so_far.cum_is value_back in

@@ -22,8 +22,8 @@ use Rattle.pp_count.proofs.Adding.{or-false}
 use Rattle.pp_calltree.specs.declared.branch.Branch.{Branch}
 use Rattle.pp_calltree.specs.declared.path.Path.{Path}
 use Rattle.pp_calltree.specs.CallTree.{all_lengths, any_path, is_end, below_key, first_key, first_keys, under}
-use Rattle.pp_calltree.specs.Branches.{Said, samples_of, said, branch_of, weight, AreBranches, AreOrdered, GainsBranch, IsBranchOf, IsStep}
-use Rattle.pp_calltree.specs.Paths.{below, first_run, has_key, left_of, run_length, NoneBefore, Rises}
+use Rattle.pp_calltree.specs.Branches.{Said, branch_samples, branch_said, branch_of, weight, AreBranches, AreOrdered, GainsBranch, IsBranchOf, IsStep}
+use Rattle.pp_calltree.specs.Paths.{below, first_run, has_key_below, path_below, run_length, NoneBefore, IsRising}
 use Rattle.pp_calltree.proofs.Children.{listed}
 
 -- the sample whose path has this key before the others
@@ -99,7 +99,7 @@ run_before : (k : ℕ) (keys : List ℕ) (R : List (Seen ℕ)) → NoneBefore (k
 run_before k keys [] none = tt
 run_before k keys (s ∷ R) none = (sym (equal_heads k (slice_cmp nat_cmp s.keys keys)) ∙ none.0, run_before k keys R none.1)
 
-run_rises : (k : ℕ) (R : List (Seen ℕ)) → Rises (map (onto k) R) → Rises R
+run_rises : (k : ℕ) (R : List (Seen ℕ)) → IsRising (map (onto k) R) → IsRising R
 run_rises k [] up = tt
 run_rises k (s ∷ R) up = (run_before k s.keys R up.0, run_rises k R up.1)
 
@@ -108,7 +108,7 @@ before_parts : (keys : List ℕ) (S R : List (Seen ℕ)) → NoneBefore keys (S 
 before_parts keys [] R none = (tt, none)
 before_parts keys (s ∷ S) R none = let rest = before_parts keys S R none.1 in ((none.0, rest.0), rest.1)
 
-rises_parts : (S R : List (Seen ℕ)) → Rises (S ++ R) → Rises S × Rises R
+rises_parts : (S R : List (Seen ℕ)) → IsRising (S ++ R) → IsRising S × IsRising R
 rises_parts [] R up = (tt, up)
 rises_parts (s ∷ S) R up = let rest = rises_parts S R up.1 in (((before_parts s.keys S R up.0).0, rest.0), rest.1)
 
@@ -134,7 +134,7 @@ TurnsFrom k [] = Unit {0}
 TurnsFrom k (s ∷ S) = option_map_or (λ other. other == k) (first_key s.keys) false ≡ false
 
 -- what comes after a run begins with keys past its own
-after_run : (k : ℕ) (keys : List ℕ) (S : List (Seen ℕ)) → NoneBefore (k ∷ keys) S → Rises S → TurnsFrom k S → AllPast k S
+after_run : (k : ℕ) (keys : List ℕ) (S : List (Seen ℕ)) → NoneBefore (k ∷ keys) S → IsRising S → TurnsFrom k S → AllPast k S
 after_run k keys [] none up turns = tt
 after_run k keys (s ∷ S) none up turns = by s.keys none.0 up.0 turns where
   by : (path : List ℕ) → is_lt (slice_cmp nat_cmp path (k ∷ keys)) ≡ false → NoneBefore path S → option_map_or (λ other. other == k) (first_key path) false ≡ false
@@ -156,15 +156,15 @@ none_all k (x ∷ ks) none = let parts = or_parts (nat_eq k x) (list_any (nat_eq
 abbrev saying : ℕ → ℕ → List (Seen ℕ) → Said
 saying depth k S = record { depth = depth; key = k; flat = sum_where is_end S; cum = sum_where any_path S; samples = S }
 
-said_more : (depth k : ℕ) (A R : List (Seen ℕ)) (xs : List Branch) → All (λ (b : Branch). said b ≡ branch_of depth A b.key) xs → list_any (nat_eq k) (map (λ (b : Branch). b.key) xs) ≡ false
-    → All (λ (b : Branch). said b ≡ branch_of depth (A ++ map (onto k) R) b.key) xs
-said_more depth k A R [] are none = All-nil (λ (b : Branch). said b ≡ branch_of depth (A ++ map (onto k) R) b.key)
+said_more : (depth k : ℕ) (A R : List (Seen ℕ)) (xs : List Branch) → All (λ (b : Branch). branch_said b ≡ branch_of depth A b.key) xs → list_any (nat_eq k) (map (λ (b : Branch). b.key) xs) ≡ false
+    → All (λ (b : Branch). branch_said b ≡ branch_of depth (A ++ map (onto k) R) b.key) xs
+said_more depth k A R [] are none = All-nil (λ (b : Branch). branch_said b ≡ branch_of depth (A ++ map (onto k) R) b.key)
 said_more depth k A R (x ∷ xs) are none =
     let parts = or_parts (nat_eq k x.key) (list_any (nat_eq k) (map (λ (b : Branch). b.key) xs)) none in
-    All-cons (λ (b : Branch). said b ≡ branch_of depth (A ++ map (onto k) R) b.key) x xs
-    (All-head (λ (b : Branch). said b ≡ branch_of depth A b.key) x xs are
+    All-cons (λ (b : Branch). branch_said b ≡ branch_of depth (A ++ map (onto k) R) b.key) x xs
+    (All-head (λ (b : Branch). branch_said b ≡ branch_of depth A b.key) x xs are
     ∙ ap (saying depth x.key) (sym (under-append x.key A (map (onto k) R) ∙ ap (λ r. under nat_cmp x.key A ++ r) (under_other x.key k R (apart parts.0)) ∙ append-nil (under nat_cmp x.key A))))
-    (said_more depth k A R xs (All-tail (λ (b : Branch). said b ≡ branch_of depth A b.key) x xs are) parts.1) where
+    (said_more depth k A R xs (All-tail (λ (b : Branch). branch_said b ≡ branch_of depth A b.key) x xs are) parts.1) where
       apart : nat_eq k x.key ≡ false → eq_by_cmp nat_cmp x.key k ≡ false
       apart e = unsigned_tied x.key k ∙ ne_eqb x.key k (λ same. true≢false (sym (eq-eqb k x.key (sym same)) ∙ e))
 
@@ -176,14 +176,14 @@ or_swap false false = refl
 
 -- one more run
 module _ (depth k : ℕ) (A : List (Seen ℕ)) (list : List Branch) (s : Seen ℕ) (R : List (Seen ℕ)) (b : Branch) (fresh : list_any (eq_by_cmp nat_cmp k) (first_keys A) ≡ false)
-    (is : said b ≡ saying depth k (s ∷ R)) (ordered : AreOrdered depth A list) where
+    (is : branch_said b ≡ saying depth k (s ∷ R)) (ordered : AreOrdered depth A list) where
   abbrev run : List (Seen ℕ)
   run = map (onto k) (s ∷ R)
 
   key_is : b.key ≡ k
   key_is = ap (λ (x : Said). x.key) is
 
-  samples_are : samples_of b ≡ s ∷ R
+  samples_are : branch_samples b ≡ s ∷ R
   samples_are = ap (λ (x : Said). x.samples) is
 
   not_there : list_any (nat_eq k) (map (λ (x : Branch). x.key) list) ≡ false
@@ -194,8 +194,8 @@ module _ (depth k : ℕ) (A : List (Seen ℕ)) (list : List Branch) (s : Seen �
 
   front : AreBranches depth (A ++ run) (b ∷ list)
   front = record {
-    said_are = All-cons (λ (x : Branch). said x ≡ branch_of depth (A ++ run) x.key) b list
-        (subst (λ n. said b ≡ branch_of depth (A ++ run) n) (sym key_is) (is ∙ ap (saying depth k) (sym under_run)))
+    said_are = All-cons (λ (x : Branch). branch_said x ≡ branch_of depth (A ++ run) x.key) b list
+        (subst (λ n. branch_said b ≡ branch_of depth (A ++ run) n) (sym key_is) (is ∙ ap (saying depth k) (sym under_run)))
         (said_more depth k A (s ∷ R) list ordered.are.said_are not_there);
     present = λ m.
         (λ i. nat_eq m (key_is i) || ordered.are.present m i)
@@ -209,11 +209,11 @@ module _ (depth k : ℕ) (A : List (Seen ℕ)) (list : List Branch) (s : Seen �
   turned : IsPermutation (b ∷ list) (list ++ b ∷ [])
   turned = IsPermutation-sym (list ++ b ∷ []) (b ∷ list) (IsPermutation-to_front list b)
 
-  pub ordered_more : Rises run → AreOrdered depth (A ++ run) (list ++ b ∷ [])
+  pub ordered_more : IsRising run → AreOrdered depth (A ++ run) (list ++ b ∷ [])
   ordered_more up = record {
     are = listed depth (A ++ run) (b ∷ list) (list ++ b ∷ []) front turned;
-    rise = All-permutation (λ (x : Branch). Rises (samples_of x)) (b ∷ list) (list ++ b ∷ []) turned
-        (All-cons (λ (x : Branch). Rises (samples_of x)) b list (subst Rises (sym samples_are) (run_rises k (s ∷ R) up)) ordered.rise);
+    rise = All-permutation (λ (x : Branch). IsRising (branch_samples x)) (b ∷ list) (list ++ b ∷ []) turned
+        (All-cons (λ (x : Branch). IsRising (branch_samples x)) b list (subst IsRising (sym samples_are) (run_rises k (s ∷ R) up)) ordered.rise);
     lighter = omega (
       arith,
       ordered.lighter,
@@ -242,8 +242,8 @@ ordered_past depth A v list ordered = record {
 pub ordered_none : (depth : ℕ) (list : List Branch) → list ≡ [] → AreOrdered depth [] list
 unfolding IsDistinct
 ordered_none depth list none = subst (AreOrdered depth []) (sym none) (record {
-  are = record { said_are = All-nil (λ (b : Branch). said b ≡ branch_of depth [] b.key); present = λ m. refl; distinct = tt };
-  rise = All-nil (λ (b : Branch). Rises (samples_of b));
+  are = record { said_are = All-nil (λ (b : Branch). branch_said b ≡ branch_of depth [] b.key); present = λ m. refl; distinct = tt };
+  rise = All-nil (λ (b : Branch). IsRising (branch_samples b));
   lighter = omega arith;
 })
 
@@ -261,15 +261,15 @@ pub record FoundTo (depth : ℕ) (paths rest : List Path) (list : List Branch) :
   pub done : List (Seen ℕ)
   pub parts : below depth paths ≡ done ++ below depth rest
   pub ordered : AreOrdered depth done list
-  pub up : Rises (below depth rest)
+  pub up : IsRising (below depth rest)
   pub past : (m : ℕ) → list_any (eq_by_cmp nat_cmp m) (first_keys done) ≡ true → AllPast m (below depth rest)
 
-pub found_none : (depth : ℕ) (paths rest : List Path) (list : List Branch) → rest ≡ paths → list ≡ [] → Rises (below depth paths) → FoundTo depth paths rest list
+pub found_none : (depth : ℕ) (paths rest : List Path) (list : List Branch) → rest ≡ paths → list ≡ [] → IsRising (below depth paths) → FoundTo depth paths rest list
 found_none depth paths rest list same none up = record {
   done = [];
   parts = ap (below depth) (sym same);
   ordered = ordered_none depth list none;
-  up = subst (λ ps. Rises (below depth ps)) (sym same) up;
+  up = subst (λ ps. IsRising (below depth ps)) (sym same) up;
   past = λ m found. absurd (false≢true found);
 }
 
@@ -280,7 +280,7 @@ found_all depth paths rest list none so_far =
 -- a path has ended
 pub found_past : (depth : ℕ) (paths : List Path) (x : Path) (rest : List Path) (list : List Branch) → length x.keys.now ≤ depth → FoundTo depth paths (x ∷ rest) list → FoundTo depth paths rest list
 found_past depth paths x rest list short so_far =
-    let ended : left_of depth x ≡ record { value = x.value; keys = [] } = ap (λ ks. record { value = x.value; keys = ks }) (drop_all depth x.keys.now short) in
+    let ended : path_below depth x ≡ record { value = x.value; keys = [] } = ap (λ ks. record { value = x.value; keys = ks }) (drop_all depth x.keys.now short) in
     record {
       done = so_far.done ++ record { value = x.value; keys = [] } ∷ [];
       parts = so_far.parts ∙ ap (λ s. so_far.done ++ s ∷ below depth rest) ended ∙ sym (append_assoc so_far.done (record { value = x.value; keys = [] } ∷ []) (below depth rest));
@@ -307,19 +307,19 @@ module _ (depth k : ℕ) where
     by (suc n) [] = refl
     by (suc n) (q ∷ ks) = by n ks
 
-  run_is : (paths : List Path) → below depth (take (run_length (has_key depth k) paths) paths) ≡ map (onto k) (below (depth + 1) (take (run_length (has_key depth k) paths) paths))
+  run_is : (paths : List Path) → below depth (take (run_length (has_key_below depth k) paths) paths) ≡ map (onto k) (below (depth + 1) (take (run_length (has_key_below depth k) paths) paths))
   run_is [] = refl
   run_is (x ∷ paths) =
-      elim (has_key depth k x) as (λ b. has_key depth k x ≡ b → below depth (take (cond b (suc (run_length (has_key depth k) paths)) 0) (x ∷ paths))
-      ≡ map (onto k) (below (depth + 1) (take (cond b (suc (run_length (has_key depth k) paths)) 0) (x ∷ paths)))) [
+      elim (has_key_below depth k x) as (λ b. has_key_below depth k x ≡ b → below depth (take (cond b (suc (run_length (has_key_below depth k) paths)) 0) (x ∷ paths))
+      ≡ map (onto k) (below (depth + 1) (take (cond b (suc (run_length (has_key_below depth k) paths)) 0) (x ∷ paths)))) [
         | true ↦ λ e i. record { value = x.value; keys = head_of x.keys.now e i } ∷ run_is paths i
         | false ↦ λ e. refl
       ] refl
 
-  turns : (paths : List Path) → TurnsFrom k (below depth (drop (run_length (has_key depth k) paths) paths))
+  turns : (paths : List Path) → TurnsFrom k (below depth (drop (run_length (has_key_below depth k) paths) paths))
   turns [] = tt
   turns (x ∷ paths) =
-      elim (has_key depth k x) as (λ b. has_key depth k x ≡ b → TurnsFrom k (below depth (drop (cond b (suc (run_length (has_key depth k) paths)) 0) (x ∷ paths)))) [
+      elim (has_key_below depth k x) as (λ b. has_key_below depth k x ≡ b → TurnsFrom k (below depth (drop (cond b (suc (run_length (has_key_below depth k) paths)) 0) (x ∷ paths)))) [
         | true ↦ λ e. turns paths
         | false ↦ λ e. sym (other_of x.keys.now) ∙ e
       ] refl
@@ -329,8 +329,8 @@ size_below n m [] = refl
 size_below n m (x ∷ paths) = omega (
   arith,
   size_below n m paths,
-  sum_by-cons (λ (t : Seen ℕ). nat_abs t.value) (left_of n x) (below n paths),
-  sum_by-cons (λ (t : Seen ℕ). nat_abs t.value) (left_of m x) (below m paths),
+  sum_by-cons (λ (t : Seen ℕ). nat_abs t.value) (path_below n x) (below n paths),
+  sum_by-cons (λ (t : Seen ℕ). nat_abs t.value) (path_below m x) (below m paths),
 )
 
 -- the values of a run are within those of all
@@ -338,7 +338,7 @@ pub run_fits : (depth n : ℕ) (paths rest : List Path) (list : List Branch) (ru
     → absolute (below depth paths) < 2 ^ 63 → absolute (below (depth + 1) run) < 2 ^ 63
 run_fits depth n paths rest list run is so_far fits =
     let halves : below depth rest ≡ below depth (take n rest) ++ below depth (drop n rest) =
-    ap (below depth) (sym (take-append-drop n rest)) ∙ map-append (left_of depth) (take n rest) (drop n rest) in
+    ap (below depth) (sym (take-append-drop n rest)) ∙ map-append (path_below depth) (take n rest) (drop n rest) in
     omega (
       arith,
       fits,
@@ -349,15 +349,15 @@ run_fits depth n paths rest list run is so_far fits =
     )
 
 -- one more run
-module _ (depth k : ℕ) (paths : List Path) (x : Path) (after : List Path) (list new : List Branch) (b : Branch) (own : has_key depth k x ≡ true)
+module _ (depth k : ℕ) (paths : List Path) (x : Path) (after : List Path) (list new : List Branch) (b : Branch) (own : has_key_below depth k x ≡ true)
     (so_far : FoundTo depth paths (x ∷ after) list) where
   abbrev m : ℕ
-  m = run_length (has_key depth k) after
+  m = run_length (has_key_below depth k) after
 
   abbrev rest_of_run : List Path
   rest_of_run = take m after
 
-  length_is : run_length (has_key depth k) (x ∷ after) ≡ suc m
+  length_is : run_length (has_key_below depth k) (x ∷ after) ≡ suc m
   length_is = ap (λ e. cond e (suc m) 0) own
 
   abbrev R : List (Seen ℕ)
@@ -366,16 +366,16 @@ module _ (depth k : ℕ) (paths : List Path) (x : Path) (after : List Path) (lis
   abbrev tail : List (Seen ℕ)
   tail = below depth (drop m after)
 
-  run_onto : below depth (x ∷ rest_of_run) ≡ map (onto k) (left_of (depth + 1) x ∷ R)
+  run_onto : below depth (x ∷ rest_of_run) ≡ map (onto k) (path_below (depth + 1) x ∷ R)
   run_onto = λ i. record { value = x.value; keys = head_of depth k x.keys.now own i } ∷ run_is depth k after i
 
-  whole_is : below depth (x ∷ after) ≡ map (onto k) (left_of (depth + 1) x ∷ R) ++ tail
+  whole_is : below depth (x ∷ after) ≡ map (onto k) (path_below (depth + 1) x ∷ R) ++ tail
   whole_is =
-      ap (λ ps. below depth (x ∷ ps)) (sym (take-append-drop m after)) ∙ ap (λ r. left_of depth x ∷ r) (map-append (left_of depth) rest_of_run (drop m after))
+      ap (λ ps. below depth (x ∷ ps)) (sym (take-append-drop m after)) ∙ ap (λ r. path_below depth x ∷ r) (map-append (path_below depth) rest_of_run (drop m after))
       ∙ ap (λ r. r ++ tail) run_onto
 
-  up_parts : Rises (map (onto k) (left_of (depth + 1) x ∷ R)) × Rises tail
-  up_parts = rises_parts (map (onto k) (left_of (depth + 1) x ∷ R)) tail (subst Rises whole_is so_far.up)
+  up_parts : IsRising (map (onto k) (path_below (depth + 1) x ∷ R)) × IsRising tail
+  up_parts = rises_parts (map (onto k) (path_below (depth + 1) x ∷ R)) tail (subst IsRising whole_is so_far.up)
 
   fresh : list_any (eq_by_cmp nat_cmp k) (first_keys so_far.done) ≡ false
   fresh = elim (cases_Bool (list_any (eq_by_cmp nat_cmp k) (first_keys so_far.done))) as (λ _. list_any (eq_by_cmp nat_cmp k) (first_keys so_far.done) ≡ false) [
@@ -385,31 +385,31 @@ module _ (depth k : ℕ) (paths : List Path) (x : Path) (after : List Path) (lis
 
   later : AllPast k tail
   later = after_run k (drop (depth + 1) x.keys.now) tail
-      (before_parts (k ∷ drop (depth + 1) x.keys.now) (map (onto k) R) tail (subst Rises whole_is so_far.up).0).1 up_parts.1 (turns depth k after)
+      (before_parts (k ∷ drop (depth + 1) x.keys.now) (map (onto k) R) tail (subst IsRising whole_is so_far.up).0).1 up_parts.1 (turns depth k after)
 
-  pub found_more : (run other : List Path) → run ≡ take (run_length (has_key depth k) (x ∷ after)) (x ∷ after) → other ≡ drop (run_length (has_key depth k) (x ∷ after)) (x ∷ after)
+  pub found_more : (run other : List Path) → run ≡ take (run_length (has_key_below depth k) (x ∷ after)) (x ∷ after) → other ≡ drop (run_length (has_key_below depth k) (x ∷ after)) (x ∷ after)
       → IsBranchOf depth k run b → new ≡ list ++ b ∷ [] → FoundTo depth paths other new
   found_more run other run_are other_are is more =
       let run_list : run ≡ x ∷ rest_of_run = run_are ∙ ap (λ n. take n (x ∷ after)) length_is in
       let rest_list : other ≡ drop m after = other_are ∙ ap (λ n. drop n (x ∷ after)) length_is in
-      let says : said b ≡ saying depth k (left_of (depth + 1) x ∷ R) = λ i. record {
+      let says : branch_said b ≡ saying depth k (path_below (depth + 1) x ∷ R) = λ i. record {
         depth = is.depth_is i;
         key = is.key_is i;
         flat = (is.flat_is ∙ ap (λ ps. sum_where is_end (below (depth + 1) ps)) run_list) i;
         cum = (is.cum_is ∙ ap (λ ps. sum_where any_path (below (depth + 1) ps)) run_list) i;
         samples = below (is.depth_is i + 1) ((is.paths_are ∙ run_list) i);
       } in
-      let heads : List (Seen ℕ) = map (onto k) (left_of (depth + 1) x ∷ R) in
+      let heads : List (Seen ℕ) = map (onto k) (path_below (depth + 1) x ∷ R) in
       subst (λ ps. FoundTo depth paths ps new) (sym rest_list) (subst (FoundTo depth paths (drop m after)) (sym more) (record {
         done = so_far.done ++ heads;
         parts = so_far.parts ∙ ap (λ r. so_far.done ++ r) whole_is ∙ sym (append_assoc so_far.done heads tail);
-        ordered = ordered_more depth k so_far.done list (left_of (depth + 1) x) R b fresh says so_far.ordered up_parts.0;
+        ordered = ordered_more depth k so_far.done list (path_below (depth + 1) x) R b fresh says so_far.ordered up_parts.0;
         up = up_parts.1;
         past = λ q found. elim (cases_Bool (list_any (eq_by_cmp nat_cmp q) (first_keys so_far.done))) as (λ _. AllPast q tail) [
           | inl there ↦ past_parts q heads tail (subst (AllPast q) whole_is (so_far.past q there))
           | inr none ↦
               let same : q ≡ k = eqb-true q k
-              (sym (same_heads q k (left_of (depth + 1) x) R)
+              (sym (same_heads q k (path_below (depth + 1) x) R)
               ∙ ap (λ e. e || list_any (eq_by_cmp nat_cmp q) (first_keys heads)) (sym none)
               ∙ sym (ap (list_any (eq_by_cmp nat_cmp q)) (first_keys-append so_far.done heads) ∙ list_any-append (eq_by_cmp nat_cmp q) (first_keys so_far.done) (first_keys heads)) ∙ found) in
               subst (λ n. AllPast n tail) (sym same) later
@@ -421,15 +421,15 @@ found_next : (depth : ℕ) (paths : List Path) (x : Path) (after run other : Lis
     → run ≡ take (first_run depth (x ∷ after)) (x ∷ after) → other ≡ drop (first_run depth (x ∷ after)) (x ∷ after) → IsStep depth run list new
     → FoundTo depth paths (x ∷ after) list → FoundTo depth paths other new
 found_next depth paths x after now other list new None here run_is other_is step so_far =
-    let one : first_run depth (x ∷ after) ≡ 1 = ap (λ p. option_map_or (λ key. run_length (has_key depth key) (x ∷ after)) p 1) here in
+    let one : first_run depth (x ∷ after) ≡ 1 = ap (λ p. option_map_or (λ key. run_length (has_key_below depth key) (x ∷ after)) p 1) here in
     let same : new ≡ list = subst (λ p. MatchOption p (new ≡ list) (λ key. GainsBranch depth key (x ∷ []) list new)) here
     (subst (λ r. IsStep depth r list new) (run_is ∙ ap (λ n. take n (x ∷ after)) one) step) in
     subst (λ ps. FoundTo depth paths ps new) (sym (other_is ∙ ap (λ n. drop n (x ∷ after)) one)) (subst (FoundTo depth paths after) (sym same)
     (found_past depth paths x after list (slice_get_short x.keys.now depth here) so_far))
 found_next depth paths x after now other list new (Some k) here run_is other_is step so_far =
-    let own : has_key depth k x ≡ true = ap (λ p. option_map_or (λ q. q == k) p false) here ∙ eq-eqb k k refl in
-    let count : first_run depth (x ∷ after) ≡ run_length (has_key depth k) (x ∷ after) = ap (λ p. option_map_or (λ key. run_length (has_key depth key) (x ∷ after)) p 1) here in
-    let m : ℕ = run_length (has_key depth k) after in
+    let own : has_key_below depth k x ≡ true = ap (λ p. option_map_or (λ q. q == k) p false) here ∙ eq-eqb k k refl in
+    let count : first_run depth (x ∷ after) ≡ run_length (has_key_below depth k) (x ∷ after) = ap (λ p. option_map_or (λ key. run_length (has_key_below depth key) (x ∷ after)) p 1) here in
+    let m : ℕ = run_length (has_key_below depth k) after in
     let long : first_run depth (x ∷ after) ≡ suc m = count ∙ ap (λ e. cond e (suc m) 0) own in
     let run_list : now ≡ x ∷ take m after = run_is ∙ ap (λ n. take n (x ∷ after)) long in
     let gains : GainsBranch depth k (x ∷ take m after) list new = subst (λ p. MatchOption p (new ≡ list) (λ key. GainsBranch depth key (x ∷ take m after) list new)) here
@@ -445,11 +445,11 @@ found_step depth paths (x ∷ after) run other list new some run_is other_is ste
     found_next depth paths x after run other list new (slice_get x.keys.now depth) refl run_is other_is step so_far
 
 run_some : (depth : ℕ) (x : Path) (after : List Path) (o : Option ℕ) → slice_get x.keys.now depth ≡ o
-    → 0 < option_map_or (λ key. run_length (has_key depth key) (x ∷ after)) o 1
+    → 0 < option_map_or (λ key. run_length (has_key_below depth key) (x ∷ after)) o 1
 run_some depth x after None here = omega arith
 run_some depth x after (Some k) here =
-    let own : has_key depth k x ≡ true = ap (λ p. option_map_or (λ q. q == k) p false) here ∙ eq-eqb k k refl in
-    omega (arith, ap (λ e. cond e (suc (run_length (has_key depth k) after)) 0) own)
+    let own : has_key_below depth k x ≡ true = ap (λ p. option_map_or (λ q. q == k) p false) here ∙ eq-eqb k k refl in
+    omega (arith, ap (λ e. cond e (suc (run_length (has_key_below depth k) after)) 0) own)
 
 -- a run has a path
 pub first_some : (depth : ℕ) (rest : List Path) → 0 < length rest → 0 < first_run depth rest
@@ -460,6 +460,6 @@ first_some depth (x ∷ after) some = run_some depth x after (slice_get x.keys.n
 pub ordered_listed : (depth : ℕ) (S : List (Seen ℕ)) (xs list : List Branch) → AreOrdered depth S xs → IsPermutation xs list → AreOrdered depth S list
 ordered_listed depth S xs list ordered moved = record {
   are = listed depth S xs list ordered.are moved;
-  rise = All-permutation (λ (b : Branch). Rises (samples_of b)) xs list moved ordered.rise;
+  rise = All-permutation (λ (b : Branch). IsRising (branch_samples b)) xs list moved ordered.rise;
   lighter = omega (arith, ordered.lighter, sum_by-IsPermutation weight xs list moved);
 }

@@ -6,7 +6,7 @@ use Rattle.pp_count.specs.Sums.{Seen, sum_where}
 use Rattle.pp_calltree.specs.declared.branch.Branch.{Branch}
 use Rattle.pp_calltree.specs.declared.path.Path.{Path}
 use Rattle.pp_calltree.specs.CallTree.{all_lengths, any_path, is_end, first_keys, under, path_cum, path_flat}
-use Rattle.pp_calltree.specs.Paths.{below, Rises}
+use Rattle.pp_calltree.specs.Paths.{below, IsRising}
 
 -- What a branch says: its depth, its key number, its sums, and the samples below it.
 pub record Said : Type 0 where
@@ -17,13 +17,13 @@ pub record Said : Type 0 where
   pub samples : List (Seen ℕ)
 
 -- what is left of a branch's paths below its key
-abbrev pub samples_of : Branch → List (Seen ℕ)
-samples_of b = below (b.depth + 1) b.paths.now
+abbrev pub branch_samples : Branch → List (Seen ℕ)
+branch_samples b = below (b.depth + 1) b.paths.now
 
 -- what this one says
-abbrev pub said : Branch → Said
-said b =
-    record { depth = b.depth; key = b.key; flat = b.flat; cum = b.cum; samples = samples_of b }
+abbrev pub branch_said : Branch → Said
+branch_said b =
+    record { depth = b.depth; key = b.key; flat = b.flat; cum = b.cum; samples = branch_samples b }
 
 -- what the branch of the key says, over samples below so many keys
 abbrev pub branch_of : ℕ → List (Seen ℕ) → ℕ → Said
@@ -37,19 +37,19 @@ branch_of depth samples k = record {
 
 -- The list has the branches of these samples below so many keys, each once.
 pub record AreBranches (depth : ℕ) (samples : List (Seen ℕ)) (list : List Branch) : Type 0 where
-  pub said_are : All (λ b. said b ≡ branch_of depth samples b.key) list
+  pub said_are : All (λ b. branch_said b ≡ branch_of depth samples b.key) list
   pub present : (m : ℕ) → list_any (nat_eq m) (map (λ b. b.key) list)
       ≡ list_any (eq_by_cmp nat_cmp m) (first_keys samples)
   pub distinct : IsDistinct nat_eq (map (λ b. b.key) list)
 
 -- more than the nodes at a branch and below it
 abbrev pub weight : Branch → ℕ
-weight b = suc (all_lengths (samples_of b))
+weight b = suc (all_lengths (branch_samples b))
 
 -- They are the branches of samples whose paths are in order, and so are those below them.
 pub record AreOrdered (depth : ℕ) (samples : List (Seen ℕ)) (list : List Branch) : Type 0 where
   pub are : AreBranches depth samples list
-  pub rise : All (λ b. Rises (samples_of b)) list
+  pub rise : All (λ b. IsRising (branch_samples b)) list
   pub lighter : sum_by weight list ≤ all_lengths samples
 
 -- the branches of what is left of these paths below so many keys

@@ -12,9 +12,9 @@ use Rattle.pp_count.specs.Table.{written_key}
 use Rattle.pp_calltree.specs.declared.branch.Branch.{Branch}
 use Rattle.pp_calltree.specs.declared.texts.Texts.{Texts}
 use Rattle.pp_calltree.specs.declared.tree.PathNode.{PathNode}
-use Rattle.pp_calltree.specs.Branches.{samples_of, weight}
+use Rattle.pp_calltree.specs.Branches.{branch_samples, weight}
 use Rattle.pp_calltree.specs.CallTree.{TreeRow, all_lengths, any_row, is_end, rows_below}
-use Rattle.pp_calltree.specs.Paths.{Rises}
+use Rattle.pp_calltree.specs.Paths.{IsRising}
 use Rattle.pp_calltree.specs.Siblings.{texts_at}
 
 -- the node, with its key written out
@@ -36,7 +36,7 @@ abbrev pub whole_branch : Profile → List Key → ℕ → Branch → List (Tree
 whole_branch p names most b =
     branch_row p names b
     ∷ rows_below key_cmp any_row (most - (b.depth + 1)) (b.depth + 1)
-    (written_out p names (samples_of b))
+    (written_out p names (branch_samples b))
 
 -- Different numbers are different keys, and the texts are those of the names.
 pub record CanLay (p : Profile) (names : List Key) (texts : Texts) : Type 0 where
@@ -54,9 +54,9 @@ pub record HasRoom (names : List Key) (most : ℕ) (samples : List (Seen ℕ)) :
 pub record IsLayable (names : List Key) (most : ℕ) (b : Branch) : Type 0 where
   pub depth_fits : b.depth < most
   pub key_below : b.key < length names
-  pub room : HasRoom names (most - (b.depth + 1)) (samples_of b)
-  pub flat_is : b.flat ≡ sum_where is_end (samples_of b)
-  pub rises : Rises (samples_of b)
+  pub room : HasRoom names (most - (b.depth + 1)) (branch_samples b)
+  pub flat_is : b.flat ≡ sum_where is_end (branch_samples b)
+  pub rises : IsRising (branch_samples b)
 
 -- The branches of the samples below so many keys wait in the place of the samples, the last of them first.
 pub record WaitBelow (p : Profile) (names : List Key) (most depth left : ℕ)
@@ -66,7 +66,7 @@ pub record WaitBelow (p : Profile) (names : List Key) (most depth left : ℕ)
   pub rows : rows_below key_cmp any_row left depth (written_out p names samples)
       ≡ flat_map (whole_branch p names most) branches
   pub layable : All (IsLayable names most) branches
-  pub sizes : sum_by (λ b. absolute (samples_of b)) branches + nat_abs (sum_where is_end samples)
+  pub sizes : sum_by (λ b. absolute (branch_samples b)) branches + nat_abs (sum_where is_end samples)
       ≤ absolute samples
   pub lighter : sum_by weight branches ≤ all_lengths samples
 
@@ -76,5 +76,5 @@ pub record Laying (p : Profile) (names : List Key) (most : ℕ) (samples : List 
       ≡ rows_below key_cmp any_row most 0 (written_out p names samples)
   pub layable : All (IsLayable names most) waiting
   pub keys : All (λ n. IsKeyOf p n.key) nodes
-  pub sizes : sum_by (λ n. nat_abs n.flat) nodes + sum_by (λ b. absolute (samples_of b)) waiting
+  pub sizes : sum_by (λ n. nat_abs n.flat) nodes + sum_by (λ b. absolute (branch_samples b)) waiting
       ≤ absolute samples

@@ -58,20 +58,20 @@ abbrev pub path_cmp : Path → Path → Ordering
 path_cmp a b = slice_cmp nat_cmp a.keys.now b.keys.now
 
 -- what is left of the path below so many keys
-abbrev pub left_of : ℕ → Path → Seen ℕ
-left_of depth path = record { value = path.value; keys = drop depth path.keys.now }
+abbrev pub path_below : ℕ → Path → Seen ℕ
+path_below depth path = record { value = path.value; keys = drop depth path.keys.now }
 
 -- what is left of the paths
 abbrev pub below : ℕ → List Path → List (Seen ℕ)
-below depth paths = map (left_of depth) paths
+below depth paths = map (path_below depth) paths
 
 -- the path has this key below so many others
-abbrev pub has_key : ℕ → ℕ → Path → Bool
-has_key depth key path = option_map_or (λ other. other == key) (slice_get path.keys.now depth) false
+abbrev pub has_key_below : ℕ → ℕ → Path → Bool
+has_key_below depth key path = option_map_or (λ other. other == key) (slice_get path.keys.now depth) false
 
 -- its value, where it has no key below so many others
-abbrev pub own_value : ℕ → Path → ℤ
-own_value depth path = option_map_or (λ key. pos 0) (slice_get path.keys.now depth) path.value
+abbrev pub own_path_value : ℕ → Path → ℤ
+own_path_value depth path = option_map_or (λ key. pos 0) (slice_get path.keys.now depth) path.value
 
 -- how many items, from the first on, pass a test
 abbrev pub run_length : {X : Type 0} → (X → Bool) → List X → ℕ
@@ -82,13 +82,13 @@ run_length test (x ∷ xs) = if test x then suc (run_length test xs) else 0
 abbrev pub first_run : ℕ → List Path → ℕ
 first_run depth [] = 0
 first_run depth (first ∷ paths) =
-    option_map_or (λ key. run_length (has_key depth key) (first ∷ paths)) (slice_get first.keys.now depth) 1
+    option_map_or (λ key. run_length (has_key_below depth key) (first ∷ paths)) (slice_get first.keys.now depth) 1
 
 -- none of the samples' paths stands before these keys
 abbrev pub NoneBefore : List ℕ → List (Seen ℕ) → Type 0
 NoneBefore keys samples = AllByRecursion (λ s. is_lt (slice_cmp nat_cmp s.keys keys) ≡ false) samples
 
 -- No path stands before one to its left.
-abbrev pub Rises : List (Seen ℕ) → Type 0
-Rises [] = Unit {0}
-Rises (s ∷ samples) = NoneBefore s.keys samples × Rises samples
+abbrev pub IsRising : List (Seen ℕ) → Type 0
+IsRising [] = Unit {0}
+IsRising (s ∷ samples) = NoneBefore s.keys samples × IsRising samples

@@ -33,8 +33,8 @@ flats_sum [] = pos 0
 flats_sum (row ∷ rows) = row.flat +ℤ flats_sum rows
 
 -- the text of these nodes, of which so many are left out
-abbrev pub nodes_text : Facts → ℕ → List (TreeRow Written) → List ℕ
-nodes_text h dropped rows =
+abbrev pub path_nodes_text : Facts → ℕ → List (TreeRow Written) → List ℕ
+path_nodes_text h dropped rows =
     facts_text h
     ++ (showing_line h.unit h.total (flats_sum rows) ++ dropped_line dropped_nodes dropped)
     ++ heading ++ node_lines h.unit h.total (pos 0) rows
@@ -43,4 +43,4 @@ nodes_text h dropped rows =
 abbrev pub calltree_text : Profile → Finders → Config → Option ℕ → Facts → List ℕ
 calltree_text p f config column h =
     let shown = shown_nodes p f config column h.total in
-    nodes_text h (length (tree_nodes p f config column) - length shown) shown
+    path_nodes_text h (length (tree_nodes p f config column) - length shown) shown

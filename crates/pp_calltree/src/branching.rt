@@ -2,7 +2,7 @@
 ghost use Rattle.std.specs.Prelude.{◌≡◌, ℕ, ◌+◌, ◌+ℤ◌, ◌<◌, ◌≤◌, ◌^◌, nat_abs, pos, length, IfOk};
 ghost use Rattle.pp_count.specs.Sums.{absolute, sum_where};
 ghost use Rattle.pp_calltree.specs.CallTree.{any_path, is_end};
-ghost use Rattle.pp_calltree.specs.Paths.{below, first_run, has_key, own_value, run_length, Rises};
+ghost use Rattle.pp_calltree.specs.Paths.{below, first_run, has_key_below, own_path_value, run_length, IsRising};
 ghost use Rattle.pp_calltree.specs.Branches.{HasBranches, IsBranchOf, IsStep};
 
 use crate::branch::Branch;
@@ -17,7 +17,7 @@ pub fn find_branches<'a>(
     found: &mut Vec<Branch<'a>>,
 ) -> Result<(), Memory>
     requires deep { depth ≤ 2 ^ 32 }
-    requires rises { Rises (below depth paths.now) }
+    requires rises { IsRising (below depth paths.now) }
     requires fits { absolute (below depth paths.now) < 2 ^ 63 }
     ensures { IfOk result (λ _. HasBranches depth paths.now found.new.items) }
 {
@@ -46,7 +46,7 @@ fn first_run(paths: &[Path], depth: usize) -> usize
 
 // How many of the paths, from the first on, have this key below so many others.
 fn run_length(paths: &[Path], depth: usize, key: u32) -> usize
-    ensures value { result ≡ run_length (has_key depth key) paths.now }
+    ensures value { result ≡ run_length (has_key_below depth key) paths.now }
     ensures within { result ≤ length paths.now }
 {
     for (place, path) in paths.iter().enumerate() {
@@ -58,7 +58,7 @@ fn run_length(paths: &[Path], depth: usize, key: u32) -> usize
 }
 
 fn has_key(path: &Path, depth: usize, key: u32) -> bool
-    ensures { result ≡ has_key depth key path.now }
+    ensures { result ≡ has_key_below depth key path.now }
 {
     match path.keys.get(depth) {
         Some(other) => *other == key,
@@ -116,7 +116,7 @@ fn sums_of(run: &[Path], depth: usize) -> (i64, i64)
 
 // The value of a path that has no key below so many others, and else 0.
 fn own_value(path: &Path, depth: usize) -> i64
-    ensures { result ≡ own_value depth path.now }
+    ensures { result ≡ own_path_value depth path.now }
 {
     match path.keys.get(depth) {
         Some(_) => 0,

@@ -6,9 +6,9 @@ ghost use Rattle.pp_grain.specs.Keys.{IsKeyOf};
 ghost use Rattle.pp_count.specs.Seeing.{HoldsFilters, filtered_from};
 ghost use Rattle.pp_count.specs.Filters.{AreFilters};
 ghost use Rattle.pp_count.specs.Table.{IsKeyTable};
-ghost use Rattle.pp_count.specs.Scope.{IsSound, size_of};
+ghost use Rattle.pp_count.specs.Scope.{IsSoundScope, size_of};
 ghost use Rattle.pp_calltree.specs.Paths.{IsScopeOf};
-ghost use Rattle.pp_count.specs.Rising.{AreRising};
+ghost use Rattle.pp_count.specs.Rising.{AreRisingBetween};
 ghost use Rattle.pp_count.specs.Counts.{written_names};
 ghost use Rattle.pp_count.specs.Counted.{CanCount, IsCountedOf};
 ghost use Rattle.pp_calltree.specs.CallTree.{tree_nodes};
@@ -81,7 +81,7 @@ fn scope_of<'x>(
     requires can { CanCount l.now.profile v.now config.now column }
     requires filters { AreFilters l.now.profile v.now config.now filters.now }
     requires table { IsKeyTable l.now.profile config.now table.now }
-    ensures sound { IsSound result }
+    ensures sound { IsSoundScope result }
     ensures same { IsScopeOf l.now v.now config.now column table.now result }
 {
     Scope {
@@ -98,9 +98,9 @@ fn scope_of<'x>(
 
 // The nodes of the samples with these numbers.
 fn nodes_by(alloc: Global, scope: &Scope, kept: &[u32]) -> Result<List<NumberedNode>, Memory>
-    requires sound { IsSound scope.now }
+    requires sound { IsSoundScope scope.now }
     requires fits { size_of scope.now scope.now.l.now.profile.sample < 2 ^ 63 }
-    requires rising { AreRising 0 (length scope.now.l.now.profile.sample) kept.now }
+    requires rising { AreRisingBetween 0 (length scope.now.l.now.profile.sample) kept.now }
     requires kept { (f : Finders) →
         HoldsFilters scope.now.l.now scope.now.v.now scope.now.config.now f →
         kept.now ≡ filtered_from scope.now.l.now.profile f scope.now.config.now 0

@@ -9,7 +9,7 @@ ghost use Rattle.pp_count.specs.Sums.{absolute};
 ghost use Rattle.pp_calltree.specs.CallTree.{all_lengths, any_row, tree_rows};
 ghost use Rattle.pp_calltree.specs.Laid.{CanLay, HasRoom, WaitBelow, node_row, written_out};
 ghost use Rattle.pp_calltree.specs.Links.{nodes_by};
-ghost use Rattle.pp_calltree.specs.Paths.{below, Rises};
+ghost use Rattle.pp_calltree.specs.Paths.{below, IsRising};
 
 use crate::branch::Branch;
 use crate::branching::find_branches;
@@ -33,7 +33,7 @@ pub fn lay_out(
     requires keys { All (IsKeyOf p.now) names.now }
     requires distinct { AllPairs (λ a b. a ≢ b) names.now }
     requires room { HasRoom names.now (all_lengths (below 0 paths.now)) (below 0 paths.now) }
-    requires rises { Rises (below 0 paths.now) }
+    requires rises { IsRising (below 0 paths.now) }
     ensures rows { IfOk result (λ nodes. map (node_row p.now) (nodes_by names.now nodes)
         ≡ tree_rows key_cmp any_row (written_out p.now names.now (below 0 paths.now))) }
     ensures keys { IfOk result (λ nodes. All (λ n. IsKeyOf p.now n.key) (nodes_by names.now nodes)) }
@@ -67,7 +67,7 @@ fn push_branches<'a>(
     waiting: &mut Vec<Branch<'a>>,
 ) -> Result<(), Memory>
     requires deep { depth ≤ 2 ^ 32 }
-    requires rises { Rises (below depth paths.now) }
+    requires rises { IsRising (below depth paths.now) }
     requires fits { absolute (below depth paths.now) < 2 ^ 63 }
     ensures { (p : Tables) (names : Seq Key) (most left : ℕ) →
         CanLay p names texts.now → HasRoom names left (below depth paths.now) →

@@ -3,8 +3,8 @@ ghost use Rattle.std.specs.Prelude.{◌≡◌, ℕ, ◌++◌, ◌∷◌, [], len
 ghost use Rattle.pp_model.specs.Conditions.{RefersTo, IsSampleOf};
 ghost use Rattle.pp_model.specs.Finders.{Finders};
 ghost use Rattle.pp_count.specs.Column.{selected};
-ghost use Rattle.pp_count.specs.Rising.{AreRising};
-ghost use Rattle.pp_count.specs.Scope.{IsSound};
+ghost use Rattle.pp_count.specs.Rising.{AreRisingBetween};
+ghost use Rattle.pp_count.specs.Scope.{IsSoundScope};
 ghost use Rattle.pp_count.specs.Seeing.{HoldsFilters, filtered_from};
 ghost use Rattle.pp_count.specs.Sums.{Seen};
 ghost use Rattle.pp_calltree.specs.CallTree.{rooted};
@@ -60,10 +60,10 @@ pub fn gather_paths(
     samples: &[Sample],
     kept: &[u32],
 ) -> Result<Paths, Memory>
-    requires sound { IsSound scope.now }
+    requires sound { IsSoundScope scope.now }
     requires members { All (IsSampleOf scope.now.l.now.profile) samples.now }
     requires refers { All (RefersTo scope.now.l.now.profile) samples.now }
-    requires rising { AreRising 0 (length samples.now) kept.now }
+    requires rising { AreRisingBetween 0 (length samples.now) kept.now }
     requires kept { (f : Finders) →
         HoldsFilters scope.now.l.now scope.now.v.now scope.now.config.now f →
         kept.now ≡ filtered_from scope.now.l.now.profile f scope.now.config.now 0 samples.now }
@@ -86,7 +86,7 @@ pub fn gather_paths(
 
 // Adds a sample with these keys, leaf first.
 fn add_sample(scope: &Scope, paths: &mut Paths, sample: &Sample, keys: &[u64]) -> Result<(), Memory>
-    requires { IsSound scope.now }
+    requires { IsSoundScope scope.now }
     ensures { (samples : Seq (Seen ℕ)) → AreKeptAs paths.old samples →
         IfOk result (λ _. AreKeptAs paths.new (samples ++ rooted_if
         (selected scope.now.column scope.now.config.now.divide_by sample.now) keys.now)) }

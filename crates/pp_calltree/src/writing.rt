@@ -11,7 +11,7 @@ ghost use Rattle.pp_grain.specs.Keys.{IsKeyOf};
 ghost use Rattle.pp_count.specs.Seeing.{HoldsFilters};
 ghost use Rattle.pp_calltree.specs.Laid.{node_row};
 ghost use Rattle.pp_calltree.specs.Shown.{flat_sizes};
-ghost use Rattle.pp_calltree.specs.Text.{calltree_text, flats_sum, indented, node_line, node_lines, nodes_text};
+ghost use Rattle.pp_calltree.specs.Text.{calltree_text, flats_sum, indented, node_line, node_lines, path_nodes_text};
 ghost use Rattle.pp_calltree.specs.Tree.{IsTreeOf};
 
 use crate::shown::shown_nodes;
@@ -60,7 +60,7 @@ fn put_tree(
     requires keys { All (λ n. IsKeyOf l.now.profile n.key) nodes.now }
     requires fits { flat_sizes nodes.now < 2 ^ 63 }
     ensures { IfOk result (λ _. out.new ≡ out.old
-        ++ nodes_text (facts head.now) dropped (map (node_row l.now.profile) nodes.now)) }
+        ++ path_nodes_text (facts head.now) dropped (map (node_row l.now.profile) nodes.now)) }
 {
     write_head(alloc, head, out)?;
     put_summary(l, nodes, dropped, head, out)?;

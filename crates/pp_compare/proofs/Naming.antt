@@ -22,14 +22,14 @@ use Rattle.pp_count.specs.Sums.{Seen, flat, cum, has, leads}
 use Rattle.pp_count.specs.Table.{no_key, written_key}
 use Rattle.pp_count.specs.Base.{base_report_samples, AreBaseSums}
 use Rattle.pp_count.specs.declared.base.BaseSums.{BaseSums}
-use Rattle.pp_graph.specs.Ranks.{sum_at}
+use Rattle.pp_graph.specs.Ranks.{sum_of_name}
 use Rattle.pp_compare.specs.Compare.{difference_of, figure, compared_row, difference_line}
 use Rattle.pp_compare.specs.Rows.{wrapped, figures_at, compared_at}
 use Rattle.pp_compare.proofs.Fitting.{figures_differ}
 
 -- a sum at a name's place
 at_name : (g : Written → ℤ) (p : Profile) (names : List Key) (sums : List ℤ) (n : ℕ) → n < length names → sums ≡ map g (map (key_written p) names)
-    → sum_at sums n ≡ g (written_key p names n)
+    → sum_of_name sums n ≡ g (written_key p names n)
 at_name g p names sums n within are =
     ap (λ xs. get_or xs n (pos 0)) are
     ∙ get_or-map g (map (key_written p) names) n (key_written p no_key) (pos 0) (omega (arith, within, length-map names (key_written p)))

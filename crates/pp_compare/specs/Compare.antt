@@ -20,7 +20,7 @@ use Rattle.pp_grain.specs.Naming.{name_text}
 use Rattle.pp_count.specs.Counted.{report_samples}
 use Rattle.pp_count.specs.Counts.{filtered_samples}
 use Rattle.pp_count.specs.Sums.{Seen, flat, cum}
-use Rattle.pp_graph.specs.Trim.{candidate_keys, report_keys, dropped_nodes}
+use Rattle.pp_graph.specs.Trim.{candidate_keys, report_keys, light_nodes}
 use Rattle.pp_count.specs.Base.{base_samples, base_report_samples, selected_all}
 use Rattle.pp_compare.specs.declared.difference.Difference.{Difference}
 
@@ -94,7 +94,7 @@ abbrev pub compare_text : Profile → Finders → Config → Option ℕ → ℕ 
 compare_text p f config column limit h =
     let keys = report_keys p f config column limit in
     facts_text h
-    ++ (dropped_line lines.dropped_nodes (dropped_nodes p f config column)
+    ++ (dropped_line lines.dropped_nodes (light_nodes p f config column)
     ++ limited_line (length keys) (length (candidate_keys p f config column)))
     ++ compare_heading config.sort ++ difference_line h.unit (whole_row p f config column)
     ++ flat_map (λ k. difference_line h.unit (compared_row p f config column k)) keys

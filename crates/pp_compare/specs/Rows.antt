@@ -12,7 +12,7 @@ use Rattle.pp_grain.specs.Naming.{name_text}
 use Rattle.pp_count.specs.declared.sums.Sums.{Sums}
 use Rattle.pp_count.specs.Table.{written_key}
 use Rattle.pp_graph.specs.declared.ranking.Ranked.{Ranked}
-use Rattle.pp_graph.specs.Ranks.{sum_at}
+use Rattle.pp_graph.specs.Ranks.{sum_of_name}
 use Rattle.pp_count.specs.declared.base.BaseSums.{BaseSums}
 use Rattle.pp_compare.specs.declared.difference.Difference.{Difference}
 use Rattle.pp_compare.specs.Compare.{ComparedRow, difference_line, compare_heading}
@@ -27,8 +27,8 @@ wrapped base change = record {
 
 -- what is compared of the name with this number
 abbrev pub figures_at : Sort → Sums → BaseSums → ℕ → Difference
-figures_at sorts.Flat sums base n = wrapped (sum_at base.flat n) (sum_at sums.flat n)
-figures_at sorts.Cum sums base n = wrapped (sum_at base.cum n) (sum_at sums.cum n)
+figures_at sorts.Flat sums base n = wrapped (sum_of_name base.flat n) (sum_of_name sums.flat n)
+figures_at sorts.Cum sums base n = wrapped (sum_of_name base.cum n) (sum_of_name sums.cum n)
 
 -- its row
 abbrev pub compared_at : Profile → Sort → Sums → BaseSums → ℕ → ComparedRow

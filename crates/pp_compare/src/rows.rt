@@ -7,7 +7,7 @@ ghost use Rattle.pp_grain.specs.Keys.{IsKeyOf, key_written};
 ghost use Rattle.pp_grain.specs.Naming.{name_text};
 ghost use Rattle.pp_count.specs.Counted.{FitSums};
 ghost use Rattle.pp_count.specs.Base.{FitBase};
-ghost use Rattle.pp_graph.specs.Ranks.{sum_at};
+ghost use Rattle.pp_graph.specs.Ranks.{sum_of_name};
 ghost use Rattle.pp_compare.specs.Compare.{difference_columns, difference_line};
 ghost use Rattle.pp_compare.specs.Rows.{figures_at, compared_at};
 
@@ -83,7 +83,7 @@ fn figures(table: &Table, number: u64) -> Difference
 // The figure at the place.
 fn at(figures: &List<i64>, place: u64) -> i64
     requires { place < length figures.now }
-    ensures { result ≡ sum_at figures.now place }
+    ensures { result ≡ sum_of_name figures.now place }
 {
     figures.as_slice()[place as usize]
 }

@@ -29,10 +29,10 @@ use Rattle.pp_count.specs.Base.{is_base_number, base_samples, base_report_sample
 use Rattle.pp_count.specs.Column.{selected}
 use Rattle.pp_count.specs.Counts.{is_base, samples_at, filtered_samples, written_names}
 use Rattle.pp_count.specs.Parts.{HasBelow}
-use Rattle.pp_count.specs.Rising.{AreRising}
+use Rattle.pp_count.specs.Rising.{AreRisingBetween}
 use Rattle.pp_count.specs.Seeing.{HoldsFilters, filtered_stack, filtered_from, seen_with, seen_samples, absolute_all}
 use Rattle.pp_count.specs.Sums.{Seen, weighed, renamed, flat, cum, has, leads}
-use Rattle.pp_count.specs.Table.{key_at, written_key}
+use Rattle.pp_count.specs.Table.{key_numbered, written_key}
 use Rattle.pp_count.proofs.Adding.{triangle, sum_bound}
 use Rattle.pp_count.proofs.CallerLemmas.{weighed-renamed}
 use Rattle.pp_count.proofs.Kept.{kept_samples, values_fit}
@@ -126,7 +126,7 @@ selected_within column d (s ∷ ss) =
     omega (arith, triangle (selected column d s) (selected_all column d ss), selected_within column d ss, sum_by-cons (λ (x : Sample). nat_abs (selected column d x)) s ss)
 
 -- samples with numbers that rise are within all samples
-pub chosen_within : (p : Profile) (column : Option ℕ) (d : ℕ) (ns : List ℕ) → AreRising 0 (length p.sample) ns → absolute_all column d (samples_at p ns) ≤ absolute_all column d p.sample
+pub chosen_within : (p : Profile) (column : Option ℕ) (d : ℕ) (ns : List ℕ) → AreRisingBetween 0 (length p.sample) ns → absolute_all column d (samples_at p ns) ≤ absolute_all column d p.sample
 chosen_within p column d ns rising =
     let size : Sample → ℕ = λ s. nat_abs (selected column d s) in
     omega (arith, rising_size size p.sample 0 ns rising, sum_by-take-drop size p.sample 0)
@@ -146,7 +146,7 @@ module _ (p : Profile) (column : Option ℕ) (d : ℕ) (ns : List ℕ) (i : ℕ)
       is ∙ (λ j. so_far j +ℤ value_is j) ∙ sym (ap (selected_all column d) samples_more ∙ selected-append column d (samples_at p (take i ns)) next)
 
   -- it fits
-  pub sum_room : AreRising 0 (length p.sample) ns → absolute_all column d p.sample < 2 ^ 63 → nat_abs sum + nat_abs value < 2 ^ 63
+  pub sum_room : AreRisingBetween 0 (length p.sample) ns → absolute_all column d p.sample < 2 ^ 63 → nat_abs sum + nat_abs value < 2 ^ 63
   sum_room rising fits =
       let size : Sample → ℕ = λ s. nat_abs (selected column d s) in
       let whole : samples_at p ns ≡ samples_at p (take (i + 1) ns) ++ samples_at p (drop (i + 1) ns) =
@@ -165,7 +165,7 @@ module _ (p : Profile) (column : Option ℕ) (d : ℕ) (ns : List ℕ) (i : ℕ)
 
 -- the whole sum is small
 pub sum_small : (p : Profile) (column : Option ℕ) (d : ℕ) (ns : List ℕ) (i : ℕ) (sum : ℤ) → length ns ≤ i → sum ≡ selected_all column d (samples_at p (take i ns))
-    → AreRising 0 (length p.sample) ns → absolute_all column d p.sample < 2 ^ 63 → nat_abs sum < 2 ^ 63
+    → AreRisingBetween 0 (length p.sample) ns → absolute_all column d p.sample < 2 ^ 63 → nat_abs sum < 2 ^ 63
 sum_small p column d ns i sum past is rising fits =
     omega (
       arith,
@@ -203,10 +203,10 @@ module _ (l : Loaded) (v : Verdicts) (config : Config) (column : Option ℕ) (co
         (tallies.tallies n).cum ∙ sym (cum-renamed key_cmp name (length names) (apart l.profile compact names keys distinct) n S here S_below)
         ∙ ap (λ (r : List (Seen Written)). cum key_cmp r (name n)) T_is
 
-  module _ (sums : Sums) (numbers : List ℕ) (named : sums.names ≡ map (key_at names) numbers) (numbered : All (λ n. n < length names) numbers) (base : BaseSums)
+  module _ (sums : Sums) (numbers : List ℕ) (named : sums.names ≡ map (key_numbered names) numbers) (numbered : All (λ n. n < length names) numbers) (base : BaseSums)
       (flats_are : base.flat ≡ map (λ n. (at n).flat) numbers) (cums_are : base.cum ≡ map (λ n. (at n).cum) numbers) where
     written_are : written_names l.profile sums ≡ map name numbers
-    written_are = ap (map (key_written l.profile)) named ∙ map_twice (key_written l.profile) (key_at names) numbers
+    written_are = ap (map (key_written l.profile)) named ∙ map_twice (key_written l.profile) (key_numbered names) numbers
 
     -- the sums of the tallies are those of the base's samples
     pub base_sums_are : (f : Finders) (kept : List ℕ) → HoldsFilters l v config f → kept ≡ filtered_from l.profile f config 0 l.profile.sample
@@ -231,13 +231,13 @@ module _ (l : Loaded) (v : Verdicts) (config : Config) (column : Option ℕ) (co
         subst (λ (x : ℤ). nat_abs x < 2 ^ 63) (sym (get_or-map g numbers i 0 d (omega (arith, here, length-map numbers g)))) (small (get_or numbers i 0)))
 
     -- each sum has a negative
-    pub base_fits : AreRising 0 (length l.profile.sample) chosen → absolute_all column config.divide_by l.profile.sample < 2 ^ 63 → nat_abs base.whole < 2 ^ 63
+    pub base_fits : AreRisingBetween 0 (length l.profile.sample) chosen → absolute_all column config.divide_by l.profile.sample < 2 ^ 63 → nat_abs base.whole < 2 ^ 63
         → FitBase sums.names base
     base_fits rising fits small =
         let within = chosen_within l.profile column config.divide_by chosen rising in
         record {
-          flats = ap length flats_are ∙ length-map numbers (λ n. (at n).flat) ∙ sym (ap length named ∙ length-map numbers (key_at names));
-          cums = ap length cums_are ∙ length-map numbers (λ n. (at n).cum) ∙ sym (ap length named ∙ length-map numbers (key_at names));
+          flats = ap length flats_are ∙ length-map numbers (λ n. (at n).flat) ∙ sym (ap length named ∙ length-map numbers (key_numbered names));
+          cums = ap length cums_are ∙ length-map numbers (λ n. (at n).cum) ∙ sym (ap length named ∙ length-map numbers (key_numbered names));
           small_flats = small_map (λ n. (at n).flat) base.flat flats_are (λ n. omega (arith, fits, within, tallies.within, ap nat_abs (tallies.tallies n).flat, sum_bound (leads nat_cmp n) tallies.seen));
           small_cums = small_map (λ n. (at n).cum) base.cum cums_are (λ n. omega (arith, fits, within, tallies.within, ap nat_abs (tallies.tallies n).cum, sum_bound (has nat_cmp n) tallies.seen));
           small_whole = small;
@@ -249,10 +249,10 @@ plain_all [] = refl
 plain_all (s ∷ ss) = ap (λ (r : List (Seen ℕ)). s ∷ r) (plain_all ss)
 
 -- the values of chosen samples can be added up
-pub chosen_fits : (p : Profile) (column : Option ℕ) (d : ℕ) (ns : List ℕ) → IsCountable p → IsColumnOf p column → AreRising 0 (length p.sample) ns
+pub chosen_fits : (p : Profile) (column : Option ℕ) (d : ℕ) (ns : List ℕ) → IsCountable p → IsColumnOf p column → AreRisingBetween 0 (length p.sample) ns
     → absolute_all column d (samples_at p ns) < 2 ^ 63
 chosen_fits p column d ns countable is rising = omega (arith, values_fit p column d countable is, chosen_within p column d ns rising)
 
-pub chosen_few : (p : Profile) (ns : List ℕ) → IsCountable p → AreRising 0 (length p.sample) ns → length (samples_at p ns) < 2 ^ 32
+pub chosen_few : (p : Profile) (ns : List ℕ) → IsCountable p → AreRisingBetween 0 (length p.sample) ns → length (samples_at p ns) < 2 ^ 32
 chosen_few p ns countable rising =
     omega (arith, countable.samples, samples_length p ns (rising_below 0 (length p.sample) ns rising), rising_length 0 (length p.sample) ns (omega arith) rising)

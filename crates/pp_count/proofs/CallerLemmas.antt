@@ -12,7 +12,7 @@ use Rattle.pp_grain.specs.declared.key.Key.{Key}
 use Rattle.pp_count.specs.declared.part.KeySum.{KeySum}
 use Rattle.pp_count.specs.declared.part.Part.{Part}
 use Rattle.pp_count.specs.Column.{selected}
-use Rattle.pp_count.specs.Joined.{AreWithin, AreConsecutive, CanJoin, all_samples, all_sums}
+use Rattle.pp_count.specs.Joined.{AreWithin, AreConsecutive, CanJoin, samples_of_ranges, all_sums}
 use Rattle.pp_count.specs.Parts.{sums_of}
 use Rattle.pp_model.specs.declared.frame.Frame.{Frame}
 use Rattle.pp_model.specs.declared.profile.Sample.{Sample}
@@ -66,7 +66,7 @@ module _ (p : Profile) (f : Finders) (config : Config) (column : Option ℕ) whe
 module _ (l : Loaded) (v : Verdicts) (config : Config) (column : Option ℕ) (names : List Key) where
   -- the sums of consecutive ranges are within the values of their samples
   consecutive_within : (ranges : List (List Sample)) (parts : List Part) (number : ℕ) → AreConsecutive l v config column names number ranges parts
-      → (k : ℕ) → AreWithin (absolute_all column config.divide_by (all_samples ranges)) (sums_of k (all_sums parts))
+      → (k : ℕ) → AreWithin (absolute_all column config.divide_by (samples_of_ranges ranges)) (sums_of k (all_sums parts))
   consecutive_within [] [] number are k = record { flat = omega arith; cum = omega arith }
   consecutive_within [] (part ∷ parts) number are k = absurd are
   consecutive_within (samples ∷ ranges) [] number are k = absurd are
@@ -83,20 +83,20 @@ module _ (l : Loaded) (v : Verdicts) (config : Config) (column : Option ℕ) (na
           (are.0.within k).flat,
           rest.flat,
           ap (sum_by flat_of) split ∙ sum_by-append flat_of (sums_of k part.sums) (sums_of k (all_sums parts)),
-          sum_by-append size samples (all_samples ranges),
+          sum_by-append size samples (samples_of_ranges ranges),
         );
         cum = omega (
           arith,
           (are.0.within k).cum,
           rest.cum,
           ap (sum_by cum_of) split ∙ sum_by-append cum_of (sums_of k part.sums) (sums_of k (all_sums parts)),
-          sum_by-append size samples (all_samples ranges),
+          sum_by-append size samples (samples_of_ranges ranges),
         );
       }
 
   -- The parts of consecutive ranges can be joined where the values of the samples can be added up.
   pub can_join : (ranges : List (List Sample)) (parts : List Part) (number : ℕ) → AreConsecutive l v config column names number ranges parts
-      → absolute_all column config.divide_by (all_samples ranges) < 2 ^ 63 → CanJoin parts
+      → absolute_all column config.divide_by (samples_of_ranges ranges) < 2 ^ 63 → CanJoin parts
   can_join ranges parts number are fits = record {
     flat = λ k. omega (arith, fits, (consecutive_within ranges parts number are k).flat);
     cum = λ k. omega (arith, fits, (consecutive_within ranges parts number are k).cum);

@@ -14,41 +14,41 @@ use Rattle.pp_model.specs.Values.{no_sample}
 use Rattle.pp_count.specs.declared.scope.Scope.{Scope}
 use Rattle.pp_count.specs.Column.{selected}
 use Rattle.pp_count.specs.Counts.{samples_at}
-use Rattle.pp_count.specs.Rising.{AreRising}
-use Rattle.pp_count.specs.Scope.{profile_of, config_of, chosen_of, samples_of, size_of, IsSound}
+use Rattle.pp_count.specs.Rising.{AreRisingBetween}
+use Rattle.pp_count.specs.Scope.{profile_in_scope, config_of, chosen_of, samples_in_scope, size_of, IsSoundScope}
 use Rattle.pp_count.proofs.Pieces.{all_refer, all_members}
 use Rattle.pp_count.proofs.Rising.{rising_below, samples_are, samples_length}
 
 -- where none are chosen, all samples are counted
-pub all_samples : (scope : Scope) → chosen_of scope ≡ None → samples_of scope ≡ (profile_of scope).sample
-all_samples scope none = ap (λ o. option_map_or (samples_at (profile_of scope)) o (profile_of scope).sample) none
+pub all_samples : (scope : Scope) → chosen_of scope ≡ None → samples_in_scope scope ≡ (profile_in_scope scope).sample
+all_samples scope none = ap (λ o. option_map_or (samples_at (profile_in_scope scope)) o (profile_in_scope scope).sample) none
 
-module _ (scope : Scope) (ns : List ℕ) (is : chosen_of scope ≡ Some ns) (sound : IsSound scope) where
-  chosen_samples : samples_of scope ≡ samples_at (profile_of scope) ns
-  chosen_samples = ap (λ o. option_map_or (samples_at (profile_of scope)) o (profile_of scope).sample) is
+module _ (scope : Scope) (ns : List ℕ) (is : chosen_of scope ≡ Some ns) (sound : IsSoundScope scope) where
+  chosen_samples : samples_in_scope scope ≡ samples_at (profile_in_scope scope) ns
+  chosen_samples = ap (λ o. option_map_or (samples_at (profile_in_scope scope)) o (profile_in_scope scope).sample) is
 
-  rising : AreRising 0 (length (profile_of scope).sample) ns
-  rising = subst (λ (o : Option (List ℕ)). MatchOption o ⊤ (AreRising 0 (length (profile_of scope).sample))) is sound.chosen
+  rising : AreRisingBetween 0 (length (profile_in_scope scope).sample) ns
+  rising = subst (λ (o : Option (List ℕ)). MatchOption o ⊤ (AreRisingBetween 0 (length (profile_in_scope scope).sample))) is sound.chosen
 
-  below : All (λ n. n < length (profile_of scope).sample) ns
-  below = rising_below 0 (length (profile_of scope).sample) ns rising
+  below : All (λ n. n < length (profile_in_scope scope).sample) ns
+  below = rising_below 0 (length (profile_in_scope scope).sample) ns rising
 
-  pub chosen_length : length (samples_of scope) ≡ length ns
-  chosen_length = ap length chosen_samples ∙ samples_length (profile_of scope) ns below
+  pub chosen_length : length (samples_in_scope scope) ≡ length ns
+  chosen_length = ap length chosen_samples ∙ samples_length (profile_in_scope scope) ns below
 
   -- each of the numbers is that of a sample
-  pub chosen_below : (place : ℕ) → place < length (samples_of scope) → get_or ns place 0 < length (profile_of scope).sample
+  pub chosen_below : (place : ℕ) → place < length (samples_in_scope scope) → get_or ns place 0 < length (profile_in_scope scope).sample
   chosen_below place here = below place 0 (omega (arith, here, chosen_length))
 
   -- the sample at the place is the one with the number there
-  pub chosen_at : (place : ℕ) (s : Sample) → place < length (samples_of scope) → slice_get (profile_of scope).sample (get_or ns place 0) ≡ Some s
-      → slice_get (samples_of scope) place ≡ Some s
+  pub chosen_at : (place : ℕ) (s : Sample) → place < length (samples_in_scope scope) → slice_get (profile_in_scope scope).sample (get_or ns place 0) ≡ Some s
+      → slice_get (samples_in_scope scope) place ≡ Some s
   chosen_at place s here found =
       let inside : place < length ns = omega (arith, here, chosen_length) in
-      ap (λ (xs : List Sample). slice_get xs place) (chosen_samples ∙ samples_are (profile_of scope) ns below)
-      ∙ slice_get-get_or (map (λ n. get_or (profile_of scope).sample n no_sample) ns) place no_sample (omega (arith, here, ap length (chosen_samples ∙ samples_are (profile_of scope) ns below)))
-      ∙ ap Some (get_or-map (λ n. get_or (profile_of scope).sample n no_sample) ns place 0 no_sample inside
-      ∙ get_or_from_slice_get (profile_of scope).sample (get_or ns place 0) s no_sample found)
+      ap (λ (xs : List Sample). slice_get xs place) (chosen_samples ∙ samples_are (profile_in_scope scope) ns below)
+      ∙ slice_get-get_or (map (λ n. get_or (profile_in_scope scope).sample n no_sample) ns) place no_sample (omega (arith, here, ap length (chosen_samples ∙ samples_are (profile_in_scope scope) ns below)))
+      ∙ ap Some (get_or-map (λ n. get_or (profile_in_scope scope).sample n no_sample) ns place 0 no_sample inside
+      ∙ get_or_from_slice_get (profile_in_scope scope).sample (get_or ns place 0) s no_sample found)
 
 -- A sample that was read from the profile.
 pub record IsRead (p : Profile) (n : ℕ) (s : Sample) : Type 0 where

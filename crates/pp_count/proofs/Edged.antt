@@ -22,13 +22,13 @@ use Rattle.pp_tags.proofs.AlikeLemmas.{list_any_alike}
 use Rattle.pp_count.specs.declared.part.KeySum.{KeySum}
 use Rattle.pp_count.specs.declared.edge.Edge.{Edge}
 use Rattle.pp_count.specs.declared.pairs.Pairing.{Pairing}
-use Rattle.pp_count.specs.Table.{written_key, key_at, no_key}
+use Rattle.pp_count.specs.Table.{written_key, key_numbered, no_key}
 use Rattle.pp_count.specs.Sums.{Seen, weighed, renamed, occurs, cum}
 use Rattle.pp_count.specs.Seeing.{HoldsFilters, seen_samples}
 use Rattle.pp_count.specs.Parts.{sums_of, key_sum, HasBelow}
-use Rattle.pp_count.specs.Edges.{is_kept_key, is_marked, place_of, paired, edge_of_sum, AreOnce, ArePlaces}
+use Rattle.pp_count.specs.Edges.{is_kept_key, is_marked, place_of, paired, edge_of_sum, AreOnce, ArePairPlaces}
 use Rattle.pp_count.specs.EdgeSums.{edge_occurs, edge_sum, kept_numbers, is_kept_name, edges_between, AreEdgesOf, AreEdgesAbout, HasPairSums}
-use Rattle.pp_count.specs.Rising.{AreRising}
+use Rattle.pp_count.specs.Rising.{AreRisingBetween}
 use Rattle.pp_count.proofs.Renaming.{same_bool}
 use Rattle.pp_count.proofs.CallerLemmas.{weighed-renamed}
 use Rattle.pp_count.proofs.Finals.{sums_below, has_root}
@@ -55,22 +55,22 @@ is_not true never = absurd (never refl)
 is_not false never = refl
 
 -- numbers that rise stand once each
-pub once_rising : (low high : ℕ) (ns : List ℕ) → AreRising low high ns → AreOnce ns
+pub once_rising : (low high : ℕ) (ns : List ℕ) → AreRisingBetween low high ns → AreOnce ns
 once_rising low high ns is i j in_i in_j same = elim (cases_order i j) [
   | inl equal ↦ equal
   | inr (inl before) ↦ absurd (omega (arith, is.order i j 0 before in_j, same))
   | inr (inr after) ↦ absurd (omega (arith, is.order j i 0 after in_i, same))
 ]
 
-range_rises : (low count : ℕ) → AreRising low (low + count) (range_with_len low count)
+range_rises : (low count : ℕ) → AreRisingBetween low (low + count) (range_with_len low count)
 range_rises low zero = rising_none low (low + 0)
 range_rises low (suc count) =
     rising_one low (low + suc count) low (range_with_len (low + 1) count) (omega arith) (omega arith)
-    (subst (λ (n : ℕ). AreRising (low + 1) n (range_with_len (low + 1) count)) (omega arith) (range_rises (low + 1) count))
+    (subst (λ (n : ℕ). AreRisingBetween (low + 1) n (range_with_len (low + 1) count)) (omega arith) (range_rises (low + 1) count))
 
 -- the numbers of the names that are kept rise
-pub kept_rise : (keep : List Bool) (names : ℕ) → AreRising 0 names (kept_numbers keep names)
-kept_rise keep names = rising-filter (is_kept_key keep) 0 names (range_with_len 0 names) (subst (λ (n : ℕ). AreRising 0 n (range_with_len 0 names)) (omega arith) (range_rises 0 names))
+pub kept_rise : (keep : List Bool) (names : ℕ) → AreRisingBetween 0 names (kept_numbers keep names)
+kept_rise keep names = rising-filter (is_kept_key keep) 0 names (range_with_len 0 names) (subst (λ (n : ℕ). AreRisingBetween 0 n (range_with_len 0 names)) (omega arith) (range_rises 0 names))
 
 range_more : (i : ℕ) → range_with_len 0 (i + 1) ≡ range_with_len 0 i ++ i ∷ []
 range_more i = sym (map-id (range_with_len 0 (i + 1))) ∙ map-range_with_len_more (λ k. k) 0 i i (omega arith) ∙ ap (λ ks. ks ++ i ∷ []) (map-id (range_with_len 0 i))
@@ -82,10 +82,10 @@ kept_more keep i kept new so_far is =
     ∙ sym (ap (filter (is_kept_key keep)) (range_more i) ∙ filter-append (is_kept_key keep) (range_with_len 0 i) (i ∷ []))
 
 -- the names that are kept have numbers
-pub names_within : (names old : List Key) (numbers : List ℕ) (keep : List Bool) → old ≡ map (key_at names) numbers → length keep ≡ length old
+pub names_within : (names old : List Key) (numbers : List ℕ) (keep : List Bool) → old ≡ map (key_numbered names) numbers → length keep ≡ length old
     → All (λ n. n < length numbers) (kept_numbers keep (length keep))
 names_within names old numbers keep named fits = λ i d here.
-    omega (arith, (kept_rise keep (length keep)).below i d here, fits, ap length named, length-map numbers (key_at names))
+    omega (arith, (kept_rise keep (length keep)).below i d here, fits, ap length named, length-map numbers (key_numbered names))
 
 -- the numbers of names are as small as all are
 pub keys_below : (numbers kept : List ℕ) (n : ℕ) → All (λ k. k < n) numbers → All (λ a. a < length numbers) kept → All (λ k. k < n) (map (λ a. get_or numbers a 0) kept)
@@ -149,17 +149,17 @@ one_or_none kept true x = refl
 one_or_none kept false x = refl
 
 -- the names' numbers are different where the names are
-pub numbers_once : (names old : List Key) (numbers : List ℕ) → old ≡ map (key_at names) numbers → AllPairs (λ a b. a ≢ b) old → AreOnce numbers
+pub numbers_once : (names old : List Key) (numbers : List ℕ) → old ≡ map (key_numbered names) numbers → AllPairs (λ a b. a ≢ b) old → AreOnce numbers
 numbers_once names old numbers named distinct i j in_i in_j same = elim (cases_order i j) [
   | inl equal ↦ equal
-  | inr (inl before) ↦ absurd (distinct i j no_key before (inside j in_j) (at i in_i ∙ ap (key_at names) same ∙ sym (at j in_j)))
-  | inr (inr after) ↦ absurd (distinct j i no_key after (inside i in_i) (at j in_j ∙ ap (key_at names) (sym same) ∙ sym (at i in_i)))
+  | inr (inl before) ↦ absurd (distinct i j no_key before (inside j in_j) (at i in_i ∙ ap (key_numbered names) same ∙ sym (at j in_j)))
+  | inr (inr after) ↦ absurd (distinct j i no_key after (inside i in_i) (at j in_j ∙ ap (key_numbered names) (sym same) ∙ sym (at i in_i)))
 ] where
   inside : (k : ℕ) → k < length numbers → k < length old
-  inside k here = omega (arith, here, ap length named, length-map numbers (key_at names))
+  inside k here = omega (arith, here, ap length named, length-map numbers (key_numbered names))
 
-  at : (k : ℕ) → k < length numbers → get_or old k no_key ≡ key_at names (get_or numbers k 0)
-  at k here = ap (λ xs. get_or xs k no_key) named ∙ get_or-map (key_at names) numbers k 0 no_key here
+  at : (k : ℕ) → k < length numbers → get_or old k no_key ≡ key_numbered names (get_or numbers k 0)
+  at k here = ap (λ xs. get_or xs k no_key) named ∙ get_or-map (key_numbered names) numbers k 0 no_key here
 
 -- so are those of the names that are kept
 pub keys_once : (numbers kept : List ℕ) → AreOnce numbers → AreOnce kept → All (λ n. n < length numbers) kept → AreOnce (map (λ n. get_or numbers n 0) kept)
@@ -178,12 +178,12 @@ pub record HasEdges (l : Loaded) (v : Verdicts) (config : Config) (column : Opti
   pub compact : IsCompact l.profile
   pub keys : All (IsKeyOf l.profile) names
   pub distinct : AllPairs (λ a b. a ≢ b) names
-  pub named : old ≡ map (key_at names) numbers
+  pub named : old ≡ map (key_numbered names) numbers
   pub once : AllPairs (λ a b. a ≢ b) old
   pub numbered : All (λ n. n < length names) numbers
   pub fits : length keep ≡ length old
   pub kept_are : kept ≡ kept_numbers keep (length keep)
-  pub places : ArePlaces (map (λ n. get_or numbers n 0) kept) over.place
+  pub places : ArePairPlaces (map (λ n. get_or numbers n 0) kept) over.place
   pub marks : over.marked ≡ map (is_marked marked) kept
   pub sums_are : HasPairSums l v config column names over sums
 
@@ -199,7 +199,7 @@ module _ (l : Loaded) (v : Verdicts) (config : Config) (column : Option ℕ) (na
   keys_of = map number kept
 
   many : length numbers ≡ length old
-  many = sym (ap length h.named ∙ length-map numbers (key_at names))
+  many = sym (ap length h.named ∙ length-map numbers (key_numbered names))
 
   size : length over.marked ≡ length kept
   size = ap length h.marks ∙ length-map kept (is_marked marked)
@@ -207,8 +207,8 @@ module _ (l : Loaded) (v : Verdicts) (config : Config) (column : Option ℕ) (na
   fit : length over.marked ≡ length keys_of
   fit = size ∙ sym (length-map kept number)
 
-  rising : AreRising 0 (length old) kept
-  rising = subst (λ (ns : List ℕ). AreRising 0 (length old) ns) (sym h.kept_are) (subst (λ (n : ℕ). AreRising 0 n (kept_numbers keep (length keep))) h.fits (kept_rise keep (length keep)))
+  rising : AreRisingBetween 0 (length old) kept
+  rising = subst (λ (ns : List ℕ). AreRisingBetween 0 (length old) ns) (sym h.kept_are) (subst (λ (n : ℕ). AreRisingBetween 0 n (kept_numbers keep (length keep))) h.fits (kept_rise keep (length keep)))
 
   kept_once : AreOnce kept
   kept_once = once_rising 0 (length old) kept rising
@@ -225,7 +225,7 @@ module _ (l : Loaded) (v : Verdicts) (config : Config) (column : Option ℕ) (na
       subst (λ (k : ℕ). k < length names) (sym (get_or-map number kept i 0 d in_kept)) (in_table (get_or kept i 0) (in_names i in_kept))
 
   same : (a : ℕ) → a < length old → name (number a) ≡ written_key l.profile old a
-  same a in_a = ap (key_written l.profile) (sym (ap (λ ks. get_or ks a no_key) h.named ∙ get_or-map (key_at names) numbers a 0 no_key (omega (arith, in_a, many))))
+  same a in_a = ap (key_written l.profile) (sym (ap (λ ks. get_or ks a no_key) h.named ∙ get_or-map (key_numbered names) numbers a 0 no_key (omega (arith, in_a, many))))
 
   kept_same : (w : Written) → list_any (λ k. eq_by_cmp key_cmp w (name k)) keys_of ≡ is_kept_name l.profile old keep w
   kept_same w =

@@ -8,7 +8,7 @@ use Rattle.std.proofs.lemmas.List.{take_more, take_all, append-nil, get_or-take,
 use Rattle.std.proofs.lemmas.Option.{none-some, same_Some, get_or_from_slice_get, slice_get_within}
 use Rattle.pp_count.specs.declared.tally.Tally.{Tally}
 use Rattle.pp_count.specs.declared.part.KeySum.{KeySum}
-use Rattle.pp_count.specs.Tally.{no_tally, entry_of}
+use Rattle.pp_count.specs.Tally.{no_tally, tally_entry}
 use Rattle.pp_count.specs.Parts.{sums_of}
 
 -- what is kept of the key number in these entries
@@ -50,17 +50,17 @@ lookup_new (x ∷ es) q e none =
 
 -- the entries of a key number, after those of the next entry that is listed
 entry_more : (es : List (ℕ × Tally)) (i q : ℕ) (e : Tally) (k : ℕ) (sums new : List KeySum) → IsDistinct nat_eq (keys_of es) → slice_get es i ≡ Some (q, e)
-    → sums ≡ entry_of k (entry_at (take i es) k)
-    → new ≡ sums ++ cond (nat_eq q k) (entry_of q e) []
-    → new ≡ entry_of k (entry_at (take (i + 1) es) k)
+    → sums ≡ tally_entry k (entry_at (take i es) k)
+    → new ≡ sums ++ cond (nat_eq q k) (tally_entry q e) []
+    → new ≡ tally_entry k (entry_at (take (i + 1) es) k)
 entry_more es i q e k sums new distinct found so_far each = ⊎_elim
     (λ same. subst
-    (λ (j : ℕ). sums ≡ entry_of j (entry_at (take i es) j) → new ≡ sums ++ cond (nat_eq q j) (entry_of q e) [] → new ≡ entry_of j (entry_at (take (i + 1) es) j)) same
-    (λ before after. after ∙ ap (λ b. sums ++ cond b (entry_of q e) []) (eq-eqb q q refl)
-    ∙ ap (λ r. r ++ entry_of q e) (before ∙ ap (λ o. entry_of q (unwrap_or o no_tally)) (first_at es i q e distinct found))
-    ∙ ap (λ o. entry_of q (unwrap_or o no_tally)) (sym (lookup_more es i q q e found ∙ lookup_new (take i es) q e (first_at es i q e distinct found)))) so_far each)
-    (λ other. each ∙ ap (λ b. sums ++ cond b (entry_of q e) []) (ne_eqb q k other) ∙ append-nil sums ∙ so_far
-    ∙ ap (λ o. entry_of k (unwrap_or o no_tally)) (sym (lookup_more es i k q e found ∙ lookup_other (take i es) k q e (ne_eqb k q (λ back. other (sym back))))))
+    (λ (j : ℕ). sums ≡ tally_entry j (entry_at (take i es) j) → new ≡ sums ++ cond (nat_eq q j) (tally_entry q e) [] → new ≡ tally_entry j (entry_at (take (i + 1) es) j)) same
+    (λ before after. after ∙ ap (λ b. sums ++ cond b (tally_entry q e) []) (eq-eqb q q refl)
+    ∙ ap (λ r. r ++ tally_entry q e) (before ∙ ap (λ o. tally_entry q (unwrap_or o no_tally)) (first_at es i q e distinct found))
+    ∙ ap (λ o. tally_entry q (unwrap_or o no_tally)) (sym (lookup_more es i q q e found ∙ lookup_new (take i es) q e (first_at es i q e distinct found)))) so_far each)
+    (λ other. each ∙ ap (λ b. sums ++ cond b (tally_entry q e) []) (ne_eqb q k other) ∙ append-nil sums ∙ so_far
+    ∙ ap (λ o. tally_entry k (unwrap_or o no_tally)) (sym (lookup_more es i k q e found ∙ lookup_other (take i es) k q e (ne_eqb k q (λ back. other (sym back))))))
     (cases_eq q k)
 
 -- what is kept of the key number: in a list as far as it goes, else in these entries
@@ -74,22 +74,22 @@ either_way false same = refl
 -- one more entry of the map is listed
 pub others_more : (listed : List Tally) (es : List (ℕ × Tally)) (i q : ℕ) (e : Tally) (sums new : List KeySum)
     → IsDistinct nat_eq (keys_of es) → slice_get es i ≡ Some (q, e)
-    → ((k : ℕ) → sums_of k sums ≡ entry_of k (held listed (take i es) k))
-    → ((k : ℕ) → sums_of k new ≡ sums_of k sums ++ cond (nat_eq q k) (cond (nat_lt k (length listed)) [] (entry_of q e)) [])
-    → (k : ℕ) → sums_of k new ≡ entry_of k (held listed (take (i + 1) es) k)
+    → ((k : ℕ) → sums_of k sums ≡ tally_entry k (held listed (take i es) k))
+    → ((k : ℕ) → sums_of k new ≡ sums_of k sums ++ cond (nat_eq q k) (cond (nat_lt k (length listed)) [] (tally_entry q e)) [])
+    → (k : ℕ) → sums_of k new ≡ tally_entry k (held listed (take (i + 1) es) k)
 others_more listed es i q e sums new distinct found so_far each k =
     elim (nat_lt k (length listed)) as
-    (λ b. sums_of k sums ≡ entry_of k (cond b (get_or listed k no_tally) (entry_at (take i es) k)) →
-    sums_of k new ≡ sums_of k sums ++ cond (nat_eq q k) (cond b [] (entry_of q e)) [] →
-    sums_of k new ≡ entry_of k (cond b (get_or listed k no_tally) (entry_at (take (i + 1) es) k))) [
+    (λ b. sums_of k sums ≡ tally_entry k (cond b (get_or listed k no_tally) (entry_at (take i es) k)) →
+    sums_of k new ≡ sums_of k sums ++ cond (nat_eq q k) (cond b [] (tally_entry q e)) [] →
+    sums_of k new ≡ tally_entry k (cond b (get_or listed k no_tally) (entry_at (take (i + 1) es) k))) [
       | true ↦ λ before after. after ∙ ap (λ r. sums_of k sums ++ r) (either_way (nat_eq q k) []) ∙ append-nil (sums_of k sums) ∙ before
       | false ↦ entry_more es i q e k (sums_of k sums) (sums_of k new) distinct found
     ] (so_far k) (each k)
 
 -- before the first entry of the map those of the list are there
-pub others_none : (listed : List Tally) (sums : List KeySum) → ((k : ℕ) → sums_of k sums ≡ entry_of k (get_or listed k no_tally))
-    → (k : ℕ) → sums_of k sums ≡ entry_of k (held listed [] k)
-others_none listed sums is k = is k ∙ ap (entry_of k) (elim (nat_lt k (length listed)) as
+pub others_none : (listed : List Tally) (sums : List KeySum) → ((k : ℕ) → sums_of k sums ≡ tally_entry k (get_or listed k no_tally))
+    → (k : ℕ) → sums_of k sums ≡ tally_entry k (held listed [] k)
+others_none listed sums is k = is k ∙ ap (tally_entry k) (elim (nat_lt k (length listed)) as
     (λ b. nat_lt k (length listed) ≡ b → get_or listed k no_tally ≡ cond b (get_or listed k no_tally) no_tally) [
       | true ↦ λ within. refl
       | false ↦ λ past. get_or_past listed k no_tally (ltb-false k (length listed) past)
@@ -106,22 +106,22 @@ other_read listed i k other here = ⊎_elim
 
 -- one more tally of the list is listed
 pub listed_more : (listed : List Tally) (i : ℕ) (d : Tally) (sums new : List KeySum) → i < length listed
-    → ((k : ℕ) → sums_of k sums ≡ entry_of k (get_or (take i listed) k no_tally))
-    → ((k : ℕ) → sums_of k new ≡ sums_of k sums ++ cond (nat_eq i k) (entry_of i (get_or listed i d)) [])
-    → (k : ℕ) → sums_of k new ≡ entry_of k (get_or (take (i + 1) listed) k no_tally)
+    → ((k : ℕ) → sums_of k sums ≡ tally_entry k (get_or (take i listed) k no_tally))
+    → ((k : ℕ) → sums_of k new ≡ sums_of k sums ++ cond (nat_eq i k) (tally_entry i (get_or listed i d)) [])
+    → (k : ℕ) → sums_of k new ≡ tally_entry k (get_or (take (i + 1) listed) k no_tally)
 listed_more listed i d sums new here so_far each k =
     let t : Tally = get_or listed i d in
     ⊎_elim
-    (λ same. subst (λ (j : ℕ). sums_of j new ≡ entry_of j (get_or (take (i + 1) listed) j no_tally)) same
-    (each i ∙ ap (λ b. sums_of i sums ++ cond b (entry_of i t) []) (eq-eqb i i refl)
-    ∙ ap (λ r. r ++ entry_of i t) (so_far i ∙ ap (entry_of i) (get_or_past (take i listed) i no_tally (omega (arith, length-take-le i listed (omega (arith, here))))))
-    ∙ ap (entry_of i) (get_or_default listed i d no_tally here ∙ sym (get_or-take (i + 1) listed i no_tally (omega arith)))))
-    (λ other. each k ∙ ap (λ b. sums_of k sums ++ cond b (entry_of i t) []) (ne_eqb i k other) ∙ append-nil (sums_of k sums) ∙ so_far k
-    ∙ ap (entry_of k) (other_read listed i k other here))
+    (λ same. subst (λ (j : ℕ). sums_of j new ≡ tally_entry j (get_or (take (i + 1) listed) j no_tally)) same
+    (each i ∙ ap (λ b. sums_of i sums ++ cond b (tally_entry i t) []) (eq-eqb i i refl)
+    ∙ ap (λ r. r ++ tally_entry i t) (so_far i ∙ ap (tally_entry i) (get_or_past (take i listed) i no_tally (omega (arith, length-take-le i listed (omega (arith, here))))))
+    ∙ ap (tally_entry i) (get_or_default listed i d no_tally here ∙ sym (get_or-take (i + 1) listed i no_tally (omega arith)))))
+    (λ other. each k ∙ ap (λ b. sums_of k sums ++ cond b (tally_entry i t) []) (ne_eqb i k other) ∙ append-nil (sums_of k sums) ∙ so_far k
+    ∙ ap (tally_entry k) (other_read listed i k other here))
     (cases_eq i k)
 
 -- all are listed
 pub listed_all : (listed : List Tally) (i : ℕ) (sums : List KeySum) → length listed ≤ i
-    → ((k : ℕ) → sums_of k sums ≡ entry_of k (get_or (take i listed) k no_tally))
-    → (k : ℕ) → sums_of k sums ≡ entry_of k (get_or listed k no_tally)
-listed_all listed i sums past so_far k = so_far k ∙ ap (λ ts. entry_of k (get_or ts k no_tally)) (take_all i listed past)
+    → ((k : ℕ) → sums_of k sums ≡ tally_entry k (get_or (take i listed) k no_tally))
+    → (k : ℕ) → sums_of k sums ≡ tally_entry k (get_or listed k no_tally)
+listed_all listed i sums past so_far k = so_far k ∙ ap (λ ts. tally_entry k (get_or ts k no_tally)) (take_all i listed past)

@@ -10,13 +10,13 @@ use Rattle.std.proofs.lemmas.Option.{get_or_from_slice_get}
 use Rattle.std.specs.List.{slice_get}
 use Rattle.std.specs.Ordering.{nat_cmp}
 use Rattle.pp_count.specs.Sums.{Seen, occurs}
-use Rattle.pp_count.specs.Tally.{IsTallyOf, entry_of}
+use Rattle.pp_count.specs.Tally.{IsTallyOf, tally_entry}
 use Rattle.pp_count.specs.Parts.{AreSums, key_sum}
 use Rattle.pp_count.proofs.Renaming.{occurs_below}
 use Rattle.std.proofs.lemmas.List.Elements.{All-nil, All-cons, All-head, All-tail, All-take}
 use Rattle.std.proofs.lemmas.List.Sums.{sum_by-cons}
 use Rattle.pp_grain.specs.declared.key.Key.{Key}
-use Rattle.pp_grain.specs.Sight.{same_key, seen_with}
+use Rattle.pp_grain.specs.Sight.{same_key, with_key}
 use Rattle.pp_grain.proofs.SightLemmas.{key_decides}
 use Rattle.pp_count.specs.declared.part.KeySum.{KeySum}
 use Rattle.pp_count.specs.declared.tally.Tally.{Tally}
@@ -77,14 +77,14 @@ module _ (names : List Key) (distinct : AllPairs (λ a b. a ≢ b) names) where
   -- the keys of the entries with one more
   pub keys_more : (sums : List KeySum) (i : ℕ) (d : KeySum) (keys new : List Key) (key : Key) → i < length sums
       → All (λ e. e.key < length names) sums → ((k : ℕ) → length (sums_of k sums) ≤ 1)
-      → keys ≡ map (key_at_sum names) (take i sums) → key ≡ get_or names (get_or sums i d).key no_key → new ≡ seen_with keys key
+      → keys ≡ map (key_at_sum names) (take i sums) → key ≡ get_or names (get_or sums i d).key no_key → new ≡ with_key keys key
       → new ≡ map (key_at_sum names) (take (i + 1) sums)
   keys_more sums i d keys new key here below once so_far is seen =
       let e : KeySum = get_or sums i d in
       let front : List KeySum = take i sums in
       let other : list_any (same_key (get_or names e.key no_key)) (map (key_at_sum names) front) ≡ false =
       is_new e.key front (below i d here) (All-take (λ x. x.key < length names) i sums below) (other_keys e.key front (none_before sums i d here once)) in
-      seen ∙ (λ j. seen_with (so_far j) (is j))
+      seen ∙ (λ j. with_key (so_far j) (is j))
       ∙ ap (λ b. cond b (map (key_at_sum names) front) (map (key_at_sum names) front ++ get_or names e.key no_key ∷ [])) other
       ∙ sym (ap (map (key_at_sum names)) (take_more sums i d here) ∙ map-append (key_at_sum names) front (e ∷ []))
 
@@ -102,10 +102,10 @@ not_seen names distinct i d here = list_any_none (same_key (get_or names i d)) (
 
 -- the names with one more
 pub names_more : (names : List Key) (i : ℕ) (same new : List Key) (key : Key) → AllPairs (λ a b. a ≢ b) names → i < length names
-    → same ≡ take i names → slice_get names i ≡ Some key → new ≡ seen_with same key → new ≡ take (i + 1) names
+    → same ≡ take i names → slice_get names i ≡ Some key → new ≡ with_key same key → new ≡ take (i + 1) names
 names_more names i same new key distinct here so_far found seen =
     let is : get_or names i key ≡ key = get_or_from_slice_get names i key key found in
-    seen ∙ (λ j. seen_with (so_far j) (sym is j))
+    seen ∙ (λ j. with_key (so_far j) (sym is j))
     ∙ ap (λ b. cond b (take i names) (take i names ++ get_or names i key ∷ [])) (not_seen names distinct i key here)
     ∙ sym (take_more names i key here)
 
@@ -130,7 +130,7 @@ sums_below m P es below are i d here =
       has_head false x y rest same = cc
 
 -- what a tally is listed as
-pub listed_as : (P : List (Seen ℕ)) (k : ℕ) (t : Tally) → IsTallyOf P k t → entry_of k t ≡ cond (occurs nat_cmp P k) (key_sum P k ∷ []) []
+pub listed_as : (P : List (Seen ℕ)) (k : ℕ) (t : Tally) → IsTallyOf P k t → tally_entry k t ≡ cond (occurs nat_cmp P k) (key_sum P k ∷ []) []
 listed_as P k t is = λ i. cond (is.occurs i) (record { key = k; flat = is.flat i; cum = is.cum i } ∷ []) []
 
 -- a square above a number is one of a number above 0

@@ -20,14 +20,14 @@ use Rattle.pp_count.specs.declared.part.Part.{Part}
 use Rattle.pp_count.specs.declared.scope.Scope.{Scope}
 use Rattle.pp_count.specs.declared.tally.Tally.{Tally}
 use Rattle.pp_count.specs.Column.{selected}
-use Rattle.pp_count.specs.Joined.{IsRangePart, AreConsecutive, CanJoin, all_samples, all_kept, all_sums}
+use Rattle.pp_count.specs.Joined.{IsRangePart, AreConsecutive, CanJoin, samples_of_ranges, all_kept, all_sums}
 use Rattle.pp_count.specs.Matches.{matches_among, no_matches, either}
 use Rattle.pp_count.specs.Parts.{sums_of, key_sum, AreSums, flat_size, cum_size, HasBelow}
-use Rattle.pp_count.specs.Scope.{profile_of, config_of, IsPartOf}
+use Rattle.pp_count.specs.Scope.{profile_in_scope, config_of, IsPartOf}
 use Rattle.pp_count.specs.Seeing.{HoldsFilters, seen, seen_samples, filtered_stack, filtered_from, absolute_all}
 use Rattle.pp_count.specs.Sums.{Seen, flat, cum, occurs, has, leads, weighed, renamed}
 use Rattle.pp_count.specs.Table.{written_key, IsKeyTable}
-use Rattle.pp_count.specs.Tally.{no_tally, added, entry_of}
+use Rattle.pp_count.specs.Tally.{no_tally, tally_added, tally_entry}
 use Rattle.pp_count.proofs.Adding.{sum_bound}
 use Rattle.pp_count.proofs.CallerLemmas.{weighed-renamed}
 use Rattle.pp_count.proofs.Joining.{IsTallyBy, tally_joined, added-append, flat_bound, cum_bound}
@@ -42,8 +42,8 @@ is_not true never = absurd (never refl)
 is_not false never = refl
 
 -- The part of a range, by what its samples are.
-pub range_part : (scope : Scope) (number m : ℕ) (samples : List Sample) (part : Part) → scope.over ≡ None → scope.chosen ≡ None → IsCompact (profile_of scope)
-    → IsKeyTable (profile_of scope) (config_of scope) scope.table.now → number ≡ m → IsPartOf scope number samples part
+pub range_part : (scope : Scope) (number m : ℕ) (samples : List Sample) (part : Part) → scope.over ≡ None → scope.chosen ≡ None → IsCompact (profile_in_scope scope)
+    → IsKeyTable (profile_in_scope scope) (config_of scope) scope.table.now → number ≡ m → IsPartOf scope number samples part
     → IsRangePart scope.l.now scope.v.now (config_of scope) scope.column scope.table.now.names m samples part
 range_part scope number m samples part none all compact table same is =
     let n : ℕ = length scope.table.now.names in
@@ -51,11 +51,11 @@ range_part scope number m samples part none all compact table same is =
     let S : List (Seen ℕ) = weighed is.seen in
     let S_below : All (HasBelow n) S = All-filter (λ (s : Seen ℕ). not (int_eq s.value (pos 0))) (HasBelow n) is.seen is.are.below in
     let sums_are : AreSums S part.sums = subst (λ (r : List (Seen ℕ)). AreSums (weighed r) part.sums) (plain scope none is.seen) is.sums in
-    let far = apart (profile_of scope) compact scope.table.now.names table.keys table.distinct in
+    let far = apart (profile_in_scope scope) compact scope.table.now.names table.keys table.distinct in
     record {
-      kept = λ f holds. is.kept f holds ∙ ap (λ j. filtered_from (profile_of scope) f (config_of scope) j samples) same;
+      kept = λ f holds. is.kept f holds ∙ ap (λ j. filtered_from (profile_in_scope scope) f (config_of scope) j samples) same;
       sums = λ f holds.
-          let T_is : map (renamed name) S ≡ weighed (seen_samples (profile_of scope) f (config_of scope) scope.column samples) =
+          let T_is : map (renamed name) S ≡ weighed (seen_samples (profile_in_scope scope) f (config_of scope) scope.column samples) =
           sym (weighed-renamed name is.seen) ∙ ap weighed (is.are.are f holds) in
           record {
             each = λ k below. sums_are k ∙ (λ i. cond
@@ -119,7 +119,7 @@ module _ (l : Loaded) (v : Verdicts) (config : Config) (column : Option ℕ) (na
   -- with the part of one more range
   one_joined : (number : ℕ) (a b : List Sample) (at : ℕ → Tally) (kept : List ℕ) (slots : List Bool) (part : Part) → JoinedTo number a at kept slots
       → IsRangePart l v config column names (number + length a) b part
-      → JoinedTo number (a ++ b) (λ k. added (at k) (sums_of k part.sums)) (kept ++ part.kept) (either slots part.matched.slots)
+      → JoinedTo number (a ++ b) (λ k. tally_added (at k) (sums_of k part.sums)) (kept ++ part.kept) (either slots part.matched.slots)
   one_joined number a b at kept slots part before is =
       let size : Sample → ℕ = λ s. nat_abs (selected column config.divide_by s) in
       record {
@@ -128,10 +128,10 @@ module _ (l : Loaded) (v : Verdicts) (config : Config) (column : Option ℕ) (na
         slots_are = λ f holds. (λ i. either (before.slots_are f holds i) (is.matched f holds i)) ∙ either_match l.profile f config a b;
         tallies = λ f holds k below.
             let w : Written = written_key l.profile names k in
-            subst (λ (r : List (Seen Written)). IsTallyBy key_cmp r w (added (at k) (sums_of k part.sums))) (sym (put-append f a b))
-            (subst (λ (es : List KeySum). IsTallyBy key_cmp (put f a ++ put f b) w (added (at k) es)) (sym ((is.sums f holds).each k below))
+            subst (λ (r : List (Seen Written)). IsTallyBy key_cmp r w (tally_added (at k) (sums_of k part.sums))) (sym (put-append f a b))
+            (subst (λ (es : List KeySum). IsTallyBy key_cmp (put f a ++ put f b) w (tally_added (at k) es)) (sym ((is.sums f holds).each k below))
             (tally_joined key_cmp (put f a) (put f b) w k (at k) (occurs key_cmp (put f b) w) refl (before.tallies f holds k below)));
-        no_other = λ f holds k above. ap (λ es. (added (at k) es).last) ((is.sums f holds).no_other k above) ∙ before.no_other f holds k above;
+        no_other = λ f holds k above. ap (λ es. (tally_added (at k) es).last) ((is.sums f holds).no_other k above) ∙ before.no_other f holds k above;
         flat_within = λ k. omega (arith, flat_bound (at k) (sums_of k part.sums), (is.within k).flat, before.flat_within k, sum_by-append size a b);
         cum_within = λ k. omega (arith, cum_bound (at k) (sums_of k part.sums), (is.within k).cum, before.cum_within k, sum_by-append size a b);
       }
@@ -146,26 +146,26 @@ module _ (l : Loaded) (v : Verdicts) (config : Config) (column : Option ℕ) (na
   -- with the parts of all ranges
   pub all_joined : (ranges : List (List Sample)) (parts : List Part) (number : ℕ) (a : List Sample) (at : ℕ → Tally) (kept : List ℕ) (slots : List Bool)
       → JoinedTo number a at kept slots → AreConsecutive l v config column names (number + length a) ranges parts
-      → JoinedTo number (a ++ all_samples ranges) (λ k. added (at k) (sums_of k (all_sums parts))) (kept ++ all_kept parts) (all_matched slots parts)
+      → JoinedTo number (a ++ samples_of_ranges ranges) (λ k. tally_added (at k) (sums_of k (all_sums parts))) (kept ++ all_kept parts) (all_matched slots parts)
   all_joined [] [] number a at kept slots before are =
       same_joined number a (a ++ []) at at kept (kept ++ []) slots (sym (append-nil a)) (λ k. refl) (sym (append-nil kept)) before
   all_joined [] (part ∷ parts) number a at kept slots before are = absurd are
   all_joined (b ∷ ranges) [] number a at kept slots before are = absurd are
   all_joined (b ∷ ranges) (part ∷ parts) number a at kept slots before are =
-      let at_part : ℕ → Tally = λ k. added (at k) (sums_of k part.sums) in
-      same_joined number ((a ++ b) ++ all_samples ranges) (a ++ (b ++ all_samples ranges))
-      (λ k. added (at_part k) (sums_of k (all_sums parts))) (λ k. added (at k) (sums_of k (part.sums ++ all_sums parts)))
+      let at_part : ℕ → Tally = λ k. tally_added (at k) (sums_of k part.sums) in
+      same_joined number ((a ++ b) ++ samples_of_ranges ranges) (a ++ (b ++ samples_of_ranges ranges))
+      (λ k. tally_added (at_part k) (sums_of k (all_sums parts))) (λ k. tally_added (at k) (sums_of k (part.sums ++ all_sums parts)))
       ((kept ++ part.kept) ++ all_kept parts) (kept ++ (part.kept ++ all_kept parts)) (all_matched (either slots part.matched.slots) parts)
-      (append_assoc a b (all_samples ranges))
+      (append_assoc a b (samples_of_ranges ranges))
       (λ k. sym (added-append (at k) (sums_of k part.sums) (sums_of k (all_sums parts)))
-      ∙ ap (added (at k)) (sym (filter-append (λ (e : KeySum). e.key == k) part.sums (all_sums parts))))
+      ∙ ap (tally_added (at k)) (sym (filter-append (λ (e : KeySum). e.key == k) part.sums (all_sums parts))))
       (append_assoc kept part.kept (all_kept parts))
       (all_joined ranges parts number (a ++ b) at_part (kept ++ part.kept) (either slots part.matched.slots) (one_joined number a b at kept slots part before are.0)
       (subst (λ (m : ℕ). AreConsecutive l v config column names m ranges parts) (omega (arith, length-append a b)) are.1))
 
   -- the part that lists the tallies
   pub joined_part : (number : ℕ) (samples : List Sample) (at : ℕ → Tally) (kept : List ℕ) (slots : List Bool) (part : Part) → JoinedTo number samples at kept slots
-      → part.kept ≡ kept → part.matched.slots ≡ slots → ((k : ℕ) → sums_of k part.sums ≡ entry_of k (at k)) → IsRangePart l v config column names number samples part
+      → part.kept ≡ kept → part.matched.slots ≡ slots → ((k : ℕ) → sums_of k part.sums ≡ tally_entry k (at k)) → IsRangePart l v config column names number samples part
   joined_part number samples at kept slots part joined same matched entries = record {
     kept = λ f holds. same ∙ joined.kept_are f holds;
     matched = λ f holds. matched ∙ joined.slots_are f holds;
@@ -193,7 +193,7 @@ entries-append k xs ys =
 pub record AddedTo (parts : List Part) (i : ℕ) (at : ℕ → Tally) (kept : List ℕ) (slots : List Bool) : Type 0 where
   pub kept_are : kept ≡ all_kept (take i parts)
   pub slots_are : slots ≡ all_matched no_matches (take i parts)
-  pub tallies : (k : ℕ) → at k ≡ added no_tally (sums_of k (all_sums (take i parts)))
+  pub tallies : (k : ℕ) → at k ≡ tally_added no_tally (sums_of k (all_sums (take i parts)))
 
 -- before the first part nothing is added
 pub none_added : (parts : List Part) (at : ℕ → Tally) (kept : List ℕ) (slots : List Bool) → ((k : ℕ) → at k ≡ no_tally) → kept ≡ [] → slots ≡ no_matches → AddedTo parts 0 at kept slots
@@ -238,28 +238,28 @@ module _ (parts items : List Part) (same : items ≡ parts) (i : ℕ) (part : Pa
 
   -- with the next part
   pub next_added : (at new : ℕ → Tally) (kept more : List ℕ) (slots joined : List Bool) → AddedTo parts i at kept slots → more ≡ kept ++ part.kept
-      → ((k : ℕ) → new k ≡ added (at k) (sums_of k part.sums)) → joined ≡ either slots part.matched.slots → AddedTo parts (i + 1) new more joined
+      → ((k : ℕ) → new k ≡ tally_added (at k) (sums_of k part.sums)) → joined ≡ either slots part.matched.slots → AddedTo parts (i + 1) new more joined
   next_added at new kept more slots joined so_far kept_are each joined_are = record {
     slots_are = joined_are ∙ ap (λ bs. either bs part.matched.slots) so_far.slots_are
         ∙ sym (ap (all_matched no_matches) front_is ∙ matched-append no_matches (take i parts) (part ∷ []));
     kept_are = kept_are ∙ ap (λ ks. ks ++ part.kept) so_far.kept_are
         ∙ ap (λ ks. all_kept (take i parts) ++ ks) (sym (append-nil part.kept))
         ∙ sym (ap all_kept front_is ∙ flat_map-append (λ (x : Part). x.kept) (take i parts) (part ∷ []));
-    tallies = λ k. each k ∙ ap (λ t. added t (sums_of k part.sums)) (so_far.tallies k)
-        ∙ sym (added-append no_tally (sums_of k (all_sums (take i parts))) (sums_of k part.sums)) ∙ ap (added no_tally) (sym (entries_more k));
+    tallies = λ k. each k ∙ ap (λ t. tally_added t (sums_of k part.sums)) (so_far.tallies k)
+        ∙ sym (added-append no_tally (sums_of k (all_sums (take i parts))) (sums_of k part.sums)) ∙ ap (tally_added no_tally) (sym (entries_more k));
   }
 
 -- the part that lists all of them
 pub parts_joined : (l : Loaded) (v : Verdicts) (config : Config) (column : Option ℕ) (names : List Key) (number : ℕ) (ranges : List (List Sample)) (parts items : List Part) (i : ℕ)
     (at : ℕ → Tally) (kept : List ℕ) (slots : List Bool) (whole : Part)
-    → items ≡ parts → length items ≤ i → AddedTo parts i at kept slots → whole.kept ≡ kept → whole.matched.slots ≡ slots → ((k : ℕ) → sums_of k whole.sums ≡ entry_of k (at k))
+    → items ≡ parts → length items ≤ i → AddedTo parts i at kept slots → whole.kept ≡ kept → whole.matched.slots ≡ slots → ((k : ℕ) → sums_of k whole.sums ≡ tally_entry k (at k))
     → AreConsecutive l v config column names number ranges parts
-    → IsRangePart l v config column names number (all_samples ranges) whole
+    → IsRangePart l v config column names number (samples_of_ranges ranges) whole
 parts_joined l v config column names number ranges parts items i at kept slots whole same all so_far kept_same matched_same entries are =
     let everything : take i parts ≡ parts = take_all i parts (omega (arith, all, ap length same)) in
-    joined_part l v config column names number (all_samples ranges) (λ k. added no_tally (sums_of k (all_sums parts))) (all_kept parts) (all_matched no_matches parts) whole
+    joined_part l v config column names number (samples_of_ranges ranges) (λ k. tally_added no_tally (sums_of k (all_sums parts))) (all_kept parts) (all_matched no_matches parts) whole
     (all_joined l v config column names ranges parts number [] (λ k. no_tally) [] no_matches (none_joined l v config column names number)
     (subst (λ (m : ℕ). AreConsecutive l v config column names m ranges parts) (omega arith) are))
     (kept_same ∙ so_far.kept_are ∙ ap all_kept everything)
     (matched_same ∙ so_far.slots_are ∙ ap (all_matched no_matches) everything)
-    (λ k. entries k ∙ ap (entry_of k) (so_far.tallies k ∙ ap (λ ps. added no_tally (sums_of k (all_sums ps))) everything))
+    (λ k. entries k ∙ ap (tally_entry k) (so_far.tallies k ∙ ap (λ ps. tally_added no_tally (sums_of k (all_sums ps))) everything))

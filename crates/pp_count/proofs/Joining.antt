@@ -11,16 +11,16 @@ use Rattle.std.proofs.lemmas.List.Folds.{list_any-append}
 use Rattle.pp_count.specs.declared.tally.Tally.{Tally}
 use Rattle.pp_count.specs.declared.part.KeySum.{KeySum}
 use Rattle.pp_count.specs.Sums.{Seen, sum_where, has, leads, cum, flat, occurs}
-use Rattle.pp_count.specs.Tally.{plus, added, IsTallyOf}
+use Rattle.pp_count.specs.Tally.{tally_plus, tally_added, IsTallyOf}
 use Rattle.pp_count.specs.Parts.{sums_of, AreSums, flat_size, cum_size}
 use Rattle.pp_count.proofs.Adding.{triangle, or-true, or-false}
 
 -- the entries of two ranges, one after the other
-pub added-append : (t : Tally) (xs ys : List KeySum) → added t (xs ++ ys) ≡ added (added t xs) ys
+pub added-append : (t : Tally) (xs ys : List KeySum) → tally_added t (xs ++ ys) ≡ tally_added (tally_added t xs) ys
 added-append t [] ys = refl
-added-append t (x ∷ xs) ys = added-append (plus t x) xs ys
+added-append t (x ∷ xs) ys = added-append (tally_plus t x) xs ys
 
-added-push : (t : Tally) (es : List KeySum) (e : KeySum) → added t (es ++ e ∷ []) ≡ plus (added t es) e
+added-push : (t : Tally) (es : List KeySum) (e : KeySum) → tally_added t (es ++ e ∷ []) ≡ tally_plus (tally_added t es) e
 added-push t es e = added-append t es (e ∷ [])
 
 -- the entries of a key among one more
@@ -32,24 +32,24 @@ more_of k sums i d here =
 -- one more entry is added
 pub joined_more : (at at0 new : ℕ → Tally) (sums : List KeySum) (i : ℕ) (d : KeySum)
     → i < length sums
-    → ((k : ℕ) → at k ≡ added (at0 k) (sums_of k (take i sums)))
-    → new (get_or sums i d).key ≡ plus (at (get_or sums i d).key) (get_or sums i d)
+    → ((k : ℕ) → at k ≡ tally_added (at0 k) (sums_of k (take i sums)))
+    → new (get_or sums i d).key ≡ tally_plus (at (get_or sums i d).key) (get_or sums i d)
     → ((k : ℕ) → k ≢ (get_or sums i d).key → new k ≡ at k)
-    → (k : ℕ) → new k ≡ added (at0 k) (sums_of k (take (i + 1) sums))
+    → (k : ℕ) → new k ≡ tally_added (at0 k) (sums_of k (take (i + 1) sums))
 joined_more at at0 new sums i d here so_far is others k =
     let e : KeySum = get_or sums i d in
     ⊎_elim
     (λ same.
     ap new (sym same) ∙ is
-    ∙ ap (λ j. plus (at j) e) same ∙ ap (λ t. plus t e) (so_far k)
+    ∙ ap (λ j. tally_plus (at j) e) same ∙ ap (λ t. tally_plus t e) (so_far k)
     ∙ sym (added-push (at0 k) (sums_of k (take i sums)) e)
-    ∙ ap (λ b. added (at0 k) (sums_of k (take i sums) ++ cond b (e ∷ []) [])) (sym (eq-eqb e.key k same))
-    ∙ ap (added (at0 k)) (sym (more_of k sums i d here)))
+    ∙ ap (λ b. tally_added (at0 k) (sums_of k (take i sums) ++ cond b (e ∷ []) [])) (sym (eq-eqb e.key k same))
+    ∙ ap (tally_added (at0 k)) (sym (more_of k sums i d here)))
     (λ other.
     others k (λ back. other (sym back)) ∙ so_far k
-    ∙ ap (added (at0 k)) (sym (append-nil (sums_of k (take i sums))))
-    ∙ ap (λ b. added (at0 k) (sums_of k (take i sums) ++ cond b (e ∷ []) [])) (sym (ne_eqb e.key k other))
-    ∙ ap (added (at0 k)) (sym (more_of k sums i d here)))
+    ∙ ap (tally_added (at0 k)) (sym (append-nil (sums_of k (take i sums))))
+    ∙ ap (λ b. tally_added (at0 k) (sums_of k (take i sums) ++ cond b (e ∷ []) [])) (sym (ne_eqb e.key k other))
+    ∙ ap (tally_added (at0 k)) (sym (more_of k sums i d here)))
     (cases_eq e.key k)
 
 -- the entries so far and the next one are within all entries of its key
@@ -69,13 +69,13 @@ size_room f sums i d here =
     )
 
 -- what was added is within its size
-pub flat_bound : (t : Tally) (es : List KeySum) → nat_abs (added t es).flat ≤ nat_abs t.flat + flat_size es
+pub flat_bound : (t : Tally) (es : List KeySum) → nat_abs (tally_added t es).flat ≤ nat_abs t.flat + flat_size es
 flat_bound t [] = omega arith
-flat_bound t (e ∷ es) = omega (arith, flat_bound (plus t e) es, triangle t.flat e.flat, sum_by-cons (λ (x : KeySum). nat_abs x.flat) e es)
+flat_bound t (e ∷ es) = omega (arith, flat_bound (tally_plus t e) es, triangle t.flat e.flat, sum_by-cons (λ (x : KeySum). nat_abs x.flat) e es)
 
-pub cum_bound : (t : Tally) (es : List KeySum) → nat_abs (added t es).cum ≤ nat_abs t.cum + cum_size es
+pub cum_bound : (t : Tally) (es : List KeySum) → nat_abs (tally_added t es).cum ≤ nat_abs t.cum + cum_size es
 cum_bound t [] = omega arith
-cum_bound t (e ∷ es) = omega (arith, cum_bound (plus t e) es, triangle t.cum e.cum, sum_by-cons (λ (x : KeySum). nat_abs x.cum) e es)
+cum_bound t (e ∷ es) = omega (arith, cum_bound (tally_plus t e) es, triangle t.cum e.cum, sum_by-cons (λ (x : KeySum). nat_abs x.cum) e es)
 
 -- sums over two ranges
 pub sum_where-append : {K : Type 0} (p : List K → Bool) (a b : List (Seen K)) → sum_where p (a ++ b) ≡ sum_where p a +ℤ sum_where p b
@@ -117,7 +117,7 @@ module _ {K : Type 0} (order : K → K → Ordering) where
 
   -- the tally of a key over two ranges
   pub tally_joined : (a b : List (Seen K)) (k : K) (number : ℕ) (t : Tally) (w : Bool) → occurs order b k ≡ w → IsTallyBy a k t
-      → IsTallyBy (a ++ b) k (added t (cond w (entry_by b k number ∷ []) []))
+      → IsTallyBy (a ++ b) k (tally_added t (cond w (entry_by b k number ∷ []) []))
   tally_joined a b k number t true some is = record {
     flat_is = ap (λ z. z +ℤ flat order b k) is.flat_is ∙ sym (sum_where-append (leads order k) a b);
     cum_is = ap (λ z. z +ℤ cum order b k) is.cum_is ∙ sym (sum_where-append (has order k) a b);
@@ -131,10 +131,10 @@ module _ {K : Type 0} (order : K → K → Ordering) where
 
 -- the tallies over two ranges
 pub tallies_joined : (a b : List (Seen ℕ)) (at new : ℕ → Tally) (sums : List KeySum) → ((k : ℕ) → IsTallyOf a k (at k)) → AreSums b sums
-    → ((k : ℕ) → new k ≡ added (at k) (sums_of k sums))
+    → ((k : ℕ) → new k ≡ tally_added (at k) (sums_of k sums))
     → (k : ℕ) → IsTallyOf (a ++ b) k (new k)
 tallies_joined a b at new sums before part each k =
     let t = before k in
     let is = tally_joined nat_cmp a b k k (at k) (occurs nat_cmp b k) refl (record { flat_is = t.flat; cum_is = t.cum; occurs_is = t.occurs }) in
-    subst (λ (t : Tally). IsTallyOf (a ++ b) k t) (sym (each k ∙ ap (added (at k)) (part k)))
+    subst (λ (t : Tally). IsTallyOf (a ++ b) k t) (sym (each k ∙ ap (tally_added (at k)) (part k)))
     (record { flat = is.flat_is; cum = is.cum_is; occurs = is.occurs_is })

@@ -20,13 +20,13 @@ use Rattle.pp_grain.proofs.CallerLemmas.{key_cmp_ties, key_cmp_total, same_keys}
 use Rattle.pp_count.specs.declared.part.KeySum.{KeySum}
 use Rattle.pp_count.specs.declared.sums.Sums.{Sums}
 use Rattle.pp_count.specs.declared.tally.Tally.{Tally}
-use Rattle.pp_count.specs.Table.{no_key, key_at, written_key}
+use Rattle.pp_count.specs.Table.{no_key, key_numbered, written_key}
 use Rattle.pp_count.specs.Sums.{Seen, all_keys, weighed, absolute, renamed, occurs, flat, cum}
-use Rattle.pp_count.specs.Tally.{IsTallyOf, entry_of}
+use Rattle.pp_count.specs.Tally.{IsTallyOf, tally_entry}
 use Rattle.pp_count.specs.Parts.{sums_of, key_at_sum, flat_size, HasBelow}
 use Rattle.pp_count.specs.declared.scope.Scope.{Scope}
 use Rattle.pp_count.specs.Edges.{counted_keys}
-use Rattle.pp_count.specs.Scope.{profile_of, counted_as, CountedTo}
+use Rattle.pp_count.specs.Scope.{profile_in_scope, counted_as, CountedTo}
 use Rattle.pp_count.specs.Counts.{AreSumsOf, written_names}
 use Rattle.pp_count.proofs.CallerLemmas.{weighed-renamed}
 use Rattle.pp_count.proofs.Sizes.{same_sums, flats_bound, part_within}
@@ -75,7 +75,7 @@ one_size true x = omega arith
 one_size false x = omega arith
 
 -- a tally has one entry at most
-pub one_entry : (k : ℕ) (t : Tally) → length (entry_of k t) ≤ 1
+pub one_entry : (k : ℕ) (t : Tally) → length (tally_entry k t) ≤ 1
 one_entry k t = one_size (ltb 0 t.last) _
 
 module _ (p : Profile) (compact : IsCompact p) (names : List Key) (keys : All (IsKeyOf p) names) (distinct : AllPairs (λ a b. a ≢ b) names) where
@@ -101,7 +101,7 @@ module _ (p : Profile) (compact : IsCompact p) (names : List Key) (keys : All (I
       ∙ sym (list_any-append (λ m. eq_by_cmp key_cmp k (name m)) s.keys (all_keys S))
 
   module _ (seen : List (Seen ℕ)) (below : All (HasBelow (length names)) seen) (at : ℕ → Tally) (tallies : (k : ℕ) → IsTallyOf (weighed seen) k (at k))
-      (es : List KeySum) (entries : (k : ℕ) → sums_of k es ≡ entry_of k (at k)) where
+      (es : List KeySum) (entries : (k : ℕ) → sums_of k es ≡ tally_entry k (at k)) where
     abbrev S : List (Seen ℕ)
     S = weighed seen
 
@@ -184,11 +184,11 @@ plain scope none (s ∷ ss) = λ i. record { value = s.value; keys = counted_key
 
 -- What the sums of all samples stand on.
 pub record Holding (scope : Scope) (seen : List (Seen ℕ)) (at : ℕ → Tally) : Type 0 where
-  pub compact : IsCompact (profile_of scope)
+  pub compact : IsCompact (profile_in_scope scope)
   pub tallies : (k : ℕ) → IsTallyOf (weighed seen) k (at k)
 
-pub holding : (scope : Scope) (p : Profile) (at : ℕ → Tally) (kept : List ℕ) → scope.over ≡ None → p ≡ profile_of scope → IsCompact p
-    → (counted : CountedTo scope 0 1 (profile_of scope).sample at kept) → Holding scope counted.seen at
+pub holding : (scope : Scope) (p : Profile) (at : ℕ → Tally) (kept : List ℕ) → scope.over ≡ None → p ≡ profile_in_scope scope → IsCompact p
+    → (counted : CountedTo scope 0 1 (profile_in_scope scope).sample at kept) → Holding scope counted.seen at
 holding scope p at kept none same compact counted = record {
   compact = subst IsCompact same compact;
   tallies = λ k. subst (λ (r : List (Seen ℕ)). IsTallyOf (weighed r) k (at k)) (plain scope none counted.seen) (counted.tallies k);
@@ -204,9 +204,9 @@ keys_of_profile p names es keys below = λ i d here.
 
 -- the names are the keys of the entries' numbers
 pub numbers_name : (names : List Key) (es : List KeySum) (named : List Key) (numbers : List ℕ) → named ≡ map (key_at_sum names) es → numbers ≡ map (λ e. e.key) es
-    → named ≡ map (key_at names) numbers
+    → named ≡ map (key_numbered names) numbers
 numbers_name names es named numbers names_are numbers_are =
-    names_are ∙ sym (map_twice (key_at names) (λ (e : KeySum). e.key) es) ∙ ap (map (key_at names)) (sym numbers_are)
+    names_are ∙ sym (map_twice (key_numbered names) (λ (e : KeySum). e.key) es) ∙ ap (map (key_numbered names)) (sym numbers_are)
 
 pub numbers_below : (n : ℕ) (es : List KeySum) (numbers : List ℕ) → numbers ≡ map (λ e. e.key) es → All (λ e. e.key < n) es → All (λ k. k < n) numbers
 numbers_below n es numbers are below = subst (λ (ks : List ℕ). All (λ k. k < n) ks) (sym are) (λ i d here.

@@ -19,14 +19,14 @@ use Rattle.pp_model.specs.Judged.{judged}
 use Rattle.pp_model.specs.Rules.{IsCompact}
 use Rattle.pp_model.proofs.FrameLemmas.{frames_of_profile}
 use Rattle.pp_stack.specs.Filters.{AreVerdicts, finds_frame, is_prunable, load_pruned}
-use Rattle.pp_stack.specs.Runs.{pruned, pruned_len}
+use Rattle.pp_stack.specs.Runs.{pruned_frames, pruned_len}
 use Rattle.pp_stack.specs.declared.table.VerdictTable.{VerdictTable}
 use Rattle.pp_stack.specs.Tables.{verdict_place, IsVerdictTable}
 use Rattle.pp_tags.specs.TagFilters.{filter_in_force, selects_or}
 use Rattle.pp_count.specs.declared.scope.Scope.{Scope}
 use Rattle.pp_count.specs.Filters.{FindsNoFrame}
 use Rattle.pp_count.specs.Matches.{stack_has, label_has, frame_match, key_match, matches_among, no_matches, either}
-use Rattle.pp_count.specs.Scope.{profile_of, config_of, HasMatches}
+use Rattle.pp_count.specs.Scope.{profile_in_scope, config_of, HasMatches}
 
 -- the slots that are left, with the next one apart
 either_drop : (slots others : List Bool) (i : ℕ) (d : Bool) → i < length slots
@@ -97,9 +97,9 @@ module _ (p : Profile) (f : Finders) where
       → list_any (λ x. finds_frame find (written p x)) (load_pruned (written p) f stack) ≡ false
   frames_missed find stack missed =
       let found : Frame → Bool = λ x. finds_frame find (written p x) in
-      elim f.drop as (λ o. list_any found (option_map_or (λ by. pruned (λ x. is_prunable by f.keep (written p x)) stack) o stack) ≡ false) [
+      elim f.drop as (λ o. list_any found (option_map_or (λ by. pruned_frames (λ x. is_prunable by f.keep (written p x)) stack) o stack) ≡ false) [
         | None ↦ list_any_none found stack missed
-        | Some by ↦ list_any_none found (pruned (λ x. is_prunable by f.keep (written p x)) stack) (All-drop (λ x. found x ≡ false) (pruned_len (λ x. is_prunable by f.keep (written p x)) stack) stack missed)
+        | Some by ↦ list_any_none found (pruned_frames (λ x. is_prunable by f.keep (written p x)) stack) (All-drop (λ x. found x ≡ false) (pruned_len (λ x. is_prunable by f.keep (written p x)) stack) stack missed)
       ]
 
   none_found : IsCompact p → (texts : List Bool) (find : Finder) → FindsNoFrame p texts → AreVerdicts p texts find
@@ -121,4 +121,4 @@ module _ (p : Profile) (f : Finders) where
 pub matches_more : (scope : Scope) (a b : List Sample) (slots others new : List Bool) → new ≡ either slots others
     → HasMatches scope a slots → HasMatches scope b others → HasMatches scope (a ++ b) new
 matches_more scope a b slots others new joined before next all f holds =
-    joined ∙ (λ i. either (before all f holds i) (next all f holds i)) ∙ either_match (profile_of scope) f (config_of scope) a b
+    joined ∙ (λ i. either (before all f holds i) (next all f holds i)) ∙ either_match (profile_in_scope scope) f (config_of scope) a b

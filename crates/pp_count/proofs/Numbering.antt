@@ -12,7 +12,7 @@ use Rattle.pp_model.specs.declared.profile.Profile.{Profile}
 use Rattle.pp_model.specs.FrameTexts.{Written, written}
 use Rattle.pp_grain.specs.declared.key.Key.{Key}
 use Rattle.pp_grain.specs.Keys.{key_texts, key_written, IsKeyOf}
-use Rattle.pp_grain.specs.Sight.{seen_with}
+use Rattle.pp_grain.specs.Sight.{with_key}
 use Rattle.pp_count.specs.Table.{no_key, written_key, IsNumbered, IsRow, Grown, frames_at}
 
 module _ (grain : Grain) (showcolumns : Bool) (p : Profile) where
@@ -70,7 +70,7 @@ module _ (grain : Grain) (showcolumns : Bool) (p : Profile) where
   pub numbering_more : (old names new : List Key) (stack : List Frame) (i : ℕ) (d : Frame) (row : List ℕ) (n : ℕ) (key : Key)
       → Numbering old names (map (written p) (take i stack)) row → i < length stack
       → IsKeyOf p key → key_written p key ≡ key_texts grain showcolumns (written p (get_or stack i d))
-      → slice_get new n ≡ Some key → new ≡ seen_with names key
+      → slice_get new n ≡ Some key → new ≡ with_key names key
       → Numbering old new (map (written p) (take (i + 1) stack)) (row ++ n ∷ [])
   numbering_more old names new stack i d row n key so_far here of_profile texts found seen =
       let step : Grown p names new = subst (λ (m : List Key). Grown p names m) (sym seen) (grown_seen names key _ of_profile) in

@@ -16,7 +16,7 @@ use Rattle.std.proofs.Math.Nat.{mul-le-mul_right}
 use Rattle.pp_count.specs.declared.pairs.Pairing.{Pairing}
 use Rattle.pp_count.specs.Sums.{Seen, has, occurs, cum, weighed, renamed}
 use Rattle.pp_count.specs.Column.{first_else}
-use Rattle.pp_count.specs.Edges.{place_of, is_marked, has_mark, pair_if, pair_between, pairs_over, pairs_of, paired, ArePlaces}
+use Rattle.pp_count.specs.Edges.{place_of, is_marked, has_mark, pair_if, pair_between, pairs_over, pairs_of, paired, ArePairPlaces}
 use Rattle.pp_count.specs.EdgeSums.{stands_over, has_pair, has_edge, edge_occurs, edge_sum}
 use Rattle.pp_count.proofs.Adding.{or-false}
 use Rattle.pp_count.proofs.Renaming.{same_bool, tied_is}
@@ -111,7 +111,7 @@ module _ {K : Type 0} (order : K → K → Ordering) (f : ℕ → K) (n : ℕ) (
 
 -- Pairs over these keys, which have these places and marks.
 module _ {K : Type 0} (order : K → K → Ordering) (f : ℕ → K) (n : ℕ) (apart : (a b : ℕ) → a < n → b < n → eq_by_cmp order (f a) (f b) ≡ eq_by_cmp nat_cmp a b)
-    (keys : List ℕ) (inside : All (λ k. k < n) keys) (over : Pairing) (are : ArePlaces keys over.place) (fits : length over.marked ≡ length keys) where
+    (keys : List ℕ) (inside : All (λ k. k < n) keys) (over : Pairing) (are : ArePairPlaces keys over.place) (fits : length over.marked ≡ length keys) where
   abbrev pub m : ℕ
   m = length over.marked
 

@@ -24,12 +24,12 @@ use Rattle.pp_count.specs.Matches.{no_matches, either}
 use Rattle.pp_count.specs.Column.{selected}
 use Rattle.pp_count.specs.Sums.{Seen, weighed, renamed, has, leads, occurs}
 use Rattle.pp_count.specs.Seeing.{filtered_stack, seen}
-use Rattle.pp_count.specs.Tally.{added, plus, no_tally, tally_at, IsTallyOf}
+use Rattle.pp_count.specs.Tally.{tally_added, tally_plus, no_tally, tally_at, IsTallyOf}
 use Rattle.pp_count.specs.Parts.{piece_samples, sums_of, key_sum, flat_size, cum_size, HasBelow}
-use Rattle.pp_count.specs.Scope.{profile_of, config_of, size_of, counted_as, samples_of, AreSeen, IsPartOf, CountedTo, AreCounted}
+use Rattle.pp_count.specs.Scope.{profile_in_scope, config_of, size_of, counted_as, samples_in_scope, AreSeen, IsPartOf, CountedTo, AreCounted}
 use Rattle.pp_count.proofs.Adding.{sum_bound}
 use Rattle.pp_count.proofs.Joining.{tallies_joined}
-use Rattle.pp_count.specs.Rising.{AreRising}
+use Rattle.pp_count.specs.Rising.{AreRisingBetween}
 use Rattle.pp_count.proofs.Rising.{rising_high, rising-append}
 use Rattle.pp_count.proofs.Matching.{none_match, matches_more}
 use Rattle.pp_count.proofs.Ranges.{name_of, numbers-append, counted_size, counted_none}
@@ -64,20 +64,20 @@ seen-append scope a b s t first second =
       within = omega (arith, first.within, second.within, sum_by-append size s t, sum_by-append all a b);
       are = λ f holds.
           map-append (renamed (name_of scope)) s t ∙ (λ i. first.are f holds i ++ second.are f holds i)
-          ∙ sym (filter_map-append (seen (profile_of scope) f (config_of scope) scope.column) a b);
+          ∙ sym (filter_map-append (seen (profile_in_scope scope) f (config_of scope) scope.column) a b);
     }
 
 counted-append : (scope : Scope) (s t : List (Seen ℕ)) → weighed (map (counted_as scope) (s ++ t)) ≡ weighed (map (counted_as scope) s) ++ weighed (map (counted_as scope) t)
 counted-append scope s t = ap weighed (map-append (counted_as scope) s t) ∙ filter-append _ (map (counted_as scope) s) (map (counted_as scope) t)
 
-last_added : (t : Tally) (es : List KeySum) → t.last ≤ 1 → (added t es).last ≤ 1
+last_added : (t : Tally) (es : List KeySum) → t.last ≤ 1 → (tally_added t es).last ≤ 1
 last_added t [] below = below
-last_added t (e ∷ es) below = last_added (plus t e) es (omega arith)
+last_added t (e ∷ es) below = last_added (tally_plus t e) es (omega arith)
 
 -- with the part of the samples that follow
 pub counted_more : (scope : Scope) (number m : ℕ) (a b : List Sample) (at new : ℕ → Tally) (old_kept new_kept : List ℕ) (part : Part)
     → number + length a ≡ m → CountedTo scope number 1 a at old_kept → IsPartOf scope m b part
-    → new_kept ≡ old_kept ++ part.kept → ((k : ℕ) → new k ≡ added (at k) (sums_of k part.sums))
+    → new_kept ≡ old_kept ++ part.kept → ((k : ℕ) → new k ≡ tally_added (at k) (sums_of k part.sums))
     → CountedTo scope number 1 (a ++ b) new new_kept
 counted_more scope number m a b at new old_kept new_kept part next before is kept each = record {
   seen = before.seen ++ is.seen;
@@ -86,8 +86,8 @@ counted_more scope number m a b at new old_kept new_kept part next before is kep
       (tallies_joined _ _ at new part.sums before.tallies is.sums each k);
   earlier = λ k. rw (each k) (last_added (at k) (sums_of k part.sums) (before.earlier k));
   kept = λ f holds. kept ∙ (λ i. before.kept f holds i ++ is.kept f holds i)
-      ∙ sym (numbers-append (λ x. is_some (filtered_stack (profile_of scope) f (config_of scope) x)) number m a b next);
-  rising = subst (AreRising number (number + length (a ++ b))) (sym kept)
+      ∙ sym (numbers-append (λ x. is_some (filtered_stack (profile_in_scope scope) f (config_of scope) x)) number m a b next);
+  rising = subst (AreRisingBetween number (number + length (a ++ b))) (sym kept)
       (rising-append number m (number + length (a ++ b)) old_kept part.kept (omega (arith, next)) (omega (arith, next, length-append a b))
       (rising_high number (number + length a) m old_kept (omega (arith, next)) before.rising)
       (rising_high m (m + length b) (number + length (a ++ b)) part.kept (omega (arith, next, length-append a b)) is.rising));
@@ -156,7 +156,7 @@ front_within scope samples j =
 -- with the part of the next piece
 pub piece_more : (scope : Scope) (samples : List Sample) (j : ℕ) (sofar new : Sofar) (part : Part)
     → 1024 * j ≤ length samples → AreCounted scope (front_of samples j) sofar → IsPartOf scope (j * 1024) (piece_samples samples j) part
-    → new.kept ≡ sofar.kept ++ part.kept → ((k : ℕ) → tally_at new.tallies k ≡ added (tally_at sofar.tallies k) (sums_of k part.sums))
+    → new.kept ≡ sofar.kept ++ part.kept → ((k : ℕ) → tally_at new.tallies k ≡ tally_added (tally_at sofar.tallies k) (sums_of k part.sums))
     → new.matched.slots ≡ either sofar.matched.slots part.matched.slots
     → AreCounted scope (front_of samples (j + 1)) new
 piece_more scope samples j sofar new part here before is kept each matched =
@@ -169,15 +169,15 @@ piece_more scope samples j sofar new part here before is kept each matched =
 
 -- The outcome of a piece of the wave is the part of its samples.
 pub part_at : (job : Counting) (outcomes items : List Part) (i : ℕ) (part : Part)
-    → AreOutcomes (λ piece. IsPartOf job.scope ((job.first + piece) * 1024) (piece_samples (samples_of job.scope) (job.first + piece))) job.pieces outcomes
+    → AreOutcomes (λ piece. IsPartOf job.scope ((job.first + piece) * 1024) (piece_samples (samples_in_scope job.scope) (job.first + piece))) job.pieces outcomes
     → items ≡ outcomes → i < length items → part ≡ get_or items i part
-    → IsPartOf job.scope ((job.first + i) * 1024) (piece_samples (samples_of job.scope) (job.first + i)) part
+    → IsPartOf job.scope ((job.first + i) * 1024) (piece_samples (samples_in_scope job.scope) (job.first + i)) part
 part_at job outcomes items i part all same here is =
-    subst (λ (p : Part). IsPartOf job.scope ((job.first + i) * 1024) (piece_samples (samples_of job.scope) (job.first + i)) p)
+    subst (λ (p : Part). IsPartOf job.scope ((job.first + i) * 1024) (piece_samples (samples_in_scope job.scope) (job.first + i)) p)
     (sym (is ∙ ap (λ ps. get_or ps i part) same)) (all.each i part (omega (arith, here, ap length same, all.many)))
 
 -- each piece of the wave has a sample
-pub piece_starts : (job : Counting) (i : ℕ) → i < job.pieces → 1024 * (job.first + i) ≤ length (samples_of job.scope)
+pub piece_starts : (job : Counting) (i : ℕ) → i < job.pieces → 1024 * (job.first + i) ≤ length (samples_in_scope job.scope)
 piece_starts job i here = omega (arith, job.within)
 
 -- before the first piece nothing is counted
@@ -188,5 +188,5 @@ none_counted scope m samples sofar first none empty matched =
     subst (λ (n : ℕ). AreCounted scope (front_of samples n) sofar) (sym first)
     (record {
       counted = record { seen = start.seen; are = start.are; tallies = start.tallies; earlier = λ k. omega (arith, start.earlier k); kept = start.kept; rising = start.rising };
-      matched = λ all f holds. matched ∙ none_match (profile_of scope) f (config_of scope);
+      matched = λ all f holds. matched ∙ none_match (profile_in_scope scope) f (config_of scope);
     })

@@ -3,7 +3,7 @@ use Rattle.std.proofs.Common.{◌≡◌, ℕ, zero, suc, ◌+◌, ◌<◌, List,
 use Rattle.std.specs.Option.{is_some, unwrap_or}
 use Rattle.std.proofs.lemmas.Bool.{false≢true, cases_eq}
 use Rattle.std.proofs.lemmas.List.{length-set, get_or-set_same, get_or-set_other, get_or_default, length-replicate}
-use Rattle.pp_count.specs.Edges.{AreOnce, ArePlaces}
+use Rattle.pp_count.specs.Edges.{AreOnce, ArePairPlaces}
 
 -- The first keys have their places, and no other key has one.
 pub record PlacedTo (keys : List ℕ) (numbers i : ℕ) (place : List (Option ℕ)) : Type 0 where
@@ -53,7 +53,7 @@ placed_more keys numbers i d place here once below so_far =
       ];
     }
 
-pub placed_all : (keys : List ℕ) (numbers i : ℕ) (place : List (Option ℕ)) → i ≡ length keys → PlacedTo keys numbers i place → ArePlaces keys place
+pub placed_all : (keys : List ℕ) (numbers i : ℕ) (place : List (Option ℕ)) → i ≡ length keys → PlacedTo keys numbers i place → ArePairPlaces keys place
 placed_all keys numbers i place all so_far = record {
   found = λ q here. so_far.found q (omega (arith, here, all));
   only = λ k q at. let old = so_far.only k q at in (omega (arith, old.0, all), old.1);

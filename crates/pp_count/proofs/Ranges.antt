@@ -20,26 +20,26 @@ use Rattle.pp_count.specs.Seeing.{HoldsFilters, keys_of_stack, filtered_stack, s
 use Rattle.pp_count.specs.Tally.{no_tally, with_seen, IsTallyOf}
 use Rattle.pp_count.specs.Parts.{HasBelow}
 use Rattle.pp_count.specs.Edges.{counted_keys}
-use Rattle.pp_count.specs.Scope.{profile_of, config_of, over_of, size_of, AreSeen, counted_as, CountedTo}
-use Rattle.pp_count.specs.Rising.{AreRising}
+use Rattle.pp_count.specs.Scope.{profile_in_scope, config_of, over_of, size_of, AreSeen, counted_as, CountedTo}
+use Rattle.pp_count.specs.Rising.{AreRisingBetween}
 use Rattle.pp_count.proofs.Adding.{Added, added_more, sum_bound}
 use Rattle.pp_count.proofs.Rising.{rising_none, rising_high, rising_push}
 
 -- the names of the key numbers of a scope
 abbrev pub name_of : Scope → ℕ → Written
-name_of scope = written_key (profile_of scope) scope.table.now.names
+name_of scope = written_key (profile_in_scope scope) scope.table.now.names
 
 -- what is seen of the sample where the filters leave this
 abbrev pub seen_if : Scope → Sample → Option (List Written) → Option (Seen Written)
 seen_if scope s keys = option_map (λ ks. record { value = selected scope.column (config_of scope).divide_by s; keys = ks }) keys
 
 seen_is : (scope : Scope) (f : Finders) (s : Sample) (stack : Option (List Frame))
-    → option_map (seen_with (profile_of scope) (config_of scope) scope.column s) stack ≡ seen_if scope s (option_map (keys_of_stack (profile_of scope) (config_of scope)) stack)
+    → option_map (seen_with (profile_in_scope scope) (config_of scope) scope.column s) stack ≡ seen_if scope s (option_map (keys_of_stack (profile_in_scope scope) (config_of scope)) stack)
 seen_is scope f s None = refl
 seen_is scope f s (Some x) = refl
 
 some_is : (scope : Scope) (stack : Option (List Frame)) (kept : Bool) (keys : List Written)
-    → option_map (keys_of_stack (profile_of scope) (config_of scope)) stack ≡ kept_if kept keys → is_some stack ≡ kept
+    → option_map (keys_of_stack (profile_in_scope scope) (config_of scope)) stack ≡ kept_if kept keys → is_some stack ≡ kept
 some_is scope None true keys e = cc
 some_is scope None false keys e = refl
 some_is scope (Some x) true keys e = refl
@@ -48,7 +48,7 @@ some_is scope (Some x) false keys e = cc
 -- What was found of one sample: the filters keep it or not, and its key numbers.
 abbrev pub IsSeen : Scope → Sample → Bool → List ℕ → Type 0
 IsSeen scope s kept keys = (f : Finders) → HoldsFilters scope.l.now scope.v.now (config_of scope) f
-    → option_map (keys_of_stack (profile_of scope) (config_of scope)) (filtered_stack (profile_of scope) f (config_of scope) s) ≡ kept_if kept (map (name_of scope) keys)
+    → option_map (keys_of_stack (profile_in_scope scope) (config_of scope)) (filtered_stack (profile_in_scope scope) f (config_of scope) s) ≡ kept_if kept (map (name_of scope) keys)
 
 -- the sample by its key numbers
 abbrev pub by_numbers : Scope → Sample → List ℕ → Seen ℕ
@@ -71,8 +71,8 @@ seen_more scope samples ss s keys is below so_far = record {
   are = λ f holds.
       map-append (renamed (name_of scope)) ss (by_numbers scope s keys ∷ [])
       ∙ (λ i. so_far.are f holds i ++ cons_option (seen_if scope s (sym (is f holds) i)) [])
-      ∙ ap (λ o. seen_samples (profile_of scope) f (config_of scope) scope.column samples ++ cons_option o []) (sym (seen_is scope f s (filtered_stack (profile_of scope) f (config_of scope) s)))
-      ∙ sym (filter_map-append (seen (profile_of scope) f (config_of scope) scope.column) samples (s ∷ []));
+      ∙ ap (λ o. seen_samples (profile_in_scope scope) f (config_of scope) scope.column samples ++ cons_option o []) (sym (seen_is scope f s (filtered_stack (profile_in_scope scope) f (config_of scope) s)))
+      ∙ sym (filter_map-append (seen (profile_in_scope scope) f (config_of scope) scope.column) samples (s ∷ []));
 }
 
 -- one more sample, which they drop
@@ -84,8 +84,8 @@ seen_same scope samples ss s keys is so_far = record {
   are = λ f holds.
       sym (append-nil (map (renamed (name_of scope)) ss))
       ∙ (λ i. so_far.are f holds i ++ cons_option (seen_if scope s (sym (is f holds) i)) [])
-      ∙ ap (λ o. seen_samples (profile_of scope) f (config_of scope) scope.column samples ++ cons_option o []) (sym (seen_is scope f s (filtered_stack (profile_of scope) f (config_of scope) s)))
-      ∙ sym (filter_map-append (seen (profile_of scope) f (config_of scope) scope.column) samples (s ∷ []));
+      ∙ ap (λ o. seen_samples (profile_in_scope scope) f (config_of scope) scope.column samples ++ cons_option o []) (sym (seen_is scope f s (filtered_stack (profile_in_scope scope) f (config_of scope) s)))
+      ∙ sym (filter_map-append (seen (profile_in_scope scope) f (config_of scope) scope.column) samples (s ∷ []));
 }
 
 -- the numbers of two ranges
@@ -100,11 +100,11 @@ numbers-append test n m (s ∷ a) b e =
 -- the numbers with that of one more sample
 kept_more : (scope : Scope) (f : Finders) (number i : ℕ) (samples : List Sample) (s : Sample) (kept : Bool) (keys : List ℕ)
     → HoldsFilters scope.l.now scope.v.now (config_of scope) f → IsSeen scope s kept keys → length samples ≡ i
-    → filtered_from (profile_of scope) f (config_of scope) number (samples ++ s ∷ []) ≡ filtered_from (profile_of scope) f (config_of scope) number samples ++ cond kept ((number + i) ∷ []) []
+    → filtered_from (profile_in_scope scope) f (config_of scope) number (samples ++ s ∷ []) ≡ filtered_from (profile_in_scope scope) f (config_of scope) number samples ++ cond kept ((number + i) ∷ []) []
 kept_more scope f number i samples s kept keys holds is long =
-    numbers-append (λ x. is_some (filtered_stack (profile_of scope) f (config_of scope) x)) number (number + i) samples (s ∷ []) (omega (arith, long))
-    ∙ ap (λ w. filtered_from (profile_of scope) f (config_of scope) number samples ++ cond w ((number + i) ∷ []) [])
-    (some_is scope (filtered_stack (profile_of scope) f (config_of scope) s) kept (map (name_of scope) keys) (is f holds))
+    numbers-append (λ x. is_some (filtered_stack (profile_in_scope scope) f (config_of scope) x)) number (number + i) samples (s ∷ []) (omega (arith, long))
+    ∙ ap (λ w. filtered_from (profile_in_scope scope) f (config_of scope) number samples ++ cond w ((number + i) ∷ []) [])
+    (some_is scope (filtered_stack (profile_in_scope scope) f (config_of scope) s) kept (map (name_of scope) keys) (is f holds))
 
 -- what is counted of samples is as large as they are
 pub counted_size : (scope : Scope) (ss : List (Seen ℕ)) → absolute (map (counted_as scope) ss) ≡ absolute ss
@@ -129,7 +129,7 @@ counted_none scope number at kept none empty = record {
   tallies = λ k. subst (λ (t : Tally). IsTallyOf [] k t) (sym (none k)) (record { flat = refl; cum = refl; occurs = refl });
   earlier = λ k. rw (none k) (omega arith);
   kept = λ f holds. empty;
-  rising = subst (AreRising number (number + 0)) (sym empty) (rising_none number (number + 0));
+  rising = subst (AreRisingBetween number (number + 0)) (sym empty) (rising_none number (number + 0));
 }
 
 -- one more sample that is kept
@@ -164,7 +164,7 @@ counted_dropped scope number i samples s keys at kept here at_i is so_far =
       are = seen_same scope (take i samples) so_far.seen s keys is so_far.are;
       tallies = so_far.tallies;
       earlier = λ k. omega (arith, so_far.earlier k);
-      kept = λ f holds. so_far.kept f holds ∙ sym (append-nil (filtered_from (profile_of scope) f (config_of scope) number (take i samples)))
+      kept = λ f holds. so_far.kept f holds ∙ sym (append-nil (filtered_from (profile_in_scope scope) f (config_of scope) number (take i samples)))
           ∙ sym (kept_more scope f number i (take i samples) s false keys holds is (length-take-le i samples (omega (arith, here))));
       rising = rising_high number (number + length (take i samples)) (number + length (take i samples ++ s ∷ [])) kept (omega (arith, length-append (take i samples) (s ∷ []))) so_far.rising;
     })

@@ -11,14 +11,14 @@ use Rattle.pp_model.specs.declared.profile.Sample.{Sample}
 use Rattle.pp_model.specs.declared.profile.Profile.{Profile}
 use Rattle.pp_model.specs.Values.{no_sample}
 use Rattle.pp_count.specs.Counts.{samples_at}
-use Rattle.pp_count.specs.Rising.{AreRising}
+use Rattle.pp_count.specs.Rising.{AreRisingBetween}
 
 -- the same, number by number
 abbrev Rises : ℕ → ℕ → List ℕ → Type 0
 Rises low high [] = ⊤
 Rises low high (n ∷ ns) = (low ≤ n) × ((n < high) × Rises (n + 1) high ns)
 
-rises : (low high : ℕ) (ns : List ℕ) → AreRising low high ns → Rises low high ns
+rises : (low high : ℕ) (ns : List ℕ) → AreRisingBetween low high ns → Rises low high ns
 rises low high [] is = tt
 rises low high (n ∷ ns) is = (
   All-head (λ m. low ≤ m) n ns is.from,
@@ -33,18 +33,18 @@ rises low high (n ∷ ns) is = (
 )
 
 -- from a lower bound on
-pub rising_low : (low more high : ℕ) (ns : List ℕ) → low ≤ more → AreRising more high ns → AreRising low high ns
+pub rising_low : (low more high : ℕ) (ns : List ℕ) → low ≤ more → AreRisingBetween more high ns → AreRisingBetween low high ns
 rising_low low more high ns le is = record { from = λ i d here. omega (arith, le, is.from i d here); below = is.below; order = is.order }
 
 -- below a higher bound
-pub rising_high : (low high more : ℕ) (ns : List ℕ) → high ≤ more → AreRising low high ns → AreRising low more ns
+pub rising_high : (low high more : ℕ) (ns : List ℕ) → high ≤ more → AreRisingBetween low high ns → AreRisingBetween low more ns
 rising_high low high more ns le is = record { from = is.from; below = λ i d here. omega (arith, le, is.below i d here); order = is.order }
 
 -- no numbers
-pub rising_none : (low high : ℕ) → AreRising low high []
+pub rising_none : (low high : ℕ) → AreRisingBetween low high []
 rising_none low high = record { from = All-nil (λ n. low ≤ n); below = All-nil (λ n. n < high); order = λ i j d before here. absurd (omega (arith, here)) }
 
-pub rising_one : (low high n : ℕ) (ns : List ℕ) → low ≤ n → n < high → AreRising (n + 1) high ns → AreRising low high (n ∷ ns)
+pub rising_one : (low high n : ℕ) (ns : List ℕ) → low ≤ n → n < high → AreRisingBetween (n + 1) high ns → AreRisingBetween low high (n ∷ ns)
 rising_one low high n ns above below rest = record {
   from = All-cons (λ m. low ≤ m) n ns above (λ i d here. omega (arith, above, rest.from i d here));
   below = All-cons (λ m. m < high) n ns below rest.below;
@@ -52,20 +52,20 @@ rising_one low high n ns above below rest = record {
 }
 
 -- numbers, and others that are past them
-append_all : (low mid high : ℕ) (ns ms : List ℕ) → low ≤ mid → mid ≤ high → Rises low mid ns → AreRising mid high ms → AreRising low high (ns ++ ms)
+append_all : (low mid high : ℕ) (ns ms : List ℕ) → low ≤ mid → mid ≤ high → Rises low mid ns → AreRisingBetween mid high ms → AreRisingBetween low high (ns ++ ms)
 append_all low mid high [] ms le more first second = rising_low low mid high ms le second
 append_all low mid high (n ∷ ns) ms le more first second =
     rising_one low high n (ns ++ ms) first.0 (omega (arith, more, first.1.0)) (append_all (n + 1) mid high ns ms (omega (arith, first.1.0)) more first.1.1 second)
 
-pub rising-append : (low mid high : ℕ) (ns ms : List ℕ) → low ≤ mid → mid ≤ high → AreRising low mid ns → AreRising mid high ms → AreRising low high (ns ++ ms)
+pub rising-append : (low mid high : ℕ) (ns ms : List ℕ) → low ≤ mid → mid ≤ high → AreRisingBetween low mid ns → AreRisingBetween mid high ms → AreRisingBetween low high (ns ++ ms)
 rising-append low mid high ns ms le more first second = append_all low mid high ns ms le more (rises low mid ns first) second
 
 -- one more number
-pub rising_push : (low high : ℕ) (ns : List ℕ) → low ≤ high → AreRising low high ns → AreRising low (high + 1) (ns ++ high ∷ [])
+pub rising_push : (low high : ℕ) (ns : List ℕ) → low ≤ high → AreRisingBetween low high ns → AreRisingBetween low (high + 1) (ns ++ high ∷ [])
 rising_push low high ns le is = rising-append low high (high + 1) ns (high ∷ []) le (omega arith) is (rising_one high (high + 1) high [] (omega arith) (omega arith) (rising_none (high + 1) (high + 1)))
 
 -- those that pass a test
-pub rising-filter : (test : ℕ → Bool) (low high : ℕ) (ns : List ℕ) → AreRising low high ns → AreRising low high (filter test ns)
+pub rising-filter : (test : ℕ → Bool) (low high : ℕ) (ns : List ℕ) → AreRisingBetween low high ns → AreRisingBetween low high (filter test ns)
 rising-filter test low high ns is = record {
   from = All-filter test (λ n. low ≤ n) ns is.from;
   below = All-filter test (λ n. n < high) ns is.below;
@@ -77,10 +77,10 @@ length_within : (low high : ℕ) (ns : List ℕ) → low ≤ high → Rises low 
 length_within low high [] le is = omega (arith, le)
 length_within low high (n ∷ ns) le is = omega (arith, is.0, length_within (n + 1) high ns (omega (arith, is.1.0)) is.1.1)
 
-pub rising_length : (low high : ℕ) (ns : List ℕ) → low ≤ high → AreRising low high ns → low + length ns ≤ high
+pub rising_length : (low high : ℕ) (ns : List ℕ) → low ≤ high → AreRisingBetween low high ns → low + length ns ≤ high
 rising_length low high ns le is = length_within low high ns le (rises low high ns is)
 
-pub rising_below : (low high : ℕ) (ns : List ℕ) → AreRising low high ns → All (λ n. n < high) ns
+pub rising_below : (low high : ℕ) (ns : List ℕ) → AreRisingBetween low high ns → All (λ n. n < high) ns
 rising_below low high ns is = is.below
 
 -- what is left after more is dropped is less
@@ -106,7 +106,7 @@ size_within f ss low (n ∷ ns) is =
     )
 
 -- samples with numbers that rise are within those from the lower bound on
-pub rising_size : (f : Sample → ℕ) (ss : List Sample) (low : ℕ) (ns : List ℕ) → AreRising low (length ss) ns → sum_by f (filter_map (slice_get ss) ns) ≤ sum_by f (drop low ss)
+pub rising_size : (f : Sample → ℕ) (ss : List Sample) (low : ℕ) (ns : List ℕ) → AreRisingBetween low (length ss) ns → sum_by f (filter_map (slice_get ss) ns) ≤ sum_by f (drop low ss)
 rising_size f ss low ns is = size_within f ss low ns (rises low (length ss) ns is)
 
 -- the samples with numbers that are all there

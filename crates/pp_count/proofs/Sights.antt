@@ -10,7 +10,7 @@ use Rattle.pp_model.specs.declared.profile.Profile.{Profile}
 use Rattle.pp_model.specs.Conditions.{IsFrameOf}
 use Rattle.pp_model.specs.Frames.{rows, lines_at}
 use Rattle.pp_model.specs.FrameTexts.{Written, written}
-use Rattle.pp_grain.specs.Keys.{counts, key_texts}
+use Rattle.pp_grain.specs.Keys.{frame_counts, key_texts}
 use Rattle.pp_stack.proofs.RowLemmas.{frame_in}
 use Rattle.pp_count.specs.declared.table.KeyTable.{KeyTable}
 use Rattle.pp_count.specs.Table.{written_key, IsKeyTable}
@@ -76,7 +76,7 @@ numbered_none p config table stack keys none = rw none (record { below = λ k d 
 
 -- one more frame, which counts
 pub numbered_more : (p : Profile) (config : Config) (table : KeyTable) (stack : List Frame) (i : ℕ) (keys : List ℕ) (f : Frame) (n : ℕ)
-    → i < length stack → f ≡ get_or stack i f → counts stack i config.noinlines ≡ true
+    → i < length stack → f ≡ get_or stack i f → frame_counts stack i config.noinlines ≡ true
     → n < length table.names → written_key p table.names n ≡ key_of_frame p config f
     → NumberedTo p config table stack i keys → NumberedTo p config table stack (i + 1) (keys ++ n ∷ [])
 numbered_more p config table stack i keys f n here is counted below named so_far = record {
@@ -92,7 +92,7 @@ numbered_more p config table stack i keys f n here is counted below named so_far
 
 -- the same of a frame that was read from the stack
 pub numbered_read : (p : Profile) (config : Config) (table : KeyTable) (stack read : List Frame) (i : ℕ) (keys : List ℕ) (d : Frame) (n : ℕ)
-    → read ≡ stack → i < length read → counts stack i config.noinlines ≡ true
+    → read ≡ stack → i < length read → frame_counts stack i config.noinlines ≡ true
     → n < length table.names → written_key p table.names n ≡ key_of_frame p config (get_or read i d)
     → NumberedTo p config table stack i keys → NumberedTo p config table stack (i + 1) (keys ++ n ∷ [])
 numbered_read p config table stack read i keys d n lent here counted below named so_far =
@@ -102,7 +102,7 @@ numbered_read p config table stack read i keys d n lent here counted below named
 
 -- one more frame, which doesn't
 pub numbered_other : (p : Profile) (config : Config) (table : KeyTable) (stack : List Frame) (i : ℕ) (keys : List ℕ)
-    → i < length stack → counts stack i config.noinlines ≡ false
+    → i < length stack → frame_counts stack i config.noinlines ≡ false
     → NumberedTo p config table stack i keys → NumberedTo p config table stack (i + 1) keys
 numbered_other p config table stack i keys here other so_far =
     record {

@@ -21,9 +21,9 @@ use Rattle.pp_count.specs.Seeing.{HoldsFilters, seen_samples, framed_samples, fi
 use Rattle.pp_count.specs.Matches.{matches_of}
 use Rattle.pp_count.specs.Counts.{AreSumsOf, total_of}
 use Rattle.pp_count.specs.Filters.{AreFilters}
-use Rattle.pp_count.specs.Rising.{AreRising}
-use Rattle.pp_count.specs.Scope.{profile_of, config_of}
-use Rattle.pp_count.specs.Table.{key_at, IsKeyTable}
+use Rattle.pp_count.specs.Rising.{AreRisingBetween}
+use Rattle.pp_count.specs.Scope.{profile_in_scope, config_of}
+use Rattle.pp_count.specs.Table.{key_numbered, IsKeyTable}
 
 -- What a report counts of a profile can be counted: samples and columns are few, sums
 -- fit, and verdicts, tags and column are those of the profile.
@@ -44,13 +44,13 @@ abbrev pub report_frames : Profile → Finders → Config → Option ℕ → Lis
 report_frames p f config column = weighed (framed_samples p f config column p.sample)
 
 -- whether the own pattern of a peek or list report finds the frame's function
-abbrev pub is_own : Finders → Written → Bool
-is_own f w = option_map_or (λ find. find w.function) f.own false
+abbrev pub finds_own : Finders → Written → Bool
+finds_own f w = option_map_or (λ find. find w.function) f.own false
 
 -- Whether the own pattern of a report finds the function of a frame that counts.
 abbrev pub has_own_match : Profile → Finders → Config → Option ℕ → Bool
 has_own_match p f config column =
-    list_any (λ s. list_any (is_own f) s.keys) (report_frames p f config column)
+    list_any (λ s. list_any (finds_own f) s.keys) (report_frames p f config column)
 
 -- There is a flat and a cum for each name, and the flats can be added up.
 pub record FitSums (sums : Sums) : Type 0 where
@@ -61,10 +61,10 @@ pub record FitSums (sums : Sums) : Type 0 where
 -- The sums of all samples of the scope are under the keys of these numbers. No public clause cites it.
 pub record AreKeyed (scope : Scope) (keyed : NumberedSums) : Type 0 where
   pub sums : (f : Finders) → HoldsFilters scope.l.now scope.v.now (config_of scope) f
-      → AreSumsOf (profile_of scope) (report_samples (profile_of scope) f (config_of scope) scope.column) keyed.sums
+      → AreSumsOf (profile_in_scope scope) (report_samples (profile_in_scope scope) f (config_of scope) scope.column) keyed.sums
   pub fits : FitSums keyed.sums
-  pub of_profile : All (IsKeyOf (profile_of scope)) keyed.sums.names
-  pub names : keyed.sums.names ≡ map (key_at scope.table.now.names) keyed.numbers
+  pub of_profile : All (IsKeyOf (profile_in_scope scope)) keyed.sums.names
+  pub names : keyed.sums.names ≡ map (key_numbered scope.table.now.names) keyed.numbers
   pub numbered : All (λ n. n < length scope.table.now.names) keyed.numbers
 
 -- What is counted is what the report's samples come to, whatever its patterns find. What it was counted by is at hand.
@@ -80,8 +80,8 @@ pub record IsCountedOf (l : Loaded) (v : Verdicts) (config : Config) (column : O
       → c.total ≡ total_of l.profile f config column
   pub fits : FitSums c.sums
   pub of_profile : All (IsKeyOf l.profile) c.sums.names
-  pub rising : AreRising 0 (length l.profile.sample) c.kept
+  pub rising : AreRisingBetween 0 (length l.profile.sample) c.kept
   pub table : IsKeyTable l.profile config c.table
   pub filters : AreFilters l.profile v config c.filters
-  pub names : c.sums.names ≡ map (key_at c.table.names) c.numbers
+  pub names : c.sums.names ≡ map (key_numbered c.table.names) c.numbers
   pub numbered : All (λ n. n < length c.table.names) c.numbers

@@ -66,13 +66,13 @@ AreOnce keys =
     → slice_index_or keys i 0 ≡ slice_index_or keys j 0 → i ≡ j
 
 -- The places are those of these keys: each has its own, and no other key has one.
-pub record ArePlaces (keys : List ℕ) (place : List (Option ℕ)) : Type 0 where
+pub record ArePairPlaces (keys : List ℕ) (place : List (Option ℕ)) : Type 0 where
   pub found : (q : ℕ) → q < length keys → slice_index_or place (slice_index_or keys q 0) None ≡ Some q
   pub only : (k q : ℕ) → slice_index_or place k None ≡ Some q
       → (q < length keys) × (slice_index_or keys q 0 ≡ k)
 
 -- The numbers of pairs are few, and each place has its mark.
-pub record HasPlaces (over : Pairing) : Type 0 where
+pub record HasPairPlaces (over : Pairing) : Type 0 where
   pub few : length over.marked < 2 ^ 32
   pub below : (k q : ℕ) → place_of over k ≡ Some q → q < length over.marked
 

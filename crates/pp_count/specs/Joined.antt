@@ -61,8 +61,8 @@ AreConsecutive l v config column names number (samples ∷ ranges) (part ∷ par
     × AreConsecutive l v config column names (number + length samples) ranges parts
 
 -- the samples of all ranges
-abbrev pub all_samples : List (List Sample) → List Sample
-all_samples ranges = flat_map (λ samples. samples) ranges
+abbrev pub samples_of_ranges : List (List Sample) → List Sample
+samples_of_ranges ranges = flat_map (λ samples. samples) ranges
 
 -- the numbers in all parts
 abbrev pub all_kept : List Part → List ℕ
@@ -83,4 +83,4 @@ IsJoinedPart parts whole =
     (l : Loaded) (v : Verdicts) (config : Config) (column : Option ℕ) (names : List Key) (number : ℕ)
     (ranges : List (List Sample))
     → AreConsecutive l v config column names number ranges parts
-    → IsRangePart l v config column names number (all_samples ranges) whole
+    → IsRangePart l v config column names number (samples_of_ranges ranges) whole

@@ -17,14 +17,14 @@ use Rattle.pp_count.specs.Table.{written_key, IsKeyTable}
 use Rattle.pp_count.specs.Sums.{Seen, weighed, absolute, renamed}
 use Rattle.pp_count.specs.Seeing.{HoldsFilters, seen_samples, filtered_from, absolute_all}
 use Rattle.pp_count.specs.Parts.{AreSums, HasBelow}
-use Rattle.pp_count.specs.Edges.{counted_keys, HasPlaces}
+use Rattle.pp_count.specs.Edges.{counted_keys, HasPairPlaces}
 use Rattle.pp_count.specs.Counts.{samples_at}
 use Rattle.pp_count.specs.Matches.{matches_among}
-use Rattle.pp_count.specs.Rising.{AreRising}
+use Rattle.pp_count.specs.Rising.{AreRisingBetween}
 
 -- the profile whose samples are counted
-abbrev pub profile_of : Scope → Profile
-profile_of scope = scope.l.now.profile
+abbrev pub profile_in_scope : Scope → Profile
+profile_in_scope scope = scope.l.now.profile
 
 -- the configuration
 abbrev pub config_of : Scope → Config
@@ -39,17 +39,17 @@ abbrev pub chosen_of : Scope → Option (List ℕ)
 chosen_of scope = option_map (λ numbers. numbers.now) scope.chosen
 
 -- the samples that are counted
-abbrev pub samples_of : Scope → List Sample
-samples_of scope = option_map_or (samples_at (profile_of scope)) (chosen_of scope) (profile_of scope).sample
+abbrev pub samples_in_scope : Scope → List Sample
+samples_in_scope scope = option_map_or (samples_at (profile_in_scope scope)) (chosen_of scope) (profile_in_scope scope).sample
 
 -- The verdicts, the filters and the table are those of the profile and the configuration. Samples that are chosen are
 -- the profile's, each once.
-pub record IsSound (scope : Scope) : Type 0 where
-  pub filters : AreFilters (profile_of scope) scope.v.now (config_of scope) scope.filters.now
-  pub verdicts : HasVerdicts (profile_of scope) scope.v.now
-  pub table : IsKeyTable (profile_of scope) (config_of scope) scope.table.now
-  pub few_kept : MatchOption (over_of scope) ⊤ HasPlaces
-  pub chosen : MatchOption (chosen_of scope) ⊤ (AreRising 0 (length (profile_of scope).sample))
+pub record IsSoundScope (scope : Scope) : Type 0 where
+  pub filters : AreFilters (profile_in_scope scope) scope.v.now (config_of scope) scope.filters.now
+  pub verdicts : HasVerdicts (profile_in_scope scope) scope.v.now
+  pub table : IsKeyTable (profile_in_scope scope) (config_of scope) scope.table.now
+  pub few_kept : MatchOption (over_of scope) ⊤ HasPairPlaces
+  pub chosen : MatchOption (chosen_of scope) ⊤ (AreRisingBetween 0 (length (profile_in_scope scope).sample))
 
 -- the sum of the absolute selected values of the samples
 abbrev pub size_of : Scope → List Sample → ℕ
@@ -65,8 +65,8 @@ pub record AreSeen (scope : Scope) (samples : List Sample) (seen : List (Seen �
   pub below : All (HasBelow (length scope.table.now.names)) seen
   pub within : absolute seen ≤ size_of scope samples
   pub are : (f : Finders) → HoldsFilters scope.l.now scope.v.now (config_of scope) f
-      → map (renamed (written_key (profile_of scope) scope.table.now.names)) seen
-      ≡ seen_samples (profile_of scope) f (config_of scope) scope.column samples
+      → map (renamed (written_key (profile_in_scope scope) scope.table.now.names)) seen
+      ≡ seen_samples (profile_in_scope scope) f (config_of scope) scope.column samples
 
 -- the sample with what is counted of its keys
 abbrev pub counted_as : Scope → Seen ℕ → Seen ℕ
@@ -76,7 +76,7 @@ counted_as scope s = record { value = s.value; keys = counted_keys (over_of scop
 abbrev pub HasMatches : Scope → List Sample → List Bool → Type 0
 HasMatches scope samples slots =
     scope.chosen ≡ None → (f : Finders) → HoldsFilters scope.l.now scope.v.now (config_of scope) f
-    → slots ≡ matches_among (profile_of scope) f (config_of scope) samples
+    → slots ≡ matches_among (profile_in_scope scope) f (config_of scope) samples
 
 -- The part is that of these samples, of which the first has this number.
 pub record IsPartOf (scope : Scope) (number : ℕ) (samples : List Sample) (part : Part)
@@ -85,8 +85,8 @@ pub record IsPartOf (scope : Scope) (number : ℕ) (samples : List Sample) (part
   pub are : AreSeen scope samples seen
   pub sums : AreSums (weighed (map (counted_as scope) seen)) part.sums
   pub kept : (f : Finders) → HoldsFilters scope.l.now scope.v.now (config_of scope) f
-      → part.kept ≡ filtered_from (profile_of scope) f (config_of scope) number samples
-  pub rising : AreRising number (number + length samples) part.kept
+      → part.kept ≡ filtered_from (profile_in_scope scope) f (config_of scope) number samples
+  pub rising : AreRisingBetween number (number + length samples) part.kept
   pub matched : HasMatches scope samples part.matched.slots
 
 -- The samples so far are added to the tallies, none of them at a turn after this one, and the numbers of those that the
@@ -98,8 +98,8 @@ pub record CountedTo (scope : Scope) (number turn : ℕ) (samples : List Sample)
   pub tallies : (k : ℕ) → IsTallyOf (weighed (map (counted_as scope) seen)) k (at k)
   pub earlier : (k : ℕ) → (at k).last ≤ turn
   pub kept : (f : Finders) → HoldsFilters scope.l.now scope.v.now (config_of scope) f
-      → numbers ≡ filtered_from (profile_of scope) f (config_of scope) number samples
-  pub rising : AreRising number (number + length samples) numbers
+      → numbers ≡ filtered_from (profile_in_scope scope) f (config_of scope) number samples
+  pub rising : AreRisingBetween number (number + length samples) numbers
 
 -- These samples are added up, and searched for matches. No public clause cites it.
 pub record AreCounted (scope : Scope) (samples : List Sample) (sofar : Sofar) : Type 0 where

@@ -9,7 +9,7 @@ use Rattle.pp_model.specs.declared.loaded.Loaded.{Loaded}
 use Rattle.pp_model.specs.declared.verdicts.Verdicts.{Verdicts}
 use Rattle.pp_model.specs.Finders.{Finders, HoldsFinders}
 use Rattle.pp_model.specs.FrameTexts.{Written, written}
-use Rattle.pp_grain.specs.Keys.{counts, key_texts}
+use Rattle.pp_grain.specs.Keys.{frame_counts, key_texts}
 use Rattle.pp_stack.specs.Filters.{frames_of_sample}
 use Rattle.pp_tags.specs.TagFilters.{AreTagVerdicts, filter_in_force, is_tag_kept}
 use Rattle.pp_count.specs.Column.{selected}
@@ -19,7 +19,7 @@ use Rattle.pp_count.specs.Sums.{Seen}
 abbrev pub counted_frames : Bool → List Frame → List Frame
 counted_frames noinlines [] = []
 counted_frames noinlines (f ∷ stack) =
-    if counts (f ∷ stack) 0 noinlines then f ∷ counted_frames noinlines stack
+    if frame_counts (f ∷ stack) 0 noinlines then f ∷ counted_frames noinlines stack
     else counted_frames noinlines stack
 
 -- the key of the frame, by the configuration's grain

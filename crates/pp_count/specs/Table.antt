@@ -15,8 +15,8 @@ abbrev pub no_key : Key
 no_key = record { function = 0; file = 0; line = pos 0; column = pos 0; address = 0; object = 0 }
 
 -- the key of the number
-abbrev pub key_at : List Key → ℕ → Key
-key_at names n = slice_index_or names n no_key
+abbrev pub key_numbered : List Key → ℕ → Key
+key_numbered names n = slice_index_or names n no_key
 
 -- what the key of the number stands for
 abbrev pub written_key : Profile → List Key → ℕ → Written

@@ -50,15 +50,15 @@ with_seen value turn keys k t =
     if int_eq value (pos 0) then t else with_sample value turn keys k t
 
 -- the entry of a key's tally, and none where no sample had the key
-abbrev pub entry_of : ℕ → Tally → List KeySum
-entry_of k t =
+abbrev pub tally_entry : ℕ → Tally → List KeySum
+tally_entry k t =
     if nat_lt 0 t.last then record { key = k; flat = t.flat; cum = t.cum } ∷ [] else []
 
 -- the tally with the sums of another range that has the key
-abbrev pub plus : Tally → KeySum → Tally
-plus t e = record { flat = t.flat +ℤ e.flat; cum = t.cum +ℤ e.cum; last = 1 }
+abbrev pub tally_plus : Tally → KeySum → Tally
+tally_plus t e = record { flat = t.flat +ℤ e.flat; cum = t.cum +ℤ e.cum; last = 1 }
 
 -- the tally of a key with the entries of another range added
-abbrev pub added : Tally → List KeySum → Tally
-added t [] = t
-added t (e ∷ es) = added (plus t e) es
+abbrev pub tally_added : Tally → List KeySum → Tally
+tally_added t [] = t
+tally_added t (e ∷ es) = tally_added (tally_plus t e) es

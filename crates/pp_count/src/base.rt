@@ -8,7 +8,7 @@ ghost use Rattle.pp_count.specs.Column.{selected};
 ghost use Rattle.pp_count.specs.Counted.{CanCount, IsCountedOf};
 ghost use Rattle.pp_count.specs.Counts.{filtered_samples, samples_at};
 ghost use Rattle.pp_count.specs.Filters.{AreFilters};
-ghost use Rattle.pp_count.specs.Rising.{AreRising};
+ghost use Rattle.pp_count.specs.Rising.{AreRisingBetween};
 ghost use Rattle.pp_count.specs.Seeing.{HoldsFilters, absolute_all};
 ghost use Rattle.pp_count.specs.Table.{IsKeyTable};
 ghost use Rattle.pp_count.specs.Tally.{tally_at};
@@ -120,7 +120,7 @@ fn chosen_tallies<'x, R: Threads + Sync, G: Gate>(
     requires can { CanCount l.now.profile v.now config.now column }
     requires table { IsKeyTable l.now.profile config.now counted.now.table }
     requires filters { AreFilters l.now.profile v.now config.now counted.now.filters }
-    requires rising { AreRising 0 (length l.now.profile.sample) chosen.now }
+    requires rising { AreRisingBetween 0 (length l.now.profile.sample) chosen.now }
     ensures { IfOk result (λ tallies. HasTallies l.now v.now config.now column
         counted.now.table.names chosen.now (tally_at tallies)) }
 {
@@ -187,7 +187,7 @@ pub fn counted_whole(
 // The sum of the selected values of the samples with these numbers.
 fn selected_sum(l: &Loaded, config: &Config, column: Option<u32>, numbers: &[u32]) -> i64
     requires fits { absolute_all column config.now.divide_by l.now.profile.sample < 2 ^ 63 }
-    requires rising { AreRising 0 (length l.now.profile.sample) numbers.now }
+    requires rising { AreRisingBetween 0 (length l.now.profile.sample) numbers.now }
     ensures value { result
         ≡ selected_all column config.now.divide_by (samples_at l.now.profile numbers.now) }
     ensures small { nat_abs result < 2 ^ 63 }

@@ -4,7 +4,7 @@ ghost use Rattle.pp_model.specs.Finders.{Finders};
 ghost use Rattle.pp_count.specs.Seeing.{filtered_from, absolute_all};
 ghost use Rattle.pp_count.specs.Counts.{total_of};
 ghost use Rattle.pp_count.specs.Counted.{CanCount, AreKeyed, IsCountedOf};
-ghost use Rattle.pp_count.specs.Scope.{IsSound, CountedTo, size_of};
+ghost use Rattle.pp_count.specs.Scope.{IsSoundScope, CountedTo, size_of};
 ghost use Rattle.pp_count.specs.Tally.{tally_at};
 
 use crate::filters::Filters;
@@ -88,7 +88,7 @@ fn report_total(l: &Loaded, config: &Config, column: Option<u32>, kept: &[u32]) 
 
 // The sums of all samples, by keys.
 fn sums_so_far(alloc: Global, scope: &Scope, sofar: &Sofar) -> Result<NumberedSums, Memory>
-    requires sound { IsSound scope.now }
+    requires sound { IsSoundScope scope.now }
     requires fits { size_of scope.now scope.now.l.now.profile.sample < 2 ^ 63 }
     requires keys { scope.now.over ≡ None }
     requires counted { CountedTo scope.now 0 1 scope.now.l.now.profile.sample

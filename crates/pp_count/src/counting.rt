@@ -2,7 +2,7 @@
 ghost use Rattle.std.specs.Prelude.{◌≡◌, ◌+◌, ◌*◌, ◌<◌, ◌^◌, length, IfOk};
 ghost use Rattle.std.proofs.Props.{props};
 ghost use Rattle.pp_count.specs.Parts.{piece_samples};
-ghost use Rattle.pp_count.specs.Scope.{samples_of, IsSound, AreCountable, IsPartOf};
+ghost use Rattle.pp_count.specs.Scope.{samples_in_scope, IsSoundScope, AreCountable, IsPartOf};
 
 use crate::part::{Part, count_range};
 use crate::scope::{Scope, count_of};
@@ -22,9 +22,9 @@ pub struct Counting<'a> {
     pub first: u32,
     /// How many pieces the wave has.
     pub pieces: u32,
-    pub ghost sound: { IsSound scope } by { Prim.hlevel props },
-    pub ghost countable: { AreCountable scope (samples_of scope) },
-    pub ghost within: { 1024 * (first + pieces) < length (samples_of scope) + 1024 },
+    pub ghost sound: { IsSoundScope scope } by { Prim.hlevel props },
+    pub ghost countable: { AreCountable scope (samples_in_scope scope) },
+    pub ghost within: { 1024 * (first + pieces) < length (samples_in_scope scope) + 1024 },
 }
 
 impl Job for Counting<'_> {
@@ -32,12 +32,12 @@ impl Job for Counting<'_> {
 
     ghost use Rattle.std.specs.Prelude.{◌+◌, ◌*◌};
     ghost use Rattle.pp_count.specs.Parts.{piece_samples};
-    ghost use Rattle.pp_count.specs.Scope.{samples_of, IsPartOf};
+    ghost use Rattle.pp_count.specs.Scope.{samples_in_scope, IsPartOf};
 
     ghost pieces = { λ job. job.pieces };
 
     ghost right = { λ job piece part. IsPartOf job.scope ((job.first + piece) * 1024)
-        (piece_samples (samples_of job.scope) (job.first + piece)) part };
+        (piece_samples (samples_in_scope job.scope) (job.first + piece)) part };
 
     fn run(&self, piece: u32) -> Result<Part, Memory> {
         count_piece_of(self.alloc, &self.scope, self.first + piece)
@@ -46,11 +46,11 @@ impl Job for Counting<'_> {
 
 /// The part of the piece's samples.
 pub fn count_piece_of(alloc: Global, scope: &Scope, piece: u32) -> Result<Part, Memory>
-    requires sound { IsSound scope.now }
-    requires countable { AreCountable scope.now (samples_of scope.now) }
-    requires starts { 1024 * piece < length (samples_of scope.now) }
+    requires sound { IsSoundScope scope.now }
+    requires countable { AreCountable scope.now (samples_in_scope scope.now) }
+    requires starts { 1024 * piece < length (samples_in_scope scope.now) }
     ensures { IfOk result (IsPartOf scope.now (piece * 1024)
-        (piece_samples (samples_of scope.now) piece)) }
+        (piece_samples (samples_in_scope scope.now) piece)) }
 {
     let start = piece as usize * PIECE;
     let count = (count_of(scope) - start).min(PIECE);

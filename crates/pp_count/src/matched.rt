@@ -11,7 +11,7 @@ ghost use Rattle.pp_tags.specs.TagFilters.{AreTagVerdicts, HasItsTags, selects_o
 ghost use Rattle.pp_count.specs.Filters.{IsReach};
 ghost use Rattle.pp_count.specs.Seeing.{HoldsFilters};
 ghost use Rattle.pp_count.specs.Matches.{stack_has, label_has, frame_match, key_match, matches_among, no_matches, either};
-ghost use Rattle.pp_count.specs.Scope.{IsSound, HasMatches, samples_of};
+ghost use Rattle.pp_count.specs.Scope.{IsSoundScope, HasMatches, samples_in_scope};
 
 use crate::finding::finds_key;
 use crate::scope::Scope;
@@ -70,11 +70,11 @@ pub(crate) fn range_matches(
     first: u32,
     count: u32,
 ) -> Result<Matched, Memory>
-    requires sound { IsSound scope.now }
-    requires few { length (samples_of scope.now) < 2 ^ 32 }
-    requires within { first + count ≤ length (samples_of scope.now) }
+    requires sound { IsSoundScope scope.now }
+    requires few { length (samples_in_scope scope.now) < 2 ^ 32 }
+    requires within { first + count ≤ length (samples_in_scope scope.now) }
     ensures { IfOk result (λ m.
-        HasMatches scope.now (take count (drop first (samples_of scope.now))) m.slots) }
+        HasMatches scope.now (take count (drop first (samples_in_scope scope.now))) m.slots) }
 {
     match scope.chosen {
         Some(_) => Ok(Matched {
@@ -91,7 +91,7 @@ pub(crate) fn range_matches(
 
 // The matches of these samples. What other filters drop counts too.
 fn matches(alloc: Global, scope: &Scope, samples: &[Sample]) -> Result<Matched, Memory>
-    requires sound { IsSound scope.now }
+    requires sound { IsSoundScope scope.now }
     requires members { All (IsSampleOf scope.now.l.now.profile) samples.now }
     requires refers { All (RefersTo scope.now.l.now.profile) samples.now }
     ensures { (f : Finders) →

@@ -3,7 +3,7 @@ ghost use Rattle.std.specs.Prelude.{◌≡◌, ◌++◌, ◌<◌, ◌^◌, [], n
 ghost use Rattle.std.specs.List.{filter};
 ghost use Rattle.std.specs.Option.{ForSome};
 ghost use Rattle.pp_count.specs.Column.{first_else};
-ghost use Rattle.pp_count.specs.Edges.{place_of, is_marked, has_mark, pair_between, pairs_of, HasPlaces};
+ghost use Rattle.pp_count.specs.Edges.{place_of, is_marked, has_mark, pair_between, pairs_of, HasPairPlaces};
 
 use pp_base::{List, Memory};
 
@@ -19,7 +19,7 @@ pub struct Pairing {
 /// The pairs of a sample's keys, leaf first, over the keys that have a place: those with a marked end. A pair of the
 /// places `caller` and `callee` has the number `caller * marked.len() + callee`.
 pub fn gather_pairs(pairs: &mut Vec<u64>, keys: &[u64], over: &Pairing) -> Result<(), Memory>
-    requires { HasPlaces over.now }
+    requires { HasPairPlaces over.now }
     ensures { IfOk result (λ _. pairs.new.items ≡ pairs_of over.now keys.now) }
 {
     pairs.clear();

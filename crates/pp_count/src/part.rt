@@ -3,7 +3,7 @@ ghost use Rattle.std.specs.Prelude.{◌≡◌, ℕ, ◌+◌, ◌<◌, ◌≤◌,
 ghost use Rattle.pp_count.specs.Column.{selected};
 ghost use Rattle.pp_count.specs.Edges.{counted_keys};
 ghost use Rattle.pp_count.specs.Tally.{tally_at, no_tally, with_seen};
-ghost use Rattle.pp_count.specs.Scope.{over_of, samples_of, IsSound, AreCountable, IsPartOf, CountedTo};
+ghost use Rattle.pp_count.specs.Scope.{over_of, samples_in_scope, IsSoundScope, AreCountable, IsPartOf, CountedTo};
 
 use crate::matched::{Matched, range_matches};
 use crate::pairs::gather_pairs;
@@ -39,10 +39,10 @@ pub struct Part {
 
 /// Counts so many samples, of which the first stands at this place among those that are counted.
 pub fn count_range(alloc: Global, scope: &Scope, first: u32, count: u32) -> Result<Part, Memory>
-    requires sound { IsSound scope.now }
-    requires countable { AreCountable scope.now (samples_of scope.now) }
-    requires within { first + count ≤ length (samples_of scope.now) }
-    ensures { IfOk result (IsPartOf scope.now first (take count (drop first (samples_of scope.now)))) }
+    requires sound { IsSoundScope scope.now }
+    requires countable { AreCountable scope.now (samples_in_scope scope.now) }
+    requires within { first + count ≤ length (samples_in_scope scope.now) }
+    ensures { IfOk result (IsPartOf scope.now first (take count (drop first (samples_in_scope scope.now)))) }
 {
     let mut tallies = Tallies::new(alloc, scope.numbers())?;
     let kept = add_samples(alloc, scope, &mut tallies, first, count)?;
@@ -63,12 +63,12 @@ fn add_samples(
     first: u32,
     count: u32,
 ) -> Result<List<u32>, Memory>
-    requires sound { IsSound scope.now }
-    requires countable { AreCountable scope.now (samples_of scope.now) }
-    requires within { first + count ≤ length (samples_of scope.now) }
+    requires sound { IsSoundScope scope.now }
+    requires countable { AreCountable scope.now (samples_in_scope scope.now) }
+    requires within { first + count ≤ length (samples_in_scope scope.now) }
     requires none { (k : ℕ) → tally_at tallies.old k ≡ no_tally }
     ensures { IfOk result (λ kept. CountedTo scope.now first count
-        (take count (drop first (samples_of scope.now))) (tally_at tallies.new) kept) }
+        (take count (drop first (samples_in_scope scope.now))) (tally_at tallies.new) kept) }
 {
     let mut stack = List::new(alloc);
     let mut keys = Vec::new(alloc);
@@ -95,7 +95,7 @@ fn add_seen(
     pairs: &mut Vec<u64>,
     turn: u64,
 ) -> Result<(), Memory>
-    requires sound { IsSound scope.now }
+    requires sound { IsSoundScope scope.now }
     requires earlier { (k : ℕ) → (tally_at tallies.old k).last < turn }
     requires cum_fits { (k : ℕ) → nat_abs (tally_at tallies.old k).cum
         + nat_abs (selected scope.now.column scope.now.config.now.divide_by sample.now) < 2 ^ 63 }

@@ -3,7 +3,7 @@ ghost use Rattle.std.specs.Prelude.{◌≡◌, ◌++◌, ◌*◌, ◌<◌, ◌^�
 ghost use Rattle.pp_model.specs.Finders.{Finders};
 ghost use Rattle.pp_count.specs.Seeing.{HoldsFilters};
 ghost use Rattle.pp_count.specs.Counted.{CanCount, IsCountedOf, report_samples};
-ghost use Rattle.pp_count.specs.Edges.{is_kept_key, is_marked, edge_of_sum, AreOnce, ArePlaces, HasPlaces};
+ghost use Rattle.pp_count.specs.Edges.{is_kept_key, is_marked, edge_of_sum, AreOnce, ArePairPlaces, HasPairPlaces};
 ghost use Rattle.pp_count.specs.EdgeSums.{AreEdgesOf, AreEdgesAbout, HasPairSums, kept_numbers};
 
 use crate::counted::Counted;
@@ -112,7 +112,7 @@ fn pair_sums<'x, R: Threads + Sync, G: Gate>(
 ) -> Result<List<KeySum>, Memory>
     requires can { CanCount l.now.profile v.now config.now column }
     requires counted { IsCountedOf l.now v.now config.now column counted.now }
-    requires over { HasPlaces over.now }
+    requires over { HasPairPlaces over.now }
     ensures { IfOk result
         (HasPairSums l.now v.now config.now column counted.now.table.names over.now) }
 {
@@ -166,7 +166,7 @@ fn pairing(
     requires below { All (λ n. n < length counted.now.table.names) counted.now.numbers }
     requires once { AreOnce (map (λ n. slice_index_or counted.now.numbers n 0) kept.now) }
     ensures places { IfOk result (λ over.
-        ArePlaces (map (λ n. slice_index_or counted.now.numbers n 0) kept.now) over.place) }
+        ArePairPlaces (map (λ n. slice_index_or counted.now.numbers n 0) kept.now) over.place) }
     ensures marks { IfOk result (λ over. over.marked ≡ map (is_marked marked.now) kept.now) }
     ensures few { IfOk result (λ over. length over.marked < 2 ^ 32) }
 {
@@ -220,7 +220,7 @@ fn places(alloc: Global, keys: &[u64], numbers: u64) -> Result<List<Option<u32>>
     requires few { length keys.now < 2 ^ 32 }
     requires below { All (λ k. k < numbers) keys.now }
     requires once { AreOnce keys.now }
-    ensures { IfOk result (ArePlaces keys.now) }
+    ensures { IfOk result (ArePairPlaces keys.now) }
 {
     let mut place = no_places(alloc, numbers)?;
     for (index, key) in keys.iter().enumerate() {

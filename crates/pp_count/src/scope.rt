@@ -2,7 +2,7 @@
 ghost use Rattle.std.specs.Prelude.{◌≡◌, ◌<◌, ◌^◌, length, Some, None};
 ghost use Rattle.std.specs.List.{slice_get};
 ghost use Rattle.pp_model.specs.Conditions.{RefersTo, IsSampleOf};
-ghost use Rattle.pp_count.specs.Scope.{IsSound, profile_of, samples_of};
+ghost use Rattle.pp_count.specs.Scope.{IsSoundScope, profile_in_scope, samples_in_scope};
 
 use crate::filters::Filters;
 use crate::pairs::Pairing;
@@ -71,8 +71,8 @@ impl<'a> Scope<'a> {
 
 /// How many samples are counted.
 pub(crate) fn count_of(scope: &Scope) -> usize
-    requires { IsSound scope.now }
-    ensures { result ≡ length (samples_of scope.now) }
+    requires { IsSoundScope scope.now }
+    ensures { result ≡ length (samples_in_scope scope.now) }
 {
     match scope.chosen {
         None => scope.l.profile.get().sample.len(),
@@ -82,12 +82,12 @@ pub(crate) fn count_of(scope: &Scope) -> usize
 
 /// The sample at the place among those that are counted.
 pub(crate) fn sample_at<'a>(scope: &Scope<'a>, place: usize) -> &'a Sample
-    requires sound { IsSound scope.now }
-    requires few { length (samples_of scope.now) < 2 ^ 32 }
-    requires within { place < length (samples_of scope.now) }
-    ensures is { slice_get (samples_of scope.now) place ≡ Some result.now }
-    ensures member { IsSampleOf (profile_of scope.now) result.now }
-    ensures refers { RefersTo (profile_of scope.now) result.now }
+    requires sound { IsSoundScope scope.now }
+    requires few { length (samples_in_scope scope.now) < 2 ^ 32 }
+    requires within { place < length (samples_in_scope scope.now) }
+    ensures is { slice_get (samples_in_scope scope.now) place ≡ Some result.now }
+    ensures member { IsSampleOf (profile_in_scope scope.now) result.now }
+    ensures refers { RefersTo (profile_in_scope scope.now) result.now }
 {
     let samples = scope.l.profile.get().sample.as_slice();
     match scope.chosen {

@@ -6,7 +6,7 @@ ghost use Rattle.pp_model.specs.Frames.{stack_of};
 ghost use Rattle.pp_stack.specs.Runs.{kept_if};
 ghost use Rattle.pp_count.specs.Table.{written_key, IsKeyTable};
 ghost use Rattle.pp_count.specs.Seeing.{HoldsFilters, key_of_frame, keys_of_stack, filtered_stack};
-ghost use Rattle.pp_count.specs.Scope.{IsSound};
+ghost use Rattle.pp_count.specs.Scope.{IsSoundScope};
 
 use crate::scope::Scope;
 use pp_base::{List, Memory};
@@ -23,7 +23,7 @@ pub fn see(
     stack: &mut Stack,
     keys: &mut Vec<u64>,
 ) -> Result<bool, Memory>
-    requires sound { IsSound scope.now }
+    requires sound { IsSoundScope scope.now }
     requires member { IsSampleOf scope.now.l.now.profile s.now }
     requires refers { RefersTo scope.now.l.now.profile s.now }
     ensures below { IfOk result (λ _.

@@ -1,6 +1,6 @@
 //! What the samples so far come to, to which the parts of those after them are added in order.
 ghost use Rattle.std.specs.Prelude.{◌≡◌, ◌++◌, ℕ, ◌+◌, ◌<◌, ◌^◌, nat_abs, [], IfOk};
-ghost use Rattle.pp_count.specs.Tally.{tally_at, no_tally, added, entry_of};
+ghost use Rattle.pp_count.specs.Tally.{tally_at, no_tally, tally_added, tally_entry};
 ghost use Rattle.pp_count.specs.Matches.{no_matches, either};
 ghost use Rattle.pp_count.specs.Parts.{sums_of, flat_size, cum_size};
 
@@ -45,7 +45,7 @@ impl Sofar {
             + cum_size (sums_of k part.now.sums) < 2 ^ 63 }
         ensures kept { IfOk result (λ _. self.new.kept ≡ self.old.kept ++ part.now.kept) }
         ensures tallies { IfOk result (λ _. (k : ℕ) → tally_at self.new.tallies k
-            ≡ added (tally_at self.old.tallies k) (sums_of k part.now.sums)) }
+            ≡ tally_added (tally_at self.old.tallies k) (sums_of k part.now.sums)) }
         ensures matched { IfOk result (λ _.
             self.new.matched.slots ≡ either self.old.matched.slots part.now.matched.slots) }
     {
@@ -58,7 +58,7 @@ impl Sofar {
     pub fn into_part(self, alloc: Global) -> Result<Part, Memory>
         ensures kept { IfOk result (λ part. part.kept ≡ self.kept) }
         ensures sums { IfOk result (λ part. (k : ℕ) →
-            sums_of k part.sums ≡ entry_of k (tally_at self.tallies k)) }
+            sums_of k part.sums ≡ tally_entry k (tally_at self.tallies k)) }
         ensures matched { IfOk result (λ part. part.matched ≡ self.matched) }
     {
         let sums = entries(alloc, &self.tallies)?;

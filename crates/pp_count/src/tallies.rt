@@ -1,6 +1,6 @@
 //! Tallies by key number: in a list where key numbers are few, else in a map that has those alone that were seen.
 ghost use Rattle.std.specs.Prelude.{◌≡◌, ◌≢◌, ℕ, ◌+◌, ◌+ℤ◌, ◌<◌, ◌^◌, nat_abs, nat_eq, nat_lt, slice_index_or, length, IfOk, if◌then◌else◌, [], ◌++◌};
-ghost use Rattle.pp_count.specs.Tally.{tally_at, no_tally, credited, with_cum, with_flat, with_sample, with_seen, plus, added, entry_of};
+ghost use Rattle.pp_count.specs.Tally.{tally_at, no_tally, credited, with_cum, with_flat, with_sample, with_seen, tally_plus, tally_added, tally_entry};
 ghost use Rattle.pp_count.specs.Parts.{sums_of, flat_size, cum_size};
 
 use crate::part::KeySum;
@@ -144,7 +144,7 @@ pub fn add_sums(tallies: &mut Tallies, sums: &[KeySum]) -> Result<(), Memory>
     requires cum_fits { (k : ℕ) →
         nat_abs (tally_at tallies.old k).cum + cum_size (sums_of k sums.now) < 2 ^ 63 }
     ensures { IfOk result (λ _. (k : ℕ) → tally_at tallies.new k
-        ≡ added (tally_at tallies.old k) (sums_of k sums.now)) }
+        ≡ tally_added (tally_at tallies.old k) (sums_of k sums.now)) }
 {
     for sum in sums {
         join_key(tallies, sum)?;
@@ -158,7 +158,7 @@ fn join_key(tallies: &mut Tallies, sum: &KeySum) -> Result<(), Memory>
     requires flat_fits { nat_abs (tally_at tallies.old sum.now.key).flat + nat_abs sum.now.flat < 2 ^ 63 }
     requires cum_fits { nat_abs (tally_at tallies.old sum.now.key).cum + nat_abs sum.now.cum < 2 ^ 63 }
     ensures key { IfOk result (λ _. tally_at tallies.new sum.now.key
-        ≡ plus (tally_at tallies.old sum.now.key) sum.now) }
+        ≡ tally_plus (tally_at tallies.old sum.now.key) sum.now) }
     ensures others { IfOk result (λ _. (k : ℕ) → k ≢ sum.now.key →
         tally_at tallies.new k ≡ tally_at tallies.old k) }
 {
@@ -178,7 +178,7 @@ fn join_key(tallies: &mut Tallies, sum: &KeySum) -> Result<(), Memory>
 /// The entries of the keys that some sample had: those of the list by number, the others in the order of first sight.
 pub fn entries(alloc: Global, tallies: &Tallies) -> Result<List<KeySum>, Memory>
     ensures { IfOk result (λ sums. (k : ℕ) →
-        sums_of k sums ≡ entry_of k (tally_at tallies.now k)) }
+        sums_of k sums ≡ tally_entry k (tally_at tallies.now k)) }
 {
     let mut sums = List::new(alloc);
     push_listed(&mut sums, &tallies.listed)?;
@@ -190,7 +190,7 @@ pub fn entries(alloc: Global, tallies: &Tallies) -> Result<List<KeySum>, Memory>
 fn push_listed(sums: &mut List<KeySum>, listed: &[Tally]) -> Result<(), Memory>
     requires { sums.old ≡ [] }
     ensures { IfOk result (λ _. (k : ℕ) →
-        sums_of k sums.new ≡ entry_of k (slice_index_or listed.now k no_tally)) }
+        sums_of k sums.new ≡ tally_entry k (slice_index_or listed.now k no_tally)) }
 {
     for (number, tally) in listed.iter().enumerate() {
         push_entry(sums, number as u64, tally)?;
@@ -202,8 +202,8 @@ fn push_listed(sums: &mut List<KeySum>, listed: &[Tally]) -> Result<(), Memory>
 #[tactic(auto, unfolding(crate::specs::Tally::tally_at))]
 fn push_others(sums: &mut List<KeySum>, tallies: &Tallies) -> Result<(), Memory>
     requires { (k : ℕ) → sums_of k sums.old
-        ≡ entry_of k (slice_index_or tallies.now.listed.items k no_tally) }
-    ensures { IfOk result (λ _. (k : ℕ) → sums_of k sums.new ≡ entry_of k (tally_at tallies.now k)) }
+        ≡ tally_entry k (slice_index_or tallies.now.listed.items k no_tally) }
+    ensures { IfOk result (λ _. (k : ℕ) → sums_of k sums.new ≡ tally_entry k (tally_at tallies.now k)) }
 {
     for index in 0..tallies.others.len() {
         if let Some((key, tally)) = tallies.others.get_index(index) {
@@ -222,7 +222,7 @@ fn push_other(
 ) -> Result<(), Memory>
     ensures { IfOk result (λ _. (k : ℕ) → sums_of k sums.new
         ≡ sums_of k sums.old ++ (if nat_eq key k then (if nat_lt k (length listed.now) then []
-        else entry_of key tally.now) else [])) }
+        else tally_entry key tally.now) else [])) }
 {
     if key < listed.len() as u64 {
         return Ok(());
@@ -233,7 +233,7 @@ fn push_other(
 // Adds the entry of the key, where some sample had it.
 fn push_entry(sums: &mut List<KeySum>, key: u64, tally: &Tally) -> Result<(), Memory>
     ensures { IfOk result (λ _. (k : ℕ) → sums_of k sums.new
-        ≡ sums_of k sums.old ++ (if nat_eq key k then entry_of key tally.now else [])) }
+        ≡ sums_of k sums.old ++ (if nat_eq key k then tally_entry key tally.now else [])) }
 {
     if tally.last == 0 {
         return Ok(());

@@ -1,6 +1,6 @@
 //! What is kept for one key while samples are added up.
 ghost use Rattle.std.specs.Prelude.{◌≡◌, ◌≢◌, ◌+◌, ◌+ℤ◌, ◌<◌, ◌^◌, nat_abs};
-ghost use Rattle.pp_count.specs.Tally.{credited, plus};
+ghost use Rattle.pp_count.specs.Tally.{credited, tally_plus};
 
 use crate::part::KeySum;
 
@@ -46,7 +46,7 @@ impl Tally {
     pub fn join(&mut self, sum: &KeySum)
         requires flat_fits { nat_abs self.old.flat + nat_abs sum.now.flat < 2 ^ 63 }
         requires cum_fits { nat_abs self.old.cum + nat_abs sum.now.cum < 2 ^ 63 }
-        ensures { self.new ≡ plus self.old sum.now }
+        ensures { self.new ≡ tally_plus self.old sum.now }
     {
         self.flat += sum.flat;
         self.cum += sum.cum;

@@ -1,6 +1,6 @@
 //! All samples, or chosen ones, counted in waves of pieces on the lanes.
 ghost use Rattle.std.specs.Prelude.{◌≡◌, ◌+◌, ◌*◌, ◌<◌, take, IfOk};
-ghost use Rattle.pp_count.specs.Scope.{samples_of, IsSound, AreCountable, AreCounted};
+ghost use Rattle.pp_count.specs.Scope.{samples_in_scope, IsSoundScope, AreCountable, AreCounted};
 
 use crate::counting::{Counting, PIECE};
 use crate::scope::{Scope, count_of};
@@ -20,9 +20,9 @@ pub fn count_all<'x, R: Threads + Sync, G: Gate>(
     scope: &Scope<'x>,
     gate: &G,
 ) -> Result<Sofar, Memory>
-    requires sound { IsSound scope.now }
-    requires countable { AreCountable scope.now (samples_of scope.now) }
-    ensures { IfOk result (AreCounted scope.now (samples_of scope.now)) }
+    requires sound { IsSoundScope scope.now }
+    requires countable { AreCountable scope.now (samples_in_scope scope.now) }
+    ensures { IfOk result (AreCounted scope.now (samples_in_scope scope.now)) }
 {
     let pieces = count_of(scope).div_ceil(PIECE) as u32;
     let mut sofar = Sofar::new(alloc, scope.numbers())?;
@@ -47,9 +47,9 @@ fn count_wave<R: Threads + Sync, G: Gate>(
     sofar: &mut Sofar,
 ) -> Result<(), Memory>
     requires { AreCounted job.now.scope
-        (take (1024 * job.now.first) (samples_of job.now.scope)) sofar.old }
+        (take (1024 * job.now.first) (samples_in_scope job.now.scope)) sofar.old }
     ensures { IfOk result (λ _. AreCounted job.now.scope
-        (take (1024 * (job.now.first + job.now.pieces)) (samples_of job.now.scope)) sofar.new) }
+        (take (1024 * (job.now.first + job.now.pieces)) (samples_in_scope job.now.scope)) sofar.new) }
 {
     let workers = job.scope.config.workers;
     let parts = run_pieces(rt, job.alloc, job, job.pieces, workers, Deal::Round, gate)?;

@@ -4,8 +4,8 @@ use Rattle.std.specs.Prelude.{◌==◌, not, position, if◌then◌else◌}
 use Rattle.std.specs.Option.{option_map_or}
 use Rattle.pp_model.specs.Finders.{Finder, Finders}
 use Rattle.pp_model.specs.FrameTexts.{Written}
-use Rattle.pp_stack.specs.Runs.{through_last, up_to_last, from_first, pruned}
-use Rattle.pp_stack.specs.Filters.{finds_frame, finds_function, is_prunable, load_pruned, is_kept, not_hidden, shown, cut, shown_from, pruned_from, is_emptied, shortened, filtered}
+use Rattle.pp_stack.specs.Runs.{through_last, up_to_last, from_first, pruned_frames}
+use Rattle.pp_stack.specs.Filters.{finds_frame, finds_function, is_prunable, load_pruned, is_kept, not_hidden, frames_shown, cut, shown_from, pruned_from, is_emptied, left_of_cut, filtered}
 
 module _ {X : Type 0} (told : X → Written) (f : Finders) (Q : List X → Type 0)
     (filtering : (test : X → Bool) (xs : List X) → Q xs → Q (filter test xs))
@@ -14,7 +14,7 @@ module _ {X : Type 0} (told : X → Written) (f : Finders) (Q : List X → Type 
   load_keeps : (xs : List X) → Q xs → Q (load_pruned told f xs)
   load_keeps xs q = by f.drop
     where
-      by : (o : Option Finder) → Q (option_map_or (λ find. pruned (λ x. is_prunable find f.keep (told x)) xs) o xs)
+      by : (o : Option Finder) → Q (option_map_or (λ find. pruned_frames (λ x. is_prunable find f.keep (told x)) xs) o xs)
       by None = q
       by (Some find) = dropping _ xs q
 
@@ -25,7 +25,7 @@ module _ {X : Type 0} (told : X → Written) (f : Finders) (Q : List X → Type 
       by None = q
       by (Some find) = filtering _ xs q
 
-  show_keeps : (xs : List X) → Q xs → Q (shown told f xs)
+  show_keeps : (xs : List X) → Q xs → Q (frames_shown told f xs)
   show_keeps xs q = by f.show
     where
       by : (o : Option Finder) → Q (option_map_or (λ find. filter (λ x. finds_frame find (told x)) xs) o xs)
@@ -54,7 +54,7 @@ module _ {X : Type 0} (told : X → Written) (f : Finders) (Q : List X → Type 
       by None = q
       by (Some find) = from (position (λ x. finds_function find (told x)) xs)
 
-  shortening_keeps : (xs : List X) → Q xs → IfSome (shortened told f xs) Q
+  shortening_keeps : (xs : List X) → Q xs → IfSome (left_of_cut told f xs) Q
   shortening_keeps xs q = by (is_emptied xs (cut told f xs))
     where
       pruning : (o : Option (List X)) → IfSome o Q → IfSome (option_map (pruned_from told f) o) Q
@@ -69,6 +69,6 @@ module _ {X : Type 0} (told : X → Written) (f : Finders) (Q : List X → Type 
   pub filters_keep : (xs : List X) → Q xs → IfSome (filtered told f xs) Q
   filters_keep xs q = by (is_kept told f (load_pruned told f xs))
     where
-      by : (b : Bool) → IfSome (if b then shortened told f (load_pruned told f xs) else None) Q
+      by : (b : Bool) → IfSome (if b then left_of_cut told f (load_pruned told f xs) else None) Q
       by true = shortening_keeps (load_pruned told f xs) (load_keeps xs q)
       by false = tt

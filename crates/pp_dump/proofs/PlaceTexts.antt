@@ -15,7 +15,7 @@ use Rattle.pp_model.specs.Lookup.{text_number, text_at, text_of, function_with, 
 use Rattle.pp_model.specs.Frames.{lines_at, line_at}
 use Rattle.pp_model.specs.FrameTexts.{Written, written, written_line, written_lines, nameless}
 use Rattle.pp_share.specs.Described.{FunctionText, MappingText, LineText, LocationText, function_text, mapping_text, function_found, mapping_found, line_text, plus, start_of}
-use Rattle.pp_restack.specs.Stacks.{lines_of, cut_location}
+use Rattle.pp_restack.specs.Stacks.{lines_of_frames, cut_location}
 use Rattle.pp_dump.specs.Stacks.{PlaceText}
 use Rattle.pp_dump.proofs.StackGroups.{IsGroup}
 
@@ -120,7 +120,7 @@ module _ (p : Profile) (empty : text_at p 0 ≡ []) where
 
   -- frames of one location that have lines
   group_lines : (k : ℕ) (group : List Frame) → AllByRecursion (λ g. (k ≡ g.location) × HasLine g) group
-      → map (written p) group ≡ map (frame_text (location_at p k).address (mapping_found p (location_at p k).mapping_id)) (map (line_text (function_found p)) (lines_of p group))
+      → map (written p) group ≡ map (frame_text (location_at p k).address (mapping_found p (location_at p k).mapping_id)) (map (line_text (function_found p)) (lines_of_frames p group))
   group_lines k [] all = refl
   group_lines k (g ∷ group) all =
       let F = frame_text (location_at p k).address (mapping_found p (location_at p k).mapping_id) in
@@ -129,7 +129,7 @@ module _ (p : Profile) (empty : text_at p 0 ≡ []) where
       let first : written p g ≡ F (line_text (function_found p) line) =
       ap (λ (n : ℕ). written_by p (location_at p n) (line_at p g)) (sym all.0.0) ∙ ap (written_by p (location_at p k)) at ∙ line_is (location_at p k) line in
       (λ i. first i ∷ group_lines k group all.1 i)
-      ∙ ap (λ (o : Option Line). map F (map (line_text (function_found p)) (cons_option o (lines_of p group)))) (sym at)
+      ∙ ap (λ (o : Option Line). map F (map (line_text (function_found p)) (cons_option o (lines_of_frames p group)))) (sym at)
 
   -- The frames of a group are those of its location's lines that are left.
   pub group_frames : (group : List Frame) → IsGroup p group
@@ -145,21 +145,21 @@ module _ (p : Profile) (empty : text_at p 0 ≡ []) where
 
       -- a frame without a line
       one : (rest : List Frame) → AllByRecursion (λ g. IsFrameOf p g × ((f.location ≡ g.location) × (lines_at p f.location ≢ []))) rest → lines_at p f.location ≡ [] → line_at p f ≡ None
-          → map (written p) (f ∷ rest) ≡ F (map (line_text (function_found p)) (lines_of p (f ∷ rest)))
+          → map (written p) (f ∷ rest) ≡ F (map (line_text (function_found p)) (lines_of_frames p (f ∷ rest)))
       one [] all none at =
           ap (λ (o : Option Line). written_by p l o ∷ []) at ∙ nameless_is l
           ∙ ap (λ (o : Option Line). F (map (line_text (function_found p)) (cons_option o []))) (sym at)
       one (g ∷ rest) all none at = absurd (all.0.1.1 none)
 
       by : (row : Option ℕ) → f.row ≡ row → IsRowOf (lines_at p f.location) row
-          → map (written p) (f ∷ group) ≡ F (map (line_text (function_found p)) (lines_of p (f ∷ group)))
+          → map (written p) (f ∷ group) ≡ F (map (line_text (function_found p)) (lines_of_frames p (f ∷ group)))
       by None at none = one group is.1 none (ap (option_and_then (λ r. slice_get (lines_at p f.location) r)) at)
       by (Some r) at within =
           let some : lines_at p f.location ≢ [] = λ none. absurd (omega (arith, within, ap length none)) in
           let here = has_line f is.0 some in
           group_lines f.location (f ∷ group) ((refl, here), each group is.1)
-          ∙ lined l.address (mapping_found p l.mapping_id) (map (line_text (function_found p)) (lines_of p (f ∷ group))) (map (line_text (function_found p)) (lines_of p group)) (line_text (function_found p) here.0)
-          (ap (λ (o : Option Line). map (line_text (function_found p)) (cons_option o (lines_of p group))) here.1)
+          ∙ lined l.address (mapping_found p l.mapping_id) (map (line_text (function_found p)) (lines_of_frames p (f ∷ group))) (map (line_text (function_found p)) (lines_of_frames p group)) (line_text (function_found p) here.0)
+          (ap (λ (o : Option Line). map (line_text (function_found p)) (cons_option o (lines_of_frames p group))) here.1)
         where
           each : (gs : List Frame) → AllByRecursion (λ g. IsFrameOf p g × ((f.location ≡ g.location) × (lines_at p f.location ≢ []))) gs → AllByRecursion (λ g. (f.location ≡ g.location) × HasLine g) gs
           each [] all = tt

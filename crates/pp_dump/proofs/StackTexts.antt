@@ -28,7 +28,7 @@ use Rattle.pp_merge.proofs.WrittenPlaces.{location_there, mapping_there, lines_t
 use Rattle.pp_merge.proofs.WrittenValid.{texts_of_samples, seen_locations, valid_written}
 use Rattle.pp_restack.specs.Stacks.{by_place, cut_location, cut_text}
 use Rattle.pp_dump.specs.Saved.{cut_sample}
-use Rattle.pp_dump.specs.Stacks.{PlaceText, StackText, place_text, whole_place, left_place, whole_stack, left_stack, whole_stacks}
+use Rattle.pp_dump.specs.Stacks.{PlaceText, StackText, location_place, whole_place, left_place, whole_stack, left_stack, whole_stacks}
 use Rattle.pp_restack.proofs.CutValid.{text_zero}
 use Rattle.pp_dump.proofs.PlaceTexts.{place_of, place_with, written_lines_are, group_frames}
 use Rattle.pp_dump.proofs.StackGroups.{IsGroup, Coheres, are_groups, left_coheres}
@@ -59,8 +59,8 @@ module _ (c : Contents) (settled : IsSettled c) where
   place_back l there =
       let q : Profile = profile_of c in
       let w : Location = written_location c l in
-      ap (λ (o : Option Location). place_text q (unwrap_or o no_location) (option_map_or (λ location. written_lines q location location.line) o [])) (location_there c settled l there)
-      ∙ ap (place_text q w) (written_lines_are q first_empty w w.line)
+      ap (λ (o : Option Location). location_place q (unwrap_or o no_location) (option_map_or (λ location. written_lines q location location.line) o [])) (location_there c settled l there)
+      ∙ ap (location_place q w) (written_lines_are q first_empty w w.line)
       ∙ (λ i. place_with (mapping_there c settled l there i) w.address (lines_there c settled l there i) w.folded)
 
   -- The samples of a written profile.
@@ -94,7 +94,7 @@ module _ (p : Profile) (empty : text_at p 0 ≡ []) (starts : AllByRecursion (λ
       let l : Location = cut_location p group in
       let own : Option MappingText = mapping_found p l.mapping_id in
       let lines : List LineText = map (line_text (function_found p)) l.line in
-      ap (place_text p l) (group_frames p empty group is)
+      ap (location_place p l) (group_frames p empty group is)
       ∙ ap (λ (address : ℕ). place_with own address lines l.folded) (sym (plus_back l.address (start_of own) (cut_small group)))
       ∙ ap (λ (m : Option MappingText). place_with m (plus (less l.address (start_of own)) (start_of m)) lines l.folded) (sym (mappings_stay p starts again l.mapping_id))
 

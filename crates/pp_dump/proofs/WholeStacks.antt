@@ -27,8 +27,8 @@ use Rattle.pp_tags.specs.TagFilters.{filter_in_force, is_tag_kept, shown_labels}
 use Rattle.pp_count.specs.Seeing.{filtered_stack}
 use Rattle.pp_share.specs.Described.{label_text}
 use Rattle.pp_restack.specs.Places.{AreEntries, IsWithin, entry_in, without_id}
-use Rattle.pp_restack.specs.Stacks.{by_place, lines_of, cut_location}
-use Rattle.pp_dump.specs.Stacks.{place_text, whole_place, left_place, whole_stack, left_stack, whole_stacks, left_stacks}
+use Rattle.pp_restack.specs.Stacks.{by_place, lines_of_frames, cut_location}
+use Rattle.pp_dump.specs.Stacks.{location_place, whole_place, left_place, whole_stack, left_stack, whole_stacks, left_stacks}
 use Rattle.pp_model.specs.Finders.{no_finders}
 use Rattle.pp_restack.proofs.Grouping.{alone, joined}
 use Rattle.pp_restack.proofs.Placing.{entries_still, all_within_still}
@@ -63,7 +63,7 @@ none_cut p (f ∷ stack) = refl
 module _ (p : Profile) where
   -- the lines of frames that are read by their rows
   lines_read : (place location : ℕ) (lines : List Line) (d : Line) → (location_at p location).line ≡ lines → (ns : List ℕ) → AllByRecursion (λ n. n < length lines) ns
-      → lines_of p (map (row_frame place location) ns) ≡ map (λ r. get_or lines r d) ns
+      → lines_of_frames p (map (row_frame place location) ns) ≡ map (λ r. get_or lines r d) ns
   lines_read place location lines d is [] all = refl
   lines_read place location lines d is (n ∷ ns) all =
       (λ i. cons_option ((ap (λ ls. slice_get ls n) is ∙ slice_get-get_or lines n d all.0) i) (lines_read place location lines d is ns all.1 i))
@@ -118,8 +118,8 @@ module _ (p : Profile) where
         ap (map (written p)) (sym (append-nil (rows place (id - 1) lines)))
         ∙ frames_written p place (id ∷ []) numbered (All-cons (Contains (location_ids p)) id [] inside (All-nil (Contains (location_ids p))))
         ∙ append-nil (written_at p id) in
-        (λ i. place_text p (rows_located place (id - 1) lines refl i) (frames i))
-        ∙ ap (λ (o : Option Location). place_text p (unwrap_or o no_location) (written_at p id)) (sym found)
+        (λ i. location_place p (rows_located place (id - 1) lines refl i) (frames i))
+        ∙ ap (λ (o : Option Location). location_place p (unwrap_or o no_location) (written_at p id)) (sym found)
 
     -- the places of ids, one group each
     places_whole : (place : ℕ) (ids : List ℕ) → All (Contains (location_ids p)) ids → map (left_place p) (by_place (frames_from p place ids)) ≡ map (whole_place p) ids

@@ -94,15 +94,15 @@ abbrev pub number_value : ℤ → List ℕ → List ℕ
 number_value num unit = signed_decimal num ++ unit_end unit
 
 -- the value of a label: its text, or its number with the unit
-unfoldable pub label_value : Profile → Label → List ℕ
-label_value p label =
+unfoldable pub raw_label_value : Profile → Label → List ℕ
+raw_label_value p label =
     if has_text label then text_of p label.text
     else number_value label.num (text_of p label.num_unit)
 
 -- the line of a label
 abbrev pub label_line : Profile → Label → List ℕ
 label_line p label =
-    codes "    " ++ text_of p label.key ++ codes "=" ++ label_value p label ++ codes "\n"
+    codes "    " ++ text_of p label.key ++ codes "=" ++ raw_label_value p label ++ codes "\n"
 
 -- the line of a sample
 abbrev pub sample_line : Sample → List ℕ
@@ -133,8 +133,8 @@ function_words p None = codes "<unknown> "
 function_words p (Some f) = text_of p f.name ++ codes " " ++ text_of p f.filename
 
 -- where a function starts, 0 where none is known
-unfoldable pub start_of : Option Function → ℤ
-start_of function = option_map_or (λ f. f.start_line) function (pos 0)
+unfoldable pub first_line_of : Option Function → ℤ
+first_line_of function = option_map_or (λ f. f.start_line) function (pos 0)
 
 -- a column after a colon, where it isn't 0
 unfoldable pub column_word : ℤ → List ℕ
@@ -148,7 +148,7 @@ line_place line = codes ":" ++ signed_decimal line.line ++ column_word line.colu
 abbrev pub named_line : Profile → Option Function → Line → List ℕ
 named_line p function line =
     codes "        " ++ function_words p function ++ line_place line ++ codes " s="
-    ++ signed_decimal (start_of function) ++ codes "\n"
+    ++ signed_decimal (first_line_of function) ++ codes "\n"
 
 -- the line of a location's line
 abbrev pub line_line : Profile → Line → List ℕ

@@ -32,8 +32,8 @@ pub record StackText : Type 0 where
   pub labels : List LabelText
 
 -- the place of a location, with these frames
-abbrev pub place_text : Profile → Location → List Written → PlaceText
-place_text p location frames = record {
+abbrev pub location_place : Profile → Location → List Written → PlaceText
+location_place p location frames = record {
   mapping = mapping_found p location.mapping_id;
   address = location.address;
   folded = location.folded;
@@ -44,11 +44,11 @@ place_text p location frames = record {
 -- the place of the location with the id, as it stands
 abbrev pub whole_place : Profile → ℕ → PlaceText
 whole_place p id =
-    place_text p (unwrap_or (location_with p id) no_location) (written_at p id)
+    location_place p (unwrap_or (location_with p id) no_location) (written_at p id)
 
 -- the place of a group of frames, with these frames alone
 abbrev pub left_place : Profile → List Frame → PlaceText
-left_place p group = place_text p (cut_location p group) (map (written p) group)
+left_place p group = location_place p (cut_location p group) (map (written p) group)
 
 -- a sample of the profile as it stands, and its values
 abbrev pub whole_stack : Profile → Sample → StackText × List ℤ

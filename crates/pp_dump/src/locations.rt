@@ -5,7 +5,7 @@ ghost use Rattle.std.specs.Option.{option_copied};
 ghost use Rattle.pp_model.specs.Rules.{IsCompact};
 ghost use Rattle.pp_model.specs.Lookup.{function_with, place_read};
 ghost use Rattle.pp_units.specs.Numbers.{right_text};
-ghost use Rattle.pp_dump.specs.Raw.{locations_text, location_lines, location_line, place_word, mapping_word, line_line, named_line, line_place, function_words, start_of, column_word, mappings_text, mapping_line, range_word, file_words, flags_text};
+ghost use Rattle.pp_dump.specs.Raw.{locations_text, location_lines, location_line, place_word, mapping_word, line_line, named_line, line_place, function_words, first_line_of, column_word, mappings_text, mapping_line, range_word, file_words, flags_text};
 
 use crate::digits::{put_decimal, put_flag, put_hex, put_signed};
 use itoa::Buffer;
@@ -152,9 +152,9 @@ fn put_function_words(
     lines.extend(text_of(p, function.filename))
 }
 
-#[tactic(auto, unfolding(crate::specs::Raw::start_of))]
+#[tactic(auto, unfolding(crate::specs::Raw::first_line_of))]
 fn start_of(function: Option<&Function>) -> i64
-    ensures { result ≡ start_of (option_copied function.entry) }
+    ensures { result ≡ first_line_of (option_copied function.entry) }
 {
     match function {
         None => 0,

@@ -1,7 +1,7 @@
 //! The samples of the raw report.
 ghost use Rattle.std.specs.Prelude.{◌≡◌, ◌++◌, codes, IfOk};
 ghost use Rattle.std.specs.List.{flat_map};
-ghost use Rattle.pp_dump.specs.Raw.{samples_text, types_line, type_word, spaced, value_word, sample_line, sample_lines, id_word, label_line, label_value, number_value, unit_end};
+ghost use Rattle.pp_dump.specs.Raw.{samples_text, types_line, type_word, spaced, value_word, sample_line, sample_lines, id_word, label_line, raw_label_value, number_value, unit_end};
 
 use crate::digits::{put_decimal, put_right_signed, put_signed};
 use pp_base::{Memory, Text};
@@ -126,9 +126,9 @@ fn put_label(p: &Profile, label: &Label, lines: &mut Text) -> Result<(), Memory>
 }
 
 // The value of a label: its text, or its number with the unit.
-#[tactic(auto, unfolding(crate::specs::Raw::label_value))]
+#[tactic(auto, unfolding(crate::specs::Raw::raw_label_value))]
 fn put_label_value(p: &Profile, label: &Label, lines: &mut Text) -> Result<(), Memory>
-    ensures { IfOk result (λ _. lines.new ≡ lines.old ++ label_value p.now label.now) }
+    ensures { IfOk result (λ _. lines.new ≡ lines.old ++ raw_label_value p.now label.now) }
 {
     if has_text(label) {
         return lines.extend(text_of(p, label.text));

@@ -20,7 +20,7 @@ use Rattle.pp_share.specs.Described.{LabelText, label_text}
 use Rattle.pp_share.proofs.SampleKeyLemmas.{sum_by-map}
 use Rattle.pp_merge.proofs.NegatedLemmas.{all_then, label_then, still_valid}
 use Rattle.pp_build.specs.Said.{SaidSample, said_sample, said_samples}
-use Rattle.pp_edit.specs.Labels.{has_key, relabelled, relabelled_sample, said_without, without_label}
+use Rattle.pp_edit.specs.Labels.{is_keyed_by, relabelled, relabelled_sample, said_without, without_label}
 use Rattle.pp_edit.proofs.StayingLemmas.{begins_still, stack_same, label_same}
 
 -- a list that may have one item more
@@ -39,25 +39,25 @@ module _ (p : Profile) (valid : NoRuleFails p) (texts : List (List ℕ)) (front 
 
   -- the labels of other keys say the same
   kept_same : (xs : List Label) → AllByRecursion (λ l. label_has_texts p l ≡ true) xs
-      → map (label_text (text_of more)) (filter (λ l. not (has_key more key l)) xs)
+      → map (label_text (text_of more)) (filter (λ l. not (is_keyed_by more key l)) xs)
       ≡ filter (λ l. not (bytes_eq key l.key)) (map (label_text (text_of p)) xs)
   kept_same [] all = refl
   kept_same (x ∷ xs) all =
-      kept_next (label_text (text_of more)) (not (has_key more key x)) x (filter (λ l. not (has_key more key l)) xs)
+      kept_next (label_text (text_of more)) (not (is_keyed_by more key x)) x (filter (λ l. not (is_keyed_by more key l)) xs)
       ∙ (λ i. cond (not (bytes_eq key (label_same p valid texts front x all.0 i).key)) (label_same p valid texts front x all.0 i ∷ kept_same xs all.1 i) (kept_same xs all.1 i))
 
   sample_said : (s : Sample) → list_all (label_has_texts p) s.label ≡ true
-      → said_sample (relabelled more key labels) (relabelled_sample (has_key more key) labels s) ≡ said_labels key (map (label_text (text_of more)) labels) (said_sample p s)
+      → said_sample (relabelled more key labels) (relabelled_sample (is_keyed_by more key) labels s) ≡ said_labels key (map (label_text (text_of more)) labels) (said_sample p s)
   sample_said s has = λ i. record {
     stack = stack_same p valid texts front s.location_id i;
     values = s.value;
     labels =
-        (map-append (label_text (text_of more)) (filter (λ l. not (has_key more key l)) s.label) labels
+        (map-append (label_text (text_of more)) (filter (λ l. not (is_keyed_by more key l)) s.label) labels
         ∙ ap (λ kept. kept ++ map (label_text (text_of more)) labels) (kept_same s.label (recursion_from_All (λ l. label_has_texts p l ≡ true) s.label (AllPass-from_list_all (label_has_texts p) s.label has)))) i;
   }
 
   samples_said : (ss : List Sample) → AllByRecursion (λ s. list_all (label_has_texts p) s.label ≡ true) ss
-      → map (said_sample (relabelled more key labels)) (map (relabelled_sample (has_key more key) labels) ss) ≡ map (said_labels key (map (label_text (text_of more)) labels)) (map (said_sample p) ss)
+      → map (said_sample (relabelled more key labels)) (map (relabelled_sample (is_keyed_by more key) labels) ss) ≡ map (said_labels key (map (label_text (text_of more)) labels)) (map (said_sample p) ss)
   samples_said [] all = refl
   samples_said (s ∷ ss) all = (λ i. sample_said s all.0 i ∷ samples_said ss all.1 i)
 
@@ -69,14 +69,14 @@ module _ (p : Profile) (valid : NoRuleFails p) (texts : List (List ℕ)) (front 
   -- No rule fails, where the labels' texts are there.
   pub relabelled_valid : list_all (label_has_texts more) labels ≡ true → NoRuleFails (relabelled more key labels)
   relabelled_valid own = still_valid p texts f valid (begins_still p valid texts front) longer (λ s. refl) (λ s. refl)
-      (λ s all. list_all-append (label_has_texts more) (filter (λ l. not (has_key more key l)) s.label) labels
-      ∙ and_from _ _ (list_all-from_AllPass (label_has_texts more) (filter (λ l. not (has_key more key l)) s.label)
-      (All-filter (λ l. not (has_key more key l)) (λ l. label_has_texts more l ≡ true) s.label
+      (λ s all. list_all-append (label_has_texts more) (filter (λ l. not (is_keyed_by more key l)) s.label) labels
+      ∙ and_from _ _ (list_all-from_AllPass (label_has_texts more) (filter (λ l. not (is_keyed_by more key l)) s.label)
+      (All-filter (λ l. not (is_keyed_by more key l)) (λ l. label_has_texts more l ≡ true) s.label
       (AllPass-from_list_all (label_has_texts more) s.label
       (all_then (label_has_texts p) (label_has_texts more) (label_then p texts f valid (begins_still p valid texts front) longer (λ t. refl) (λ t. refl)) s.label all)))) own)
     where
       f : Sample → Sample
-      f = relabelled_sample (has_key more key) labels
+      f = relabelled_sample (is_keyed_by more key) labels
 
       longer : length p.text ≤ length texts
       longer = omega (arith, ap length front.1, length-append p.text front.0)
@@ -84,10 +84,10 @@ module _ (p : Profile) (valid : NoRuleFails p) (texts : List (List ℕ)) (front 
   -- Values stay as they are.
   pub relabelled_countable : IsCountable p → IsCountable (relabelled more key labels)
   relabelled_countable countable = record {
-    samples = omega (arith, countable.samples, length-map p.sample (relabelled_sample (has_key more key) labels));
+    samples = omega (arith, countable.samples, length-map p.sample (relabelled_sample (is_keyed_by more key) labels));
     columns = countable.columns;
     sums = λ column within.
-        omega (arith, countable.sums column within, sum_by-map (λ s. nat_abs (value_in s column)) (relabelled_sample (has_key more key) labels) p.sample);
+        omega (arith, countable.sums column within, sum_by-map (λ s. nat_abs (value_in s column)) (relabelled_sample (is_keyed_by more key) labels) p.sample);
   }
 
   -- Ids stay places plus 1, and texts that differ stay so.
@@ -107,7 +107,7 @@ own_front xs = ([], sym (append-nil xs))
 module _ (p : Profile) (key : List ℕ) where
   -- no labels are put behind the others
   pub without_is : relabelled p key [] ≡ without_label p key
-  without_is = λ i. record p { sample = map (λ (s : Sample). record s { label = append-nil (filter (λ l. not (has_key p key l)) s.label) i }) p.sample }
+  without_is = λ i. record p { sample = map (λ (s : Sample). record s { label = append-nil (filter (λ l. not (is_keyed_by p key l)) s.label) i }) p.sample }
 
   pub without_said : NoRuleFails p → said_samples (without_label p key) ≡ map (said_without key) (said_samples p)
   without_said valid =

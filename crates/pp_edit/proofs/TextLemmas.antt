@@ -18,14 +18,14 @@ use Rattle.pp_model.specs.Lookup.{text_number}
 use Rattle.pp_model.proofs.FirstSightLemmas.{apart_seen_after, place-seen_after, place_when_seen, seen_now}
 use Rattle.pp_share.proofs.DistinctLemmas.{deciding_laws, place_below}
 use Rattle.pp_share.specs.Described.{LabelText}
-use Rattle.pp_edit.specs.Keys.{IsKeyOf, names}
-use Rattle.pp_edit.specs.Labels.{has_key, relabelled, relabelled_sample}
+use Rattle.pp_edit.specs.Keys.{AreKeyVerdicts, names_key}
+use Rattle.pp_edit.specs.Labels.{is_keyed_by, relabelled, relabelled_sample}
 
 -- the profile as it is relabelled by verdicts on its texts
-pub relabelled_is : (p : Profile) (key : List ℕ) (k : _) (labels : List Label) (texts : List (List ℕ)) (samples : List Sample) → texts ≡ p.text → IsKeyOf texts key k
-    → samples ≡ map (relabelled_sample (names k) labels) p.sample → record p { sample = samples } ≡ relabelled p key labels
+pub relabelled_is : (p : Profile) (key : List ℕ) (k : _) (labels : List Label) (texts : List (List ℕ)) (samples : List Sample) → texts ≡ p.text → AreKeyVerdicts texts key k
+    → samples ≡ map (relabelled_sample (names_key k) labels) p.sample → record p { sample = samples } ≡ relabelled p key labels
 relabelled_is p key k labels texts samples same is are =
-    let verdicts : names k ≡ has_key p key =
+    let verdicts : names_key k ≡ is_keyed_by p key =
     (λ i label. get_or (is.texts i) (text_number label.key) (is.past i))
     ∙ (λ i label. get_or (map (bytes_eq key) (same i)) (text_number label.key) (bytes_eq key []))
     ∙ (λ i label. get_or-map (bytes_eq key) p.text (text_number label.key) [] i) in

@@ -6,10 +6,10 @@ use Rattle.pp_model.specs.Lookup.{text_number}
 use Rattle.pp_edit.specs.declared.key.Key.{Key}
 
 -- The verdicts are those of these texts on this key.
-pub record IsKeyOf (all : List (List ℕ)) (key : List ℕ) (k : Key) : Type 0 where
+pub record AreKeyVerdicts (all : List (List ℕ)) (key : List ℕ) (k : Key) : Type 0 where
   pub texts : k.texts ≡ map (bytes_eq key) all
   pub past : k.past ≡ bytes_eq key []
 
 -- the verdict on the text of the label's key
-abbrev pub names : Key → Label → Bool
-names k label = slice_index_or k.texts (text_number label.key) k.past
+abbrev pub names_key : Key → Label → Bool
+names_key k label = slice_index_or k.texts (text_number label.key) k.past

@@ -13,20 +13,20 @@ use Rattle.pp_tags.specs.Labels.{has_text}
 use Rattle.pp_build.specs.Said.{SaidSample}
 
 -- the label's key is this text
-abbrev pub has_key : Profile → List ℕ → Label → Bool
-has_key p key label = bytes_eq key (text_of p label.key)
+abbrev pub is_keyed_by : Profile → List ℕ → Label → Bool
+is_keyed_by p key label = bytes_eq key (text_of p label.key)
 
 -- one of the sample's labels is a text label of this key and this text
 abbrev pub has_label : Profile → List ℕ → List ℕ → Sample → Bool
 has_label p key text s =
-    list_any (λ label. has_text label && (has_key p key label && bytes_eq text (text_of p label.text))) s.label
+    list_any (λ label. has_text label && (is_keyed_by p key label && bytes_eq text (text_of p label.text))) s.label
 
 -- one of the sample's labels is a number label of this key, number and unit
 abbrev pub has_number : Profile → List ℕ → ℤ → List ℕ → Sample → Bool
 has_number p key num unit s =
     list_any
     (λ label. not (has_text label)
-    && (has_key p key label && (int_eq num label.num && bytes_eq unit (text_of p label.num_unit))))
+    && (is_keyed_by p key label && (int_eq num label.num && bytes_eq unit (text_of p label.num_unit))))
     s.label
 
 -- the sample with these labels behind those of other keys
@@ -36,24 +36,24 @@ relabelled_sample goes labels s =
 
 -- the profile whose samples have these labels behind those of other keys
 abbrev pub relabelled : Profile → List ℕ → List Label → Profile
-relabelled p key labels = record p { sample = map (relabelled_sample (has_key p key) labels) p.sample }
+relabelled p key labels = record p { sample = map (relabelled_sample (is_keyed_by p key) labels) p.sample }
 
 -- the sample without labels of the key
 abbrev pub sample_without : Profile → List ℕ → Sample → Sample
-sample_without p key s = record s { label = filter (λ label. not (has_key p key label)) s.label }
+sample_without p key s = record s { label = filter (λ label. not (is_keyed_by p key label)) s.label }
 
 -- the profile whose samples have no label of the key
 abbrev pub without_label : Profile → List ℕ → Profile
 without_label p key = record p { sample = map (sample_without p key) p.sample }
 
 -- the three texts of the label
-abbrev pub texts_of : LabelText → List (List ℕ)
-texts_of l = l.key ∷ l.text ∷ l.unit ∷ []
+abbrev pub texts_of_label : LabelText → List (List ℕ)
+texts_of_label l = l.key ∷ l.text ∷ l.unit ∷ []
 
 -- The profile with the texts of the label: each stands where it stood, and a new one behind the others.
 abbrev pub with_texts_of : Profile → LabelText → Profile
 with_texts_of p l =
-    record p { text = seen_after bytes_eq p.text (texts_of l) }
+    record p { text = seen_after bytes_eq p.text (texts_of_label l) }
 
 -- the label, as these texts are numbered
 abbrev pub label_in : List (List ℕ) → LabelText → Label

@@ -2,7 +2,7 @@
 ghost use Rattle.std.specs.Prelude.{◌≡◌, bytes_eq, codes, find};
 ghost use Rattle.std.specs.Option.{option_copied};
 ghost use Rattle.pp_model.specs.Lookup.{text_of};
-ghost use Rattle.pp_edit.specs.Labels.{has_key, has_label};
+ghost use Rattle.pp_edit.specs.Labels.{is_keyed_by, has_label};
 
 use pp_model::{Label, Profile, Sample, text_of};
 use pp_tags::has_text;
@@ -18,7 +18,7 @@ pub fn has_label(p: &Profile, sample: &Sample, key: &[u8], text: &[u8]) -> bool
 
 /// The first label of the sample with this key, be it a text label or a number label.
 pub fn find_label<'a>(p: &Profile, sample: &'a Sample, key: &[u8]) -> Option<&'a Label>
-    ensures { option_copied result ≡ find (has_key p.now key.now) sample.now.label }
+    ensures { option_copied result ≡ find (is_keyed_by p.now key.now) sample.now.label }
 {
     sample
         .label
@@ -36,7 +36,7 @@ pub fn is_of_base(p: &Profile, sample: &Sample) -> bool
 }
 
 fn has_key(p: &Profile, key: &[u8], label: &Label) -> bool
-    ensures { result ≡ has_key p.now key.now label.now }
+    ensures { result ≡ is_keyed_by p.now key.now label.now }
 {
     is_text(p, key, label.key)
 }

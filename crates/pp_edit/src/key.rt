@@ -1,6 +1,6 @@
 //! The key of labels that are taken off.
 ghost use Rattle.std.specs.Prelude.{◌≡◌, IfOk};
-ghost use Rattle.pp_edit.specs.Keys.{IsKeyOf, names};
+ghost use Rattle.pp_edit.specs.Keys.{AreKeyVerdicts, names_key};
 
 use pp_base::{List, Memory, Text};
 use pp_model::Label;
@@ -17,7 +17,7 @@ pub struct Key {
 
 // The key among these texts.
 pub fn key_in(alloc: Global, texts: &[Text], key: &[u8]) -> Result<Key, Memory>
-    ensures { IfOk result (λ k. IsKeyOf texts.now key.now k) }
+    ensures { IfOk result (λ k. AreKeyVerdicts texts.now key.now k) }
 {
     let mut are = List::from_vec(Vec::with_capacity(alloc, texts.len())?);
     for text in texts {
@@ -32,7 +32,7 @@ pub fn key_in(alloc: Global, texts: &[Text], key: &[u8]) -> Result<Key, Memory>
 impl Key {
     // Whether it is the key of the label.
     pub fn is_of(&self, label: &Label) -> bool
-        ensures { result ≡ names self.now label.now }
+        ensures { result ≡ names_key self.now label.now }
     {
         let place = if label.key < 0 { 0 } else { label.key as usize };
         match self.texts.as_slice().get(place) {

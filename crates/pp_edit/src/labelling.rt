@@ -6,7 +6,7 @@ ghost use Rattle.pp_model.specs.FirstSight.{seen_after};
 ghost use Rattle.pp_model.specs.Rules.{IsCompact};
 ghost use Rattle.pp_model.specs.Sizes.{IsCountable};
 ghost use Rattle.pp_build.specs.Said.{said_samples};
-ghost use Rattle.pp_edit.specs.Keys.{names};
+ghost use Rattle.pp_edit.specs.Keys.{names_key};
 ghost use Rattle.pp_edit.specs.Labels.{has_label, has_number, label_in, number_label, relabelled, relabelled_sample, said_with, said_without, text_label, with_label, without_label};
 
 use crate::key::{Key, key_in};
@@ -128,7 +128,7 @@ fn relabel_each(
     labels: &[Label],
 ) -> Result<(), Memory>
     ensures { OnOk result
-        (samples.new ≡ map (relabelled_sample (names key.now) labels.now) samples.old) }
+        (samples.new ≡ map (relabelled_sample (names_key key.now) labels.now) samples.old) }
 {
     for place in 0..samples.len() {
         let sample = samples.item_mut(place);
@@ -140,7 +140,7 @@ fn relabel_each(
 
 // Takes the labels of the key out. It takes no memory.
 fn drop_labels(alloc: Global, labels: &mut List<Label>, key: &Key)
-    ensures { labels.new ≡ filter (λ label. not (names key.now label)) labels.old }
+    ensures { labels.new ≡ filter (λ label. not (names_key key.now label)) labels.old }
 {
     let mut kept = mem::replace(labels, List::new(alloc)).into_vec();
     kept.retain(|label| !key.is_of(label));

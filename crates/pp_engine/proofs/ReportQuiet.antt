@@ -21,7 +21,7 @@ use Rattle.pp_report.specs.Patterns.{ask_patterns}
 use Rattle.pp_report.specs.Prepared.{Showing, prepare_counts, prepare_showing, showing_for, prepare_on, prepare}
 use Rattle.pp_report.specs.Reports.{list_text, text_by, finish_on, finish}
 use Rattle.pp_report.specs.Tagged.{basis_of}
-use Rattle.pp_source.specs.Files.{files_of}
+use Rattle.pp_source.specs.Files.{files_of_lines}
 use Rattle.pp_source.specs.declared.source.Source.{Source}
 use Rattle.pp_source.specs.declared.source.TheConstants.{SOURCE_LIMIT}
 use Rattle.pp_source.specs.Listing.{or_next, first_present, source_in, source_of, read_sources, list_lines, list_found, list_report}
@@ -84,7 +84,7 @@ module _ (test : Step → Bool) where
 
     only_lines : (config : Config) (samples : List (Seen Written)) (h : Facts) (lines : List Written) → Only test (list_lines config samples h lines)
     unfolding list_lines
-    only_lines config samples h lines = only_then test (read_sources config [] (files_of lines)) _ (only_sources config [] (files_of lines)) (λ sources. tt)
+    only_lines config samples h lines = only_then test (read_sources config [] (files_of_lines lines)) _ (only_sources config [] (files_of_lines lines)) (λ sources. tt)
 
     only_found : (config : Config) (samples : List (Seen Written)) (h : Facts) (lines : List Written) → Only test (list_found config samples h lines)
     unfolding list_found

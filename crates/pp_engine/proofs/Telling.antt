@@ -14,7 +14,7 @@ use Rattle.pp_model.specs.declared.loaded.Loaded.{Loaded}
 use Rattle.pp_model.specs.declared.report.Report.{Report}
 use Rattle.pp_report.specs.declared.refusal.ReportRefusal.{ReportRefusal}
 use Rattle.pp_report.specs.Prepared.{Settled, prepare}
-use Rattle.pp_report.specs.Reports.{Reported, reported_with, finish, report_settled, report_of}
+use Rattle.pp_report.specs.Reports.{Reported, reported_with, finish, report_settled, report_script}
 use Rattle.pp_engine.specs.Reporting.{Finds, Tells, note_and_finish, noted_report}
 use Rattle.pp_engine.proofs.Courses.{AreReads, joined, rest_of, course_both, only_reads, outs_none, errs_none, files_same, outs_more, errs_more, files_more}
 use Rattle.pp_engine.proofs.ReportQuiet.{prepare_looks, prepare_writes_nothing, finish_looks, finish_writes_nothing}
@@ -52,8 +52,8 @@ module _ (finds : Finds) (l : Loaded) (report : Report) (config : Config) (files
       })
 
   -- What the session tells of a report is what the report comes to.
-  pub tells_report : (answers : List Answer) → Tells (course (noted_report finds l report config) files locked lines answers) (course (report_of finds l report config) files locked lines answers)
-  unfolding noted_report report_of
+  pub tells_report : (answers : List Answer) → Tells (course (noted_report finds l report config) files locked lines answers) (course (report_script finds l report config) files locked lines answers)
+  unfolding noted_report report_script
   tells_report answers =
       let before = course (prepare finds l report config) files locked lines answers in
       let none : AreReads before.effects = only_reads (prepare finds l report config) files locked lines answers (prepare_writes_nothing finds l report config) in

@@ -21,7 +21,7 @@ use Rattle.pp_options.specs.Words.{Request}
 use Rattle.pp_options.specs.Words as options
 use Rattle.pp_report.specs.declared.refusal.ReportRefusal.{ReportRefusal}
 use Rattle.pp_report.specs.Prepared.{Settled, prepare}
-use Rattle.pp_report.specs.Reports.{report_of}
+use Rattle.pp_report.specs.Reports.{report_script}
 use Rattle.pp_engine.specs.declared.ending.Outcome.{Outcome}
 use Rattle.pp_engine.specs.declared.ending.Outcome.TheVariants as outcomes
 use Rattle.pp_engine.specs.Plans.{plan_of}
@@ -53,11 +53,11 @@ module _ (finds : Finds) (files : FileMap) (locked : List (List ℕ)) (lines : L
   noted_looks l report config = only_then only_looks (prepare finds l report config) (note_and_finish finds l report config) (prepare_looks finds l report config) (settled_looks l report config)
 
   noted_value : (l : Loaded) (report : Report) (config : Config) (answers : List Answer)
-      → (course (noted_report finds l report config) files locked lines answers).value ≡ (course (report_of finds l report config) files locked lines answers).value.outcome
+      → (course (noted_report finds l report config) files locked lines answers).value ≡ (course (report_script finds l report config) files locked lines answers).value.outcome
   noted_value l report config answers = (tells_report finds l report config files locked lines answers).outcome
 
   report_done : (l : Loaded) (report : Report) (config : Config) (answers : List Answer)
-      → is_ok (course (report_of finds l report config) files locked lines answers).value.outcome ≡ true → (course (report_once finds l report config) files locked lines answers).value ≡ outcomes.Done
+      → is_ok (course (report_script finds l report config) files locked lines answers).value.outcome ≡ true → (course (report_once finds l report config) files locked lines answers).value ≡ outcomes.Done
   unfolding report_once
   report_done l report config answers ok =
       course_then (noted_report finds l report config) (end_report report) files locked lines answers (noted_looks l report config)

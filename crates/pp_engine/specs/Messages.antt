@@ -7,20 +7,20 @@ use Rattle.pp_shell.specs.declared.fault.LineFault.{LineFault}
 use Rattle.pp_shell.specs.declared.fault.LineFault.TheVariants.{UnknownCommand, BadAssignment, MissingArgument, EmptyRedirect, PipeNotServed, LineTooLong}
 
 -- what is wrong with a word
-unfoldable pub kind_text : UsageKind → List ℕ
-kind_text UnknownOption = codes "unknown option\n"
-kind_text BadValue = codes "bad value\n"
-kind_text MissingValue = codes "missing value\n"
-kind_text TwoFormats = codes "two formats\n"
-kind_text NoSource = codes "no source\n"
-kind_text TooMany = codes "too many sources\n"
-kind_text BaseTwice = codes "both -base and -diff_base\n"
-kind_text NormalizeAlone = codes "-normalize without a base\n"
+unfoldable pub usage_text : UsageKind → List ℕ
+usage_text UnknownOption = codes "unknown option\n"
+usage_text BadValue = codes "bad value\n"
+usage_text MissingValue = codes "missing value\n"
+usage_text TwoFormats = codes "two formats\n"
+usage_text NoSource = codes "no source\n"
+usage_text TooMany = codes "too many sources\n"
+usage_text BaseTwice = codes "both -base and -diff_base\n"
+usage_text NormalizeAlone = codes "-normalize without a base\n"
 
 -- the line on the first word that is wrong
 unfoldable pub usage_line : UsageFault → List ℕ
 usage_line fault =
-    (codes "pprof: word " ++ decimal fault.word) ++ (codes ": " ++ kind_text fault.kind)
+    (codes "pprof: word " ++ decimal fault.word) ++ (codes ": " ++ usage_text fault.kind)
 
 -- the line on a line of the shell
 unfoldable pub line_fault_line : LineFault → List ℕ

@@ -35,8 +35,8 @@ pub record TakesFront (most : ℕ) (old new : Option (List ℕ)) : Type 0 where
   pub front : old ≡ before taken new
 
 -- how often the objects have failed
-abbrev pub faults : ℕ → ℕ → ℕ → ℕ → Faults
-faults file input out err = record { file = file; input = input; out = out; err = err }
+abbrev pub fault_counts : ℕ → ℕ → ℕ → ℕ → Faults
+fault_counts file input out err = record { file = file; input = input; out = out; err = err }
 
 -- A run of a session's script: it went some way to a moment `mid`, and its result alone decides how
 -- the run ended. After that moment at most a front of the line of its stop was told, whatever

@@ -24,8 +24,8 @@ unfoldable pub prompt : List ℕ
 prompt = codes "(pprof) "
 
 -- what stands behind the last prompt
-unfoldable pub line_end : List ℕ
-line_end = codes "\n"
+unfoldable pub prompt_end : List ℕ
+prompt_end = codes "\n"
 
 -- the two lines of help
 unfoldable pub help : List ℕ
@@ -83,7 +83,7 @@ follow finds l config TooLong = do
   _ ← complain LineTooLong
   Give (going_on config)
 follow finds l config End = do
-  _ ← write_out line_end
+  _ ← write_out prompt_end
   Give (ending config outcomes.Done)
 follow finds l config InputTooLong = do
   _ ← write_err input_too_long_line

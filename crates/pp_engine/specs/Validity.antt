@@ -11,7 +11,7 @@ use Rattle.pp_model.specs.declared.report.Report.{Report}
 use Rattle.pp_load.specs.declared.refusal.LoadRefusal.{LoadRefusal}
 use Rattle.pp_load.specs.Load.{load}
 use Rattle.pp_options.specs.declared.plan.Plan.{Plan}
-use Rattle.pp_report.specs.Reports.{report_of}
+use Rattle.pp_report.specs.Reports.{report_script}
 use Rattle.pp_engine.specs.declared.ending.Outcome.{Outcome}
 use Rattle.pp_engine.specs.declared.ending.Outcome.TheVariants as outcomes
 use Rattle.pp_engine.specs.Reporting.{Finds}
@@ -27,7 +27,7 @@ is_too_long outcome = false
 abbrev pub is_served : Finds → Config → Option Report → Loaded → FileMap → List (List ℕ)
     → List InputLine → List Answer → Bool
 is_served finds config (Some report) l files locked lines answers =
-    is_ok (course (report_of finds l report config) files locked lines answers).value.outcome
+    is_ok (course (report_script finds l report config) files locked lines answers).value.outcome
 is_served finds config None l files locked lines answers =
     not (is_too_long (course (shell finds l config) files locked lines answers).value)
 
@@ -39,8 +39,8 @@ is_loaded finds plan (Ok l) files locked lines answers =
 is_loaded finds plan (Err refusal) files locked lines answers = false
 
 -- the answers that are left after some patterns were asked
-abbrev pub left_after : {T : Type 0} → Course T → List Answer → List Answer
-left_after c answers = drop (length c.asked) answers
+abbrev pub answers_left : {T : Type 0} → Course T → List Answer → List Answer
+answers_left c answers = drop (length c.asked) answers
 
 -- so it is of a plan
 abbrev pub is_valid_plan : Finds → Option Plan → FileMap → List (List ℕ) → List InputLine
@@ -48,7 +48,7 @@ abbrev pub is_valid_plan : Finds → Option Plan → FileMap → List (List ℕ)
 is_valid_plan finds None files locked lines answers = false
 is_valid_plan finds (Some plan) files locked lines answers =
     let loading = course (load finds plan) files locked lines answers in
-    is_loaded finds plan loading.value files locked lines (left_after loading answers)
+    is_loaded finds plan loading.value files locked lines (answers_left loading answers)
 
 -- The run of these words is valid, over files, locked paths, standard input and the matcher's
 -- answers before and after it; it is so only where all of these are told.

@@ -1,6 +1,6 @@
 // The lines that the session itself tells on standard error.
 ghost use Rattle.std.specs.Prelude.{◌≡◌, ◌++◌, IfOk};
-ghost use Rattle.pp_engine.specs.Messages.{kind_text, usage_line, line_fault_line, locked_line, input_too_long_line};
+ghost use Rattle.pp_engine.specs.Messages.{usage_text, usage_line, line_fault_line, locked_line, input_too_long_line};
 
 use itoa::Buffer;
 use pp_base::{Memory, Text};
@@ -22,9 +22,9 @@ pub fn usage_line(alloc: Global, fault: UsageFault) -> Result<Text, Memory>
     Ok(line)
 }
 
-#[tactic(auto, unfolding(crate::specs::Messages::kind_text))]
+#[tactic(auto, unfolding(crate::specs::Messages::usage_text))]
 fn kind_text(kind: UsageKind) -> &'static [u8]
-    ensures { result.now ≡ kind_text kind }
+    ensures { result.now ≡ usage_text kind }
 {
     match kind {
         UsageKind::UnknownOption => b"unknown option\n",

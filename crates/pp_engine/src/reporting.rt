@@ -10,7 +10,7 @@ ghost use Rattle.pp_model.specs.declared.loaded.Loaded.{Loaded};
 ghost use Rattle.pp_model.specs.declared.report.Report.{Report};
 ghost use Rattle.pp_model.specs.Sizes.{IsCountable};
 ghost use Rattle.pp_report.specs.Prepared.{IsPrepared, settled_by};
-ghost use Rattle.pp_report.specs.Reports.{report_of};
+ghost use Rattle.pp_report.specs.Reports.{report_script};
 ghost use Rattle.pp_engine.specs.Reporting.{Finds, Tells, noted_report, note_and_finish, report_once, report_on, end_report, end_with, hand_out_made, hand_out, save, tell_locked};
 
 use crate::ending::Outcome;
@@ -87,7 +87,7 @@ pub fn reports_are_told()
     ensures { (finds : Finds) (l : Loaded) (report : Report) (config : Config) (files : FileMap)
         (locked : List (List ℕ)) (lines : List InputLine) (answers : List Answer)
         → Tells (course (noted_report finds l report config) files locked lines answers)
-        (course (report_of finds l report config) files locked lines answers) }
+        (course (report_script finds l report config) files locked lines answers) }
 {}
 
 // The notes, and then the text: a list report reads files for it, and notes are told also where one of them fails.

@@ -7,7 +7,7 @@ ghost use Rattle.pp_desk.specs.Effects.{outside};
 ghost use Rattle.pp_engine.specs.Endings.{fault_line, status_of, stop_line};
 ghost use Rattle.pp_desk.specs.World.{HasTaken};
 ghost use Rattle.pp_desk.specs.declared.line_reader.TheConstants.{INPUT_LIMIT};
-ghost use Rattle.pp_engine.specs.Run.{Ran, TakesFront, told_at, faults};
+ghost use Rattle.pp_engine.specs.Run.{Ran, TakesFront, told_at, fault_counts};
 ghost use Rattle.pp_engine.specs.Session.{session, told_run, RanWhole, RanFront};
 ghost use Rattle.pp_engine.specs.Validity.{is_valid};
 ghost use Rattle.pp_engine.specs.Words.{Ends, starts_shell};
@@ -56,8 +56,8 @@ pub fn run<R: Threads + Sync, F: Files, I: Source, O: Sink, E: Sink, M: Matcher,
         (F.locked files.old) (I.left input.old) (M.answers matcher.old))
         (outside (O.written out.new) (E.written err.new) (F.content files.new) (F.reads files.new))
         (M.answers matcher.new) (I.left input.old) (I.left input.new)
-        (faults (F.faults files.old) (I.faults input.old) (O.faults out.old) (E.faults err.old))
-        (faults (F.faults files.new) (I.faults input.new) (O.faults out.new) (E.faults err.new))
+        (fault_counts (F.faults files.old) (I.faults input.old) (O.faults out.old) (E.faults err.old))
+        (fault_counts (F.faults files.new) (I.faults input.new) (O.faults out.new) (E.faults err.new))
         result.cause }
 
     // A fault is answered only where that object has failed in this call.
@@ -116,8 +116,8 @@ fn run_objects<R: Threads + Sync, F: Files, I: Source, O: Sink, E: Sink, M: Matc
         (F.locked files.old) (I.left input.old) (M.answers matcher.old))
         (outside (O.written out.new) (E.written err.new) (F.content files.new) (F.reads files.new))
         (M.answers matcher.new) (I.left input.old) (I.left input.new)
-        (faults (F.faults files.old) (I.faults input.old) (O.faults out.old) (E.faults err.old))
-        (faults (F.faults files.new) (I.faults input.new) (O.faults out.new) (E.faults err.new))
+        (fault_counts (F.faults files.old) (I.faults input.old) (O.faults out.old) (E.faults err.old))
+        (fault_counts (F.faults files.new) (I.faults input.new) (O.faults out.new) (E.faults err.new))
         result.cause }
     ensures unread { starts_shell words.now ≡ false → I.left input.new ≡ I.left input.old }
     ensures taken { TakesFront INPUT_LIMIT (I.left input.old) (I.left input.new) }

@@ -11,7 +11,7 @@ ghost use Rattle.pp_options.specs.Listing.{options_text};
 ghost use Rattle.pp_shell.specs.Lines.{line_command};
 ghost use Rattle.pp_engine.specs.Reporting.{Finds};
 ghost use Rattle.pp_engine.specs.declared.ending.Outcome.{Outcome};
-ghost use Rattle.pp_engine.specs.Shell.{shell, turn, follow, obey, obey_or_complain, complain, without_return, prompt, line_end, help};
+ghost use Rattle.pp_engine.specs.Shell.{shell, turn, follow, obey, obey_or_complain, complain, without_return, prompt, prompt_end, help};
 ghost use Rattle.pp_engine.specs.Turns.{turns};
 ghost use Rattle.pp_engine.specs.declared.ending.Outcome.TheVariants as outcomes;
 
@@ -127,9 +127,9 @@ fn follow<R: Threads + Sync, D: Desk, G: Gate>(
     }
 }
 
-#[tactic(auto, unfolding(crate::specs::Shell::line_end))]
+#[tactic(auto, unfolding(crate::specs::Shell::prompt_end))]
 fn line_end() -> &'static [u8]
-    ensures { result.now ≡ line_end }
+    ensures { result.now ≡ prompt_end }
 {
     b"\n"
 }

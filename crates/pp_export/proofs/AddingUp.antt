@@ -16,7 +16,7 @@ use Rattle.pp_count.specs.Seeing.{seen_samples}
 use Rattle.pp_count.specs.Sums.{Seen, flat, leads, sum_where, weighed}
 use Rattle.pp_graph.specs.Trimmed.{int_sum}
 use Rattle.pp_export.specs.Folded.{Path, has_sum, report_paths, all_paths}
-use Rattle.pp_export.specs.Laws.{has_frames, printed_paths, paths_sum, ends_with, LinesAddUp, LinesOfKeysAddUp}
+use Rattle.pp_export.specs.Laws.{has_names, printed_paths, paths_sum, ends_with, LinesAddUp, LinesOfKeysAddUp}
 use Rattle.pp_export.specs.Walked.{keys_to, path_to, paths_along}
 use Rattle.pp_calltree.proofs.ByKey.{first_passes, flats_where, flats_add_up, sum_where-same}
 use Rattle.pp_export.proofs.Paths.{paths_are}
@@ -68,7 +68,7 @@ filter-all : {X : Type 0} (xs : List X) → filter (λ x. true) xs ≡ xs
 filter-all [] = refl
 filter-all (x ∷ xs) = ap (λ r. x ∷ r) (filter-all xs)
 
-framed : (keys : List Written) → first_passes (λ k. true) keys ≡ has_frames keys
+framed : (keys : List Written) → first_passes (λ k. true) keys ≡ has_names keys
 framed [] = refl
 framed (k ∷ keys) = refl
 
@@ -86,8 +86,8 @@ pub lines_add_up : LinesAddUp
 lines_add_up p f config column =
     ap paths_sum (sym (filter-all (printed_paths p f config column)))
     ∙ report_sum (λ k. true) (λ path. true) (λ keys k sum. refl) p f config column
-    ∙ sum_where-same (first_passes (λ k. true)) has_frames framed (report_samples p f config column)
-    ∙ weighed_sum has_frames (seen_samples p f config column p.sample)
+    ∙ sum_where-same (first_passes (λ k. true)) has_names framed (report_samples p f config column)
+    ∙ weighed_sum has_names (seen_samples p f config column p.sample)
 
 led : (k : Written) (keys : List Written) → first_passes (eq_by_cmp key_cmp k) keys ≡ leads key_cmp k keys
 led k [] = refl

@@ -16,13 +16,13 @@ use Rattle.pp_graph.specs.Trim.{all_report_keys}
 use Rattle.pp_graph.specs.Trimmed.{IsWholeRanking}
 use Rattle.pp_graph.proofs.KeyRowLemmas.{rows_are}
 use Rattle.pp_export.specs.Laws.{LimitsCut}
-use Rattle.pp_export.specs.Table.{heading, row_line, rows_text, table_text}
+use Rattle.pp_export.specs.Table.{exact_heading, row_line, table_rows, exact_table}
 
 pub table_is : (l : Loaded) (v : Verdicts) (config : Config) (column : Option ℕ) (limit : ℕ) (f : Finders) (c : Counted) (t : Ranked) (unit : List ℕ)
     → IsCountedOf l v config column c → IsWholeRanking l v config column limit c t → HoldsFilters l v config f
-    → heading unit ++ rows_text (map (row_at l.profile c.sums) t.order) ≡ table_text l.profile f config column limit unit
+    → exact_heading unit ++ table_rows (map (row_at l.profile c.sums) t.order) ≡ exact_table l.profile f config column limit unit
 table_is l v config column limit f c t unit counted ranked holds =
-    ap (λ rows. heading unit ++ rows_text rows)
+    ap (λ rows. exact_heading unit ++ table_rows rows)
     (rows_are l.profile (report_samples l.profile f config column) c.sums t.order (counted.sums_are f holds) ranked.below
     ∙ ap (map (key_row (report_samples l.profile f config column))) (ranked.keys f holds))
 

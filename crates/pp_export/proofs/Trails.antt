@@ -7,19 +7,19 @@ use Rattle.std.proofs.lemmas.List.{take-append-drop, append-nil, take_all}
 use Rattle.std.proofs.lemmas.List.Concat.{flat_map-cons}
 use Rattle.pp_export.specs.declared.trail.Trail.{Trail}
 use Rattle.pp_export.specs.Escaped.{semicolon}
-use Rattle.pp_export.specs.Trail.{joined, name_text, names_text, ends_from, IsTrail}
+use Rattle.pp_export.specs.Trail.{joined_names, name_and_separator, names_text, ends_from, IsTrail}
 
 length-ends : (start : ℕ) (names : List (List ℕ)) → length (ends_from start names) ≡ length names
 length-ends start [] = refl
-length-ends start (name ∷ names) = ap suc (length-ends (start + length (name_text name)) names)
+length-ends start (name ∷ names) = ap suc (length-ends (start + length (name_and_separator name)) names)
 
 take-ends : (start d : ℕ) (names : List (List ℕ)) → take d (ends_from start names) ≡ ends_from start (take d names)
 take-ends start zero names = refl
 take-ends start (suc d) [] = refl
-take-ends start (suc d) (name ∷ names) = ap (λ r. (start + length (name_text name)) ∷ r) (take-ends (start + length (name_text name)) d names)
+take-ends start (suc d) (name ∷ names) = ap (λ r. (start + length (name_and_separator name)) ∷ r) (take-ends (start + length (name_and_separator name)) d names)
 
-length-names : (name : List ℕ) (names : List (List ℕ)) → length (names_text (name ∷ names)) ≡ length (name_text name) + length (names_text names)
-length-names name names = ap length (flat_map-cons name_text name names) ∙ length-append (name_text name) (names_text names)
+length-names : (name : List ℕ) (names : List (List ℕ)) → length (names_text (name ∷ names)) ≡ length (name_and_separator name) + length (names_text names)
+length-names name names = ap length (flat_map-cons name_and_separator name names) ∙ length-append (name_and_separator name) (names_text names)
 
 -- the place behind a name
 end_at : (start d other : ℕ) (names : List (List ℕ)) → d < length names
@@ -27,36 +27,36 @@ end_at : (start d other : ℕ) (names : List (List ℕ)) → d < length names
 end_at start d other [] within = absurd (omega (arith, within))
 end_at start zero other (name ∷ names) within = omega (arith, length-names name [])
 end_at start (suc d) other (name ∷ names) within =
-    omega (arith, end_at (start + length (name_text name)) d other names (omega (arith, within)), length-names name (take (suc d) names))
+    omega (arith, end_at (start + length (name_and_separator name)) d other names (omega (arith, within)), length-names name (take (suc d) names))
 
 ends_push : (start : ℕ) (names : List (List ℕ)) (name : List ℕ)
     → ends_from start (names ++ name ∷ []) ≡ ends_from start names ++ (start + length (names_text (names ++ name ∷ []))) ∷ []
-ends_push start [] name = ap (λ n. n ∷ []) (let same : start + length (name_text name) ≡ start + length (names_text (name ∷ [])) = omega (arith, length-names name []) in same)
+ends_push start [] name = ap (λ n. n ∷ []) (let same : start + length (name_and_separator name) ≡ start + length (names_text (name ∷ [])) = omega (arith, length-names name []) in same)
 ends_push start (first ∷ names) name =
-    ap (λ r. (start + length (name_text first)) ∷ r) (ends_push (start + length (name_text first)) names name
-    ∙ ap (λ n. ends_from (start + length (name_text first)) names ++ n ∷ [])
-    (let same : (start + length (name_text first)) + length (names_text (names ++ name ∷ [])) ≡ start + length (names_text (first ∷ (names ++ name ∷ [])))
+    ap (λ r. (start + length (name_and_separator first)) ∷ r) (ends_push (start + length (name_and_separator first)) names name
+    ∙ ap (λ n. ends_from (start + length (name_and_separator first)) names ++ n ∷ [])
+    (let same : (start + length (name_and_separator first)) + length (names_text (names ++ name ∷ [])) ≡ start + length (names_text (first ∷ (names ++ name ∷ [])))
     = omega (arith, length-names first (names ++ name ∷ [])) in same))
 
 -- the first names of the text
 take-text : (d : ℕ) (names : List (List ℕ)) → take (length (names_text (take d names))) (names_text names) ≡ names_text (take d names)
 take-text d names =
-    ap (λ t. take (length (names_text (take d names))) t) (ap names_text (sym (take-append-drop d names)) ∙ flat_map-append name_text (take d names) (drop d names))
+    ap (λ t. take (length (names_text (take d names))) t) (ap names_text (sym (take-append-drop d names)) ∙ flat_map-append name_and_separator (take d names) (drop d names))
     ∙ take-append_seam (names_text (take d names)) (names_text (drop d names))
 
 -- all but the last byte
-joined_text : (name : List ℕ) (names : List (List ℕ)) → names_text (name ∷ names) ≡ joined (name ∷ names) ++ semicolon ∷ []
-joined_text name [] = flat_map-cons name_text name [] ∙ append-nil (name_text name)
+joined_text : (name : List ℕ) (names : List (List ℕ)) → names_text (name ∷ names) ≡ joined_names (name ∷ names) ++ semicolon ∷ []
+joined_text name [] = flat_map-cons name_and_separator name [] ∙ append-nil (name_and_separator name)
 joined_text name (next ∷ names) =
-    flat_map-cons name_text name (next ∷ names) ∙ append_assoc name (semicolon ∷ []) (names_text (next ∷ names))
-    ∙ ap (λ t. name ++ semicolon ∷ t) (joined_text next names) ∙ sym (append_assoc name (semicolon ∷ joined (next ∷ names)) (semicolon ∷ []))
+    flat_map-cons name_and_separator name (next ∷ names) ∙ append_assoc name (semicolon ∷ []) (names_text (next ∷ names))
+    ∙ ap (λ t. name ++ semicolon ∷ t) (joined_text next names) ∙ sym (append_assoc name (semicolon ∷ joined_names (next ∷ names)) (semicolon ∷ []))
 
-pub path_is : (names : List (List ℕ)) (text : List ℕ) (n : ℕ) → text ≡ names_text names → n ≡ length text - 1 → take n text ≡ joined names
+pub path_is : (names : List (List ℕ)) (text : List ℕ) (n : ℕ) → text ≡ names_text names → n ≡ length text - 1 → take n text ≡ joined_names names
 path_is [] text n is count = ap (take n) is ∙ take_all n [] (omega arith)
 path_is (name ∷ names) text n is count =
-    let whole : text ≡ joined (name ∷ names) ++ semicolon ∷ [] = is ∙ joined_text name names in
-    let short : n ≡ length (joined (name ∷ names)) = omega (arith, count, ap length whole, length-append (joined (name ∷ names)) (semicolon ∷ [])) in
-    (λ i. take (short i) (whole i)) ∙ take-append_seam (joined (name ∷ names)) (semicolon ∷ [])
+    let whole : text ≡ joined_names (name ∷ names) ++ semicolon ∷ [] = is ∙ joined_text name names in
+    let short : n ≡ length (joined_names (name ∷ names)) = omega (arith, count, ap length whole, length-append (joined_names (name ∷ names)) (semicolon ∷ [])) in
+    (λ i. take (short i) (whole i)) ∙ take-append_seam (joined_names (name ∷ names)) (semicolon ∷ [])
 
 pub no_place : (names : List (List ℕ)) (depth : ℕ) → depth ≡ 0 → 0 ≡ length (names_text (take depth names))
 no_place names depth none = ap (λ d. length (names_text (take d names))) (sym none)
@@ -85,9 +85,9 @@ pub pushed_is : (names : List (List ℕ)) (name : List ℕ) (old new : Trail) (e
     → new.ends.items ≡ old.ends.items ++ end ∷ [] → end ≡ length new.text.items → IsTrail names old → IsTrail (names ++ name ∷ []) new
 pushed_is names name old new end text ends end_is trail =
     let whole : new.text.items ≡ names_text (names ++ name ∷ []) =
-    text ∙ append_assoc old.text.items name (semicolon ∷ []) ∙ ap (λ t. t ++ name_text name) trail.text
-    ∙ ap (λ t. names_text names ++ t) (sym (flat_map-cons name_text name [] ∙ append-nil (name_text name)))
-    ∙ sym (flat_map-append name_text names (name ∷ [])) in
+    text ∙ append_assoc old.text.items name (semicolon ∷ []) ∙ ap (λ t. t ++ name_and_separator name) trail.text
+    ∙ ap (λ t. names_text names ++ t) (sym (flat_map-cons name_and_separator name [] ∙ append-nil (name_and_separator name)))
+    ∙ sym (flat_map-append name_and_separator names (name ∷ [])) in
     let last : end ≡ 0 + length (names_text (names ++ name ∷ [])) = omega (arith, end_is, ap length whole) in
     record {
       text = whole;

@@ -30,8 +30,8 @@ frame_byte byte =
     else (if byte == line_feed || byte == carriage_return then space else byte)
 
 -- a name in a path
-abbrev pub frame_name : List ℕ → List ℕ
-frame_name name = map frame_byte name
+abbrev pub escaped_name : List ℕ → List ℕ
+escaped_name name = map frame_byte name
 
 -- the letter that stands behind a `\` for a byte
 abbrev pub escape : ℕ → List ℕ

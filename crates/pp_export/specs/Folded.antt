@@ -12,7 +12,7 @@ use Rattle.pp_grain.specs.Keys.{key_cmp}
 use Rattle.pp_grain.specs.Naming.{name_text}
 use Rattle.pp_count.specs.Sums.{Seen}
 use Rattle.pp_calltree.specs.CallTree.{under, path_flat, siblings, all_lengths, path_samples}
-use Rattle.pp_export.specs.Escaped.{semicolon, frame_name}
+use Rattle.pp_export.specs.Escaped.{semicolon, escaped_name}
 
 -- A path from the root of the call tree, and the sum over the samples whose path it is.
 pub record Path (K : Type 0) : Type 0 where
@@ -43,7 +43,7 @@ has_sum path = not (int_eq path.sum (pos 0))
 
 -- the names of keys, joined by `;`
 abbrev pub names_joined : List Written → List ℕ
-names_joined keys = join_with_byte semicolon (map (λ k. frame_name (name_text k)) keys)
+names_joined keys = join_with_byte semicolon (map (λ k. escaped_name (name_text k)) keys)
 
 -- the line of a path
 abbrev pub path_line : Path Written → List ℕ

@@ -17,8 +17,8 @@ use Rattle.pp_export.specs.Folded.{Path, has_sum, report_paths}
 use Rattle.pp_export.specs.Table.{row_line}
 
 -- some frame of a sample counts
-abbrev pub has_frames : {K : Type 0} → List K → Bool
-has_frames keys = not (is_end keys)
+abbrev pub has_names : {K : Type 0} → List K → Bool
+has_names keys = not (is_end keys)
 
 -- the paths that have a line in the folded report
 abbrev pub printed_paths : Profile → Finders → Config → Option ℕ → List (Path Written)
@@ -37,7 +37,7 @@ abbrev pub LinesAddUp : Type 0
 LinesAddUp =
     (p : Profile) (f : Finders) (config : Config) (column : Option ℕ)
     → paths_sum (printed_paths p f config column)
-    ≡ sum_where has_frames (seen_samples p f config column p.sample)
+    ≡ sum_where has_names (seen_samples p f config column p.sample)
 
 -- Those whose last key is a given one add up to its flat.
 abbrev pub LinesOfKeysAddUp : Type 0

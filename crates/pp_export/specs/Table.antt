@@ -23,8 +23,8 @@ abbrev pub last_cell : List ℕ → List ℕ
 last_cell text = text ++ line_feed ∷ []
 
 -- the line above the rows, whose values are in this unit
-abbrev pub heading : List ℕ → List ℕ
-heading unit =
+abbrev pub exact_heading : List ℕ → List ℕ
+exact_heading unit =
     cell (codes "flat" ++ behind_slash unit) ++ cell (codes "cum" ++ behind_slash unit)
     ++ last_cell (codes "name")
 
@@ -35,12 +35,12 @@ row_line row =
     ++ last_cell (cell_text row.name)
 
 -- the lines of keys
-abbrev pub rows_text : List KeyRow → List ℕ
-rows_text rows = flat_map row_line rows
+abbrev pub table_rows : List KeyRow → List ℕ
+table_rows rows = flat_map row_line rows
 
 -- The text of the table report with this limit, where 0 is none, and with this unit of the values.
-abbrev pub table_text : Profile → Finders → Config → Option ℕ → ℕ → List ℕ → List ℕ
-table_text p f config column limit unit =
-    heading unit
-    ++ rows_text (map (key_row (report_samples p f config column))
+abbrev pub exact_table : Profile → Finders → Config → Option ℕ → ℕ → List ℕ → List ℕ
+exact_table p f config column limit unit =
+    exact_heading unit
+    ++ table_rows (map (key_row (report_samples p f config column))
     (first_report_keys p f config column limit))

@@ -5,22 +5,22 @@ use Rattle.pp_export.specs.declared.trail.Trail.{Trail}
 use Rattle.pp_export.specs.Escaped.{semicolon}
 
 -- the names, joined by `;`
-abbrev pub joined : List (List ℕ) → List ℕ
-joined names = join_with_byte semicolon names
+abbrev pub joined_names : List (List ℕ) → List ℕ
+joined_names names = join_with_byte semicolon names
 
 -- the name with a `;` behind it
-abbrev pub name_text : List ℕ → List ℕ
-name_text name = name ++ semicolon ∷ []
+abbrev pub name_and_separator : List ℕ → List ℕ
+name_and_separator name = name ++ semicolon ∷ []
 
 -- the names, each with a `;` behind it
 abbrev pub names_text : List (List ℕ) → List ℕ
-names_text names = flat_map name_text names
+names_text names = flat_map name_and_separator names
 
 -- the place behind each name's `;`, where the first name stands at this place
 abbrev pub ends_from : ℕ → List (List ℕ) → List ℕ
 ends_from start [] = []
 ends_from start (name ∷ names) =
-    (start + length (name_text name)) ∷ ends_from (start + length (name_text name)) names
+    (start + length (name_and_separator name)) ∷ ends_from (start + length (name_and_separator name)) names
 
 -- The trail has these names.
 pub record IsTrail (names : List (List ℕ)) (t : Trail) : Type 0 where

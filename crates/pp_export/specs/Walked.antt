@@ -9,7 +9,7 @@ use Rattle.pp_calltree.specs.declared.tree.PathNode.{PathNode}
 use Rattle.pp_calltree.specs.CallTree.{TreeRow}
 use Rattle.pp_calltree.specs.Laid.{node_row}
 use Rattle.pp_export.specs.declared.trail.Trail.{Trail}
-use Rattle.pp_export.specs.Escaped.{frame_name}
+use Rattle.pp_export.specs.Escaped.{escaped_name}
 use Rattle.pp_export.specs.Folded.{Path, path_lines}
 use Rattle.pp_export.specs.Trail.{IsTrail}
 
@@ -38,7 +38,7 @@ line_unless_zero names sum =
 
 -- a key's name in a path
 abbrev pub step_name : Written → List ℕ
-step_name k = frame_name (name_text k)
+step_name k = escaped_name (name_text k)
 
 -- The trail has the names of these keys.
 abbrev pub LeadsTo : List Written → Trail → Type 0

@@ -11,7 +11,7 @@ ghost use Rattle.pp_count.specs.Seeing.{HoldsFilters};
 ghost use Rattle.pp_graph.specs.KeyRows.{row_at, CanShow};
 ghost use Rattle.pp_graph.specs.Trimmed.{IsWholeRanking};
 ghost use Rattle.pp_export.specs.Escaped.{cell_text};
-ghost use Rattle.pp_export.specs.Table.{behind_slash, cell, last_cell, heading, row_line, rows_text, table_text};
+ghost use Rattle.pp_export.specs.Table.{behind_slash, cell, last_cell, exact_heading, row_line, table_rows, exact_table};
 
 use crate::escaped::put_cell;
 use itoa::Buffer;
@@ -39,7 +39,7 @@ pub fn write_table(
         IsCountedOf l.now v config column c.now →
         IsWholeRanking l.now v config column limit c.now t.now → HoldsFilters l.now v config f →
         OnOk result (out.new
-        ≡ out.old ++ table_text l.now.profile f config column limit unit.now) }
+        ≡ out.old ++ exact_table l.now.profile f config column limit unit.now) }
     ensures err { OnErr result (out.new ≡ out.old) }
 {
     let mut text = Text::new(alloc);
@@ -49,7 +49,7 @@ pub fn write_table(
 }
 
 fn put_heading(unit: &[u8], out: &mut Text) -> Result<(), Memory>
-    ensures { IfOk result (λ _. out.new ≡ out.old ++ heading unit.now) }
+    ensures { IfOk result (λ _. out.new ≡ out.old ++ exact_heading unit.now) }
 {
     put_column(b"flat", unit, out)?;
     put_column(b"cum", unit, out)?;
@@ -87,7 +87,7 @@ fn put_rows(
     requires fits { FitSums sums.now }
     requires below { All (λ n. n < length sums.now.names) order.now }
     ensures { IfOk result (λ _. out.new
-        ≡ out.old ++ rows_text (map (row_at l.now.profile sums.now) order.now)) }
+        ≡ out.old ++ table_rows (map (row_at l.now.profile sums.now) order.now)) }
 {
     let mut name = Text::new(alloc);
     for number in order {

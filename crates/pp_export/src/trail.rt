@@ -1,7 +1,7 @@
 //! The names of the path that a walk has come to.
 ghost use Rattle.std.specs.Prelude.{◌≡◌, ◌++◌, ◌<◌, ℕ, [], ◌∷◌, List as Seq, length, take, map, IfOk};
-ghost use Rattle.pp_export.specs.Escaped.{frame_name, frame_byte};
-ghost use Rattle.pp_export.specs.Trail.{joined, names_text, ends_from, IsTrail};
+ghost use Rattle.pp_export.specs.Escaped.{escaped_name, frame_byte};
+ghost use Rattle.pp_export.specs.Trail.{joined_names, names_text, ends_from, IsTrail};
 
 use crate::escaped::frame_byte;
 use pp_base::Memory;
@@ -51,7 +51,7 @@ impl Trail {
     /// Adds a name, with what stands for its bytes in a path.
     pub fn push(&mut self, name: &[u8]) -> Result<(), Memory>
         ensures { (names : Seq (Seq ℕ)) → IsTrail names self.old →
-            IfOk result (λ _. IsTrail (names ++ frame_name name.now ∷ []) self.new) }
+            IfOk result (λ _. IsTrail (names ++ escaped_name name.now ∷ []) self.new) }
     {
         put_frame_name(name, &mut self.text)?;
         self.text.push(b';')?;
@@ -61,7 +61,7 @@ impl Trail {
 
     /// The names, joined by `;`.
     pub fn path(&self) -> &[u8]
-        ensures { (names : Seq (Seq ℕ)) → IsTrail names self.now → result.now ≡ joined names }
+        ensures { (names : Seq (Seq ℕ)) → IsTrail names self.now → result.now ≡ joined_names names }
     {
         let len = self.text.len().saturating_sub(1);
         &self.text[..len]
@@ -69,7 +69,7 @@ impl Trail {
 }
 
 fn put_frame_name(name: &[u8], text: &mut Vec<u8>) -> Result<(), Memory>
-    ensures { IfOk result (λ _. text.new.items ≡ text.old.items ++ frame_name name.now) }
+    ensures { IfOk result (λ _. text.new.items ≡ text.old.items ++ escaped_name name.now) }
 {
     let start = text.len();
     text.extend_from_slice(name)?;
@@ -79,7 +79,7 @@ fn put_frame_name(name: &[u8], text: &mut Vec<u8>) -> Result<(), Memory>
 
 // Writes over each byte what stands for it in a path.
 fn write_frame_bytes(name: &mut [u8])
-    ensures { name.new ≡ frame_name name.old }
+    ensures { name.new ≡ escaped_name name.old }
 {
     for byte in name.iter_mut() {
         *byte = frame_byte(*byte);

@@ -14,11 +14,11 @@ use Rattle.pp_pattern.specs.Load.{load_verdicts}
 use Rattle.pp_pattern.specs.Report.{Finds, AreVerdictsOf}
 use Rattle.pp_count.specs.Counted.{CanCount}
 use Rattle.pp_count.specs.Seeing.{HoldsFilters}
-use Rattle.pp_filter.specs.Filtered.{filter_finders, filtered, SavesFiltered}
+use Rattle.pp_filter.specs.Filtered.{own_finders, filtered_profile, SavesFiltered}
 
 -- The verdicts are what the finders find.
 pub filter_holds : (finds : Finds) (l : Loaded) (config : Config) (v : Verdicts) → AreVerdictsOf finds config None l v → IsCompact l.profile
-    → HoldsFilters l v config (filter_finders finds l config)
+    → HoldsFilters l v config (own_finders finds l config)
 filter_holds finds l config v are compact = record {
   found = are.holds (option_map (finder_by l.profile) l.drop) (option_map (finder_by l.profile) l.keep)
       (same_judged l.profile l.drop compact l.drop_fits) (same_judged l.profile l.keep compact l.keep_fits);
@@ -39,7 +39,7 @@ can_save finds l config v are countable = record {
 
 -- There is one way to load a profile with what its patterns find.
 pub saves : (finds : Finds) (p : Profile) (config : Config) (l : Loaded) (q : Profile) → l.profile ≡ p → (l.drop, l.keep) ≡ load_verdicts finds l.profile
-    → q ≡ filtered finds l config → SavesFiltered finds p config q
+    → q ≡ filtered_profile finds l config → SavesFiltered finds p config q
 saves finds p config l q own found is = λ other same others.
     let alike : (l.drop, l.keep) ≡ (other.drop, other.keep) = found ∙ ap (load_verdicts finds) own ∙ sym others in
-    is ∙ ap (λ x. filtered finds x config) (same_loaded l other (own ∙ sym same) (ap (λ v. v.0) alike) (ap (λ v. v.1) alike))
+    is ∙ ap (λ x. filtered_profile finds x config) (same_loaded l other (own ∙ sym same) (ap (λ v. v.0) alike) (ap (λ v. v.1) alike))

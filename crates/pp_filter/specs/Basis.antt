@@ -6,10 +6,10 @@ use Rattle.pp_pseudo.specs.KeyList.{key_list}
 use Rattle.pp_pseudo.specs.WithTags.{tagged}
 
 -- the profile with the frames of these keys at the root and at the leaf, where any is named
-abbrev pub tagged_by : Loaded → List (List ℕ) → List (List ℕ) → Loaded
-tagged_by l roots leaves =
+abbrev pub framed_by : Loaded → List (List ℕ) → List (List ℕ) → Loaded
+framed_by l roots leaves =
     if length roots == 0 && length leaves == 0 then l else tagged l roots leaves
 
 -- the profile with the frames that the configuration asks for
-abbrev pub tagged_for : Loaded → Config → Loaded
-tagged_for l config = tagged_by l (key_list config.tagroot) (key_list config.tagleaf)
+abbrev pub framed_for : Loaded → Config → Loaded
+framed_for l config = framed_by l (key_list config.tagroot) (key_list config.tagleaf)

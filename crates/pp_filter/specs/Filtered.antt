@@ -8,24 +8,24 @@ use Rattle.pp_stack.specs.LoadFinders.{finder_by}
 use Rattle.pp_pattern.specs.Load.{load_verdicts}
 use Rattle.pp_pattern.specs.Report.{Finds, finders_of}
 use Rattle.pp_dump.specs.Saved.{saved}
-use Rattle.pp_filter.specs.Basis.{tagged_for}
+use Rattle.pp_filter.specs.Basis.{framed_for}
 
 -- what the patterns find: those of the configuration, and the profile's own two
-abbrev pub filter_finders : Finds → Loaded → Config → Finders
-filter_finders finds l config =
+abbrev pub own_finders : Finds → Loaded → Config → Finders
+own_finders finds l config =
     finders_of finds config None (option_map (finder_by l.profile) l.drop)
     (option_map (finder_by l.profile) l.keep)
 
 -- the profile that is saved of a loaded one
-abbrev pub saved_by : Finds → Loaded → Config → Profile
-saved_by finds l config = saved l.profile (filter_finders finds l config) config
+abbrev pub saved_of : Finds → Loaded → Config → Profile
+saved_of finds l config = saved l.profile (own_finders finds l config) config
 
 -- the same, where the profile first gets the frames that the configuration asks for
-abbrev pub filtered : Finds → Loaded → Config → Profile
-filtered finds l config = saved_by finds (tagged_for l config) config
+abbrev pub filtered_profile : Finds → Loaded → Config → Profile
+filtered_profile finds l config = saved_of finds (framed_for l config) config
 
 -- The profile is what is saved of the other one, once that is loaded with what its own patterns find.
 abbrev pub SavesFiltered : Finds → Profile → Config → Profile → Type 0
 SavesFiltered finds p config q =
     (l : Loaded) → l.profile ≡ p → (l.drop, l.keep) ≡ load_verdicts finds p
-    → q ≡ filtered finds l config
+    → q ≡ filtered_profile finds l config

@@ -1,7 +1,7 @@
 //! The profile that is filtered: the loaded one, or that one with frames made from labels.
 ghost use Rattle.std.specs.Prelude.{◌≡◌, IfOk, unwrap_or};
 ghost use Rattle.pp_model.specs.Sizes.{IsCountable};
-ghost use Rattle.pp_filter.specs.Basis.{tagged_by, tagged_for};
+ghost use Rattle.pp_filter.specs.Basis.{framed_by, framed_for};
 
 use pp_base::{List, Memory, Text};
 use pp_model::{Config, Loaded};
@@ -11,7 +11,7 @@ use std::alloc::Global;
 /// The profile with the frames that the configuration asks for, None where it names no key.
 pub fn tagged_for(alloc: Global, l: &Loaded, config: &Config) -> Result<Option<Loaded>, Memory>
     requires { IsCountable l.now.profile }
-    ensures tagged { IfOk result (λ tagged. unwrap_or tagged l.now ≡ tagged_for l.now config.now) }
+    ensures tagged { IfOk result (λ tagged. unwrap_or tagged l.now ≡ framed_for l.now config.now) }
     ensures countable { IfOk result (λ tagged. IsCountable (unwrap_or tagged l.now).profile) }
 {
     let roots = key_list(alloc, config.tagroot.as_slice())?;
@@ -28,7 +28,7 @@ fn tagged_by(
 ) -> Result<Option<Loaded>, Memory>
     requires { IsCountable l.now.profile }
     ensures tagged { IfOk result (λ tagged.
-        unwrap_or tagged l.now ≡ tagged_by l.now roots.now leaves.now) }
+        unwrap_or tagged l.now ≡ framed_by l.now roots.now leaves.now) }
     ensures countable { IfOk result (λ tagged. IsCountable (unwrap_or tagged l.now).profile) }
 {
     if roots.len() == 0 && leaves.len() == 0 {

@@ -5,7 +5,7 @@ ghost use Rattle.pp_model.specs.Sizes.{IsCountable};
 ghost use Rattle.pp_count.specs.Counted.{CanCount};
 ghost use Rattle.pp_count.specs.Seeing.{HoldsFilters};
 ghost use Rattle.pp_dump.specs.Saved.{saved};
-ghost use Rattle.pp_filter.specs.Filtered.{saved_by, SavesFiltered};
+ghost use Rattle.pp_filter.specs.Filtered.{saved_of, SavesFiltered};
 
 use crate::FilterRefusal;
 use crate::basis::{basis, tagged_for};
@@ -75,7 +75,7 @@ fn filter_loaded<R: Threads + Sync, D: Desk>(
     desk: &mut D,
 ) -> Result<Compact, FilterRefusal>
     requires { IsCountable l.now.profile }
-    ensures { IfOk result (λ q. q ≡ saved_by D.finds l.now config.now) }
+    ensures { IfOk result (λ q. q ≡ saved_of D.finds l.now config.now) }
 {
     // A profile's texts are distinct, so that verdicts on them tell what is found.
     let _profile = l.profile.get();

@@ -7,7 +7,7 @@ use Rattle.std.proofs.Math.Seq.{take-append_seam}
 use Rattle.std.proofs.lemmas.Bool.{ne_eqb}
 use Rattle.std.proofs.lemmas.List.{take-append-drop}
 use Rattle.pp_model.specs.FrameTexts.{Written}
-use Rattle.pp_grain.specs.Keys.{is_empty, is_zero}
+use Rattle.pp_grain.specs.Keys.{is_empty_text, is_zero}
 use Rattle.pp_grain.specs.Naming.{colon_number, hex16, word_if, place_text, object_text, code_words, name_text}
 
 -- three texts, one after the other
@@ -49,7 +49,7 @@ some_word false false lineless function place object = (function, place ∷ [], 
 pub after_address :
     (key : Written) → (key.address ≡ 0 → ⊥) → hex16 key.address ++ codes " " ++ join_with_byte 32 (code_words key) ≡ name_text key
 after_address key nonzero =
-    let (w, ws, is) = some_word (is_empty key.function) (is_empty key.file) (is_zero key.line) key.function (place_text key) (object_text (last_name key.object)) in
+    let (w, ws, is) = some_word (is_empty_text key.function) (is_empty_text key.file) (is_zero key.line) key.function (place_text key) (object_text (last_name key.object)) in
     append_assoc (hex16 key.address) (codes " ") _
     ∙ ap (λ words. hex16 key.address ++ 32 ∷ join_with_byte 32 words) is
     ∙ sym (ap (λ words. join_with_byte 32 ((hex16 key.address ∷ []) ++ words)) is)

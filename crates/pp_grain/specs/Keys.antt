@@ -20,13 +20,13 @@ is_last_of_place stack i =
 
 -- Whether the frame counts: with noinlines, only the last of its place, which the others were
 -- inlined into.
-abbrev pub counts : List Frame → ℕ → Bool → Bool
-counts stack i noinlines = not noinlines || is_last_of_place stack i
+abbrev pub frame_counts : List Frame → ℕ → Bool → Bool
+frame_counts stack i noinlines = not noinlines || is_last_of_place stack i
 
 -- whether nothing stands in the text
-abbrev pub is_empty : List ℕ → Bool
-is_empty [] = true
-is_empty (_ ∷ _) = false
+abbrev pub is_empty_text : List ℕ → Bool
+is_empty_text [] = true
+is_empty_text (_ ∷ _) = false
 
 -- whether the number is 0
 abbrev pub is_zero : ℤ → Bool
@@ -35,7 +35,7 @@ is_zero _ = false
 
 -- neither a function, nor a file, nor a line
 abbrev pub is_nameless : Written → Bool
-is_nameless key = is_empty key.function && is_empty key.file && is_zero key.line
+is_nameless key = is_empty_text key.function && is_empty_text key.file && is_zero key.line
 
 -- the key with the object, where it would have neither a function, nor a file, nor a line
 abbrev pub with_object : Written → List ℕ → Written

@@ -5,7 +5,7 @@ use Rattle.std.specs.Fmt.{signed_decimal}
 use Rattle.std.specs.List.{join_with_byte, range_with_len}
 use Rattle.pp_base.specs.Paths.{last_name}
 use Rattle.pp_model.specs.FrameTexts.{Written}
-use Rattle.pp_grain.specs.Keys.{is_empty, is_zero, is_nameless}
+use Rattle.pp_grain.specs.Keys.{is_empty_text, is_zero, is_nameless}
 
 -- the k-th of sixteen hexadecimal digits, the highest first, in lower case
 abbrev pub digit_at : ℕ → ℕ → ℕ
@@ -33,11 +33,11 @@ place_text key = key.file ++ line_and_column key
 
 -- a file or a line is there
 abbrev pub has_place : Written → Bool
-has_place key = not (is_empty key.file && is_zero key.line)
+has_place key = not (is_empty_text key.file && is_zero key.line)
 
 -- what stands for code that nothing is known of but its object
 abbrev pub object_text : List ℕ → List ℕ
-object_text base = if is_empty base then codes "<unknown>" else codes "[" ++ base ++ codes "]"
+object_text base = if is_empty_text base then codes "<unknown>" else codes "[" ++ base ++ codes "]"
 
 -- the place where one is there, else the object's last part; no public clause cites it
 abbrev pub place_or_object : Written → List ℕ
@@ -47,7 +47,7 @@ place_or_object key =
 -- the words of a name but for the address: function and place, or else the object
 abbrev pub code_words : Written → List (List ℕ)
 code_words key =
-    word_if (not (is_empty key.function)) key.function
+    word_if (not (is_empty_text key.function)) key.function
     ++ word_if (has_place key) (place_text key)
     ++ word_if (is_nameless key) (object_text (last_name key.object))
 

@@ -13,8 +13,8 @@ same_key a b =
     && (int_eq a.column b.column && (a.address == b.address && a.object == b.object))))
 
 -- the keys seen, in order of first sight, after one more
-abbrev pub seen_with : List Key → Key → List Key
-seen_with keys key = if list_any (same_key key) keys then keys else keys ++ key ∷ []
+abbrev pub with_key : List Key → Key → List Key
+with_key keys key = if list_any (same_key key) keys then keys else keys ++ key ∷ []
 
 -- the number of the key: its place, or the next one where it is new
 abbrev pub key_number_in : List Key → Key → ℕ

@@ -4,7 +4,7 @@ ghost use Rattle.pp_model.specs.declared.config.Grain.TheVariants.{Lines};
 ghost use Rattle.pp_model.specs.Conditions.{IsFrameOf};
 ghost use Rattle.pp_model.specs.Lookup.{text_at};
 ghost use Rattle.pp_model.specs.FrameTexts.{written};
-ghost use Rattle.pp_grain.specs.Keys.{counts, kept_by, is_nameless, key_texts, key_written, IsKeyOf};
+ghost use Rattle.pp_grain.specs.Keys.{frame_counts, kept_by, is_nameless, key_texts, key_written, IsKeyOf};
 
 use crate::key::Key;
 use crate::texts::text;
@@ -26,7 +26,7 @@ const NOTHING: Key = Key {
 /// place does, the one that the others of the place were inlined into.
 pub fn counted(stack: &Stack, i: usize, noinlines: bool) -> bool
     requires { i < length stack.now }
-    ensures { result ≡ counts stack.now i noinlines }
+    ensures { result ≡ frame_counts stack.now i noinlines }
 {
     if !noinlines {
         return true;

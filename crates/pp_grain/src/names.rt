@@ -23,7 +23,7 @@ impl Model for Names {
 
 impl Names {
     ghost use Rattle.std.specs.Prelude.{◌≡◌, ◌≢◌, ◌<◌, [], length, slice_get, AllPairs, IfOk, OnOk, OnErr};
-    ghost use Rattle.pp_grain.specs.Sight.{seen_with, key_number_in};
+    ghost use Rattle.pp_grain.specs.Sight.{with_key, key_number_in};
 
     /// No keys.
     pub fn new(alloc: Global) -> Result<Names, Memory>
@@ -38,7 +38,7 @@ impl Names {
     pub fn number(&mut self, key: Key) -> Result<u64, Memory>
         ensures number { IfOk result (λ n. n ≡ key_number_in self.old key) }
         ensures key { IfOk result (λ n. slice_get self.new n ≡ Some key) }
-        ensures seen { OnOk result (self.new ≡ seen_with self.old key) }
+        ensures seen { OnOk result (self.new ≡ with_key self.old key) }
         ensures err { OnErr result (self.new ≡ self.old) }
     {
         let (n, _) = self.seen.insert_full(key)?;

@@ -12,10 +12,10 @@ use Rattle.pp_graph.specs.declared.slot.Slot.{Slot}
 use Rattle.pp_graph.specs.declared.slot.Spot.{Spot}
 use Rattle.pp_graph.specs.declared.slot.Side.{Side}
 use Rattle.pp_graph.specs.declared.slot.Side.TheVariants.{Out, In}
-use Rattle.pp_graph.specs.Lists.{once_if, times}
-use Rattle.pp_graph.specs.Links.{Links, AreLinked, edge_at}
-use Rattle.pp_graph.specs.Chains.{walk, is_number, IsChain}
-use Rattle.pp_graph.specs.Slots.{hooks, hooks_at, next_at, prev_at, first, first_at, end_of, end_at, slot_at, spot_at, slot_edge, no_slot, no_spot, list_of, list_at, links_of, has_end, AreSoundSlots, HasPlace, linked_slots, linked_spots, new_slot, with_prev, with_first}
+use Rattle.pp_graph.specs.Lists.{once_if, occurrences}
+use Rattle.pp_graph.specs.Links.{EdgeLinks, AreEdgesLinked, numbered_edge}
+use Rattle.pp_graph.specs.Chains.{walk, holds_number, IsChain}
+use Rattle.pp_graph.specs.Slots.{hooks, hooks_at, next_at, prev_at, first_of_side, first_at, side_end, end_at, slot_at, spot_at, slot_edge, no_slot, no_spot, list_of, list_at, held_links, has_end, AreSoundSlots, HasLinks, linked_slots, linked_spots, new_slot, with_prev, with_first}
 use Rattle.pp_graph.proofs.Chaining.{IsApart, eqb-not, first_in, same_chain, pushed_chain, walk_chain, times-here, times-there, number_is, number_not}
 use Rattle.pp_graph.proofs.Setting.{read_kept, kept-prev_set, prev-prev_set, length-prev_set, edges-prev_set, next-with_prev, other-with_prev, edge-with_prev, other-with_first, first-first_set, nodes-first_set, IsWithin, other}
 use Rattle.pp_graph.proofs.Seeing.{at_end, has_end_is, list_seen, edge_seen, counts, apart_at, listed_end, listed_within, same_end, length-list}
@@ -28,11 +28,11 @@ read_push g xs x d k = elim (cases_order k (length xs)) [
   | inr (inr above) ↦ ap g (get_or_past (xs ++ x ∷ []) k d (omega (arith, above, length_push xs x)) ∙ sym (get_or_past xs k d (omega (arith, above)))) ∙ ap (λ b. cond b (g x) (g (get_or xs k d))) (sym (eqb-not k (length xs) (λ is. omega (arith, above, is))))
 ]
 
-module _ (side : Side) (spots : List Spot) (slots : List Slot) (e : ℕ) (has : HasPlace side spots slots e) where
+module _ (side : Side) (spots : List Spot) (slots : List Slot) (e : ℕ) (has : HasLinks side spots slots e) where
   linked_next : (k : ℕ) → next_at side (linked_slots side e slots) k ≡ next_at side slots k
   linked_next k = kept-prev_set side (Some e) slots (λ x. (hooks side x).next) (next-with_prev side (Some e)) (next_at side slots e) k has.next
 
-  linked_prev : (k : ℕ) → prev_at side (linked_slots side e slots) k ≡ cond (is_number (next_at side slots e) k) (Some e) (prev_at side slots k)
+  linked_prev : (k : ℕ) → prev_at side (linked_slots side e slots) k ≡ cond (holds_number (next_at side slots e) k) (Some e) (prev_at side slots k)
   linked_prev k = prev-prev_set side (Some e) slots (next_at side slots e) k has.next
 
   linked_hooks : (k : ℕ) → hooks_at (other side) (linked_slots side e slots) k ≡ hooks_at (other side) slots k
@@ -45,7 +45,7 @@ module _ (side : Side) (spots : List Spot) (slots : List Slot) (e : ℕ) (has : 
   linked_first m = first-first_set side (end_at side slots e) m (Some e) spots has.spot
 
   linked_firsts : (m : ℕ) → first_at (other side) (linked_spots side e slots spots) m ≡ first_at (other side) spots m
-  linked_firsts m = read_kept (first (other side)) no_spot spots (end_at side slots e) m (with_first side (Some e) (spot_at spots (end_at side slots e))) has.spot (other-with_first side (Some e) (spot_at spots (end_at side slots e)))
+  linked_firsts m = read_kept (first_of_side (other side)) no_spot spots (end_at side slots e) m (with_first side (Some e) (spot_at spots (end_at side slots e))) has.spot (other-with_first side (Some e) (spot_at spots (end_at side slots e)))
 
 module _ (spots : List Spot) (slots : List Slot) (s : AreSoundSlots spots slots) (edge : Edge) (from : edge.from < length spots) (to : edge.to < length spots) where
   -- the number of the new edge
@@ -87,9 +87,9 @@ module _ (spots : List Spot) (slots : List Slot) (s : AreSoundSlots spots slots)
   -- the first edge so far is one of the slots
   first_slot : (side : Side) (n k : ℕ) → n < length spots → first_at side spots n ≡ Some k → k < length slots
   first_slot side n k within is = listed_within spots slots s side n k within
-      (first_in (next_at side slots) (prev_at side slots) None (first_at side spots n) (list_at side (links_of spots slots) n) k (s.chains side n within) is)
+      (first_in (next_at side slots) (prev_at side slots) None (first_at side spots n) (list_at side (held_links spots slots) n) k (s.chains side n within) is)
 
-  pub out_place : HasPlace Out spots slots0 e
+  pub out_place : HasLinks Out spots slots0 e
   out_place = record {
     slot = omega (arith, length_push slots (new_slot spots edge));
     spot = omega (arith, from, ap (λ (x : Slot). x.edge.from) newest);
@@ -109,7 +109,7 @@ module _ (spots : List Spot) (slots : List Slot) (s : AreSoundSlots spots slots)
   in_prev1 : prev_at In slots1 e ≡ None
   in_prev1 = ap (λ (h : Hooks). h.prev) (in_hooks1 e ∙ ap (λ (x : Slot). x.into) newest)
 
-  pub in_place : HasPlace In spots1 slots1 e
+  pub in_place : HasLinks In spots1 slots1 e
   in_place = record {
     slot = omega (arith, length-slots1);
     spot = omega (arith, to, end1, length-spots1);
@@ -119,15 +119,15 @@ module _ (spots : List Spot) (slots : List Slot) (s : AreSoundSlots spots slots)
 
   -- the links of the end
   end : Side → ℕ
-  end side = end_of side edge
+  end side = side_end side edge
 
-  end_within : (side : Side) → end_of side edge < length spots
+  end_within : (side : Side) → side_end side edge < length spots
   end_within Out = from
   end_within In = to
 
-  old_next : (side : Side) (k : ℕ) → next_at side slots0 k ≡ cond (eqb k e) (first_at side spots (end_of side edge)) (next_at side slots k)
+  old_next : (side : Side) (k : ℕ) → next_at side slots0 k ≡ cond (eqb k e) (first_at side spots (side_end side edge)) (next_at side slots k)
   old_next side k = read_push (λ x. (hooks side x).next) slots (new_slot spots edge) no_slot k ∙ by_side side where
-    by_side : (side : Side) → cond (eqb k e) (hooks side (new_slot spots edge)).next (next_at side slots k) ≡ cond (eqb k e) (first_at side spots (end_of side edge)) (next_at side slots k)
+    by_side : (side : Side) → cond (eqb k e) (hooks side (new_slot spots edge)).next (next_at side slots k) ≡ cond (eqb k e) (first_at side spots (side_end side edge)) (next_at side slots k)
     by_side Out = refl
     by_side In = refl
 
@@ -137,89 +137,89 @@ module _ (spots : List Spot) (slots : List Slot) (s : AreSoundSlots spots slots)
     by_side Out = refl
     by_side In = refl
 
-  all_next : (side : Side) (k : ℕ) → next_at side slots2 k ≡ cond (eqb k e) (first_at side spots (end_of side edge)) (next_at side slots k)
+  all_next : (side : Side) (k : ℕ) → next_at side slots2 k ≡ cond (eqb k e) (first_at side spots (side_end side edge)) (next_at side slots k)
   all_next Out k = ap (λ (h : Hooks). h.next) (linked_hooks In spots1 slots1 e in_place k) ∙ linked_next Out spots slots0 e out_place k ∙ old_next Out k
   all_next In k = linked_next In spots1 slots1 e in_place k ∙ ap (λ (h : Hooks). h.next) (in_hooks1 k) ∙ old_next In k
 
-  all_prev : (side : Side) (k : ℕ) → prev_at side slots2 k ≡ cond (is_number (first_at side spots (end_of side edge)) k) (Some e) (cond (eqb k e) None (prev_at side slots k))
+  all_prev : (side : Side) (k : ℕ) → prev_at side slots2 k ≡ cond (holds_number (first_at side spots (side_end side edge)) k) (Some e) (cond (eqb k e) None (prev_at side slots k))
   all_prev Out k =
       ap (λ (h : Hooks). h.prev) (linked_hooks In spots1 slots1 e in_place k) ∙ linked_prev Out spots slots0 e out_place k
-      ∙ (λ i. cond (is_number (ap (λ (x : Slot). x.out.next) newest i) k) (Some e) (old_prev Out k i))
+      ∙ (λ i. cond (holds_number (ap (λ (x : Slot). x.out.next) newest i) k) (Some e) (old_prev Out k i))
   all_prev In k =
       linked_prev In spots1 slots1 e in_place k
-      ∙ (λ i. cond (is_number (in_next1 i) k) (Some e) ((ap (λ (h : Hooks). h.prev) (in_hooks1 k) ∙ old_prev In k) i))
+      ∙ (λ i. cond (holds_number (in_next1 i) k) (Some e) ((ap (λ (h : Hooks). h.prev) (in_hooks1 k) ∙ old_prev In k) i))
 
-  all_first : (side : Side) (m : ℕ) → first_at side spots2 m ≡ cond (eqb (end_of side edge) m) (Some e) (first_at side spots m)
+  all_first : (side : Side) (m : ℕ) → first_at side spots2 m ≡ cond (eqb (side_end side edge) m) (Some e) (first_at side spots m)
   all_first Out m = linked_firsts In spots1 slots1 e in_place m ∙ linked_first Out spots slots0 e out_place m ∙ ap (λ n. cond (eqb n m) (Some e) (first_at Out spots m)) (ap (λ (x : Slot). x.edge.from) newest)
   all_first In m = linked_first In spots1 slots1 e in_place m ∙ (λ i. cond (eqb (end1 i) m) (Some e) (linked_firsts Out spots slots0 e out_place m i))
 
   abbrev list : Side → ℕ → List ℕ
-  list side n = list_at side (links_of spots slots) n
+  list side n = list_at side (held_links spots slots) n
 
-  old_number : (side : Side) (n k : ℕ) → n < length spots → 0 < times k (list side n) → k ≢ e
+  old_number : (side : Side) (n k : ℕ) → n < length spots → 0 < occurrences k (list side n) → k ≢ e
   old_number side n k within some is = omega (arith, listed_within spots slots s side n k within some, is)
 
-  not_new : (side : Side) (n : ℕ) → n < length spots → times e (list side n) ≡ 0
-  not_new side n within = none_there (times e (list side n)) (λ some. old_number side n e within some refl) where
+  not_new : (side : Side) (n : ℕ) → n < length spots → occurrences e (list side n) ≡ 0
+  not_new side n within = none_there (occurrences e (list side n)) (λ some. old_number side n e within some refl) where
     none_there : (t : ℕ) → (0 < t → ⊥) → t ≡ 0
     none_there zero h = refl
     none_there (suc t) h = absurd (h (omega arith))
 
   next_kept : (side : Side) (k : ℕ) → k ≢ e → next_at side slots2 k ≡ next_at side slots k
-  next_kept side k apart = all_next side k ∙ ap (λ b. cond b (first_at side spots (end_of side edge)) (next_at side slots k)) (eqb-not k e apart)
+  next_kept side k apart = all_next side k ∙ ap (λ b. cond b (first_at side spots (side_end side edge)) (next_at side slots k)) (eqb-not k e apart)
 
-  prev_kept : (side : Side) (k : ℕ) → k ≢ e → first_at side spots (end_of side edge) ≢ Some k → prev_at side slots2 k ≡ prev_at side slots k
+  prev_kept : (side : Side) (k : ℕ) → k ≢ e → first_at side spots (side_end side edge) ≢ Some k → prev_at side slots2 k ≡ prev_at side slots k
   prev_kept side k apart miss =
-      all_prev side k ∙ ap (λ b. cond b (Some e) (cond (eqb k e) None (prev_at side slots k))) (number_not (first_at side spots (end_of side edge)) k miss)
+      all_prev side k ∙ ap (λ b. cond b (Some e) (cond (eqb k e) None (prev_at side slots k))) (number_not (first_at side spots (side_end side edge)) k miss)
       ∙ ap (λ b. cond b None (prev_at side slots k)) (eqb-not k e apart)
 
-  chain_at_end : (side : Side) → IsChain (next_at side slots2) (prev_at side slots2) None (first_at side spots2 (end_of side edge)) (e ∷ list side (end_of side edge))
+  chain_at_end : (side : Side) → IsChain (next_at side slots2) (prev_at side slots2) None (first_at side spots2 (side_end side edge)) (e ∷ list side (side_end side edge))
   chain_at_end side =
-      subst (λ p. IsChain (next_at side slots2) (prev_at side slots2) None p (e ∷ list side (end_of side edge)))
-      (sym (all_first side (end_of side edge) ∙ ap (λ b. cond b (Some e) (first_at side spots (end_of side edge))) (eq-eqb (end_of side edge) (end_of side edge) refl)))
-      (pushed_chain (next_at side slots) (prev_at side slots) (next_at side slots2) (prev_at side slots2) e (first_at side spots (end_of side edge)) (list side (end_of side edge))
-      (not_new side (end_of side edge) (end_within side)) (apart_at spots slots s side (end_of side edge) (end_within side))
-      (all_next side e ∙ ap (λ b. cond b (first_at side spots (end_of side edge)) (next_at side slots e)) (eq-eqb e e refl))
+      subst (λ p. IsChain (next_at side slots2) (prev_at side slots2) None p (e ∷ list side (side_end side edge)))
+      (sym (all_first side (side_end side edge) ∙ ap (λ b. cond b (Some e) (first_at side spots (side_end side edge))) (eq-eqb (side_end side edge) (side_end side edge) refl)))
+      (pushed_chain (next_at side slots) (prev_at side slots) (next_at side slots2) (prev_at side slots2) e (first_at side spots (side_end side edge)) (list side (side_end side edge))
+      (not_new side (side_end side edge) (end_within side)) (apart_at spots slots s side (side_end side edge) (end_within side))
+      (all_next side e ∙ ap (λ b. cond b (first_at side spots (side_end side edge)) (next_at side slots e)) (eq-eqb e e refl))
       (next_kept side)
-      (all_prev side e ∙ ap (λ b. cond b (Some e) (cond (eqb e e) None (prev_at side slots e))) (number_not (first_at side spots (end_of side edge)) e (λ is. omega (arith, first_slot side (end_of side edge) e (end_within side) is)))
+      (all_prev side e ∙ ap (λ b. cond b (Some e) (cond (eqb e e) None (prev_at side slots e))) (number_not (first_at side spots (side_end side edge)) e (λ is. omega (arith, first_slot side (side_end side edge) e (end_within side) is)))
       ∙ ap (λ b. cond b None (prev_at side slots e)) (eq-eqb e e refl))
-      (λ k is. all_prev side k ∙ ap (λ b. cond b (Some e) (cond (eqb k e) None (prev_at side slots k))) (number_is (first_at side spots (end_of side edge)) k is))
+      (λ k is. all_prev side k ∙ ap (λ b. cond b (Some e) (cond (eqb k e) None (prev_at side slots k))) (number_is (first_at side spots (side_end side edge)) k is))
       (prev_kept side)
-      (s.chains side (end_of side edge) (end_within side)))
+      (s.chains side (side_end side edge) (end_within side)))
 
-  chain_elsewhere : (side : Side) (n : ℕ) → n < length spots → n ≢ end_of side edge → IsChain (next_at side slots2) (prev_at side slots2) None (first_at side spots2 n) (list side n)
+  chain_elsewhere : (side : Side) (n : ℕ) → n < length spots → n ≢ side_end side edge → IsChain (next_at side slots2) (prev_at side slots2) None (first_at side spots2 n) (list side n)
   chain_elsewhere side n within apart =
       subst (λ p. IsChain (next_at side slots2) (prev_at side slots2) None p (list side n))
-      (sym (all_first side n ∙ ap (λ b. cond b (Some e) (first_at side spots n)) (eqb-not (end_of side edge) n (λ is. apart (sym is)))))
+      (sym (all_first side n ∙ ap (λ b. cond b (Some e) (first_at side spots n)) (eqb-not (side_end side edge) n (λ is. apart (sym is)))))
       (same_chain (next_at side slots) (prev_at side slots) (next_at side slots2) (prev_at side slots2) None (first_at side spots n) (list side n)
       (λ k some. (
         next_kept side k (old_number side n k within some),
         prev_kept side k (old_number side n k within some)
-            (λ is. apart (same_end spots slots side n (end_of side edge) k (listed_end spots slots s side n k within some)
-            (listed_end spots slots s side (end_of side edge) k (end_within side)
-            (first_in (next_at side slots) (prev_at side slots) None (first_at side spots (end_of side edge)) (list side (end_of side edge)) k (s.chains side (end_of side edge) (end_within side)) is)))),
+            (λ is. apart (same_end spots slots side n (side_end side edge) k (listed_end spots slots s side n k within some)
+            (listed_end spots slots s side (side_end side edge) k (end_within side)
+            (first_in (next_at side slots) (prev_at side slots) None (first_at side spots (side_end side edge)) (list side (side_end side edge)) k (s.chains side (side_end side edge) (end_within side)) is)))),
       ))
       (s.chains side n within))
 
   -- the lists with the edge in front of those of its ends
   abbrev added : Side → ℕ → List ℕ
-  added side n = cond (eqb n (end_of side edge)) (e ∷ list side n) (list side n)
+  added side n = cond (eqb n (side_end side edge)) (e ∷ list side n) (list side n)
 
   chain_added : (side : Side) (n : ℕ) → n < length spots → IsChain (next_at side slots2) (prev_at side slots2) None (first_at side spots2 n) (added side n)
-  chain_added side n within = elim (cases_eq n (end_of side edge)) [
-    | inl is ↦ subst (λ b. IsChain (next_at side slots2) (prev_at side slots2) None (first_at side spots2 n) (cond b (e ∷ list side n) (list side n))) (sym (eq-eqb n (end_of side edge) is))
+  chain_added side n within = elim (cases_eq n (side_end side edge)) [
+    | inl is ↦ subst (λ b. IsChain (next_at side slots2) (prev_at side slots2) None (first_at side spots2 n) (cond b (e ∷ list side n) (list side n))) (sym (eq-eqb n (side_end side edge) is))
         (subst (λ m. IsChain (next_at side slots2) (prev_at side slots2) None (first_at side spots2 m) (e ∷ list side m)) (sym is) (chain_at_end side))
-    | inr apart ↦ subst (λ b. IsChain (next_at side slots2) (prev_at side slots2) None (first_at side spots2 n) (cond b (e ∷ list side n) (list side n))) (sym (eqb-not n (end_of side edge) apart))
+    | inr apart ↦ subst (λ b. IsChain (next_at side slots2) (prev_at side slots2) None (first_at side spots2 n) (cond b (e ∷ list side n) (list side n))) (sym (eqb-not n (side_end side edge) apart))
         (chain_elsewhere side n within apart)
   ]
 
   short : (side : Side) (n : ℕ) → n < length spots → length (added side n) ≤ length slots2
-  short side n within = elim (eqb n (end_of side edge)) as (λ b. length (cond b (e ∷ list side n) (list side n)) ≤ length slots2) [
+  short side n within = elim (eqb n (side_end side edge)) as (λ b. length (cond b (e ∷ list side n) (list side n)) ≤ length slots2) [
     | true ↦ omega (arith, length-list spots slots s side n within, length-slots2)
     | false ↦ omega (arith, length-list spots slots s side n within, length-slots2)
   ]
 
-  list_added : (side : Side) (n : ℕ) → n < length spots → list_at side (links_of spots2 slots2) n ≡ added side n
+  list_added : (side : Side) (n : ℕ) → n < length spots → list_at side (held_links spots2 slots2) n ≡ added side n
   list_added side n within =
       list_seen spots2 slots2 side n (omega (arith, within, length-spots2))
       ∙ walk_chain (next_at side slots2) (prev_at side slots2) (length slots2) None (first_at side spots2 n) (added side n) (chain_added side n within) (short side n within)
@@ -233,30 +233,30 @@ module _ (spots : List Spot) (slots : List Slot) (s : AreSoundSlots spots slots)
   edges_are : map slot_edge slots2 ≡ map slot_edge slots ++ Some edge ∷ []
   edges_are = edges_added ∙ map-append slot_edge slots (new_slot spots edge ∷ [])
 
-  edge_added : (k : ℕ) → edge_at (links_of spots2 slots2) k ≡ cond (eqb k e) (Some edge) (edge_at (links_of spots slots) k)
+  edge_added : (k : ℕ) → numbered_edge (held_links spots2 slots2) k ≡ cond (eqb k e) (Some edge) (numbered_edge (held_links spots slots) k)
   edge_added k =
       ap (λ es. get_or es k None) edges_are ∙ read_push (λ x. x) (map slot_edge slots) (Some edge) None k
-      ∙ ap (λ n. cond (eqb k n) (Some edge) (edge_at (links_of spots slots) k)) (length-map slots slot_edge)
+      ∙ ap (λ n. cond (eqb k n) (Some edge) (numbered_edge (held_links spots slots) k)) (length-map slots slot_edge)
 
-  count_added : (side : Side) (n k : ℕ) → n < length spots → times k (list_at side (links_of spots2 slots2) n) ≡ once_if (has_end side (links_of spots2 slots2) n k)
+  count_added : (side : Side) (n k : ℕ) → n < length spots → occurrences k (list_at side (held_links spots2 slots2) n) ≡ once_if (has_end side (held_links spots2 slots2) n k)
   count_added side n k within =
-      ap (times k) (list_added side n within)
+      ap (occurrences k) (list_added side n within)
       ∙ elim (cases_eq k e) [
-        | inl is ↦ ap (λ j. times j (added side n)) is ∙ new_count ∙ sym (ap (λ b. once_if (at_end side (cond b (Some edge) (edge_at (links_of spots slots) k)) n)) (eq-eqb k e is))
-        | inr apart ↦ old_count apart ∙ counts spots slots s side n k within ∙ ap once_if (has_end_is side (links_of spots slots) n k)
-            ∙ sym (ap (λ b. once_if (at_end side (cond b (Some edge) (edge_at (links_of spots slots) k)) n)) (eqb-not k e apart))
+        | inl is ↦ ap (λ j. occurrences j (added side n)) is ∙ new_count ∙ sym (ap (λ b. once_if (at_end side (cond b (Some edge) (numbered_edge (held_links spots slots) k)) n)) (eq-eqb k e is))
+        | inr apart ↦ old_count apart ∙ counts spots slots s side n k within ∙ ap once_if (has_end_is side (held_links spots slots) n k)
+            ∙ sym (ap (λ b. once_if (at_end side (cond b (Some edge) (numbered_edge (held_links spots slots) k)) n)) (eqb-not k e apart))
       ]
-      ∙ ap (λ o. once_if (at_end side o n)) (sym (edge_added k)) ∙ ap once_if (sym (has_end_is side (links_of spots2 slots2) n k)) where
-        new_count : times e (added side n) ≡ once_if (eqb (end_of side edge) n)
-        new_count = elim (cases_eq n (end_of side edge)) [
-          | inl is ↦ ap (λ b. times e (cond b (e ∷ list side n) (list side n))) (eq-eqb n (end_of side edge) is)
-              ∙ omega (arith, times-here e e (list side n) refl, not_new side n within) ∙ ap once_if (sym (eq-eqb (end_of side edge) n (sym is)))
-          | inr apart ↦ ap (λ b. times e (cond b (e ∷ list side n) (list side n))) (eqb-not n (end_of side edge) apart)
-              ∙ not_new side n within ∙ ap once_if (sym (eqb-not (end_of side edge) n (λ is. apart (sym is))))
+      ∙ ap (λ o. once_if (at_end side o n)) (sym (edge_added k)) ∙ ap once_if (sym (has_end_is side (held_links spots2 slots2) n k)) where
+        new_count : occurrences e (added side n) ≡ once_if (eqb (side_end side edge) n)
+        new_count = elim (cases_eq n (side_end side edge)) [
+          | inl is ↦ ap (λ b. occurrences e (cond b (e ∷ list side n) (list side n))) (eq-eqb n (side_end side edge) is)
+              ∙ omega (arith, times-here e e (list side n) refl, not_new side n within) ∙ ap once_if (sym (eq-eqb (side_end side edge) n (sym is)))
+          | inr apart ↦ ap (λ b. occurrences e (cond b (e ∷ list side n) (list side n))) (eqb-not n (side_end side edge) apart)
+              ∙ not_new side n within ∙ ap once_if (sym (eqb-not (side_end side edge) n (λ is. apart (sym is))))
         ]
 
-        old_count : k ≢ e → times k (added side n) ≡ times k (list side n)
-        old_count apart = elim (eqb n (end_of side edge)) as (λ b. times k (cond b (e ∷ list side n) (list side n)) ≡ times k (list side n)) [
+        old_count : k ≢ e → occurrences k (added side n) ≡ occurrences k (list side n)
+        old_count apart = elim (eqb n (side_end side edge)) as (λ b. occurrences k (cond b (e ∷ list side n) (list side n)) ≡ occurrences k (list side n)) [
           | true ↦ times-there k e (list side n) (λ is. apart (sym is))
           | false ↦ refl
         ]

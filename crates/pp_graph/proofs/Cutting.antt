@@ -12,10 +12,10 @@ use Rattle.pp_graph.specs.declared.slot.Slot.{Slot}
 use Rattle.pp_graph.specs.declared.slot.Spot.{Spot}
 use Rattle.pp_graph.specs.declared.slot.Side.{Side}
 use Rattle.pp_graph.specs.declared.slot.Side.TheVariants.{Out, In}
-use Rattle.pp_graph.specs.Lists.{once_if, times, leave_out}
-use Rattle.pp_graph.specs.Links.{Links, AreLinked, IsLive, edge_at, out_at, in_at, leaves, enters, without}
-use Rattle.pp_graph.specs.Chains.{walk, is_number, IsChain}
-use Rattle.pp_graph.specs.Slots.{hooks, hooks_at, next_at, prev_at, first, first_at, end_of, end_at, slot_at, spot_at, slot_edge, no_slot, no_spot, list_of, list_at, links_of, has_end, AreSoundSlots, HasPlace, unlinked_slots, unlinked_spots}
+use Rattle.pp_graph.specs.Lists.{once_if, occurrences, leave_out}
+use Rattle.pp_graph.specs.Links.{EdgeLinks, AreEdgesLinked, IsUncut, numbered_edge, out_at, in_at, leaves, enters, without}
+use Rattle.pp_graph.specs.Chains.{walk, holds_number, IsChain}
+use Rattle.pp_graph.specs.Slots.{hooks, hooks_at, next_at, prev_at, first_of_side, first_at, side_end, end_at, slot_at, spot_at, slot_edge, no_slot, no_spot, list_of, list_at, held_links, has_end, AreSoundSlots, HasLinks, unlinked_slots, unlinked_spots}
 use Rattle.pp_graph.proofs.Chaining.{IsApart, Bridges, eqb-not, prev_of_first, first_by_prev, cut_chain, same_chain, walk_chain, leave_out_absent, length-leave_out, times-leave_out}
 use Rattle.pp_graph.proofs.Setting.{Passed, read_set, read_kept, unlinked_passed, unlinked_hooks, unlinked_edge, unlinked_firsts, unlinked_edges, unlinked_nodes, length-unlinked, length_unlinked_spots}
 use Rattle.pp_graph.proofs.Seeing.{at_end, has_end_is, get_or-map_default, once_true, once_most, list_seen, edge_seen, live_within, counts, apart_at, listed_end, same_end, length-list, its_end, end_spot, its_list, next_listed, prev_listed, has_place}
@@ -25,31 +25,31 @@ abbrev pub cut_slot : Slot → Slot
 cut_slot slot = record slot { live = false }
 
 -- a graph without one of its edges is linked where it was
-module _ (g : Links) (e : ℕ) where
-  edge-without : (k : ℕ) → e < length g.edges → edge_at (without e g) k ≡ cond (eqb e k) None (edge_at g k)
+module _ (g : EdgeLinks) (e : ℕ) where
+  edge-without : (k : ℕ) → e < length g.edges → numbered_edge (without e g) k ≡ cond (eqb e k) None (numbered_edge g k)
   edge-without k within = elim (cases_eq e k) [
-    | inl is ↦ ap (λ j. get_or (set g.edges e None) j None) (sym is) ∙ get_or-set_same g.edges e None None within ∙ ap (λ b. cond b None (edge_at g k)) (sym (eq-eqb e k is))
-    | inr apart ↦ get_or-set_other g.edges e k None None (λ is. apart (sym is)) ∙ ap (λ b. cond b None (edge_at g k)) (sym (eqb-not e k apart))
+    | inl is ↦ ap (λ j. get_or (set g.edges e None) j None) (sym is) ∙ get_or-set_same g.edges e None None within ∙ ap (λ b. cond b None (numbered_edge g k)) (sym (eq-eqb e k is))
+    | inr apart ↦ get_or-set_other g.edges e k None None (λ is. apart (sym is)) ∙ ap (λ b. cond b None (numbered_edge g k)) (sym (eqb-not e k apart))
   ]
 
   end-without : (side : Side) (n k : ℕ) → e < length g.edges → once_if (has_end side (without e g) n k) ≡ cond (eqb k e) 0 (once_if (has_end side g n k))
   end-without side n k within =
       ap once_if (has_end_is side (without e g) n k ∙ ap (λ o. at_end side o n) (edge-without k within))
       ∙ elim (cases_eq e k) [
-        | inl is ↦ ap (λ b. once_if (at_end side (cond b None (edge_at g k)) n)) (eq-eqb e k is) ∙ ap (λ b. cond b 0 (once_if (has_end side g n k))) (sym (eq-eqb k e (sym is)))
-        | inr apart ↦ ap (λ b. once_if (at_end side (cond b None (edge_at g k)) n)) (eqb-not e k apart) ∙ ap once_if (sym (has_end_is side g n k)) ∙ ap (λ b. cond b 0 (once_if (has_end side g n k))) (sym (eqb-not k e (λ is. apart (sym is))))
+        | inl is ↦ ap (λ b. once_if (at_end side (cond b None (numbered_edge g k)) n)) (eq-eqb e k is) ∙ ap (λ b. cond b 0 (once_if (has_end side g n k))) (sym (eq-eqb k e (sym is)))
+        | inr apart ↦ ap (λ b. once_if (at_end side (cond b None (numbered_edge g k)) n)) (eqb-not e k apart) ∙ ap once_if (sym (has_end_is side g n k)) ∙ ap (λ b. cond b 0 (once_if (has_end side g n k))) (sym (eqb-not k e (λ is. apart (sym is))))
       ]
 
   list-without : (side : Side) (n : ℕ) → list_at side (without e g) n ≡ leave_out e (list_at side g n)
   list-without Out n = get_or-map_default (leave_out e) g.outs n []
   list-without In n = get_or-map_default (leave_out e) g.ins n []
 
-  times-without : (side : Side) (n k : ℕ) → e < length g.edges → times k (list_at side g n) ≡ once_if (has_end side g n k)
-      → times k (list_at side (without e g) n) ≡ once_if (has_end side (without e g) n k)
+  times-without : (side : Side) (n k : ℕ) → e < length g.edges → occurrences k (list_at side g n) ≡ once_if (has_end side g n k)
+      → occurrences k (list_at side (without e g) n) ≡ once_if (has_end side (without e g) n k)
   times-without side n k within is =
-      ap (times k) (list-without side n) ∙ times-leave_out e k (list_at side g n) ∙ ap (λ t. cond (eqb k e) 0 t) is ∙ sym (end-without side n k within)
+      ap (occurrences k) (list-without side n) ∙ times-leave_out e k (list_at side g n) ∙ ap (λ t. cond (eqb k e) 0 t) is ∙ sym (end-without side n k within)
 
-  pub linked-without : e < length g.edges → AreLinked g → AreLinked (without e g)
+  pub linked-without : e < length g.edges → AreEdgesLinked g → AreEdgesLinked (without e g)
   linked-without within l = record {
     outs = length-map g.outs (leave_out e) ∙ l.outs;
     ins = length-map g.ins (leave_out e) ∙ l.ins;
@@ -67,7 +67,7 @@ module _ (g : Links) (e : ℕ) where
           | inr apart ↦ sym (get_or-set_other g.edges e k None None apart) ∙ read
         ])
 
-module _ (spots : List Spot) (slots : List Slot) (s : AreSoundSlots spots slots) (e : ℕ) (live : IsLive (links_of spots slots) e) where
+module _ (spots : List Spot) (slots : List Slot) (s : AreSoundSlots spots slots) (e : ℕ) (live : IsUncut (held_links spots slots) e) where
   -- the slots and nodes after each step
   abbrev slots1 : List Slot
   slots1 = unlinked_slots Out e slots
@@ -97,7 +97,7 @@ module _ (spots : List Spot) (slots : List Slot) (s : AreSoundSlots spots slots)
   in_hooks1 k = unlinked_hooks Out spots slots e (has_place spots slots s e live Out) k
 
   -- the edge still has its place in the other list
-  pub in_place : HasPlace In spots1 slots1 e
+  pub in_place : HasLinks In spots1 slots1 e
   in_place =
       let has = has_place spots slots s e live In in
       record {
@@ -136,9 +136,9 @@ module _ (spots : List Spot) (slots : List Slot) (s : AreSoundSlots spots slots)
 
   -- the list of a node on a side
   abbrev list : Side → ℕ → List ℕ
-  list side n = list_at side (links_of spots slots) n
+  list side n = list_at side (held_links spots slots) n
 
-  apart_from : (side : Side) (n k : ℕ) → n < length spots → n ≢ end_at side slots e → 0 < times k (list side n) → 0 < times k (list side (end_at side slots e)) → ⊥
+  apart_from : (side : Side) (n k : ℕ) → n < length spots → n ≢ end_at side slots e → 0 < occurrences k (list side n) → 0 < occurrences k (list side (end_at side slots e)) → ⊥
   apart_from side n k within other here there = other (same_end spots slots side n (end_at side slots e) k (listed_end spots slots s side n k within here) (listed_end spots slots s side (end_at side slots e) k (end_spot spots slots s e live side) there))
 
   chain_at_end : (side : Side) → IsChain (next_at side slots3) (prev_at side slots3) None (first_at side spots2 (end_at side slots e)) (leave_out e (list side (end_at side slots e)))
@@ -153,7 +153,7 @@ module _ (spots : List Spot) (slots : List Slot) (s : AreSoundSlots spots slots)
 
   chain_elsewhere : (side : Side) (n : ℕ) → n < length spots → n ≢ end_at side slots e → IsChain (next_at side slots3) (prev_at side slots3) None (first_at side spots2 n) (leave_out e (list side n))
   chain_elsewhere side n within other =
-      let out : leave_out e (list side n) ≡ list side n = leave_out_absent e (list side n) (none_there (times e (list side n)) (λ some. apart_from side n e within other some (its_list spots slots s e live side))) in
+      let out : leave_out e (list side n) ≡ list side n = leave_out_absent e (list side n) (none_there (occurrences e (list side n)) (λ some. apart_from side n e within other some (its_list spots slots s e live side))) in
       subst (λ l. IsChain (next_at side slots3) (prev_at side slots3) None (first_at side spots2 n) l) (sym out)
       (subst (λ p. IsChain (next_at side slots3) (prev_at side slots3) None p (list side n)) (sym ((passed side).first_other n other))
       (same_chain (next_at side slots) (prev_at side slots) (next_at side slots3) (prev_at side slots3) None (first_at side spots n) (list side n)
@@ -172,7 +172,7 @@ module _ (spots : List Spot) (slots : List Slot) (s : AreSoundSlots spots slots)
     | inr other ↦ chain_elsewhere side n within other
   ]
 
-  list_left : (side : Side) (n : ℕ) → n < length spots → list_at side (links_of spots2 slots3) n ≡ leave_out e (list side n)
+  list_left : (side : Side) (n : ℕ) → n < length spots → list_at side (held_links spots2 slots3) n ≡ leave_out e (list side n)
   list_left side n within =
       list_seen spots2 slots3 side n (omega (arith, within, length-spots2))
       ∙ walk_chain (next_at side slots3) (prev_at side slots3) (length slots3) None (first_at side spots2 n) (leave_out e (list side n)) (chain_left side n within)
@@ -187,11 +187,11 @@ module _ (spots : List Spot) (slots : List Slot) (s : AreSoundSlots spots slots)
       ∙ sym (get_or-map (list_of side slots3) spots2 k no_spot [] (omega (arith, inside, length-spots2)))
       ∙ by_side side k ∙ list_left side k inside ∙ ap (leave_out e) (sym (by_old side k))
       ∙ sym (get_or-map (leave_out e) (map (list_of side slots) spots) k [] d (omega (arith, inside, length-map spots (list_of side slots))))) where
-        by_side : (side : Side) (k : ℕ) → get_or (map (list_of side slots3) spots2) k [] ≡ list_at side (links_of spots2 slots3) k
+        by_side : (side : Side) (k : ℕ) → get_or (map (list_of side slots3) spots2) k [] ≡ list_at side (held_links spots2 slots3) k
         by_side Out k = refl
         by_side In k = refl
 
-        by_old : (side : Side) (k : ℕ) → get_or (map (list_of side slots) spots) k [] ≡ list_at side (links_of spots slots) k
+        by_old : (side : Side) (k : ℕ) → get_or (map (list_of side slots) spots) k [] ≡ list_at side (held_links spots slots) k
         by_old Out k = refl
         by_old In k = refl
 
@@ -199,7 +199,7 @@ module _ (spots : List Spot) (slots : List Slot) (s : AreSoundSlots spots slots)
   edges_left = map-set slot_edge slots2 e (cut_slot (slot_at slots2 e)) ∙ ap (λ es. set es e None) (unlinked_edges In slots1 e ∙ unlinked_edges Out slots e)
 
   -- the graph is the old one without the edge
-  pub seen_cut : links_of spots2 slots3 ≡ without e (links_of spots slots)
+  pub seen_cut : held_links spots2 slots3 ≡ without e (held_links spots slots)
   seen_cut = λ i. record {
     nodes = (unlinked_nodes In slots1 spots1 e ∙ unlinked_nodes Out slots spots e) i;
     edges = edges_left i;
@@ -210,7 +210,7 @@ module _ (spots : List Spot) (slots : List Slot) (s : AreSoundSlots spots slots)
   -- and it is sound
   pub sound_cut : AreSoundSlots spots2 slots3
   sound_cut = record {
-    linked = subst AreLinked (sym seen_cut) (linked-without (links_of spots slots) e (omega (arith, live_within spots slots e live, length-map slots slot_edge)) s.linked);
+    linked = subst AreEdgesLinked (sym seen_cut) (linked-without (held_links spots slots) e (omega (arith, live_within spots slots e live, length-map slots slot_edge)) s.linked);
     chains = λ side n within.
         let inside : n < length spots = omega (arith, within, length-spots2) in
         subst (λ l. IsChain (next_at side slots3) (prev_at side slots3) None (first_at side spots2 n) l) (sym (list_left side n inside)) (chain_left side n inside);

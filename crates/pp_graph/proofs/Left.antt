@@ -15,7 +15,7 @@ use Rattle.pp_count.specs.Counted.{IsCountedOf, report_samples}
 use Rattle.pp_count.specs.Table.{written_key}
 use Rattle.pp_graph.specs.declared.trimming.Trimmed.{Trimmed}
 use Rattle.pp_graph.specs.Cuts.{kept_flags, is_heavy_edge, is_light_edge}
-use Rattle.pp_graph.specs.Links.{AreLinked, live_edges}
+use Rattle.pp_graph.specs.Links.{AreEdgesLinked, live_edges}
 use Rattle.pp_graph.specs.Trim.{has_heavy_edge, light_edge_count}
 use Rattle.pp_graph.specs.Trimmed.{HasNodes, IsRankedOf, IsTrimmedOf}
 use Rattle.pp_graph.proofs.Between.{heavy_between, light_count_is}
@@ -23,7 +23,7 @@ use Rattle.pp_graph.proofs.Between.{heavy_between, light_count_is}
 module _ (l : Loaded) (v : Verdicts) (config : Config) (column : Option ℕ) (limit : ℕ) (c : Counted) (counted : IsCountedOf l v config column c) (t : Trimmed)
     (ranked : IsRankedOf l v config column limit c t.ranked) (edges : List Edge)
     (are : (f : Finders) → HoldsFilters l v config f → AreEdgesOf l.profile (report_samples l.profile f config column) c.sums.names (kept_flags (length c.sums.names) t.ranked.order) edges) where
-  pub trimmed_of : AreLinked t.graph → HasNodes c.sums t.graph
+  pub trimmed_of : AreEdgesLinked t.graph → HasNodes c.sums t.graph
       → live_edges t.graph ≡ filter (is_heavy_edge c.total config.edgefraction.billionths) edges
       → t.dropped_edges ≡ length (filter (is_light_edge c.total config.edgefraction.billionths) edges)
       → IsTrimmedOf l v config column limit c t

@@ -2,14 +2,14 @@
 use Rattle.std.proofs.Common.{◌≡◌, ℕ, pos, [], ◌∷◌, refl}
 use Rattle.std.specs.Prelude.{Some}
 use Rattle.pp_count.specs.declared.edge.Edge.{Edge}
-use Rattle.pp_graph.specs.Links.{Links, out_at, in_at, without}
+use Rattle.pp_graph.specs.Links.{EdgeLinks, out_at, in_at, without}
 
 -- an edge between two nodes
 edge : ℕ → ℕ → ℕ → Edge
 edge caller callee value = record { from = caller; to = callee; value = pos value }
 
 -- node 0 calls 1 and 2
-abbrev fork : Links
+abbrev fork : EdgeLinks
 fork = record {
   nodes = [];
   edges = Some (edge 0 1 1) ∷ Some (edge 0 2 1) ∷ [];
@@ -25,7 +25,7 @@ no_caller : in_at (without 0 fork) 1 ≡ []
 no_caller = refl
 
 -- 0 calls 1 and 2, 1 calls 2, and 2 calls 0
-abbrev round : Links
+abbrev round : EdgeLinks
 round = record {
   nodes = [];
   edges = Some (edge 0 1 1) ∷ Some (edge 0 2 2) ∷ Some (edge 1 2 3) ∷ Some (edge 2 0 4) ∷ [];
@@ -34,7 +34,7 @@ round = record {
 }
 
 -- without the two edges of 0, first that to 2 and then that to 1
-abbrev cut_twice : Links
+abbrev cut_twice : EdgeLinks
 cut_twice = without 0 (without 1 round)
 
 no_callee : out_at cut_twice 0 ≡ []

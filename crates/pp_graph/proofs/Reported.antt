@@ -27,9 +27,9 @@ use Rattle.pp_count.specs.Counts.{total_of}
 use Rattle.pp_count.specs.Counted.{FitSums, IsCountedOf, report_samples}
 use Rattle.pp_graph.specs.declared.heavy.Row.{Row}
 use Rattle.pp_graph.specs.declared.ranking.Ranked.{Ranked}
-use Rattle.pp_graph.specs.Trim.{shown_keys, report_keys, candidate_keys, dropped_nodes, heavy_keys, light_count}
+use Rattle.pp_graph.specs.Trim.{shown_keys, report_keys, candidate_keys, light_nodes, heavy_keys, light_count}
 use Rattle.pp_graph.specs.Trimmed.{int_sum, written_order, IsRankedOf}
-use Rattle.pp_graph.specs.Ranks.{sum_at, IsRankedRow, is_heavy_number, heavy_numbers, AreRanked}
+use Rattle.pp_graph.specs.Ranks.{sum_of_name, IsRankedRow, is_heavy_number, heavy_numbers, AreRanked}
 use Rattle.pp_graph.proofs.Shown.{All-with, All-map, shown_all, order_is, candidates_are, flats_are, light_is}
 
 sum_by-map : {A B : Type 0} (g : B → ℕ) (f : A → B) (xs : List A) → sum_by g (map f xs) ≡ sum_by (λ x. g (f x)) xs
@@ -63,15 +63,15 @@ module _ (p : Profile) (sort : Sort) (sums : Sums) (fits : FitSums sums) (total 
   numbers_below = All-map (λ n. n < length sums.names) (λ (r : Row). r.number) (shown_keys limit rows)
       (All-with {P = IsRankedRow p sort sums} (λ r w. w.below) (shown_keys limit rows) (shown_all (IsRankedRow p sort sums) limit rows ranked.rows_are))
 
-  all_flats : sum_by (λ n. nat_abs (sum_at sums.flat n)) (range_with_len 0 (length sums.names)) ≡ sum_by nat_abs sums.flat
+  all_flats : sum_by (λ n. nat_abs (sum_of_name sums.flat n)) (range_with_len 0 (length sums.names)) ≡ sum_by nat_abs sums.flat
   all_flats =
-      sym (sum_by-map nat_abs (sum_at sums.flat) (range_with_len 0 (length sums.names)))
-      ∙ ap (sum_by nat_abs) (sym (fill_by_all (sum_at sums.flat) sums.flat (length sums.names) (pos 0) fits.flats (λ k within. refl)))
+      sym (sum_by-map nat_abs (sum_of_name sums.flat) (range_with_len 0 (length sums.names)))
+      ∙ ap (sum_by nat_abs) (sym (fill_by_all (sum_of_name sums.flat) sums.flat (length sums.names) (pos 0) fits.flats (λ k within. refl)))
 
-  shown_part : sum_by (λ n. nat_abs (sum_at sums.flat n)) shown_numbers ≤ sum_by (λ n. nat_abs (sum_at sums.flat n)) (map (λ (r : Row). r.number) rows)
-  shown_part = elim (eqb limit 0) as (λ b. sum_by (λ n. nat_abs (sum_at sums.flat n)) (map (λ (r : Row). r.number) (cond b rows (take limit rows))) ≤ sum_by (λ n. nat_abs (sum_at sums.flat n)) (map (λ (r : Row). r.number) rows)) [
+  shown_part : sum_by (λ n. nat_abs (sum_of_name sums.flat n)) shown_numbers ≤ sum_by (λ n. nat_abs (sum_of_name sums.flat n)) (map (λ (r : Row). r.number) rows)
+  shown_part = elim (eqb limit 0) as (λ b. sum_by (λ n. nat_abs (sum_of_name sums.flat n)) (map (λ (r : Row). r.number) (cond b rows (take limit rows))) ≤ sum_by (λ n. nat_abs (sum_of_name sums.flat n)) (map (λ (r : Row). r.number) rows)) [
     | true ↦ omega arith
-    | false ↦ omega (arith, ap (sum_by (λ n. nat_abs (sum_at sums.flat n))) (take-map (λ (r : Row). r.number) limit rows), sum_by-take-le (λ n. nat_abs (sum_at sums.flat n)) (map (λ (r : Row). r.number) rows) limit)
+    | false ↦ omega (arith, ap (sum_by (λ n. nat_abs (sum_of_name sums.flat n))) (take-map (λ (r : Row). r.number) limit rows), sum_by-take-le (λ n. nat_abs (sum_of_name sums.flat n)) (map (λ (r : Row). r.number) rows) limit)
   ]
 
   range_apart : (n : ℕ) → AllPairs (λ a b. a ≢ b) (range_with_len 0 n)
@@ -105,30 +105,30 @@ module _ (p : Profile) (sort : Sort) (sums : Sums) (fits : FitSums sums) (total 
   ]
 
   -- their flats can be added up
-  pub numbers_small : sum_by (λ n. nat_abs (sum_at sums.flat n)) shown_numbers < 2 ^ 63
+  pub numbers_small : sum_by (λ n. nat_abs (sum_of_name sums.flat n)) shown_numbers < 2 ^ 63
   numbers_small = omega (
     arith,
     shown_part,
     all_flats,
     fits.small,
-    sum_by-IsPermutation (λ n. nat_abs (sum_at sums.flat n)) (heavy_numbers total billionths sums (length sums.names)) (map (λ (r : Row). r.number) rows) ranked.numbers,
-    sum_by-filter_both (is_heavy_number total billionths sums) (λ n. not (is_heavy_number total billionths sums n)) (λ _. refl) (λ n. nat_abs (sum_at sums.flat n)) (range_with_len 0 (length sums.names)),
+    sum_by-IsPermutation (λ n. nat_abs (sum_of_name sums.flat n)) (heavy_numbers total billionths sums (length sums.names)) (map (λ (r : Row). r.number) rows) ranked.numbers,
+    sum_by-filter_both (is_heavy_number total billionths sums) (λ n. not (is_heavy_number total billionths sums n)) (λ _. refl) (λ n. nat_abs (sum_of_name sums.flat n)) (range_with_len 0 (length sums.names)),
   )
 
 module _ (l : Loaded) (v : Verdicts) (config : Config) (column : Option ℕ) (limit : ℕ) (c : Counted) (rows : List Row) (light : ℕ)
     (counted : IsCountedOf l v config column c) (ranked : AreRanked l.profile config.sort c.sums c.total config.nodefraction.billionths rows light) where
-  pub ranked_of : (t : Ranked) → t.order ≡ map (λ (r : Row). r.number) (shown_keys limit rows) → t.shown_flat ≡ int_sum (map (sum_at c.sums.flat) t.order)
+  pub ranked_of : (t : Ranked) → t.order ≡ map (λ (r : Row). r.number) (shown_keys limit rows) → t.shown_flat ≡ int_sum (map (sum_of_name c.sums.flat) t.order)
       → t.dropped_nodes ≡ light → t.candidates ≡ length rows → IsRankedOf l v config column limit c t
   ranked_of t order flats light_is_t rows_are = record {
     below = subst (All (λ n. n < length c.sums.names)) (sym order) (numbers_below l.profile config.sort c.sums counted.fits c.total config.nodefraction.billionths rows light limit ranked);
     once = subst (AllPairs (λ a b. a ≢ b)) (sym order) (numbers_apart l.profile config.sort c.sums counted.fits c.total config.nodefraction.billionths rows light limit ranked);
-    small = subst (λ xs. sum_by (λ n. nat_abs (sum_at c.sums.flat n)) xs < 2 ^ 63) (sym order) (numbers_small l.profile config.sort c.sums counted.fits c.total config.nodefraction.billionths rows light limit ranked);
+    small = subst (λ xs. sum_by (λ n. nat_abs (sum_of_name c.sums.flat n)) xs < 2 ^ 63) (sym order) (numbers_small l.profile config.sort c.sums counted.fits c.total config.nodefraction.billionths rows light limit ranked);
     keys = λ f h.
         ap (written_order l.profile c.sums.names) order
         ∙ order_is l.profile (report_samples l.profile f config column) c.sums counted.fits (counted.sums_are f h) config.sort c.total config.nodefraction.billionths rows light ranked limit
         ∙ ap (λ n. shown_keys limit (heavy_keys key_cmp config.sort n config.nodefraction.billionths (report_samples l.profile f config column))) (counted.total_is f h);
     shown_flat = λ f h.
-        flats ∙ ap (λ xs. int_sum (map (sum_at c.sums.flat) xs)) order
+        flats ∙ ap (λ xs. int_sum (map (sum_of_name c.sums.flat) xs)) order
         ∙ ap int_sum (flats_are l.profile (report_samples l.profile f config column) c.sums counted.fits (counted.sums_are f h) config.sort c.total config.nodefraction.billionths rows light ranked limit)
         ∙ ap (λ n. int_sum (map (flat key_cmp (report_samples l.profile f config column)) (shown_keys limit (heavy_keys key_cmp config.sort n config.nodefraction.billionths (report_samples l.profile f config column))))) (counted.total_is f h);
     dropped_nodes = λ f h.

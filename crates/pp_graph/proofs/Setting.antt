@@ -9,8 +9,8 @@ use Rattle.pp_graph.specs.declared.slot.Slot.{Slot}
 use Rattle.pp_graph.specs.declared.slot.Spot.{Spot}
 use Rattle.pp_graph.specs.declared.slot.Side.{Side}
 use Rattle.pp_graph.specs.declared.slot.Side.TheVariants.{Out, In}
-use Rattle.pp_graph.specs.Chains.{is_number}
-use Rattle.pp_graph.specs.Slots.{hooks, hooks_at, next_at, prev_at, first, first_at, end_of, end_at, slot_at, spot_at, slot_edge, with_next, with_prev, with_first, next_set, prev_set, first_set, HasPlace, unlinked_slots, unlinked_spots, linked_slots, linked_spots}
+use Rattle.pp_graph.specs.Chains.{holds_number}
+use Rattle.pp_graph.specs.Slots.{hooks, hooks_at, next_at, prev_at, first_of_side, first_at, side_end, end_at, slot_at, spot_at, slot_edge, with_next, with_prev, with_first, next_set, prev_set, first_set, HasLinks, unlinked_slots, unlinked_spots, linked_slots, linked_spots}
 use Rattle.pp_graph.proofs.Chaining.{eqb-not, number_is, number_not, Bridges}
 
 -- the side on which nothing is changed
@@ -67,11 +67,11 @@ pub edge-with_prev : (side : Side) (n : Option ℕ) (x : Slot) → ((with_prev s
 edge-with_prev Out n x = (refl, refl)
 edge-with_prev In n x = (refl, refl)
 
-first-with_first : (side : Side) (n : Option ℕ) (x : Spot) → first side (with_first side n x) ≡ n
+first-with_first : (side : Side) (n : Option ℕ) (x : Spot) → first_of_side side (with_first side n x) ≡ n
 first-with_first Out n x = refl
 first-with_first In n x = refl
 
-pub other-with_first : (side : Side) (n : Option ℕ) (x : Spot) → first (other side) (with_first side n x) ≡ first (other side) x
+pub other-with_first : (side : Side) (n : Option ℕ) (x : Spot) → first_of_side (other side) (with_first side n x) ≡ first_of_side (other side) x
 other-with_first Out n x = refl
 other-with_first In n x = refl
 
@@ -110,31 +110,31 @@ module _ (side : Side) (n : Option ℕ) (slots : List Slot) where
   kept-prev_set g same None k within = refl
   kept-prev_set g same (Some e) k within = read_kept g _ slots e k (with_prev side n (slot_at slots e)) (within e refl) (same (slot_at slots e))
 
-  pub next-next_set : (place : Option ℕ) (k : ℕ) → IsWithin place slots → next_at side (next_set side place n slots) k ≡ cond (is_number place k) n (next_at side slots k)
+  pub next-next_set : (place : Option ℕ) (k : ℕ) → IsWithin place slots → next_at side (next_set side place n slots) k ≡ cond (holds_number place k) n (next_at side slots k)
   next-next_set None k within = refl
   next-next_set (Some e) k within =
       read_set (λ x. (hooks side x).next) _ slots e k (with_next side n (slot_at slots e)) (within e refl)
       ∙ ap (λ m. cond (eqb e k) m (next_at side slots k)) (next-with_next side n (slot_at slots e))
 
-  pub prev-prev_set : (place : Option ℕ) (k : ℕ) → IsWithin place slots → prev_at side (prev_set side place n slots) k ≡ cond (is_number place k) n (prev_at side slots k)
+  pub prev-prev_set : (place : Option ℕ) (k : ℕ) → IsWithin place slots → prev_at side (prev_set side place n slots) k ≡ cond (holds_number place k) n (prev_at side slots k)
   prev-prev_set None k within = refl
   prev-prev_set (Some e) k within =
       read_set (λ x. (hooks side x).prev) _ slots e k (with_prev side n (slot_at slots e)) (within e refl)
       ∙ ap (λ m. cond (eqb e k) m (prev_at side slots k)) (prev-with_prev side n (slot_at slots e))
 
 -- The links after e is passed over: those beside it, and the first of its node's list.
-pub record Passed (next prev first next' prev' first' : ℕ → Option ℕ) (n e : ℕ) : Type 0 where
+pub record Passed (next prev first_of_side next' prev' first' : ℕ → Option ℕ) (n e : ℕ) : Type 0 where
   pub bridges : Bridges next prev next' prev' e
   pub first_hit : prev e ≡ None → first' n ≡ next e
-  pub first_kept : prev e ≢ None → first' n ≡ first n
-  pub first_other : (m : ℕ) → m ≢ n → first' m ≡ first m
+  pub first_kept : prev e ≢ None → first' n ≡ first_of_side n
+  pub first_other : (m : ℕ) → m ≢ n → first' m ≡ first_of_side m
 
 pub first-first_set : (side : Side) (n m : ℕ) (place : Option ℕ) (spots : List Spot) → n < length spots → first_at side (first_set side n place spots) m ≡ cond (eqb n m) place (first_at side spots m)
 first-first_set side n m place spots within =
-    read_set (first side) _ spots n m (with_first side place (spot_at spots n)) within
+    read_set (first_of_side side) _ spots n m (with_first side place (spot_at spots n)) within
     ∙ ap (λ p. cond (eqb n m) p (first_at side spots m)) (first-with_first side place (spot_at spots n))
 
-module _ (side : Side) (spots : List Spot) (slots : List Slot) (e : ℕ) (has : HasPlace side spots slots e) where
+module _ (side : Side) (spots : List Spot) (slots : List Slot) (e : ℕ) (has : HasLinks side spots slots e) where
   before : Option ℕ
   before = prev_at side slots e
 
@@ -147,15 +147,15 @@ module _ (side : Side) (spots : List Spot) (slots : List Slot) (e : ℕ) (has : 
   in_between : IsWithin (next_at side slots e) (next_set side (prev_at side slots e) (next_at side slots e) slots)
   in_between k is = omega (arith, has.next k is, length-next_set side (next_at side slots e) slots (prev_at side slots e))
 
-  unlinked_next : (k : ℕ) → next_at side (unlinked_slots side e slots) k ≡ cond (is_number (prev_at side slots e) k) (next_at side slots e) (next_at side slots k)
+  unlinked_next : (k : ℕ) → next_at side (unlinked_slots side e slots) k ≡ cond (holds_number (prev_at side slots e) k) (next_at side slots e) (next_at side slots k)
   unlinked_next k =
       kept-prev_set side (prev_at side slots e) (next_set side (prev_at side slots e) (next_at side slots e) slots) (λ x. (hooks side x).next) (next-with_prev side (prev_at side slots e)) (next_at side slots e) k in_between
       ∙ next-next_set side (next_at side slots e) slots (prev_at side slots e) k has.prev
 
-  unlinked_prev : (k : ℕ) → prev_at side (unlinked_slots side e slots) k ≡ cond (is_number (next_at side slots e) k) (prev_at side slots e) (prev_at side slots k)
+  unlinked_prev : (k : ℕ) → prev_at side (unlinked_slots side e slots) k ≡ cond (holds_number (next_at side slots e) k) (prev_at side slots e) (prev_at side slots k)
   unlinked_prev k =
       prev-prev_set side (prev_at side slots e) (next_set side (prev_at side slots e) (next_at side slots e) slots) (next_at side slots e) k in_between
-      ∙ ap (λ p. cond (is_number (next_at side slots e) k) (prev_at side slots e) p)
+      ∙ ap (λ p. cond (holds_number (next_at side slots e) k) (prev_at side slots e) p)
       (kept-next_set side (next_at side slots e) slots (λ x. (hooks side x).prev) (prev-with_next side (next_at side slots e)) (prev_at side slots e) k has.prev)
 
   unlinked_first : (m : ℕ) → first_at side (unlinked_spots side e slots spots) m
@@ -201,7 +201,7 @@ module _ (side : Side) (spots : List Spot) (slots : List Slot) (e : ℕ) (has : 
 
   pub unlinked_firsts : (m : ℕ) → first_at (other side) (unlinked_spots side e slots spots) m ≡ first_at (other side) spots m
   unlinked_firsts m = elim (is_none (prev_at side slots e)) as (λ b. first_at (other side) (cond b (first_set side (end_at side slots e) (next_at side slots e) spots) spots) m ≡ first_at (other side) spots m) [
-    | true ↦ read_kept (first (other side)) _ spots (end_at side slots e) m (with_first side (next_at side slots e) (spot_at spots (end_at side slots e))) has.spot (other-with_first side (next_at side slots e) (spot_at spots (end_at side slots e)))
+    | true ↦ read_kept (first_of_side (other side)) _ spots (end_at side slots e) m (with_first side (next_at side slots e) (spot_at spots (end_at side slots e))) has.spot (other-with_first side (next_at side slots e) (spot_at spots (end_at side slots e)))
     | false ↦ refl
   ]
 

@@ -31,7 +31,7 @@ use Rattle.pp_count.proofs.EachOnce.{each_once_is}
 use Rattle.pp_count.proofs.Ties.{tied, key_decides}
 use Rattle.pp_graph.specs.declared.heavy.Row.{Row}
 use Rattle.pp_graph.specs.Trim.{is_heavy_key, report_order, heavy_keys, light_count, shown_keys}
-use Rattle.pp_graph.specs.Ranks.{row_cmp, row_key, size_cmp, sum_at, major, minor, IsRankedRow, is_heavy_number, heavy_numbers, light_numbers, AreRanked}
+use Rattle.pp_graph.specs.Ranks.{row_cmp, row_key, larger_first, sum_of_name, major, minor, IsRankedRow, is_heavy_number, heavy_numbers, light_numbers, AreRanked}
 use Rattle.pp_graph.proofs.Ordering.{report_total, report_same}
 
 -- a filter of what stands for items is what stands for a filter of them
@@ -88,13 +88,13 @@ module _ (p : Profile) (samples : List (Seen Written)) (sums : Sums) (fits : Fit
   names-range = sym (fill_by_all key_at names (length sums.names) (key_written p no_key) (length-map sums.names (key_written p))
       (λ k within. get_or-map (key_written p) sums.names k no_key (key_written p no_key) within))
 
-  pub flat_at : (n : ℕ) → n < length sums.names → sum_at sums.flat n ≡ flat key_cmp samples (key_at n)
+  pub flat_at : (n : ℕ) → n < length sums.names → sum_of_name sums.flat n ≡ flat key_cmp samples (key_at n)
   flat_at n within =
       ap (λ xs. get_or xs n (pos 0)) are.flat
       ∙ get_or-map (flat key_cmp samples) names n (key_written p no_key) (pos 0) (omega (arith, within, length-map sums.names (key_written p)))
       ∙ ap (flat key_cmp samples) (get_or-map (key_written p) sums.names n no_key (key_written p no_key) within)
 
-  pub cum_at : (n : ℕ) → n < length sums.names → sum_at sums.cum n ≡ cum key_cmp samples (key_at n)
+  pub cum_at : (n : ℕ) → n < length sums.names → sum_of_name sums.cum n ≡ cum key_cmp samples (key_at n)
   cum_at n within =
       ap (λ xs. get_or xs n (pos 0)) are.cum
       ∙ get_or-map (cum key_cmp samples) names n (key_written p no_key) (pos 0) (omega (arith, within, length-map sums.names (key_written p)))
@@ -139,16 +139,16 @@ module _ (p : Profile) (samples : List (Seen Written)) (sums : Sums) (fits : Fit
   -- rows are ordered as their keys are
   rows_order : (sort : Sort) (a b : Row) → IsRankedRow p sort sums a → IsRankedRow p sort sums b → report_order key_cmp sort samples (row_key a) (row_key b) ≡ row_cmp a b
   rows_order sorts.Flat a b x y =
-      then_assoc (size_cmp (nat_abs (flat key_cmp samples (row_key a))) (nat_abs (flat key_cmp samples (row_key b)))) (size_cmp (nat_abs (cum key_cmp samples (row_key a))) (nat_abs (cum key_cmp samples (row_key b)))) (key_cmp (row_key a) (row_key b))
-      ∙ (λ i. ordering_then (ordering_then (size_cmp (of_flat a x i) (of_flat b y i)) (size_cmp (of_cum a x i) (of_cum b y i))) (key_cmp (row_key a) (row_key b))) where
+      then_assoc (larger_first (nat_abs (flat key_cmp samples (row_key a))) (nat_abs (flat key_cmp samples (row_key b)))) (larger_first (nat_abs (cum key_cmp samples (row_key a))) (nat_abs (cum key_cmp samples (row_key b)))) (key_cmp (row_key a) (row_key b))
+      ∙ (λ i. ordering_then (ordering_then (larger_first (of_flat a x i) (of_flat b y i)) (larger_first (of_cum a x i) (of_cum b y i))) (key_cmp (row_key a) (row_key b))) where
         of_flat : (r : Row) → IsRankedRow p sorts.Flat sums r → nat_abs (flat key_cmp samples (row_key r)) ≡ r.major
         of_flat r w = ap (λ k. nat_abs (flat key_cmp samples k)) w.key ∙ ap nat_abs (sym (flat_at r.number w.below)) ∙ sym w.major
 
         of_cum : (r : Row) → IsRankedRow p sorts.Flat sums r → nat_abs (cum key_cmp samples (row_key r)) ≡ r.minor
         of_cum r w = ap (λ k. nat_abs (cum key_cmp samples k)) w.key ∙ ap nat_abs (sym (cum_at r.number w.below)) ∙ sym w.minor
   rows_order sorts.Cum a b x y =
-      then_assoc (size_cmp (nat_abs (cum key_cmp samples (row_key a))) (nat_abs (cum key_cmp samples (row_key b)))) (size_cmp (nat_abs (flat key_cmp samples (row_key a))) (nat_abs (flat key_cmp samples (row_key b)))) (key_cmp (row_key a) (row_key b))
-      ∙ (λ i. ordering_then (ordering_then (size_cmp (of_cum a x i) (of_cum b y i)) (size_cmp (of_flat a x i) (of_flat b y i))) (key_cmp (row_key a) (row_key b))) where
+      then_assoc (larger_first (nat_abs (cum key_cmp samples (row_key a))) (nat_abs (cum key_cmp samples (row_key b)))) (larger_first (nat_abs (flat key_cmp samples (row_key a))) (nat_abs (flat key_cmp samples (row_key b)))) (key_cmp (row_key a) (row_key b))
+      ∙ (λ i. ordering_then (ordering_then (larger_first (of_cum a x i) (of_cum b y i)) (larger_first (of_flat a x i) (of_flat b y i))) (key_cmp (row_key a) (row_key b))) where
         of_flat : (r : Row) → IsRankedRow p sorts.Cum sums r → nat_abs (flat key_cmp samples (row_key r)) ≡ r.minor
         of_flat r w = ap (λ k. nat_abs (flat key_cmp samples k)) w.key ∙ ap nat_abs (sym (flat_at r.number w.below)) ∙ sym w.minor
 
@@ -206,10 +206,10 @@ module _ (p : Profile) (samples : List (Seen Written)) (sums : Sums) (fits : Fit
     candidates_are = sym (length-map rows row_key) ∙ ap length (sym heavy_are)
 
     -- their flats
-    pub flats_are : (limit : ℕ) → map (sum_at sums.flat) (map (λ (r : Row). r.number) (shown_keys limit rows)) ≡ map (flat key_cmp samples) (shown_keys limit (heavy_keys key_cmp sort total billionths samples))
+    pub flats_are : (limit : ℕ) → map (sum_of_name sums.flat) (map (λ (r : Row). r.number) (shown_keys limit rows)) ≡ map (flat key_cmp samples) (shown_keys limit (heavy_keys key_cmp sort total billionths samples))
     flats_are limit =
-        map-both (λ (r : Row). r.number) (sum_at sums.flat) (shown_keys limit rows)
-        ∙ map-same (λ (r : Row). sum_at sums.flat r.number) (λ (r : Row). flat key_cmp samples (key_at r.number)) (shown_keys limit rows)
+        map-both (λ (r : Row). r.number) (sum_of_name sums.flat) (shown_keys limit rows)
+        ∙ map-same (λ (r : Row). sum_of_name sums.flat r.number) (λ (r : Row). flat key_cmp samples (key_at r.number)) (shown_keys limit rows)
         (All-with {P = IsRankedRow p sort sums} (λ r w. flat_at r.number w.below) (shown_keys limit rows) (shown_all (IsRankedRow p sort sums) limit rows ranked.rows_are))
         ∙ sym (map-both (λ (r : Row). key_at r.number) (flat key_cmp samples) (shown_keys limit rows))
         ∙ ap (map (flat key_cmp samples)) (sym (map-both (λ (r : Row). r.number) key_at (shown_keys limit rows)) ∙ order_is limit)

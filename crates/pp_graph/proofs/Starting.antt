@@ -10,10 +10,10 @@ use Rattle.pp_graph.specs.declared.slot.Spot.{Spot}
 use Rattle.pp_graph.specs.declared.slot.Side.{Side}
 use Rattle.pp_graph.specs.declared.slot.Side.TheVariants.{Out, In}
 use Rattle.pp_graph.specs.Chains.{IsChain}
-use Rattle.pp_graph.specs.Links.{Links}
-use Rattle.pp_graph.specs.Lists.{times}
-use Rattle.pp_graph.specs.Slots.{bare_spot, bare_spots, no_spot, first_at, next_at, prev_at, list_at, links_of, list_of, AreSoundSlots}
-use Rattle.pp_graph.specs.Trimmed.{HasNodes, node_of}
+use Rattle.pp_graph.specs.Links.{EdgeLinks}
+use Rattle.pp_graph.specs.Lists.{occurrences}
+use Rattle.pp_graph.specs.Slots.{bare_spot, bare_spots, no_spot, first_at, next_at, prev_at, list_at, held_links, list_of, AreSoundSlots}
+use Rattle.pp_graph.specs.Trimmed.{HasNodes, IsNodeOf}
 use Rattle.pp_graph.proofs.Seeing.{list_seen}
 
 module _ (sums : Sums) (n : ℕ) where
@@ -40,8 +40,8 @@ module _ (sums : Sums) (n : ℕ) where
     linked = record {
       outs = length-map (bare_spots sums n) (list_of Out []) ∙ sym (length-map (bare_spots sums n) (λ (x : Spot). x.node));
       ins = length-map (bare_spots sums n) (list_of In []) ∙ sym (length-map (bare_spots sums n) (λ (x : Spot). x.node));
-      out = λ k e within. ap (times e) (list_seen (bare_spots sums n) [] Out k (omega (arith, within, length-nodes, length-bare)));
-      into = λ k e within. ap (times e) (list_seen (bare_spots sums n) [] In k (omega (arith, within, length-nodes, length-bare)));
+      out = λ k e within. ap (occurrences e) (list_seen (bare_spots sums n) [] Out k (omega (arith, within, length-nodes, length-bare)));
+      into = λ k e within. ap (occurrences e) (list_seen (bare_spots sums n) [] In k (omega (arith, within, length-nodes, length-bare)));
       ends = λ e edge is. absurd (none-some (Some edge) is);
       names = λ k node is. ap (λ (x : Node). x.name) (node_at k node is).1;
     };
@@ -51,11 +51,11 @@ module _ (sums : Sums) (n : ℕ) where
     no_first Out k within = ap (λ (x : Spot). x.first_out) (first_none k within)
     no_first In k within = ap (λ (x : Spot). x.first_in) (first_none k within)
 
-    chain : (side : Side) (k : ℕ) → k < n → IsChain (next_at side []) (prev_at side []) None (first_at side (bare_spots sums n) k) (list_at side (links_of (bare_spots sums n) []) k)
+    chain : (side : Side) (k : ℕ) → k < n → IsChain (next_at side []) (prev_at side []) None (first_at side (bare_spots sums n) k) (list_at side (held_links (bare_spots sums n) []) k)
     chain side k within = subst (λ l. IsChain (next_at side []) (prev_at side []) None (first_at side (bare_spots sums n) k) l)
         (sym (list_seen (bare_spots sums n) [] side k (omega (arith, within, length-bare)))) (no_first side k within)
 
-  pub nodes_bare : n ≡ length sums.names → length sums.flat ≡ length sums.names → length sums.cum ≡ length sums.names → HasNodes sums (links_of (bare_spots sums n) [])
+  pub nodes_bare : n ≡ length sums.names → length sums.flat ≡ length sums.names → length sums.cum ≡ length sums.names → HasNodes sums (held_links (bare_spots sums n) [])
   nodes_bare names flats cums = record {
     count = length-nodes ∙ names;
     each = λ k node is.
@@ -67,7 +67,7 @@ module _ (sums : Sums) (n : ℕ) where
   }
 
 -- other edges leave the nodes
-pub nodes_same : (sums : Sums) (old new : Links) → new.nodes ≡ old.nodes → HasNodes sums old → HasNodes sums new
+pub nodes_same : (sums : Sums) (old new : EdgeLinks) → new.nodes ≡ old.nodes → HasNodes sums old → HasNodes sums new
 nodes_same sums old new same has = record {
   count = ap length same ∙ has.count;
   each = λ k node is. has.each k node (sym (ap (λ ns. slice_get ns k) same) ∙ is);

@@ -9,8 +9,8 @@ walk next (suc most) None = []
 walk next (suc most) (Some e) = e ∷ walk next most (next e)
 
 -- the number is this one
-abbrev pub is_number : Option ℕ → ℕ → Bool
-is_number place k = option_map_or (λ e. e == k) place false
+abbrev pub holds_number : Option ℕ → ℕ → Bool
+holds_number place k = option_map_or (λ e. e == k) place false
 
 module _ (next prev : ℕ → Option ℕ) where
   -- the numbers are linked one after the other, forward and back, and the last has none after it

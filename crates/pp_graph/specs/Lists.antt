@@ -6,8 +6,8 @@ abbrev pub once_if : Bool → ℕ
 once_if does = if does then 1 else 0
 
 -- how often the number stands in the list
-abbrev pub times : ℕ → List ℕ → ℕ
-times e list = count_by (λ k. k == e) list
+abbrev pub occurrences : ℕ → List ℕ → ℕ
+occurrences e list = count_by (λ k. k == e) list
 
 -- the list without the number
 abbrev pub leave_out : ℕ → List ℕ → List ℕ

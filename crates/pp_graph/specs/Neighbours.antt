@@ -21,9 +21,9 @@ pub record Neighbour (K : Type 0) : Type 0 where
   pub value : ℤ
 
 -- the keys that pass a test, each once and each with a value, by absolute value falling, then by the keys' order
-abbrev pub listed : {K : Type 0} → (K → K → Ordering) → (K → Bool) → (K → ℤ) → List K
+abbrev pub neighbour_list : {K : Type 0} → (K → K → Ordering) → (K → Bool) → (K → ℤ) → List K
     → List (Neighbour K)
-listed order test value keys =
+neighbour_list order test value keys =
     map (λ k. record { key = k; value = value k })
     (each_once (then_cmp (by_size value) order) (filter test keys))
 
@@ -31,13 +31,13 @@ module _ {K : Type 0} (order : K → K → Ordering) where
   -- The callers of a key over the keys that are kept, by edges of at least this fraction of the total.
   abbrev pub callers_over : (K → Bool) → List (Seen K) → ℕ → ℕ → K → List (Neighbour K)
   callers_over kept samples total billionths callee =
-      listed order (λ caller. has_heavy_edge order kept samples total billionths caller callee)
+      neighbour_list order (λ caller. has_heavy_edge order kept samples total billionths caller callee)
       (λ caller. edge_sum order kept samples caller callee) (all_keys samples)
 
   -- The callees of a key in the same way.
   abbrev pub callees_over : (K → Bool) → List (Seen K) → ℕ → ℕ → K → List (Neighbour K)
   callees_over kept samples total billionths caller =
-      listed order (λ callee. has_heavy_edge order kept samples total billionths caller callee)
+      neighbour_list order (λ callee. has_heavy_edge order kept samples total billionths caller callee)
       (λ callee. edge_sum order kept samples caller callee) (all_keys samples)
 
 -- The callers that a report shows of a key, over the keys that it shows.

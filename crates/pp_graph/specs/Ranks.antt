@@ -20,28 +20,28 @@ abbrev pub row_key : Row → Written
 row_key row = written_texts row.texts
 
 -- the greater number first
-abbrev pub size_cmp : ℕ → ℕ → Ordering
-size_cmp a b = nat_cmp b a
+abbrev pub larger_first : ℕ → ℕ → Ordering
+larger_first a b = nat_cmp b a
 
 -- report order of rows
 abbrev pub row_cmp : Row → Row → Ordering
 row_cmp a b =
-    ordering_then (ordering_then (size_cmp a.major b.major) (size_cmp a.minor b.minor))
+    ordering_then (ordering_then (larger_first a.major b.major) (larger_first a.minor b.minor))
     (key_cmp (row_key a) (row_key b))
 
 -- the item of the list at the place, 0 where there is none
-abbrev pub sum_at : List ℤ → ℕ → ℤ
-sum_at sums n = slice_index_or sums n (pos 0)
+abbrev pub sum_of_name : List ℤ → ℕ → ℤ
+sum_of_name sums n = slice_index_or sums n (pos 0)
 
 -- the sum that comes first in report order
 abbrev pub major : Sort → Sums → ℕ → ℕ
-major sorts.Flat sums n = nat_abs (sum_at sums.flat n)
-major sorts.Cum sums n = nat_abs (sum_at sums.cum n)
+major sorts.Flat sums n = nat_abs (sum_of_name sums.flat n)
+major sorts.Cum sums n = nat_abs (sum_of_name sums.cum n)
 
 -- the sum that comes second
 abbrev pub minor : Sort → Sums → ℕ → ℕ
-minor sorts.Flat sums n = nat_abs (sum_at sums.cum n)
-minor sorts.Cum sums n = nat_abs (sum_at sums.flat n)
+minor sorts.Flat sums n = nat_abs (sum_of_name sums.cum n)
+minor sorts.Cum sums n = nat_abs (sum_of_name sums.flat n)
 
 -- the row is that of its number
 pub record IsRankedRow (p : Profile) (sort : Sort) (sums : Sums) (row : Row) : Type 0 where
@@ -52,7 +52,7 @@ pub record IsRankedRow (p : Profile) (sort : Sort) (sums : Sums) (row : Row) : T
 
 -- the number's cum is at least this fraction of the total
 abbrev pub is_heavy_number : ℕ → ℕ → Sums → ℕ → Bool
-is_heavy_number total billionths sums n = is_heavy total billionths (sum_at sums.cum n)
+is_heavy_number total billionths sums n = is_heavy total billionths (sum_of_name sums.cum n)
 
 -- the numbers below n that are heavy
 abbrev pub heavy_numbers : ℕ → ℕ → Sums → ℕ → List ℕ

@@ -10,7 +10,7 @@ use Rattle.pp_graph.specs.declared.slot.Spot.{Spot}
 use Rattle.pp_graph.specs.declared.slot.Side.{Side}
 use Rattle.pp_graph.specs.declared.slot.Side.TheVariants.{Out, In}
 use Rattle.pp_graph.specs.Chains.{walk, IsChain}
-use Rattle.pp_graph.specs.Links.{Links, AreLinked, out_at, in_at, leaves, enters}
+use Rattle.pp_graph.specs.Links.{EdgeLinks, AreEdgesLinked, out_at, in_at, leaves, enters}
 
 -- an edge that stands nowhere
 abbrev pub no_hooks : Hooks
@@ -39,14 +39,14 @@ hooks Out slot = slot.out
 hooks In slot = slot.into
 
 -- the first edge of the node's list of this side
-abbrev pub first : Side → Spot → Option ℕ
-first Out spot = spot.first_out
-first In spot = spot.first_in
+abbrev pub first_of_side : Side → Spot → Option ℕ
+first_of_side Out spot = spot.first_out
+first_of_side In spot = spot.first_in
 
 -- the end at which the edge stands in a list of this side
-abbrev pub end_of : Side → Edge → ℕ
-end_of Out edge = edge.from
-end_of In edge = edge.to
+abbrev pub side_end : Side → Edge → ℕ
+side_end Out edge = edge.from
+side_end In edge = edge.to
 
 -- the edges beside the one of this number
 abbrev pub hooks_at : Side → List Slot → ℕ → Hooks
@@ -62,7 +62,7 @@ prev_at side slots e = (hooks_at side slots e).prev
 
 -- the first edge of the list of the node with this number
 abbrev pub first_at : Side → List Spot → ℕ → Option ℕ
-first_at side spots n = first side (slice_index_or spots n no_spot)
+first_at side spots n = first_of_side side (slice_index_or spots n no_spot)
 
 -- the edge of the slot, none where it was cut
 abbrev pub slot_edge : Slot → Option Edge
@@ -70,11 +70,11 @@ slot_edge slot = if slot.live then Some slot.edge else None
 
 -- the list of a node
 abbrev pub list_of : Side → List Slot → Spot → List ℕ
-list_of side slots spot = walk (next_at side slots) (length slots) (first side spot)
+list_of side slots spot = walk (next_at side slots) (length slots) (first_of_side side spot)
 
 -- the graph that the slots hold
-abbrev pub links_of : List Spot → List Slot → Links
-links_of spots slots = record {
+abbrev pub held_links : List Spot → List Slot → EdgeLinks
+held_links spots slots = record {
   nodes = map (λ spot. spot.node) spots;
   edges = map slot_edge slots;
   outs = map (list_of Out slots) spots;
@@ -82,21 +82,21 @@ links_of spots slots = record {
 }
 
 -- the list of this side of a node
-abbrev pub list_at : Side → Links → ℕ → List ℕ
+abbrev pub list_at : Side → EdgeLinks → ℕ → List ℕ
 list_at Out g n = out_at g n
 list_at In g n = in_at g n
 
 -- the edge of the number stands at the node on this side
-abbrev pub has_end : Side → Links → ℕ → ℕ → Bool
+abbrev pub has_end : Side → EdgeLinks → ℕ → ℕ → Bool
 has_end Out g n e = leaves g n e
 has_end In g n e = enters g n e
 
 -- Each live edge stands once in both its lists, and the links of each list agree forward and back.
 pub record AreSoundSlots (spots : List Spot) (slots : List Slot) : Type 0 where
-  pub linked : AreLinked (links_of spots slots)
+  pub linked : AreEdgesLinked (held_links spots slots)
   pub chains : (side : Side) (n : ℕ) → n < length spots
       → IsChain (next_at side slots) (prev_at side slots) None (first_at side spots n)
-      (list_at side (links_of spots slots) n)
+      (list_at side (held_links spots slots) n)
 
 -- the slot at the place
 abbrev pub slot_at : List Slot → ℕ → Slot
@@ -137,10 +137,10 @@ first_set side n place spots = slice_set spots n (with_first side place (spot_at
 
 -- the number of the node that has the edge in its list of this side
 abbrev pub end_at : Side → List Slot → ℕ → ℕ
-end_at side slots e = end_of side (slot_at slots e).edge
+end_at side slots e = side_end side (slot_at slots e).edge
 
 -- the edge and those beside it are there, and the node that has it
-pub record HasPlace (side : Side) (spots : List Spot) (slots : List Slot) (e : ℕ) : Type 0 where
+pub record HasLinks (side : Side) (spots : List Spot) (slots : List Slot) (e : ℕ) : Type 0 where
   pub slot : e < length slots
   pub spot : end_at side slots e < length spots
   pub next : (k : ℕ) → next_at side slots e ≡ Some k → k < length slots

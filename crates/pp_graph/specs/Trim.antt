@@ -93,14 +93,14 @@ abbrev pub is_report_key : Profile → Finders → Config → Option ℕ → ℕ
 is_report_key p f config column limit k = has key_cmp k (report_keys p f config column limit)
 
 -- how many keys occur and are too light to be shown
-abbrev pub dropped_nodes : Profile → Finders → Config → Option ℕ → ℕ
-dropped_nodes p f config column =
+abbrev pub light_nodes : Profile → Finders → Config → Option ℕ → ℕ
+light_nodes p f config column =
     light_count key_cmp (total_of p f config column) config.nodefraction.billionths
     (report_samples p f config column)
 
 -- how many pairs occur over the keys that are shown, and have an edge that is too light
-abbrev pub dropped_edges : Profile → Finders → Config → Option ℕ → ℕ → ℕ
-dropped_edges p f config column limit =
+abbrev pub light_edges : Profile → Finders → Config → Option ℕ → ℕ → ℕ
+light_edges p f config column limit =
     light_edge_count key_cmp (report_keys p f config column limit)
     (report_samples p f config column) (total_of p f config column)
     config.edgefraction.billionths

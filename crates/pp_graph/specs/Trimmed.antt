@@ -21,8 +21,8 @@ use Rattle.pp_count.specs.Table.{written_key}
 use Rattle.pp_graph.specs.declared.node.Node.{Node}
 use Rattle.pp_graph.specs.declared.ranking.Ranked.{Ranked}
 use Rattle.pp_graph.specs.declared.trimming.Trimmed.{Trimmed}
-use Rattle.pp_graph.specs.Links.{Links, AreLinked, live_edges}
-use Rattle.pp_graph.specs.Trim.{candidate_keys, first_report_keys, report_keys, is_report_key, dropped_nodes, dropped_edges, has_heavy_edge}
+use Rattle.pp_graph.specs.Links.{EdgeLinks, AreEdgesLinked, live_edges}
+use Rattle.pp_graph.specs.Trim.{candidate_keys, first_report_keys, report_keys, is_report_key, light_nodes, light_edges, has_heavy_edge}
 
 -- the sum of numbers
 abbrev pub int_sum : List ℤ → ℤ
@@ -46,7 +46,7 @@ pub record IsRankedOf (l : Loaded) (v : Verdicts) (config : Config) (column : Op
       ≡ int_sum (map (flat key_cmp (report_samples l.profile f config column))
       (report_keys l.profile f config column limit))
   pub dropped_nodes : (f : Finders) → HoldsFilters l v config f
-      → t.dropped_nodes ≡ dropped_nodes l.profile f config column
+      → t.dropped_nodes ≡ light_nodes l.profile f config column
   pub candidates : (f : Finders) → HoldsFilters l v config f
       → t.candidates ≡ length (candidate_keys l.profile f config column)
 
@@ -65,8 +65,8 @@ pub record IsWholeRanking (l : Loaded) (v : Verdicts) (config : Config) (column 
       (first_report_keys l.profile f config column limit))
 
 -- the node of a name's number, with the sums of the name
-abbrev pub node_of : Sums → ℕ → Node → Type 0
-node_of sums n node =
+abbrev pub IsNodeOf : Sums → ℕ → Node → Type 0
+IsNodeOf sums n node =
     (node.name ≡ n) × (slice_get sums.flat n ≡ Some node.flat)
     × (slice_get sums.cum n ≡ Some node.cum)
 
@@ -83,20 +83,20 @@ shown_edges p f config column limit names a b =
     else []
 
 -- The graph has a node for each name, with its sums.
-pub record HasNodes (sums : Sums) (g : Links) : Type 0 where
+pub record HasNodes (sums : Sums) (g : EdgeLinks) : Type 0 where
   pub count : length g.nodes ≡ length sums.names
-  pub each : (n : ℕ) (node : Node) → slice_get g.nodes n ≡ Some node → node_of sums n node
+  pub each : (n : ℕ) (node : Node) → slice_get g.nodes n ≡ Some node → IsNodeOf sums n node
 
 -- The trimmed graph is that of the report: the ranking, and the edges that it shows between the keys that it shows,
 -- each once and no others.
 pub record IsTrimmedOf (l : Loaded) (v : Verdicts) (config : Config) (column : Option ℕ) (limit : ℕ)
     (c : Counted) (t : Trimmed) : Type 0 where
   pub ranked : IsRankedOf l v config column limit c t.ranked
-  pub linked : AreLinked t.graph
+  pub linked : AreEdgesLinked t.graph
   pub nodes : HasNodes c.sums t.graph
   pub edges : (f : Finders) → HoldsFilters l v config f
       → (a b : ℕ) → a < length c.sums.names → b < length c.sums.names
       → edges_between a b (live_edges t.graph)
       ≡ shown_edges l.profile f config column limit c.sums.names a b
   pub dropped_edges : (f : Finders) → HoldsFilters l v config f
-      → t.dropped_edges ≡ dropped_edges l.profile f config column limit
+      → t.dropped_edges ≡ light_edges l.profile f config column limit

@@ -19,12 +19,12 @@ pub struct Graph {
 }
 
 impl Model for Graph {
-    ghost use Rattle.pp_graph.specs.Links.{Links};
-    ghost use Rattle.pp_graph.specs.Slots.{links_of, AreSoundSlots};
+    ghost use Rattle.pp_graph.specs.Links.{EdgeLinks};
+    ghost use Rattle.pp_graph.specs.Slots.{held_links, AreSoundSlots};
 
-    ghost Value = { Links };
+    ghost Value = { EdgeLinks };
 
-    ghost view = { λ g. links_of g.spots.items g.slots.items };
+    ghost view = { λ g. held_links g.spots.items g.slots.items };
 
     ghost invariant = { λ g. AreSoundSlots g.spots.items g.slots.items };
 }
@@ -32,7 +32,7 @@ impl Model for Graph {
 impl Graph {
     ghost use Rattle.std.specs.Prelude.{ℕ, map, slice_get};
     ghost use Rattle.pp_count.specs.Counted.{FitSums};
-    ghost use Rattle.pp_graph.specs.Links.{AreLinked, IsLive, edge_at, live_edges, out_at, in_at, without};
+    ghost use Rattle.pp_graph.specs.Links.{AreEdgesLinked, IsUncut, numbered_edge, live_edges, out_at, in_at, without};
     ghost use Rattle.pp_graph.specs.Trimmed.{HasNodes};
 
     /// The graph of the names of `sums` and of these edges, which get their numbers in order. `Err` is want of memory.
@@ -44,7 +44,7 @@ impl Graph {
         ensures nodes { IfOk result (HasNodes sums.now) }
         ensures edges { IfOk result (λ g. g.edges ≡ map Some edges) }
         ensures live { IfOk result (λ g. live_edges g ≡ edges) }
-        ensures linked { IfOk result AreLinked }
+        ensures linked { IfOk result AreEdgesLinked }
     {
         let mut graph = Graph::of_nodes(alloc, sums)?;
         for edge in edges.as_slice() {
@@ -97,7 +97,7 @@ impl Graph {
     /// The number of nodes.
     pub fn nodes(&self) -> u64
         ensures nodes { result ≡ length self.now.nodes }
-        ensures linked { AreLinked self.now }
+        ensures linked { AreEdgesLinked self.now }
     {
         self.spots.len() as u64
     }
@@ -112,8 +112,8 @@ impl Graph {
 
     /// The edge of this number.
     pub fn edge(&self, e: u64) -> Edge
-        requires { IsLive self.now e }
-        ensures { edge_at self.now e ≡ Some result }
+        requires { IsUncut self.now e }
+        ensures { numbered_edge self.now e ≡ Some result }
     {
         self.slots[e as usize].edge
     }
@@ -128,7 +128,7 @@ impl Graph {
 
     /// The edge after this one among those that leave its caller, and none at the end.
     pub fn next_out(&self, e: u64) -> Option<u64>
-        requires { IsLive self.now e }
+        requires { IsUncut self.now e }
         ensures { (n i : ℕ) → slice_get (out_at self.now n) i ≡ Some e
             → result ≡ slice_get (out_at self.now n) (i + 1) }
     {
@@ -145,7 +145,7 @@ impl Graph {
 
     /// The edge after this one among those that enter its callee, and none at the end.
     pub fn next_in(&self, e: u64) -> Option<u64>
-        requires { IsLive self.now e }
+        requires { IsUncut self.now e }
         ensures { (n i : ℕ) → slice_get (in_at self.now n) i ≡ Some e
             → result ≡ slice_get (in_at self.now n) (i + 1) }
     {
@@ -154,7 +154,7 @@ impl Graph {
 
     /// Takes the edge out of both its lists. All other edges keep their numbers, and their order in each list.
     pub fn cut_edge(&mut self, e: u64)
-        requires { IsLive self.old e }
+        requires { IsUncut self.old e }
         ensures { self.new ≡ without e self.old }
     {
         cut(self.spots.as_mut_slice(), self.slots.as_mut_slice(), e);

@@ -1,7 +1,7 @@
 //! The keys that are heavy enough for a report, in report order.
 ghost use Rattle.std.specs.Prelude.{◌≡◌, ◌<◌, ◌^◌, length, nat_abs, All, IfOk};
 ghost use Rattle.pp_grain.specs.Keys.{IsKeyOf};
-ghost use Rattle.pp_graph.specs.Ranks.{row_cmp, sum_at, is_heavy_number, IsRankedRow, Collected, AreRanked};
+ghost use Rattle.pp_graph.specs.Ranks.{row_cmp, sum_of_name, is_heavy_number, IsRankedRow, Collected, AreRanked};
 
 use pp_base::{Fraction, List, Memory};
 use pp_count::{Sums, is_heavy};
@@ -119,7 +119,7 @@ fn row_of<'a>(p: &'a Profile, sort: Sort, sums: &Sums, number: u64) -> Row<'a>
 // The absolute value of the sum at the place.
 fn size_at(sums: &List<i64>, place: u64) -> u64
     requires { place < length sums.now }
-    ensures { result ≡ nat_abs (sum_at sums.now place) }
+    ensures { result ≡ nat_abs (sum_of_name sums.now place) }
 {
     sums.as_slice()[place as usize].unsigned_abs()
 }

@@ -1,7 +1,7 @@
 //! How an edge is linked into a list, and taken out of it.
 ghost use Rattle.std.specs.Prelude.{◌≡◌, ℕ, ◌<◌, length, map};
-ghost use Rattle.pp_graph.specs.Slots.{hooks, end_of, no_slot, next_set, prev_set, first_set, HasPlace, linked_slots, linked_spots, unlinked_slots, unlinked_spots, links_of, slot_edge, AreSoundSlots, IsNewest};
-ghost use Rattle.pp_graph.specs.Links.{IsLive, without};
+ghost use Rattle.pp_graph.specs.Slots.{hooks, side_end, no_slot, next_set, prev_set, first_set, HasLinks, linked_slots, linked_spots, unlinked_slots, unlinked_spots, held_links, slot_edge, AreSoundSlots, IsNewest};
+ghost use Rattle.pp_graph.specs.Links.{IsUncut, without};
 
 use crate::slot::{Hooks, Side, Slot, Spot};
 use pp_count::Edge;
@@ -18,7 +18,7 @@ fn hooks(slot: &Slot, side: Side) -> Hooks
 
 // The node that has the edge in its list of the side.
 fn end_of(edge: &Edge, side: Side) -> u64
-    ensures { result ≡ end_of side edge.now }
+    ensures { result ≡ side_end side edge.now }
 {
     match side {
         Side::Out => edge.from,
@@ -66,9 +66,9 @@ fn set_prev(slots: &mut [Slot], place: Option<u64>, side: Side, prev: Option<u64
 /// Cuts the edge: takes it out of both its lists, and marks it.
 pub fn cut(spots: &mut [Spot], slots: &mut [Slot], e: u64)
     requires sound { AreSoundSlots spots.old slots.old }
-    requires live { IsLive (links_of spots.old slots.old) e }
+    requires live { IsUncut (held_links spots.old slots.old) e }
     ensures sound { AreSoundSlots spots.new slots.new }
-    ensures seen { links_of spots.new slots.new ≡ without e (links_of spots.old slots.old) }
+    ensures seen { held_links spots.new slots.new ≡ without e (held_links spots.old slots.old) }
 {
     unlink(spots, slots, Side::Out, e);
     unlink(spots, slots, Side::In, e);
@@ -88,7 +88,7 @@ pub fn hang(spots: &mut [Spot], slots: &mut [Slot], e: u64)
 
 // Makes the edge the first of its list of the side, where it names the first so far as the one after it.
 fn link(spots: &mut [Spot], slots: &mut [Slot], side: Side, e: u64)
-    requires { HasPlace side spots.old slots.old e }
+    requires { HasLinks side spots.old slots.old e }
     ensures spots { spots.new ≡ linked_spots side e slots.old spots.old }
     ensures slots { slots.new ≡ linked_slots side e slots.old }
 {
@@ -99,7 +99,7 @@ fn link(spots: &mut [Spot], slots: &mut [Slot], side: Side, e: u64)
 
 // Takes the edge out of its list of the side.
 fn unlink(spots: &mut [Spot], slots: &mut [Slot], side: Side, e: u64)
-    requires { HasPlace side spots.old slots.old e }
+    requires { HasLinks side spots.old slots.old e }
     ensures spots { spots.new ≡ unlinked_spots side e slots.old spots.old }
     ensures slots { slots.new ≡ unlinked_slots side e slots.old }
 {

@@ -5,7 +5,7 @@ ghost use Rattle.pp_model.specs.declared.config.Config.{Config};
 ghost use Rattle.pp_model.specs.declared.verdicts.Verdicts.{Verdicts};
 ghost use Rattle.pp_grain.specs.Keys.{IsKeyOf};
 ghost use Rattle.pp_count.specs.Counted.{IsCountedOf, FitSums};
-ghost use Rattle.pp_graph.specs.Ranks.{sum_at};
+ghost use Rattle.pp_graph.specs.Ranks.{sum_of_name};
 ghost use Rattle.pp_graph.specs.Trim.{shown_keys};
 ghost use Rattle.pp_graph.specs.Trimmed.{int_sum, IsRankedOf, IsWholeRanking};
 
@@ -119,8 +119,8 @@ fn numbers_of(alloc: Global, rows: &[Row]) -> Result<List<u64>, Memory>
 // The sum of the flats of these numbers.
 fn flat_sum(flats: &List<i64>, order: &[u64]) -> i64
     requires below { All (λ n. n < length flats.now) order.now }
-    requires small { sum_by (λ n. nat_abs (sum_at flats.now n)) order.now < 2 ^ 63 }
-    ensures { result ≡ int_sum (map (sum_at flats.now) order.now) }
+    requires small { sum_by (λ n. nat_abs (sum_of_name flats.now n)) order.now < 2 ^ 63 }
+    ensures { result ≡ int_sum (map (sum_of_name flats.now) order.now) }
 {
     let mut sum = 0;
     for number in order {
@@ -132,7 +132,7 @@ fn flat_sum(flats: &List<i64>, order: &[u64]) -> i64
 // The flat at the place.
 fn flat_at(flats: &List<i64>, place: u64) -> i64
     requires { place < length flats.now }
-    ensures { result ≡ sum_at flats.now place }
+    ensures { result ≡ sum_of_name flats.now place }
 {
     flats.as_slice()[place as usize]
 }

@@ -2,7 +2,7 @@
 ghost use Rattle.std.specs.Prelude.{◌≡◌, ◌<◌, false, length, map, replicate, All, IfOk};
 ghost use Rattle.std.specs.List.{filter};
 ghost use Rattle.pp_count.specs.Counted.{CanCount, IsCountedOf};
-ghost use Rattle.pp_graph.specs.Links.{AreLinked, live_edges};
+ghost use Rattle.pp_graph.specs.Links.{AreEdgesLinked, live_edges};
 ghost use Rattle.pp_graph.specs.Cuts.{kept_flags, is_heavy_edge, is_light_edge};
 ghost use Rattle.pp_graph.specs.Trimmed.{IsTrimmedOf};
 
@@ -82,7 +82,7 @@ fn cut_light(graph: &mut Graph, count: u64, total: u64, least: Fraction) -> u64
     requires count { count ≡ length graph.old.edges }
     requires whole { graph.old.edges ≡ map Some (live_edges graph.old) }
     ensures nodes { graph.new.nodes ≡ graph.old.nodes }
-    ensures linked { AreLinked graph.new }
+    ensures linked { AreEdgesLinked graph.new }
     ensures live { live_edges graph.new
         ≡ filter (is_heavy_edge total least.billionths) (live_edges graph.old) }
     ensures cut { result

@@ -10,7 +10,7 @@ use Rattle.pp_model.specs.declared.profile.Sample.{Sample}
 use Rattle.pp_model.specs.Finders.{Finder, Finders}
 use Rattle.pp_model.specs.Frames.{stack_of}
 use Rattle.pp_model.specs.FrameTexts.{Written, written}
-use Rattle.pp_stack.specs.Filters.{finds_frame, load_pruned, shortened}
+use Rattle.pp_stack.specs.Filters.{finds_frame, load_pruned, left_of_cut}
 use Rattle.pp_grain.specs.Keys.{key_cmp}
 use Rattle.pp_count.specs.Sums.{Seen, weighed, sum_where, has, leads}
 use Rattle.pp_count.specs.EdgeSums.{has_edge}
@@ -55,7 +55,7 @@ module _ (find : Finder) (p : Profile) (f : Finders) (config : Config) (column :
   seen_once s =
       let stack : List Frame = load_pruned (written p) f (stack_of p s) in
       one_of (seen_with p config column s) (passes_tags p f config s)
-      (list_any (λ x. finds_frame find (written p x)) stack) (shortened (written p) f stack)
+      (list_any (λ x. finds_frame find (written p x)) stack) (left_of_cut (written p) f stack)
 
   samples_part : (ss : List Sample) → IsPermutation (seen_samples p (undivided f) config column ss)
       (seen_samples p (focused find f) config column ss ++ seen_samples p (ignoring find f) config column ss)

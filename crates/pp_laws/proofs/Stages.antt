@@ -5,7 +5,7 @@ use Rattle.std.specs.List.{list_any}
 use Rattle.std.specs.Option.{option_map_or}
 use Rattle.pp_model.specs.Finders.{Finder, Finders}
 use Rattle.pp_model.specs.FrameTexts.{Written}
-use Rattle.pp_stack.specs.Filters.{finds_frame, finds_function, is_prunable, load_pruned, is_kept, not_hidden, shown, cut, shown_from, pruned_from, is_empty, shortened, passed, filtered}
+use Rattle.pp_stack.specs.Filters.{finds_frame, finds_function, is_prunable, load_pruned, is_kept, not_hidden, frames_shown, cut, shown_from, pruned_from, has_no_items, left_of_cut, kept_frames, filtered}
 use Rattle.pp_stack.proofs.ToldLemmas.{list_any-map, filter-map, up_to_last-map, from_first-map, pruned-map}
 
 module _ {X Y : Type 0} (g : X → Y) (told : Y → Written) where
@@ -38,11 +38,11 @@ module _ {X Y : Type 0} (g : X → Y) (told : Y → Written) where
   not_hidden-map f xs =
       in_force (map g) f.hide _ _ _ _ (λ find. filter-map g (λ y. not (finds_frame find (told y))) xs) refl
 
-  shown-map : (f : Finders) (xs : List X) → shown told f (map g xs) ≡ map g (shown under f xs)
+  shown-map : (f : Finders) (xs : List X) → frames_shown told f (map g xs) ≡ map g (frames_shown under f xs)
   shown-map f xs = in_force (map g) f.show _ _ _ _ (λ find. filter-map g (λ y. finds_frame find (told y)) xs) refl
 
   cut-map : (f : Finders) (xs : List X) → cut told f (map g xs) ≡ map g (cut under f xs)
-  cut-map f xs = ap (shown told f) (not_hidden-map f xs) ∙ shown-map f _
+  cut-map f xs = ap (frames_shown told f) (not_hidden-map f xs) ∙ shown-map f _
 
   shown_from-map : (f : Finders) (xs : List X) → shown_from told f (map g xs) ≡ option_map (map g) (shown_from under f xs)
   shown_from-map f xs =
@@ -53,7 +53,7 @@ module _ {X Y : Type 0} (g : X → Y) (told : Y → Written) where
       in_force (map g) f.prune_from _ _ _ _ (λ find. from_first-map g (λ y. finds_function find (told y)) xs) refl
 
   -- an empty stack stands for an empty one
-  is_empty-map : (xs : List X) → is_empty (map g xs) ≡ is_empty xs
+  is_empty-map : (xs : List X) → has_no_items (map g xs) ≡ has_no_items xs
   is_empty-map [] = refl
   is_empty-map (x ∷ xs) = refl
 
@@ -69,10 +69,10 @@ module _ {X Y : Type 0} (g : X → Y) (told : Y → Written) where
   unless true texts frames is = refl
   unless false texts frames is = is
 
-  shortened-map : (f : Finders) (xs : List X) → shortened told f (map g xs) ≡ option_map (map g) (shortened under f xs)
+  shortened-map : (f : Finders) (xs : List X) → left_of_cut told f (map g xs) ≡ option_map (map g) (left_of_cut under f xs)
   shortened-map f xs =
       ap₂ (λ dropped rest. cond dropped None rest)
-      (ap₂ (λ a b. not a && b) (is_empty-map xs) (ap is_empty (cut-map f xs) ∙ is_empty-map (cut under f xs)))
+      (ap₂ (λ a b. not a && b) (is_empty-map xs) (ap has_no_items (cut-map f xs) ∙ is_empty-map (cut under f xs)))
       (ap (λ ys. option_map (pruned_from told f) (shown_from told f ys)) (cut-map f xs)
       ∙ ap (option_map (pruned_from told f)) (shown_from-map f (cut under f xs)) ∙ ends-map f _)
       ∙ unless _ _ _ refl
@@ -83,9 +83,9 @@ module _ {X Y : Type 0} (g : X → Y) (told : Y → Written) where
   where_kept true texts frames is = is
   where_kept false texts frames is = refl
 
-  passed-map : (f : Finders) (xs : List X) → passed told f (map g xs) ≡ option_map (map g) (passed under f xs)
+  passed-map : (f : Finders) (xs : List X) → kept_frames told f (map g xs) ≡ option_map (map g) (kept_frames under f xs)
   passed-map f xs =
-      ap (λ b. cond b (shortened told f (map g xs)) None) (is_kept-map f xs) ∙ where_kept _ _ _ (shortened-map f xs)
+      ap (λ b. cond b (left_of_cut told f (map g xs)) None) (is_kept-map f xs) ∙ where_kept _ _ _ (shortened-map f xs)
 
   pub filtered-map : (f : Finders) (xs : List X) → filtered told f (map g xs) ≡ option_map (map g) (filtered under f xs)
-  filtered-map f xs = ap (passed told f) (load_pruned-map f xs) ∙ passed-map f _
+  filtered-map f xs = ap (kept_frames told f) (load_pruned-map f xs) ∙ passed-map f _

@@ -13,7 +13,7 @@ use Rattle.pp_model.specs.declared.profile.Sample.{Sample}
 use Rattle.pp_model.specs.Finders.{Finder, Finders}
 use Rattle.pp_model.specs.Lookup.{text_of, text_at}
 use Rattle.pp_model.specs.Rules.{NoRuleFails, IsCompact, label_has_texts, is_text}
-use Rattle.pp_stack.specs.Filters.{is_empty}
+use Rattle.pp_stack.specs.Filters.{has_no_items}
 use Rattle.pp_stack.proofs.ToldLemmas.{list_any-map}
 use Rattle.pp_units.specs.declared.range.Range.{Range}
 use Rattle.pp_units.specs.Ranges.{in_range}
@@ -25,7 +25,7 @@ use Rattle.pp_count.specs.Seeing.{passes_tags}
 
 -- the label has a text
 abbrev pub has_told : LabelText → Bool
-has_told label = not (is_empty label.text)
+has_told label = not (has_no_items label.text)
 
 abbrev pub named_told : List ℕ → LabelText → Bool
 named_told [] label = true
@@ -117,7 +117,7 @@ nonzero k = by (int_eq (pos (suc k)) (pos 0)) refl
     by true is = let same : suc k ≡ 0 = ap nat_abs ((Decides-int_eq (pos (suc k)) (pos 0)).0 is) in absurd (omega (arith, same))
     by false is = refl
 
-not_empty : (text : List ℕ) → (text ≡ [] → ⊥) → is_empty text ≡ false
+not_empty : (text : List ℕ) → (text ≡ [] → ⊥) → has_no_items text ≡ false
 not_empty [] other = absurd (other refl)
 not_empty (b ∷ bs) other = refl
 
@@ -126,8 +126,8 @@ module _ (p : Profile) (valid : NoRuleFails p) (compact : IsCompact p) (none : t
   text_tells : (label : Label) → label_has_texts p label ≡ true → TellsText p label
   text_tells label ok = by label.text (and_parts _ _ (and_parts _ _ ok).0).1
     where
-      by : (index : ℤ) → is_text p index ≡ true → not (int_eq index (pos 0)) ≡ not (is_empty (text_of p index))
-      by (pos zero) ok = ap (λ t. not (is_empty t)) (sym none)
+      by : (index : ℤ) → is_text p index ≡ true → not (int_eq index (pos 0)) ≡ not (has_no_items (text_of p index))
+      by (pos zero) ok = ap (λ t. not (has_no_items t)) (sym none)
       by (pos (suc k)) ok = ap not (nonzero k) ∙ ap not (sym (not_empty (text_at p (suc k)) (λ is. compact.texts 0 (suc k) [] (omega arith) (ltb-true (suc k) (length p.text) ok) (none ∙ sym is))))
       by (negsuc k) ok = absurd (false≢true ok)
 

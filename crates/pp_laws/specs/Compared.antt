@@ -31,13 +31,13 @@ abbrev pub cum_of : Written → Figure
 cum_of k samples = cum key_cmp samples k
 
 -- What a comparison has for the base: the negative of the figure over the samples that carry the base's label.
-abbrev pub before : Figure → Profile → Finders → Config → Option ℕ → ℤ
-before figure p f config column = neg_ℤ (figure (base_report_samples p f config column))
+abbrev pub before_change : Figure → Profile → Finders → Config → Option ℕ → ℤ
+before_change figure p f config column = neg_ℤ (figure (base_report_samples p f config column))
 
 -- What it has for the source: that, and the figure over all samples, which is the change.
-abbrev pub after : Figure → Profile → Finders → Config → Option ℕ → ℤ
-after figure p f config column =
-    before figure p f config column +ℤ figure (report_samples p f config column)
+abbrev pub after_change : Figure → Profile → Finders → Config → Option ℕ → ℤ
+after_change figure p f config column =
+    before_change figure p f config column +ℤ figure (report_samples p f config column)
 
 -- the samples that do not carry the base's label
 abbrev pub source_samples : Profile → List Sample
@@ -50,9 +50,9 @@ source_report_samples p f config column = weighed (seen_samples p f config colum
 -- What a comparison has for the source is the figure over the samples that do not carry the base's label.
 pub record AreApart (p : Profile) (f : Finders) (config : Config) (column : Option ℕ) : Type 0 where
   pub flat : (k : Written)
-      → after (flat_of k) p f config column ≡ flat key_cmp (source_report_samples p f config column) k
+      → after_change (flat_of k) p f config column ≡ flat key_cmp (source_report_samples p f config column) k
   pub cum : (k : Written)
-      → after (cum_of k) p f config column ≡ cum key_cmp (source_report_samples p f config column) k
+      → after_change (cum_of k) p f config column ≡ cum key_cmp (source_report_samples p f config column) k
 
 -- So it is of every profile.
 abbrev pub SidesAreApart : Type 0
@@ -61,16 +61,16 @@ SidesAreApart = (p : Profile) (f : Finders) (config : Config) (column : Option �
 -- Of a profile less a base, a comparison has the figures of the base and of the profile, each reported alone.
 pub record AreBothShown (p base : Profile) (f : Finders) (config : Config) (column : ℕ) : Type 0 where
   pub flat_before : (k : Written)
-      → before (flat_of k) (less_base DiffBase p base) f config (Some column)
+      → before_change (flat_of k) (less_base DiffBase p base) f config (Some column)
       ≡ flat key_cmp (report_samples (merged base []) f config (Some column)) k
   pub flat_after : (k : Written)
-      → after (flat_of k) (less_base DiffBase p base) f config (Some column)
+      → after_change (flat_of k) (less_base DiffBase p base) f config (Some column)
       ≡ flat key_cmp (report_samples (merged p []) f config (Some column)) k
   pub cum_before : (k : Written)
-      → before (cum_of k) (less_base DiffBase p base) f config (Some column)
+      → before_change (cum_of k) (less_base DiffBase p base) f config (Some column)
       ≡ cum key_cmp (report_samples (merged base []) f config (Some column)) k
   pub cum_after : (k : Written)
-      → after (cum_of k) (less_base DiffBase p base) f config (Some column)
+      → after_change (cum_of k) (less_base DiffBase p base) f config (Some column)
       ≡ cum key_cmp (report_samples (merged p []) f config (Some column)) k
 
 -- So it is where their figures could be added up, no table rule fails of the base, no sample of the profile carries the

@@ -11,8 +11,8 @@ use Rattle.pp_count.specs.Counted.{report_samples}
 use Rattle.pp_graph.specs.Trim.{report_keys, shown_keys, is_heavy_key}
 
 -- the variables with this nodefraction
-abbrev pub with_fraction : Fraction → Config → Config
-with_fraction fraction config = record config { nodefraction = fraction }
+abbrev pub at_nodefraction : Fraction → Config → Config
+at_nodefraction fraction config = record config { nodefraction = fraction }
 
 -- The rows are those of the report without limit, by this fraction, that are heavy enough, in their order, and of
 -- these the first. All figures are taken from the same samples and the same total.
@@ -22,9 +22,9 @@ pub record OnlyHides (none : Fraction) (p : Profile) (f : Finders) (config : Con
       ≡ shown_keys limit (filter
       (is_heavy_key key_cmp (total_of p f config column) config.nodefraction.billionths
       (report_samples p f config column))
-      (report_keys p f (with_fraction none config) column 0))
-  pub samples : report_samples p f (with_fraction none config) column ≡ report_samples p f config column
-  pub total : total_of p f (with_fraction none config) column ≡ total_of p f config column
+      (report_keys p f (at_nodefraction none config) column 0))
+  pub samples : report_samples p f (at_nodefraction none config) column ≡ report_samples p f config column
+  pub total : total_of p f (at_nodefraction none config) column ≡ total_of p f config column
 
 -- So it is for every nodecount and nodefraction, against the report without limit and with a nodefraction of 0.
 abbrev pub TrimmingHides : Type 0

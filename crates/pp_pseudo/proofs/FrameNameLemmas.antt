@@ -8,7 +8,7 @@ use Rattle.pp_model.specs.declared.profile.Label.{Label}
 use Rattle.pp_model.specs.declared.profile.Profile.{Profile}
 use Rattle.pp_stack.specs.Runs.{kept_if}
 use Rattle.pp_tags.specs.Labels.{key_text}
-use Rattle.pp_pseudo.specs.Values.{label_value, key_values, joined_values, tag_name, frame_name, separator}
+use Rattle.pp_pseudo.specs.Values.{frame_value, key_values, joined_values, tag_name, frame_name, value_separator}
 
 -- whether there are values
 abbrev are_there : List (List ℕ) → Bool
@@ -30,7 +30,7 @@ join_push w [] v = refl
 join_push w (x ∷ ws) v = ap (λ rest. w ++ (44 ∷ rest)) (join_push x ws v) ∙ sym (append_assoc w (44 ∷ join_with_byte 44 (x ∷ ws)) (44 ∷ v))
 
 -- one value more
-value_more : (key : List ℕ) (values : List (List ℕ)) (value : List ℕ) → ((key ++ after_key values) ++ separator (are_there values)) ++ value ≡ key ++ after_key (values ++ value ∷ [])
+value_more : (key : List ℕ) (values : List (List ℕ)) (value : List ℕ) → ((key ++ after_key values) ++ value_separator (are_there values)) ++ value ≡ key ++ after_key (values ++ value ∷ [])
 value_more key [] value = ap (λ k. (k ++ codes "=") ++ value) (append-nil key) ∙ append_assoc key (codes "=") value
 value_more key (w ∷ ws) value =
     append_assoc (key ++ after_key (w ∷ ws)) (codes ",") value ∙ append_assoc key (after_key (w ∷ ws)) (codes "," ++ value)
@@ -42,20 +42,20 @@ there_more (w ∷ ws) value = refl
 
 -- a label more, that may have the key
 names_more : (key : List ℕ) (values : List (List ℕ)) (value : List ℕ) (has found after : Bool) (name new : List ℕ) → HasValues key values found name
-    → after ≡ cond has true found → new ≡ cond has ((name ++ separator found) ++ value) name → HasValues key (values ++ cond has (value ∷ []) []) after new
+    → after ≡ cond has true found → new ≡ cond has ((name ++ value_separator found) ++ value) name → HasValues key (values ++ cond has (value ∷ []) []) after new
 names_more key values value true found after name new so_far is_found is_name = record {
   found = is_found ∙ there_more values value;
-  name = is_name ∙ (λ i. (so_far.name i ++ separator (so_far.found i)) ++ value) ∙ value_more key values value;
+  name = is_name ∙ (λ i. (so_far.name i ++ value_separator (so_far.found i)) ++ value) ∙ value_more key values value;
 }
 names_more key values value false found after name new so_far is_found is_name = record {
   found = is_found ∙ so_far.found ∙ ap are_there (sym (append-nil values));
   name = is_name ∙ so_far.name ∙ ap (λ vs. key ++ after_key vs) (sym (append-nil values));
 }
 
-one_value : (p : Profile) (key : List ℕ) (label : Label) → key_values p key (label ∷ []) ≡ cond (bytes_eq (key_text p label) key) (label_value p label ∷ []) []
+one_value : (p : Profile) (key : List ℕ) (label : Label) → key_values p key (label ∷ []) ≡ cond (bytes_eq (key_text p label) key) (frame_value p label ∷ []) []
 one_value p key label = by (bytes_eq (key_text p label) key)
   where
-    by : (has : Bool) → map (label_value p) (cond has (label ∷ []) []) ≡ cond has (label_value p label ∷ []) []
+    by : (has : Bool) → map (frame_value p) (cond has (label ∷ []) []) ≡ cond has (frame_value p label ∷ []) []
     by true = refl
     by false = refl
 
@@ -63,18 +63,18 @@ one_value p key label = by (bytes_eq (key_text p label) key)
 pub label_more : (p : Profile) (key : List ℕ) (labels : List Label) (i : ℕ) (d : Label) (found after : Bool) (name new : List ℕ) → i < length labels
     → HasValues key (key_values p key (take i labels)) found name
     → after ≡ cond (bytes_eq (key_text p (get_or labels i d)) key) true found
-    → new ≡ cond (bytes_eq (key_text p (get_or labels i d)) key) ((name ++ separator found) ++ label_value p (get_or labels i d)) name
+    → new ≡ cond (bytes_eq (key_text p (get_or labels i d)) key) ((name ++ value_separator found) ++ frame_value p (get_or labels i d)) name
     → HasValues key (key_values p key (take (i + 1) labels)) after new
 label_more p key labels i d found after name new here so_far is_found is_name =
     let label = get_or labels i d in
     let has = (λ (l : Label). bytes_eq (key_text p l) key) in
-    let more : key_values p key (take i labels) ++ cond (has label) (label_value p label ∷ []) [] ≡ key_values p key (take (i + 1) labels) =
+    let more : key_values p key (take i labels) ++ cond (has label) (frame_value p label ∷ []) [] ≡ key_values p key (take (i + 1) labels) =
     ap (λ vs. key_values p key (take i labels) ++ vs) (sym (one_value p key label))
-    ∙ sym (map-append (label_value p) (filter has (take i labels)) (filter has (label ∷ [])))
-    ∙ ap (map (label_value p)) (sym (filter-append has (take i labels) (label ∷ [])))
+    ∙ sym (map-append (frame_value p) (filter has (take i labels)) (filter has (label ∷ [])))
+    ∙ ap (map (frame_value p)) (sym (filter-append has (take i labels) (label ∷ [])))
     ∙ ap (key_values p key) (sym (take_more labels i d here)) in
     subst (λ vs. HasValues key vs after new) more
-    (names_more key (key_values p key (take i labels)) (label_value p label) (has label) found after name new so_far is_found is_name)
+    (names_more key (key_values p key (take i labels)) (frame_value p label) (has label) found after name new so_far is_found is_name)
 
 -- The whole name, where there is a value.
 pub name_whole : (p : Profile) (key : List ℕ) (labels : List Label) (found : Bool) (name : List ℕ) → HasValues key (key_values p key labels) found name

@@ -26,7 +26,7 @@ abbrev pub placing : Frames → List ℕ → Placing
 placing frames ids = record { names = frames.names; locations = frames.places.locations; ids = ids }
 
 -- locations that were there are there still, and so are names
-pub record Extends (p : Profile) (before after : Placing) : Type 0 where
+pub record ExtendsPlacing (p : Profile) (before after : Placing) : Type 0 where
   pub names : IsFront before.names after.names
   pub locations : IsFront before.locations after.locations
   pub places : (final : List (List ℕ)) → IsFront after.names final
@@ -34,7 +34,7 @@ pub record Extends (p : Profile) (before after : Placing) : Type 0 where
 
 -- Frames that say this are added.
 pub record AddsFrames (p : Profile) (before after : Placing) (texts : List LocationText) : Type 0 where
-  pub extends : Extends p before after
+  pub extends : ExtendsPlacing p before after
   pub added : List ℕ
   pub is : after.ids ≡ before.ids ++ added
   pub within : AllByRecursion (IsWithin after.locations) added

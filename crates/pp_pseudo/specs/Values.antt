@@ -8,14 +8,14 @@ use Rattle.pp_model.specs.Lookup.{text_of}
 use Rattle.pp_tags.specs.Labels.{has_text, key_text, value_text}
 
 -- the value of a label: its text, or its number's digits followed by the text of the unit that it names
-abbrev pub label_value : Profile → Label → List ℕ
-label_value p label =
+abbrev pub frame_value : Profile → Label → List ℕ
+frame_value p label =
     if has_text label then value_text p label
     else signed_decimal label.num ++ text_of p label.num_unit
 
 -- the values of the labels of the key, in order
 abbrev pub key_values : Profile → List ℕ → List Label → List (List ℕ)
-key_values p key labels = map (label_value p) (filter (λ label. bytes_eq (key_text p label) key) labels)
+key_values p key labels = map (frame_value p) (filter (λ label. bytes_eq (key_text p label) key) labels)
 
 -- the values joined_values by commas, none where there is no value
 abbrev pub joined_values : List (List ℕ) → Option (List ℕ)
@@ -39,6 +39,6 @@ abbrev pub frame_names : Profile → List (List ℕ) → List Label → List (Li
 frame_names p keys labels = filter_map (frame_name p labels) keys
 
 -- what stands before a value: a comma where a value was found before it, and else the equals sign after the key
-abbrev pub separator : Bool → List ℕ
-separator true = codes ","
-separator false = codes "="
+abbrev pub value_separator : Bool → List ℕ
+value_separator true = codes ","
+value_separator false = codes "="

@@ -4,7 +4,7 @@ ghost use Rattle.std.specs.Fmt.{signed_decimal};
 ghost use Rattle.pp_model.specs.Lookup.{text_of};
 ghost use Rattle.pp_stack.specs.Runs.{kept_if};
 ghost use Rattle.pp_tags.specs.Labels.{key_text};
-ghost use Rattle.pp_pseudo.specs.Values.{label_value, frame_name, separator};
+ghost use Rattle.pp_pseudo.specs.Values.{frame_value, frame_name, value_separator};
 
 use itoa::Buffer;
 use pp_base::{Memory, Text};
@@ -42,7 +42,7 @@ fn put_label(
     ensures found { IfOk result (λ after.
         after ≡ (if bytes_eq (key_text p.now label.now) key.now then true else found)) }
     ensures name { OnOk result (name.new ≡ (if bytes_eq (key_text p.now label.now) key.now
-        then (name.old ++ separator found) ++ label_value p.now label.now else name.old)) }
+        then (name.old ++ value_separator found) ++ frame_value p.now label.now else name.old)) }
 {
     if text_of(p, label.key) != key {
         return Ok(found);
@@ -54,7 +54,7 @@ fn put_label(
 
 // Appends what stands before a value.
 fn put_separator(found: bool, out: &mut Text) -> Result<(), Memory>
-    ensures { OnOk result (out.new ≡ out.old ++ separator found) }
+    ensures { OnOk result (out.new ≡ out.old ++ value_separator found) }
 {
     if found {
         return out.extend(b",");
@@ -64,7 +64,7 @@ fn put_separator(found: bool, out: &mut Text) -> Result<(), Memory>
 
 // Appends the label's text, or its number and the text of the unit that it names.
 fn put_value(p: &Profile, label: &Label, out: &mut Text) -> Result<(), Memory>
-    ensures { OnOk result (out.new ≡ out.old ++ label_value p.now label.now) }
+    ensures { OnOk result (out.new ≡ out.old ++ frame_value p.now label.now) }
 {
     if has_text(label) {
         return out.extend(text_of(p, label.text));

@@ -1,6 +1,6 @@
 //! Lists of keys, as options spell them.
 ghost use Rattle.std.specs.Prelude.{◌≡◌, ◌++◌, [], ◌∷◌, IfOk, OnOk, if◌then◌else◌};
-ghost use Rattle.pp_stack.specs.Filters.{is_empty};
+ghost use Rattle.pp_stack.specs.Filters.{has_no_items};
 ghost use Rattle.pp_pseudo.specs.KeyList.{key_list};
 
 use pp_base::{List, Memory, Text};
@@ -24,7 +24,7 @@ pub fn key_list(alloc: Global, text: &[u8]) -> Result<List<Text>, Memory>
 // Adds the part, unless it is empty.
 fn push_key(alloc: Global, part: &[u8], keys: &mut List<Text>) -> Result<(), Memory>
     ensures { OnOk result
-        (keys.new ≡ (if is_empty part.now then keys.old else keys.old ++ part.now ∷ [])) }
+        (keys.new ≡ (if has_no_items part.now then keys.old else keys.old ++ part.now ∷ [])) }
 {
     if part.is_empty() {
         return Ok(());

@@ -15,18 +15,18 @@ use Rattle.pp_model.specs.declared.report.Report.{Report}
 use Rattle.pp_pattern.specs.Report.{Finds}
 use Rattle.pp_report.specs.declared.refusal.ReportRefusal.{ReportRefusal}
 use Rattle.pp_report.specs.Prepared.{Settled, prepare}
-use Rattle.pp_report.specs.Reports.{finish, report_settled, report_of, reported, reported_with, added}
+use Rattle.pp_report.specs.Reports.{finish, report_settled, report_script, reported, reported_with, appended_text}
 
 -- nothing was appended
-pub added_none : (text : List ℕ) → added text text ≡ []
+pub added_none : (text : List ℕ) → appended_text text text ≡ []
 added_none text = drop-length text
 
 -- something was
-pub added_some : (old new more : List ℕ) → new ≡ old ++ more → added old new ≡ more
+pub added_some : (old new more : List ℕ) → new ≡ old ++ more → appended_text old new ≡ more
 added_some old new more is = ap (drop (length old)) is ∙ drop-append_seam old more
 
 -- nothing is a front of everything
-pub none_front : (text whole : List ℕ) → IsFront (added text text) whole
+pub none_front : (text whole : List ℕ) → IsFront (appended_text text text) whole
 none_front text whole = (whole, ap (λ front. front ++ whole) (sym (added_none text)))
 
 -- what holds anyhow
@@ -36,21 +36,21 @@ on_err (Err e) holds = holds
 
 module _ (finds : Finds) (l : Loaded) (report : Report) (config : Config) (a b : World) where
   -- it was stopped before the text
-  pub report_stopped : (s : Stop) → Went a b (prepare finds l report config) (Err s) → Went a b (report_of finds l report config) (Err s)
-  unfolding report_of
+  pub report_stopped : (s : Stop) → Went a b (prepare finds l report config) (Err s) → Went a b (report_script finds l report config) (Err s)
+  unfolding report_script
   report_stopped s went = stops_first a b (prepare finds l report config) (report_settled finds l report config) s went
 
   -- it was refused before the text
   pub report_refused : (r : ReportRefusal) → Went a b (prepare finds l report config) (Ok (Err r))
-      → Went a b (report_of finds l report config) (Ok (reported_with [] (Err r)))
-  unfolding report_of report_settled
+      → Went a b (report_script finds l report config) (Ok (reported_with [] (Err r)))
+  unfolding report_script report_settled
   report_refused r went =
       goes_give a b (prepare finds l report config) (report_settled finds l report config) (Err r) (reported_with [] (Err r)) went refl
 
   module _ (settled : Settled) (went : Went a b (prepare finds l report config) (Ok (Ok settled))) where
     -- memory was wanting for the notes
-    pub report_wants : Went a b (report_of finds l report config) (Err stops.Memory)
-    unfolding report_of
+    pub report_wants : Went a b (report_script finds l report config) (Err stops.Memory)
+    unfolding report_script
     report_wants =
         goes_second a b b (prepare finds l report config) (report_settled finds l report config) (Ok settled) (Err stops.Memory) went (wants b _)
 
@@ -66,8 +66,8 @@ module _ (finds : Finds) (l : Loaded) (report : Report) (config : Config) (a b :
           stops_first b c (finish finds l report config settled.showing) (λ o. Give (reported_with settled.notes o)) s text
 
       pub report_finished : (r : Result (Result (List ℕ) ReportRefusal) Stop) → Went b c (finish finds l report config settled.showing) r
-          → Went a c (report_of finds l report config) (reported settled.notes r)
-      unfolding report_of
+          → Went a c (report_script finds l report config) (reported settled.notes r)
+      unfolding report_script
       report_finished r text =
           goes_second a b c (prepare finds l report config) (report_settled finds l report config) (Ok settled) (reported settled.notes r) went
           (finish_reported r text)

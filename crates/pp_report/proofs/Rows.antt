@@ -11,7 +11,7 @@ use Rattle.pp_report.specs.Heads.{wanted_unit}
 use Rattle.pp_report.specs.Messages.{refusal_line}
 use Rattle.pp_model.specs.ReportFacts.{option_name}
 use Rattle.pp_report.specs.Notes.{note_unless, notes_by}
-use Rattle.pp_stack.specs.LoadFinders.{verdict_on}
+use Rattle.pp_stack.specs.LoadFinders.{known_verdict}
 
 -- an option is called as its variable
 refused_focus : refusal_line reports.Top (PatternRefused slots.Focus) ≡ codes "pprof: focus: pattern refused\n"
@@ -52,5 +52,5 @@ no_unit : wanted_unit [] (codes "bytes") ≡ Some None
 no_unit = refl
 
 -- verdicts are found by their texts
-second : verdict_on (codes "a" ∷ codes "b" ∷ []) (false ∷ true ∷ []) (codes "b") ≡ true
+second : known_verdict (codes "a" ∷ codes "b" ∷ []) (false ∷ true ∷ []) (codes "b") ≡ true
 second = refl

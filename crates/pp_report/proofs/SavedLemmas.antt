@@ -33,7 +33,7 @@ use Rattle.pp_saved.proofs.SavedAlike.{saved_figures, saved_texts}
 use Rattle.pp_saved.proofs.Saving.{is_saved}
 use Rattle.pp_report.specs.declared.refusal.ReportRefusal.{ReportRefusal}
 use Rattle.pp_report.specs.declared.refusal.ReportRefusal.TheVariants.{NoMatch}
-use Rattle.pp_report.specs.Heads.{type_of, kind_text, unit_text, report_head}
+use Rattle.pp_report.specs.Heads.{type_of_column, kind_text, unit_text, report_head}
 use Rattle.pp_model.specs.ReportFacts.{is_counted, own_pattern}
 use Rattle.pp_report.specs.Patterns.{report_finders}
 use Rattle.pp_stack.specs.LoadFinders.{finder_by}
@@ -45,7 +45,7 @@ use Rattle.pp_report.proofs.TypesLemmas.{HasTypesOf, same_showing, types_by_head
 
 -- a text of the column's type
 type_is : (get : TypeText → List ℕ) (p : Profile) (column : Option ℕ)
-    → option_map_or get (column_type p column) [] ≡ option_map_or (λ t. get (type_text p t)) (type_of p column) []
+    → option_map_or get (column_type p column) [] ≡ option_map_or (λ t. get (type_text p t)) (type_of_column p column) []
 type_is get p None = refl
 type_is get p (Some n) = ap (λ (o : Option TypeText). option_map_or get o []) (slice_get-map (type_text p) p.sample_type n) ∙ by (slice_get p.sample_type n)
   where

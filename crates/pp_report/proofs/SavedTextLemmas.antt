@@ -39,7 +39,7 @@ use Rattle.pp_report.specs.declared.refusal.ReportRefusal.{ReportRefusal}
 use Rattle.pp_report.specs.Heads.{wanted_unit, unit_text}
 use Rattle.pp_report.specs.Patterns.{report_finders}
 use Rattle.pp_report.specs.Prepared.{Showing, Settled, in_column, in_unit, prepare, prepare_on, prepare_showing, settled_of, showing_for}
-use Rattle.pp_report.specs.Reports.{Reported, finish, finish_on, report_of, report_settled, reported_with, text_by}
+use Rattle.pp_report.specs.Reports.{Reported, finish, finish_on, report_script, report_settled, reported_with, text_by}
 use Rattle.pp_report.specs.SavedReports.{IsPlain, IsSavedOf, NamesNoKey, ReportAlike, reads_figures, saved_by}
 use Rattle.pp_report.specs.SavedText.{AllTaken, IsProtoBy, IsProtoOf, IsSavedText, OnText, ReportsAlike, outcome_over, report_figures}
 use Rattle.pp_report.specs.Tagged.{basis_of}
@@ -147,16 +147,16 @@ module _ (finds : Finds) (l : Loaded) (report : Report) (config : Config) (reads
   over = basis_of report l config
 
   -- refused for its column or its unit
-  refused_taken : (e : ReportRefusal) → showing_for report over.profile config ≡ Err e → GivesTaken (report_of finds l report config) (reported_with [] (Err e))
-  unfolding report_of report_settled prepare_on
+  refused_taken : (e : ReportRefusal) → showing_for report over.profile config ≡ Err e → GivesTaken (report_script finds l report config) (reported_with [] (Err e))
+  unfolding report_script report_settled prepare_on
   refused_taken e known =
       taken_then (prepare finds l report config) (report_settled finds l report config) (Err e) (reported_with [] (Err e))
       (subst (λ k. GivesTaken (go_on (prepare_showing finds over report config) k) (Err e)) (sym known) refl) refl
 
   -- or made of what it shows
   made_taken : (s : Showing) (x : Result (List ℕ) ReportRefusal) → showing_for report over.profile config ≡ Ok s → GivesTaken (finish finds l report config s) x
-      → GivesTaken (report_of finds l report config) (reported_with (settled_of finds over report config s).notes x)
-  unfolding report_of report_settled prepare_on
+      → GivesTaken (report_script finds l report config) (reported_with (settled_of finds over report config s).notes x)
+  unfolding report_script report_settled prepare_on
   made_taken s x known made =
       let settled : Settled = settled_of finds over report config s in
       taken_then (prepare finds l report config) (report_settled finds l report config) (Ok settled) (reported_with settled.notes x)
@@ -165,9 +165,9 @@ module _ (finds : Finds) (l : Loaded) (report : Report) (config : Config) (reads
       (taken_then (finish finds l report config s) (λ outcome. Give (reported_with settled.notes outcome)) x (reported_with settled.notes x) made refl)
 
   module _ (files : FileMap) (answers : List Answer) (taken : AllTaken answers) where
-    comes_to : (notes : List ℕ) (x : Result (List ℕ) ReportRefusal) → GivesTaken (report_of finds l report config) (reported_with notes x)
+    comes_to : (notes : List ℕ) (x : Result (List ℕ) ReportRefusal) → GivesTaken (report_script finds l report config) (reported_with notes x)
         → outcome_over finds l report config files answers ≡ x
-    comes_to notes x gives = ap (λ (r : Reported). r.outcome) (taken_course (report_of finds l report config) (reported_with notes x) files [] [] answers taken gives)
+    comes_to notes x gives = ap (λ (r : Reported). r.outcome) (taken_course (report_script finds l report config) (reported_with notes x) files [] [] answers taken gives)
 
 -- ---- a saved profile and the one that it was saved of
 

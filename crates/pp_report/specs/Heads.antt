@@ -11,16 +11,16 @@ use Rattle.pp_units.specs.Shown.{Shown, each, forced, picked}
 use Rattle.pp_count.specs.Counts.{total_of}
 
 -- the sample type of the column, if there is one
-abbrev pub type_of : Profile → Option ℕ → Option ValueType
-type_of p column = option_and_then (slice_get p.sample_type) column
+abbrev pub type_of_column : Profile → Option ℕ → Option ValueType
+type_of_column p column = option_and_then (slice_get p.sample_type) column
 
 -- the name of the column's type, and nothing without a column
 abbrev pub kind_text : Profile → Option ℕ → List ℕ
-kind_text p column = option_map_or (λ t. text_of p t.kind) (type_of p column) []
+kind_text p column = option_map_or (λ t. text_of p t.kind) (type_of_column p column) []
 
 -- the unit of the column's values, and nothing without a column
 abbrev pub unit_text : Profile → Option ℕ → List ℕ
-unit_text p column = option_map_or (λ t. text_of p t.unit) (type_of p column) []
+unit_text p column = option_map_or (λ t. text_of p t.unit) (type_of_column p column) []
 
 -- the path of the first mapping's file, and nothing where there is no mapping
 abbrev pub first_file : Profile → List ℕ

@@ -6,14 +6,14 @@ use Rattle.pp_report.specs.declared.refusal.ReportRefusal.{ReportRefusal}
 use Rattle.pp_report.specs.declared.refusal.ReportRefusal.TheVariants as refusals
 
 -- why the report is not made
-abbrev pub reason_text : Report → ReportRefusal → List ℕ
-reason_text report refusals.BadSampleIndex = codes "sample_index: no such sample type"
-reason_text report refusals.UnitMismatch = codes "unit: other than the sample's kind"
-reason_text report (refusals.PatternRefused option) =
+abbrev pub report_reason : Report → ReportRefusal → List ℕ
+report_reason report refusals.BadSampleIndex = codes "sample_index: no such sample type"
+report_reason report refusals.UnitMismatch = codes "unit: other than the sample's kind"
+report_reason report (refusals.PatternRefused option) =
     option_name report option ++ codes ": pattern refused"
-reason_text report refusals.NoMatch = codes "no function matches"
-reason_text report refusals.NoBase = codes "compare: no -diff_base was given"
+report_reason report refusals.NoMatch = codes "no function matches"
+report_reason report refusals.NoBase = codes "compare: no -diff_base was given"
 
 -- The line on a report that is not made, opaque, so that no goal shows its bytes.
 unfoldable pub refusal_line : Report → ReportRefusal → List ℕ
-refusal_line report refusal = codes "pprof: " ++ reason_text report refusal ++ codes "\n"
+refusal_line report refusal = codes "pprof: " ++ report_reason report refusal ++ codes "\n"

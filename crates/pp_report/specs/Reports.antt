@@ -19,7 +19,7 @@ use Rattle.pp_tree.specs.Tree.{tree_text}
 use Rattle.pp_calltree.specs.Text.{calltree_text}
 use Rattle.pp_compare.specs.Compare.{compare_text}
 use Rattle.pp_export.specs.Folded.{folded_text}
-use Rattle.pp_export.specs.Table.{table_text}
+use Rattle.pp_export.specs.Table.{exact_table}
 use Rattle.pp_tree.specs.Peek.{peek_text}
 use Rattle.pp_samples.specs.Traces.{traces_text}
 use Rattle.pp_samples.specs.TagLines.{tags_text}
@@ -78,7 +78,7 @@ text_by p f config column h reports.Proto = Give (Ok (encode (saved p f config))
 text_by p f config column h (reports.List pattern) = list_text p f config column h
 text_by p f config column h reports.Folded = Give (Ok (folded_text p f config column))
 text_by p f config column h reports.Table =
-    Give (Ok (table_text p f config column (node_limit config.nodecount 0) (unit_text p column)))
+    Give (Ok (exact_table p f config column (node_limit config.nodecount 0) (unit_text p column)))
 text_by p f config column h reports.Compare = Give (compare_outcome p f config column h)
 
 -- The text of a report of this column and unit, by what its patterns find.
@@ -118,13 +118,13 @@ report_settled finds l report config (Ok settled) =
 
 -- Makes a report: the refusals of its column and unit, the patterns in order, the notes,
 -- then the text. The configuration's workers are not read.
-unfoldable pub report_of : Finds → Loaded → Report → Config → Script Reported
-report_of finds l report config =
+unfoldable pub report_script : Finds → Loaded → Report → Config → Script Reported
+report_script finds l report config =
     prepare finds l report config >>= report_settled finds l report config
 
 -- what was appended to a text
-abbrev pub added : List ℕ → List ℕ → List ℕ
-added before after = drop (length before) after
+abbrev pub appended_text : List ℕ → List ℕ → List ℕ
+appended_text before after = drop (length before) after
 
 -- what was answered, beside the notes
 abbrev pub reported : List ℕ → Result (Result (List ℕ) ReportRefusal) Stop → Result Reported Stop

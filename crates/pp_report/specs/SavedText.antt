@@ -22,7 +22,7 @@ use Rattle.pp_saved.specs.Kept.{IsLasting}
 use Rattle.pp_saved.specs.Premises.{HasFiltersOf, IsSource, CountsFiltered, unfiltered}
 use Rattle.pp_report.specs.declared.refusal.ReportRefusal.{ReportRefusal}
 use Rattle.pp_report.specs.Patterns.{report_finders}
-use Rattle.pp_report.specs.Reports.{report_of}
+use Rattle.pp_report.specs.Reports.{report_script}
 use Rattle.pp_report.specs.SavedReports.{IsPlain, IsSavedOf, reads_figures, saved_by}
 
 -- what holds of the text of a report that was made
@@ -43,7 +43,7 @@ AllTaken answers = AllByRecursion (λ a. a.1 ≡ true) answers
 abbrev pub outcome_over : Finds → Loaded → Report → Config → FileMap → List Answer
     → Result (List ℕ) ReportRefusal
 outcome_over finds l report config files answers =
-    (course (report_of finds l report config) files [] [] answers).value.outcome
+    (course (report_script finds l report config) files [] [] answers).value.outcome
 
 -- The reports of r and of l under these configurations come to the same text or the same refusal, where the matcher
 -- refuses no pattern.

@@ -5,7 +5,7 @@ ghost use Rattle.pp_count.specs.Counted.{CanCount, IsCountedOf};
 ghost use Rattle.pp_count.specs.Seeing.{HoldsFilters};
 ghost use Rattle.pp_graph.specs.Trim.{node_limit};
 ghost use Rattle.pp_export.specs.Folded.{folded_text};
-ghost use Rattle.pp_export.specs.Table.{table_text};
+ghost use Rattle.pp_export.specs.Table.{exact_table};
 ghost use Rattle.pp_report.specs.Heads.{unit_text};
 
 use crate::prepared::Counts;
@@ -48,7 +48,7 @@ pub fn table(
     requires can { CanCount l.now.profile counts.now.verdicts config.now column }
     requires counted { IsCountedOf l.now counts.now.verdicts config.now column counts.now.counted }
     ensures { (f : Finders) → HoldsFilters l.now counts.now.verdicts config.now f →
-        IfOk result (λ text. text ≡ table_text l.now.profile f config.now column
+        IfOk result (λ text. text ≡ exact_table l.now.profile f config.now column
         (node_limit config.now.nodecount 0) (unit_text l.now.profile column)) }
 {
     let limit = limit_of(config, 0);

@@ -6,7 +6,7 @@ ghost use Rattle.pp_model.specs.declared.report.Report.TheVariants.{Proto};
 ghost use Rattle.pp_model.specs.Sizes.{IsCountable};
 ghost use Rattle.pp_report.specs.Prepared.{notes_of};
 ghost use Rattle.pp_report.specs.Tagged.{basis_of};
-ghost use Rattle.pp_report.specs.Reports.{report_of, reported, added};
+ghost use Rattle.pp_report.specs.Reports.{report_script, reported, appended_text};
 ghost use Rattle.pp_report.specs.SavedReports.{NamesNoKey};
 ghost use Rattle.pp_report.specs.SavedText.{OnText, IsSavedText};
 
@@ -48,10 +48,10 @@ pub fn generate<R: Threads + Sync, D: Desk, G: Gate>(
 ) -> Result<Result<Text, ReportRefusal>, Stop>
     requires { IsCountable l.now.profile }
     ensures went { Went (D.world desk.old) (D.world desk.new)
-        (report_of D.finds l.now report.now config.now)
-        (reported (added notes.old notes.new) result) }
-    ensures notes { notes.new ≡ notes.old ++ added notes.old notes.new }
-    ensures stopped { OnErr result (IsFront (added notes.old notes.new)
+        (report_script D.finds l.now report.now config.now)
+        (reported (appended_text notes.old notes.new) result) }
+    ensures notes { notes.new ≡ notes.old ++ appended_text notes.old notes.new }
+    ensures stopped { OnErr result (IsFront (appended_text notes.old notes.new)
         (notes_of D.finds (basis_of report.now l.now config.now) report.now config.now)) }
 
     // A saved profile loads, and reports as its filters did.

@@ -1,7 +1,7 @@
 //! The lines that tell why a report is not made.
 ghost use Rattle.std.specs.Prelude.{◌≡◌, ◌++◌, codes, IfOk};
 ghost use Rattle.pp_model.specs.ReportFacts.{option_name};
-ghost use Rattle.pp_report.specs.Messages.{reason_text, refusal_line};
+ghost use Rattle.pp_report.specs.Messages.{report_reason, refusal_line};
 
 use crate::ReportRefusal;
 use pp_base::{Memory, Text};
@@ -20,7 +20,7 @@ pub fn refusal_line(alloc: Global, report: &Report, refusal: ReportRefusal) -> R
 }
 
 fn put_reason(report: &Report, refusal: ReportRefusal, line: &mut Text) -> Result<(), Memory>
-    ensures { IfOk result (λ _. line.new ≡ line.old ++ reason_text report.now refusal) }
+    ensures { IfOk result (λ _. line.new ≡ line.old ++ report_reason report.now refusal) }
 {
     match refusal {
         ReportRefusal::BadSampleIndex => line.extend(b"sample_index: no such sample type"),

@@ -4,7 +4,7 @@ ghost use Rattle.std.specs.Result.{result_map_both};
 ghost use Rattle.pp_model.specs.Conditions.{IsColumnOf};
 ghost use Rattle.pp_units.specs.Shown.{shown};
 ghost use Rattle.pp_count.specs.Column.{column_of};
-ghost use Rattle.pp_report.specs.Heads.{type_of, kind_text, unit_text, wanted_unit};
+ghost use Rattle.pp_report.specs.Heads.{type_of_column, kind_text, unit_text, wanted_unit};
 ghost use Rattle.pp_report.specs.Prepared.{showing_for, in_column, in_unit, showing};
 
 use crate::ReportRefusal;
@@ -106,7 +106,7 @@ pub fn unit_text(p: &Profile, column: Option<u32>) -> &[u8]
 
 // The sample type of the column, if there is one.
 fn type_of(p: &Profile, column: Option<u32>) -> Option<ValueType>
-    ensures { result ≡ type_of p.now column }
+    ensures { result ≡ type_of_column p.now column }
 {
     p.sample_type.as_slice().get(column? as usize).copied()
 }

@@ -21,7 +21,7 @@ use Rattle.pp_model.specs.Frames.{line_at}
 use Rattle.pp_model.specs.Rules.{NoRuleFails, AreNumbered, location_refers, is_zero_or_in, function_ids}
 use Rattle.pp_model.proofs.RuleLemmas.{passes}
 use Rattle.pp_share.proofs.NumberedLemmas.{all_pass}
-use Rattle.pp_restack.specs.Stacks.{lines_of, cut_location}
+use Rattle.pp_restack.specs.Stacks.{lines_of_frames, cut_location}
 use Rattle.pp_restack.specs.Places.{with_lines, without_id, ids_of, ArePlaces, IsEntry}
 
 -- two lines with the same numbers are the same
@@ -41,8 +41,8 @@ line_decides a b = (
 
 -- the lines of one frame more
 pub lines_more : (p : Profile) (group : List Frame) (i : ℕ) (d : Frame) → i < length group
-    → lines_of p (take (i + 1) group) ≡ lines_of p (take i group) ++ cons_option (line_at p (get_or group i d)) []
-lines_more p group i d here = ap (lines_of p) (take_more group i d here) ∙ filter_map-append (line_at p) (take i group) (get_or group i d ∷ [])
+    → lines_of_frames p (take (i + 1) group) ≡ lines_of_frames p (take i group) ++ cons_option (line_at p (get_or group i d)) []
+lines_more p group i d here = ap (lines_of_frames p) (take_more group i d here) ∙ filter_map-append (line_at p) (take i group) (get_or group i d ∷ [])
 
 -- a list that grew by one has the old items and the new one
 at_end : {A : Type 0} (P : ℕ → A → Type 0) (xs : List A) (x d : A) → ((k : ℕ) → k < length xs → P k (get_or xs k d)) → P (length xs) x
@@ -88,7 +88,7 @@ added_entry locations new location lines id next is =
 
 -- the location of a group, whose frames there are
 pub cut_is : (p : Profile) (group : List Frame) (d : Frame) → 0 < length group
-    → cut_location p group ≡ with_lines (location_at p (get_or group 0 d).location) (lines_of p group)
+    → cut_location p group ≡ with_lines (location_at p (get_or group 0 d).location) (lines_of_frames p group)
 cut_is p [] d some = absurd (omega (arith, some))
 cut_is p (f ∷ group) d some = refl
 
@@ -125,18 +125,18 @@ module _ (p : Profile) (valid : NoRuleFails p) where
           subst (λ (l : Line). line_refers p l ≡ true) (get_or_from_slice_get lines r line line some) (all r line (slice_get_within lines r line some))
 
   -- and those of the lines of a group
-  lines_refer : (group : List Frame) → AllByRecursion (IsFrameOf p) group → AllByRecursion (λ l. line_refers p l ≡ true) (lines_of p group)
+  lines_refer : (group : List Frame) → AllByRecursion (IsFrameOf p) group → AllByRecursion (λ l. line_refers p l ≡ true) (lines_of_frames p group)
   lines_refer [] all = tt
   lines_refer (f ∷ group) all = by (line_at p f) refl (lines_refer group all.1)
     where
-      by : (o : Option Line) → line_at p f ≡ o → AllByRecursion (λ l. line_refers p l ≡ true) (lines_of p group)
-          → AllByRecursion (λ l. line_refers p l ≡ true) (cons_option o (lines_of p group))
+      by : (o : Option Line) → line_at p f ≡ o → AllByRecursion (λ l. line_refers p l ≡ true) (lines_of_frames p group)
+          → AllByRecursion (λ l. line_refers p l ≡ true) (cons_option o (lines_of_frames p group))
       by None is rest = rest
       by (Some line) is rest = (frame_refers f line all.0 is, rest)
 
   -- What a location with the lines of a group names is there.
   pub group_refers : (group : List Frame) (k : ℕ) → k < length p.location → All (IsFrameOf p) group
-      → location_refers p (with_lines (location_at p k) (lines_of p group)) ≡ true
+      → location_refers p (with_lines (location_at p k) (lines_of_frames p group)) ≡ true
   group_refers group k within all =
       and_from _ _ (and_parts _ _ (location_passes k within)).0
-      (all_pass (line_refers p) (lines_of p group) (lines_refer group (recursion_from_All (IsFrameOf p) group all)))
+      (all_pass (line_refers p) (lines_of_frames p group) (lines_refer group (recursion_from_All (IsFrameOf p) group all)))

@@ -28,14 +28,14 @@ by_place [] = []
 by_place (f ∷ stack) = grouped_with f (by_place stack)
 
 -- the lines of the frames
-abbrev pub lines_of : Profile → List Frame → List Line
-lines_of p group = filter_map (line_at p) group
+abbrev pub lines_of_frames : Profile → List Frame → List Line
+lines_of_frames p group = filter_map (line_at p) group
 
 -- the location of a group's place, with the lines of the group's frames alone
 abbrev pub cut_location : Profile → List Frame → Location
 cut_location p [] = no_location
 cut_location p (f ∷ group) =
-    record (location_at p f.location) { line = lines_of p (f ∷ group) }
+    record (location_at p f.location) { line = lines_of_frames p (f ∷ group) }
 
 -- the location that a group becomes, written out
 abbrev pub cut_text : Profile → List Frame → LocationText

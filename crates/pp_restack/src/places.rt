@@ -4,7 +4,7 @@ ghost use Rattle.pp_base.specs.Front.{IsFront};
 ghost use Rattle.pp_model.specs.Conditions.{IsFrameOf, IsStackOf};
 ghost use Rattle.pp_model.specs.Frames.{line_at};
 ghost use Rattle.pp_model.specs.Rules.{NoRuleFails};
-ghost use Rattle.pp_restack.specs.Stacks.{lines_of, cut_location};
+ghost use Rattle.pp_restack.specs.Stacks.{lines_of_frames, cut_location};
 ghost use Rattle.pp_restack.specs.Places.{with_lines, without_id, line_location, KeepsPlaces, TakesPlace, IsEntry};
 
 use crate::copying::{no_items, same_items, same_locations};
@@ -121,7 +121,7 @@ fn set_line(line: Line, place: u64, places: &mut Places) -> Result<(), Memory>
 // The lines of the frames, in the place of what was there.
 fn read_lines(p: &Profile, group: &[Frame], lines: &mut List<Line>) -> Result<(), Memory>
     requires { IsStackOf p.now group.now }
-    ensures { OnOk result (lines.new ≡ lines_of p.now group.now) }
+    ensures { OnOk result (lines.new ≡ lines_of_frames p.now group.now) }
 {
     lines.truncate(0);
     for frame in group {

@@ -1,6 +1,6 @@
 // Edges that are cut, and the lists of edges that are left.
 ghost use Rattle.std.specs.Prelude.{IfSome};
-ghost use Rattle.pp_graph.specs.Links.{IsLive};
+ghost use Rattle.pp_graph.specs.Links.{IsUncut};
 
 use pp_base::{List, Memory};
 use pp_count::{Edge, Sums};
@@ -94,7 +94,7 @@ fn is_cut(graph: &mut Graph, from: u64, to: u64) -> bool {
 
 // The number of the first edge from one node to another.
 fn edge_between(graph: &Graph, from: u64, to: u64) -> Option<u64>
-    ensures { IfSome result (IsLive graph.now) }
+    ensures { IfSome result (IsUncut graph.now) }
 {
     if from >= graph.nodes() {
         return None;

@@ -10,8 +10,8 @@ use Rattle.pp_count.specs.Sums.{Seen}
 use Rattle.pp_samples.specs.declared.key_table.KeyTable.{KeyTable}
 use Rattle.pp_samples.specs.declared.key_table.TagPlace.{TagPlace}
 use Rattle.pp_samples.specs.TagLines.{TagTexts, tag_texts}
-use Rattle.pp_samples.specs.Places.{HasPlace, KeepsPlaces}
-use Rattle.pp_samples.specs.Counting.{same_label}
+use Rattle.pp_samples.specs.Places.{HasTagPlace, KeepsTagPlaces}
+use Rattle.pp_samples.specs.Counting.{same_label_parts}
 use Rattle.pp_samples.specs.Tables.{Event, label_event, sample_events, events_from}
 
 -- one label more
@@ -46,7 +46,7 @@ samples_counted tagged before more all turn is at =
     ∙ ap (λ (n : ℕ). events_from 0 (map tagged before) ++ events_from n (map tagged more)) (let e : 0 + length (map tagged before) ≡ turn = omega (arith, at, length-map before tagged) in e)
 
 -- one place more is known
-known_label : (a b : Label) → same_label a b ≡ true → a ≡ b
+known_label : (a b : Label) → same_label_parts a b ≡ true → a ≡ b
 known_label a b same =
     let text = and_parts _ _ (and_parts _ _ same).1 in
     let num = and_parts _ _ text.1 in
@@ -58,12 +58,12 @@ known_label a b same =
     }
 
 pub known_more : (p : Profile) (old new : KeyTable) (before after : Label → Option TagPlace) (label : Label) (place : TagPlace)
-    → ((l : Label) (w : TagPlace) → before l ≡ Some w → HasPlace old (tag_texts p l) w) → KeepsPlaces old new → HasPlace new (tag_texts p label) place
-    → ((q : Label) → after q ≡ cond (same_label label q) (Some place) (before q)) → (q : Label) (w : TagPlace) → after q ≡ Some w → HasPlace new (tag_texts p q) w
-known_more p old new before after label place known keeps own updated q w found = by (same_label label q) refl (sym (updated q) ∙ found)
+    → ((l : Label) (w : TagPlace) → before l ≡ Some w → HasTagPlace old (tag_texts p l) w) → KeepsTagPlaces old new → HasTagPlace new (tag_texts p label) place
+    → ((q : Label) → after q ≡ cond (same_label_parts label q) (Some place) (before q)) → (q : Label) (w : TagPlace) → after q ≡ Some w → HasTagPlace new (tag_texts p q) w
+known_more p old new before after label place known keeps own updated q w found = by (same_label_parts label q) refl (sym (updated q) ∙ found)
   where
-    by : (b : Bool) → same_label label q ≡ b → cond b (Some place) (before q) ≡ Some w → HasPlace new (tag_texts p q) w
+    by : (b : Bool) → same_label_parts label q ≡ b → cond b (Some place) (before q) ≡ Some w → HasTagPlace new (tag_texts p q) w
     by true same is =
-        subst (λ (l : Label). HasPlace new (tag_texts p l) w) (known_label label q same)
-        (subst (HasPlace new (tag_texts p label)) (ap (λ (o : Option TagPlace). unwrap_or o place) is) own)
+        subst (λ (l : Label). HasTagPlace new (tag_texts p l) w) (known_label label q same)
+        (subst (HasTagPlace new (tag_texts p label)) (ap (λ (o : Option TagPlace). unwrap_or o place) is) own)
     by false other is = keeps (tag_texts p q) w (known q w is)

@@ -5,7 +5,7 @@ use Rattle.std.proofs.lemmas.List.Elements.{All-push}
 use Rattle.pp_model.specs.declared.profile.Profile.{Profile}
 use Rattle.pp_model.specs.Conditions.{IsFrameOf}
 use Rattle.pp_model.specs.declared.frame.Frame.{Frame}
-use Rattle.pp_grain.specs.Keys.{counts}
+use Rattle.pp_grain.specs.Keys.{frame_counts}
 use Rattle.pp_count.specs.Seeing.{counted_frames}
 use Rattle.pp_count.proofs.CountedFrames.{one_more, no_more}
 
@@ -21,7 +21,7 @@ pub record CountedTo (p : Profile) (noinlines : Bool) (stack : List Frame) (i : 
 
 -- one more frame, read from the stack, which counts
 pub counted_read : (p : Profile) (noinlines : Bool) (stack read frames : List Frame) (i : ℕ) (d : Frame) → read ≡ stack → i < length read
-    → All (IsFrameOf p) stack → counts stack i noinlines ≡ true → CountedTo p noinlines stack i frames
+    → All (IsFrameOf p) stack → frame_counts stack i noinlines ≡ true → CountedTo p noinlines stack i frames
     → CountedTo p noinlines stack (i + 1) (frames ++ get_or read i d ∷ [])
 counted_read p noinlines stack read frames i d lent here all counted so_far =
     let within : i < length stack = omega (arith, here, ap length lent) in
@@ -37,7 +37,7 @@ counted_read p noinlines stack read frames i d lent here all counted so_far =
 
 -- one more frame, which doesn't
 pub counted_other : (p : Profile) (noinlines : Bool) (stack read frames : List Frame) (i : ℕ) → read ≡ stack → i < length read
-    → counts stack i noinlines ≡ false → CountedTo p noinlines stack i frames → CountedTo p noinlines stack (i + 1) frames
+    → frame_counts stack i noinlines ≡ false → CountedTo p noinlines stack i frames → CountedTo p noinlines stack (i + 1) frames
 counted_other p noinlines stack read frames i lent here other so_far =
     let within : i < length stack = omega (arith, here, ap length lent) in
     record {

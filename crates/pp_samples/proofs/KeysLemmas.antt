@@ -10,7 +10,7 @@ use Rattle.pp_model.specs.FirstSight.{seen_with, distinct, place_of}
 use Rattle.pp_model.proofs.FirstSightLemmas.{distinct_push}
 use Rattle.pp_samples.specs.declared.tag_table.TagTable.{TagTable}
 use Rattle.pp_samples.specs.declared.key_table.KeyTable.{KeyTable}
-use Rattle.pp_samples.specs.TagLines.{TagTexts, same_tag, has_key}
+use Rattle.pp_samples.specs.TagLines.{TagTexts, same_tag, has_label_key}
 use Rattle.pp_samples.specs.Names.{key_tag}
 use Rattle.pp_samples.specs.Tables.{Event, key_event, events_of_key, IsTableOf, AreKeys, Roomed, has, made, AddsAt, AreSmall}
 use Rattle.pp_samples.proofs.TagNamesLemmas.{tag_decides}
@@ -20,12 +20,12 @@ use Rattle.pp_samples.proofs.Slots.{Written, write_old, write_new, place_within,
 -- the events of a key, with one more
 of_this : (events : List Event) (e : Event) → events_of_key e.tag.key (events ++ e ∷ []) ≡ events_of_key e.tag.key events ++ e ∷ []
 of_this events e =
-    filter-append (λ x. has_key e.tag.key x.tag) events (e ∷ [])
+    filter-append (λ x. has_label_key e.tag.key x.tag) events (e ∷ [])
     ∙ ap (λ (b : Bool). events_of_key e.tag.key events ++ cond b (e ∷ []) []) ((bytes_eq-Decides e.tag.key e.tag.key).1 refl)
 
 of_other : (key : List ℕ) (events : List Event) (e : Event) → bytes_eq key e.tag.key ≡ false → events_of_key key (events ++ e ∷ []) ≡ events_of_key key events
 of_other key events e other =
-    filter-append (λ x. has_key key x.tag) events (e ∷ [])
+    filter-append (λ x. has_label_key key x.tag) events (e ∷ [])
     ∙ ap (λ (b : Bool). events_of_key key events ++ cond b (e ∷ []) []) other ∙ append-nil (events_of_key key events)
 
 -- other keys have other tags

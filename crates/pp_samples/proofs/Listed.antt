@@ -23,10 +23,10 @@ use Rattle.pp_count.proofs.EachOnce.{each_once_is}
 use Rattle.pp_grain.proofs.CallerLemmas.{both_equal}
 use Rattle.pp_samples.specs.declared.key_table.KeyTable.{KeyTable}
 use Rattle.pp_samples.specs.declared.tag_lines.TagLine.{TagLine}
-use Rattle.pp_samples.specs.TagLines.{TagTexts, bytes_cmp, tag_cmp, same_tag, has_key, all_tags, all_keys, key_sum, key_size, tag_sum, line_cmp, key_tags, value_line}
+use Rattle.pp_samples.specs.TagLines.{TagTexts, bytes_cmp, shown_tag_cmp, same_tag, has_label_key, all_tags, all_keys, key_sum, key_size, tag_sum, line_cmp, key_tags, value_line}
 use Rattle.pp_samples.specs.Names.{name_texts, key_tag}
 use Rattle.pp_samples.specs.Tables.{Event, AreKeys, key_event, events_of_key, events_from}
-use Rattle.pp_samples.specs.Ranked.{RankedTag, line_entry, line_key, event_entry, table_tags, entry_cmp, key_cmp, entry_line, IsKeyLine}
+use Rattle.pp_samples.specs.Ranked.{RankedTag, line_entry, line_key, event_entry, table_tags, entry_cmp, line_key_cmp, entry_line, IsKeyLine}
 use Rattle.pp_samples.proofs.TagNamesLemmas.{tag_decides}
 use Rattle.pp_samples.proofs.EventSums.{tag_sums, key_sums, key_sizes, key_same, tags_are}
 use Rattle.pp_samples.proofs.Ranking.{tag_cmp_total, tag_cmp_ties, bytes_cmp_ties, tag_symm, tags_apart, place_at, at_all, sorted_as}
@@ -112,27 +112,27 @@ module _ (samples : List (Seen TagTexts)) where
     own = events_of_key key events
 
     -- the tags of the key
-    own_tags : map (λ e. e.tag) own ≡ filter (has_key key) (all_tags samples)
-    own_tags = sym (filter-map (λ e. e.tag) (has_key key) events) ∙ ap (filter (has_key key)) (tags_are samples 0)
+    own_tags : map (λ e. e.tag) own ≡ filter (has_label_key key) (all_tags samples)
+    own_tags = sym (filter-map (λ e. e.tag) (has_label_key key) events) ∙ ap (filter (has_label_key key)) (tags_are samples 0)
 
-    keyed : (tags : List TagTexts) → AllByRecursion (λ t. has_key key t ≡ true) (filter (has_key key) tags)
+    keyed : (tags : List TagTexts) → AllByRecursion (λ t. has_label_key key t ≡ true) (filter (has_label_key key) tags)
     keyed [] = tt
-    keyed (t ∷ tags) = by (has_key key t) refl (keyed tags)
+    keyed (t ∷ tags) = by (has_label_key key t) refl (keyed tags)
       where
-        by : (b : Bool) → has_key key t ≡ b → AllByRecursion (λ t. has_key key t ≡ true) (filter (has_key key) tags)
-            → AllByRecursion (λ t. has_key key t ≡ true) (cond b (t ∷ filter (has_key key) tags) (filter (has_key key) tags))
+        by : (b : Bool) → has_label_key key t ≡ b → AllByRecursion (λ t. has_label_key key t ≡ true) (filter (has_label_key key) tags)
+            → AllByRecursion (λ t. has_label_key key t ≡ true) (cond b (t ∷ filter (has_label_key key) tags) (filter (has_label_key key) tags))
         by true is rest = (is, rest)
         by false is rest = rest
 
-    table_keyed : AllByRecursion (λ t. has_key key t ≡ true) (table_tags own)
+    table_keyed : AllByRecursion (λ t. has_label_key key t ≡ true) (table_tags own)
     table_keyed =
-        all-seen_after same_tag same_tag (λ x. x) (λ t. has_key key t ≡ true) (λ a b p q. refl) [] (map (λ e. e.tag) own) tt
-        (subst (AllByRecursion (λ t. has_key key t ≡ true)) (sym own_tags) (keyed (all_tags samples)))
+        all-seen_after same_tag same_tag (λ x. x) (λ t. has_label_key key t ≡ true) (λ a b p q. refl) [] (map (λ e. e.tag) own) tt
+        (subst (AllByRecursion (λ t. has_label_key key t ≡ true)) (sym own_tags) (keyed (all_tags samples)))
 
     entries_sums : All HasTagSum (map (event_entry own) (table_tags own))
     entries_sums =
         all_mapped HasTagSum (event_entry own) (table_tags own)
-        (λ k d h. tag_sums samples key (get_or (table_tags own) k d) (at_all (λ t. has_key key t ≡ true) (table_tags own) k d table_keyed h))
+        (λ k d h. tag_sums samples key (get_or (table_tags own) k d) (at_all (λ t. has_label_key key t ≡ true) (table_tags own) k d table_keyed h))
 
     module _ (before lines : List TagLine) (are : map line_entry before ≡ map (event_entry own) (table_tags own)) (moved : IsPermutation before lines)
         (sorted : IsSortedBy (λ a b. is_lt (entry_cmp (line_entry a) (line_entry b))) lines) where
@@ -147,9 +147,9 @@ module _ (samples : List (Seen TagTexts)) where
 
       pub tags_listed : key_tags samples key ≡ map line_tag lines
       tags_listed =
-          each_once_is line_total line_ties same_tag tag_decides (filter (has_key key) (all_tags samples)) (map line_tag lines)
+          each_once_is line_total line_ties same_tag tag_decides (filter (has_label_key key) (all_tags samples)) (map line_tag lines)
           (sorted_as line_tag (λ line. HasTagSum (line_entry line)) (line_cmp samples) (λ a b. entry_cmp (line_entry a) (line_entry b))
-          (λ a b x y. λ i. ordering_then (nat_cmp (nat_abs (sym y i)) (nat_abs (sym x i))) (tag_cmp (line_tag a) (line_tag b))) lines lines_sums sorted)
+          (λ a b x y. λ i. ordering_then (nat_cmp (nat_abs (sym y i)) (nat_abs (sym x i))) (shown_tag_cmp (line_tag a) (line_tag b))) lines lines_sums sorted)
           (IsDistinct-IsPermutation same_tag tag_symm (map line_tag before) (map line_tag lines) moved_tags (subst (IsDistinct same_tag) (sym before_tags) (tags_apart own)))
           (λ t. ap (list_any (same_tag t)) (sym own_tags) ∙ sym (any_distinct same_tag tag_decides t (map (λ e. e.tag) own)) ∙ ap (list_any (same_tag t)) (sym before_tags)
           ∙ list_any-IsPermutation (same_tag t) (map line_tag before) (map line_tag lines) moved_tags)
@@ -225,7 +225,7 @@ module _ (samples : List (Seen TagTexts)) where
       all_keys_tags (k ∷ ks) = (refl, all_keys_tags ks)
 
   module _ (keys : KeyTable) (is : AreKeys events keys) (before lines : List TagLine) (are : map line_entry before ≡ map (event_entry key_events) (table_tags key_events))
-      (moved : IsPermutation before lines) (sorted : IsSortedBy (λ a b. is_lt (key_cmp a b)) lines) where
+      (moved : IsPermutation before lines) (sorted : IsSortedBy (λ a b. is_lt (line_key_cmp a b)) lines) where
     names_are : keys.keys.names ≡ table_tags key_events
     names_are = is.sums.tags
 
@@ -257,7 +257,7 @@ module _ (samples : List (Seen TagTexts)) where
     pub keys_listed : all_keys samples ≡ map line_key lines
     keys_listed =
         each_once_is nat_list_cmp_total bytes_cmp_ties bytes_eq bytes_eq-Decides (map (λ tag. tag.key) (all_tags samples)) (map line_key lines)
-        (sorted_as line_key (λ _. Unit {0}) bytes_cmp key_cmp (λ a b x y. refl) lines (λ k d h. tt) sorted)
+        (sorted_as line_key (λ _. Unit {0}) bytes_cmp line_key_cmp (λ a b x y. refl) lines (λ k d h. tt) sorted)
         (IsDistinct-IsPermutation bytes_eq bytes_symm (map line_key before) (map line_key lines) moved_keys (subst (IsDistinct bytes_eq) (sym before_keys) (distinct_apart bytes_eq bytes_laws event_keys)))
         (λ k. ap (list_any (bytes_eq k)) (sym keys_are) ∙ sym (any_distinct bytes_eq bytes_eq-Decides k event_keys) ∙ ap (list_any (bytes_eq k)) (sym before_keys)
         ∙ list_any-IsPermutation (bytes_eq k) (map line_key before) (map line_key lines) moved_keys)

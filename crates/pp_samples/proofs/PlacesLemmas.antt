@@ -10,8 +10,8 @@ use Rattle.pp_samples.specs.declared.key_table.KeyTable.{KeyTable}
 use Rattle.pp_samples.specs.declared.key_table.TagPlace.{TagPlace}
 use Rattle.pp_samples.specs.TagLines.{TagTexts, same_tag}
 use Rattle.pp_samples.specs.Names.{key_tag}
-use Rattle.pp_samples.specs.Tables.{Event, no_sum, sum_of, events_with, IsTable, Padded, had, grew, Roomed, has, made}
-use Rattle.pp_samples.specs.Places.{AreEven, HasPlace}
+use Rattle.pp_samples.specs.Tables.{Event, no_tag_sum, sum_of, events_with, IsTable, Padded, had, grew, Roomed, has, made}
+use Rattle.pp_samples.specs.Places.{AreEven, HasTagPlace}
 use Rattle.pp_samples.proofs.Slots.{place_within, seen_old, seen_new, own_place, old_place}
 
 -- The names keep the places of the tags among them.
@@ -79,7 +79,7 @@ pub padded_room : (names new : List TagTexts) (x : TagTexts) (sums padded : List
 padded_room names new x sums padded n count is at (had within same) =
     room_in names new x n (length padded) is at (omega (arith, within, count)) (omega (arith, ap length same, count))
 padded_room names new x sums padded n count is at (grew past same) =
-    room_past names new x n (length padded) is at (omega (arith, past, count)) (omega (arith, ap length same, count, length-append sums (no_sum ∷ [])))
+    room_past names new x n (length padded) is at (omega (arith, past, count)) (omega (arith, ap length same, count, length-append sums (no_tag_sum ∷ [])))
 
 pub roomed_room : (names new : List TagTexts) (x : TagTexts) (tables roomed : List TagTable) (n : ℕ) → length tables ≡ length names
     → new ≡ seen_with same_tag names x → n ≡ place_of same_tag names x → Roomed tables roomed n → HasRoom names new n (length roomed)
@@ -96,15 +96,15 @@ roomed_at tables roomed n (made empty of_none past same) j d here = ap (λ ts. g
 
 -- the sum of a tag, in the room that was made for it
 pub padded_sum : (events : List Event) (x : TagTexts) (names : List TagTexts) (sums padded : List TagSum) (n : ℕ) → IsTable events names sums
-    → n ≡ place_of same_tag names x → Padded sums padded n → get_or padded n no_sum ≡ sum_of (events_with x events)
+    → n ≡ place_of same_tag names x → Padded sums padded n → get_or padded n no_tag_sum ≡ sum_of (events_with x events)
 padded_sum events x names sums padded n is at (had within same) =
-    (λ i. get_or (same i) (at i) no_sum) ∙ is.added x
+    (λ i. get_or (same i) (at i) no_tag_sum) ∙ is.added x
 padded_sum events x names sums padded n is at (grew past same) =
     let end : n ≡ length sums = omega (arith, past, at, is.count, place_within names x) in
-    ap (λ ss. get_or ss n no_sum) same
-    ∙ ap (λ (k : ℕ). get_or (sums ++ no_sum ∷ []) k no_sum) end
-    ∙ get_or-append_seam sums no_sum [] no_sum ∙ sym (get_or_past sums n no_sum past)
-    ∙ ap (λ (k : ℕ). get_or sums k no_sum) at ∙ is.added x
+    ap (λ ss. get_or ss n no_tag_sum) same
+    ∙ ap (λ (k : ℕ). get_or (sums ++ no_tag_sum ∷ []) k no_tag_sum) end
+    ∙ get_or-append_seam sums no_tag_sum [] no_tag_sum ∙ sym (get_or_past sums n no_tag_sum past)
+    ∙ ap (λ (k : ℕ). get_or sums k no_tag_sum) at ∙ is.added x
 
 -- Places in tables of keys of which one was made anew.
 module _ (old new : KeyTable) (roomed : List TagTable) (k : ℕ) (table : TagTable) (even : AreEven old)
@@ -126,7 +126,7 @@ module _ (old new : KeyTable) (roomed : List TagTable) (k : ℕ) (table : TagTab
         (ap (λ ts. get_or ts j d) is ∙ get_or-set_other roomed k j table d other ∙ room j d here))
   ]
 
-  pub kept_place : (tag : TagTexts) (place : TagPlace) → HasPlace old tag place → HasPlace new tag place
+  pub kept_place : (tag : TagTexts) (place : TagPlace) → HasTagPlace old tag place → HasTagPlace new tag place
   kept_place tag place at =
       let here : place.key < length old.tags.items = omega (arith, at.inside.key, even.count) in
       let key : place_of same_tag new.keys.names (key_tag tag.key) ≡ place_of same_tag old.keys.names (key_tag tag.key) =
@@ -144,7 +144,7 @@ module _ (old new : KeyTable) (roomed : List TagTable) (k : ℕ) (table : TagTab
 pub own_is : (old new : KeyTable) (roomed : List TagTable) (k t : ℕ) (table : TagTable) (tag : TagTexts) (place : TagPlace) → place.key ≡ k → place.tag ≡ t
     → k ≡ place_of same_tag old.keys.names (key_tag tag.key) → new.keys.names ≡ seen_with same_tag old.keys.names (key_tag tag.key)
     → k < length roomed → new.tags.items ≡ set roomed k table → ((d : TagTable) → t ≡ place_of same_tag (get_or roomed k d).names tag)
-    → ((d : TagTable) → table.names ≡ seen_with same_tag (get_or roomed k d).names tag) → HasPlace new tag place
+    → ((d : TagTable) → table.names ≡ seen_with same_tag (get_or roomed k d).names tag) → HasTagPlace new tag place
 own_is old new roomed k t table tag place is_key is_tag at names inside is number renamed =
     let key : IsSeenAt old.keys.names new.keys.names (key_tag tag.key) = seen_at old.keys.names new.keys.names (key_tag tag.key) names in
     let there : (d : TagTable) → get_or new.tags.items place.key d ≡ table =

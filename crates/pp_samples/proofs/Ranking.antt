@@ -19,8 +19,8 @@ use Rattle.pp_model.specs.FirstSight.{place_of}
 use Rattle.pp_model.proofs.FirstSightLemmas.{distinct_apart}
 use Rattle.pp_count.proofs.Renaming.{same_bool}
 use Rattle.pp_samples.specs.declared.tag_table.TagSum.{TagSum}
-use Rattle.pp_samples.specs.TagLines.{TagTexts, bytes_cmp, tag_cmp, same_tag}
-use Rattle.pp_samples.specs.Tables.{Event, IsTable, no_sum, sum_of, events_with}
+use Rattle.pp_samples.specs.TagLines.{TagTexts, bytes_cmp, shown_tag_cmp, same_tag}
+use Rattle.pp_samples.specs.Tables.{Event, IsTable, no_tag_sum, sum_of, events_with}
 use Rattle.pp_samples.specs.Ranked.{RankedTag, no_tag, table_tags, event_entry, entry_cmp}
 use Rattle.pp_samples.proofs.TagNamesLemmas.{tag_decides}
 
@@ -34,7 +34,7 @@ lines_more f old out new lines i x here is before now =
     ∙ ap (flat_map f) (sym (take_more lines i x here)))
 
 -- the orders are total, and only what is the same ties
-pub tag_cmp_total : IsTotalOrder tag_cmp
+pub tag_cmp_total : IsTotalOrder shown_tag_cmp
 tag_cmp_total =
     then_total
     (then_total
@@ -44,7 +44,7 @@ tag_cmp_total =
     (on_total (λ (t : TagTexts). t.num) int_cmp_total))
     (on_total (λ (t : TagTexts). t.unit) nat_list_cmp_total)
 
-pub tag_cmp_ties : finite.IsAntisymmetric tag_cmp
+pub tag_cmp_ties : finite.IsAntisymmetric shown_tag_cmp
 tag_cmp_ties a b tie =
     let unit = both_equal _ _ tie in
     let num = both_equal _ _ unit.0 in
@@ -129,7 +129,7 @@ entry_is events names sums is n x s here named at =
     let place : place_of same_tag names tag ≡ n = place_at names n no_tag apart here in
     let inside : n < length sums = omega (arith, here, is.count) in
     let sum : s ≡ sum_of (events_with tag events) =
-    at ∙ get_or_default sums n s no_sum inside ∙ ap (λ (k : ℕ). slice_index_or sums k no_sum) (sym place) ∙ is.added tag in
+    at ∙ get_or_default sums n s no_tag_sum inside ∙ ap (λ (k : ℕ). slice_index_or sums k no_tag_sum) (sym place) ∙ is.added tag in
     λ i. record {
       tag = sym (get_or_from_slice_get names n x no_tag named) i;
       sum = sum i;

@@ -9,9 +9,9 @@ use Rattle.pp_count.specs.Sums.{Seen}
 use Rattle.pp_count.proofs.Adding.{triangle}
 use Rattle.pp_count.proofs.Sizes.{part_within}
 use Rattle.pp_samples.specs.declared.tag_table.TagSum.{TagSum}
-use Rattle.pp_samples.specs.TagLines.{TagTexts, same_tag, has_key}
+use Rattle.pp_samples.specs.TagLines.{TagTexts, same_tag, has_label_key}
 use Rattle.pp_samples.specs.Names.{key_tag}
-use Rattle.pp_samples.specs.Tables.{Event, credited, no_sum, sum_of, events_with, events_of_key, key_event, events_from, AreSmall, Fits}
+use Rattle.pp_samples.specs.Tables.{Event, credited_event, no_tag_sum, sum_of, events_with, events_of_key, key_event, events_from, AreSmall, Fits}
 use Rattle.pp_samples.proofs.TablesLemmas.{with_this}
 use Rattle.pp_samples.proofs.EventSums.{comes_to}
 
@@ -33,22 +33,22 @@ one_grows s e true = omega arith
 one_grows s e false = omega arith
 
 -- a sum is within the sum of absolute values
-sum_within : (events : List Event) (s : TagSum) → nat_abs s.sum ≤ s.size → nat_abs (fold credited s events).sum ≤ (fold credited s events).size
+sum_within : (events : List Event) (s : TagSum) → nat_abs s.sum ≤ s.size → nat_abs (fold credited_event s events).sum ≤ (fold credited_event s events).size
 sum_within [] s within = within
-sum_within (e ∷ events) s within = sum_within events (credited s e) (one_step s e (s.last == e.turn) within)
+sum_within (e ∷ events) s within = sum_within events (credited_event s e) (one_step s e (s.last == e.turn) within)
 
 -- which only grows
-size_grows : (events : List Event) (s : TagSum) → s.size ≤ (fold credited s events).size
+size_grows : (events : List Event) (s : TagSum) → s.size ≤ (fold credited_event s events).size
 size_grows [] s = omega arith
-size_grows (e ∷ events) s = omega (arith, one_grows s e (s.last == e.turn), size_grows events (credited s e))
+size_grows (e ∷ events) s = omega (arith, one_grows s e (s.last == e.turn), size_grows events (credited_event s e))
 
 -- the event can be added to the sum of its tag
 pub fits_of : (events : List Event) (e : Event) → AreSmall (events ++ e ∷ []) → Fits (sum_of (events_with e.tag events)) e
 fits_of events e small = record {
-  within = sum_within (events_with e.tag events) no_sum (omega arith);
+  within = sum_within (events_with e.tag events) no_tag_sum (omega arith);
   small =
       subst (λ (s : TagSum). s.size < 2 ^ 63)
-      (ap sum_of (with_this events e) ∙ fold-append credited no_sum (events_with e.tag events) (e ∷ []))
+      (ap sum_of (with_this events e) ∙ fold-append credited_event no_tag_sum (events_with e.tag events) (e ∷ []))
       (small (same_tag e.tag));
 }
 
@@ -60,26 +60,26 @@ small_before events more small q =
     omega (
       arith,
       small q,
-      ap (λ (s : TagSum). s.size) (ap sum_of (filter-append (λ e. q e.tag) events more) ∙ fold-append credited no_sum first rest),
+      ap (λ (s : TagSum). s.size) (ap sum_of (filter-append (λ e. q e.tag) events more) ∙ fold-append credited_event no_tag_sum first rest),
       size_grows rest (sum_of first),
     )
 
 -- the events of keys that fit
 keys_sum : (q : TagTexts → Bool) (events : List Event) (s : TagSum)
-    → fold credited s (filter (λ e. q (key_tag e.tag.key)) events) ≡ fold credited s (filter (λ e. q e.tag) (map key_event events))
+    → fold credited_event s (filter (λ e. q (key_tag e.tag.key)) events) ≡ fold credited_event s (filter (λ e. q e.tag) (map key_event events))
 keys_sum q [] s = refl
 keys_sum q (e ∷ events) s = by (q (key_tag e.tag.key)) (keys_sum q events)
   where
-    by : (b : Bool) → ((t : TagSum) → fold credited t (filter (λ x. q (key_tag x.tag.key)) events) ≡ fold credited t (filter (λ x. q x.tag) (map key_event events)))
-        → fold credited s (cond b (e ∷ filter (λ x. q (key_tag x.tag.key)) events) (filter (λ x. q (key_tag x.tag.key)) events))
-        ≡ fold credited s (cond b (key_event e ∷ filter (λ x. q x.tag) (map key_event events)) (filter (λ x. q x.tag) (map key_event events)))
-    by true rest = rest (credited s e)
+    by : (b : Bool) → ((t : TagSum) → fold credited_event t (filter (λ x. q (key_tag x.tag.key)) events) ≡ fold credited_event t (filter (λ x. q x.tag) (map key_event events)))
+        → fold credited_event s (cond b (e ∷ filter (λ x. q (key_tag x.tag.key)) events) (filter (λ x. q (key_tag x.tag.key)) events))
+        ≡ fold credited_event s (cond b (key_event e ∷ filter (λ x. q x.tag) (map key_event events)) (filter (λ x. q x.tag) (map key_event events)))
+    by true rest = rest (credited_event s e)
     by false rest = rest s
 
 pub small_keys : (events : List Event) (e : Event) → AreSmall (events ++ e ∷ []) → AreSmall (map key_event events ++ key_event e ∷ [])
 small_keys events e small q =
     subst (λ (s : TagSum). s.size < 2 ^ 63)
-    (keys_sum q (events ++ e ∷ []) no_sum ∙ ap (λ es. sum_of (filter (λ x. q x.tag) es)) (map-append key_event events (e ∷ [])))
+    (keys_sum q (events ++ e ∷ []) no_tag_sum ∙ ap (λ es. sum_of (filter (λ x. q x.tag) es)) (map-append key_event events (e ∷ [])))
     (small (λ t. q (key_tag t.key)))
 
 -- the events of one key that fit
@@ -96,7 +96,7 @@ twice p q (e ∷ events) = by (p e.tag) (twice p q events)
 
 pub small_key : (key : List ℕ) (events : List Event) → AreSmall events → AreSmall (events_of_key key events)
 small_key key events small q =
-    subst (λ (es : List Event). (sum_of es).size < 2 ^ 63) (twice (has_key key) q events) (small (λ t. has_key key t && q t))
+    subst (λ (es : List Event). (sum_of es).size < 2 ^ 63) (twice (has_label_key key) q events) (small (λ t. has_label_key key t && q t))
 
 -- the events of samples whose values can be added up
 pub small_samples : (samples : List (Seen TagTexts)) → sum_by (λ s. nat_abs s.value) samples < 2 ^ 63 → AreSmall (events_from 0 samples)
@@ -104,7 +104,7 @@ small_samples samples fits q =
     omega (
       arith,
       fits,
-      (comes_to q samples 0 no_sum (omega arith)).size,
+      (comes_to q samples 0 no_tag_sum (omega arith)).size,
       part_within (λ (s : Seen TagTexts). nat_abs s.value) (λ s. list_any q s.keys) samples,
     )
 

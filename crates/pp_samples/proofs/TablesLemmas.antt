@@ -9,7 +9,7 @@ use Rattle.pp_model.specs.FirstSight.{seen_with, distinct, place_of}
 use Rattle.pp_model.proofs.FirstSightLemmas.{distinct_push}
 use Rattle.pp_samples.specs.declared.tag_table.TagSum.{TagSum}
 use Rattle.pp_samples.specs.TagLines.{TagTexts, same_tag}
-use Rattle.pp_samples.specs.Tables.{Event, no_sum, credited, sum_of, events_with, sum_at, IsTable, Padded, had, grew, Credits}
+use Rattle.pp_samples.specs.Tables.{Event, no_tag_sum, credited_event, sum_of, events_with, tag_sum_at, IsTable, Padded, had, grew, Credits}
 use Rattle.pp_samples.proofs.TagNamesLemmas.{tag_decides}
 use Rattle.pp_samples.proofs.Slots.{place_within, Written, write_old, write_new}
 
@@ -28,7 +28,7 @@ with_other tag events e other =
 -- one event more, whose sum was written beside its tag
 written_table : (events : List Event) (e : Event) (names new_names : List TagTexts) (sums new : List TagSum) → IsTable events names sums
     → new_names ≡ seen_with same_tag names e.tag
-    → Written no_sum names sums e.tag (credited (sum_at names sums e.tag) e) new_names new → IsTable (events ++ e ∷ []) new_names new
+    → Written no_tag_sum names sums e.tag (credited_event (tag_sum_at names sums e.tag) e) new_names new → IsTable (events ++ e ∷ []) new_names new
 written_table events e names new_names sums new is seen written = record {
   tags =
       seen ∙ ap (λ (ns : List TagTexts). seen_with same_tag ns e.tag) is.tags
@@ -38,12 +38,12 @@ written_table events e names new_names sums new is seen written = record {
   added = λ tag. by tag (same_tag tag e.tag) refl;
 }
   where
-    by : (tag : TagTexts) (b : Bool) → same_tag tag e.tag ≡ b → sum_at new_names new tag ≡ sum_of (events_with tag (events ++ e ∷ []))
+    by : (tag : TagTexts) (b : Bool) → same_tag tag e.tag ≡ b → tag_sum_at new_names new tag ≡ sum_of (events_with tag (events ++ e ∷ []))
     by tag true same =
         let own : tag ≡ e.tag = (tag_decides tag e.tag).0 same in
-        subst (λ (t : TagTexts). sum_at new_names new t ≡ sum_of (events_with t (events ++ e ∷ []))) (sym own)
-        (written.this ∙ ap (λ (s : TagSum). credited s e) (is.added e.tag)
-        ∙ sym (fold-append credited no_sum (events_with e.tag events) (e ∷ [])) ∙ ap sum_of (sym (with_this events e)))
+        subst (λ (t : TagTexts). tag_sum_at new_names new t ≡ sum_of (events_with t (events ++ e ∷ []))) (sym own)
+        (written.this ∙ ap (λ (s : TagSum). credited_event s e) (is.added e.tag)
+        ∙ sym (fold-append credited_event no_tag_sum (events_with e.tag events) (e ∷ [])) ∙ ap sum_of (sym (with_this events e)))
     by tag false other =
         let apart : tag ≢ e.tag = λ own. true≢false (sym ((tag_decides tag e.tag).1 own) ∙ other) in
         written.others tag apart ∙ is.added tag ∙ ap sum_of (sym (with_other tag events e apart))
@@ -51,33 +51,33 @@ written_table events e names new_names sums new is seen written = record {
 -- one event more in a table that has its tag
 pub table_old : (events : List Event) (e : Event) (names new_names : List TagTexts) (sums new : List TagSum) (s : TagSum) → IsTable events names sums
     → new_names ≡ seen_with same_tag names e.tag → place_of same_tag names e.tag < length sums
-    → s ≡ credited (sum_at names sums e.tag) e → new ≡ set sums (place_of same_tag names e.tag) s → IsTable (events ++ e ∷ []) new_names new
+    → s ≡ credited_event (tag_sum_at names sums e.tag) e → new ≡ set sums (place_of same_tag names e.tag) s → IsTable (events ++ e ∷ []) new_names new
 table_old events e names new_names sums new s is seen within credit set =
     written_table events e names new_names sums new is seen
-    (rw seen (write_old no_sum names sums new e.tag (credited (sum_at names sums e.tag) e) is.count (omega (arith, within, is.count)) (rw (← credit) set)))
+    (rw seen (write_old no_tag_sum names sums new e.tag (credited_event (tag_sum_at names sums e.tag) e) is.count (omega (arith, within, is.count)) (rw (← credit) set)))
 
 -- and in one that hasn't
 pub table_new : (events : List Event) (e : Event) (names new_names : List TagTexts) (sums new : List TagSum) (s : TagSum) → IsTable events names sums
     → new_names ≡ seen_with same_tag names e.tag → length sums ≤ place_of same_tag names e.tag
-    → s ≡ credited (get_or (sums ++ no_sum ∷ []) (place_of same_tag names e.tag) no_sum) e
-    → new ≡ set (sums ++ no_sum ∷ []) (place_of same_tag names e.tag) s → IsTable (events ++ e ∷ []) new_names new
+    → s ≡ credited_event (get_or (sums ++ no_tag_sum ∷ []) (place_of same_tag names e.tag) no_tag_sum) e
+    → new ≡ set (sums ++ no_tag_sum ∷ []) (place_of same_tag names e.tag) s → IsTable (events ++ e ∷ []) new_names new
 table_new events e names new_names sums new s is seen past credit set =
     let at : place_of same_tag names e.tag ≡ length names = omega (arith, past, is.count, place_within names e.tag) in
-    let empty : get_or (sums ++ no_sum ∷ []) (place_of same_tag names e.tag) no_sum ≡ sum_at names sums e.tag =
-    ap (λ (k : ℕ). get_or (sums ++ no_sum ∷ []) k no_sum) (let e2 : place_of same_tag names e.tag ≡ length sums = omega (arith, at, is.count) in e2)
-    ∙ get_or-append_seam sums no_sum [] no_sum ∙ sym (get_or_past sums (place_of same_tag names e.tag) no_sum past) in
+    let empty : get_or (sums ++ no_tag_sum ∷ []) (place_of same_tag names e.tag) no_tag_sum ≡ tag_sum_at names sums e.tag =
+    ap (λ (k : ℕ). get_or (sums ++ no_tag_sum ∷ []) k no_tag_sum) (let e2 : place_of same_tag names e.tag ≡ length sums = omega (arith, at, is.count) in e2)
+    ∙ get_or-append_seam sums no_tag_sum [] no_tag_sum ∙ sym (get_or_past sums (place_of same_tag names e.tag) no_tag_sum past) in
     written_table events e names new_names sums new is seen
-    (rw seen (write_new no_sum names sums new e.tag (credited (sum_at names sums e.tag) e) is.count at (rw (← (credit ∙ ap (λ (t : TagSum). credited t e) empty)) set)))
+    (rw seen (write_new no_tag_sum names sums new e.tag (credited_event (tag_sum_at names sums e.tag) e) is.count at (rw (← (credit ∙ ap (λ (t : TagSum). credited_event t e) empty)) set)))
 
 -- one event more
 pub table_more : (events : List Event) (e : Event) (names new_names : List TagTexts) (sums padded new : List TagSum) (n : ℕ) → IsTable events names sums
     → new_names ≡ seen_with same_tag names e.tag → n ≡ place_of same_tag names e.tag → Padded sums padded n → Credits padded n e new
     → IsTable (events ++ e ∷ []) new_names new
 table_more events e names new_names sums padded new n is seen at (had within same) credit =
-    table_old events e names new_names sums new (credited (get_or padded n no_sum) e) is seen (omega (arith, within, at))
-    (λ i. credited (get_or (same i) (at i) no_sum) e)
-    (credit.is ∙ (λ i. set (same i) (at i) (credited (get_or padded n no_sum) e)))
+    table_old events e names new_names sums new (credited_event (get_or padded n no_tag_sum) e) is seen (omega (arith, within, at))
+    (λ i. credited_event (get_or (same i) (at i) no_tag_sum) e)
+    (credit.is ∙ (λ i. set (same i) (at i) (credited_event (get_or padded n no_tag_sum) e)))
 table_more events e names new_names sums padded new n is seen at (grew past same) credit =
-    table_new events e names new_names sums new (credited (get_or padded n no_sum) e) is seen (omega (arith, past, at))
-    (λ i. credited (get_or (same i) (at i) no_sum) e)
-    (credit.is ∙ (λ i. set (same i) (at i) (credited (get_or padded n no_sum) e)))
+    table_new events e names new_names sums new (credited_event (get_or padded n no_tag_sum) e) is seen (omega (arith, past, at))
+    (λ i. credited_event (get_or (same i) (at i) no_tag_sum) e)
+    (credit.is ∙ (λ i. set (same i) (at i) (credited_event (get_or padded n no_tag_sum) e)))

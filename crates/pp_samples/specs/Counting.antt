@@ -7,15 +7,15 @@ use Rattle.pp_model.specs.declared.profile.Profile.{Profile}
 use Rattle.pp_samples.specs.declared.key_table.TagPlace.{TagPlace}
 use Rattle.pp_samples.specs.declared.tag_counts.TagCounts.{TagCounts}
 use Rattle.pp_samples.specs.TagLines.{tag_texts}
-use Rattle.pp_samples.specs.Places.{AreEven, HasPlace}
+use Rattle.pp_samples.specs.Places.{AreEven, HasTagPlace}
 
 -- the labels have the same parts
-abbrev pub same_label : Label → Label → Bool
-same_label a b =
+abbrev pub same_label_parts : Label → Label → Bool
+same_label_parts a b =
     int_eq a.key b.key && (int_eq a.text b.text && (int_eq a.num b.num && int_eq a.num_unit b.num_unit))
 
 -- The tables have all their parts, and each label that was seen has the place of its tag.
 pub record AreSound (p : Profile) (counts : TagCounts) : Type 0 where
   pub even : AreEven counts.keys
-  pub known : (label : Label) → (place : TagPlace) → get same_label counts.places label ≡ Some place
-      → HasPlace counts.keys (tag_texts p label) place
+  pub known : (label : Label) → (place : TagPlace) → get same_label_parts counts.places label ≡ Some place
+      → HasTagPlace counts.keys (tag_texts p label) place

@@ -35,11 +35,11 @@ pub record IsPlaceIn (keys : KeyTable) (place : TagPlace) : Type 0 where
   pub tag : (d : TagTable) → place.tag < length (slice_index_or keys.tags.items place.key d).names
 
 -- The place is the tag's: by the number of its key, and by its own in the table of that key.
-pub record HasPlace (keys : KeyTable) (tag : TagTexts) (place : TagPlace) : Type 0 where
+pub record HasTagPlace (keys : KeyTable) (tag : TagTexts) (place : TagPlace) : Type 0 where
   pub inside : IsPlaceIn keys place
   pub key : place.key ≡ place_of same_tag keys.keys.names (key_tag tag.key)
   pub own : (d : TagTable) → place.tag ≡ place_of same_tag (slice_index_or keys.tags.items place.key d).names tag
 
 -- each tag that has its place keeps it
-abbrev pub KeepsPlaces : KeyTable → KeyTable → Type 0
-KeepsPlaces old new = (tag : TagTexts) → (place : TagPlace) → HasPlace old tag place → HasPlace new tag place
+abbrev pub KeepsTagPlaces : KeyTable → KeyTable → Type 0
+KeepsTagPlaces old new = (tag : TagTexts) → (place : TagPlace) → HasTagPlace old tag place → HasTagPlace new tag place

@@ -8,7 +8,7 @@ use Rattle.pp_count.specs.Sums.{Seen}
 use Rattle.pp_samples.specs.declared.tag_table.TagSum.{TagSum}
 use Rattle.pp_samples.specs.declared.tag_table.TagTable.{TagTable}
 use Rattle.pp_samples.specs.declared.tag_lines.TagLine.{TagLine}
-use Rattle.pp_samples.specs.TagLines.{TagTexts, same_tag, bytes_cmp, tag_cmp, value_line, key_sum, key_size}
+use Rattle.pp_samples.specs.TagLines.{TagTexts, same_tag, bytes_cmp, shown_tag_cmp, value_line, key_sum, key_size}
 use Rattle.pp_samples.specs.Names.{name_texts, key_tag}
 use Rattle.pp_samples.specs.Tables.{Event, IsTableOf, sum_of, events_with, events_of_key, events_from}
 
@@ -43,13 +43,13 @@ event_entry events tag = record {
 }
 
 -- keys by their bytes
-abbrev pub key_cmp : TagLine → TagLine → Ordering
-key_cmp a b = bytes_cmp (line_key a) (line_key b)
+abbrev pub line_key_cmp : TagLine → TagLine → Ordering
+line_key_cmp a b = bytes_cmp (line_key a) (line_key b)
 
 -- the greater absolute sum first, then by value
 abbrev pub entry_cmp : RankedTag → RankedTag → Ordering
 entry_cmp a b =
-    ordering_then (nat_cmp (nat_abs b.sum.sum) (nat_abs a.sum.sum)) (tag_cmp a.tag b.tag)
+    ordering_then (nat_cmp (nat_abs b.sum.sum) (nat_abs a.sum.sum)) (shown_tag_cmp a.tag b.tag)
 
 -- the line of a tag, of a key of this size
 abbrev pub entry_line : Shown → ℕ → RankedTag → List ℕ

@@ -16,32 +16,32 @@ use Rattle.pp_samples.specs.FrameLines.{AreFrameLines}
 use Rattle.pp_samples.specs.Traces.{trace_of_stack}
 
 -- the profile of the scope
-abbrev pub profile_of : Scope → Profile
-profile_of scope = scope.l.now.profile
+abbrev pub scope_profile : Scope → Profile
+scope_profile scope = scope.l.now.profile
 
 -- the verdicts are those of the profile
 abbrev pub HasItsVerdicts : Scope → Type 0
-HasItsVerdicts scope = HasVerdicts (profile_of scope) scope.v.now
+HasItsVerdicts scope = HasVerdicts (scope_profile scope) scope.v.now
 
 -- the verdicts are what these patterns find
-abbrev pub Finds : Scope → Finders → Type 0
-Finds scope f = HoldsFinders scope.l.now scope.v.now f
+abbrev pub FindsInScope : Scope → Finders → Type 0
+FindsInScope scope f = HoldsFinders scope.l.now scope.v.now f
 
 -- The verdicts and their tables are those of the profile, and the lines those of its frames.
-pub record AreReady (t : Traces) : Type 0 where
+pub record AreTracesReady (t : Traces) : Type 0 where
   pub verdicts : HasItsVerdicts t.scope
-  pub tables : AreTables (profile_of t.scope) t.scope.v.now t.tables.now
-  pub lines : AreFrameLines (profile_of t.scope) t.scope.config.now t.lines.now
+  pub tables : AreTables (scope_profile t.scope) t.scope.v.now t.tables.now
+  pub lines : AreFrameLines (scope_profile t.scope) t.scope.config.now t.lines.now
 
 -- how the values are printed
-abbrev pub unit_of : Scope → Shown
-unit_of scope = shown scope.head.now.unit
+abbrev pub shown_unit : Scope → Shown
+shown_unit scope = shown scope.head.now.unit
 
 -- the lines of a sample with these frames that count
 abbrev pub frames_trace : Scope → Finders → Sample → List Frame → List ℕ
 frames_trace scope f s frames =
-    trace_of_stack (profile_of scope) f scope.config.now scope.column (unit_of scope) s
-    (map (key_of_frame (profile_of scope) scope.config.now) frames)
+    trace_of_stack (scope_profile scope) f scope.config.now scope.column (shown_unit scope) s
+    (map (key_of_frame (scope_profile scope) scope.config.now) frames)
 
 -- the lines of a sample of which this stack is left
 abbrev pub stack_trace : Scope → Finders → Sample → List Frame → List ℕ
@@ -51,4 +51,4 @@ stack_trace scope f s stack =
 -- the lines of a sample, by what the stack filters leave of it
 abbrev pub sample_trace : Scope → Finders → Sample → List ℕ
 sample_trace scope f s =
-    option_map_or (stack_trace scope f s) (frames_of_sample (profile_of scope) f s) []
+    option_map_or (stack_trace scope f s) (frames_of_sample (scope_profile scope) f s) []

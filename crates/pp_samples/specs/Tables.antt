@@ -8,7 +8,7 @@ use Rattle.pp_count.specs.Sums.{Seen}
 use Rattle.pp_samples.specs.declared.tag_table.TagSum.{TagSum}
 use Rattle.pp_samples.specs.declared.tag_table.TagTable.{TagTable}
 use Rattle.pp_samples.specs.declared.key_table.KeyTable.{KeyTable}
-use Rattle.pp_samples.specs.TagLines.{TagTexts, tag_texts, same_tag, has_key}
+use Rattle.pp_samples.specs.TagLines.{TagTexts, tag_texts, same_tag, has_label_key}
 use Rattle.pp_samples.specs.Names.{key_tag}
 
 -- A tag of a sample, with the sample's value and turn.
@@ -18,32 +18,32 @@ pub record Event : Type 0 where
   pub turn : ℕ
 
 -- nothing was added
-abbrev pub no_sum : TagSum
-no_sum = record { sum = pos 0; size = 0; last = 0 }
+abbrev pub no_tag_sum : TagSum
+no_tag_sum = record { sum = pos 0; size = 0; last = 0 }
 
 -- the sum after one more event: a sample counts once
-abbrev pub credited : TagSum → Event → TagSum
-credited s e =
+abbrev pub credited_event : TagSum → Event → TagSum
+credited_event s e =
     if s.last == e.turn then s
     else record { sum = s.sum +ℤ e.value; size = s.size + nat_abs e.value; last = e.turn }
 
 -- the sum of these events
 abbrev pub sum_of : List Event → TagSum
-sum_of events = fold credited no_sum events
+sum_of events = fold credited_event no_tag_sum events
 
 -- the events of a tag
 abbrev pub events_with : TagTexts → List Event → List Event
 events_with tag events = filter (λ e. same_tag tag e.tag) events
 
 -- the sum of the tag in a table
-abbrev pub sum_at : List TagTexts → List TagSum → TagTexts → TagSum
-sum_at names sums tag = slice_index_or sums (place_of same_tag names tag) no_sum
+abbrev pub tag_sum_at : List TagTexts → List TagSum → TagTexts → TagSum
+tag_sum_at names sums tag = slice_index_or sums (place_of same_tag names tag) no_tag_sum
 
 -- The table has the tags of these events, each once, in order of first sight, and the sum of each.
 pub record IsTable (events : List Event) (names : List TagTexts) (sums : List TagSum) : Type 0 where
   pub tags : names ≡ distinct same_tag (map (λ e. e.tag) events)
   pub count : length sums ≡ length names
-  pub added : (tag : TagTexts) → sum_at names sums tag ≡ sum_of (events_with tag events)
+  pub added : (tag : TagTexts) → tag_sum_at names sums tag ≡ sum_of (events_with tag events)
 
 -- the table is that of these events
 abbrev pub IsTableOf : List Event → TagTable → Type 0
@@ -52,12 +52,12 @@ IsTableOf events table = IsTable events table.names table.sums.items
 -- How sums were made to have room for a number: they had it, or one of no sample went last.
 pub data Padded (sums padded : List TagSum) (n : ℕ) : Type 0 where
   had : n < length sums → padded ≡ sums → Padded sums padded n
-  grew : length sums ≤ n → padded ≡ sums ++ no_sum ∷ [] → Padded sums padded n
+  grew : length sums ≤ n → padded ≡ sums ++ no_tag_sum ∷ [] → Padded sums padded n
 
 -- the event is added to the sum at this place
 pub record Credits (sums : List TagSum) (n : ℕ) (e : Event) (new : List TagSum) : Type 0 where
   pub within : n < length sums
-  pub is : new ≡ slice_set sums n (credited (slice_index_or sums n no_sum) e)
+  pub is : new ≡ slice_set sums n (credited_event (slice_index_or sums n no_tag_sum) e)
 
 -- the event of the tag's key
 abbrev pub key_event : Event → Event
@@ -65,7 +65,7 @@ key_event e = record e { tag = key_tag e.tag.key }
 
 -- the events of a key
 abbrev pub events_of_key : List ℕ → List Event → List Event
-events_of_key key events = filter (λ e. has_key key e.tag) events
+events_of_key key events = filter (λ e. has_label_key key e.tag) events
 
 -- The keys of these events have their sums, and each has the table of its own tags.
 pub record AreKeys (events : List Event) (keys : KeyTable) : Type 0 where
@@ -88,7 +88,7 @@ AreSmall events = (q : TagTexts → Bool) → (sum_of (filter (λ e. q e.tag) ev
 -- the sum after the event fits its type
 pub record Fits (s : TagSum) (e : Event) : Type 0 where
   pub within : nat_abs s.sum ≤ s.size
-  pub small : (credited s e).size < 2 ^ 63
+  pub small : (credited_event s e).size < 2 ^ 63
 
 -- the event is added to the table at this place
 pub record AddsAt (tables : List TagTable) (n : ℕ) (e : Event) (new : List TagTable) : Type 0 where

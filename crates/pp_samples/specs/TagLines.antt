@@ -56,8 +56,8 @@ bytes_cmp = slice_cmp nat_cmp
 
 -- Tags by their keys, and by their values: texts before numbers, texts by their bytes, numbers from the least on, and
 -- equal ones by the bytes of their units.
-abbrev pub tag_cmp : TagTexts → TagTexts → Ordering
-tag_cmp =
+abbrev pub shown_tag_cmp : TagTexts → TagTexts → Ordering
+shown_tag_cmp =
     then_cmp
     (then_cmp
     (then_cmp (then_cmp (on (λ t. t.key) bytes_cmp) (on (λ t. t.is_number) bool_cmp))
@@ -66,8 +66,8 @@ tag_cmp =
     (on (λ t. t.unit) bytes_cmp)
 
 -- the sample with its selected value and the tags that are shown of it
-abbrev pub tagged : Profile → Finders → Config → Option ℕ → Sample → Seen TagTexts
-tagged p f config column s = record {
+abbrev pub sample_with_tags : Profile → Finders → Config → Option ℕ → Sample → Seen TagTexts
+sample_with_tags p f config column s = record {
   value = selected column config.divide_by s;
   keys = map (tag_texts p) (shown_labels p f s.label);
 }
@@ -75,15 +75,15 @@ tagged p f config column s = record {
 -- the samples that the filters leave, with their values and the tags that are shown
 abbrev pub tagged_samples : Profile → Finders → Config → Option ℕ → List (Seen TagTexts)
 tagged_samples p f config column =
-    map (tagged p f config column) (filtered_samples p f config p.sample)
+    map (sample_with_tags p f config column) (filtered_samples p f config p.sample)
 
 -- the tag has the key
-abbrev pub has_key : List ℕ → TagTexts → Bool
-has_key key tag = bytes_eq key tag.key
+abbrev pub has_label_key : List ℕ → TagTexts → Bool
+has_label_key key tag = bytes_eq key tag.key
 
 -- one of the tags has the key
 abbrev pub some_key : List ℕ → List TagTexts → Bool
-some_key key tags = list_any (has_key key) tags
+some_key key tags = list_any (has_label_key key) tags
 
 -- two tags are one where all their parts are equal
 abbrev pub same_tag : TagTexts → TagTexts → Bool
@@ -119,11 +119,11 @@ module _ (samples : List (Seen TagTexts)) where
 
   -- the order of the lines of a key: the greater absolute sum first, then by value
   abbrev pub line_cmp : TagTexts → TagTexts → Ordering
-  line_cmp = then_cmp (by_size tag_sum) tag_cmp
+  line_cmp = then_cmp (by_size tag_sum) shown_tag_cmp
 
   -- the tags of the key, each once, in the order of their lines
   abbrev pub key_tags : List ℕ → List TagTexts
-  key_tags key = each_once line_cmp (filter (has_key key) all_tags)
+  key_tags key = each_once line_cmp (filter (has_label_key key) all_tags)
 
 -- what is printed of a value
 abbrev pub tag_value : TagTexts → List ℕ

@@ -18,22 +18,22 @@ use Rattle.pp_count.specs.Column.{selected}
 use Rattle.pp_count.specs.Seeing.{filtered_stack, keys_of_stack}
 
 -- the line between two samples: 11 dashes, a plus, 55 dashes
-unfoldable pub separator : List ℕ
-separator = replicate 11 45 ++ codes "+" ++ replicate 55 45 ++ codes "\n"
+unfoldable pub trace_separator : List ℕ
+trace_separator = replicate 11 45 ++ codes "+" ++ replicate 55 45 ++ codes "\n"
 
 -- a number in the unit that is picked for its own absolute value
 unfoldable pub own_value : ℤ → List ℕ → List ℕ
 own_value num unit = value_text num (picked (nat_abs num) unit)
 
 -- the value of a label: its text, or its number
-unfoldable pub label_value : Profile → Label → List ℕ
-label_value p label =
+unfoldable pub trace_label_value : Profile → Label → List ℕ
+trace_label_value p label =
     if has_text label then label_text p label else own_value label.num (number_unit p label)
 
 -- the line of a label, with its key at the right of ten places
-unfoldable pub label_line : Profile → Label → List ℕ
-label_line p label =
-    right_text 10 (key_text p label) ++ codes ":  " ++ label_value p label ++ codes "\n"
+unfoldable pub trace_label_line : Profile → Label → List ℕ
+trace_label_line p label =
+    right_text 10 (key_text p label) ++ codes ":  " ++ trace_label_value p label ++ codes "\n"
 
 -- the line of a frame, by its key, below what stands at the right of ten places
 unfoldable pub frame_line : List ℕ → Written → List ℕ
@@ -47,12 +47,12 @@ frame_lines value (key ∷ keys) = frame_line value key ++ flat_map (frame_line 
 -- the lines of a sample with these labels and these frames that count, none where there are no such frames
 abbrev pub trace_text : List ℕ → List ℕ → List Written → List ℕ
 trace_text labels value [] = []
-trace_text labels value (key ∷ keys) = separator ++ labels ++ frame_lines value (key ∷ keys)
+trace_text labels value (key ∷ keys) = trace_separator ++ labels ++ frame_lines value (key ∷ keys)
 
 -- the lines of a sample whose stack is left so
 abbrev pub trace_of_stack : Profile → Finders → Config → Option ℕ → Shown → Sample → List Written → List ℕ
 trace_of_stack p f config column unit s keys =
-    trace_text (flat_map (label_line p) (shown_labels p f s.label))
+    trace_text (flat_map (trace_label_line p) (shown_labels p f s.label))
     (value_text (selected column config.divide_by s) unit) keys
 
 -- the lines of a sample, none where the filters drop it
@@ -65,4 +65,4 @@ trace_of p f config column unit s =
 -- The text of the traces report.
 abbrev pub traces_text : Profile → Finders → Config → Option ℕ → Facts → List ℕ
 traces_text p f config column h =
-    facts_text h ++ flat_map (trace_of p f config column h.unit) p.sample ++ separator
+    facts_text h ++ flat_map (trace_of p f config column h.unit) p.sample ++ trace_separator

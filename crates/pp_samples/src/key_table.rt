@@ -2,7 +2,7 @@
 ghost use Rattle.std.specs.Prelude.{◌≡◌, ◌<◌, [], ◌∷◌, ◌++◌, length, IfOk, OnOk, List};
 ghost use Rattle.pp_samples.specs.Names.{name_texts, key_tag};
 ghost use Rattle.pp_samples.specs.Tables.{Event, AreKeys, Roomed, AddsAt, AreSmall};
-ghost use Rattle.pp_samples.specs.Places.{AreEven, EachEven, Renames, IsPlaceIn, HasPlace, KeepsPlaces};
+ghost use Rattle.pp_samples.specs.Places.{AreEven, EachEven, Renames, IsPlaceIn, HasTagPlace, KeepsTagPlaces};
 
 use crate::tag_name::TagName;
 use crate::tag_table::{TagTable, add_known, add_tag, no_tags};
@@ -51,8 +51,8 @@ pub fn add_label(
     requires same { name_texts key ≡ key_tag (name_texts tag).key }
     requires even { AreEven keys.old }
     ensures even { OnOk result (AreEven keys.new) }
-    ensures place { IfOk result (HasPlace keys.new (name_texts tag)) }
-    ensures kept { OnOk result (KeepsPlaces keys.old keys.new) }
+    ensures place { IfOk result (HasTagPlace keys.new (name_texts tag)) }
+    ensures kept { OnOk result (KeepsTagPlaces keys.old keys.new) }
     ensures keys { (events : List Event) → (e : Event) → e.tag ≡ name_texts tag → e.value ≡ value →
         e.turn ≡ turn → AreKeys events keys.old → AreSmall (events ++ e ∷ []) →
         OnOk result (AreKeys (events ++ e ∷ []) keys.new) }
@@ -68,9 +68,9 @@ pub fn add_known_label(keys: &mut KeyTable, place: TagPlace, value: i64, turn: u
     requires even { AreEven keys.old }
     requires inside { IsPlaceIn keys.old place }
     ensures even { AreEven keys.new }
-    ensures kept { KeepsPlaces keys.old keys.new }
+    ensures kept { KeepsTagPlaces keys.old keys.new }
     ensures keys { (events : List Event) → (e : Event) → e.value ≡ value → e.turn ≡ turn →
-        HasPlace keys.old e.tag place → AreKeys events keys.old → AreSmall (events ++ e ∷ []) →
+        HasTagPlace keys.old e.tag place → AreKeys events keys.old → AreSmall (events ++ e ∷ []) →
         AreKeys (events ++ e ∷ []) keys.new }
 {
     add_known(&mut keys.keys, place.key, value, turn);

@@ -4,10 +4,10 @@ ghost use Rattle.indexmap.specs.IndexMap.{get};
 ghost use Rattle.pp_model.specs.Conditions.{IsSampleOf};
 ghost use Rattle.pp_model.specs.Finders.{Finders};
 ghost use Rattle.pp_count.specs.Counts.{samples_at};
-ghost use Rattle.pp_samples.specs.Scope.{profile_of, Finds};
+ghost use Rattle.pp_samples.specs.Scope.{scope_profile, FindsInScope};
 ghost use Rattle.pp_samples.specs.Tables.{Event, AreKeys, AreSmall, label_event, sample_events, events_from};
 ghost use Rattle.pp_samples.specs.Places.{AreEven};
-ghost use Rattle.pp_samples.specs.Counting.{AreSound, same_label};
+ghost use Rattle.pp_samples.specs.Counting.{AreSound, same_label_parts};
 ghost use Rattle.pp_samples.specs.Tagged.{scope_tagged};
 
 use crate::key_table::{KeyTable, TagPlace, add_known_label, add_label, no_keys};
@@ -32,11 +32,11 @@ pub struct TagCounts {
 /// The sums of the tags that are shown of the samples with these numbers, and of their keys.
 pub fn count_tags(alloc: Global, scope: &Scope, kept: &[u32]) -> Result<KeyTable, Memory>
     ensures even { IfOk result AreEven }
-    ensures keys { (f : Finders) → Finds scope.now f →
+    ensures keys { (f : Finders) → FindsInScope scope.now f →
         AreSmall (events_from 0
-        (map (scope_tagged scope.now f) (samples_at (profile_of scope.now) kept.now))) →
+        (map (scope_tagged scope.now f) (samples_at (scope_profile scope.now) kept.now))) →
         IfOk result (AreKeys (events_from 0
-        (map (scope_tagged scope.now f) (samples_at (profile_of scope.now) kept.now)))) }
+        (map (scope_tagged scope.now f) (samples_at (scope_profile scope.now) kept.now)))) }
 {
     let mut counts = no_counts(alloc, scope.l.profile.get())?;
     let mut shown = List::new(alloc);
@@ -68,16 +68,16 @@ fn count_numbered(
     counts: &mut TagCounts,
 ) -> Result<u64, Memory>
     requires few { turn < 2 ^ 64 - 1 }
-    requires sound { AreSound (profile_of scope.now) counts.old }
-    ensures sound { OnOk result (AreSound (profile_of scope.now) counts.new) }
+    requires sound { AreSound (scope_profile scope.now) counts.old }
+    ensures sound { OnOk result (AreSound (scope_profile scope.now) counts.new) }
     ensures turn { IfOk result (λ next.
-        next ≡ turn + length (samples_at (profile_of scope.now) (number ∷ []))) }
+        next ≡ turn + length (samples_at (scope_profile scope.now) (number ∷ []))) }
     ensures next { IfOk result (λ next. next ≤ turn + 1) }
-    ensures keys { (f : Finders) → Finds scope.now f → (events : Seq Event) →
+    ensures keys { (f : Finders) → FindsInScope scope.now f → (events : Seq Event) →
         AreKeys events counts.old.keys → AreSmall (events ++ events_from turn
-        (map (scope_tagged scope.now f) (samples_at (profile_of scope.now) (number ∷ [])))) →
+        (map (scope_tagged scope.now f) (samples_at (scope_profile scope.now) (number ∷ [])))) →
         OnOk result (AreKeys (events ++ events_from turn
-        (map (scope_tagged scope.now f) (samples_at (profile_of scope.now) (number ∷ []))))
+        (map (scope_tagged scope.now f) (samples_at (scope_profile scope.now) (number ∷ []))))
         counts.new.keys) }
 {
     let samples = scope.l.profile.get().sample.as_slice();
@@ -98,10 +98,10 @@ fn count_sample(
     shown: &mut List<Label>,
     counts: &mut TagCounts,
 ) -> Result<(), Memory>
-    requires sample { IsSampleOf (profile_of scope.now) s.now }
-    requires sound { AreSound (profile_of scope.now) counts.old }
-    ensures sound { OnOk result (AreSound (profile_of scope.now) counts.new) }
-    ensures keys { (f : Finders) → Finds scope.now f → (events : Seq Event) →
+    requires sample { IsSampleOf (scope_profile scope.now) s.now }
+    requires sound { AreSound (scope_profile scope.now) counts.old }
+    ensures sound { OnOk result (AreSound (scope_profile scope.now) counts.new) }
+    ensures keys { (f : Finders) → FindsInScope scope.now f → (events : Seq Event) →
         AreKeys events counts.old.keys →
         AreSmall (events ++ sample_events turn (scope_tagged scope.now f s.now)) →
         OnOk result (AreKeys (events ++ sample_events turn (scope_tagged scope.now f s.now))
@@ -162,7 +162,7 @@ fn count_label(
 
 // The place of the label's tag, where the label was seen.
 fn place_of(places: &IndexMap<Label, TagPlace>, label: &Label) -> Option<TagPlace>
-    ensures { result ≡ get same_label places.now label.now }
+    ensures { result ≡ get same_label_parts places.now label.now }
 {
     match places.get(label) {
         None => None,

@@ -13,7 +13,7 @@ ghost use Rattle.pp_samples.specs.Names.{name_texts};
 ghost use Rattle.pp_samples.specs.TagLines.{TagTexts, tags_text, key_lines, all_keys, key_line, tag_value};
 ghost use Rattle.pp_samples.specs.Tables.{Event, AreKeys, IsTableOf, events_from};
 ghost use Rattle.pp_samples.specs.Places.{IsEven, EachEven, AreEven};
-ghost use Rattle.pp_samples.specs.Ranked.{line_entry, line_key, event_entry, table_tags, no_tag, entry_cmp, key_cmp, IsKeyLine, entry_line};
+ghost use Rattle.pp_samples.specs.Ranked.{line_entry, line_key, event_entry, table_tags, no_tag, entry_cmp, line_key_cmp, IsKeyLine, entry_line};
 
 use crate::key_table::KeyTable;
 use crate::scope::Scope;
@@ -239,7 +239,7 @@ fn table_line<'a>(table: &'a TagTable, number: u64) -> TagLine<'a>
 
 // Keys by their bytes.
 fn key_order(a: &TagLine, b: &TagLine) -> Ordering
-    ensures { result ≡ key_cmp a.now b.now }
+    ensures { result ≡ line_key_cmp a.now b.now }
 {
     a.name.key.as_slice().cmp(b.name.key.as_slice())
 }

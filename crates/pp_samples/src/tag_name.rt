@@ -1,7 +1,7 @@
 //! What a label says, told apart by texts.
 ghost use Rattle.std.specs.Prelude.{◌≡◌, [], pos, true, false, IfOk};
 ghost use Rattle.pp_tags.specs.Labels.{key_text};
-ghost use Rattle.pp_samples.specs.TagLines.{tag_texts, tag_cmp};
+ghost use Rattle.pp_samples.specs.TagLines.{tag_texts, shown_tag_cmp};
 ghost use Rattle.pp_samples.specs.Names.{name_texts, key_tag};
 
 use pp_base::Memory;
@@ -85,7 +85,7 @@ pub fn key_name(alloc: Global, p: &Profile, label: &Label) -> Result<TagName, Me
 
 /// By key, texts before numbers, by text, number and unit.
 pub fn tag_order(a: &TagName, b: &TagName) -> Ordering
-    ensures { result ≡ tag_cmp (name_texts a.now) (name_texts b.now) }
+    ensures { result ≡ shown_tag_cmp (name_texts a.now) (name_texts b.now) }
 {
     a.key
         .as_slice()

@@ -3,7 +3,7 @@ ghost use Rattle.std.specs.Prelude.{◌≡◌, ◌<◌, List, [], ◌∷◌, ◌
 ghost use Rattle.pp_model.specs.FirstSight.{seen_with, place_of};
 ghost use Rattle.pp_samples.specs.TagLines.{same_tag};
 ghost use Rattle.pp_samples.specs.Names.{name_texts};
-ghost use Rattle.pp_samples.specs.Tables.{Event, credited, no_sum, Padded, Credits, IsTableOf, AreSmall, Fits};
+ghost use Rattle.pp_samples.specs.Tables.{Event, credited_event, no_tag_sum, Padded, Credits, IsTableOf, AreSmall, Fits};
 ghost use Rattle.pp_samples.specs.Places.{IsEven};
 
 use crate::tag_name::TagName;
@@ -97,7 +97,7 @@ fn credit(sums: &mut Vec<TagSum>, place: usize, value: i64, turn: u64)
     requires { place < length sums.old.items }
     ensures count { length sums.new.items ≡ length sums.old.items }
     ensures credits { (e : Event) → e.value ≡ value → e.turn ≡ turn →
-        Fits (slice_index_or sums.old.items place no_sum) e →
+        Fits (slice_index_or sums.old.items place no_tag_sum) e →
         Credits sums.old.items place e sums.new.items }
 {
     sums[place] = credited(sums[place], value, turn);
@@ -105,7 +105,7 @@ fn credit(sums: &mut Vec<TagSum>, place: usize, value: i64, turn: u64)
 
 // The sum with the value of the sample of this turn. It fits wherever the column's values can be added up.
 fn credited(sum: TagSum, value: i64, turn: u64) -> TagSum
-    ensures { (e : Event) → e.value ≡ value → e.turn ≡ turn → Fits sum e → result ≡ credited sum e }
+    ensures { (e : Event) → e.value ≡ value → e.turn ≡ turn → Fits sum e → result ≡ credited_event sum e }
 {
     if sum.last == turn {
         return sum;

@@ -10,8 +10,8 @@ ghost use Rattle.pp_count.specs.Counts.{samples_at};
 ghost use Rattle.pp_count.specs.Counted.{IsCountedOf};
 ghost use Rattle.pp_count.specs.Seeing.{HoldsFilters, counted_frames, key_of_frame};
 ghost use Rattle.pp_count.specs.Table.{written_key};
-ghost use Rattle.pp_samples.specs.Traces.{traces_text, separator, label_line, label_value, own_value, frame_line, trace_text};
-ghost use Rattle.pp_samples.specs.Scope.{profile_of, HasItsVerdicts, Finds, unit_of, AreReady, stack_trace, sample_trace};
+ghost use Rattle.pp_samples.specs.Traces.{traces_text, trace_separator, trace_label_line, trace_label_value, own_value, frame_line, trace_text};
+ghost use Rattle.pp_samples.specs.Scope.{scope_profile, HasItsVerdicts, FindsInScope, shown_unit, AreTracesReady, stack_trace, sample_trace};
 
 use crate::frame_lines::{FrameLines, frame_lines};
 use crate::scope::Scope;
@@ -86,8 +86,8 @@ pub fn write_traces(
 // The samples with these numbers, by tables that are made once.
 fn put_report(alloc: Global, scope: &Scope, kept: &[u32], lines: &mut Text) -> Result<(), Memory>
     requires { HasItsVerdicts scope.now }
-    ensures { (f : Finders) → Finds scope.now f → IfOk result (λ _. lines.new ≡ lines.old
-        ++ flat_map (sample_trace scope.now f) (samples_at (profile_of scope.now) kept.now)) }
+    ensures { (f : Finders) → FindsInScope scope.now f → IfOk result (λ _. lines.new ≡ lines.old
+        ++ flat_map (sample_trace scope.now f) (samples_at (scope_profile scope.now) kept.now)) }
 {
     let tables = VerdictTables::new(alloc, scope.l, scope.v)?;
     let made = frame_lines(alloc, scope.l, scope.config)?;
@@ -100,9 +100,9 @@ fn put_report(alloc: Global, scope: &Scope, kept: &[u32], lines: &mut Text) -> R
 }
 
 fn put_traces(alloc: Global, t: &Traces, kept: &[u32], lines: &mut Text) -> Result<(), Memory>
-    requires { AreReady t.now }
-    ensures { (f : Finders) → Finds t.now.scope f → IfOk result (λ _. lines.new ≡ lines.old
-        ++ flat_map (sample_trace t.now.scope f) (samples_at (profile_of t.now.scope) kept.now)) }
+    requires { AreTracesReady t.now }
+    ensures { (f : Finders) → FindsInScope t.now.scope f → IfOk result (λ _. lines.new ≡ lines.old
+        ++ flat_map (sample_trace t.now.scope f) (samples_at (scope_profile t.now.scope) kept.now)) }
 {
     let mut stack = List::new(alloc);
     let mut room = Room {
@@ -125,9 +125,9 @@ fn put_numbered(
     room: &mut Room,
     lines: &mut Text,
 ) -> Result<(), Memory>
-    requires { AreReady t.now }
-    ensures { (f : Finders) → Finds t.now.scope f → IfOk result (λ _. lines.new ≡ lines.old
-        ++ flat_map (sample_trace t.now.scope f) (samples_at (profile_of t.now.scope) (number ∷ []))) }
+    requires { AreTracesReady t.now }
+    ensures { (f : Finders) → FindsInScope t.now.scope f → IfOk result (λ _. lines.new ≡ lines.old
+        ++ flat_map (sample_trace t.now.scope f) (samples_at (scope_profile t.now.scope) (number ∷ []))) }
 {
     let samples = t.scope.l.profile.get().sample.as_slice();
     let place = number as usize;
@@ -146,10 +146,10 @@ fn put_sample(
     room: &mut Room,
     lines: &mut Text,
 ) -> Result<(), Memory>
-    requires ready { AreReady t.now }
-    requires member { IsSampleOf (profile_of t.now.scope) s.now }
-    requires refers { RefersTo (profile_of t.now.scope) s.now }
-    ensures { (f : Finders) → Finds t.now.scope f →
+    requires ready { AreTracesReady t.now }
+    requires member { IsSampleOf (scope_profile t.now.scope) s.now }
+    requires refers { RefersTo (scope_profile t.now.scope) s.now }
+    ensures { (f : Finders) → FindsInScope t.now.scope f →
         IfOk result (λ _. lines.new ≡ lines.old ++ sample_trace t.now.scope f s.now) }
 {
     if !filter_into(t.scope.l, t.scope.v, t.tables, s, stack)? {
@@ -167,10 +167,10 @@ fn put_stack(
     room: &mut Room,
     lines: &mut Text,
 ) -> Result<(), Memory>
-    requires ready { AreReady t.now }
-    requires member { IsSampleOf (profile_of t.now.scope) s.now }
-    requires frames { IsStackOf (profile_of t.now.scope) stack.now }
-    ensures { (f : Finders) → Finds t.now.scope f →
+    requires ready { AreTracesReady t.now }
+    requires member { IsSampleOf (scope_profile t.now.scope) s.now }
+    requires frames { IsStackOf (scope_profile t.now.scope) stack.now }
+    ensures { (f : Finders) → FindsInScope t.now.scope f →
         IfOk result (λ _. lines.new ≡ lines.old ++ stack_trace t.now.scope f s.now stack.now) }
 {
     gather_counted(&t.scope, stack, &mut room.frames)?;
@@ -181,10 +181,10 @@ fn put_stack(
 
 // The frames that count, in the place of what was there.
 fn gather_counted(scope: &Scope, stack: &Stack, frames: &mut Vec<Frame>) -> Result<(), Memory>
-    requires { IsStackOf (profile_of scope.now) stack.now }
+    requires { IsStackOf (scope_profile scope.now) stack.now }
     ensures frames { IfOk result (λ _.
         frames.new.items ≡ counted_frames scope.now.config.now.noinlines stack.now) }
-    ensures of_profile { IfOk result (λ _. IsStackOf (profile_of scope.now) frames.new.items) }
+    ensures of_profile { IfOk result (λ _. IsStackOf (scope_profile scope.now) frames.new.items) }
 {
     frames.clear();
     for (place, frame) in stack.as_slice().iter().enumerate() {
@@ -198,7 +198,7 @@ fn gather_counted(scope: &Scope, stack: &Stack, frames: &mut Vec<Frame>) -> Resu
 // The text of the sample's value, in the place of what was there.
 fn write_own_value(scope: &Scope, s: &Sample, text: &mut Text) -> Result<(), Memory>
     ensures { IfOk result (λ _. text.new ≡ value_text
-        (selected scope.now.column scope.now.config.now.divide_by s.now) (unit_of scope.now)) }
+        (selected scope.now.column scope.now.config.now.divide_by s.now) (shown_unit scope.now)) }
 {
     text.clear();
     let value = selected(scope.l, s, scope.column, scope.config.divide_by);
@@ -207,11 +207,11 @@ fn write_own_value(scope: &Scope, s: &Sample, text: &mut Text) -> Result<(), Mem
 
 // The sample that the room holds.
 fn put_room(alloc: Global, t: &Traces, room: &Room, lines: &mut Text) -> Result<(), Memory>
-    requires ready { AreReady t.now }
-    requires frames { IsStackOf (profile_of t.now.scope) room.now.frames.items }
+    requires ready { AreTracesReady t.now }
+    requires frames { IsStackOf (scope_profile t.now.scope) room.now.frames.items }
     ensures { IfOk result (λ _. lines.new ≡ lines.old
-        ++ trace_text (flat_map (label_line (profile_of t.now.scope)) room.now.labels) room.now.value
-        (map (key_of_frame (profile_of t.now.scope) t.now.scope.config.now) room.now.frames.items)) }
+        ++ trace_text (flat_map (trace_label_line (scope_profile t.now.scope)) room.now.labels) room.now.value
+        (map (key_of_frame (scope_profile t.now.scope) t.now.scope.config.now) room.now.frames.items)) }
 {
     let [first, others @ ..] = room.frames.as_slice() else {
         return Ok(());
@@ -228,12 +228,12 @@ fn put_frames(
     others: &[Frame],
     lines: &mut Text,
 ) -> Result<(), Memory>
-    requires ready { AreReady t.now }
-    requires first { IsFrameOf (profile_of t.now.scope) first.now }
-    requires others { IsStackOf (profile_of t.now.scope) others.now }
+    requires ready { AreTracesReady t.now }
+    requires first { IsFrameOf (scope_profile t.now.scope) first.now }
+    requires others { IsStackOf (scope_profile t.now.scope) others.now }
     ensures { IfOk result (λ _. lines.new ≡ lines.old
-        ++ trace_text (flat_map (label_line (profile_of t.now.scope)) room.now.labels) room.now.value
-        (map (key_of_frame (profile_of t.now.scope) t.now.scope.config.now) (first.now ∷ others.now))) }
+        ++ trace_text (flat_map (trace_label_line (scope_profile t.now.scope)) room.now.labels) room.now.value
+        (map (key_of_frame (scope_profile t.now.scope) t.now.scope.config.now) (first.now ∷ others.now))) }
 {
     lines.extend(SEPARATOR)?;
     put_each_label(
@@ -252,7 +252,7 @@ fn put_each_label(
     labels: &[Label],
     lines: &mut Text,
 ) -> Result<(), Memory>
-    ensures { IfOk result (λ _. lines.new ≡ lines.old ++ flat_map (label_line p.now) labels.now) }
+    ensures { IfOk result (λ _. lines.new ≡ lines.old ++ flat_map (trace_label_line p.now) labels.now) }
 {
     for label in labels {
         put_label(alloc, p, label, lines)?;
@@ -260,9 +260,9 @@ fn put_each_label(
     Ok(())
 }
 
-#[tactic(auto, unfolding(crate::specs::Traces::label_line))]
+#[tactic(auto, unfolding(crate::specs::Traces::trace_label_line))]
 fn put_label(alloc: Global, p: &Profile, label: &Label, lines: &mut Text) -> Result<(), Memory>
-    ensures { IfOk result (λ _. lines.new ≡ lines.old ++ label_line p.now label.now) }
+    ensures { IfOk result (λ _. lines.new ≡ lines.old ++ trace_label_line p.now label.now) }
 {
     put_right(10, text_of(p, label.key), lines)?;
     lines.extend(b":  ")?;
@@ -271,14 +271,14 @@ fn put_label(alloc: Global, p: &Profile, label: &Label, lines: &mut Text) -> Res
 }
 
 // The value of a label: its text, or its number.
-#[tactic(auto, unfolding(crate::specs::Traces::label_value))]
+#[tactic(auto, unfolding(crate::specs::Traces::trace_label_value))]
 fn put_label_value(
     alloc: Global,
     p: &Profile,
     label: &Label,
     lines: &mut Text,
 ) -> Result<(), Memory>
-    ensures { IfOk result (λ _. lines.new ≡ lines.old ++ label_value p.now label.now) }
+    ensures { IfOk result (λ _. lines.new ≡ lines.old ++ trace_label_value p.now label.now) }
 {
     if has_text(label) {
         return lines.extend(text_of(p, label.text));
@@ -297,10 +297,10 @@ pub fn put_own_value(alloc: Global, num: i64, unit: &[u8], lines: &mut Text) -> 
 
 // The frames above the first one.
 fn put_others(t: &Traces, frames: &[Frame], lines: &mut Text) -> Result<(), Memory>
-    requires ready { AreReady t.now }
-    requires frames { IsStackOf (profile_of t.now.scope) frames.now }
+    requires ready { AreTracesReady t.now }
+    requires frames { IsStackOf (scope_profile t.now.scope) frames.now }
     ensures { IfOk result (λ _. lines.new ≡ lines.old ++ flat_map (frame_line [])
-        (map (key_of_frame (profile_of t.now.scope) t.now.scope.config.now) frames.now)) }
+        (map (key_of_frame (scope_profile t.now.scope) t.now.scope.config.now) frames.now)) }
 {
     for frame in frames {
         lines.extend(bare_line(t, frame))?;
@@ -310,10 +310,10 @@ fn put_others(t: &Traces, frames: &[Frame], lines: &mut Text) -> Result<(), Memo
 
 // The line of a frame that nothing stands in front of.
 fn bare_line<'a>(t: &Traces<'a>, frame: &Frame) -> &'a [u8]
-    requires ready { AreReady t.now }
-    requires frame { IsFrameOf (profile_of t.now.scope) frame.now }
+    requires ready { AreTracesReady t.now }
+    requires frame { IsFrameOf (scope_profile t.now.scope) frame.now }
     ensures { result.now ≡ frame_line []
-        (key_of_frame (profile_of t.now.scope) t.now.scope.config.now frame.now) }
+        (key_of_frame (scope_profile t.now.scope) t.now.scope.config.now frame.now) }
 {
     let number = number_of(t, frame);
     t.lines.lines[number as usize].as_slice()
@@ -321,11 +321,11 @@ fn bare_line<'a>(t: &Traces<'a>, frame: &Frame) -> &'a [u8]
 
 // The number of the frame's key.
 fn number_of(t: &Traces, frame: &Frame) -> u64
-    requires ready { AreReady t.now }
-    requires frame { IsFrameOf (profile_of t.now.scope) frame.now }
+    requires ready { AreTracesReady t.now }
+    requires frame { IsFrameOf (scope_profile t.now.scope) frame.now }
     ensures below { result < length t.now.lines.now.table.names }
-    ensures named { written_key (profile_of t.now.scope) t.now.lines.now.table.names result
-        ≡ key_of_frame (profile_of t.now.scope) t.now.scope.config.now frame.now }
+    ensures named { written_key (scope_profile t.now.scope) t.now.lines.now.table.names result
+        ≡ key_of_frame (scope_profile t.now.scope) t.now.scope.config.now frame.now }
 {
     let row = &t.lines.table.location.as_slice()[frame.location as usize];
     item(row, frame.row.unwrap_or(0))
@@ -341,9 +341,9 @@ fn item(row: &List<u64>, place: u64) -> u64
 // A frame by the name of its key, below what stands in front of it.
 #[tactic(auto, unfolding(crate::specs::Traces::frame_line))]
 fn put_frame(scope: &Scope, front: &[u8], frame: &Frame, lines: &mut Text) -> Result<(), Memory>
-    requires { IsFrameOf (profile_of scope.now) frame.now }
+    requires { IsFrameOf (scope_profile scope.now) frame.now }
     ensures { IfOk result (λ _. lines.new ≡ lines.old ++ frame_line front.now
-        (key_of_frame (profile_of scope.now) scope.now.config.now frame.now)) }
+        (key_of_frame (scope_profile scope.now) scope.now.config.now frame.now)) }
 {
     let key = key_of(scope.l, frame, scope.config.grain, scope.config.showcolumns);
     put_right(10, front, lines)?;

@@ -14,12 +14,12 @@ use Rattle.pp_grain.proofs.CallerLemmas.{key_cmp_total, key_cmp_ties}
 use Rattle.pp_count.specs.Sums.{Seen, has, all_keys}
 use Rattle.pp_count.specs.Counted.{report_samples}
 use Rattle.pp_count.specs.Ranks.{each_once}
-use Rattle.pp_graph.specs.Neighbours.{Neighbour, listed}
-use Rattle.pp_graph.specs.Trim.{report_order, all_report_keys, candidate_keys, shown_keys, dropped_nodes}
+use Rattle.pp_graph.specs.Neighbours.{Neighbour, neighbour_list}
+use Rattle.pp_graph.specs.Trim.{report_order, all_report_keys, candidate_keys, shown_keys, light_nodes}
 use Rattle.pp_graph.specs.Trimmed.{int_sum}
 use Rattle.pp_graph.proofs.Ordering.{sized_total, sized_same, report_total, report_same}
 use Rattle.pp_top.specs.Top as top
-use Rattle.pp_tree.specs.Nodes.{Node, table_heading, nodes_text}
+use Rattle.pp_tree.specs.Nodes.{Node, table_heading, tree_nodes_text}
 use Rattle.pp_tree.specs.Tree as tree
 use Rattle.pp_tree.specs.Peek.{peek_text}
 use Rattle.pp_saved.specs.Figures.{Figures, figures}
@@ -44,7 +44,7 @@ module _ (p : Profile) (f : Finders) (config : Config) (column : Option ℕ) whe
       ∙ ap (λ order. each_once order (filter (layouts.is_heavy_key g config) g.keys)) (order_is config.sort)
 
   -- how many are not
-  light_are : dropped_nodes p f config column ≡ layouts.light_keys g config
+  light_are : light_nodes p f config column ≡ layouts.light_keys g config
   light_are = counted_once (λ k. not (layouts.is_heavy_key g config k)) (all_keys samples)
 
   -- all keys, in report order
@@ -58,7 +58,7 @@ module _ (p : Profile) (f : Finders) (config : Config) (column : Option ℕ) whe
   Lists = (Written → Bool) → (Written → ℤ) → List (Neighbour Written)
 
   abbrev of_keys : List Written → Lists
-  of_keys keys test value = listed key_cmp test value keys
+  of_keys keys test value = neighbour_list key_cmp test value keys
 
   lists_are : of_keys (all_keys samples) ≡ of_keys g.keys
   lists_are = λ i test value.
@@ -79,8 +79,8 @@ module _ (p : Profile) (f : Finders) (config : Config) (column : Option ℕ) whe
       let all : List Written = candidates_are i in
       let shown : List Written = shown_keys limit all in
       facts_text h
-      ++ top.summary_text h (int_sum (map g.flat_of shown)) (light_are i) (length shown) (length all)
-      ++ heading ++ top.rows_text h.unit h.total (pos 0) (map (layouts.row g) shown)
+      ++ top.top_summary h (int_sum (map g.flat_of shown)) (light_are i) (length shown) (length all)
+      ++ heading ++ top.top_rows h.unit h.total (pos 0) (map (layouts.row g) shown)
 
   -- The text of tree.
   pub tree_is : (limit : ℕ) (h : Facts) → tree.tree_text p f config column limit h ≡ layouts.tree_layout g config limit h
@@ -90,7 +90,7 @@ module _ (p : Profile) (f : Finders) (config : Config) (column : Option ℕ) whe
       facts_text h
       ++ tree.summary_text h (int_sum (map g.flat_of shown)) (light_are i) (layouts.light_pairs g config shown) (length shown) (length all)
       ++ table_heading
-      ++ nodes_text h.unit h.total (pos 0) (map (node_by (lists_are i) (λ k. has key_cmp k shown) config.edgefraction.billionths) shown)
+      ++ tree_nodes_text h.unit h.total (pos 0) (map (node_by (lists_are i) (λ k. has key_cmp k shown) config.edgefraction.billionths) shown)
 
   -- The text of peek.
   pub peek_is : (h : Facts) → peek_text p f config column h ≡ layouts.peek_layout g config f.own h
@@ -99,8 +99,8 @@ module _ (p : Profile) (f : Finders) (config : Config) (column : Option ℕ) whe
       facts_text h
       ++ showing_line h.unit h.total (int_sum (map g.flat_of all))
       ++ table_heading
-      ++ nodes_text h.unit h.total (pos 0)
-      (map (node_by (lists_are i) (λ _. true) 0) (filter (g.finds (layouts.found_by f.own)) all))
+      ++ tree_nodes_text h.unit h.total (pos 0)
+      (map (node_by (lists_are i) (λ _. true) 0) (filter (g.finds (layouts.own_finds f.own)) all))
 
 -- All three.
 pub layouts_are : layouts.LayoutsReadFigures

@@ -16,7 +16,7 @@ use Rattle.pp_count.specs.Sums.{Seen, weighed, all_keys, has, leads, absolute, s
 use Rattle.pp_count.specs.EdgeSums.{has_edge}
 use Rattle.pp_count.specs.Seeing.{filtered_stack, seen_with, framed_with, seen_samples}
 use Rattle.pp_count.specs.Counts.{total_of}
-use Rattle.pp_count.specs.Counted.{report_samples, report_frames, is_own}
+use Rattle.pp_count.specs.Counted.{report_samples, report_frames, finds_own}
 use Rattle.pp_count.specs.Ranks.{each_once}
 use Rattle.pp_count.proofs.Renaming.{all_keys_occur}
 use Rattle.pp_share.specs.Header.{HeaderText}
@@ -156,8 +156,8 @@ saved_texts p f config column can within =
     record {
       top = λ limit h. top_is q g d column limit h ∙ ap (λ (a : Figures). top_layout a config limit h) figs ∙ sym (top_is p f config column limit h);
       tree = λ limit h. tree_is q g d column limit h ∙ ap (λ (a : Figures). tree_layout a config limit h) figs ∙ sym (tree_is p f config column limit h);
-      found = ap (list_any (λ (s : Seen Written). list_any (is_own f) s.keys)) (own_frames q f config column)
-          ∙ (counted p f config q can (saving p f config can) column within).frames (list_any (is_own f));
+      found = ap (list_any (λ (s : Seen Written). list_any (finds_own f) s.keys)) (own_frames q f config column)
+          ∙ (counted p f config q can (saving p f config can) column within).frames (list_any (finds_own f));
       peek = λ h. peek_is q g d column h ∙ ap (λ (a : Figures). peek_layout a config f.own h) figs ∙ sym (peek_is p f config column h);
     }
 

@@ -16,19 +16,19 @@ use Rattle.pp_grain.specs.Keys.{key_cmp}
 use Rattle.pp_grain.specs.Naming.{name_text}
 use Rattle.pp_count.specs.Sums.{has}
 use Rattle.pp_count.specs.Ranks.{is_heavy, by_size, each_once}
-use Rattle.pp_graph.specs.Neighbours.{listed}
+use Rattle.pp_graph.specs.Neighbours.{neighbour_list}
 use Rattle.pp_graph.specs.Trim.{shown_keys}
 use Rattle.pp_graph.specs.Trimmed.{int_sum}
 use Rattle.pp_graph.specs.KeyRows.{KeyRow}
 use Rattle.pp_top.specs.Top as top
-use Rattle.pp_tree.specs.Nodes.{Node, table_heading, nodes_text}
+use Rattle.pp_tree.specs.Nodes.{Node, table_heading, tree_nodes_text}
 use Rattle.pp_tree.specs.Tree as tree
 use Rattle.pp_tree.specs.Peek.{peek_text}
 use Rattle.pp_saved.specs.Figures.{Figures, figures}
 
 -- what the report's own pattern finds of a text, nothing where there is none
-abbrev pub found_by : Option Finder → List ℕ → Bool
-found_by own text = option_map_or (λ find. find text) own false
+abbrev pub own_finds : Option Finder → List ℕ → Bool
+own_finds own text = option_map_or (λ find. find text) own false
 
 module _ (g : Figures) where
   -- report order: by the one sum, then by the other, then by the keys themselves
@@ -55,9 +55,9 @@ module _ (g : Figures) where
   abbrev pub node : (Written → Bool) → ℕ → Written → Node
   node kept billionths k = record {
     row = row k;
-    callers = map tree.near_of (listed key_cmp (λ caller. is_heavy_pair kept billionths caller k)
+    callers = map tree.near_of (neighbour_list key_cmp (λ caller. is_heavy_pair kept billionths caller k)
         (λ caller. g.sum_of_pair kept caller k) g.keys);
-    callees = map tree.near_of (listed key_cmp (λ callee. is_heavy_pair kept billionths k callee)
+    callees = map tree.near_of (neighbour_list key_cmp (λ callee. is_heavy_pair kept billionths k callee)
         (λ callee. g.sum_of_pair kept k callee) g.keys);
   }
 
@@ -85,8 +85,8 @@ module _ (g : Figures) where
     top_layout limit h =
         let shown = shown_keys limit candidates in
         facts_text h
-        ++ top.summary_text h (int_sum (map g.flat_of shown)) light_keys (length shown) (length candidates)
-        ++ heading ++ top.rows_text h.unit h.total (pos 0) (map row shown)
+        ++ top.top_summary h (int_sum (map g.flat_of shown)) light_keys (length shown) (length candidates)
+        ++ heading ++ top.top_rows h.unit h.total (pos 0) (map row shown)
 
     -- the text of the tree report with this limit, where 0 is none
     abbrev pub tree_layout : ℕ → Facts → List ℕ
@@ -96,7 +96,7 @@ module _ (g : Figures) where
         ++ tree.summary_text h (int_sum (map g.flat_of shown)) light_keys (light_pairs shown)
         (length shown) (length candidates)
         ++ table_heading
-        ++ nodes_text h.unit h.total (pos 0)
+        ++ tree_nodes_text h.unit h.total (pos 0)
         (map (node (λ k. has key_cmp k shown) config.edgefraction.billionths) shown)
 
     -- the text of the peek report by its own pattern
@@ -106,8 +106,8 @@ module _ (g : Figures) where
         facts_text h
         ++ showing_line h.unit h.total (int_sum (map g.flat_of all))
         ++ table_heading
-        ++ nodes_text h.unit h.total (pos 0)
-        (map (node (λ _. true) 0) (filter (g.finds (found_by own)) all))
+        ++ tree_nodes_text h.unit h.total (pos 0)
+        (map (node (λ _. true) 0) (filter (g.finds (own_finds own)) all))
 
 -- The texts of the three reports are these layouts of their figures.
 pub record AreLayouts (p : Profile) (f : Finders) (config : Config) (column : Option ℕ) : Type 0 where

@@ -2,7 +2,7 @@
 use Rattle.std.proofs.Common.{◌≡◌, ◌∷◌, [], true, false, refl}
 use Rattle.std.specs.Prelude.{codes}
 use Rattle.pp_source.specs.Paths.{paths_to_try}
-use Rattle.pp_source.specs.SourceText.{file_lines, is_shown}
+use Rattle.pp_source.specs.SourceText.{file_lines, is_near}
 
 -- a relative path in each folder, and alone where all folders are empty
 in_each_folder : paths_to_try (codes "a:b") [] (codes "work.c") ≡ codes "a/work.c" ∷ codes "b/work.c" ∷ []
@@ -40,14 +40,14 @@ one_empty_line : file_lines (codes "\n") ≡ [] ∷ []
 one_empty_line = refl
 
 -- five lines before the first and five after the last
-before_the_first : is_shown 20 21 14 ≡ false
+before_the_first : is_near 20 21 14 ≡ false
 before_the_first = refl
 
-five_before : is_shown 20 21 15 ≡ true
+five_before : is_near 20 21 15 ≡ true
 five_before = refl
 
-five_after : is_shown 20 21 26 ≡ true
+five_after : is_near 20 21 26 ≡ true
 five_after = refl
 
-after_the_last : is_shown 20 21 27 ≡ false
+after_the_last : is_near 20 21 27 ≡ false
 after_the_last = refl

@@ -22,7 +22,7 @@ use Rattle.pp_grain.specs.Keys.{key_cmp, key_written, IsKeyOf}
 use Rattle.pp_grain.specs.Sight.{same_key}
 use Rattle.pp_grain.proofs.SightLemmas.{key_decides}
 use Rattle.pp_grain.proofs.CallerLemmas.{key_cmp_total, key_cmp_ties}
-use Rattle.pp_count.specs.Counted.{is_own}
+use Rattle.pp_count.specs.Counted.{finds_own}
 use Rattle.pp_count.specs.Sums.{Seen, has, occurs, renamed}
 use Rattle.pp_count.specs.Table.{no_key}
 use Rattle.pp_count.proofs.EachOnce.{ranked}
@@ -31,11 +31,11 @@ use Rattle.pp_count.proofs.Ties.{tied, tied_self}
 use Rattle.pp_source.specs.declared.ledger.Ledger.{Ledger}
 use Rattle.pp_source.specs.declared.lines.FoundLine.{FoundLine}
 use Rattle.pp_source.specs.declared.tallies.Tallies.{Tallies}
-use Rattle.pp_source.specs.Amounts.{line_of}
-use Rattle.pp_source.specs.Found.{has_key, is_own_key}
-use Rattle.pp_source.specs.Ledgers.{AreFound, HasKey, IsLedgerOf, IsLineOf, keys_seen, line_texts, lines_texts, tally_at}
+use Rattle.pp_source.specs.Amounts.{source_line}
+use Rattle.pp_source.specs.Found.{is_among_keys, has_own_function}
+use Rattle.pp_source.specs.Ledgers.{AreFound, HasKey, IsLedgerOf, IsLineOf, keys_seen, line_texts, lines_texts, tally_of_key}
 use Rattle.pp_source.specs.Routines.{all_lines, found_lines}
-use Rattle.pp_source.specs.Tally.{no_tally, tally_of}
+use Rattle.pp_source.specs.Tally.{no_line_tally, tally_of}
 use Rattle.pp_source.proofs.InOrder.{distinct_apart}
 use Rattle.pp_source.proofs.Parts.{has_told, placed, same_told}
 
@@ -46,21 +46,21 @@ and_flips false true = refl
 and_flips false false = refl
 
 -- a key of those that are found is found
-found_own : (p : Profile) (own : Option (List Bool)) (names : List Key) → AreFound p own names → (k : Key) → has_key k names ≡ true → is_own_key own k ≡ true
+found_own : (p : Profile) (own : Option (List Bool)) (names : List Key) → AreFound p own names → (k : Key) → is_among_keys k names ≡ true → has_own_function own k ≡ true
 found_own p own names found k there =
     let at = placed k names there in
-    subst (λ q. is_own_key own q ≡ true) at.there (found.is_own (place_of same_key names k) no_key at.within)
+    subst (λ q. has_own_function own q ≡ true) at.there (found.is_own (place_of same_key names k) no_key at.within)
 
 -- the keys that some sample had
-seen_is : (p : Profile) (own : Option (List Bool)) (t : Tallies) → AreFound p own t.names.keys → (k : Key) → has_key k (keys_seen t) ≡ (is_own_key own k && nat_lt 0 (tally_at t k).last)
+seen_is : (p : Profile) (own : Option (List Bool)) (t : Tallies) → AreFound p own t.names.keys → (k : Key) → is_among_keys k (keys_seen t) ≡ (has_own_function own k && nat_lt 0 (tally_of_key t k).last)
 seen_is p own t found k =
-    any-filter_same (same_key k) (λ q. nat_lt 0 (tally_at t q).last) (nat_lt 0 (tally_at t k).last) (λ q same. ap (λ x. nat_lt 0 (tally_at t x).last) (sym ((key_decides k q).0 same))) t.names.keys
-    ∙ by (has_key k t.names.keys) refl where
-      by : (b : Bool) → has_key k t.names.keys ≡ b → (nat_lt 0 (tally_at t k).last && has_key k t.names.keys) ≡ (is_own_key own k && nat_lt 0 (tally_at t k).last)
-      by true there = and_flips (nat_lt 0 (tally_at t k).last) (has_key k t.names.keys) ∙ (λ i. (there ∙ sym (found_own p own t.names.keys found k there)) i && nat_lt 0 (tally_at t k).last)
+    any-filter_same (same_key k) (λ q. nat_lt 0 (tally_of_key t q).last) (nat_lt 0 (tally_of_key t k).last) (λ q same. ap (λ x. nat_lt 0 (tally_of_key t x).last) (sym ((key_decides k q).0 same))) t.names.keys
+    ∙ by (is_among_keys k t.names.keys) refl where
+      by : (b : Bool) → is_among_keys k t.names.keys ≡ b → (nat_lt 0 (tally_of_key t k).last && is_among_keys k t.names.keys) ≡ (has_own_function own k && nat_lt 0 (tally_of_key t k).last)
+      by true there = and_flips (nat_lt 0 (tally_of_key t k).last) (is_among_keys k t.names.keys) ∙ (λ i. (there ∙ sym (found_own p own t.names.keys found k there)) i && nat_lt 0 (tally_of_key t k).last)
       by false none =
-          let zero : nat_lt 0 (tally_at t k).last ≡ false = ap (λ b. nat_lt 0 (cond b (tally_of t.sums.items (place_of same_key t.names.keys k)) no_tally).last) none in
-          (λ i. zero i && has_key k t.names.keys) ∙ sym (ap (λ b. is_own_key own k && b) zero ∙ and_flips (is_own_key own k) false)
+          let zero : nat_lt 0 (tally_of_key t k).last ≡ false = ap (λ b. nat_lt 0 (cond b (tally_of t.sums.items (place_of same_key t.names.keys k)) no_line_tally).last) none in
+          (λ i. zero i && is_among_keys k t.names.keys) ∙ sym (ap (λ b. has_own_function own k && b) zero ∙ and_flips (has_own_function own k) false)
 
 -- keys that are left of distinct ones are distinct
 still_apart : (test : Key → Bool) (x : Key) (keys : List Key) → AllByRecursion (λ y. same_key x y ≡ false) keys → AllByRecursion (λ y. same_key x y ≡ false) (filter test keys)
@@ -90,15 +90,15 @@ known_among p q (k ∷ keys) all found =
     ] refl found
 
 -- a line stands among all lines where it occurs
-all_lines_occur : (ss : List (Seen Written)) (q : Written) → list_any (eq_by_cmp key_cmp q) (all_lines ss) ≡ occurs key_cmp (map (renamed line_of) ss) q
+all_lines_occur : (ss : List (Seen Written)) (q : Written) → list_any (eq_by_cmp key_cmp q) (all_lines ss) ≡ occurs key_cmp (map (renamed source_line) ss) q
 all_lines_occur [] q = refl
 all_lines_occur (s ∷ ss) q =
-    list_any-append (eq_by_cmp key_cmp q) (map line_of s.keys) (all_lines ss) ∙ ap (λ b. has key_cmp q (map line_of s.keys) || b) (all_lines_occur ss q)
+    list_any-append (eq_by_cmp key_cmp q) (map source_line s.keys) (all_lines ss) ∙ ap (λ b. has key_cmp q (map source_line s.keys) || b) (all_lines_occur ss q)
 
 -- the own pattern finds what its verdict says
-own_told : (p : Profile) (f : Finders) (found : Option (List Bool)) (k : Key) → found ≡ judged p f.own → IsKeyOf p k → is_own_key found k ≡ is_own f (key_written p k)
-own_told p f found k judges of_k = ap (λ o. is_own_key o k) judges ∙ by f.own where
-  by : (pattern : Option (List ℕ → Bool)) → is_own_key (judged p pattern) k ≡ option_map_or (λ find. find (key_written p k).function) pattern false
+own_told : (p : Profile) (f : Finders) (found : Option (List Bool)) (k : Key) → found ≡ judged p f.own → IsKeyOf p k → has_own_function found k ≡ finds_own f (key_written p k)
+own_told p f found k judges of_k = ap (λ o. has_own_function o k) judges ∙ by f.own where
+  by : (pattern : Option (List ℕ → Bool)) → has_own_function (judged p pattern) k ≡ option_map_or (λ find. find (key_written p k).function) pattern false
   by None = refl
   by (Some find) = get_or-map find p.text k.function [] false of_k.function
 
@@ -142,29 +142,29 @@ module _ (p : Profile) (compact : IsCompact p) (f : Finders) (own : Option (List
   told_keys = map (key_written p) (keys_seen ledger.lines)
 
   of_keys : All (IsKeyOf p) (keys_seen ledger.lines)
-  of_keys = All-filter (λ k. nat_lt 0 (tally_at ledger.lines k).last) (IsKeyOf p) ledger.lines.names.keys found.of_profile
+  of_keys = All-filter (λ k. nat_lt 0 (tally_of_key ledger.lines k).last) (IsKeyOf p) ledger.lines.names.keys found.of_profile
 
   -- where the pattern finds the key, some sample has it where it occurs
-  seen_where : (k : Key) → IsKeyOf p k → (b : Bool) → is_own_key own k ≡ b → (b && occurs key_cmp (map (renamed line_of) samples) (key_written p k)) ≡ (b && nat_lt 0 (tally_at ledger.lines k).last)
+  seen_where : (k : Key) → IsKeyOf p k → (b : Bool) → has_own_function own k ≡ b → (b && occurs key_cmp (map (renamed source_line) samples) (key_written p k)) ≡ (b && nat_lt 0 (tally_of_key ledger.lines k).last)
   seen_where k of_k true own_k = sym (is.lines.tallies k of_k own_k).occurs
   seen_where k of_k false own_k = refl
 
   -- a key of the profile is told where its line is found
-  at_key : (k : Key) → IsKeyOf p k → list_any (eq_by_cmp key_cmp (key_written p k)) (filter (is_own f) (all_lines samples)) ≡ list_any (eq_by_cmp key_cmp (key_written p k)) told_keys
+  at_key : (k : Key) → IsKeyOf p k → list_any (eq_by_cmp key_cmp (key_written p k)) (filter (finds_own f) (all_lines samples)) ≡ list_any (eq_by_cmp key_cmp (key_written p k)) told_keys
   at_key k of_k =
       let w : Written = key_written p k in
-      any-filter_same (eq_by_cmp key_cmp w) (is_own f) (is_own f w) (λ x e. ap (is_own f) (sym (tied w x e))) (all_lines samples)
+      any-filter_same (eq_by_cmp key_cmp w) (finds_own f) (finds_own f w) (λ x e. ap (finds_own f) (sym (tied w x e))) (all_lines samples)
       ∙ (λ j. sym (own_told p f own k judges of_k) j && all_lines_occur samples w j)
-      ∙ seen_where k of_k (is_own_key own k) refl
+      ∙ seen_where k of_k (has_own_function own k) refl
       ∙ sym (seen_is p own ledger.lines found k) ∙ sym (has_told p compact k (keys_seen ledger.lines) of_k of_keys)
 
   -- The keys that some sample had stand for the lines that the own pattern finds.
-  same_members : (q : Written) → list_any (eq_by_cmp key_cmp q) (filter (is_own f) (all_lines samples)) ≡ list_any (eq_by_cmp key_cmp q) told_keys
+  same_members : (q : Written) → list_any (eq_by_cmp key_cmp q) (filter (finds_own f) (all_lines samples)) ≡ list_any (eq_by_cmp key_cmp q) told_keys
   same_members q = same_bool _ _
-      (λ there. sym (by_key (is.lines.known q (sym (all_lines_occur samples q) ∙ (and_parts _ _ (sym (any-filter_same (eq_by_cmp key_cmp q) (is_own f) (is_own f q) (λ x e. ap (is_own f) (sym (tied q x e))) (all_lines samples)) ∙ there)).1))) ∙ there)
+      (λ there. sym (by_key (is.lines.known q (sym (all_lines_occur samples q) ∙ (and_parts _ _ (sym (any-filter_same (eq_by_cmp key_cmp q) (finds_own f) (finds_own f q) (λ x e. ap (finds_own f) (sym (tied q x e))) (all_lines samples)) ∙ there)).1))) ∙ there)
       (λ there. by_key (known_among p q (keys_seen ledger.lines) of_keys there) ∙ there) where
-        by_key : HasKey p q → list_any (eq_by_cmp key_cmp q) (filter (is_own f) (all_lines samples)) ≡ list_any (eq_by_cmp key_cmp q) told_keys
-        by_key h = subst (λ x. list_any (eq_by_cmp key_cmp x) (filter (is_own f) (all_lines samples)) ≡ list_any (eq_by_cmp key_cmp x) told_keys) h.told (at_key h.key h.of_profile)
+        by_key : HasKey p q → list_any (eq_by_cmp key_cmp q) (filter (finds_own f) (all_lines samples)) ≡ list_any (eq_by_cmp key_cmp q) told_keys
+        by_key h = subst (λ x. list_any (eq_by_cmp key_cmp x) (filter (finds_own f) (all_lines samples)) ≡ list_any (eq_by_cmp key_cmp x) told_keys) h.told (at_key h.key h.of_profile)
 
   -- In order they are the found lines.
   pub lines_are : (lines sorted : List FoundLine) → map (λ line. line.key) lines ≡ keys_seen ledger.lines → All (IsLineOf p own) lines
@@ -173,15 +173,15 @@ module _ (p : Profile) (compact : IsCompact p) (f : Finders) (own : Option (List
   lines_are lines sorted keys all moved in_order =
       let told : lines_texts lines ≡ told_keys = texts_told p own lines all ∙ ap (map (key_written p)) keys in
       let perm : IsPermutation (lines_texts lines) (lines_texts sorted) = IsPermutation-map line_texts lines sorted moved in
-      sym (ranked key_cmp_total key_cmp_ties (filter (is_own f) (all_lines samples)) (lines_texts sorted) (texts_sorted sorted in_order)
+      sym (ranked key_cmp_total key_cmp_ties (filter (finds_own f) (all_lines samples)) (lines_texts sorted) (texts_sorted sorted in_order)
       (distinct_apart key_cmp ties_flip (lines_texts sorted)
       (IsDistinct-IsPermutation (eq_by_cmp key_cmp) ties_flip (lines_texts lines) (lines_texts sorted) perm
-      (subst (IsDistinct (eq_by_cmp key_cmp)) (sym told) (told_distinct p compact (keys_seen ledger.lines) of_keys (still_distinct (λ k. nat_lt 0 (tally_at ledger.lines k).last) ledger.lines.names.keys distinct)))))
+      (subst (IsDistinct (eq_by_cmp key_cmp)) (sym told) (told_distinct p compact (keys_seen ledger.lines) of_keys (still_distinct (λ k. nat_lt 0 (tally_of_key ledger.lines k).last) ledger.lines.names.keys distinct)))))
       (λ q. same_members q ∙ ap (list_any (eq_by_cmp key_cmp q)) (sym told) ∙ list_any-IsPermutation (eq_by_cmp key_cmp q) (lines_texts lines) (lines_texts sorted) perm))
 
 -- The keys so far: those that some sample had, each as a line.
 abbrev pub CollectedTo : Profile → Option (List Bool) → Tallies → ℕ → List FoundLine → Type 0
-CollectedTo p own t i lines = (map (λ line. line.key) lines ≡ filter (λ k. nat_lt 0 (tally_at t k).last) (take i t.names.keys)) × All (IsLineOf p own) lines
+CollectedTo p own t i lines = (map (λ line. line.key) lines ≡ filter (λ k. nat_lt 0 (tally_of_key t k).last) (take i t.names.keys)) × All (IsLineOf p own) lines
 
 -- The next key, as it was read.
 module _ (p : Profile) (own : Option (List Bool)) (t : Tallies) (read : List Key) (i : ℕ) (d : Key) (lines : List FoundLine) (lent : read ≡ t.names.keys) (here : i < length read)
@@ -190,7 +190,7 @@ module _ (p : Profile) (own : Option (List Bool)) (t : Tallies) (read : List Key
   key = get_or read i d
 
   abbrev has_some : Key → Bool
-  has_some k = nat_lt 0 (tally_at t k).last
+  has_some k = nat_lt 0 (tally_of_key t k).last
 
   inside : i < length t.names.keys
   inside = omega (arith, here, ap length lent)
@@ -211,7 +211,7 @@ module _ (p : Profile) (own : Option (List Bool)) (t : Tallies) (read : List Key
     map-append (λ l. l.key) lines (line ∷ []) ∙ (λ j. so_far.0 j ++ is j ∷ []) ∙ sym (next true some),
     All-push (IsLineOf p own) lines line so_far.1 (record {
       key = subst (IsKeyOf p) (sym (is ∙ at)) (found.of_profile i key inside);
-      is_own = subst (λ k. is_own_key own k ≡ true) (sym (is ∙ at)) (found.is_own i key inside);
+      is_own = subst (λ k. has_own_function own k ≡ true) (sym (is ∙ at)) (found.is_own i key inside);
       texts = texts ∙ ap (λ r. key_written r key) same ∙ ap (key_written p) (sym is);
     }),
   )

@@ -10,7 +10,7 @@ use Rattle.pp_count.specs.Sums.{has}
 use Rattle.pp_count.proofs.Adding.{or-false}
 use Rattle.pp_count.proofs.Renaming.{tied_is}
 use Rattle.pp_source.specs.declared.tally.Tally.{Tally}
-use Rattle.pp_source.specs.Tally.{credited, led, with_cum, with_flat}
+use Rattle.pp_source.specs.Tally.{credited_once, led, cum_with, flat_with}
 
 -- what is never true is false
 pub refuted : (b : Bool) → (b ≡ true → ⊥) → b ≡ false
@@ -28,7 +28,7 @@ ties a b is = unsigned_tied a b ∙ eq-eqb a b is
 
 -- the cum of each number after one number more
 cum_more : (v : ℤ) (turn : ℕ) (t new : Tally) (h s : Bool) → t.last < turn
-    → (s ≡ true → new ≡ credited v turn (cond h (record { flat = t.flat; cum = t.cum +ℤ v; last = turn }) t))
+    → (s ≡ true → new ≡ credited_once v turn (cond h (record { flat = t.flat; cum = t.cum +ℤ v; last = turn }) t))
     → (s ≡ false → new ≡ cond h (record { flat = t.flat; cum = t.cum +ℤ v; last = turn }) t)
     → new ≡ cond (h || s) (record { flat = t.flat; cum = t.cum +ℤ v; last = turn }) t
 cum_more v turn t new true true before same other =
@@ -49,21 +49,21 @@ module _ (f : ℕ → ℕ) (v : ℤ) (keys : List ℕ) where
 
   pub cums_more : (turn i key : ℕ) (first old new : ℕ → Tally) → i < length keys → key ≡ get_or keys i key
       → ((k : ℕ) → (first k).last < turn)
-      → ((k : ℕ) → old k ≡ with_cum v turn (map f (take i keys)) k (first k))
-      → new (f key) ≡ credited v turn (old (f key)) → ((k : ℕ) → k ≢ f key → new k ≡ old k)
-      → (k : ℕ) → new k ≡ with_cum v turn (map f (take (i + 1) keys)) k (first k)
+      → ((k : ℕ) → old k ≡ cum_with v turn (map f (take i keys)) k (first k))
+      → new (f key) ≡ credited_once v turn (old (f key)) → ((k : ℕ) → k ≢ f key → new k ≡ old k)
+      → (k : ℕ) → new k ≡ cum_with v turn (map f (take (i + 1) keys)) k (first k)
   cums_more turn i key first old new within is before each at others k =
       cum_more v turn (first k) (new k) (has nat_cmp k (map f (take i keys))) (eq_by_cmp nat_cmp k (f (get_or keys i key))) (before k)
       (λ same.
       let there : k ≡ f key = tied_is k (f (get_or keys i key)) same ∙ ap f (sym is) in
-      subst (λ q. new q ≡ credited v turn (with_cum v turn (map f (take i keys)) q (first q))) (sym there) (at ∙ ap (credited v turn) (each (f key))))
+      subst (λ q. new q ≡ credited_once v turn (cum_with v turn (map f (take i keys)) q (first q))) (sym there) (at ∙ ap (credited_once v turn) (each (f key))))
       (λ other. others k (λ there. false≢true (sym other ∙ ties k (f (get_or keys i key)) (there ∙ ap f is))) ∙ each k)
       ∙ ap (λ b. cond b (record { flat = (first k).flat; cum = (first k).cum +ℤ v; last = turn }) (first k)) (sym (has_more k i key within))
 
 -- the flat of each number after the first
 pub flat_is : (f : ℕ → ℕ) (v : ℤ) (keys : List ℕ) (leaf : ℕ) (old new : ℕ → Tally) → 0 < length keys → leaf ≡ get_or keys 0 leaf
     → new (f leaf) ≡ led v (old (f leaf)) → ((k : ℕ) → k ≢ f leaf → new k ≡ old k)
-    → (k : ℕ) → new k ≡ with_flat v (map f keys) k (old k)
+    → (k : ℕ) → new k ≡ flat_with v (map f keys) k (old k)
 flat_is f v [] leaf old new some is at others k = absurd (omega (arith, some))
 flat_is f v (q ∷ keys) leaf old new some is at others k =
     elim (eq_by_cmp nat_cmp k (f q)) as (λ b. eq_by_cmp nat_cmp k (f q) ≡ b → new k ≡ cond b (led v (old k)) (old k)) [

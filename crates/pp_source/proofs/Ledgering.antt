@@ -27,9 +27,9 @@ use Rattle.pp_source.specs.declared.found.Found.{Found}
 use Rattle.pp_source.specs.declared.found.Part.{Part}
 use Rattle.pp_source.specs.declared.found.Part.TheVariants.{Routine, Line}
 use Rattle.pp_source.specs.declared.tallies.Tallies.{Tallies}
-use Rattle.pp_source.specs.Found.{IsFoundOf, has_key, is_own_key, part_key, part_of}
-use Rattle.pp_source.specs.Ledgers.{AreAdded, HasKey, HasTallies, by_lines}
-use Rattle.pp_source.specs.Tally.{no_tally, number_of, tally_of, IsTallyOf}
+use Rattle.pp_source.specs.Found.{IsFoundOf, is_among_keys, has_own_function, part_key, part_of}
+use Rattle.pp_source.specs.Ledgers.{AreAdded, HasKey, HasKeyTallies, by_lines}
+use Rattle.pp_source.specs.Tally.{no_line_tally, number_of, tally_of, IsTallyBy}
 use Rattle.pp_source.proofs.Parts.{part_of_profile, part_told, ties_none, ties_there}
 use Rattle.pp_source.proofs.Retelling.{no_tally_of, renamed_twice, tally_same}
 
@@ -84,16 +84,16 @@ module _ (p : Profile) (compact : IsCompact p) (zero_text : (text_at p 0 ≡ [])
 
   -- The tallies of what was found are those of these samples.
   pub has_tallies : (turn : ℕ) (seen : List (Seen ℕ)) (t : Tallies) (samples : List (Seen Written)) → All (HasBelow (length keys)) seen → t.names.keys ≡ found.names.keys
-      → AreAdded found turn seen t.sums.items → map (renamed told) (weighed seen) ≡ samples → HasTallies p own samples t
+      → AreAdded found turn seen t.sums.items → map (renamed told) (weighed seen) ≡ samples → HasKeyTallies p own samples t
   has_tallies turn seen t samples below names_are added seen_is =
       let ss : List (Seen ℕ) = weighed seen in
       let ss_below : All (HasBelow (length keys)) ss = All-filter (λ (s : Seen ℕ). not (int_eq s.value (pos 0))) (HasBelow (length keys)) seen below in
-      subst (λ r. HasTallies p own r t) seen_is (record {
-        tallies = λ k of_k own_k. by k of_k own_k (has_key k found.names.keys) refl ss_below;
+      subst (λ r. HasKeyTallies p own r t) seen_is (record {
+        tallies = λ k of_k own_k. by k of_k own_k (is_among_keys k found.names.keys) refl ss_below;
         known = λ q there. known q ss ss_below there;
       }) where
-        by : (k : Key) → IsKeyOf p k → is_own_key own k ≡ true → (b : Bool) → has_key k found.names.keys ≡ b → All (HasBelow (length keys)) (weighed seen)
-            → IsTallyOf key_cmp (map (renamed told) (weighed seen)) (key_written p k) (cond (has_key k t.names.keys) (tally_of t.sums.items (place_of same_key t.names.keys k)) no_tally)
+        by : (k : Key) → IsKeyOf p k → has_own_function own k ≡ true → (b : Bool) → is_among_keys k found.names.keys ≡ b → All (HasBelow (length keys)) (weighed seen)
+            → IsTallyBy key_cmp (map (renamed told) (weighed seen)) (key_written p k) (cond (is_among_keys k t.names.keys) (tally_of t.sums.items (place_of same_key t.names.keys k)) no_line_tally)
         by k of_k own_k true there ss_below =
             rw (names_are, there)
             (tally_same key_cmp nat_cmp told (number_of found.numbers.items) (key_written p k) (place_of same_key found.names.keys k) (length keys)

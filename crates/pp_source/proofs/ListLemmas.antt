@@ -13,7 +13,7 @@ use Rattle.pp_model.specs.declared.config.Config.{Config}
 use Rattle.std.specs.List.{list_any}
 use Rattle.pp_model.specs.Finders.{Finders}
 use Rattle.pp_model.specs.FrameTexts.{Written}
-use Rattle.pp_count.specs.Counted.{is_own}
+use Rattle.pp_count.specs.Counted.{finds_own}
 use Rattle.pp_units.specs.Head.{Facts}
 use Rattle.pp_count.specs.Sums.{Seen}
 use Rattle.pp_source.specs.declared.lines.FoundLine.{FoundLine}
@@ -74,13 +74,13 @@ added_wants before script a b text went = goes_second a b b script _ text (Err s
 
 -- lines without an item stand for no found line
 pub no_lines : (f : Finders) (samples : List (Seen Written)) (lines : List FoundLine) → lines_texts lines ≡ found_lines f samples → length lines ≡ 0
-    → list_any (λ (s : Seen Written). list_any (is_own f) s.keys) samples ≡ false
+    → list_any (λ (s : Seen Written). list_any (finds_own f) s.keys) samples ≡ false
 no_lines f samples [] are none = match_is f samples ∙ ap is_some_item (sym are)
 no_lines f samples (line ∷ lines) are none = absurd (omega (arith, none))
 
 -- and lines with one for some
 pub some_lines : (f : Finders) (samples : List (Seen Written)) (lines : List FoundLine) → lines_texts lines ≡ found_lines f samples → (length lines ≡ 0 → ⊥)
-    → list_any (λ (s : Seen Written). list_any (is_own f) s.keys) samples ≡ true
+    → list_any (λ (s : Seen Written). list_any (finds_own f) s.keys) samples ≡ true
 some_lines f samples [] are some = absurd (some (omega arith))
 some_lines f samples (line ∷ lines) are some = match_is f samples ∙ ap is_some_item (sym are)
 

@@ -11,9 +11,9 @@ use Rattle.pp_model.specs.Finders.{Finders}
 use Rattle.pp_model.specs.FrameTexts.{Written}
 use Rattle.pp_grain.specs.Keys.{key_cmp}
 use Rattle.pp_grain.proofs.CallerLemmas.{key_cmp_total, key_cmp_ties}
-use Rattle.pp_count.specs.Counted.{is_own}
+use Rattle.pp_count.specs.Counted.{finds_own}
 use Rattle.pp_count.specs.Sums.{Seen}
-use Rattle.pp_source.specs.Amounts.{line_of}
+use Rattle.pp_source.specs.Amounts.{source_line}
 use Rattle.pp_source.specs.Routines.{all_lines, found_lines}
 use Rattle.pp_count.specs.Ranks.{each_once, set_entry}
 use Rattle.pp_count.proofs.EachOnce.{ranked}
@@ -40,13 +40,13 @@ some_ordered x xs none =
     false≢true (sym (ap (list_any (eq_by_cmp key_cmp x)) none) ∙ members x (x ∷ xs) ∙ ap (λ b. b || list_any (eq_by_cmp key_cmp x) xs) (tied_self x))
 
 -- the own pattern finds a frame where it finds the frame's line
-own_lines : (f : Finders) (ws : List Written) → list_any (is_own f) ws ≡ list_any (is_own f) (map line_of ws)
+own_lines : (f : Finders) (ws : List Written) → list_any (finds_own f) ws ≡ list_any (finds_own f) (map source_line ws)
 own_lines f [] = refl
-own_lines f (w ∷ ws) = ap (λ b. is_own f w || b) (own_lines f ws)
+own_lines f (w ∷ ws) = ap (λ b. finds_own f w || b) (own_lines f ws)
 
-own_samples : (f : Finders) (ss : List (Seen Written)) → list_any (λ (s : Seen Written). list_any (is_own f) s.keys) ss ≡ list_any (is_own f) (all_lines ss)
+own_samples : (f : Finders) (ss : List (Seen Written)) → list_any (λ (s : Seen Written). list_any (finds_own f) s.keys) ss ≡ list_any (finds_own f) (all_lines ss)
 own_samples f [] = refl
-own_samples f (s ∷ ss) = (λ i. own_lines f s.keys i || own_samples f ss i) ∙ sym (list_any-append (is_own f) (map line_of s.keys) (all_lines ss))
+own_samples f (s ∷ ss) = (λ i. own_lines f s.keys i || own_samples f ss i) ∙ sym (list_any-append (finds_own f) (map source_line s.keys) (all_lines ss))
 
 -- whether there is an item
 abbrev pub is_some_item : List Written → Bool
@@ -68,5 +68,5 @@ any_ordered (x ∷ xs) = by (each_once key_cmp (x ∷ xs)) refl where
   by (y ∷ ys) is = refl
 
 -- The own pattern finds a frame where there is a found line.
-pub match_is : (f : Finders) (ss : List (Seen Written)) → list_any (λ (s : Seen Written). list_any (is_own f) s.keys) ss ≡ is_some_item (found_lines f ss)
-match_is f ss = own_samples f ss ∙ any_filtered (is_own f) (all_lines ss) ∙ sym (any_ordered (filter (is_own f) (all_lines ss)))
+pub match_is : (f : Finders) (ss : List (Seen Written)) → list_any (λ (s : Seen Written). list_any (finds_own f) s.keys) ss ≡ is_some_item (found_lines f ss)
+match_is f ss = own_samples f ss ∙ any_filtered (finds_own f) (all_lines ss) ∙ sym (any_ordered (filter (finds_own f) (all_lines ss)))

@@ -24,7 +24,7 @@ use Rattle.pp_count.proofs.Ties.{tied, tied_self}
 use Rattle.pp_source.specs.declared.found.Found.{Found}
 use Rattle.pp_source.specs.declared.found.Part.{Part}
 use Rattle.pp_source.specs.declared.found.Part.TheVariants.{Routine, Line}
-use Rattle.pp_source.specs.Found.{IsFoundOf, has_key, is_own_key, part_key, part_number, part_of, parts_found}
+use Rattle.pp_source.specs.Found.{IsFoundOf, is_among_keys, has_own_function, part_key, part_number, part_of, found_parts}
 use Rattle.pp_source.specs.Ledgers.{AreFound}
 use Rattle.pp_source.specs.Tally.{number_of}
 use Rattle.pp_source.proofs.Keys.{refuted, ties}
@@ -39,7 +39,7 @@ module _ (p : Profile) (compact : IsCompact p) where
       (λ tie. (key_decides a b).1 (same_keys p a b compact of_a of_b (tied _ _ tie)))
       (λ same. ap (λ k. eq_by_cmp key_cmp (key_written p a) (key_written p k)) (sym ((key_decides a b).0 same)) ∙ tied_self (key_written p a))
 
-  pub has_told : (k : Key) (keys : List Key) → IsKeyOf p k → All (IsKeyOf p) keys → list_any (eq_by_cmp key_cmp (key_written p k)) (map (key_written p) keys) ≡ has_key k keys
+  pub has_told : (k : Key) (keys : List Key) → IsKeyOf p k → All (IsKeyOf p) keys → list_any (eq_by_cmp key_cmp (key_written p k)) (map (key_written p) keys) ≡ is_among_keys k keys
   has_told k [] of_k all = refl
   has_told k (q ∷ keys) of_k all = λ i. same_told k q of_k (All-head (IsKeyOf p) q keys all) i || has_told k keys of_k (All-tail (IsKeyOf p) q keys all) i
 
@@ -57,20 +57,20 @@ pub record IsPlaced (k : Key) (keys : List Key) (n : ℕ) : Type 0 where
   pub within : n < length keys
   pub there : get_or keys n no_key ≡ k
 
-pub placed : (k : Key) (keys : List Key) → has_key k keys ≡ true → IsPlaced k keys (place_of same_key keys k)
+pub placed : (k : Key) (keys : List Key) → is_among_keys k keys ≡ true → IsPlaced k keys (place_of same_key keys k)
 placed k [] found = absurd (false≢true found)
 placed k (q ∷ keys) found =
-    elim (same_key k q) as (λ b. same_key k q ≡ b → (b || has_key k keys) ≡ true → IsPlaced k (q ∷ keys) (cond (not b) (1 + place_of same_key keys k) 0)) [
+    elim (same_key k q) as (λ b. same_key k q ≡ b → (b || is_among_keys k keys) ≡ true → IsPlaced k (q ∷ keys) (cond (not b) (1 + place_of same_key keys k) 0)) [
       | true ↦ λ same _. record { within = omega arith; there = sym ((key_decides k q).0 same) }
       | false ↦ λ _ more.
           let rest = placed k keys more in
           subst (IsPlaced k (q ∷ keys)) (sym (one (place_of same_key keys k))) (record { within = omega (arith, rest.within); there = rest.there })
     ] refl found
 
-pub placed_has : (k : Key) (keys : List Key) → place_of same_key keys k < length keys → has_key k keys ≡ true
+pub placed_has : (k : Key) (keys : List Key) → place_of same_key keys k < length keys → is_among_keys k keys ≡ true
 placed_has k [] within = absurd (omega (arith, within))
 placed_has k (q ∷ keys) within =
-    elim (same_key k q) as (λ b. cond (not b) (1 + place_of same_key keys k) 0 < suc (length keys) → (b || has_key k keys) ≡ true) [
+    elim (same_key k q) as (λ b. cond (not b) (1 + place_of same_key keys k) 0 < suc (length keys) → (b || is_among_keys k keys) ≡ true) [
       | true ↦ λ _. refl
       | false ↦ λ below. placed_has k keys (omega (arith, below))
     ] within
@@ -93,16 +93,16 @@ seen_all P seen (k ∷ keys) before all =
 
 module _ (own : Option (List Bool)) (part : Part) where
   -- the part of a key that is found is found
-  part_seen : (seen keys : List Key) (n : ℕ) → n < length keys → is_own_key own (get_or keys n no_key) ≡ true
-      → has_key (part_key part (get_or keys n no_key)) (seen_after same_key seen (map (part_key part) (filter (is_own_key own) keys))) ≡ true
+  part_seen : (seen keys : List Key) (n : ℕ) → n < length keys → has_own_function own (get_or keys n no_key) ≡ true
+      → is_among_keys (part_key part (get_or keys n no_key)) (seen_after same_key seen (map (part_key part) (filter (has_own_function own) keys))) ≡ true
   part_seen seen [] n within is = absurd (omega (arith, within))
   part_seen seen (k ∷ keys) zero within is =
-      let rest : List Key = filter (is_own_key own) keys in
-      ap (λ b. has_key (part_key part k) (seen_after same_key seen (map (part_key part) (cond b (k ∷ rest) rest)))) is
+      let rest : List Key = filter (has_own_function own) keys in
+      ap (λ b. is_among_keys (part_key part k) (seen_after same_key seen (map (part_key part) (cond b (k ∷ rest) rest)))) is
       ∙ seen-seen_after same_key (seen_with same_key seen (part_key part k)) (map (part_key part) rest) (part_key part k) (seen_now same_key same_self seen (part_key part k))
   part_seen seen (k ∷ keys) (suc n) within is =
-      let rest : List Key = filter (is_own_key own) keys in
-      elim (is_own_key own k) as (λ b. has_key (part_key part (get_or keys n no_key)) (seen_after same_key seen (map (part_key part) (cond b (k ∷ rest) rest))) ≡ true) [
+      let rest : List Key = filter (has_own_function own) keys in
+      elim (has_own_function own k) as (λ b. is_among_keys (part_key part (get_or keys n no_key)) (seen_after same_key seen (map (part_key part) (cond b (k ∷ rest) rest))) ≡ true) [
         | true ↦ part_seen (seen_with same_key seen (part_key part k)) keys n (omega (arith, within)) is
         | false ↦ part_seen seen keys n (omega (arith, within)) is
       ]
@@ -116,26 +116,26 @@ mapped_more f keys i key so_far number at is made =
 
 -- the parts of the keys so far, with one more key
 module _ (own : Option (List Bool)) (part : Part) (keys : List Key) (i : ℕ) (key : Key) (names : List Key) (at : slice_get keys i ≡ Some key) where
-  filter_next : (b : Bool) → is_own_key own key ≡ b → parts_found own part (take (i + 1) keys) ≡ seen_after same_key (parts_found own part (take i keys)) (map (part_key part) (cond b (key ∷ []) []))
+  filter_next : (b : Bool) → has_own_function own key ≡ b → found_parts own part (take (i + 1) keys) ≡ seen_after same_key (found_parts own part (take i keys)) (map (part_key part) (cond b (key ∷ []) []))
   filter_next b is =
-      ap (parts_found own part) (take_more keys i key (slice_get_within keys i key at) ∙ ap (λ k. take i keys ++ k ∷ []) (get_or_from_slice_get keys i key key at))
-      ∙ ap (λ ks. distinct same_key (map (part_key part) ks)) (filter-append (is_own_key own) (take i keys) (key ∷ []))
-      ∙ ap (distinct same_key) (map-append (part_key part) (filter (is_own_key own) (take i keys)) (filter (is_own_key own) (key ∷ [])))
-      ∙ fold-append (seen_with same_key) [] (map (part_key part) (filter (is_own_key own) (take i keys))) (map (part_key part) (filter (is_own_key own) (key ∷ [])))
-      ∙ ap (λ x. seen_after same_key (parts_found own part (take i keys)) (map (part_key part) (cond x (key ∷ []) []))) is
+      ap (found_parts own part) (take_more keys i key (slice_get_within keys i key at) ∙ ap (λ k. take i keys ++ k ∷ []) (get_or_from_slice_get keys i key key at))
+      ∙ ap (λ ks. distinct same_key (map (part_key part) ks)) (filter-append (has_own_function own) (take i keys) (key ∷ []))
+      ∙ ap (distinct same_key) (map-append (part_key part) (filter (has_own_function own) (take i keys)) (filter (has_own_function own) (key ∷ [])))
+      ∙ fold-append (seen_with same_key) [] (map (part_key part) (filter (has_own_function own) (take i keys))) (map (part_key part) (filter (has_own_function own) (key ∷ [])))
+      ∙ ap (λ x. seen_after same_key (found_parts own part (take i keys)) (map (part_key part) (cond x (key ∷ []) []))) is
 
   -- which is found
-  pub parts_more : (new : List Key) (q : Key) → is_own_key own key ≡ true → names ≡ parts_found own part (take i keys) → q ≡ part_key part key
-      → new ≡ cond (list_any (same_key q) names) names (names ++ q ∷ []) → new ≡ parts_found own part (take (i + 1) keys)
+  pub parts_more : (new : List Key) (q : Key) → has_own_function own key ≡ true → names ≡ found_parts own part (take i keys) → q ≡ part_key part key
+      → new ≡ cond (list_any (same_key q) names) names (names ++ q ∷ []) → new ≡ found_parts own part (take (i + 1) keys)
   parts_more new q is so_far q_is new_is =
       new_is ∙ (λ j. seen_with same_key (so_far j) (q_is j)) ∙ sym (filter_next true is)
 
   -- which isn't
-  pub parts_same : is_own_key own key ≡ false → names ≡ parts_found own part (take i keys) → names ≡ parts_found own part (take (i + 1) keys)
+  pub parts_same : has_own_function own key ≡ false → names ≡ found_parts own part (take i keys) → names ≡ found_parts own part (take (i + 1) keys)
   parts_same other so_far = so_far ∙ sym (filter_next false other)
 
 -- a part has the function of its key
-part_own : (own : Option (List Bool)) (part : Part) (k : Key) → is_own_key own (part_key part k) ≡ is_own_key own k
+part_own : (own : Option (List Bool)) (part : Part) (k : Key) → has_own_function own (part_key part k) ≡ has_own_function own k
 part_own own Routine k = refl
 part_own own Line k = refl
 
@@ -153,13 +153,13 @@ module _ (p : Profile) (zero_text : (text_at p 0 ≡ []) × (0 < length p.text))
     pub are_found : AreFound p own found.names.keys
     are_found = rw is.names (record {
       of_profile =
-          seen_all (IsKeyOf p) [] (map (part_key part) (filter (is_own_key own) keys)) (All-nil (IsKeyOf p))
-          (All-map (IsKeyOf p) (part_key part) (filter (is_own_key own) keys)
-          (λ n d within. part_of_profile part (get_or (filter (is_own_key own) keys) n d) (All-filter (is_own_key own) (IsKeyOf p) keys of_p n d within)));
+          seen_all (IsKeyOf p) [] (map (part_key part) (filter (has_own_function own) keys)) (All-nil (IsKeyOf p))
+          (All-map (IsKeyOf p) (part_key part) (filter (has_own_function own) keys)
+          (λ n d within. part_of_profile part (get_or (filter (has_own_function own) keys) n d) (All-filter (has_own_function own) (IsKeyOf p) keys of_p n d within)));
       is_own =
-          seen_all (λ k. is_own_key own k ≡ true) [] (map (part_key part) (filter (is_own_key own) keys)) (All-nil (λ k. is_own_key own k ≡ true))
-          (All-map (λ k. is_own_key own k ≡ true) (part_key part) (filter (is_own_key own) keys)
-          (λ n d within. part_own own part (get_or (filter (is_own_key own) keys) n d) ∙ filter_passes (is_own_key own) keys n d within));
+          seen_all (λ k. has_own_function own k ≡ true) [] (map (part_key part) (filter (has_own_function own) keys)) (All-nil (λ k. has_own_function own k ≡ true))
+          (All-map (λ k. has_own_function own k ≡ true) (part_key part) (filter (has_own_function own) keys)
+          (λ n d within. part_own own part (get_or (filter (has_own_function own) keys) n d) ∙ filter_passes (has_own_function own) keys n d within));
     })
 
     -- what a key number stands for
@@ -175,7 +175,7 @@ module _ (p : Profile) (zero_text : (text_at p 0 ≡ []) × (0 < length p.text))
         ∙ same_told p compact k (part_key part (get_or keys n no_key)) of_k (part_of_profile part (get_or keys n no_key) (of_p n no_key within))
 
     -- a key that is found ties with what has its number
-    pub ties_there : (k : Key) (n : ℕ) → IsCompact p → IsKeyOf p k → has_key k found.names.keys ≡ true → n < length keys
+    pub ties_there : (k : Key) (n : ℕ) → IsCompact p → IsKeyOf p k → is_among_keys k found.names.keys ≡ true → n < length keys
         → eq_by_cmp key_cmp (key_written p k) (told n) ≡ eq_by_cmp nat_cmp (place_of same_key found.names.keys k) (number_of found.numbers.items n)
     ties_there k n compact of_k there within =
         let q : Key = part_key part (get_or keys n no_key) in
@@ -190,7 +190,7 @@ module _ (p : Profile) (zero_text : (text_at p 0 ≡ []) × (0 < length p.text))
         (key_decides k q).1 (sym here.there ∙ ap (λ m. get_or names m no_key) at ∙ other.there))
 
     -- a key of a function that is found ties with nothing, where it isn't there
-    pub ties_none : (k : Key) (n : ℕ) → IsCompact p → IsKeyOf p k → is_own_key own k ≡ true → has_key k found.names.keys ≡ false → n < length keys
+    pub ties_none : (k : Key) (n : ℕ) → IsCompact p → IsKeyOf p k → has_own_function own k ≡ true → is_among_keys k found.names.keys ≡ false → n < length keys
         → eq_by_cmp key_cmp (key_written p k) (told n) ≡ false
     ties_none k n compact of_k own_k none within =
         let at : Key = get_or keys n no_key in
@@ -198,8 +198,8 @@ module _ (p : Profile) (zero_text : (text_at p 0 ≡ []) × (0 < length p.text))
         told_same k n compact of_k within
         ∙ refuted (same_key k q) (λ same.
         let key_is : k ≡ q = (key_decides k q).0 same in
-        false≢true (sym none ∙ ap (λ x. has_key x found.names.keys) key_is ∙ ap (has_key q) is.names
-        ∙ part_seen own part [] keys n within (sym (part_own own part at) ∙ ap (is_own_key own) (sym key_is) ∙ own_k)))
+        false≢true (sym none ∙ ap (λ x. is_among_keys x found.names.keys) key_is ∙ ap (is_among_keys q) is.names
+        ∙ part_seen own part [] keys n within (sym (part_own own part at) ∙ ap (has_own_function own) (sym key_is) ∙ own_k)))
 
 -- each number has a place
 pub numbers_within : (own : Option (List Bool)) (part : Part) (keys : List Key) (found : Found) (size : ℕ) → IsFoundOf own part keys found → size ≡ length found.names.keys + 1 → All (λ n. n < size) found.numbers.items

@@ -21,7 +21,7 @@ use Rattle.pp_count.specs.Sums.{Seen}
 use Rattle.pp_source.specs.declared.lines.FoundLine.{FoundLine}
 use Rattle.pp_source.specs.declared.source.Source.{Source}
 use Rattle.pp_source.specs.declared.source.Source.TheVariants.{NotFound}
-use Rattle.pp_source.specs.Files.{files_of, source_at}
+use Rattle.pp_source.specs.Files.{files_of_lines, source_at}
 use Rattle.pp_source.specs.Ledgers.{line_texts, lines_texts}
 use Rattle.pp_source.specs.Listing.{list_lines, read_sources, source_of}
 use Rattle.pp_source.specs.SourceText.{lines_text}
@@ -60,8 +60,8 @@ module _ (config : Config) (files : List (Bor (List ℕ))) (i : ℕ) (sources : 
       arrives a b b whole _ (Ok sources) (subst (IsOnWay a b whole) (at_drop_all (λ fs. read_sources config sources (map told fs)) files i past) on_way) (gives b sources)
 
 -- The report of lines, whose files were told so.
-module _ (config : Config) (samples : List (Seen Written)) (h : Facts) (lines : List Written) (lent files : List (Bor (List ℕ))) (same : lent ≡ files) (are : map told files ≡ files_of lines) (a b : World) where
-  lent_are : map told lent ≡ files_of lines
+module _ (config : Config) (samples : List (Seen Written)) (h : Facts) (lines : List Written) (lent files : List (Bor (List ℕ))) (same : lent ≡ files) (are : map told files ≡ files_of_lines lines) (a b : World) where
+  lent_are : map told lent ≡ files_of_lines lines
   lent_are = ap (map told) same ∙ are
 
   -- it is whole
@@ -69,19 +69,19 @@ module _ (config : Config) (samples : List (Seen Written)) (h : Facts) (lines : 
       → text ≡ lines_text samples h (source_at (map told files) sources) lines → Went a b (list_lines config samples h lines) (Ok text)
   unfolding list_lines
   lines_go sources text went is =
-      goes_give a b (read_sources config [] (files_of lines)) _ sources text (subst (λ fs. Went a b (read_sources config [] fs) (Ok sources)) lent_are went)
+      goes_give a b (read_sources config [] (files_of_lines lines)) _ sources text (subst (λ fs. Went a b (read_sources config [] fs) (Ok sources)) lent_are went)
       (ap Give (sym (is ∙ ap (λ fs. lines_text samples h (source_at fs sources) lines) are)))
 
   -- memory was wanting after the reads
   pub lines_want : (sources : List Source) → Went a b (read_sources config [] (map told lent)) (Ok sources) → Went a b (list_lines config samples h lines) (Err stops.Memory)
   unfolding list_lines
   lines_want sources went =
-      goes_second a b b (read_sources config [] (files_of lines)) _ sources (Err stops.Memory) (subst (λ fs. Went a b (read_sources config [] fs) (Ok sources)) lent_are went) (wants b _)
+      goes_second a b b (read_sources config [] (files_of_lines lines)) _ sources (Err stops.Memory) (subst (λ fs. Went a b (read_sources config [] fs) (Ok sources)) lent_are went) (wants b _)
 
   -- a read was stopped
   pub lines_stop : (stop : Stop) → Went a b (read_sources config [] (map told lent)) (Err stop) → Went a b (list_lines config samples h lines) (Err stop)
   unfolding list_lines
-  lines_stop stop went = stops_first a b (read_sources config [] (files_of lines)) _ stop (subst (λ fs. Went a b (read_sources config [] fs) (Err stop)) lent_are went)
+  lines_stop stop went = stops_first a b (read_sources config [] (files_of_lines lines)) _ stop (subst (λ fs. Went a b (read_sources config [] fs) (Err stop)) lent_are went)
 
 -- the files of one line more
 files_add : (seen : List (List ℕ)) (lines : List FoundLine) (line : FoundLine)
@@ -102,13 +102,13 @@ module _ (same : Bor (List ℕ) → Bor (List ℕ) → Bool) (tells : (a b : Bor
       by false = map-append told xs (x ∷ [])
 
   -- one line more
-  pub files_next : (lines : List FoundLine) (i : ℕ) (d : FoundLine) (old new : List (Bor (List ℕ))) → i < length lines → map told old ≡ files_of (lines_texts (take i lines))
-      → new ≡ cond (list_any (same (get_or lines i d).texts.file) old) old (old ++ (get_or lines i d).texts.file ∷ []) → map told new ≡ files_of (lines_texts (take (i + 1) lines))
+  pub files_next : (lines : List FoundLine) (i : ℕ) (d : FoundLine) (old new : List (Bor (List ℕ))) → i < length lines → map told old ≡ files_of_lines (lines_texts (take i lines))
+      → new ≡ cond (list_any (same (get_or lines i d).texts.file) old) old (old ++ (get_or lines i d).texts.file ∷ []) → map told new ≡ files_of_lines (lines_texts (take (i + 1) lines))
   files_next lines i d old new within so_far added =
       ap (map told) added ∙ seen_told (get_or lines i d).texts.file old
       ∙ ap (λ (fs : List (List ℕ)). seen_with bytes_eq fs (line_texts (get_or lines i d)).file) so_far
       ∙ sym (files_add [] (take i lines) (get_or lines i d))
-      ∙ ap (λ ls. files_of (lines_texts ls)) (sym (take_more lines i d within))
+      ∙ ap (λ ls. files_of_lines (lines_texts ls)) (sym (take_more lines i d within))
 
 one : (n : ℕ) → 1 + n ≡ suc n
 one n = omega arith

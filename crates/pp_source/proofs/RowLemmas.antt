@@ -12,7 +12,7 @@ use Rattle.std.proofs.lemmas.Grind.{flat_map-append}
 use Rattle.pp_model.specs.FrameTexts.{Written}
 use Rattle.pp_units.specs.Head.{Facts}
 use Rattle.pp_count.specs.Sums.{Seen}
-use Rattle.pp_source.specs.SourceText.{file_lines, is_shown, last_from, line_row, number_above, numbers_of, past_row, routine_line, routine_text, rows_text, shown_rows, source_text, title_line}
+use Rattle.pp_source.specs.SourceText.{file_lines, is_near, last_from, line_row, number_above, numbers_of, past_row, routine_line, routine_text, rows_text, shown_rows, routine_source, title_line}
 
 -- the last of some numbers
 pub last_is : (n : ℕ) (ns : List ℕ) (d : ℕ) → get_or (n ∷ ns) (length ns) d ≡ last_from n ns
@@ -27,7 +27,7 @@ module _ (samples : List (Seen Written)) (h : Facts) (k : Written) where
 
   -- one more line, which is shown
   pub shown_more : (first last : ℕ) (bytes before out new : List ℕ) (number : ℕ) (rest line after : List ℕ)
-      → file_lines rest ≡ line ∷ file_lines after → is_shown first last (number + 1) ≡ true → new ≡ out ++ line_row samples h k (number + 1) line
+      → file_lines rest ≡ line ∷ file_lines after → is_near first last (number + 1) ≡ true → new ≡ out ++ line_row samples h k (number + 1) line
       → ShownTo first last bytes before out number rest → ShownTo first last bytes before new (number + 1) after
   shown_more first last bytes before out new number rest line after cut shown written so_far =
       ap (λ o. o ++ shown_rows samples h k first last (number + 1 + 1) (file_lines after)) written
@@ -37,7 +37,7 @@ module _ (samples : List (Seen Written)) (h : Facts) (k : Written) where
 
   -- one more line, which isn't
   pub hidden_more : (first last : ℕ) (bytes before out : List ℕ) (number : ℕ) (rest line after : List ℕ)
-      → file_lines rest ≡ line ∷ file_lines after → is_shown first last (number + 1) ≡ false
+      → file_lines rest ≡ line ∷ file_lines after → is_near first last (number + 1) ≡ false
       → ShownTo first last bytes before out number rest → ShownTo first last bytes before out (number + 1) after
   hidden_more first last bytes before out number rest line after cut hidden so_far =
       ap (λ b. out ++ (cond b (line_row samples h k (number + 1) line) [] ++ shown_rows samples h k first last (number + 1 + 1) (file_lines after))) (sym hidden)
@@ -101,8 +101,8 @@ numbers_next lines i d within =
 
 -- the text of a routine, by its first line
 pub routine_is : (samples : List (Seen Written)) (h : Facts) (source : Source) (lines : List FoundLine) (line : FoundLine) → 0 < length lines → line ≡ get_or lines 0 line
-    → (title_line (line_texts line) ++ routine_line h (routine_amounts samples (line_texts line))) ++ source_text samples h source (line_texts line) (lines_texts lines)
+    → (title_line (line_texts line) ++ routine_line h (routine_amounts samples (line_texts line))) ++ routine_source samples h source (line_texts line) (lines_texts lines)
     ≡ routine_text samples h source (lines_texts lines)
 routine_is samples h source [] line some is = absurd (omega (arith, some))
 routine_is samples h source (first ∷ lines) line some is =
-    ap (λ l. (title_line (line_texts l) ++ routine_line h (routine_amounts samples (line_texts l))) ++ source_text samples h source (line_texts l) (lines_texts (first ∷ lines))) is
+    ap (λ l. (title_line (line_texts l) ++ routine_line h (routine_amounts samples (line_texts l))) ++ routine_source samples h source (line_texts l) (lines_texts (first ∷ lines))) is

@@ -5,11 +5,11 @@ use Rattle.std.proofs.lemmas.List.{get_or_default, get_or-map, length-map, take-
 use Rattle.pp_model.specs.FrameTexts.{Written}
 use Rattle.pp_source.specs.declared.lines.FoundLine.{FoundLine}
 use Rattle.pp_source.specs.Ledgers.{line_texts, lines_texts}
-use Rattle.pp_source.specs.Routines.{runs, in_front}
+use Rattle.pp_source.specs.Routines.{runs, onto_runs}
 
 module _ {K : Type 0} (same : K → K → Bool) where
   -- the first run begins with the first item
-  begins : (k : K) (rs : List (List K)) → (run : List K) × (rest : List (List K)) × (in_front same k rs ≡ (k ∷ run) ∷ rest)
+  begins : (k : K) (rs : List (List K)) → (run : List K) × (rest : List (List K)) × (onto_runs same k rs ≡ (k ∷ run) ∷ rest)
   begins k [] = ([], [], refl)
   begins k ([] ∷ rest) = ([], rest, refl)
   begins k ((next ∷ run) ∷ rest) =
@@ -22,7 +22,7 @@ module _ {K : Type 0} (same : K → K → Bool) where
   alone : (k next : K) (keys : List K) → same k next ≡ false → runs same (k ∷ next ∷ keys) ≡ (k ∷ []) ∷ runs same (next ∷ keys)
   alone k next keys other =
       let first = begins next (runs same keys) in
-      ap (in_front same k) first.2
+      ap (onto_runs same k) first.2
       ∙ ap (λ b. cond b ((k ∷ next ∷ first.0) ∷ first.1) ((k ∷ []) ∷ (next ∷ first.0) ∷ first.1)) other
       ∙ ap (λ rs. (k ∷ []) ∷ rs) (sym first.2)
 
@@ -30,7 +30,7 @@ module _ {K : Type 0} (same : K → K → Bool) where
   joins : (k next : K) (run keys : List K) (rest : List (List K)) → same k next ≡ true → runs same (next ∷ keys) ≡ (next ∷ run) ∷ rest
       → runs same (k ∷ next ∷ keys) ≡ (k ∷ next ∷ run) ∷ rest
   joins k next run keys rest goes first =
-      ap (in_front same k) first ∙ ap (λ b. cond b ((k ∷ next ∷ run) ∷ rest) ((k ∷ []) ∷ (next ∷ run) ∷ rest)) goes
+      ap (onto_runs same k) first ∙ ap (λ b. cond b ((k ∷ next ∷ run) ∷ rest) ((k ∷ []) ∷ (next ∷ run) ∷ rest)) goes
 
   -- n further items go with the first, one after the other, and the one after them doesn't
   first_run : (n : ℕ) (k : K) (keys : List K) (d : K) → n ≤ length keys

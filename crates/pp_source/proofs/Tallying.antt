@@ -13,7 +13,7 @@ use Rattle.pp_count.proofs.CallerLemmas.{weighed-renamed}
 use Rattle.pp_source.specs.declared.found.Found.{Found}
 use Rattle.pp_source.specs.declared.tally.Tally.{Tally}
 use Rattle.pp_source.specs.Ledgers.{AreAdded}
-use Rattle.pp_source.specs.Tally.{AddsKeys, IsReady, IsTallyOf, led, number_of, tally_of, with_cum, with_sample}
+use Rattle.pp_source.specs.Tally.{AddsKeys, IsReadyFor, IsTallyBy, led, number_of, tally_of, cum_with, tally_with}
 
 -- the sum with one more sample
 pushed : (test : List ℕ → Bool) (ss : List (Seen ℕ)) (s : Seen ℕ) (b : Bool) → test s.keys ≡ b
@@ -26,8 +26,8 @@ occurs_push ss s k b is =
 
 -- the tally after one more sample
 tally_after : (ss : List (Seen ℕ)) (s : Seen ℕ) (k turn : ℕ) (t : Tally) (h l : Bool) → has nat_cmp k s.keys ≡ h → leads nat_cmp k s.keys ≡ l
-    → 0 < turn → IsTallyOf nat_cmp ss k t
-    → IsTallyOf nat_cmp (ss ++ s ∷ []) k
+    → 0 < turn → IsTallyBy nat_cmp ss k t
+    → IsTallyBy nat_cmp (ss ++ s ∷ []) k
     (cond l (led s.value (cond h (record { flat = t.flat; cum = t.cum +ℤ s.value; last = turn }) t)) (cond h (record { flat = t.flat; cum = t.cum +ℤ s.value; last = turn }) t))
 tally_after ss s k turn t true true has_it leads_it some is = record {
   flat = ap (λ z. z +ℤ s.value) is.flat ∙ pushed (leads nat_cmp k) ss s true leads_it;
@@ -51,13 +51,13 @@ tally_after ss s k turn t false false has_it leads_it some is = record {
 }
 
 -- the last turn is this one or an earlier one
-cum_last : (v : ℤ) (turn : ℕ) (ns : List ℕ) (k : ℕ) (t : Tally) → t.last ≤ turn → (with_cum v turn ns k t).last ≤ turn
+cum_last : (v : ℤ) (turn : ℕ) (ns : List ℕ) (k : ℕ) (t : Tally) → t.last ≤ turn → (cum_with v turn ns k t).last ≤ turn
 cum_last v turn ns k t below =
     elim (has nat_cmp k ns) as (λ (h : Bool). (cond h (record { flat = t.flat; cum = t.cum +ℤ v; last = turn }) t).last ≤ turn) [ true ↦ omega arith | false ↦ below ]
 
-sample_last : (v : ℤ) (turn : ℕ) (ns : List ℕ) (k : ℕ) (t : Tally) → t.last ≤ turn → (with_sample v turn ns k t).last ≤ turn
+sample_last : (v : ℤ) (turn : ℕ) (ns : List ℕ) (k : ℕ) (t : Tally) → t.last ≤ turn → (tally_with v turn ns k t).last ≤ turn
 sample_last v turn ns k t below =
-    elim (leads nat_cmp k ns) as (λ (l : Bool). (cond l (led v (with_cum v turn ns k t)) (with_cum v turn ns k t)).last ≤ turn) [
+    elim (leads nat_cmp k ns) as (λ (l : Bool). (cond l (led v (cum_with v turn ns k t)) (cum_with v turn ns k t)).last ≤ turn) [
       | true ↦ cum_last v turn ns k t below
       | false ↦ cum_last v turn ns k t below
     ]
@@ -77,7 +77,7 @@ module _ (found : Found) (turn : ℕ) (seen : List (Seen ℕ)) (old : List Tally
   added_later = record { count = added.count; each = added.each; earlier = λ k. omega (arith, added.earlier k) }
 
   -- a value can be added that fits beside those so far
-  pub added_ready : (v : ℤ) → absolute seen + nat_abs v < 2 ^ 63 → IsReady v (turn + 1) old
+  pub added_ready : (v : ℤ) → absolute seen + nat_abs v < 2 ^ 63 → IsReadyFor v (turn + 1) old
   added_ready v fits =
       let all : List (Seen ℕ) = map (renamed number) seen in
       let size : absolute all ≡ absolute seen = absolute_renamed number seen in
@@ -98,19 +98,19 @@ module _ (found : Found) (turn : ℕ) (seen : List (Seen ℕ)) (old : List Tally
       ⊎_elim
       (λ zero.
       let same : map (renamed number) (weighed (seen ++ s ∷ [])) ≡ ss = more ∙ ap (λ b. ss ++ map (renamed number) (cond (not b) (s ∷ []) [])) zero ∙ append-nil ss in
-      let kept : (k : ℕ) → tally_of new k ≡ tally_of old k = λ k. adds.added k ∙ ap (λ b. cond b (tally_of old k) (with_sample s.value (turn + 1) one.keys k (tally_of old k))) zero in
+      let kept : (k : ℕ) → tally_of new k ≡ tally_of old k = λ k. adds.added k ∙ ap (λ b. cond b (tally_of old k) (tally_with s.value (turn + 1) one.keys k (tally_of old k))) zero in
       record {
         count = adds.count ∙ added.count;
-        each = λ k. subst (λ (r : List (Seen ℕ)). IsTallyOf nat_cmp r k (tally_of new k)) (sym same) (subst (λ (t : Tally). IsTallyOf nat_cmp ss k t) (sym (kept k)) (added.each k));
+        each = λ k. subst (λ (r : List (Seen ℕ)). IsTallyBy nat_cmp r k (tally_of new k)) (sym same) (subst (λ (t : Tally). IsTallyBy nat_cmp ss k t) (sym (kept k)) (added.each k));
         earlier = λ k. rw (kept k) (omega (arith, added.earlier k));
       })
       (λ some.
       let same : map (renamed number) (weighed (seen ++ s ∷ [])) ≡ ss ++ one ∷ [] = more ∙ ap (λ b. ss ++ map (renamed number) (cond (not b) (s ∷ []) [])) some in
-      let grown : (k : ℕ) → tally_of new k ≡ with_sample s.value (turn + 1) one.keys k (tally_of old k) =
-      λ k. adds.added k ∙ ap (λ b. cond b (tally_of old k) (with_sample s.value (turn + 1) one.keys k (tally_of old k))) some in
+      let grown : (k : ℕ) → tally_of new k ≡ tally_with s.value (turn + 1) one.keys k (tally_of old k) =
+      λ k. adds.added k ∙ ap (λ b. cond b (tally_of old k) (tally_with s.value (turn + 1) one.keys k (tally_of old k))) some in
       record {
         count = adds.count ∙ added.count;
-        each = λ k. subst (λ (r : List (Seen ℕ)). IsTallyOf nat_cmp r k (tally_of new k)) (sym same) (subst (λ (t : Tally). IsTallyOf nat_cmp (ss ++ one ∷ []) k t) (sym (grown k))
+        each = λ k. subst (λ (r : List (Seen ℕ)). IsTallyBy nat_cmp r k (tally_of new k)) (sym same) (subst (λ (t : Tally). IsTallyBy nat_cmp (ss ++ one ∷ []) k t) (sym (grown k))
             (tally_after ss one k (turn + 1) (tally_of old k) (has nat_cmp k one.keys) (leads nat_cmp k one.keys) refl refl (omega arith) (added.each k)));
         earlier = λ k. rw (grown k) (sample_last s.value (turn + 1) one.keys k (tally_of old k) (omega (arith, added.earlier k)));
       })

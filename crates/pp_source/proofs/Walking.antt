@@ -5,39 +5,39 @@ use Rattle.std.proofs.lemmas.List.{take_more, get_or-replicate, get_or_past, len
 use Rattle.std.proofs.lemmas.List.Sums.{sum_by_more_le}
 use Rattle.pp_model.specs.declared.profile.Sample.{Sample}
 use Rattle.pp_count.specs.Column.{selected}
-use Rattle.pp_count.specs.Scope.{samples_of, size_of}
+use Rattle.pp_count.specs.Scope.{samples_in_scope, size_of}
 use Rattle.pp_count.proofs.Ranges.{IsSeen, by_numbers, seen_more, seen_same}
 use Rattle.pp_source.specs.declared.found.Found.{Found}
 use Rattle.pp_source.specs.declared.tally.Tally.{Tally}
 use Rattle.pp_source.specs.declared.walk.Sums.{Sums}
 use Rattle.pp_source.specs.declared.walk.Walk.{Walk}
-use Rattle.pp_source.specs.Ledgers.{AreAdded, WalkedTo}
-use Rattle.pp_source.specs.Tally.{AddsKeys, IsReady, IsTallyOf, no_tally, tally_of}
+use Rattle.pp_source.specs.Ledgers.{AreAdded, HasWalkedTo}
+use Rattle.pp_source.specs.Tally.{AddsKeys, IsReadyFor, IsTallyBy, no_line_tally, tally_of}
 use Rattle.std.specs.Ordering.{nat_cmp}
 use Rattle.pp_count.specs.Sums.{absolute}
 use Rattle.pp_source.proofs.Tallying.{added_later, added_more, added_ready}
 
 -- tallies to which nothing was added
-none_of : (n k : ℕ) → tally_of (replicate n no_tally) k ≡ no_tally
-none_of n k = ⊎_elim (λ here. get_or-replicate n k no_tally no_tally here) (λ past. get_or_past (replicate n no_tally) k no_tally (omega (arith, past, length-replicate n no_tally))) (cases_lt k n)
+none_of : (n k : ℕ) → tally_of (replicate n no_line_tally) k ≡ no_line_tally
+none_of n k = ⊎_elim (λ here. get_or-replicate n k no_line_tally no_line_tally here) (λ past. get_or_past (replicate n no_line_tally) k no_line_tally (omega (arith, past, length-replicate n no_line_tally))) (cases_lt k n)
 
-pub none_added : (found : Found) (tallies : List Tally) → tallies ≡ replicate (length found.names.keys + 1) no_tally → AreAdded found 0 [] tallies
+pub none_added : (found : Found) (tallies : List Tally) → tallies ≡ replicate (length found.names.keys + 1) no_line_tally → AreAdded found 0 [] tallies
 none_added found tallies is = subst (AreAdded found 0 []) (sym is) (record {
-  count = length-replicate (length found.names.keys + 1) no_tally;
-  each = λ k. subst (λ t. IsTallyOf nat_cmp [] k t) (sym (none_of _ k)) (record { flat = refl; cum = refl; occurs = refl });
+  count = length-replicate (length found.names.keys + 1) no_line_tally;
+  each = λ k. subst (λ t. IsTallyBy nat_cmp [] k t) (sym (none_of _ k)) (record { flat = refl; cum = refl; occurs = refl });
   earlier = λ k. rw (none_of (length found.names.keys + 1) k) (omega arith);
 })
 
-module _ (walk : Walk) (i : ℕ) (s : Sample) (keys : List ℕ) (old : Sums) (here : i < length (samples_of walk.scope)) (is : s ≡ get_or (samples_of walk.scope) i s)
-    (so_far : WalkedTo walk i (take i (samples_of walk.scope)) old) where
-  one_more : take i (samples_of walk.scope) ++ s ∷ [] ≡ take (i + 1) (samples_of walk.scope)
-  one_more = ap (λ x. take i (samples_of walk.scope) ++ x ∷ []) is ∙ sym (take_more (samples_of walk.scope) i s here)
+module _ (walk : Walk) (i : ℕ) (s : Sample) (keys : List ℕ) (old : Sums) (here : i < length (samples_in_scope walk.scope)) (is : s ≡ get_or (samples_in_scope walk.scope) i s)
+    (so_far : HasWalkedTo walk i (take i (samples_in_scope walk.scope)) old) where
+  one_more : take i (samples_in_scope walk.scope) ++ s ∷ [] ≡ take (i + 1) (samples_in_scope walk.scope)
+  one_more = ap (λ x. take i (samples_in_scope walk.scope) ++ x ∷ []) is ∙ sym (take_more (samples_in_scope walk.scope) i s here)
 
   -- a sample that is dropped
-  pub walked_same : IsSeen walk.scope s false keys → WalkedTo walk (i + 1) (take (i + 1) (samples_of walk.scope)) old
-  walked_same seen = subst (λ ss. WalkedTo walk (i + 1) ss old) one_more (record {
+  pub walked_same : IsSeen walk.scope s false keys → HasWalkedTo walk (i + 1) (take (i + 1) (samples_in_scope walk.scope)) old
+  walked_same seen = subst (λ ss. HasWalkedTo walk (i + 1) ss old) one_more (record {
     seen = so_far.seen;
-    are = seen_same walk.scope (take i (samples_of walk.scope)) so_far.seen s keys seen so_far.are;
+    are = seen_same walk.scope (take i (samples_in_scope walk.scope)) so_far.seen s keys seen so_far.are;
     lines = added_later walk.lines.now i so_far.seen old.lines.items so_far.lines;
     routines = added_later walk.routines.now i so_far.seen old.routines.items so_far.routines;
   })
@@ -46,10 +46,10 @@ module _ (walk : Walk) (i : ℕ) (s : Sample) (keys : List ℕ) (old : Sums) (he
   pub walked_more : (new : Sums) → IsSeen walk.scope s true keys → All (λ k. k < length walk.scope.table.now.names) keys
       → AddsKeys walk.lines.now.numbers.items (selected walk.scope.column walk.scope.config.now.divide_by s) (i + 1) keys old.lines.items new.lines.items
       → AddsKeys walk.routines.now.numbers.items (selected walk.scope.column walk.scope.config.now.divide_by s) (i + 1) keys old.routines.items new.routines.items
-      → WalkedTo walk (i + 1) (take (i + 1) (samples_of walk.scope)) new
-  walked_more new seen below lines routines = subst (λ ss. WalkedTo walk (i + 1) ss new) one_more (record {
+      → HasWalkedTo walk (i + 1) (take (i + 1) (samples_in_scope walk.scope)) new
+  walked_more new seen below lines routines = subst (λ ss. HasWalkedTo walk (i + 1) ss new) one_more (record {
     seen = so_far.seen ++ by_numbers walk.scope s keys ∷ [];
-    are = seen_more walk.scope (take i (samples_of walk.scope)) so_far.seen s keys seen below so_far.are;
+    are = seen_more walk.scope (take i (samples_in_scope walk.scope)) so_far.seen s keys seen below so_far.are;
     lines = added_more walk.lines.now i so_far.seen old.lines.items so_far.lines (by_numbers walk.scope s keys) new.lines.items lines;
     routines = added_more walk.routines.now i so_far.seen old.routines.items so_far.routines (by_numbers walk.scope s keys) new.routines.items routines;
   })
@@ -57,17 +57,17 @@ module _ (walk : Walk) (i : ℕ) (s : Sample) (keys : List ℕ) (old : Sums) (he
   abbrev value : ℤ
   value = selected walk.scope.column walk.scope.config.now.divide_by s
 
-  fits : size_of walk.scope (samples_of walk.scope) < 2 ^ 63 → absolute so_far.seen + nat_abs value < 2 ^ 63
+  fits : size_of walk.scope (samples_in_scope walk.scope) < 2 ^ 63 → absolute so_far.seen + nat_abs value < 2 ^ 63
   fits small =
       let size : Sample → ℕ = λ x. nat_abs (selected walk.scope.column walk.scope.config.now.divide_by x) in
-      let all : List Sample = samples_of walk.scope in
+      let all : List Sample = samples_in_scope walk.scope in
       let left : size_of walk.scope (take i all) + size s ≤ size_of walk.scope all =
       subst (λ (x : Sample). size_of walk.scope (take i all) + size x ≤ size_of walk.scope all) (sym is) (sum_by_more_le size all i s here) in
       omega (arith, small, left, so_far.are.within)
 
   -- its value can be added
-  pub lines_ready : size_of walk.scope (samples_of walk.scope) < 2 ^ 63 → IsReady value (i + 1) old.lines.items
+  pub lines_ready : size_of walk.scope (samples_in_scope walk.scope) < 2 ^ 63 → IsReadyFor value (i + 1) old.lines.items
   lines_ready small = added_ready walk.lines.now i so_far.seen old.lines.items so_far.lines value (fits small)
 
-  pub routines_ready : size_of walk.scope (samples_of walk.scope) < 2 ^ 63 → IsReady value (i + 1) old.routines.items
+  pub routines_ready : size_of walk.scope (samples_in_scope walk.scope) < 2 ^ 63 → IsReadyFor value (i + 1) old.routines.items
   routines_ready small = added_ready walk.routines.now i so_far.seen old.routines.items so_far.routines value (fits small)

@@ -11,12 +11,12 @@ abbrev pub routine_of : Written → Written
 routine_of w = kept_by FileFunctions false w
 
 -- the function, the file and the line of a frame
-abbrev pub line_of : Written → Written
-line_of w = kept_by Lines false w
+abbrev pub source_line : Written → Written
+source_line w = kept_by Lines false w
 
 -- the line of this number in the function and the file of a frame
-abbrev pub line_at : Written → ℕ → Written
-line_at w number = line_of (record w { line = pos number })
+abbrev pub line_numbered : Written → ℕ → Written
+line_numbered w number = source_line (record w { line = pos number })
 
 -- the flat and the cum of a key
 abbrev pub amounts_of : List (Seen Written) → Written → Amounts
@@ -28,4 +28,4 @@ routine_amounts samples w = amounts_of (map (renamed routine_of) samples) (routi
 
 -- What the samples come to in the line of this number of its function and file.
 abbrev pub line_amounts : List (Seen Written) → Written → ℕ → Amounts
-line_amounts samples w number = amounts_of (map (renamed line_of) samples) (line_at w number)
+line_amounts samples w number = amounts_of (map (renamed source_line) samples) (line_numbered w number)

@@ -7,8 +7,8 @@ use Rattle.pp_source.specs.declared.source.Source.{Source}
 use Rattle.pp_source.specs.declared.source.Source.TheVariants.{NotFound}
 
 -- The file texts of these lines, each once, in the order in which the lines need them.
-abbrev pub files_of : List Written → List (List ℕ)
-files_of lines = distinct bytes_eq (map (λ k. k.file) lines)
+abbrev pub files_of_lines : List Written → List (List ℕ)
+files_of_lines lines = distinct bytes_eq (map (λ k. k.file) lines)
 
 -- The source of a file, where these are the sources of these files.
 abbrev pub source_at : List (List ℕ) → List Source → List ℕ → Source

@@ -9,7 +9,7 @@ use Rattle.pp_grain.specs.Sight.{same_key}
 use Rattle.pp_source.specs.declared.found.Found.{Found}
 use Rattle.pp_source.specs.declared.found.Part.{Part}
 use Rattle.pp_source.specs.declared.found.Part.TheVariants.{Routine, Line}
-use Rattle.pp_source.specs.Amounts.{line_of, routine_of}
+use Rattle.pp_source.specs.Amounts.{source_line, routine_of}
 
 -- the function and the file of a key, with this line
 abbrev pub key_at : Key → ℤ → Key
@@ -30,19 +30,19 @@ part_key Line k = key_at k k.line
 -- the same of what a key stands for
 abbrev pub part_of : Part → Written → Written
 part_of Routine w = routine_of w
-part_of Line w = line_of w
+part_of Line w = source_line w
 
 -- whether the own pattern finds the function of a key, by its verdicts
-abbrev pub is_own_key : Option (List Bool) → Key → Bool
-is_own_key own k = option_map_or (λ verdicts. slice_index_or verdicts k.function false) own false
+abbrev pub has_own_function : Option (List Bool) → Key → Bool
+has_own_function own k = option_map_or (λ verdicts. slice_index_or verdicts k.function false) own false
 
 -- the key stands among these
-abbrev pub has_key : Key → List Key → Bool
-has_key k keys = list_any (same_key k) keys
+abbrev pub is_among_keys : Key → List Key → Bool
+is_among_keys k keys = list_any (same_key k) keys
 
 -- the parts of those of the keys whose function the own pattern finds, each once
-abbrev pub parts_found : Option (List Bool) → Part → List Key → List Key
-parts_found own part keys = distinct same_key (map (part_key part) (filter (is_own_key own) keys))
+abbrev pub found_parts : Option (List Bool) → Part → List Key → List Key
+found_parts own part keys = distinct same_key (map (part_key part) (filter (has_own_function own) keys))
 
 -- the number of a key's part among these, which is their count where it isn't there
 abbrev pub part_number : Part → List Key → Key → ℕ
@@ -51,5 +51,5 @@ part_number part names k = place_of same_key names (part_key part k)
 -- The parts of these keys that the own pattern finds, and which key has which.
 pub record IsFoundOf (own : Option (List Bool)) (part : Part) (keys : List Key) (found : Found)
     : Type 0 where
-  pub names : found.names.keys ≡ parts_found own part keys
+  pub names : found.names.keys ≡ found_parts own part keys
   pub numbers : found.numbers.items ≡ map (part_number part found.names.keys) keys

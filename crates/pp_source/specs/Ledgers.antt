@@ -12,7 +12,7 @@ use Rattle.pp_grain.specs.declared.key.Key.{Key}
 use Rattle.pp_grain.specs.Keys.{key_cmp, key_written, IsKeyOf}
 use Rattle.pp_grain.specs.Sight.{same_key}
 use Rattle.pp_grain.specs.Told.{written_texts}
-use Rattle.pp_count.specs.Scope.{AreCountable, AreSeen, IsSound, samples_of}
+use Rattle.pp_count.specs.Scope.{AreCountable, AreSeen, IsSoundScope, samples_in_scope}
 use Rattle.pp_count.specs.Sums.{Seen, weighed, renamed, occurs}
 use Rattle.pp_source.specs.declared.found.Found.{Found}
 use Rattle.pp_source.specs.declared.found.Part.TheVariants.{Routine, Line}
@@ -23,9 +23,9 @@ use Rattle.pp_source.specs.declared.tallies.Tallies.{Tallies}
 use Rattle.pp_source.specs.declared.tally.Tally.{Tally}
 use Rattle.pp_source.specs.declared.walk.Sums.{Sums}
 use Rattle.pp_source.specs.declared.walk.Walk.{Walk}
-use Rattle.pp_source.specs.Amounts.{line_of, routine_of}
-use Rattle.pp_source.specs.Found.{IsFoundOf, has_key, is_own_key}
-use Rattle.pp_source.specs.Tally.{no_tally, number_of, tally_of, IsTallyOf}
+use Rattle.pp_source.specs.Amounts.{source_line, routine_of}
+use Rattle.pp_source.specs.Found.{IsFoundOf, is_among_keys, has_own_function}
+use Rattle.pp_source.specs.Tally.{no_line_tally, number_of, tally_of, IsTallyBy}
 
 -- the configuration under which the lines of frames are counted
 abbrev pub by_lines : Config → Config
@@ -33,35 +33,35 @@ by_lines config = record config { grain = Lines; showcolumns = false }
 
 -- What a walk looks at belongs together.
 pub record IsSoundWalk (walk : Walk) : Type 0 where
-  pub scope : IsSound walk.scope
-  pub countable : AreCountable walk.scope (samples_of walk.scope)
+  pub scope : IsSoundScope walk.scope
+  pub countable : AreCountable walk.scope (samples_in_scope walk.scope)
   pub lines : IsFoundOf walk.scope.v.now.own Line walk.scope.table.now.names walk.lines.now
   pub routines : IsFoundOf walk.scope.v.now.own Routine walk.scope.table.now.names walk.routines.now
 
 -- there is a tally for each part, and one for all else
-abbrev pub HasPlaces : Found → List Tally → Type 0
-HasPlaces found tallies = length tallies ≡ length found.names.keys + 1
+abbrev pub HasPartTallies : Found → List Tally → Type 0
+HasPartTallies found tallies = length tallies ≡ length found.names.keys + 1
 
 -- The samples are added to the tallies of what was found, none of them at a turn after this one.
 pub record AreAdded (found : Found) (turn : ℕ) (seen : List (Seen ℕ)) (tallies : List Tally)
     : Type 0 where
-  pub count : HasPlaces found tallies
+  pub count : HasPartTallies found tallies
   pub each : (k : ℕ)
-      → IsTallyOf nat_cmp (map (renamed (number_of found.numbers.items)) (weighed seen)) k (tally_of tallies k)
+      → IsTallyBy nat_cmp (map (renamed (number_of found.numbers.items)) (weighed seen)) k (tally_of tallies k)
   pub earlier : (k : ℕ) → (tally_of tallies k).last ≤ turn
 
 -- These samples are added to the sums.
-pub record WalkedTo (walk : Walk) (turn : ℕ) (samples : List Sample) (sums : Sums) : Type 0 where
+pub record HasWalkedTo (walk : Walk) (turn : ℕ) (samples : List Sample) (sums : Sums) : Type 0 where
   pub seen : List (Seen ℕ)
   pub are : AreSeen walk.scope samples seen
   pub lines : AreAdded walk.lines.now turn seen sums.lines.items
   pub routines : AreAdded walk.routines.now turn seen sums.routines.items
 
 -- what is kept of a key
-abbrev pub tally_at : Tallies → Key → Tally
-tally_at t k =
-    if has_key k t.names.keys then tally_of t.sums.items (place_of same_key t.names.keys k)
-    else no_tally
+abbrev pub tally_of_key : Tallies → Key → Tally
+tally_of_key t k =
+    if is_among_keys k t.names.keys then tally_of t.sums.items (place_of same_key t.names.keys k)
+    else no_line_tally
 
 -- A key of the profile stands for it.
 pub record HasKey (p : Profile) (w : Written) : Type 0 where
@@ -70,26 +70,26 @@ pub record HasKey (p : Profile) (w : Written) : Type 0 where
   pub told : key_written p key ≡ w
 
 -- Each key that the own pattern finds has its sums over these samples.
-pub record HasTallies (p : Profile) (own : Option (List Bool)) (samples : List (Seen Written)) (t : Tallies)
+pub record HasKeyTallies (p : Profile) (own : Option (List Bool)) (samples : List (Seen Written)) (t : Tallies)
     : Type 0 where
-  pub tallies : (k : Key) → IsKeyOf p k → is_own_key own k ≡ true
-      → IsTallyOf key_cmp samples (key_written p k) (tally_at t k)
+  pub tallies : (k : Key) → IsKeyOf p k → has_own_function own k ≡ true
+      → IsTallyBy key_cmp samples (key_written p k) (tally_of_key t k)
   pub known : (w : Written) → occurs key_cmp samples w ≡ true → HasKey p w
 
 -- the keys are keys of the profile, and the own pattern finds them
 pub record AreFound (p : Profile) (own : Option (List Bool)) (keys : List Key) : Type 0 where
   pub of_profile : All (IsKeyOf p) keys
-  pub is_own : All (λ k. is_own_key own k ≡ true) keys
+  pub is_own : All (λ k. has_own_function own k ≡ true) keys
 
 -- The ledger has what these samples come to in each line and in each routine that the own pattern finds.
 pub record IsLedgerOf (p : Profile) (own : Option (List Bool)) (samples : List (Seen Written))
     (ledger : Ledger) : Type 0 where
-  pub lines : HasTallies p own (map (renamed line_of) samples) ledger.lines
-  pub routines : HasTallies p own (map (renamed routine_of) samples) ledger.routines
+  pub lines : HasKeyTallies p own (map (renamed source_line) samples) ledger.lines
+  pub routines : HasKeyTallies p own (map (renamed routine_of) samples) ledger.routines
 
 -- the keys that some sample had
 abbrev pub keys_seen : Tallies → List Key
-keys_seen t = filter (λ k. nat_lt 0 (tally_at t k).last) t.names.keys
+keys_seen t = filter (λ k. nat_lt 0 (tally_of_key t k).last) t.names.keys
 
 -- what a line that was found stands for
 abbrev pub line_texts : FoundLine → Written
@@ -98,7 +98,7 @@ line_texts line = written_texts line.texts
 -- The line is one of the profile that the own pattern finds, with its texts.
 pub record IsLineOf (p : Profile) (own : Option (List Bool)) (line : FoundLine) : Type 0 where
   pub key : IsKeyOf p line.key
-  pub is_own : is_own_key own line.key ≡ true
+  pub is_own : has_own_function own line.key ≡ true
   pub texts : line_texts line ≡ key_written p line.key
 
 -- what lines stand for

@@ -15,7 +15,7 @@ use Rattle.pp_source.specs.declared.refusal.ListRefusal.TheVariants as refusals
 use Rattle.pp_source.specs.declared.source.Source.{Source}
 use Rattle.pp_source.specs.declared.source.Source.TheVariants.{NoName, NotFound, TooLong, Whole}
 use Rattle.pp_source.specs.declared.source.TheConstants.{SOURCE_LIMIT}
-use Rattle.pp_source.specs.Files.{files_of, source_at}
+use Rattle.pp_source.specs.Files.{files_of_lines, source_at}
 use Rattle.pp_source.specs.Paths.{paths_to_try}
 use Rattle.pp_source.specs.Routines.{found_lines}
 use Rattle.pp_source.specs.SourceText.{lines_text}
@@ -54,8 +54,8 @@ read_sources config sources (file ∷ files) = do
 -- The report of these lines. The source of each of their files is read once.
 unfoldable pub list_lines : Config → List (Seen Written) → Facts → List Written → Script (List ℕ)
 list_lines config samples h lines = do
-  sources ← read_sources config [] (files_of lines)
-  Give (lines_text samples h (source_at (files_of lines) sources) lines)
+  sources ← read_sources config [] (files_of_lines lines)
+  Give (lines_text samples h (source_at (files_of_lines lines) sources) lines)
 
 -- the report, where a function is found
 unfoldable pub list_found : Config → List (Seen Written) → Facts → List Written

@@ -3,12 +3,12 @@ use Rattle.std.specs.Prelude.{ℕ, Bool, true, false, ◌==◌, List, [], ◌∷
 use Rattle.std.specs.List.{filter, slice_split}
 
 -- a colon parts the entries of a list of paths
-abbrev pub is_colon : ℕ → Bool
-is_colon b = b == 58
+abbrev pub is_list_colon : ℕ → Bool
+is_list_colon b = b == 58
 
 -- a slash parts the names of a path
-abbrev pub is_slash : ℕ → Bool
-is_slash b = b == 47
+abbrev pub is_path_slash : ℕ → Bool
+is_path_slash b = b == 47
 
 -- whether something stands in the text
 abbrev pub is_given : List ℕ → Bool
@@ -16,8 +16,8 @@ is_given [] = false
 is_given (_ ∷ _) = true
 
 -- the entries of a list of paths, without those that are empty
-abbrev pub entries : List ℕ → List (List ℕ)
-entries text = filter is_given (slice_split is_colon text)
+abbrev pub path_entries : List ℕ → List (List ℕ)
+path_entries text = filter is_given (slice_split is_list_colon text)
 
 -- what stands after the front, where the text begins with it
 abbrev pub after_front : List ℕ → List ℕ → Option (List ℕ)
@@ -26,25 +26,25 @@ after_front (a ∷ front) [] = None
 after_front (a ∷ front) (b ∷ text) = if a == b then after_front front text else None
 
 -- the first, and where there is none the second
-abbrev pub first_else : Option (List ℕ) → Option (List ℕ) → Option (List ℕ)
-first_else (Some text) other = Some text
-first_else None other = other
+abbrev pub first_path : Option (List ℕ) → Option (List ℕ) → Option (List ℕ)
+first_path (Some text) other = Some text
+first_path None other = other
 
 -- what the first of the folders that the file lies in leaves of the file's path, if it lies in one
-abbrev pub trimmed : List ℕ → List (List ℕ) → Option (List ℕ)
-trimmed file [] = None
-trimmed file (folder ∷ folders) =
-    first_else (after_front (folder ++ codes "/") file) (trimmed file folders)
+abbrev pub without_folder : List ℕ → List (List ℕ) → Option (List ℕ)
+without_folder file [] = None
+without_folder file (folder ∷ folders) =
+    first_path (after_front (folder ++ codes "/") file) (without_folder file folders)
 
 -- a path from the root begins with a slash
 abbrev pub is_absolute : List ℕ → Bool
 is_absolute [] = false
-is_absolute (b ∷ _) = is_slash b
+is_absolute (b ∷ _) = is_path_slash b
 
 -- the path without the slashes at its front
 abbrev pub from_name : List ℕ → List ℕ
 from_name [] = []
-from_name (b ∷ path) = if is_slash b then from_name path else b ∷ path
+from_name (b ∷ path) = if is_path_slash b then from_name path else b ∷ path
 
 -- the path in a folder
 abbrev pub in_folder : List ℕ → List ℕ → List ℕ
@@ -68,4 +68,4 @@ paths_of folders file None =
 -- root of which nothing was taken off.
 abbrev pub paths_to_try : List ℕ → List ℕ → List ℕ → List (List ℕ)
 paths_to_try source_path trim_path file =
-    paths_of (entries source_path) file (trimmed file (entries trim_path))
+    paths_of (path_entries source_path) file (without_folder file (path_entries trim_path))

@@ -84,8 +84,8 @@ abbrev pub around : ℕ
 around = 5
 
 -- the line is shown where these are the first and the last with a frame
-abbrev pub is_shown : ℕ → ℕ → ℕ → Bool
-is_shown first last number = nat_le first (number + around) && nat_le number (last + around)
+abbrev pub is_near : ℕ → ℕ → ℕ → Bool
+is_near first last number = nat_le first (number + around) && nat_le number (last + around)
 
 module _ (samples : List (Seen Written)) (h : Facts) (k : Written) where
   -- a line of the routine, with its bytes
@@ -97,7 +97,7 @@ module _ (samples : List (Seen Written)) (h : Facts) (k : Written) where
   abbrev pub shown_rows : ℕ → ℕ → ℕ → List (List ℕ) → List ℕ
   shown_rows first last number [] = []
   shown_rows first last number (bytes ∷ lines) =
-      (if is_shown first last number then line_row number bytes else [])
+      (if is_near first last number then line_row number bytes else [])
       ++ shown_rows first last (number + 1) lines
 
   -- the line, where the file has fewer
@@ -116,12 +116,12 @@ abbrev pub error_line : List ℕ → List ℕ → List ℕ
 error_line file reason = codes " Error: " ++ file ++ reason
 
 -- The source of the lines of a routine, or why there is none.
-abbrev pub source_text : List (Seen Written) → Facts → Source → Written → List Written → List ℕ
-source_text samples h NoName k lines = error_line (codes "no file name") (codes "\n")
-source_text samples h NotFound k lines = error_line k.file (codes ": no such file\n")
-source_text samples h TooLong k lines =
+abbrev pub routine_source : List (Seen Written) → Facts → Source → Written → List Written → List ℕ
+routine_source samples h NoName k lines = error_line (codes "no file name") (codes "\n")
+routine_source samples h NotFound k lines = error_line k.file (codes ": no such file\n")
+routine_source samples h TooLong k lines =
     error_line k.file (codes ": longer than 134217728 bytes\n")
-source_text samples h (Whole bytes) k lines =
+routine_source samples h (Whole bytes) k lines =
     rows_text samples h k (file_lines bytes) (numbers_of lines)
 
 -- The text of a routine, of which these lines have frames.
@@ -129,7 +129,7 @@ abbrev pub routine_text : List (Seen Written) → Facts → Source → List Writ
 routine_text samples h source [] = []
 routine_text samples h source (k ∷ lines) =
     (title_line k ++ routine_line h (routine_amounts samples k))
-    ++ source_text samples h source k (k ∷ lines)
+    ++ routine_source samples h source k (k ∷ lines)
 
 -- the file text of lines that have the same
 abbrev pub file_of : List Written → List ℕ

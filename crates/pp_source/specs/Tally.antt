@@ -7,16 +7,16 @@ use Rattle.pp_source.specs.declared.amounts.Amounts.{Amounts}
 use Rattle.pp_source.specs.declared.tally.Tally.{Tally}
 
 -- no sample had the key
-abbrev pub no_tally : Tally
-no_tally = record { flat = pos 0; cum = pos 0; last = 0 }
+abbrev pub no_line_tally : Tally
+no_line_tally = record { flat = pos 0; cum = pos 0; last = 0 }
 
 -- what is kept of the number
 abbrev pub tally_of : List Tally → ℕ → Tally
-tally_of tallies k = slice_index_or tallies k no_tally
+tally_of tallies k = slice_index_or tallies k no_line_tally
 
 -- the tally after one more frame of the sample of this value and turn: a sample counts once
-abbrev pub credited : ℤ → ℕ → Tally → Tally
-credited value turn t =
+abbrev pub credited_once : ℤ → ℕ → Tally → Tally
+credited_once value turn t =
     if t.last == turn then t else record { flat = t.flat; cum = t.cum +ℤ value; last = turn }
 
 -- the tally with the value in its flat
@@ -24,25 +24,25 @@ abbrev pub led : ℤ → Tally → Tally
 led value t = record { flat = t.flat +ℤ value; cum = t.cum; last = t.last }
 
 -- the tally of the number after a sample of this value and turn, which has these numbers
-abbrev pub with_cum : ℤ → ℕ → List ℕ → ℕ → Tally → Tally
-with_cum value turn numbers k t =
+abbrev pub cum_with : ℤ → ℕ → List ℕ → ℕ → Tally → Tally
+cum_with value turn numbers k t =
     if has nat_cmp k numbers then record { flat = t.flat; cum = t.cum +ℤ value; last = turn } else t
 
 -- the tally with the value in its flat, which only the leaf's number has
-abbrev pub with_flat : ℤ → List ℕ → ℕ → Tally → Tally
-with_flat value numbers k t = if leads nat_cmp k numbers then led value t else t
+abbrev pub flat_with : ℤ → List ℕ → ℕ → Tally → Tally
+flat_with value numbers k t = if leads nat_cmp k numbers then led value t else t
 
 -- the tally after the whole sample
-abbrev pub with_sample : ℤ → ℕ → List ℕ → ℕ → Tally → Tally
-with_sample value turn numbers k t = with_flat value numbers k (with_cum value turn numbers k t)
+abbrev pub tally_with : ℤ → ℕ → List ℕ → ℕ → Tally → Tally
+tally_with value turn numbers k t = flat_with value numbers k (cum_with value turn numbers k t)
 
 -- the same of any sample: one of value 0 leaves the tally
-abbrev pub with_seen : ℤ → ℕ → List ℕ → ℕ → Tally → Tally
-with_seen value turn numbers k t =
-    if int_eq value (pos 0) then t else with_sample value turn numbers k t
+abbrev pub tally_with_seen : ℤ → ℕ → List ℕ → ℕ → Tally → Tally
+tally_with_seen value turn numbers k t =
+    if int_eq value (pos 0) then t else tally_with value turn numbers k t
 
 -- A sample of this value can be added at this turn.
-pub record IsReady (value : ℤ) (turn : ℕ) (tallies : List Tally) : Type 0 where
+pub record IsReadyFor (value : ℤ) (turn : ℕ) (tallies : List Tally) : Type 0 where
   pub earlier : (k : ℕ) → (tally_of tallies k).last < turn
   pub cums : (k : ℕ) → nat_abs (tally_of tallies k).cum + nat_abs value < 2 ^ 63
   pub flats : (k : ℕ) → nat_abs (tally_of tallies k).flat + nat_abs value < 2 ^ 63
@@ -56,14 +56,14 @@ pub record AddsKeys (numbers : List ℕ) (value : ℤ) (turn : ℕ) (keys : List
     : Type 0 where
   pub count : length new ≡ length old
   pub added : (k : ℕ) → tally_of new k
-      ≡ with_seen value turn (map (number_of numbers) keys) k (tally_of old k)
+      ≡ tally_with_seen value turn (map (number_of numbers) keys) k (tally_of old k)
 
 -- the sums of a tally, as a report prints them
 abbrev pub amounts_of_tally : Tally → Amounts
 amounts_of_tally t = record { flat = t.flat; cum = t.cum }
 
 -- The tally is that of the key over these samples.
-pub record IsTallyOf {K : Type 0} (order : K → K → Ordering) (samples : List (Seen K)) (k : K) (t : Tally)
+pub record IsTallyBy {K : Type 0} (order : K → K → Ordering) (samples : List (Seen K)) (k : K) (t : Tally)
     : Type 0 where
   pub flat : t.flat ≡ flat order samples k
   pub cum : t.cum ≡ cum order samples k

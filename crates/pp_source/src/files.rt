@@ -3,7 +3,7 @@ ghost use Rattle.std.specs.Prelude.{◌≡◌, [], map, IfOk};
 ghost use Rattle.std.specs.Option.{option_map, unwrap_or};
 ghost use Rattle.pp_desk.specs.Went.{Went};
 ghost use Rattle.pp_source.specs.declared.source.Source.TheVariants as sources;
-ghost use Rattle.pp_source.specs.Files.{files_of, source_in};
+ghost use Rattle.pp_source.specs.Files.{files_of_lines, source_in};
 ghost use Rattle.pp_source.specs.Ledgers.{lines_texts};
 ghost use Rattle.pp_source.specs.Listing.{read_sources};
 
@@ -39,7 +39,7 @@ impl Sources<'_> {
 /// The files of the lines, each once, in the order in which the lines need them. `Err` is want of memory.
 pub fn files_of<'a>(alloc: Global, lines: &[FoundLine<'a>]) -> Result<IndexSet<&'a [u8]>, Memory>
     ensures { IfOk result (λ files.
-        map (λ f. f.now) files.keys ≡ files_of (lines_texts lines.now)) }
+        map (λ f. f.now) files.keys ≡ files_of_lines (lines_texts lines.now)) }
 {
     let mut files = IndexSet::new(alloc);
     for line in lines {

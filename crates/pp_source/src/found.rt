@@ -4,7 +4,7 @@ ghost use Rattle.pp_model.specs.Conditions.{HasOnePerText};
 ghost use Rattle.pp_model.specs.FirstSight.{place_of};
 ghost use Rattle.pp_grain.specs.Keys.{IsKeyOf};
 ghost use Rattle.pp_grain.specs.Sight.{same_key};
-ghost use Rattle.pp_source.specs.Found.{IsFoundOf, is_own_key, key_at, part_key, part_number, parts_found};
+ghost use Rattle.pp_source.specs.Found.{IsFoundOf, has_own_function, key_at, part_key, part_number, found_parts};
 
 use indexmap::IndexSet;
 use pp_base::Memory;
@@ -57,7 +57,7 @@ fn names_found(
 ) -> Result<IndexSet<Key>, Memory>
     requires verdicts { HasOnePerText l.now.profile v.now.own }
     requires keys { All (IsKeyOf l.now.profile) keys.now }
-    ensures { IfOk result (λ names. names.keys ≡ parts_found v.now.own part keys.now) }
+    ensures { IfOk result (λ names. names.keys ≡ found_parts v.now.own part keys.now) }
 {
     let mut names = IndexSet::new(alloc);
     for number in 0..keys.len() {
@@ -90,7 +90,7 @@ fn numbers_of(
 fn is_own(l: &Loaded, v: &Verdicts, key: &Key) -> bool
     requires key { IsKeyOf l.now.profile key.now }
     requires verdicts { HasOnePerText l.now.profile v.now.own }
-    ensures { result ≡ is_own_key v.now.own key.now }
+    ensures { result ≡ has_own_function v.now.own key.now }
 {
     match &v.own {
         None => false,

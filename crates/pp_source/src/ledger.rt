@@ -3,8 +3,8 @@ ghost use Rattle.std.specs.Prelude.{◌≡◌, length, IfOk, Some};
 ghost use Rattle.pp_model.specs.Finders.{Finders};
 ghost use Rattle.pp_count.specs.Counted.{CanCount, IsCountedOf, report_frames};
 ghost use Rattle.pp_count.specs.Filters.{AreFilters};
-ghost use Rattle.pp_count.specs.Rising.{AreRising};
-ghost use Rattle.pp_count.specs.Scope.{AreCountable, IsSound, chosen_of, samples_of};
+ghost use Rattle.pp_count.specs.Rising.{AreRisingBetween};
+ghost use Rattle.pp_count.specs.Scope.{AreCountable, IsSoundScope, chosen_of, samples_in_scope};
 ghost use Rattle.pp_count.specs.Seeing.{HoldsFilters, filtered_from};
 ghost use Rattle.pp_count.specs.Table.{IsKeyTable};
 ghost use Rattle.pp_source.specs.Ledgers.{AreFound, IsLedgerOf, by_lines};
@@ -66,7 +66,7 @@ fn ledger_in<'x>(
     table: &'x KeyTable,
 ) -> Result<Ledger, Memory>
     requires can { CanCount report.now.l.now.profile report.now.v.now config.now report.now.column }
-    requires rising { AreRising 0 (length report.now.l.now.profile.sample)
+    requires rising { AreRisingBetween 0 (length report.now.l.now.profile.sample)
         report.now.counted.now.kept }
     requires lines { config.now ≡ by_lines config.now }
     requires filters { AreFilters report.now.l.now.profile report.now.v.now config.now filters.now }
@@ -96,8 +96,8 @@ fn ledger_in<'x>(
 
 // The sums over the samples with these numbers, which are those that the scope chooses.
 fn ledger_by(alloc: Global, scope: &Scope<'_>, kept: &[u32]) -> Result<Ledger, Memory>
-    requires sound { IsSound scope.now }
-    requires countable { AreCountable scope.now (samples_of scope.now) }
+    requires sound { IsSoundScope scope.now }
+    requires countable { AreCountable scope.now (samples_in_scope scope.now) }
     requires chosen { chosen_of scope.now ≡ Some kept.now }
     requires lines { scope.now.config.now ≡ by_lines scope.now.config.now }
     ensures found { IfOk result (λ ledger.

@@ -1,7 +1,7 @@
 //! Where the source of a file is looked for.
 ghost use Rattle.std.specs.Prelude.{◌≡◌, ◌++◌, ◌∷◌, [], codes, map, Bool, if◌then◌else◌, IfOk};
 ghost use Rattle.std.specs.Option.{option_copied};
-ghost use Rattle.pp_source.specs.Paths.{after_front, entries, from_name, is_absolute, paths_of, paths_to_try, trimmed, under, in_folder};
+ghost use Rattle.pp_source.specs.Paths.{after_front, path_entries, from_name, is_absolute, paths_of, paths_to_try, without_folder, under, in_folder};
 
 use pp_base::{List, Memory, Text};
 use std::alloc::Global;
@@ -28,7 +28,7 @@ pub fn paths_to_try(
 
 // The entries of a list of paths, without those that are empty.
 fn entries<'a>(alloc: Global, text: &'a [u8]) -> Result<Vec<&'a [u8]>, Memory>
-    ensures { IfOk result (λ found. map (λ entry. entry.now) found.items ≡ entries text.now) }
+    ensures { IfOk result (λ found. map (λ entry. entry.now) found.items ≡ path_entries text.now) }
 {
     let mut found = Vec::new(alloc);
     for entry in text.split(|b| *b == b':') {
@@ -41,7 +41,7 @@ fn entries<'a>(alloc: Global, text: &'a [u8]) -> Result<Vec<&'a [u8]>, Memory>
 
 // What the first of the folders that the file lies in leaves of its path.
 fn trimmed<'a>(file: &'a [u8], folders: &[&[u8]]) -> Option<&'a [u8]>
-    ensures { option_copied result ≡ trimmed file.now (map (λ folder. folder.now) folders.now) }
+    ensures { option_copied result ≡ without_folder file.now (map (λ folder. folder.now) folders.now) }
 {
     for folder in folders {
         let rest = after_folder(file, folder);

@@ -8,7 +8,7 @@ ghost use Rattle.pp_count.specs.Sums.{Seen};
 ghost use Rattle.pp_source.specs.Amounts.{routine_amounts};
 ghost use Rattle.pp_source.specs.Ledgers.{IsLineIn, ListsOf, line_texts, lines_texts};
 ghost use Rattle.pp_source.specs.Files.{source_in};
-ghost use Rattle.pp_source.specs.SourceText.{both_text, error_line, file_of, number_above, numbers_of, part_text, routine_line, routine_text, routines_text, source_text, title_line};
+ghost use Rattle.pp_source.specs.SourceText.{both_text, error_line, file_of, number_above, numbers_of, part_text, routine_line, routine_text, routines_text, routine_source, title_line};
 
 use crate::amounts::Amounts;
 use crate::files::Sources;
@@ -174,7 +174,7 @@ fn write_source(
     requires lines { All (IsLineIn listing.now) lines.now }
     ensures { (samples : Seq (Seen Written)) →
         ListsOf listing.now samples → IfOk result (λ _.
-        out.new ≡ out.old ++ source_text samples (facts listing.now.head.now) source.now
+        out.new ≡ out.old ++ routine_source samples (facts listing.now.head.now) source.now
         (line_texts line.now) (lines_texts lines.now)) }
 {
     let file = line.texts.file;

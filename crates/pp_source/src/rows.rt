@@ -5,7 +5,7 @@ ghost use Rattle.pp_units.specs.Shown.{shown};
 ghost use Rattle.pp_units.specs.Head.{facts};
 ghost use Rattle.pp_count.specs.Sums.{Seen};
 ghost use Rattle.pp_source.specs.Ledgers.{IsLineIn, ListsOf, line_texts};
-ghost use Rattle.pp_source.specs.SourceText.{file_lines, is_shown, line_row, numbered_text, past_row, row_text, rows_text, shown_rows, sum_column, sums_text};
+ghost use Rattle.pp_source.specs.SourceText.{file_lines, is_near, line_row, numbered_text, past_row, row_text, rows_text, shown_rows, sum_column, sums_text};
 
 use crate::amounts::Amounts;
 use crate::found::key_at;
@@ -112,7 +112,7 @@ fn cut_line(bytes: &[u8]) -> (&[u8], &[u8])
 fn is_shown(span: Span, number: u64) -> bool
     requires last { span.last < 2 ^ 63 }
     requires number { number < 2 ^ 64 - 5 }
-    ensures { result ≡ is_shown span.first span.last number }
+    ensures { result ≡ is_near span.first span.last number }
 {
     span.first <= number + AROUND && number <= span.last + AROUND
 }

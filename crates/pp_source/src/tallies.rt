@@ -1,7 +1,7 @@
 //! Tallies by number, and by key.
 ghost use Rattle.std.specs.Prelude.{◌≡◌, ◌≢◌, ℕ, ◌+◌, ◌<◌, ◌^◌, nat_abs, length, map, All};
-ghost use Rattle.pp_source.specs.Ledgers.{tally_at};
-ghost use Rattle.pp_source.specs.Tally.{amounts_of_tally, credited, led, number_of, tally_of, with_sample, IsReady};
+ghost use Rattle.pp_source.specs.Ledgers.{tally_of_key};
+ghost use Rattle.pp_source.specs.Tally.{amounts_of_tally, credited_once, led, number_of, tally_of, tally_with, IsReadyFor};
 
 use crate::amounts::Amounts;
 use crate::tally::Tally;
@@ -19,14 +19,14 @@ pub struct Tallies {
 
 /// What the key comes to.
 pub fn amounts_at(tallies: &Tallies, key: &Key) -> Amounts
-    ensures { result ≡ amounts_of_tally (tally_at tallies.now key.now) }
+    ensures { result ≡ amounts_of_tally (tally_of_key tallies.now key.now) }
 {
     tally_at(tallies, key).amounts()
 }
 
 /// What is kept of the key.
 pub fn tally_at(tallies: &Tallies, key: &Key) -> Tally
-    ensures { result ≡ tally_at tallies.now key.now }
+    ensures { result ≡ tally_of_key tallies.now key.now }
 {
     match tallies.names.get_index_of(key) {
         None => Tally::NONE,
@@ -48,9 +48,9 @@ fn tally_of(sums: &[Tally], number: usize) -> Tally
 pub fn add_keys(tallies: &mut Vec<Tally>, numbers: &[u64], value: i64, keys: &[u64], turn: u64)
     requires keys { All (λ k. k < length numbers.now) keys.now }
     requires numbers { All (λ n. n < length tallies.old.items) numbers.now }
-    requires ready { IsReady value turn tallies.old.items }
+    requires ready { IsReadyFor value turn tallies.old.items }
     ensures count { length tallies.new.items ≡ length tallies.old.items }
-    ensures added { (k : ℕ) → tally_of tallies.new.items k ≡ with_sample value turn
+    ensures added { (k : ℕ) → tally_of tallies.new.items k ≡ tally_with value turn
         (map (number_of numbers.now) keys.now) k (tally_of tallies.old.items k) }
 {
     for key in keys {
@@ -68,7 +68,7 @@ fn credit_at(tallies: &mut Vec<Tally>, number: u64, value: i64, turn: u64)
     requires fits { (tally_of tallies.old.items number).last ≢ turn →
         nat_abs (tally_of tallies.old.items number).cum + nat_abs value < 2 ^ 63 }
     ensures count { length tallies.new.items ≡ length tallies.old.items }
-    ensures number { tally_of tallies.new.items number ≡ credited value turn (tally_of tallies.old.items number) }
+    ensures number { tally_of tallies.new.items number ≡ credited_once value turn (tally_of tallies.old.items number) }
     ensures others { (k : ℕ) → k ≢ number → tally_of tallies.new.items k ≡ tally_of tallies.old.items k }
 {
     tallies[number as usize].credit(value, turn);

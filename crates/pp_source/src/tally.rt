@@ -1,6 +1,6 @@
 //! What is kept for one key while samples are added up.
 ghost use Rattle.std.specs.Prelude.{◌≡◌, ◌≢◌, ◌+◌, ◌<◌, ◌^◌, nat_abs};
-ghost use Rattle.pp_source.specs.Tally.{credited, led, amounts_of_tally};
+ghost use Rattle.pp_source.specs.Tally.{credited_once, led, amounts_of_tally};
 
 use crate::amounts::Amounts;
 
@@ -25,7 +25,7 @@ impl Tally {
     /// Adds the value to the cum, where the sample of that turn was not yet added.
     pub fn credit(&mut self, value: i64, turn: u64)
         requires { self.old.last ≢ turn → nat_abs self.old.cum + nat_abs value < 2 ^ 63 }
-        ensures { self.new ≡ credited value turn self.old }
+        ensures { self.new ≡ credited_once value turn self.old }
     {
         if self.last != turn {
             self.last = turn;

@@ -3,9 +3,9 @@ ghost use Rattle.std.specs.Prelude.{◌≡◌, ◌+◌, ◌<◌, [], length, All
 ghost use Rattle.std.specs.List.{slice_get};
 ghost use Rattle.pp_model.specs.Conditions.{IsSampleOf, RefersTo};
 ghost use Rattle.pp_count.specs.Column.{selected};
-ghost use Rattle.pp_count.specs.Scope.{chosen_of, profile_of, samples_of};
-ghost use Rattle.pp_source.specs.Ledgers.{HasPlaces, IsSoundWalk, WalkedTo};
-ghost use Rattle.pp_source.specs.Tally.{AddsKeys, IsReady};
+ghost use Rattle.pp_count.specs.Scope.{chosen_of, profile_in_scope, samples_in_scope};
+ghost use Rattle.pp_source.specs.Ledgers.{HasPartTallies, IsSoundWalk, HasWalkedTo};
+ghost use Rattle.pp_source.specs.Tally.{AddsKeys, IsReadyFor};
 
 use crate::found::Found;
 use crate::tallies::add_keys;
@@ -37,7 +37,7 @@ pub struct Sums {
 pub fn add_samples(alloc: Global, walk: &Walk<'_>, kept: &[u32]) -> Result<Sums, Memory>
     requires sound { IsSoundWalk walk.now }
     requires chosen { chosen_of walk.now.scope ≡ Some kept.now }
-    ensures { IfOk result (WalkedTo walk.now (length kept.now) (samples_of walk.now.scope)) }
+    ensures { IfOk result (HasWalkedTo walk.now (length kept.now) (samples_in_scope walk.now.scope)) }
 {
     let mut stack = List::new(alloc);
     let mut keys = Vec::new(alloc);
@@ -52,7 +52,7 @@ pub fn add_samples(alloc: Global, walk: &Walk<'_>, kept: &[u32]) -> Result<Sums,
 }
 
 fn no_sums(alloc: Global, walk: &Walk<'_>) -> Result<Sums, Memory>
-    ensures { IfOk result (WalkedTo walk.now 0 []) }
+    ensures { IfOk result (HasWalkedTo walk.now 0 []) }
 {
     let lines = vec![in alloc; Tally::NONE; walk.lines.names.len() + 1]?;
     let routines = vec![in alloc; Tally::NONE; walk.routines.names.len() + 1]?;
@@ -64,9 +64,9 @@ fn sample_at<'a>(walk: &Walk<'a>, kept: &[u32], place: usize) -> &'a Sample
     requires sound { IsSoundWalk walk.now }
     requires chosen { chosen_of walk.now.scope ≡ Some kept.now }
     requires within { place < length kept.now }
-    ensures is { slice_get (samples_of walk.now.scope) place ≡ Some result.now }
-    ensures member { IsSampleOf (profile_of walk.now.scope) result.now }
-    ensures refers { RefersTo (profile_of walk.now.scope) result.now }
+    ensures is { slice_get (samples_in_scope walk.now.scope) place ≡ Some result.now }
+    ensures member { IsSampleOf (profile_in_scope walk.now.scope) result.now }
+    ensures refers { RefersTo (profile_in_scope walk.now.scope) result.now }
 {
     let samples = walk.scope.l.profile.get().sample.as_slice();
     &samples[kept[place] as usize]
@@ -76,12 +76,12 @@ fn sample_at<'a>(walk: &Walk<'a>, kept: &[u32], place: usize) -> &'a Sample
 fn add_seen(walk: &Walk<'_>, sample: &Sample, keys: &[u64], turn: u64, sums: &mut Sums)
     requires sound { IsSoundWalk walk.now }
     requires keys { All (λ k. k < length walk.now.scope.table.now.names) keys.now }
-    requires lines { HasPlaces walk.now.lines.now sums.old.lines.items }
-    requires routines { HasPlaces walk.now.routines.now sums.old.routines.items }
-    requires lines_ready { IsReady
+    requires lines { HasPartTallies walk.now.lines.now sums.old.lines.items }
+    requires routines { HasPartTallies walk.now.routines.now sums.old.routines.items }
+    requires lines_ready { IsReadyFor
         (selected walk.now.scope.column walk.now.scope.config.now.divide_by sample.now) turn
         sums.old.lines.items }
-    requires routines_ready { IsReady
+    requires routines_ready { IsReadyFor
         (selected walk.now.scope.column walk.now.scope.config.now.divide_by sample.now) turn
         sums.old.routines.items }
     ensures lines { AddsKeys walk.now.lines.now.numbers.items

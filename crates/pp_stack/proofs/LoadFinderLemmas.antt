@@ -6,7 +6,7 @@ use Rattle.std.proofs.lemmas.Slice.Eq.{bytes_eq-Decides}
 use Rattle.pp_model.specs.declared.profile.Profile.{Profile}
 use Rattle.pp_model.specs.Judged.{judged}
 use Rattle.pp_model.specs.Rules.{IsCompact}
-use Rattle.pp_stack.specs.LoadFinders.{verdict_on, finder_by}
+use Rattle.pp_stack.specs.LoadFinders.{known_verdict, finder_by}
 
 -- maps that agree on each item
 same_map : (f g : List ℕ → Bool) (ts : List (List ℕ)) → ((k : ℕ) (d : List ℕ) → k < length ts → f (get_or ts k d) ≡ g (get_or ts k d)) → map f ts ≡ map g ts
@@ -18,21 +18,21 @@ is_false true wrong = absurd (wrong refl)
 is_false false wrong = refl
 
 -- the verdict on the first text, and on another one
-found_here : (t : List ℕ) (ts : List (List ℕ)) (v : Bool) (vs : List Bool) → verdict_on (t ∷ ts) (v ∷ vs) t ≡ v
-found_here t ts v vs = ap (λ b. cond b v (verdict_on ts vs t)) ((bytes_eq-Decides t t).1 refl)
+found_here : (t : List ℕ) (ts : List (List ℕ)) (v : Bool) (vs : List Bool) → known_verdict (t ∷ ts) (v ∷ vs) t ≡ v
+found_here t ts v vs = ap (λ b. cond b v (known_verdict ts vs t)) ((bytes_eq-Decides t t).1 refl)
 
-found_later : (t x : List ℕ) (ts : List (List ℕ)) (v : Bool) (vs : List Bool) → t ≢ x → verdict_on (t ∷ ts) (v ∷ vs) x ≡ verdict_on ts vs x
+found_later : (t x : List ℕ) (ts : List (List ℕ)) (v : Bool) (vs : List Bool) → t ≢ x → known_verdict (t ∷ ts) (v ∷ vs) x ≡ known_verdict ts vs x
 found_later t x ts v vs apart =
-    ap (λ b. cond b v (verdict_on ts vs x)) (is_false (bytes_eq t x) (λ same. apart ((bytes_eq-Decides t x).0 same)))
+    ap (λ b. cond b v (known_verdict ts vs x)) (is_false (bytes_eq t x) (λ same. apart ((bytes_eq-Decides t x).0 same)))
 
 -- the verdicts on distinct texts are those that were given
-same_verdicts : (ts : List (List ℕ)) (vs : List Bool) → AllPairs (λ a b. a ≢ b) ts → length vs ≡ length ts → map (verdict_on ts vs) ts ≡ vs
+same_verdicts : (ts : List (List ℕ)) (vs : List Bool) → AllPairs (λ a b. a ≢ b) ts → length vs ≡ length ts → map (known_verdict ts vs) ts ≡ vs
 same_verdicts [] [] apart fits = refl
 same_verdicts [] (v ∷ vs) apart fits = absurd (omega (arith, fits))
 same_verdicts (t ∷ ts) [] apart fits = absurd (omega (arith, fits))
 same_verdicts (t ∷ ts) (v ∷ vs) apart fits =
-    let later : map (verdict_on (t ∷ ts) (v ∷ vs)) ts ≡ map (verdict_on ts vs) ts =
-    same_map (verdict_on (t ∷ ts) (v ∷ vs)) (verdict_on ts vs) ts
+    let later : map (known_verdict (t ∷ ts) (v ∷ vs)) ts ≡ map (known_verdict ts vs) ts =
+    same_map (known_verdict (t ∷ ts) (v ∷ vs)) (known_verdict ts vs) ts
     (λ k d below. found_later t (get_or ts k d) ts v vs (apart 0 (suc k) d (omega arith) (omega (arith, below)))) in
     let rest = same_verdicts ts vs (λ j k d less below. apart (suc j) (suc k) d (omega (arith, less)) (omega (arith, below))) (omega (arith, fits)) in
     λ i. found_here t ts v vs i ∷ (later ∙ rest) i

@@ -5,7 +5,7 @@ use Rattle.std.specs.List.{list_any}
 use Rattle.std.specs.Option.{option_map_or}
 use Rattle.pp_model.specs.Finders.{Finder, Finders}
 use Rattle.pp_model.specs.FrameTexts.{Written}
-use Rattle.pp_stack.specs.Filters.{finds_frame, finds_function, is_prunable, load_pruned, is_kept, not_hidden, shown, cut, shown_from, pruned_from, is_empty, shortened, passed, filtered}
+use Rattle.pp_stack.specs.Filters.{finds_frame, finds_function, is_prunable, load_pruned, is_kept, not_hidden, frames_shown, cut, shown_from, pruned_from, has_no_items, left_of_cut, kept_frames, filtered}
 use Rattle.pp_stack.proofs.ToldLemmas.{list_any-map, filter-map, up_to_last-map, from_first-map, pruned-map}
 
 module _ {X : Type 0} (told : X → Written) where
@@ -34,11 +34,11 @@ module _ {X : Type 0} (told : X → Written) where
   not_hidden-map f xs =
       in_force (map told) f.hide _ _ _ _ (λ find. filter-map told (λ w. not (finds_frame find w)) xs) refl
 
-  shown-map : (f : Finders) (xs : List X) → shown (λ w. w) f (map told xs) ≡ map told (shown told f xs)
+  shown-map : (f : Finders) (xs : List X) → frames_shown (λ w. w) f (map told xs) ≡ map told (frames_shown told f xs)
   shown-map f xs = in_force (map told) f.show _ _ _ _ (λ find. filter-map told (finds_frame find) xs) refl
 
   pub cut-map : (f : Finders) (xs : List X) → cut (λ w. w) f (map told xs) ≡ map told (cut told f xs)
-  cut-map f xs = ap (shown (λ w. w) f) (not_hidden-map f xs) ∙ shown-map f _
+  cut-map f xs = ap (frames_shown (λ w. w) f) (not_hidden-map f xs) ∙ shown-map f _
 
   pub shown_from-map : (f : Finders) (xs : List X) → shown_from (λ w. w) f (map told xs) ≡ option_map (map told) (shown_from told f xs)
   shown_from-map f xs =
@@ -49,7 +49,7 @@ module _ {X : Type 0} (told : X → Written) where
       in_force (map told) f.prune_from _ _ _ _ (λ find. from_first-map told (finds_function find) xs) refl
 
   -- an empty stack stands for an empty one
-  is_empty-map : (xs : List X) → is_empty (map told xs) ≡ is_empty xs
+  is_empty-map : (xs : List X) → has_no_items (map told xs) ≡ has_no_items xs
   is_empty-map [] = refl
   is_empty-map (x ∷ xs) = refl
 
@@ -65,10 +65,10 @@ module _ {X : Type 0} (told : X → Written) where
   unless true texts frames is = refl
   unless false texts frames is = is
 
-  shortened-map : (f : Finders) (xs : List X) → shortened (λ w. w) f (map told xs) ≡ option_map (map told) (shortened told f xs)
+  shortened-map : (f : Finders) (xs : List X) → left_of_cut (λ w. w) f (map told xs) ≡ option_map (map told) (left_of_cut told f xs)
   shortened-map f xs =
       ap₂ (λ dropped rest. cond dropped None rest)
-      (ap₂ (λ a b. not a && b) (is_empty-map xs) (ap is_empty (cut-map f xs) ∙ is_empty-map (cut told f xs)))
+      (ap₂ (λ a b. not a && b) (is_empty-map xs) (ap has_no_items (cut-map f xs) ∙ is_empty-map (cut told f xs)))
       (ap (λ ys. option_map (pruned_from (λ w. w) f) (shown_from (λ w. w) f ys)) (cut-map f xs)
       ∙ ap (option_map (pruned_from (λ w. w) f)) (shown_from-map f (cut told f xs)) ∙ ends-map f _)
       ∙ unless _ _ _ refl
@@ -79,9 +79,9 @@ module _ {X : Type 0} (told : X → Written) where
   where_kept true texts frames is = is
   where_kept false texts frames is = refl
 
-  passed-map : (f : Finders) (xs : List X) → passed (λ w. w) f (map told xs) ≡ option_map (map told) (passed told f xs)
+  passed-map : (f : Finders) (xs : List X) → kept_frames (λ w. w) f (map told xs) ≡ option_map (map told) (kept_frames told f xs)
   passed-map f xs =
-      ap (λ b. cond b (shortened (λ w. w) f (map told xs)) None) (is_kept-map f xs) ∙ where_kept _ _ _ (shortened-map f xs)
+      ap (λ b. cond b (left_of_cut (λ w. w) f (map told xs)) None) (is_kept-map f xs) ∙ where_kept _ _ _ (shortened-map f xs)
 
   pub filtered-map : (f : Finders) (xs : List X) → filtered (λ w. w) f (map told xs) ≡ option_map (map told) (filtered told f xs)
-  filtered-map f xs = ap (passed (λ w. w) f) (load_pruned-map f xs) ∙ passed-map f _
+  filtered-map f xs = ap (kept_frames (λ w. w) f) (load_pruned-map f xs) ∙ passed-map f _

@@ -4,7 +4,7 @@ use Rattle.std.specs.Prelude.{◌==◌, ◌||◌, nat_lt, filter, position, reve
 use Rattle.std.specs.List.{list_any, prefix_len}
 use Rattle.std.specs.Option.{option_map_or}
 use Rattle.std.proofs.lemmas.List.{reverse-append, map-append, length-map, take-map, drop-map}
-use Rattle.pp_stack.specs.Runs.{through_last, up_to_last, from_first, pruned}
+use Rattle.pp_stack.specs.Runs.{through_last, up_to_last, from_first, pruned_frames}
 
 module _ {X Y : Type 0} (told : X → Y) where
   -- what stands for the reversed items
@@ -71,7 +71,7 @@ module _ {X Y : Type 0} (told : X → Y) where
       ap (λ first. option_map_or (λ n. drop n (map told xs)) first (map told xs)) (position-map test xs) ∙ from-map _ xs
 
   -- those that pruning leaves
-  pub pruned-map : (prunable : Y → Bool) (xs : List X) → pruned prunable (map told xs) ≡ map told (pruned (λ x. prunable (told x)) xs)
+  pub pruned-map : (prunable : Y → Bool) (xs : List X) → pruned_frames prunable (map told xs) ≡ map told (pruned_frames (λ x. prunable (told x)) xs)
   pruned-map prunable xs =
       ap (λ n. drop n (map told xs))
       (ap (λ n. through_last prunable (take n (map told xs))) (through_last-map (λ y. not (prunable y)) xs)

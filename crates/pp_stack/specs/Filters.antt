@@ -9,7 +9,7 @@ use Rattle.pp_model.specs.declared.profile.Profile.{Profile}
 use Rattle.pp_model.specs.Finders.{Finder, Finders}
 use Rattle.pp_model.specs.Frames.{stack_of}
 use Rattle.pp_model.specs.FrameTexts.{Written, written, written_stack}
-use Rattle.pp_stack.specs.Runs.{up_to_last, from_first, pruned}
+use Rattle.pp_stack.specs.Runs.{up_to_last, from_first, pruned_frames}
 
 -- the verdicts are what the pattern finds of the profile's texts
 abbrev pub AreVerdicts : Profile → List Bool → Finder → Type 0
@@ -31,7 +31,7 @@ is_prunable drop keep w =
 -- Load pruning, by drop_frames and keep_frames.
 abbrev pub load_pruned : {X : Type 0} → (X → Written) → Finders → List X → List X
 load_pruned told f stack =
-    option_map_or (λ drop. pruned (λ x. is_prunable drop f.keep (told x)) stack) f.drop stack
+    option_map_or (λ drop. pruned_frames (λ x. is_prunable drop f.keep (told x)) stack) f.drop stack
 
 -- Whether the stack passes ignore, which finds no frame of it, and focus, which finds one, each where it is in force.
 abbrev pub is_kept : {X : Type 0} → (X → Written) → Finders → List X → Bool
@@ -45,13 +45,13 @@ not_hidden told f stack =
     option_map_or (λ find. filter (λ x. not (finds_frame find (told x))) stack) f.hide stack
 
 -- the frames that show finds
-abbrev pub shown : {X : Type 0} → (X → Written) → Finders → List X → List X
-shown told f stack =
+abbrev pub frames_shown : {X : Type 0} → (X → Written) → Finders → List X → List X
+frames_shown told f stack =
     option_map_or (λ find. filter (λ x. finds_frame find (told x)) stack) f.show stack
 
 -- The frames that hide doesn't find and show finds, each where it is in force.
 abbrev pub cut : {X : Type 0} → (X → Written) → Finders → List X → List X
-cut told f stack = shown told f (not_hidden told f stack)
+cut told f stack = frames_shown told f (not_hidden told f stack)
 
 -- What show_from leaves: the frames up to the root-most that it finds, and none where it finds no frame.
 abbrev pub shown_from : {X : Type 0} → (X → Written) → Finders → List X → Option (List X)
@@ -65,29 +65,29 @@ pruned_from told f stack =
     option_map_or (λ find. from_first (λ x. finds_function find (told x)) stack) f.prune_from stack
 
 -- whether the list has no items
-abbrev pub is_empty : {X : Type 0} → List X → Bool
-is_empty [] = true
-is_empty (_ ∷ _) = false
+abbrev pub has_no_items : {X : Type 0} → List X → Bool
+has_no_items [] = true
+has_no_items (_ ∷ _) = false
 
 -- whether nothing is left of a stack that had frames
 abbrev pub is_emptied : {X : Type 0} → List X → List X → Bool
-is_emptied before after = not (is_empty before) && is_empty after
+is_emptied before after = not (has_no_items before) && has_no_items after
 
 -- the stack after the cut, show_from and prune_from, none where the cut empties it or show_from drops it
-abbrev pub shortened : {X : Type 0} → (X → Written) → Finders → List X → Option (List X)
-shortened told f stack =
+abbrev pub left_of_cut : {X : Type 0} → (X → Written) → Finders → List X → Option (List X)
+left_of_cut told f stack =
     if is_emptied stack (cut told f stack)
     then None
     else option_map (pruned_from told f) (shown_from told f (cut told f stack))
 
 -- what is left after load pruning: none where ignore or focus drops the sample
-abbrev pub passed : {X : Type 0} → (X → Written) → Finders → List X → Option (List X)
-passed told f stack = if is_kept told f stack then shortened told f stack else None
+abbrev pub kept_frames : {X : Type 0} → (X → Written) → Finders → List X → Option (List X)
+kept_frames told f stack = if is_kept told f stack then left_of_cut told f stack else None
 
 -- All stack filters in their order: load pruning, ignore and focus, hide, show, show_from, prune_from. None where the
 -- sample is dropped.
 abbrev pub filtered : {X : Type 0} → (X → Written) → Finders → List X → Option (List X)
-filtered told f stack = passed told f (load_pruned told f stack)
+filtered told f stack = kept_frames told f (load_pruned told f stack)
 
 -- What the filters leave of the sample's stack, written out. None where the sample is dropped.
 abbrev pub stack_of_sample : Profile → Finders → Sample → Option (List Written)

@@ -5,15 +5,15 @@ use Rattle.pp_model.specs.declared.profile.Profile.{Profile}
 use Rattle.pp_model.specs.Finders.{Finder, Finders, no_finders}
 
 -- the verdict on a text, by those on these texts; no other text is found
-abbrev pub verdict_on : List (List ℕ) → List Bool → List ℕ → Bool
-verdict_on [] found text = false
-verdict_on (known ∷ texts) [] text = false
-verdict_on (known ∷ texts) (verdict ∷ found) text =
-    if bytes_eq known text then verdict else verdict_on texts found text
+abbrev pub known_verdict : List (List ℕ) → List Bool → List ℕ → Bool
+known_verdict [] found text = false
+known_verdict (known ∷ texts) [] text = false
+known_verdict (known ∷ texts) (verdict ∷ found) text =
+    if bytes_eq known text then verdict else known_verdict texts found text
 
 -- what a pattern finds that has these verdicts on the profile's texts
 abbrev pub finder_by : Profile → List Bool → Finder
-finder_by p found = verdict_on p.text found
+finder_by p found = known_verdict p.text found
 
 -- what the profile's own two patterns find, with no pattern of a report in force
 abbrev pub load_finders : Loaded → Finders

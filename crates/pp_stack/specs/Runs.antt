@@ -24,8 +24,8 @@ pruned_len prunable stack =
 
 -- Pruning. From the root on, frames stay up to the first that isn't prunable. Below that one the first prunable frame
 -- goes, with all frames below it. A stack whose frames are all prunable stays whole.
-abbrev pub pruned : {X : Type 0} → (X → Bool) → List X → List X
-pruned prunable stack = drop (pruned_len prunable stack) stack
+abbrev pub pruned_frames : {X : Type 0} → (X → Bool) → List X → List X
+pruned_frames prunable stack = drop (pruned_len prunable stack) stack
 
 -- the answer, or its opposite where it is wanted that a test fails
 abbrev pub as_wanted : Bool → Bool → Bool

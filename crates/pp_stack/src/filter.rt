@@ -6,7 +6,7 @@ ghost use Rattle.pp_model.specs.Finders.{Finders, HoldsFinders};
 ghost use Rattle.pp_model.specs.Frames.{stack_of};
 ghost use Rattle.pp_model.specs.FrameTexts.{written};
 ghost use Rattle.pp_stack.specs.Runs.{kept_if};
-ghost use Rattle.pp_stack.specs.Filters.{filtered, passed, shortened, frames_of_sample, stack_of_sample};
+ghost use Rattle.pp_stack.specs.Filters.{filtered, kept_frames, left_of_cut, frames_of_sample, stack_of_sample};
 ghost use Rattle.pp_stack.specs.Tables.{AreTables};
 
 use crate::stages::{cut_by, kept_by, load_prune, prune_from, show_from_by};
@@ -86,7 +86,7 @@ fn pass(l: &Loaded, v: &Verdicts, tables: &VerdictTables, stack: &mut Stack) -> 
     requires verdicts { HasVerdicts l.now.profile v.now }
     requires tables { AreTables l.now.profile v.now tables.now }
     ensures places { (f : Finders) → HoldsFinders l.now v.now f →
-        kept_if result stack.new ≡ passed (written l.now.profile) f stack.old }
+        kept_if result stack.new ≡ kept_frames (written l.now.profile) f stack.old }
     ensures of_profile { IsStackOf l.now.profile stack.new }
 {
     kept_by(l, v, tables, stack) && shorten(l, v, tables, stack)
@@ -98,7 +98,7 @@ fn shorten(l: &Loaded, v: &Verdicts, tables: &VerdictTables, stack: &mut Stack) 
     requires verdicts { HasVerdicts l.now.profile v.now }
     requires tables { AreTables l.now.profile v.now tables.now }
     ensures places { (f : Finders) → HoldsFinders l.now v.now f →
-        kept_if result stack.new ≡ shortened (written l.now.profile) f stack.old }
+        kept_if result stack.new ≡ left_of_cut (written l.now.profile) f stack.old }
     ensures of_profile { IsStackOf l.now.profile stack.new }
 {
     let was_empty = stack.len() == 0;

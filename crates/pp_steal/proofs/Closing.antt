@@ -14,7 +14,7 @@ use Rattle.pp_steal.specs.declared.view.OnceEach.{OnceEach}
 use Rattle.pp_steal.specs.declared.deal.Deal.{Deal}
 use Rattle.pp_steal.specs.declared.deal.Deal.TheVariants.{Round, First}
 use Rattle.pp_steal.specs.declared.chair.Chair.{Chair}
-use Rattle.pp_steal.specs.Pool.{times, took, TakesPieces, TookDealt, IsLive}
+use Rattle.pp_steal.specs.Pool.{count_in, took, TakesPieces, TookDealt, TakesPart}
 use Rattle.pp_steal.specs.Dealing.{is_of, lane_of, upto, dealt_to}
 use Rattle.pp_steal.specs.Lanes.{AllSit, Deques}
 use Rattle.pp_steal.specs.Closing.{times_in, chair_taken, times_at, EndsAt, AllEndAt, AreParts, AreGivenOnce, IsLearned}
@@ -22,12 +22,12 @@ use Rattle.pp_steal.proofs.Keeps.{times-append}
 use Rattle.pp_steal.proofs.Dealt.{times-filter}
 use Rattle.pp_steal.proofs.Making.{as_many, lane_home}
 
-pub live_at : (r : Role) → r ≡ Marked → IsLive r
-live_at r e = subst IsLive (sym e) tt
+pub live_at : (r : Role) → r ≡ Marked → TakesPart r
+live_at r e = subst TakesPart (sym e) tt
 
 -- a view that took some more: what it took before was no more
 pub took_dealt : (v w : View) (xs : List ℕ) → TakesPieces v xs w → TookDealt v
-took_dealt v w xs step x = let a = subst (λ (u : View). times x u.taken ≤ times x u.dealt) step.0 (step.1 x) in omega (arith, times-append x v.taken xs)
+took_dealt v w xs step x = let a = subst (λ (u : View). count_in x u.taken ≤ count_in x u.dealt) step.0 (step.1 x) in omega (arith, times-append x v.taken xs)
 
 chair_taken_at : (lane : ℕ) (chairs : List Chair) (c : Chair) → lane < length chairs → chair_taken lane chairs ≡ (view (get_or chairs lane c).pass).taken
 chair_taken_at lane [] c lt = absurd (omega arith)
@@ -45,11 +45,11 @@ last_is home lane chairs c n ends at e =
       ap (λ (u : Chair). (view u.pass).taken) is ∙ sym (chair_taken_at lane chairs c lt),
     )
 
-times_at_snoc : (x lane : ℕ) (rows : List (Vec Chair Global)) (row : Vec Chair Global) → times_at x lane (rows ++ row ∷ []) ≡ times_at x lane rows + times x (chair_taken lane row.items)
+times_at_snoc : (x lane : ℕ) (rows : List (Vec Chair Global)) (row : Vec Chair Global) → times_at x lane (rows ++ row ∷ []) ≡ times_at x lane rows + count_in x (chair_taken lane row.items)
 times_at_snoc x lane [] row = omega arith
 times_at_snoc x lane (r ∷ rows) row = omega (arith, times_at_snoc x lane rows row)
 
-pub times_at_more : (x lane k : ℕ) (rows : List (Vec Chair Global)) (row : Vec Chair Global) → k < length rows → times_at x lane (take (k + 1) rows) ≡ times_at x lane (take k rows) + times x (chair_taken lane (get_or rows k row).items)
+pub times_at_more : (x lane k : ℕ) (rows : List (Vec Chair Global)) (row : Vec Chair Global) → k < length rows → times_at x lane (take (k + 1) rows) ≡ times_at x lane (take k rows) + count_in x (chair_taken lane (get_or rows k row).items)
 times_at_more x lane k rows row lt = ap (times_at x lane) (rw add-one (take-suc rows k row lt)) ∙ times_at_snoc x lane (take k rows) (get_or rows k row)
 
 pub learned : (v w : View) (r : Option ℕ) → MatchOption r ((w ≡ v) × TookDealt v) (λ x. TakesPieces v (x ∷ []) w) → TookDealt v
@@ -77,10 +77,10 @@ pub left_less : (k : ℕ) (rows first : List Row) (new : Row) → ((j : ℕ) (d 
 left_less k rows first new left j d le = ap (λ (r : Row). r.items) (get_or-set_other rows k j new d (λ e. omega arith)) ∙ left j d (omega arith)
 
 pub sum_more : (x lane k : ℕ) (rows first : List Row) (old : Row) (start before after : View) → k < length rows → length rows ≡ length first → old ≡ get_or rows k old → ((j : ℕ) (d : Row) → k ≤ j → (get_or rows j d).items ≡ (get_or first j d).items)
-    → after ≡ took before (chair_taken lane old.items) → times x before.taken ≡ times x start.taken + times_at x lane (take k first) → times x after.taken ≡ times x start.taken + times_at x lane (take (k + 1) first)
+    → after ≡ took before (chair_taken lane old.items) → count_in x before.taken ≡ count_in x start.taken + times_at x lane (take k first) → count_in x after.taken ≡ count_in x start.taken + times_at x lane (take (k + 1) first)
 sum_more x lane k rows first old start before after lt same is left step sum =
-    let a : times x after.taken ≡ times x before.taken + times x (chair_taken lane old.items) = ap (λ (v : View). times x v.taken) step ∙ times-append x before.taken (chair_taken lane old.items) in
-    let b : times x (chair_taken lane old.items) ≡ times x (chair_taken lane (get_or first k old).items) = ap (λ (l : List Chair). times x (chair_taken lane l)) (ap (λ (r : Row). r.items) is ∙ left k old (omega arith)) in
+    let a : count_in x after.taken ≡ count_in x before.taken + count_in x (chair_taken lane old.items) = ap (λ (v : View). count_in x v.taken) step ∙ times-append x before.taken (chair_taken lane old.items) in
+    let b : count_in x (chair_taken lane old.items) ≡ count_in x (chair_taken lane (get_or first k old).items) = ap (λ (l : List Chair). count_in x (chair_taken lane l)) (ap (λ (r : Row). r.items) is ∙ left k old (omega arith)) in
     let m = times_at_more x lane k first old (omega arith) in omega arith
 
 -- the sum over the rows, and what the owner took itself: where the lane was passed, and where it is still to come
@@ -90,24 +90,24 @@ sum_after x lane off p [] [] e lt h = refl
 sum_after x lane off p [] (t ∷ taken) e lt h = absurd (omega arith)
 sum_after x lane off p (r ∷ rows) [] e lt h = absurd (omega arith)
 sum_after x lane off p (r ∷ rows) (t ∷ taken) e lt h =
-    let here : times x (chair_taken lane r.items) ≡ times x (filter p t) = ap (times x) (h 0 r (omega arith) ∙ ap (λ (b : Bool). cond b [] (filter p t)) (ne_eqb lane (off + 0) (λ k. omega arith))) in
+    let here : count_in x (chair_taken lane r.items) ≡ count_in x (filter p t) = ap (count_in x) (h 0 r (omega arith) ∙ ap (λ (b : Bool). cond b [] (filter p t)) (ne_eqb lane (off + 0) (λ k. omega arith))) in
     let rest = sum_after x lane (suc off) p rows taken (omega arith) (omega arith) (λ i d below. h (suc i) d (omega arith) ∙ ap (λ (n : ℕ). cond (eqb lane n) [] (filter p (get_or taken i []))) (omega arith)) in omega arith
 
 sum_with : (x lane off : ℕ) (p : ℕ → Bool) (rows : List Row) (taken : List (List ℕ)) (mine : List ℕ) (k : ℕ) → length rows ≡ length taken → off + k ≡ lane → k < length rows → mine ≡ get_or taken k []
-    → ((i : ℕ) (d : Row) → i < length rows → chair_taken lane (get_or rows i d).items ≡ cond (eqb lane (off + i)) [] (filter p (get_or taken i []))) → times x (filter p mine) + times_at x lane rows ≡ times_in x (map (filter p) taken)
+    → ((i : ℕ) (d : Row) → i < length rows → chair_taken lane (get_or rows i d).items ≡ cond (eqb lane (off + i)) [] (filter p (get_or taken i []))) → count_in x (filter p mine) + times_at x lane rows ≡ times_in x (map (filter p) taken)
 sum_with x lane off p [] taken mine k e at lt is h = absurd (omega arith)
 sum_with x lane off p (r ∷ rows) [] mine k e at lt is h = absurd (omega arith)
 sum_with x lane off p (r ∷ rows) (t ∷ taken) mine zero e at lt is h =
-    let here : times x (chair_taken lane r.items) ≡ 0 = ap (times x) (h 0 r (omega arith) ∙ ap (λ (b : Bool). cond b [] (filter p t)) (eq-eqb lane (off + 0) (omega arith))) in
-    let own : times x (filter p mine) ≡ times x (filter p t) = ap (λ (l : List ℕ). times x (filter p l)) is in
+    let here : count_in x (chair_taken lane r.items) ≡ 0 = ap (count_in x) (h 0 r (omega arith) ∙ ap (λ (b : Bool). cond b [] (filter p t)) (eq-eqb lane (off + 0) (omega arith))) in
+    let own : count_in x (filter p mine) ≡ count_in x (filter p t) = ap (λ (l : List ℕ). count_in x (filter p l)) is in
     let rest = sum_after x lane (suc off) p rows taken (omega arith) (omega arith) (λ i d below. h (suc i) d (omega arith) ∙ ap (λ (n : ℕ). cond (eqb lane n) [] (filter p (get_or taken i []))) (omega arith)) in omega arith
 sum_with x lane off p (r ∷ rows) (t ∷ taken) mine (suc k) e at lt is h =
-    let here : times x (chair_taken lane r.items) ≡ times x (filter p t) = ap (times x) (h 0 r (omega arith) ∙ ap (λ (b : Bool). cond b [] (filter p t)) (ne_eqb lane (off + 0) (λ m. omega arith))) in
+    let here : count_in x (chair_taken lane r.items) ≡ count_in x (filter p t) = ap (count_in x) (h 0 r (omega arith) ∙ ap (λ (b : Bool). cond b [] (filter p t)) (ne_eqb lane (off + 0) (λ m. omega arith))) in
     let rest = sum_with x lane (suc off) p rows taken mine k (omega arith) (omega arith) (omega arith) is (λ i d below. h (suc i) d (omega arith) ∙ ap (λ (n : ℕ). cond (eqb lane n) [] (filter p (get_or taken i []))) (omega arith)) in omega arith
 
 times_in_only : (x : ℕ) (p : ℕ → Bool) (taken : List (List ℕ)) → p x ≡ true → times_in x (map (filter p) taken) ≡ times_in x taken
 times_in_only x p [] e = refl
-times_in_only x p (t ∷ taken) e = let a : times x (filter p t) ≡ times x t = times-filter p x t ∙ ap (λ (b : Bool). cond b (times x t) 0) e in let rest = times_in_only x p taken e in omega arith
+times_in_only x p (t ∷ taken) e = let a : count_in x (filter p t) ≡ count_in x t = times-filter p x t ∙ ap (λ (b : Bool). cond b (count_in x t) 0) e in let rest = times_in_only x p taken e in omega arith
 
 pub lane_below : (deal : Deal) (lanes x : ℕ) → 0 < lanes → lane_of deal lanes x < lanes
 lane_below Round lanes x lt = omega arith
@@ -121,7 +121,7 @@ given_once deal lanes pieces taken some all x =
     let yes_ : p x ≡ true = eq-eqb lane lane refl in
     let a = all lane (lane_below deal lanes x some) x in
     let b = times_in_only x p taken yes_ in
-    let d : times x (dealt_to deal lanes pieces lane) ≡ times x (upto pieces) = times-filter p x (upto pieces) ∙ ap (λ (c : Bool). cond c (times x (upto pieces)) 0) yes_ in omega arith
+    let d : count_in x (dealt_to deal lanes pieces lane) ≡ count_in x (upto pieces) = times-filter p x (upto pieces) ∙ ap (λ (c : Bool). cond c (count_in x (upto pieces)) 0) yes_ in omega arith
 
 abbrev Deque : Type 0
 Deque = Worker ℕ Global View OnceEach
@@ -169,7 +169,7 @@ chair_is lane (c ∷ chairs) lt v h = chair_taken_at lane (c ∷ chairs) c lt �
 -- what the owner learned, of all lanes
 pub lane_learned : (deal : Deal) (pieces : ℕ) (workers : Deques) (first rows : List Row) (taken : List (List ℕ)) (lane k : ℕ) (w : Deque) (d : Row) → AreParts deal pieces workers first taken → length rows ≡ length first → k ≡ lane + 1 → lane < length workers → w ≡ get_or workers lane w
     → ((i : ℕ) (d : Row) → i < length rows → (get_or rows i d).items ≡ take k (get_or first i d).items)
-    → ((x : ℕ) → times x (worker_view {T = ℕ} {A = Global} {V = View} {P = OnceEach} w).taken + times_at x lane rows ≤ times x (worker_view {T = ℕ} {A = Global} {V = View} {P = OnceEach} w).dealt) → IsLearned deal (length workers) pieces taken lane
+    → ((x : ℕ) → count_in x (worker_view {T = ℕ} {A = Global} {V = View} {P = OnceEach} w).taken + times_at x lane rows ≤ count_in x (worker_view {T = ℕ} {A = Global} {V = View} {P = OnceEach} w).dealt) → IsLearned deal (length workers) pieces taken lane
 lane_learned deal pieces workers first rows taken lane k w d parts same at lt is cut learned x =
     let p = is_of deal (length workers) lane in
     let o = part_worker deal pieces workers first taken lane w d parts lt is in
@@ -183,8 +183,8 @@ lane_learned deal pieces workers first rows taken lane k w d parts same at lt is
     (λ c. let s = r.1 lane c (omega arith) in
     ap (λ (l : List Chair). (view (get_or l lane c).pass).taken) (cut i d below) ∙ ap (λ (u : Chair). (view u.pass).taken) (get_or-take k chairs lane c (omega arith)) ∙ s.took ∙ ap (λ (n : ℕ). cond (eqb lane n) [] (filter p (get_or taken i []))) (omega arith)) in
     let total = sum_with x lane 0 p rows taken (get_or taken lane []) lane (omega arith) (omega arith) (omega arith) refl each in
-    let a : times x (worker_view w).taken ≡ times x (filter p (get_or taken lane [])) = ap (times x) o.2 in
-    let b : times x (worker_view w).dealt ≡ times x (dealt_to deal (length workers) pieces lane) = ap (times x) o.1 in
+    let a : count_in x (worker_view w).taken ≡ count_in x (filter p (get_or taken lane [])) = ap (count_in x) o.2 in
+    let b : count_in x (worker_view w).dealt ≡ count_in x (dealt_to deal (length workers) pieces lane) = ap (count_in x) o.1 in
     let f = learned x in omega arith
 
 pub part_marked : (deal : Deal) (pieces : ℕ) (workers : Deques) (rows : List Row) (taken : List (List ℕ)) (lane : ℕ) (w : Deque) → AreParts deal pieces workers rows taken → lane < length workers → w ≡ get_or workers lane w → (worker_view {T = ℕ} {A = Global} {V = View} {P = OnceEach} w).role ≡ Marked
@@ -193,7 +193,7 @@ part_marked deal pieces workers (d ∷ rows) taken lane w parts lt is = (part_wo
 
 pub lane_learned' : (deal : Deal) (pieces : ℕ) (workers : Deques) (first rows : List Row) (taken : List (List ℕ)) (lane k : ℕ) (w : Deque) → AreParts deal pieces workers first taken → length rows ≡ length first → k ≡ lane + 1 → lane < length workers → w ≡ get_or workers lane w
     → ((i : ℕ) (d : Row) → i < length rows → (get_or rows i d).items ≡ take k (get_or first i d).items)
-    → ((x : ℕ) → times x (worker_view {T = ℕ} {A = Global} {V = View} {P = OnceEach} w).taken + times_at x lane rows ≤ times x (worker_view {T = ℕ} {A = Global} {V = View} {P = OnceEach} w).dealt) → IsLearned deal (length workers) pieces taken lane
+    → ((x : ℕ) → count_in x (worker_view {T = ℕ} {A = Global} {V = View} {P = OnceEach} w).taken + times_at x lane rows ≤ count_in x (worker_view {T = ℕ} {A = Global} {V = View} {P = OnceEach} w).dealt) → IsLearned deal (length workers) pieces taken lane
 lane_learned' deal pieces workers [] rows taken lane k w parts same at lt is cut learned = absurd (let n = parts.rows_too in omega arith)
 lane_learned' deal pieces workers (d ∷ first) rows taken lane k w parts same at lt is cut learned = lane_learned deal pieces workers (d ∷ first) rows taken lane k w d parts same at lt is cut learned
 

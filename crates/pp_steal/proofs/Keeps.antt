@@ -7,25 +7,25 @@ use Rattle.crossbeam_deque.proofs.Lists.{at_set, set_here}
 use Rattle.pp_steal.specs.declared.view.Role.{Role}
 use Rattle.pp_steal.specs.declared.view.Role.TheVariants.{Owner, Marked, Guest, Spent}
 use Rattle.pp_steal.specs.declared.view.View.{View}
-use Rattle.pp_steal.specs.Pool.{a_view, times, times_taken, AllUnder, AllOver, Rises, IsSublistOf, IsLive, FitsAs, FitsRole, Sound, took, TookDealt, TakesPieces, Deals, marked, mark, newcomer, joined_view, spent}
+use Rattle.pp_steal.specs.Pool.{a_view, count_in, times_taken, AllUnder, AllOver, Rises, IsSublistOf, TakesPart, FitsAs, FitsRole, Sound, took, TookDealt, TakesPieces, Deals, marked, mark, newcomer, joined_view, spent}
 
-pub times-append : (x : ℕ) (xs ys : List ℕ) → times x (xs ++ ys) ≡ times x xs + times x ys
+pub times-append : (x : ℕ) (xs ys : List ℕ) → count_in x (xs ++ ys) ≡ count_in x xs + count_in x ys
 times-append x [] ys = omega arith
 times-append x (z ∷ xs) ys = omega (arith, times-append x xs ys)
 
 -- a change of one view
-pub taken_set : (x : ℕ) (views : List View) (port : ℕ) (v w : View) → get_elem? views port ≡ some v → times_taken x (set views port w) + times x v.taken ≡ times_taken x views + times x w.taken
+pub taken_set : (x : ℕ) (views : List View) (port : ℕ) (v w : View) → get_elem? views port ≡ some v → times_taken x (set views port w) + count_in x v.taken ≡ times_taken x views + count_in x w.taken
 taken_set x [] port v w at = absurd (some-ne-none v (sym at))
-taken_set x (u ∷ views) zero v w at = let e : times x u.taken ≡ times x v.taken = ap (λ (y : View). times x y.taken) (some-injective u v at) in omega arith
+taken_set x (u ∷ views) zero v w at = let e : count_in x u.taken ≡ count_in x v.taken = ap (λ (y : View). count_in x y.taken) (some-injective u v at) in omega arith
 taken_set x (u ∷ views) (suc port) v w at = omega (arith, taken_set x views port v w at)
 
-pub taken_snoc : (x : ℕ) (views : List View) (w : View) → times_taken x (views ++ w ∷ []) ≡ times_taken x views + times x w.taken
+pub taken_snoc : (x : ℕ) (views : List View) (w : View) → times_taken x (views ++ w ∷ []) ≡ times_taken x views + count_in x w.taken
 taken_snoc x [] w = omega arith
 taken_snoc x (u ∷ views) w = omega (arith, taken_snoc x views w)
 
-pub taken_one : (x : ℕ) (views : List View) (port : ℕ) (v : View) → get_elem? views port ≡ some v → times x v.taken ≤ times_taken x views
+pub taken_one : (x : ℕ) (views : List View) (port : ℕ) (v : View) → get_elem? views port ≡ some v → count_in x v.taken ≤ times_taken x views
 taken_one x [] port v at = absurd (some-ne-none v (sym at))
-taken_one x (u ∷ views) zero v at = let e : times x u.taken ≡ times x v.taken = ap (λ (y : View). times x y.taken) (some-injective u v at) in omega arith
+taken_one x (u ∷ views) zero v at = let e : count_in x u.taken ≡ count_in x v.taken = ap (λ (y : View). count_in x y.taken) (some-injective u v at) in omega arith
 taken_one x (u ∷ views) (suc port) v at = omega (arith, taken_one x views port v at)
 
 at_below : (views : List View) (port : ℕ) (v : View) → get_elem? views port ≡ some v → port < length views
@@ -73,13 +73,13 @@ part_front [] x ys h = tt
 part_front (z ∷ items) x [] h = absurd h
 part_front (z ∷ items) x (y ∷ ys) h = ⊎_elim (λ (a : (z ≡ y) × IsSublistOf (items ++ x ∷ []) ys). inl (a.0, part_front items x ys a.1)) (λ a. inr (part_front (z ∷ items) x ys a)) h
 
-dealt_live : (r : Role) (dealt : List ℕ) (count port : ℕ) (v : View) → IsLive r → FitsAs r dealt count port v → v.dealt ≡ dealt
+dealt_live : (r : Role) (dealt : List ℕ) (count port : ℕ) (v : View) → TakesPart r → FitsAs r dealt count port v → v.dealt ≡ dealt
 dealt_live Owner dealt count port v live f = f.0
 dealt_live Marked dealt count port v live f = f.0
 dealt_live Guest dealt count port v live f = f.0
 dealt_live Spent dealt count port v live f = absurd live
 
-fits_live : (r : Role) (dealt : List ℕ) (count port : ℕ) (v w : View) → w.dealt ≡ v.dealt → IsLive r → FitsAs r dealt count port v → FitsAs r dealt count port w
+fits_live : (r : Role) (dealt : List ℕ) (count port : ℕ) (v w : View) → w.dealt ≡ v.dealt → TakesPart r → FitsAs r dealt count port v → FitsAs r dealt count port w
 fits_live Owner dealt count port v w e live f = (e ∙ f.0, f.1, f.2)
 fits_live Marked dealt count port v w e live f = (e ∙ f.0, f.1)
 fits_live Guest dealt count port v w e live f = (e ∙ f.0, f.1)
@@ -93,8 +93,8 @@ fit_set F views port w mine others j u e = ⊎_elim (λ (x : (j ≡ port) × (w 
     (λ (x : (j ≢ port) × (get_elem? views j ≡ some u)). others j u x.0 x.1) (at_set views port j w u e)
 
 -- one live view takes another list; the deque's items change too
-change : (dealt items items' : List ℕ) (views : List View) (port : ℕ) (v : View) (taken : List ℕ) → IsLive v.role → get_elem? views port ≡ some v → Rises dealt → IsSublistOf items' dealt
-    → ((x : ℕ) → times x items + times_taken x views ≡ times x dealt) → ((x : ℕ) → times x items' + times x taken ≡ times x items + times x v.taken)
+change : (dealt items items' : List ℕ) (views : List View) (port : ℕ) (v : View) (taken : List ℕ) → TakesPart v.role → get_elem? views port ≡ some v → Rises dealt → IsSublistOf items' dealt
+    → ((x : ℕ) → count_in x items + times_taken x views ≡ count_in x dealt) → ((x : ℕ) → count_in x items' + count_in x taken ≡ count_in x items + count_in x v.taken)
     → AllFit (FitsRole dealt (length views)) views → Sound items' (set views port (a_view v.role v.dealt taken))
 change dealt items items' views port v taken live at rises part count moved fits = let w : View = a_view v.role v.dealt taken in record {
   dealt = dealt;
@@ -106,16 +106,16 @@ change dealt items items' views port v taken live at rises part count moved fits
 }
 
 -- what a live pass knows, whatever the deque holds
-pub finds : (port : ℕ) (v : View) (items : List ℕ) (views : List View) → IsLive v.role → Sound items views → get_elem? views port ≡ some v → TookDealt v
-finds port v items views live h at x = let e : times x v.dealt ≡ times x h.dealt = ap (times x) (dealt_live v.role h.dealt (length views) port v live (h.fits port v at)) in
+pub finds : (port : ℕ) (v : View) (items : List ℕ) (views : List View) → TakesPart v.role → Sound items views → get_elem? views port ≡ some v → TookDealt v
+finds port v items views live h at x = let e : count_in x v.dealt ≡ count_in x h.dealt = ap (count_in x) (dealt_live v.role h.dealt (length views) port v live (h.fits port v at)) in
     let a = taken_one x views port v at in let b = h.once x in omega arith
 
-pub takes : (port : ℕ) (v : View) → IsLive v.role → tasks.Takes Sound port v 1 (TakesPieces v)
+pub takes : (port : ℕ) (v : View) → TakesPart v.role → tasks.Takes Sound port v 1 (TakesPieces v)
 takes port v live xs items views some_ one h at = let w : View = took v xs in
     let next : Sound items (set views port w) = change h.dealt (xs ++ items) items views port v (v.taken ++ xs) live at h.rises (part_rest xs items h.dealt h.part) h.once (λ x. omega (arith, times-append x xs items, times-append x v.taken xs)) h.fits in
     (w, next, (refl, finds port w items (set views port w) live next (set_here views port w (at_below views port v at))))
 
-pub pops : (port : ℕ) (v : View) → IsLive v.role → tasks.Pops Sound port v (TakesPieces v)
+pub pops : (port : ℕ) (v : View) → TakesPart v.role → tasks.Pops Sound port v (TakesPieces v)
 pops port v live x items views h at = let w : View = took v (x ∷ []) in
     let next : Sound items (set views port w) = change h.dealt (items ++ x ∷ []) items views port v (v.taken ++ x ∷ []) live at h.rises (part_front items x h.dealt h.part) h.once (λ y. omega (arith, times-append y items (x ∷ []), times-append y v.taken (x ∷ []))) h.fits in
     (w, next, (refl, finds port w items (set views port w) live next (set_here views port w (at_below views port v at))))
@@ -139,7 +139,7 @@ pushes port v p own under items views h at =
       refl,
     )
 
-marks : (r : Role) (dealt : List ℕ) (count port : ℕ) (v : View) (taken : List ℕ) → IsLive r → FitsAs r dealt count port v → FitsAs (marked r) dealt (count + 1) port (a_view (marked r) v.dealt taken)
+marks : (r : Role) (dealt : List ℕ) (count port : ℕ) (v : View) (taken : List ℕ) → TakesPart r → FitsAs r dealt count port v → FitsAs (marked r) dealt (count + 1) port (a_view (marked r) v.dealt taken)
 marks Owner dealt count port v taken live f = (f.0, f.1)
 marks Marked dealt count port v taken live f = f
 marks Guest dealt count port v taken live f = f
@@ -152,7 +152,7 @@ stays Marked dealt count port j u other lt f = f
 stays Guest dealt count port j u other lt f = f
 stays Spent dealt count port j u other lt f = f
 
-pub forks : (port : ℕ) (v : View) → IsLive v.role → tasks.Forks Sound port v (mark v) (newcomer v)
+pub forks : (port : ℕ) (v : View) → TakesPart v.role → tasks.Forks Sound port v (mark v) (newcomer v)
 forks port v live items views h at =
     let w : View = mark v in
     let n : View = newcomer v in
@@ -172,7 +172,7 @@ forks port v live items views h at =
       fits = subst (λ k. AllFit (FitsRole h.dealt k) (vs ++ n ∷ [])) (sym length_is) all;
     }
 
-pub merges : (port : ℕ) (v : View) (other : ℕ) (u : View) → IsLive v.role → u.role ≡ Guest → tasks.Merges Sound port v other u (joined_view v u) spent
+pub merges : (port : ℕ) (v : View) (other : ℕ) (u : View) → TakesPart v.role → u.role ≡ Guest → tasks.Merges Sound port v other u (joined_view v u) spent
 merges port v other u live guest items views h at two at' =
     let w : View = joined_view v u in
     let vs : List View = set views port w in

@@ -2,7 +2,7 @@
 use Rattle.std.proofs.Common.{◌≡◌, ℕ, zero, suc, ◌+◌, ◌<◌, ◌≤◌, cond, Bool, true, false, List, [], ◌∷◌, ◌++◌, length, set, get_or, take, map, sym, refl, ap, ◌∙◌, subst, arith, add-one, append-nil, filter, eq-eqb, ne_eqb}
 use Rattle.pp_steal.specs.declared.view.Role.{Role}
 use Rattle.pp_steal.specs.declared.view.Role.TheVariants.{Owner, Marked, Guest, Spent}
-use Rattle.pp_steal.specs.Pool.{AllUnder, IsLive, marked, a_view, Deals, mark}
+use Rattle.pp_steal.specs.Pool.{AllUnder, TakesPart, marked, a_view, Deals, mark}
 use Rattle.pp_steal.specs.declared.view.View.{View}
 use Rattle.pp_steal.specs.Dealing.{upto}
 use Rattle.std.specs.declared.alloc.Global.{Global}
@@ -15,7 +15,7 @@ use Rattle.pp_steal.specs.declared.view.OnceEach.{OnceEach}
 use Rattle.pp_steal.specs.declared.deal.Deal.{Deal}
 use Rattle.pp_steal.specs.declared.chair.Chair.{Chair}
 use Rattle.pp_steal.specs.Dealing.{dealt_to, is_of, lane_of}
-use Rattle.pp_steal.specs.Lanes.{Make, Standing, HasItsPieces, AreNewRows, IsNewRow, IsNewLane, AreNewLanes, IsNewMake, IsDealt, AreDealt, IsReadyView, AreReady, AreMarked, Deques, deque_of, homes_of, homes_at, IsFresh, AreFresh, make_of, the_make}
+use Rattle.pp_steal.specs.Lanes.{Make, Standing, HasItsPieces, AreNewRows, IsNewRow, IsNewLane, AreNewLanes, IsNewMake, IsDealt, AreDealt, IsReadyView, AreOwnersReady, AreMarked, Deques, deque_of, homes_of, homes_at, IsFresh, AreFresh, make_of, the_make}
 use Rattle.pp_steal.proofs.Dealt.{filter-append}
 use Rattle.pp_steal.proofs.Each.{each_set, each_push, each_split}
 
@@ -48,7 +48,7 @@ filter_dealt p n e = ap (filter p) (upto_more n) ∙ filter-append p (upto n) (n
 pub filter_passed : (p : ℕ → Bool) (n : ℕ) → p n ≡ false → filter p (upto (n + 1)) ≡ filter p (upto n)
 filter_passed p n e = ap (filter p) (upto_more n) ∙ filter-append p (upto n) (n ∷ []) ∙ ap (λ (b : Bool). filter p (upto n) ++ cond b (n ∷ []) []) e ∙ append-nil (filter p (upto n))
 
-pub live_of : (r : Role) → marked r ≡ Marked → IsLive r
+pub live_of : (r : Role) → marked r ≡ Marked → TakesPart r
 live_of Owner e = tt
 live_of Marked e = tt
 live_of Guest e = tt
@@ -95,8 +95,8 @@ deal_more deal lanes pieces piece lane workers w w' lt at is all room used step 
     })
 
 -- one more chair of a row, at the lane's deque
-pub seat_keeps : (deal : Deal) (lanes pieces lane : ℕ) (workers : Deques) (w w' : Deque) → lane < length workers → w ≡ get_or workers lane w → worker_view w' ≡ mark (worker_view w) → AreReady deal lanes pieces workers → AreMarked lane workers
-    → AreReady deal lanes pieces (set workers lane w') × AreMarked (lane + 1) (set workers lane w')
+pub seat_keeps : (deal : Deal) (lanes pieces lane : ℕ) (workers : Deques) (w w' : Deque) → lane < length workers → w ≡ get_or workers lane w → worker_view w' ≡ mark (worker_view w) → AreOwnersReady deal lanes pieces workers → AreMarked lane workers
+    → AreOwnersReady deal lanes pieces (set workers lane w') × AreMarked (lane + 1) (set workers lane w')
 seat_keeps deal lanes pieces lane workers w w' lt is step ready marks =
     let mine : IsReadyView deal lanes pieces lane (worker_view w) = subst (λ (u : Deque). IsReadyView deal lanes pieces lane (worker_view u)) (sym is) (ready lane w lt) in
     let role : (worker_view w').role ≡ Marked = ap (λ (v : View). v.role) step ∙ mine.0 in (
@@ -107,7 +107,7 @@ seat_keeps deal lanes pieces lane workers w w' lt is step ready marks =
 pub seat_homes : (workers : Deques) (lane : ℕ) (w w' : Deque) → w ≡ get_or workers lane w → worker_deque w' ≡ worker_deque w → homes_of (set workers lane w') ≡ homes_of workers
 seat_homes workers lane w w' is same = map-set_same (λ (u : Deque). worker_deque u) workers lane w' w (same ∙ ap (λ (u : Deque). worker_deque u) is)
 
-pub chairs_more : (deal : Deal) (lanes pieces : ℕ) (workers : Deques) (chairs : List Chair) (w : Deque) (c : Chair) → length chairs < length workers → AreReady deal lanes pieces workers → w ≡ get_or workers (length chairs) w
+pub chairs_more : (deal : Deal) (lanes pieces : ℕ) (workers : Deques) (chairs : List Chair) (w : Deque) (c : Chair) → length chairs < length workers → AreOwnersReady deal lanes pieces workers → w ≡ get_or workers (length chairs) w
     → (stealer_deque c.thief ≡ worker_deque w) × IsFresh (worker_view w).dealt c → homes_at chairs ≡ take (length chairs) (homes_of workers) → AreFresh deal lanes pieces chairs
     → (homes_at (chairs ++ c ∷ []) ≡ take (length chairs + 1) (homes_of workers)) × AreFresh deal lanes pieces (chairs ++ c ∷ [])
 chairs_more deal lanes pieces workers chairs w c lt ready is fresh homes all =
@@ -154,7 +154,7 @@ lanes_more make lanes lane all is own has =
 pub its_pieces : (deal : Deal) (pieces own : ℕ) (chairs : List Chair) (dealt : List ℕ) → dealt ≡ dealt_to deal (length chairs) pieces own → dealt ≡ dealt_to deal (length (map deque_of chairs)) pieces own
 its_pieces deal pieces own chairs dealt e = e ∙ ap (λ (n : ℕ). dealt_to deal n pieces own) (sym (length-map chairs deque_of))
 
-pub ready_at : (deal : Deal) (lanes pieces : ℕ) (workers : Deques) (own : ℕ) (w : Deque) → own < length workers → w ≡ get_or workers own w → AreReady deal lanes pieces workers → AreMarked (length workers) workers
+pub ready_at : (deal : Deal) (lanes pieces : ℕ) (workers : Deques) (own : ℕ) (w : Deque) → own < length workers → w ≡ get_or workers own w → AreOwnersReady deal lanes pieces workers → AreMarked (length workers) workers
     → IsReadyView deal lanes pieces own (worker_view w) × ((worker_view {T = ℕ} {A = Global} {V = View} {P = OnceEach} w).role ≡ Marked)
 ready_at deal lanes pieces workers own w lt is ready marks = (
   subst (λ (u : Deque). IsReadyView deal lanes pieces own (worker_view u)) (sym is) (ready own w lt),

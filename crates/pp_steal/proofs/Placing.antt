@@ -7,7 +7,7 @@ use Rattle.std.proofs.lemmas.List.{get_or-map, length-map, map-append, get_or-dr
 use Rattle.std.proofs.lemmas.List.Elements.{All-push}
 use Rattle.pp_steal.specs.declared.station.Station.{Station}
 use Rattle.pp_steal.specs.declared.deal.Deal.{Deal}
-use Rattle.pp_steal.specs.Pool.{times}
+use Rattle.pp_steal.specs.Pool.{count_in}
 use Rattle.pp_steal.specs.Dealing.{upto, AreDistinctPieces}
 use Rattle.pp_steal.specs.Closing.{times_in, AreGivenOnce, HoldEachOnce, first_make, IsWholeMake}
 use Rattle.pp_steal.proofs.Keeps.{times-append}
@@ -152,30 +152,30 @@ module _ {T : Type 0} where
       }
 
 -- a number that stands in a list stands at some place
-times_at_some : (x : ℕ) (xs : List ℕ) → 0 < times x xs → (i : ℕ) × (i < length xs) × (get_or xs i 0 ≡ x)
+times_at_some : (x : ℕ) (xs : List ℕ) → 0 < count_in x xs → (i : ℕ) × (i < length xs) × (get_or xs i 0 ≡ x)
 times_at_some x [] lt = absurd (omega arith)
 times_at_some x (y ∷ xs) lt = elim (ℕ_discrete y x) as (λ _. (i : ℕ) × (i < length (y ∷ xs)) × (get_or (y ∷ xs) i 0 ≡ x)) [
   | yes e ↦ (0, omega arith, e)
   | no n ↦ let z = times-other x y (λ e. n (sym e)) in let r = times_at_some x xs (omega arith) in (suc r.0, omega (arith, r.1), r.2)
 ]
 
-times_in_some : (x : ℕ) (taken : List (List ℕ)) → 0 < times_in x taken → (k : ℕ) × (k < length taken) × (0 < times x (get_or taken k []))
+times_in_some : (x : ℕ) (taken : List (List ℕ)) → 0 < times_in x taken → (k : ℕ) × (k < length taken) × (0 < count_in x (get_or taken k []))
 times_in_some x [] lt = absurd (omega arith)
-times_in_some x (l ∷ taken) lt = elim (dec_le 1 (times x l)) as (λ _. (k : ℕ) × (k < length (l ∷ taken)) × (0 < times x (get_or (l ∷ taken) k []))) [
+times_in_some x (l ∷ taken) lt = elim (dec_le 1 (count_in x l)) as (λ _. (k : ℕ) × (k < length (l ∷ taken)) × (0 < count_in x (get_or (l ∷ taken) k []))) [
   | yes le ↦ (0, omega arith, omega arith)
   | no n ↦ let r = times_in_some x taken (omega arith) in (suc r.0, omega (arith, r.1), r.2)
 ]
 
-once_upto : (n x : ℕ) → x < n → times x (upto n) ≡ 1
+once_upto : (n x : ℕ) → x < n → count_in x (upto n) ≡ 1
 once_upto zero x lt = absurd (omega arith)
-once_upto (suc n) x lt = let a = times-append x (upto n) (n ∷ []) in elim (ℕ_discrete x n) as (λ _. times x (upto (suc n)) ≡ 1) [
-  | yes e ↦ let one : times x (n ∷ []) ≡ 1 = subst (λ (k : ℕ). times x (k ∷ []) ≡ 1) e (times-one x) in let z = (times-upto x n).0 (omega arith) in omega arith
-  | no m ↦ let none : times x (n ∷ []) ≡ 0 = times-other x n m in let r = once_upto n x (omega arith) in omega arith
+once_upto (suc n) x lt = let a = times-append x (upto n) (n ∷ []) in elim (ℕ_discrete x n) as (λ _. count_in x (upto (suc n)) ≡ 1) [
+  | yes e ↦ let one : count_in x (n ∷ []) ≡ 1 = subst (λ (k : ℕ). count_in x (k ∷ []) ≡ 1) e (times-one x) in let z = (times-upto x n).0 (omega arith) in omega arith
+  | no m ↦ let none : count_in x (n ∷ []) ≡ 0 = times-other x n m in let r = once_upto n x (omega arith) in omega arith
 ]
 
 module _ {T : Type 0} (right : ℕ → T → Type 0) where
   -- each piece was taken or left, and so has its outcome
-  pub all_right : (pieces : ℕ) (slots before : List (Option T)) (taken : List (List ℕ)) (left : List ℕ) → ((x : ℕ) → times_in x taken + times x left ≡ times x (upto pieces)) → ((x : ℕ) → HasRight right before x → HasRight right slots x)
+  pub all_right : (pieces : ℕ) (slots before : List (Option T)) (taken : List (List ℕ)) (left : List ℕ) → ((x : ℕ) → times_in x taken + count_in x left ≡ count_in x (upto pieces)) → ((x : ℕ) → HasRight right before x → HasRight right slots x)
       → ((k : ℕ) (i : ℕ) → k < length taken → i < length (get_or taken k []) → HasRight right before (get_or (get_or taken k []) i 0)) → ((i : ℕ) → i < length left → HasRight right slots (get_or left i 0)) → (x : ℕ) → x < pieces → HasRight right slots x
   all_right pieces slots before taken left once kept taken_ok left_ok x lt =
       let o = once x in let u = once_upto pieces x lt in
@@ -247,7 +247,7 @@ pieces_of_station deal pieces n bound lanes all m le is k d lt =
 
 -- what `close` tells, over the slots
 pub once_of : (pieces made n : ℕ) (taken : List (List ℕ)) (left : List ℕ) → made ≡ pieces → n ≡ pieces → HoldEachOnce made taken left → HoldEachOnce n taken left
-once_of pieces made n taken left b d once x = once x ∙ ap (λ (k : ℕ). times x (upto k)) (b ∙ sym d)
+once_of pieces made n taken left b d once x = once x ∙ ap (λ (k : ℕ). count_in x (upto k)) (b ∙ sym d)
 
 pub taken_few : (n : ℕ) (taken : List (List ℕ)) (left : List ℕ) → HoldEachOnce n taken left → AreGivenOnce n taken
 taken_few n taken left once x = let o = once x in omega arith

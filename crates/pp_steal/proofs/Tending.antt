@@ -9,7 +9,7 @@ use Rattle.std.specs.declared.alloc.Global.{Global}
 use Rattle.pp_steal.specs.declared.deal.Deal.{Deal}
 use Rattle.pp_steal.specs.declared.view.View.{View}
 use Rattle.pp_steal.specs.declared.chair.Chair.{Chair}
-use Rattle.pp_steal.specs.Pool.{times, TakesPieces}
+use Rattle.pp_steal.specs.Pool.{count_in, TakesPieces}
 use Rattle.pp_steal.specs.Dealing.{is_of, lane_of, upto, AreDistinctPieces}
 use Rattle.pp_steal.specs.Lanes.{Sits, AllSit, Tends, deque_of}
 use Rattle.pp_steal.proofs.Keeps.{times-append}
@@ -18,7 +18,7 @@ use Rattle.pp_steal.proofs.Dealt.{times-filter, filter-append, times-one, times-
 -- a piece that a view took anew is of that lane's deal, and new to the list whose part the view has
 pub record IsNew (p : ℕ → Bool) (pieces : ℕ) (taken : List ℕ) (x : ℕ) : Type 0 where
   pub of : p x ≡ true
-  pub absent : times x taken ≡ 0
+  pub absent : count_in x taken ≡ 0
   pub distinct : AreDistinctPieces pieces (taken ++ x ∷ [])
   pub room : length taken < pieces
 
@@ -27,20 +27,20 @@ true_of true n m h = refl
 true_of false n m h = absurd (omega arith)
 
 pub is_new : (p : ℕ → Bool) (pieces : ℕ) (taken part dealt : List ℕ) (x : ℕ) → AreDistinctPieces pieces taken → part ≡ filter p taken → dealt ≡ filter p (upto pieces)
-    → ((y : ℕ) → times y (part ++ x ∷ []) ≤ times y dealt) → IsNew p pieces taken x
+    → ((y : ℕ) → count_in y (part ++ x ∷ []) ≤ count_in y dealt) → IsNew p pieces taken x
 is_new p pieces taken part dealt x once part_is dealt_is fit =
-    let a : times x part ≡ cond (p x) (times x taken) 0 = ap (times x) part_is ∙ times-filter p x taken in
-    let b : times x dealt ≡ cond (p x) (times x (upto pieces)) 0 = ap (times x) dealt_is ∙ times-filter p x (upto pieces) in
+    let a : count_in x part ≡ cond (p x) (count_in x taken) 0 = ap (count_in x) part_is ∙ times-filter p x taken in
+    let b : count_in x dealt ≡ cond (p x) (count_in x (upto pieces)) 0 = ap (count_in x) dealt_is ∙ times-filter p x (upto pieces) in
     let f = fit x in
     let one = times-one x in
     let s = times-append x part (x ∷ []) in
-    let of : p x ≡ true = true_of (p x) (times x part) (times x (upto pieces)) (omega arith) in
-    let a' : times x part ≡ times x taken = a ∙ ap (λ (c : Bool). cond c (times x taken) 0) of in
-    let b' : times x dealt ≡ times x (upto pieces) = b ∙ ap (λ (c : Bool). cond c (times x (upto pieces)) 0) of in
+    let of : p x ≡ true = true_of (p x) (count_in x part) (count_in x (upto pieces)) (omega arith) in
+    let a' : count_in x part ≡ count_in x taken = a ∙ ap (λ (c : Bool). cond c (count_in x taken) 0) of in
+    let b' : count_in x dealt ≡ count_in x (upto pieces) = b ∙ ap (λ (c : Bool). cond c (count_in x (upto pieces)) 0) of in
     let most = (times-upto x pieces).1 in
     let all : AreDistinctPieces pieces (taken ++ x ∷ []) = λ y. let t = times-append y taken (x ∷ []) in let o = once y in
-    elim (ℕ_discrete y x) as (λ _. times y (taken ++ x ∷ []) ≤ times y (upto pieces)) [
-      | yes e ↦ subst (λ (k : ℕ). times k (taken ++ x ∷ []) ≤ times k (upto pieces)) (sym e) (let t' = times-append x taken (x ∷ []) in omega arith)
+    elim (ℕ_discrete y x) as (λ _. count_in y (taken ++ x ∷ []) ≤ count_in y (upto pieces)) [
+      | yes e ↦ subst (λ (k : ℕ). count_in k (taken ++ x ∷ []) ≤ count_in k (upto pieces)) (sym e) (let t' = times-append x taken (x ∷ []) in omega arith)
       | no e ↦ let n = times-other y x e in omega arith
     ] in
     let few = few_pieces pieces (taken ++ x ∷ []) all in
@@ -70,7 +70,7 @@ pub after_pop : (deal : Deal) (pieces own : ℕ) (taken : List ℕ) (mine mine' 
     → IsNew (is_of deal (length chairs) own) pieces taken x × Tends deal pieces own (taken ++ x ∷ []) mine' chairs
 after_pop deal pieces own taken mine mine' chairs x t step =
     let p = is_of deal (length chairs) own in
-    let fit : (y : ℕ) → times y (mine.taken ++ x ∷ []) ≤ times y mine.dealt = λ y. subst (λ (v : View). times y v.taken ≤ times y v.dealt) step.0 (step.1 y) in
+    let fit : (y : ℕ) → count_in y (mine.taken ++ x ∷ []) ≤ count_in y mine.dealt = λ y. subst (λ (v : View). count_in y v.taken ≤ count_in y v.dealt) step.0 (step.1 y) in
     let new : IsNew p pieces taken x = is_new p pieces taken mine.taken mine.dealt x t.distinct t.took t.dealt fit in (
       new,
       record {
@@ -108,7 +108,7 @@ after_steal deal pieces own taken mine chairs from c c' x t lt other is same ste
     let p = is_of deal lanes from in
     let s : Sits deal lanes pieces own taken from c = subst (Sits deal lanes pieces own taken from) (sym is) (t.sit from c lt) in
     let part : (view c.pass).taken ≡ filter p taken = s.took ∙ away from own (filter p taken) other in
-    let fit : (y : ℕ) → times y ((view c.pass).taken ++ x ∷ []) ≤ times y (view c.pass).dealt = λ y. subst (λ (v : View). times y v.taken ≤ times y v.dealt) step.0 (step.1 y) in
+    let fit : (y : ℕ) → count_in y ((view c.pass).taken ++ x ∷ []) ≤ count_in y (view c.pass).dealt = λ y. subst (λ (v : View). count_in y v.taken ≤ count_in y v.dealt) step.0 (step.1 y) in
     let new : IsNew p pieces taken x = is_new p pieces taken (view c.pass).taken (view c.pass).dealt x t.distinct part s.dealt fit in
     let mine' : Sits deal lanes pieces own (taken ++ x ∷ []) from c' = record {
       pass = still_pass c c' same.0 same.1 s.pass;

@@ -11,22 +11,22 @@ use Rattle.pp_steal.specs.declared.view.Role.TheVariants.{Guest}
 use Rattle.pp_steal.specs.declared.view.View.{View}
 use Rattle.pp_steal.specs.declared.view.OnceEach.{OnceEach}
 use Rattle.pp_steal.specs.declared.chair.Chair.{Chair}
-use Rattle.pp_steal.specs.Pool.{times}
+use Rattle.pp_steal.specs.Pool.{count_in}
 use Rattle.pp_steal.specs.Dealing.{is_of, dealt_to, upto}
 use Rattle.pp_steal.specs.Lanes.{DequeId, Make, Standing, Tends, Deques, deque_of, taken_of, homes_of, homes_at, AreLanesOf, the_make}
 
 -- how often x stands in the lists
 abbrev pub times_in : ℕ → List (List ℕ) → ℕ
 times_in x [] = 0
-times_in x (l ∷ ls) = times x l + times_in x ls
+times_in x (l ∷ ls) = count_in x l + times_in x ls
 
 -- no piece was given twice, and only pieces were
 abbrev pub AreGivenOnce : ℕ → List (List ℕ) → Type 0
-AreGivenOnce pieces taken = (x : ℕ) → times_in x taken ≤ times x (upto pieces)
+AreGivenOnce pieces taken = (x : ℕ) → times_in x taken ≤ count_in x (upto pieces)
 
 -- the lists and what is left hold each piece once, and nothing else
 abbrev pub HoldEachOnce : ℕ → List (List ℕ) → List ℕ → Type 0
-HoldEachOnce pieces taken left = (x : ℕ) → times_in x taken + times x left ≡ times x (upto pieces)
+HoldEachOnce pieces taken left = (x : ℕ) → times_in x taken + count_in x left ≡ count_in x (upto pieces)
 
 -- the make that the first lane is of
 abbrev pub first_make : List Standing → Make
@@ -47,7 +47,7 @@ chair_taken (suc lane) (c ∷ cs) = chair_taken lane cs
 -- how often x stands in these, over some rows of chairs
 abbrev pub times_at : ℕ → ℕ → List (Vec Chair Global) → ℕ
 times_at x lane [] = 0
-times_at x lane (row ∷ rows) = times x (chair_taken lane row.items) + times_at x lane rows
+times_at x lane (row ∷ rows) = count_in x (chair_taken lane row.items) + times_at x lane rows
 
 -- the last chair of the row is at this deque
 pub record EndsAt (home : DequeId × Global) (lane : ℕ) (chairs : List Chair) : Type 0 where
@@ -82,7 +82,7 @@ RowsCut lane before after = (k : ℕ) (row : Vec Chair Global) → k < length be
 -- the owner and the passes at its deque took pieces that were dealt, none of them twice
 abbrev pub TookOnce : View → ℕ → List (Vec Chair Global) → Type 0
 TookOnce owner lane rows =
-    (x : ℕ) → times x owner.taken + times_at x lane rows ≤ times x owner.dealt
+    (x : ℕ) → count_in x owner.taken + times_at x lane rows ≤ count_in x owner.dealt
 
 -- marks of the pieces that stand somewhere in what was counted
 abbrev pub AreMarksOf : (ℕ → ℕ) → List Bool → Type 0
@@ -91,7 +91,7 @@ AreMarksOf count marks = (x : ℕ) → x < length marks → slice_index_or marks
 -- the pieces of the list are marked beside those that were
 abbrev pub MarksMore : List ℕ → List Bool → List Bool → Type 0
 MarksMore list before after = (x : ℕ) → x < length before
-    → slice_index_or after x false ≡ (slice_index_or before x false || ltb 0 (times x list))
+    → slice_index_or after x false ≡ (slice_index_or before x false || ltb 0 (count_in x list))
 
 -- the pieces without a mark, rising
 abbrev pub unmarked_of : List Bool → ℕ → List ℕ
@@ -102,7 +102,7 @@ unmarked_of marks pieces = filter (λ x. not (slice_index_or marks x false)) (up
 abbrev pub IsLearned : Deal → ℕ → ℕ → List (List ℕ) → ℕ → Type 0
 IsLearned deal lanes pieces taken lane =
     (x : ℕ) → times_in x (map (filter (is_of deal lanes lane)) taken)
-    ≤ times x (dealt_to deal lanes pieces lane)
+    ≤ count_in x (dealt_to deal lanes pieces lane)
 
 -- the name of an owner's deque
 abbrev pub id_of : Worker ℕ Global View OnceEach → DequeId

@@ -6,7 +6,7 @@ use lib.ListN.{get_elem?}
 use Rattle.pp_steal.specs.declared.deal.Deal.{Deal}
 use Rattle.pp_steal.specs.declared.view.Role.TheVariants.{Owner, Guest}
 use Rattle.pp_steal.specs.declared.view.View.{View}
-use Rattle.pp_steal.specs.Pool.{a_view, times, times_taken, AllUnder, IsLive, Sound, took, with_dealt, mark, newcomer, joined_view, spent}
+use Rattle.pp_steal.specs.Pool.{a_view, count_in, times_taken, AllUnder, TakesPart, Sound, took, with_dealt, mark, newcomer, joined_view, spent}
 use Rattle.pp_steal.specs.Dealing.{dealt_to, upto}
 
 -- a deque: what it holds, and what each pass knows. The owner's pass is the first one
@@ -64,7 +64,7 @@ pub record Pops (end : End) (d e : Deque) : Type 0 where
   pub piece : ℕ
   pub rest : List ℕ
   pub at : IsAt d 0 owner
-  pub live : IsLive owner.role
+  pub live : TakesPart owner.role
   pub leaves : LeavesAt end piece d.items rest
   pub next : e ≡ with_view d rest 0 (took owner (piece ∷ []))
 
@@ -87,7 +87,7 @@ pub record Steals (thief : ℕ) (d e : Deque) : Type 0 where
 pub record Splits (splitter : ℕ) (d e : Deque) : Type 0 where
   pub view : View
   pub at : IsAt d splitter view
-  pub live : IsLive view.role
+  pub live : TakesPart view.role
   pub next : e ≡ a_deque d.items (slice_set d.views splitter (mark view) ++ newcomer view ∷ [])
 
 -- one pass takes over what another took, whose view is then spent. The other one is not the owner's
@@ -97,7 +97,7 @@ pub record Joins (pass other : ℕ) (d e : Deque) : Type 0 where
   pub at : IsAt d pass view
   pub other_at : IsAt d other guest
   pub two : other ≢ pass
-  pub live : IsLive view.role
+  pub live : TakesPart view.role
   pub role : guest.role ≡ Guest
   pub next : e
       ≡ a_deque d.items (slice_set (slice_set d.views pass (joined_view view guest)) other spent)
@@ -129,7 +129,7 @@ pub record IsOfPool (dealt : List ℕ) (d : Deque) : Type 0 where
 -- how often x stands in a pool, in items and taken lists together
 abbrev pub pool_times : ℕ → List Deque → ℕ
 pool_times x [] = 0
-pool_times x (d ∷ ds) = times x d.items + times_taken x d.views + pool_times x ds
+pool_times x (d ∷ ds) = count_in x d.items + times_taken x d.views + pool_times x ds
 
 -- how often x stands in the taken lists of a pool
 abbrev pub pool_taken : ℕ → List Deque → ℕ
@@ -155,11 +155,11 @@ EachStateIsSound =
 abbrev pub EachPieceOnce : Type 0
 EachPieceOnce =
     (deal : Deal) (lanes pieces : ℕ) (ds : List Deque) → 0 < lanes → ArePool deal lanes pieces ds
-    → (x : ℕ) → pool_times x ds ≡ times x (upto pieces)
+    → (x : ℕ) → pool_times x ds ≡ count_in x (upto pieces)
 
 -- where all deques are empty, the taken lists alone do
 abbrev pub EachTakenOnce : Type 0
 EachTakenOnce =
     (deal : Deal) (lanes pieces : ℕ) (ds : List Deque) → 0 < lanes → ArePool deal lanes pieces ds
     → AllEmpty ds
-    → (x : ℕ) → pool_taken x ds ≡ times x (upto pieces)
+    → (x : ℕ) → pool_taken x ds ≡ count_in x (upto pieces)

@@ -2,7 +2,7 @@
 use Rattle.std.specs.Prelude.{ℕ, zero, suc, ◌%◌, ◌≤◌, eqb, Bool, List, [], ◌∷◌, ◌++◌, filter}
 use Rattle.pp_steal.specs.declared.deal.Deal.{Deal}
 use Rattle.pp_steal.specs.declared.deal.Deal.TheVariants.{Round, First}
-use Rattle.pp_steal.specs.Pool.{times}
+use Rattle.pp_steal.specs.Pool.{count_in}
 
 -- the lane that the piece is dealt to
 abbrev pub lane_of : Deal → ℕ → ℕ → ℕ
@@ -24,4 +24,4 @@ dealt_to deal lanes pieces lane = filter (is_of deal lanes lane) (upto pieces)
 
 -- they are pieces, none of them twice
 abbrev pub AreDistinctPieces : ℕ → List ℕ → Type 0
-AreDistinctPieces pieces xs = (x : ℕ) → times x xs ≤ times x (upto pieces)
+AreDistinctPieces pieces xs = (x : ℕ) → count_in x xs ≤ count_in x (upto pieces)

@@ -95,8 +95,8 @@ IsReadyView deal lanes pieces lane v =
     (marked v.role ≡ Marked) × (v.dealt ≡ dealt_to deal lanes pieces lane) × (v.taken ≡ [])
 
 -- each owner is ready
-abbrev pub AreReady : Deal → ℕ → ℕ → Deques → Type 0
-AreReady deal lanes pieces workers =
+abbrev pub AreOwnersReady : Deal → ℕ → ℕ → Deques → Type 0
+AreOwnersReady deal lanes pieces workers =
     (lane : ℕ) (w : Worker ℕ Global View OnceEach) → lane < length workers
     → IsReadyView deal lanes pieces lane (worker_view (slice_index_or workers lane w))
 
@@ -144,7 +144,7 @@ make_of homes deal pieces = the_make (map (λ (h : DequeId × Global). h.0) home
 
 -- the deques of a table, whose owners are ready
 abbrev pub IsReadyTable : Table → Type 0
-IsReadyTable t = AreReady t.deal (length t.workers.items) t.pieces t.workers.items
+IsReadyTable t = AreOwnersReady t.deal (length t.workers.items) t.pieces t.workers.items
 
 -- and are all marked as split
 abbrev pub IsMarkedTable : Table → Type 0

@@ -12,14 +12,14 @@ abbrev pub a_view : Role → List ℕ → List ℕ → View
 a_view r dealt taken = record { role = r; dealt = dealt; taken = taken }
 
 -- how often x stands in the list
-abbrev pub times : ℕ → List ℕ → ℕ
-times x [] = 0
-times x (y ∷ ys) = cond (eqb y x) 1 0 + times x ys
+abbrev pub count_in : ℕ → List ℕ → ℕ
+count_in x [] = 0
+count_in x (y ∷ ys) = cond (eqb y x) 1 0 + count_in x ys
 
 -- how often x was taken, over all views
 abbrev pub times_taken : ℕ → List View → ℕ
 times_taken x [] = 0
-times_taken x (v ∷ vs) = times x v.taken + times_taken x vs
+times_taken x (v ∷ vs) = count_in x v.taken + times_taken x vs
 
 -- each piece is below p
 abbrev pub AllUnder : ℕ → List ℕ → Type 0
@@ -43,9 +43,9 @@ IsSublistOf (x ∷ xs) [] = ⊥
 IsSublistOf (x ∷ xs) (y ∷ ys) = ((x ≡ y) × IsSublistOf xs ys) ⊎ IsSublistOf (x ∷ xs) ys
 
 -- the pass still takes part: its view was not joined into another
-abbrev pub IsLive : Role → Type 0
-IsLive Spent = ⊥
-IsLive _ = Unit {0}
+abbrev pub TakesPart : Role → Type 0
+TakesPart Spent = ⊥
+TakesPart _ = Unit {0}
 
 -- A view, by its role, among `count` views. The owner's is the first one, and is marked where there
 -- is any other view. Each live view knows the pieces that were dealt. A spent one has nothing
@@ -66,7 +66,7 @@ pub record Sound (items : List ℕ) (views : List View) : Type 0 where
   pub dealt : List ℕ
   pub rises : Rises dealt
   pub part : IsSublistOf items dealt
-  pub once : (x : ℕ) → times x items + times_taken x views ≡ times x dealt
+  pub once : (x : ℕ) → count_in x items + times_taken x views ≡ count_in x dealt
   pub fits : (port : ℕ) (v : View) → get_elem? views port ≡ some v
       → FitsRole dealt (length views) port v
 
@@ -76,7 +76,7 @@ took v xs = a_view v.role v.dealt (v.taken ++ xs)
 
 -- what a pass took are pieces that were dealt, none of them twice
 abbrev pub TookDealt : View → Type 0
-TookDealt v = (x : ℕ) → times x v.taken ≤ times x v.dealt
+TookDealt v = (x : ℕ) → count_in x v.taken ≤ count_in x v.dealt
 
 -- a pass takes pieces that were dealt and that it hadn't taken
 abbrev pub TakesPieces : View → List ℕ → View → Type 0

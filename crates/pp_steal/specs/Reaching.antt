@@ -1,11 +1,11 @@
 -- What a reach for a piece tells.
 use Rattle.std.specs.Prelude.{◌≡◌, ◌≢◌, ℕ, ◌+◌, ◌<◌, ◌≤◌, ◌⊎◌, List, [], ◌∷◌, ◌++◌, Option, Some, None}
 pub use Rattle.pp_base.specs.Fault.{Rose}
-use Rattle.pp_steal.specs.Pool.{times}
+use Rattle.pp_steal.specs.Pool.{count_in}
 
 -- the piece was not in the list, and is appended to it
 pub record Gave (before after : List ℕ) (piece : ℕ) : Type 0 where
-  pub new : times piece before ≡ 0
+  pub new : count_in piece before ≡ 0
   pub appended : after ≡ before ++ piece ∷ []
 
 -- one call on a deque: a piece comes, or else the deque's count rose and nothing was taken

@@ -3,7 +3,7 @@ use Rattle.std.specs.Prelude.{◌≡◌, ◌≢◌, ℕ, ◌≤◌, false, [], r
 use Rattle.pp_steal.specs.declared.room.Room.{Room}
 
 -- empty vectors with room for what these lanes have, and no piece is marked
-pub record HasRoom (lanes pieces : ℕ) (r : Room) : Type 0 where
+pub record HasLaneRoom (lanes pieces : ℕ) (r : Room) : Type 0 where
   pub workers : (r.workers.items ≡ []) × (lanes ≤ vec_capacity r.workers)
   pub rows : (r.rows.items ≡ []) × (lanes ≤ vec_capacity r.rows)
   pub taken : (r.taken.items ≡ []) × (lanes ≤ vec_capacity r.taken)
@@ -12,4 +12,4 @@ pub record HasRoom (lanes pieces : ℕ) (r : Room) : Type 0 where
 
 -- the first lane has room, and no other one
 abbrev pub RoomFor : ℕ → ℕ → ℕ → Option Room → Type 0
-RoomFor own lanes pieces room = MatchOption room (own ≢ 0) (HasRoom lanes pieces)
+RoomFor own lanes pieces room = MatchOption room (own ≢ 0) (HasLaneRoom lanes pieces)

@@ -17,7 +17,7 @@ use Rattle.pp_graph.specs.declared.ranking.Ranked.{Ranked}
 use Rattle.pp_graph.specs.Trim.{report_keys}
 use Rattle.pp_graph.specs.Trimmed.{IsRankedOf}
 use Rattle.pp_graph.specs.KeyRows.{row_at, key_row}
-use Rattle.pp_top.specs.Top.{rows_text, summary_text, ranked_text, top_text}
+use Rattle.pp_top.specs.Top.{top_rows, top_summary, ranked_text, top_text}
 use Rattle.pp_graph.proofs.KeyRowLemmas.{rows_are}
 
 pub ranked_is : (l : Loaded) (v : Verdicts) (config : Config) (column : Option ℕ) (limit : ℕ) (f : Finders) (c : Counted) (t : Ranked) (h : Facts)
@@ -31,5 +31,5 @@ ranked_is l v config column limit f c t h counted ranked holds =
     let count : length t.order ≡ length keys =
     sym (length-map t.order (written_key l.profile c.sums.names)) ∙ ap length (ranked.keys f holds) in
     λ i.
-    facts_text h ++ summary_text h (ranked.shown_flat f holds i) (ranked.dropped_nodes f holds i) (count i) (ranked.candidates f holds i)
-    ++ heading ++ rows_text h.unit h.total (pos 0) (rows i)
+    facts_text h ++ top_summary h (ranked.shown_flat f holds i) (ranked.dropped_nodes f holds i) (count i) (ranked.candidates f holds i)
+    ++ heading ++ top_rows h.unit h.total (pos 0) (rows i)

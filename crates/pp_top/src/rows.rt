@@ -6,7 +6,7 @@ ghost use Rattle.pp_grain.specs.Keys.{IsKeyOf, key_written};
 ghost use Rattle.pp_grain.specs.Naming.{name_text};
 ghost use Rattle.pp_count.specs.Counted.{FitSums};
 ghost use Rattle.pp_graph.specs.KeyRows.{row_at, CanShow};
-ghost use Rattle.pp_top.specs.Top.{row_text, rows_text};
+ghost use Rattle.pp_top.specs.Top.{top_row, top_rows};
 
 use pp_base::{Memory, Text};
 use pp_count::Sums;
@@ -26,7 +26,7 @@ pub fn put_rows(
 ) -> Result<(), Memory>
     requires { CanShow l.now.profile sums.now order.now }
     ensures { IfOk result (λ _. out.new ≡ out.old
-        ++ rows_text (shown head.now.unit) head.now.total (pos 0)
+        ++ top_rows (shown head.now.unit) head.now.total (pos 0)
         (map (row_at l.now.profile sums.now) order.now)) }
 {
     let mut scratch = Text::new(alloc);
@@ -52,7 +52,7 @@ fn put_row(
     requires fits { FitSums sums.now }
     requires below { number < length sums.now.names }
     ensures { IfOk result (λ _. out.new ≡ out.old
-        ++ row_text (shown head.now.unit) head.now.total sum
+        ++ top_row (shown head.now.unit) head.now.total sum
         (row_at l.now.profile sums.now number)) }
 {
     let flat = sums.flat.as_slice()[number as usize];

@@ -8,7 +8,7 @@ ghost use Rattle.pp_count.specs.Counted.{IsCountedOf};
 ghost use Rattle.pp_count.specs.Seeing.{HoldsFilters};
 ghost use Rattle.pp_graph.specs.Trimmed.{IsRankedOf};
 ghost use Rattle.pp_graph.specs.KeyRows.{CanShow};
-ghost use Rattle.pp_top.specs.Top.{summary_text, ranked_text, top_text};
+ghost use Rattle.pp_top.specs.Top.{top_summary, ranked_text, top_text};
 
 use crate::rows::put_rows;
 use pp_base::{Memory, Text};
@@ -60,7 +60,7 @@ fn put_top(
 }
 
 fn put_summary(t: &Ranked, head: &Head, out: &mut Text) -> Result<(), Memory>
-    ensures { IfOk result (λ _. out.new ≡ out.old ++ summary_text (facts head.now) t.now.shown_flat
+    ensures { IfOk result (λ _. out.new ≡ out.old ++ top_summary (facts head.now) t.now.shown_flat
         t.now.dropped_nodes (length t.now.order) t.now.candidates) }
 {
     head.put_showing(t.shown_flat, out)?;

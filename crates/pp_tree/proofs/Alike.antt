@@ -9,17 +9,17 @@ use Rattle.std.proofs.lemmas.List.Sorted.{IsPermutation-refl, IsPermutation-sym,
 use Rattle.std.proofs.lemmas.List.Sums.{sum_by-cons, sum_by-append}
 use Rattle.std.proofs.Math.Nat.{lt_of_not-le}
 use Rattle.std.proofs.Math.Seq.{get_or-append_seam}
-use Rattle.pp_graph.specs.Lists.{times, once_if}
+use Rattle.pp_graph.specs.Lists.{occurrences, once_if}
 
 -- one more item, and one test
-times-cons : (m x : ℕ) (xs : List ℕ) → times m (x ∷ xs) ≡ cond (eqb x m) 1 0 + times m xs
+times-cons : (m x : ℕ) (xs : List ℕ) → occurrences m (x ∷ xs) ≡ cond (eqb x m) 1 0 + occurrences m xs
 times-cons m x xs = sum_by-cons (λ k. cond (eqb k m) 1 0) x xs
 
-times-append : (m : ℕ) (xs ys : List ℕ) → times m (xs ++ ys) ≡ times m xs + times m ys
+times-append : (m : ℕ) (xs ys : List ℕ) → occurrences m (xs ++ ys) ≡ occurrences m xs + occurrences m ys
 times-append m xs ys = sum_by-append (λ k. cond (eqb k m) 1 0) xs ys
 
-times-self : (x : ℕ) (xs : List ℕ) → times x (x ∷ xs) ≡ 1 + times x xs
-times-self x xs = times-cons x x xs ∙ ap (λ b. cond b 1 0 + times x xs) (eq-eqb x x refl)
+times-self : (x : ℕ) (xs : List ℕ) → occurrences x (x ∷ xs) ≡ 1 + occurrences x xs
+times-self x xs = times-cons x x xs ∙ ap (λ b. cond b 1 0 + occurrences x xs) (eq-eqb x x refl)
 
 -- a list cut at an item
 record Cut (x : ℕ) (xs : List ℕ) : Type 0 where
@@ -27,7 +27,7 @@ record Cut (x : ℕ) (xs : List ℕ) : Type 0 where
   after : List ℕ
   is : xs ≡ before ++ x ∷ after
 
-found : (x : ℕ) (xs : List ℕ) → 0 < times x xs → Cut x xs
+found : (x : ℕ) (xs : List ℕ) → 0 < occurrences x xs → Cut x xs
 found x [] some = absurd (let no : 0 < 0 = some in omega (arith, no))
 found x (y ∷ ys) some =
     elim (eqb y x) as (λ b. eqb y x ≡ b → Cut x (y ∷ ys)) [
@@ -38,17 +38,17 @@ found x (y ∷ ys) some =
     ] refl
 
 -- the same counts give the same items in some order
-pub alike : {Y : Type 0} (h : ℕ → Option Y) (xs ys : List ℕ) → ((m : ℕ) → times m xs ≡ times m ys) → IsPermutation (filter_map h xs) (filter_map h ys)
+pub alike : {Y : Type 0} (h : ℕ → Option Y) (xs ys : List ℕ) → ((m : ℕ) → occurrences m xs ≡ occurrences m ys) → IsPermutation (filter_map h xs) (filter_map h ys)
 alike h [] [] same = IsPermutation-refl []
 alike h [] (y ∷ ys) same = absurd (omega (arith, same y, times-self y ys))
 alike h (x ∷ xs) ys same =
     let cut = found x ys (omega (arith, same x, times-self x xs)) in
-    let left : (m : ℕ) → times m xs ≡ times m (cut.before ++ cut.after) = λ m.
+    let left : (m : ℕ) → occurrences m xs ≡ occurrences m (cut.before ++ cut.after) = λ m.
     omega (
       arith,
       same m,
       times-cons m x xs,
-      ap (times m) cut.is,
+      ap (occurrences m) cut.is,
       times-append m cut.before (x ∷ cut.after),
       times-cons m x cut.after,
       times-append m cut.before cut.after,
@@ -64,31 +64,31 @@ alike h (x ∷ xs) ys same =
           (IsPermutation-sym (us ++ y ∷ vs) (y ∷ (us ++ vs)) (IsPermutation-middle us y vs))
 
 -- counts in a filtered list
-times-filter : (test : ℕ → Bool) (m : ℕ) (xs : List ℕ) → times m (filter test xs) ≡ cond (test m) (times m xs) 0
-times-filter test m [] = elim (test m) as (λ b. times m [] ≡ cond b (times m []) 0) [ true ↦ refl | false ↦ refl ]
+times-filter : (test : ℕ → Bool) (m : ℕ) (xs : List ℕ) → occurrences m (filter test xs) ≡ cond (test m) (occurrences m xs) 0
+times-filter test m [] = elim (test m) as (λ b. occurrences m [] ≡ cond b (occurrences m []) 0) [ true ↦ refl | false ↦ refl ]
 times-filter test m (x ∷ xs) =
-    elim (eqb x m) as (λ e. eqb x m ≡ e → times m (filter test (x ∷ xs)) ≡ cond (test m) (times m (x ∷ xs)) 0) [
+    elim (eqb x m) as (λ e. eqb x m ≡ e → occurrences m (filter test (x ∷ xs)) ≡ cond (test m) (occurrences m (x ∷ xs)) 0) [
       | true ↦ λ e.
           let same : test x ≡ test m = ap test (eqb-true x m e) in
-          elim (test m) as (λ b. test m ≡ b → times m (filter test (x ∷ xs)) ≡ cond b (times m (x ∷ xs)) 0) [
+          elim (test m) as (λ b. test m ≡ b → occurrences m (filter test (x ∷ xs)) ≡ cond b (occurrences m (x ∷ xs)) 0) [
             | true ↦ λ t.
-                ap (λ b. times m (cond b (x ∷ filter test xs) (filter test xs))) (same ∙ t)
-                ∙ (let rest : times m (filter test xs) ≡ times m xs = times-filter test m xs ∙ ap (λ b. cond b (times m xs) 0) t in
+                ap (λ b. occurrences m (cond b (x ∷ filter test xs) (filter test xs))) (same ∙ t)
+                ∙ (let rest : occurrences m (filter test xs) ≡ occurrences m xs = times-filter test m xs ∙ ap (λ b. cond b (occurrences m xs) 0) t in
                 omega (arith, rest, times-cons m x (filter test xs), times-cons m x xs))
             | false ↦ λ t.
-                ap (λ b. times m (cond b (x ∷ filter test xs) (filter test xs))) (same ∙ t)
-                ∙ times-filter test m xs ∙ ap (λ b. cond b (times m xs) 0) t
+                ap (λ b. occurrences m (cond b (x ∷ filter test xs) (filter test xs))) (same ∙ t)
+                ∙ times-filter test m xs ∙ ap (λ b. cond b (occurrences m xs) 0) t
           ] refl
       | false ↦ λ e.
-          let tail : times m (x ∷ xs) ≡ times m xs = omega (arith, times-cons m x xs, ap {B = ℕ} (λ b. cond b 1 0) e) in
-          elim (test x) as (λ b. times m (cond b (x ∷ filter test xs) (filter test xs)) ≡ cond (test m) (times m (x ∷ xs)) 0) [
-            | true ↦ (let head : times m (x ∷ filter test xs) ≡ times m (filter test xs) = omega (arith, times-cons m x (filter test xs), ap {B = ℕ} (λ b. cond b 1 0) e) in head) ∙ times-filter test m xs ∙ ap (λ n. cond (test m) n 0) (sym tail)
+          let tail : occurrences m (x ∷ xs) ≡ occurrences m xs = omega (arith, times-cons m x xs, ap {B = ℕ} (λ b. cond b 1 0) e) in
+          elim (test x) as (λ b. occurrences m (cond b (x ∷ filter test xs) (filter test xs)) ≡ cond (test m) (occurrences m (x ∷ xs)) 0) [
+            | true ↦ (let head : occurrences m (x ∷ filter test xs) ≡ occurrences m (filter test xs) = omega (arith, times-cons m x (filter test xs), ap {B = ℕ} (λ b. cond b 1 0) e) in head) ∙ times-filter test m xs ∙ ap (λ n. cond (test m) n 0) (sym tail)
             | false ↦ times-filter test m xs ∙ ap (λ n. cond (test m) n 0) (sym tail)
           ]
     ] refl
 
 -- counts in a range
-times-past : (a n m : ℕ) → m < a → times m (range_with_len a n) ≡ 0
+times-past : (a n m : ℕ) → m < a → occurrences m (range_with_len a n) ≡ 0
 times-past a zero m past = refl
 times-past a (suc n) m past =
     omega (
@@ -98,10 +98,10 @@ times-past a (suc n) m past =
       times-past (a + 1) n m (omega (arith, past)),
     )
 
-times-range : (a n m : ℕ) → a ≤ m → m < a + n → times m (range_with_len a n) ≡ 1
+times-range : (a n m : ℕ) → a ≤ m → m < a + n → occurrences m (range_with_len a n) ≡ 1
 times-range a zero m from to = absurd (omega (arith, from, to))
 times-range a (suc n) m from to =
-    elim (eqb a m) as (λ b. eqb a m ≡ b → times m (range_with_len a (suc n)) ≡ 1) [
+    elim (eqb a m) as (λ b. eqb a m ≡ b → occurrences m (range_with_len a (suc n)) ≡ 1) [
       | true ↦ λ e. omega (arith, times-cons m a (range_with_len (a + 1) n), ap {B = ℕ} (λ b. cond b 1 0) e, times-past (a + 1) n m (let at : a ≡ m = eqb-true a m e in omega (arith, at)))
       | false ↦ λ e.
           omega (
@@ -113,10 +113,10 @@ times-range a (suc n) m from to =
     ] refl
 
 -- the numbers below n that pass a test that none from n on passes
-pub times-below : (test : ℕ → Bool) (n m : ℕ) → (n ≤ m → test m ≡ false) → times m (filter test (range_with_len 0 n)) ≡ once_if (test m)
+pub times-below : (test : ℕ → Bool) (n m : ℕ) → (n ≤ m → test m ≡ false) → occurrences m (filter test (range_with_len 0 n)) ≡ once_if (test m)
 times-below test n m past =
     times-filter test m (range_with_len 0 n)
-    ∙ elim (test m) as (λ b. test m ≡ b → cond b (times m (range_with_len 0 n)) 0 ≡ once_if b) [
+    ∙ elim (test m) as (λ b. test m ≡ b → cond b (occurrences m (range_with_len 0 n)) 0 ≡ once_if b) [
       | true ↦ λ t. times-range 0 n m (omega arith) (let within : m < n = lt_of_not-le (λ over. false≢true (sym (past over) ∙ t)) in omega (arith, within))
       | false ↦ λ t. refl
     ] refl

@@ -18,9 +18,9 @@ use Rattle.pp_grain.specs.Told.{written_texts}
 use Rattle.pp_grain.proofs.CallerLemmas.{key_cmp_total}
 use Rattle.pp_count.specs.declared.edge.Edge.{Edge}
 use Rattle.pp_count.specs.Table.{written_key}
-use Rattle.pp_graph.specs.Links.{Links, AreLinked, edge_at, in_at, out_at, live_edges}
-use Rattle.pp_graph.specs.Lists.{times, once_if}
-use Rattle.pp_graph.specs.Neighbours.{Neighbour, listed}
+use Rattle.pp_graph.specs.Links.{EdgeLinks, AreEdgesLinked, numbered_edge, in_at, out_at, live_edges}
+use Rattle.pp_graph.specs.Lists.{occurrences, once_if}
+use Rattle.pp_graph.specs.Neighbours.{Neighbour, neighbour_list}
 use Rattle.pp_tree.specs.declared.near.Near.{Near as CodeNear}
 use Rattle.pp_tree.specs.Ends.{Pairs, ShowsPairs, callers_in, callees_in, caller_end, callee_end, edges_at, neighbour_of, near_cmp}
 use Rattle.pp_tree.proofs.Alike.{alike, times-below, passes_at, picked}
@@ -41,31 +41,31 @@ All-mapped : {X Y : Type 0} (P : Y → Type 0) (f : X → Y) (xs : List X) → A
 All-mapped P f [] all = All-nil P
 All-mapped P f (x ∷ xs) all = All-cons P (f x) (map f xs) (All-head (λ y. P (f y)) x xs all) (All-mapped P f xs (All-tail (λ y. P (f y)) x xs all))
 
-module _ (g : Links) (linked : AreLinked g) where
+module _ (g : EdgeLinks) (linked : AreEdgesLinked g) where
   -- the edges of a node's list are its live edges, in some order
-  pub arrived : (near : Edge → ℕ) (n : ℕ) (ns : List ℕ) → ((e : ℕ) → times e ns ≡ once_if (option_map_or (λ edge. eqb (near edge) n) (edge_at g e) false))
+  pub arrived : (near : Edge → ℕ) (n : ℕ) (ns : List ℕ) → ((e : ℕ) → occurrences e ns ≡ once_if (option_map_or (λ edge. eqb (near edge) n) (numbered_edge g e) false))
       → IsPermutation (filter (λ e. eqb (near e) n) (live_edges g)) (edges_at g ns)
   arrived near n ns counts =
       subst (λ es. IsPermutation es (edges_at g ns)) (picked (λ e. eqb (near e) n) [] g.edges)
-      (alike (edge_at g) (filter (passes_at (λ e. eqb (near e) n) g.edges) (range_with_len 0 (length g.edges))) ns
+      (alike (numbered_edge g) (filter (passes_at (λ e. eqb (near e) n) g.edges) (range_with_len 0 (length g.edges))) ns
       (λ m. times-below (passes_at (λ e. eqb (near e) n) g.edges) (length g.edges) m (λ past. ap (λ o. option_map_or (λ e. eqb (near e) n) o false) (get_or_past g.edges m None past)) ∙ sym (counts m)))
 
   pub ends_within : (count : ℕ) → length g.nodes ≡ count → All (λ e. (e.from < count) × (e.to < count)) (live_edges g)
   ends_within count is = All-there (λ (e : Edge). (e.from < count) × (e.to < count)) g.edges (λ i e found.
       subst (λ n. (e.from < n) × (e.to < n)) is (linked.ends i e found))
 
-module _ (p : Profile) (names : List Key) (g : Links) (linked : AreLinked g) (count : length g.nodes ≡ length names) (pairs : Pairs) (shows : ShowsPairs p names g pairs) where
+module _ (p : Profile) (names : List Key) (g : EdgeLinks) (linked : AreEdgesLinked g) (count : length g.nodes ≡ length names) (pairs : Pairs) (shows : ShowsPairs p names g pairs) where
   module _ (far near : Edge → ℕ) (n : ℕ) (test : Written → Bool) (value : Written → ℤ) (made : ℕ → Edge)
       (made_value : (a : ℕ) → (made a).value ≡ value (written_key p names a))
       (side : OneEach far (length names) (λ a. test (written_key p names a)) made (filter (λ e. eqb (near e) n) (live_edges g)))
-      (ns : List ℕ) (counts : (e : ℕ) → times e ns ≡ once_if (option_map_or (λ edge. eqb (near edge) n) (edge_at g e) false)) where
+      (ns : List ℕ) (counts : (e : ℕ) → occurrences e ns ≡ once_if (option_map_or (λ edge. eqb (near edge) n) (numbered_edge g e) false)) where
     end : Edge → Neighbour Written
     end e = record { key = written_key p names (far e); value = e.value }
 
     arranged : (before after : List CodeNear)
         → map neighbour_of before ≡ map (λ e. record { key = written_key p names (far e); value = e.value }) (edges_at g ns)
         → IsPermutation before after → IsSortedBy (λ a b. is_lt (near_cmp a b)) after
-        → map neighbour_of after ≡ listed key_cmp test value pairs.keys
+        → map neighbour_of after ≡ neighbour_list key_cmp test value pairs.keys
     unfolding end
     arranged before after are moved sorted =
         let fs : List Edge = filter (λ e. eqb (near e) n) (live_edges g) in

@@ -18,14 +18,14 @@ use Rattle.pp_model.specs.FrameTexts.{Written, written}
 use Rattle.std.specs.Ordering.{eq_by_cmp, int_eq}
 use Rattle.std.proofs.lemmas.Bool.Decides.{Decides-int_eq}
 use Rattle.pp_grain.specs.declared.key.Key.{Key}
-use Rattle.pp_grain.specs.Keys.{key_cmp, key_written, counts, IsKeyOf}
-use Rattle.pp_grain.specs.Sight.{same_key, seen_with}
+use Rattle.pp_grain.specs.Keys.{key_cmp, key_written, frame_counts, IsKeyOf}
+use Rattle.pp_grain.specs.Sight.{same_key, with_key}
 use Rattle.pp_grain.proofs.SightLemmas.{key_decides}
 use Rattle.pp_stack.specs.Filters.{frames_of_sample}
 use Rattle.pp_count.specs.Column.{selected}
 use Rattle.pp_count.specs.Seeing.{counted_frames, key_of_frame}
 use Rattle.pp_count.proofs.CountedFrames.{counts_here}
-use Rattle.pp_tree.specs.Found.{has_key, is_own_frame, is_own_at, has_own_frame, has_own_sample, has_own_number, no_frame}
+use Rattle.pp_tree.specs.Found.{holds_key, is_own_frame, is_own_at, has_own_frame, has_own_sample, has_own_number, no_frame}
 use Rattle.pp_tree.proofs.Shown.{any-append}
 
 or-false : (a : Bool) → (a || false) ≡ a
@@ -44,29 +44,29 @@ absorbed false false implies = refl
 
 module _ (p : Profile) where
   -- a key that is there as indices is there in texts
-  pub has_same : (keys : List Key) (key : Key) (k : Written) → list_any (same_key key) keys ≡ true → eq_by_cmp key_cmp k (key_written p key) ≡ true → has_key p keys k ≡ true
+  pub has_same : (keys : List Key) (key : Key) (k : Written) → list_any (same_key key) keys ≡ true → eq_by_cmp key_cmp k (key_written p key) ≡ true → holds_key p keys k ≡ true
   has_same [] key k there e = absurd (false≢true there)
   has_same (x ∷ keys) key k there e =
-      elim (same_key key x) as (λ b. same_key key x ≡ b → (b || list_any (same_key key) keys) ≡ true → has_key p (x ∷ keys) k ≡ true) [
-        | true ↦ λ same t. ap (λ b. b || has_key p keys k) (ap (λ y. eq_by_cmp key_cmp k (key_written p y)) (sym ((key_decides key x).0 same)) ∙ e)
+      elim (same_key key x) as (λ b. same_key key x ≡ b → (b || list_any (same_key key) keys) ≡ true → holds_key p (x ∷ keys) k ≡ true) [
+        | true ↦ λ same t. ap (λ b. b || holds_key p keys k) (ap (λ y. eq_by_cmp key_cmp k (key_written p y)) (sym ((key_decides key x).0 same)) ∙ e)
         | false ↦ λ apart t.
             ap (λ b. eq_by_cmp key_cmp k (key_written p x) || b) (has_same keys key k t e)
             ∙ elim (eq_by_cmp key_cmp k (key_written p x)) as (λ b. (b || true) ≡ true) [ true ↦ refl | false ↦ refl ]
       ] refl there
 
   -- one more key
-  pub has_more : (keys new : List Key) (key : Key) (k : Written) → new ≡ seen_with keys key → has_key p new k ≡ (has_key p keys k || eq_by_cmp key_cmp k (key_written p key))
+  pub has_more : (keys new : List Key) (key : Key) (k : Written) → new ≡ with_key keys key → holds_key p new k ≡ (holds_key p keys k || eq_by_cmp key_cmp k (key_written p key))
   has_more keys new key k is =
-      ap (λ ks. has_key p ks k) is
-      ∙ elim (list_any (same_key key) keys) as (λ b. list_any (same_key key) keys ≡ b → has_key p (cond b keys (keys ++ key ∷ [])) k ≡ (has_key p keys k || eq_by_cmp key_cmp k (key_written p key))) [
-        | true ↦ λ there. absorbed (has_key p keys k) (eq_by_cmp key_cmp k (key_written p key)) (λ e. has_same keys key k there e)
+      ap (λ ks. holds_key p ks k) is
+      ∙ elim (list_any (same_key key) keys) as (λ b. list_any (same_key key) keys ≡ b → holds_key p (cond b keys (keys ++ key ∷ [])) k ≡ (holds_key p keys k || eq_by_cmp key_cmp k (key_written p key))) [
+        | true ↦ λ there. absorbed (holds_key p keys k) (eq_by_cmp key_cmp k (key_written p key)) (λ e. has_same keys key k there e)
         | false ↦ λ none.
             ap (list_any (eq_by_cmp key_cmp k)) (map-append (key_written p) keys (key ∷ []))
             ∙ any-append (eq_by_cmp key_cmp k) (map (key_written p) keys) (key_written p key ∷ [])
-            ∙ ap (λ b. has_key p keys k || b) (or-false (eq_by_cmp key_cmp k (key_written p key)))
+            ∙ ap (λ b. holds_key p keys k || b) (or-false (eq_by_cmp key_cmp k (key_written p key)))
       ] refl
 
-  pub keys_more : (keys new : List Key) (key : Key) → new ≡ seen_with keys key → IsKeyOf p key → All (IsKeyOf p) keys → All (IsKeyOf p) new
+  pub keys_more : (keys new : List Key) (key : Key) → new ≡ with_key keys key → IsKeyOf p key → All (IsKeyOf p) keys → All (IsKeyOf p) new
   keys_more keys new key is of_profile all =
       subst (λ ks. All (IsKeyOf p) ks) (sym is)
       (elim (list_any (same_key key) keys) as (λ b. All (IsKeyOf p) (cond b keys (keys ++ key ∷ []))) [ true ↦ all | false ↦ All-push (IsKeyOf p) keys key all of_profile ])
@@ -75,48 +75,48 @@ module _ (p : Profile) where
     -- the frames so far are added, and those that are left
     abbrev pub AddedTo : List Key → ℕ → List Key → Type 0
     AddedTo old i keys = (k : Written)
-        → (has_key p keys k || list_any (is_own_frame p config find k) (counted_frames config.noinlines (drop i stack)))
-        ≡ (has_key p old k || has_own_frame p config find k stack)
+        → (holds_key p keys k || list_any (is_own_frame p config find k) (counted_frames config.noinlines (drop i stack)))
+        ≡ (holds_key p old k || has_own_frame p config find k stack)
 
     pub added_more : (old keys new : List Key) (i : ℕ) → i < length stack
-        → ((k : Written) → has_key p new k ≡ (has_key p keys k || is_own_at p config find k stack i))
+        → ((k : Written) → holds_key p new k ≡ (holds_key p keys k || is_own_at p config find k stack i))
         → AddedTo old i keys → AddedTo old (i + 1) new
     added_more old keys new i here is so_far = λ k.
         let f : Frame = get_or stack i no_frame in
         let rest : List Frame = counted_frames config.noinlines (drop (i + 1) stack) in
         let own : Frame → Bool = is_own_frame p config find k in
-        let step : list_any own (counted_frames config.noinlines (drop i stack)) ≡ ((counts stack i config.noinlines && own f) || list_any own rest) =
+        let step : list_any own (counted_frames config.noinlines (drop i stack)) ≡ ((frame_counts stack i config.noinlines && own f) || list_any own rest) =
         ap (list_any own) (sym (counts_here stack i config.noinlines f here (get_or_default stack i no_frame f here)))
-        ∙ one own (counts stack i config.noinlines) f rest in
+        ∙ one own (frame_counts stack i config.noinlines) f rest in
         ap (λ b. b || list_any own rest) (is k)
-        ∙ sym (or-assoc (has_key p keys k) (counts stack i config.noinlines && own f) (list_any own rest))
-        ∙ ap (λ b. has_key p keys k || b) (sym step) ∙ so_far k where
+        ∙ sym (or-assoc (holds_key p keys k) (frame_counts stack i config.noinlines && own f) (list_any own rest))
+        ∙ ap (λ b. holds_key p keys k || b) (sym step) ∙ so_far k where
           one : (own : Frame → Bool) (b : Bool) (f : Frame) (rest : List Frame) → list_any own (cond b (f ∷ rest) rest) ≡ ((b && own f) || list_any own rest)
           one own true f rest = refl
           one own false f rest = refl
 
     pub added_all : (old keys : List Key) (i : ℕ) → length stack ≤ i → AddedTo old i keys
-        → (k : Written) → has_key p keys k ≡ (has_key p old k || has_own_frame p config find k stack)
+        → (k : Written) → holds_key p keys k ≡ (holds_key p old k || has_own_frame p config find k stack)
     added_all old keys i past so_far k =
-        sym (or-false (has_key p keys k)) ∙ ap (λ fs. has_key p keys k || list_any (is_own_frame p config find k) (counted_frames config.noinlines fs)) (sym (drop_all i stack past)) ∙ so_far k
+        sym (or-false (holds_key p keys k)) ∙ ap (λ fs. holds_key p keys k || list_any (is_own_frame p config find k) (counted_frames config.noinlines fs)) (sym (drop_all i stack past)) ∙ so_far k
 
 -- The items so far pass or don't.
 module _ (test : Written → ℕ → Bool) (p : Profile) where
   abbrev pub GatheredTo : List ℕ → ℕ → List Key → Type 0
-  GatheredTo numbers i keys = (k : Written) → (has_key p keys k || list_any (test k) (drop i numbers)) ≡ list_any (test k) numbers
+  GatheredTo numbers i keys = (k : Written) → (holds_key p keys k || list_any (test k) (drop i numbers)) ≡ list_any (test k) numbers
 
   pub gathered_more : (numbers : List ℕ) (i d : ℕ) (keys new : List Key) → i < length numbers
-      → ((k : Written) → has_key p new k ≡ (has_key p keys k || test k (get_or numbers i d)))
+      → ((k : Written) → holds_key p new k ≡ (holds_key p keys k || test k (get_or numbers i d)))
       → GatheredTo numbers i keys → GatheredTo numbers (i + 1) new
   gathered_more numbers i d keys new here is so_far = λ k.
       ap (λ b. b || list_any (test k) (drop (i + 1) numbers)) (is k)
-      ∙ sym (or-assoc (has_key p keys k) (test k (get_or numbers i d)) (list_any (test k) (drop (i + 1) numbers)))
-      ∙ ap (λ ns. has_key p keys k || list_any (test k) ns) (sym (drop_more numbers i d here)) ∙ so_far k
+      ∙ sym (or-assoc (holds_key p keys k) (test k (get_or numbers i d)) (list_any (test k) (drop (i + 1) numbers)))
+      ∙ ap (λ ns. holds_key p keys k || list_any (test k) ns) (sym (drop_more numbers i d here)) ∙ so_far k
 
   pub gathered_all : (numbers : List ℕ) (i : ℕ) (keys : List Key) → length numbers ≤ i → GatheredTo numbers i keys
-      → (k : Written) → has_key p keys k ≡ list_any (test k) numbers
+      → (k : Written) → holds_key p keys k ≡ list_any (test k) numbers
   gathered_all numbers i keys past so_far k =
-      sym (or-false (has_key p keys k)) ∙ ap (λ ns. has_key p keys k || list_any (test k) ns) (sym (drop_all i numbers past)) ∙ so_far k
+      sym (or-false (holds_key p keys k)) ∙ ap (λ ns. holds_key p keys k || list_any (test k) ns) (sym (drop_all i numbers past)) ∙ so_far k
 
 -- the marks so far, with one more
 pub marked_more : (names keys : List Key) (i : ℕ) (marks : List Bool) (key : Key) (mark : Bool) → slice_get names i ≡ Some key → mark ≡ list_any (same_key key) keys
@@ -129,7 +129,7 @@ marked_more names keys i marks key mark at is so_far =
 module _ (p : Profile) (config : Config) (find : Finder) where
   -- what is asked of the frame at the place, where it counts and is found
   pub own_here : (stack read : List Frame) (place : ℕ) (d : Frame) (key : Key) (k : Written) → read ≡ stack → place < length stack
-      → counts stack place config.noinlines ≡ true → find (written p (get_or read place d)).function ≡ true → key_written p key ≡ key_of_frame p config (get_or read place d)
+      → frame_counts stack place config.noinlines ≡ true → find (written p (get_or read place d)).function ≡ true → key_written p key ≡ key_of_frame p config (get_or read place d)
       → eq_by_cmp key_cmp k (key_written p key) ≡ is_own_at p config find k stack place
   own_here stack read place d key k lent here counted found texts =
       let f : Frame = get_or stack place no_frame in

@@ -12,7 +12,7 @@ use Rattle.pp_grain.proofs.CallerLemmas.{key_cmp_total, key_cmp_ties}
 use Rattle.pp_count.specs.Ranks.{by_size}
 use Rattle.pp_count.proofs.EachOnce.{each_once_is}
 use Rattle.pp_count.proofs.Ties.{key_decides}
-use Rattle.pp_graph.specs.Neighbours.{Neighbour, listed}
+use Rattle.pp_graph.specs.Neighbours.{Neighbour, neighbour_list}
 use Rattle.pp_graph.proofs.Ordering.{sized_total, sized_same}
 use Rattle.pp_tree.specs.Ends.{value_cmp}
 
@@ -51,7 +51,7 @@ module _ (value : Written → ℤ) where
   pub listed_are : (test : Written → Bool) (keys : List Written) (xs : List (Neighbour Written)) → All HasValue xs
       → IsSortedBy (λ a b. is_lt (neighbour_cmp a b)) xs → IsDistinct (eq_by_cmp key_cmp) (map (λ x. x.key) xs)
       → ((q : Written) → list_any (eq_by_cmp key_cmp q) (filter test keys) ≡ list_any (eq_by_cmp key_cmp q) (map (λ x. x.key) xs))
-      → xs ≡ listed key_cmp test value keys
+      → xs ≡ neighbour_list key_cmp test value keys
   listed_are test keys xs right sorted distinct same =
       let ks : List Written = map (λ (x : Neighbour Written). x.key) xs in
       rebuilt xs right

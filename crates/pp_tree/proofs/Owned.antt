@@ -21,14 +21,14 @@ use Rattle.pp_grain.proofs.CallerLemmas.{same_keys}
 use Rattle.pp_grain.proofs.SightLemmas.{key_decides}
 use Rattle.pp_stack.specs.Filters.{frames_of_sample}
 use Rattle.pp_count.specs.Column.{selected}
-use Rattle.pp_count.specs.Counted.{report_frames, is_own, has_own_match}
+use Rattle.pp_count.specs.Counted.{report_frames, finds_own, has_own_match}
 use Rattle.pp_count.specs.Seeing.{counted_frames, framed_with, framed_samples, filtered_stack, filtered_from, passes_tags}
 use Rattle.pp_count.specs.Sums.{Seen, weighed}
 use Rattle.pp_count.proofs.Kept.{kept_samples}
 use Rattle.pp_count.proofs.Renaming.{same_bool}
 use Rattle.pp_count.proofs.Ties.{tied, tied_self}
-use Rattle.pp_tree.specs.Peek.{is_own_of, is_own_key}
-use Rattle.pp_tree.specs.Found.{has_key, is_own_frame, has_own_frame, has_own_sample, has_own_number}
+use Rattle.pp_tree.specs.Peek.{is_own_of, is_found_key}
+use Rattle.pp_tree.specs.Found.{holds_key, is_own_frame, has_own_frame, has_own_sample, has_own_number}
 use Rattle.pp_tree.proofs.Marking.{has_same}
 
 any_implies : {X : Type 0} (t u : X → Bool) → ((x : X) → t x ≡ true → u x ≡ true) → (xs : List X) → list_any t xs ≡ true → list_any u xs ≡ true
@@ -57,17 +57,17 @@ own_finder p (Some find) own verdicts is there = (find, refl, same_Some _ _ (sym
 
 module _ (p : Profile) (f : Finders) (config : Config) (column : Option ℕ) where
   -- a key that is found is that of a frame that is found
-  pub key_match : (k : Written) → is_own_key p f config column k ≡ true → has_own_match p f config column ≡ true
-  key_match k some = any_implies (λ (s : Seen Written). list_any (is_own_of f config k) s.keys) (λ (s : Seen Written). list_any (is_own f) s.keys)
-      (λ s e. any_implies (is_own_of f config k) (is_own f) (λ w t. first (is_own f w) (eq_by_cmp key_cmp k (key_texts config.grain config.showcolumns w)) t) s.keys e) (report_frames p f config column) some where
+  pub key_match : (k : Written) → is_found_key p f config column k ≡ true → has_own_match p f config column ≡ true
+  key_match k some = any_implies (λ (s : Seen Written). list_any (is_own_of f config k) s.keys) (λ (s : Seen Written). list_any (finds_own f) s.keys)
+      (λ s e. any_implies (is_own_of f config k) (finds_own f) (λ w t. first (finds_own f w) (eq_by_cmp key_cmp k (key_texts config.grain config.showcolumns w)) t) s.keys e) (report_frames p f config column) some where
         first : (a b : Bool) → (a && b) ≡ true → a ≡ true
         first true b e = refl
         first false b e = e
 
-  own_in : (ws : List Written) → list_any (is_own f) ws ≡ true → (k : Written) × (list_any (is_own_of f config k) ws ≡ true)
+  own_in : (ws : List Written) → list_any (finds_own f) ws ≡ true → (k : Written) × (list_any (is_own_of f config k) ws ≡ true)
   own_in [] some = absurd (false≢true some)
   own_in (w ∷ ws) some =
-      elim (is_own f w) as (λ b. is_own f w ≡ b → (b || list_any (is_own f) ws) ≡ true → (k : Written) × (list_any (is_own_of f config k) (w ∷ ws) ≡ true)) [
+      elim (finds_own f w) as (λ b. finds_own f w ≡ b → (b || list_any (finds_own f) ws) ≡ true → (k : Written) × (list_any (is_own_of f config k) (w ∷ ws) ≡ true)) [
         | true ↦ λ e s.
             let k : Written = key_texts config.grain config.showcolumns w in
             let here : list_any (is_own_of f config k) (w ∷ ws) ≡ true = λ i. (e i && tied_self k i) || list_any (is_own_of f config k) ws in
@@ -79,10 +79,10 @@ module _ (p : Profile) (f : Finders) (config : Config) (column : Option ℕ) whe
             (rest.0, there)
       ] refl some
 
-  own_among : (ss : List (Seen Written)) → list_any (λ s. list_any (is_own f) s.keys) ss ≡ true → (k : Written) × (list_any (λ s. list_any (is_own_of f config k) s.keys) ss ≡ true)
+  own_among : (ss : List (Seen Written)) → list_any (λ s. list_any (finds_own f) s.keys) ss ≡ true → (k : Written) × (list_any (λ s. list_any (is_own_of f config k) s.keys) ss ≡ true)
   own_among [] some = absurd (false≢true some)
   own_among (s ∷ ss) some =
-      elim (list_any (is_own f) s.keys) as (λ b. list_any (is_own f) s.keys ≡ b → (b || list_any (λ t. list_any (is_own f) t.keys) ss) ≡ true
+      elim (list_any (finds_own f) s.keys) as (λ b. list_any (finds_own f) s.keys ≡ b → (b || list_any (λ t. list_any (finds_own f) t.keys) ss) ≡ true
       → (k : Written) × (list_any (λ t. list_any (is_own_of f config k) t.keys) (s ∷ ss) ≡ true)) [
         | true ↦ λ e r.
             let here = own_in s.keys e in
@@ -97,7 +97,7 @@ module _ (p : Profile) (f : Finders) (config : Config) (column : Option ℕ) whe
       ] refl some
 
   -- no key is found where no frame is
-  pub no_match : ((k : Written) → is_own_key p f config column k ≡ false) → has_own_match p f config column ≡ false
+  pub no_match : ((k : Written) → is_found_key p f config column k ≡ false) → has_own_match p f config column ≡ false
   no_match none = elim (has_own_match p f config column) as (λ b. has_own_match p f config column ≡ b → b ≡ false) [
     | true ↦ λ e. let found = own_among (report_frames p f config column) e in absurd (false≢true (sym (none found.0) ∙ found.1))
     | false ↦ λ e. refl
@@ -155,7 +155,7 @@ module _ (p : Profile) (f : Finders) (config : Config) (column : Option ℕ) whe
 
     -- over the samples that the filters leave, by their numbers
     pub own_key_is : (kept : List ℕ) → kept ≡ filtered_from p f config 0 p.sample → (k : Written)
-        → list_any (has_own_number p f config column find k) kept ≡ is_own_key p f config column k
+        → list_any (has_own_number p f config column find k) kept ≡ is_found_key p f config column k
     own_key_is kept is k =
         sym (any-filter_map (has_own_sample p f config column find k) (slice_get p.sample) kept)
         ∙ ap (list_any (has_own_sample p f config column find k)) (kept_samples p f config kept is)
@@ -163,27 +163,27 @@ module _ (p : Profile) (f : Finders) (config : Config) (column : Option ℕ) whe
 
     -- the keys that are gathered over them are those that are found
     pub keys_found : (numbers kept : List ℕ) (keys : List Key) → numbers ≡ kept → kept ≡ filtered_from p f config 0 p.sample
-        → ((k : Written) → has_key p keys k ≡ list_any (has_own_number p f config column find k) numbers)
-        → (k : Written) → has_key p keys k ≡ is_own_key p f config column k
+        → ((k : Written) → holds_key p keys k ≡ list_any (has_own_number p f config column find k) numbers)
+        → (k : Written) → holds_key p keys k ≡ is_found_key p f config column k
     keys_found numbers kept keys lent is gathered k = gathered k ∙ own_key_is numbers (lent ∙ is) k
 
-pub no_keys : (p : Profile) (keys : List Key) (k : Written) → length keys ≡ 0 → has_key p keys k ≡ false
+pub no_keys : (p : Profile) (keys : List Key) (k : Written) → length keys ≡ 0 → holds_key p keys k ≡ false
 no_keys p [] k none = refl
 no_keys p (x ∷ keys) k none = absurd (omega (arith, none))
 
-pub some_key : (p : Profile) (keys : List Key) → (length keys ≡ 0 → ⊥) → (k : Written) × (has_key p keys k ≡ true)
+pub some_key : (p : Profile) (keys : List Key) → (length keys ≡ 0 → ⊥) → (k : Written) × (holds_key p keys k ≡ true)
 some_key p [] some = absurd (some refl)
 some_key p (x ∷ keys) some =
-    let is : has_key p (x ∷ keys) (key_written p x) ≡ true = ap (λ b. b || has_key p keys (key_written p x)) (tied_self (key_written p x)) in
+    let is : holds_key p (x ∷ keys) (key_written p x) ≡ true = ap (λ b. b || holds_key p keys (key_written p x)) (tied_self (key_written p x)) in
     (key_written p x, is)
 
 -- names among keys, by texts
 module _ (p : Profile) (compact : IsCompact p) (keys : List Key) (of_profile : All (IsKeyOf p) keys) where
-  same_there : (key : Key) → IsKeyOf p key → (ks : List Key) → All (IsKeyOf p) ks → has_key p ks (key_written p key) ≡ true → list_any (same_key key) ks ≡ true
+  same_there : (key : Key) → IsKeyOf p key → (ks : List Key) → All (IsKeyOf p) ks → holds_key p ks (key_written p key) ≡ true → list_any (same_key key) ks ≡ true
   same_there key own [] all some = some
   same_there key own (x ∷ ks) all some =
       elim (eq_by_cmp key_cmp (key_written p key) (key_written p x)) as (λ b. eq_by_cmp key_cmp (key_written p key) (key_written p x) ≡ b
-      → (b || has_key p ks (key_written p key)) ≡ true → (same_key key x || list_any (same_key key) ks) ≡ true) [
+      → (b || holds_key p ks (key_written p key)) ≡ true → (same_key key x || list_any (same_key key) ks) ≡ true) [
         | true ↦ λ e s.
             let is : key ≡ x = same_keys p key x compact own (All-head (IsKeyOf p) x ks all) (tied (key_written p key) (key_written p x) e) in
             ap (λ b. b || list_any (same_key key) ks) ((key_decides key x).1 is)
@@ -192,10 +192,10 @@ module _ (p : Profile) (compact : IsCompact p) (keys : List Key) (of_profile : A
             ∙ elim (same_key key x) as (λ b. (b || true) ≡ true) [ true ↦ refl | false ↦ refl ]
       ] refl some
 
-  pub names_marked : (test : Written → Bool) → ((k : Written) → has_key p keys k ≡ test k) → (names : List Key) → All (IsKeyOf p) names
+  pub names_marked : (test : Written → Bool) → ((k : Written) → holds_key p keys k ≡ test k) → (names : List Key) → All (IsKeyOf p) names
       → map (λ key. list_any (same_key key) keys) names ≡ map (λ key. test (key_written p key)) names
   names_marked test is [] all = refl
   names_marked test is (key ∷ names) all = λ i.
-      (same_bool (list_any (same_key key) keys) (has_key p keys (key_written p key)) (λ e. has_same p keys key (key_written p key) e (tied_self (key_written p key)))
+      (same_bool (list_any (same_key key) keys) (holds_key p keys (key_written p key)) (λ e. has_same p keys key (key_written p key) e (tied_self (key_written p key)))
       (λ e. same_there key (All-head (IsKeyOf p) key names all) keys of_profile e) ∙ is (key_written p key)) i
       ∷ names_marked test is names (All-tail (IsKeyOf p) key names all) i

@@ -27,13 +27,13 @@ use Rattle.pp_count.specs.Sums.{Seen, has, occurs}
 use Rattle.pp_count.specs.Table.{no_key, written_key}
 use Rattle.pp_count.proofs.Ties.{tied_self}
 use Rattle.pp_graph.specs.declared.ranking.Ranked.{Ranked}
-use Rattle.pp_graph.specs.Links.{Links, live_edges}
+use Rattle.pp_graph.specs.Links.{EdgeLinks, live_edges}
 use Rattle.pp_graph.specs.Trim.{all_report_keys}
 use Rattle.pp_graph.specs.Trimmed.{IsWholeRanking}
 use Rattle.pp_graph.specs.KeyRows.{CanShow}
 use Rattle.pp_graph.proofs.Whole.{light-none}
-use Rattle.pp_tree.specs.Nodes.{table_heading, nodes_text}
-use Rattle.pp_tree.specs.Peek.{is_own_key, whole_node_of, peek_text}
+use Rattle.pp_tree.specs.Nodes.{table_heading, tree_nodes_text}
+use Rattle.pp_tree.specs.Peek.{is_found_key, whole_node_of, peek_text}
 use Rattle.pp_tree.specs.Ends.{ShowsPairs, node_at, peeked_text, edge_if}
 use Rattle.pp_tree.specs.Whole.{any_key, all_pairs}
 use Rattle.pp_tree.proofs.Shown.{keys_of_names, nodes_are}
@@ -118,7 +118,7 @@ module _ (p : Profile) (names : List Key) where
       ap (list_any (λ n. eq_by_cmp key_cmp q (written_key p names n))) (numbers_all 0 (length names) (length names) (omega arith))
       ∙ in_range q [] names refl some
 
-live-all : (g : Links) (edges : List Edge) → g.edges ≡ map Some edges → live_edges g ≡ edges
+live-all : (g : EdgeLinks) (edges : List Edge) → g.edges ≡ map Some edges → live_edges g ≡ edges
 live-all g edges is = ap (filter_map (λ edge. edge)) is ∙ each edges where
   each : (es : List Edge) → filter_map (λ edge. edge) (map Some es) ≡ es
   each [] = refl
@@ -126,7 +126,7 @@ live-all g edges is = ap (filter_map (λ edge. edge)) is ∙ each edges where
 
 module _ (l : Loaded) (v : Verdicts) (config : Config) (column : Option ℕ) (c : Counted) (f : Finders) (holds : HoldsFilters l v config f) (counted : IsCountedOf l v config column c) where
   -- the graph of all edges shows all pairs
-  pub whole_shows : (g : Links) (keep : List Bool) (edges : List Edge) → keep ≡ replicate (length c.sums.names) true → g.edges ≡ map Some edges
+  pub whole_shows : (g : EdgeLinks) (keep : List Bool) (edges : List Edge) → keep ≡ replicate (length c.sums.names) true → g.edges ≡ map Some edges
       → AreEdgesOf l.profile (report_samples l.profile f config column) c.sums.names keep edges
       → ShowsPairs l.profile c.sums.names g (all_pairs l.profile f config column)
   whole_shows g keep edges keeps made are = record {
@@ -170,37 +170,37 @@ module _ (l : Loaded) (v : Verdicts) (config : Config) (column : Option ℕ) (c 
 
   -- what is written of those that are found is the peek report
   pub peeked_is : (t : Ranked) (found : List Bool) (shown : List ℕ) (h : Facts) → IsWholeRanking l v config column 0 c t
-      → found ≡ map (λ key. is_own_key l.profile f config column (key_written l.profile key)) c.sums.names
+      → found ≡ map (λ key. is_found_key l.profile f config column (key_written l.profile key)) c.sums.names
       → shown ≡ filter (λ n. get_or found n false) t.order
       → peeked_text l.profile c.sums t.shown_flat shown (all_pairs l.profile f config column) h ≡ peek_text l.profile f config column h
   peeked_is t found shown h whole found_is shown_is =
       let samples : List (Seen Written) = report_samples l.profile f config column in
-      let test : Written → Bool = is_own_key l.profile f config column in
+      let test : Written → Bool = is_found_key l.profile f config column in
       let below : All (λ n. n < length c.sums.names) shown = subst (λ ns. All (λ n. n < length c.sums.names) ns) (sym shown_is) (All-filter (λ n. get_or found n false) (λ n. n < length c.sums.names) t.order whole.below) in
       let keys : map (written_key l.profile c.sums.names) shown ≡ filter test (all_report_keys l.profile f config column) =
       ap (map (written_key l.profile c.sums.names)) (shown_is ∙ ap (λ fs. filter (λ n. get_or fs n false) t.order) found_is)
       ∙ filtered t.order whole.below ∙ ap (filter test) (whole.keys f holds) in
       let nodes : map (node_at l.profile c.sums (all_pairs l.profile f config column)) shown ≡ map (whole_node_of l.profile f config column) (filter test (all_report_keys l.profile f config column)) =
       nodes_are l.profile samples c.sums (all_pairs l.profile f config column) shown (counted.sums_are f holds) below ∙ ap (map (whole_node_of l.profile f config column)) keys in
-      λ i. facts_text h ++ showing_line h.unit h.total (whole.shown_flat f holds i) ++ table_heading ++ nodes_text h.unit h.total (pos 0) (nodes i) where
-        marked : (ks : List Key) (n : ℕ) → n < length ks → get_or (map (λ key. is_own_key l.profile f config column (key_written l.profile key)) ks) n false ≡ is_own_key l.profile f config column (written_key l.profile ks n)
+      λ i. facts_text h ++ showing_line h.unit h.total (whole.shown_flat f holds i) ++ table_heading ++ tree_nodes_text h.unit h.total (pos 0) (nodes i) where
+        marked : (ks : List Key) (n : ℕ) → n < length ks → get_or (map (λ key. is_found_key l.profile f config column (key_written l.profile key)) ks) n false ≡ is_found_key l.profile f config column (written_key l.profile ks n)
         marked [] n within = absurd (omega (arith, within))
         marked (k ∷ ks) zero within = refl
         marked (k ∷ ks) (suc n) within = marked ks n (omega (arith, within))
 
         filtered : (order : List ℕ) → All (λ n. n < length c.sums.names) order
-            → map (written_key l.profile c.sums.names) (filter (λ n. get_or (map (λ key. is_own_key l.profile f config column (key_written l.profile key)) c.sums.names) n false) order)
-            ≡ filter (is_own_key l.profile f config column) (map (written_key l.profile c.sums.names) order)
+            → map (written_key l.profile c.sums.names) (filter (λ n. get_or (map (λ key. is_found_key l.profile f config column (key_written l.profile key)) c.sums.names) n false) order)
+            ≡ filter (is_found_key l.profile f config column) (map (written_key l.profile c.sums.names) order)
         filtered [] all = refl
         filtered (n ∷ order) all =
             let rest = filtered order (All-tail (λ m. m < length c.sums.names) n order all) in
             (λ i. map (written_key l.profile c.sums.names) (cond (marked c.sums.names n (All-head (λ m. m < length c.sums.names) n order all) i)
-            (n ∷ filter (λ m. get_or (map (λ key. is_own_key l.profile f config column (key_written l.profile key)) c.sums.names) m false) order)
-            (filter (λ m. get_or (map (λ key. is_own_key l.profile f config column (key_written l.profile key)) c.sums.names) m false) order)))
-            ∙ elim (is_own_key l.profile f config column (written_key l.profile c.sums.names n)) as (λ b.
-            map (written_key l.profile c.sums.names) (cond b (n ∷ filter (λ m. get_or (map (λ key. is_own_key l.profile f config column (key_written l.profile key)) c.sums.names) m false) order)
-            (filter (λ m. get_or (map (λ key. is_own_key l.profile f config column (key_written l.profile key)) c.sums.names) m false) order))
-            ≡ cond b (written_key l.profile c.sums.names n ∷ filter (is_own_key l.profile f config column) (map (written_key l.profile c.sums.names) order)) (filter (is_own_key l.profile f config column) (map (written_key l.profile c.sums.names) order))) [
+            (n ∷ filter (λ m. get_or (map (λ key. is_found_key l.profile f config column (key_written l.profile key)) c.sums.names) m false) order)
+            (filter (λ m. get_or (map (λ key. is_found_key l.profile f config column (key_written l.profile key)) c.sums.names) m false) order)))
+            ∙ elim (is_found_key l.profile f config column (written_key l.profile c.sums.names n)) as (λ b.
+            map (written_key l.profile c.sums.names) (cond b (n ∷ filter (λ m. get_or (map (λ key. is_found_key l.profile f config column (key_written l.profile key)) c.sums.names) m false) order)
+            (filter (λ m. get_or (map (λ key. is_found_key l.profile f config column (key_written l.profile key)) c.sums.names) m false) order))
+            ≡ cond b (written_key l.profile c.sums.names n ∷ filter (is_found_key l.profile f config column) (map (written_key l.profile c.sums.names) order)) (filter (is_found_key l.profile f config column) (map (written_key l.profile c.sums.names) order))) [
               | true ↦ ap (λ r. written_key l.profile c.sums.names n ∷ r) rest
               | false ↦ rest
             ]

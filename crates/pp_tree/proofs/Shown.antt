@@ -25,7 +25,7 @@ use Rattle.pp_graph.specs.Trim.{has_heavy_edge, report_keys, is_report_key}
 use Rattle.pp_graph.specs.Trimmed.{IsTrimmedOf}
 use Rattle.pp_graph.specs.KeyRows.{key_row}
 use Rattle.pp_graph.proofs.KeyRowLemmas.{row_is}
-use Rattle.pp_tree.specs.Nodes.{table_heading, nodes_text}
+use Rattle.pp_tree.specs.Nodes.{table_heading, tree_nodes_text}
 use Rattle.pp_tree.specs.Tree.{near_of, node_of, summary_text, tree_text}
 use Rattle.pp_tree.specs.Ends.{Pairs, ShowsPairs, callers_in, callees_in, node_at, trimmed_text}
 
@@ -87,4 +87,4 @@ module _ (l : Loaded) (v : Verdicts) (config : Config) (column : Option ℕ) (li
       λ i.
       facts_text h
       ++ summary_text h (trimmed.ranked.shown_flat f holds i) (trimmed.ranked.dropped_nodes f holds i) (trimmed.dropped_edges f holds i) (count i) (trimmed.ranked.candidates f holds i)
-      ++ table_heading ++ nodes_text h.unit h.total (pos 0) (nodes i)
+      ++ table_heading ++ tree_nodes_text h.unit h.total (pos 0) (nodes i)

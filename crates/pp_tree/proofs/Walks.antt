@@ -9,19 +9,19 @@ use Rattle.std.proofs.lemmas.List.Elements.{filter_map-append}
 use Rattle.std.proofs.lemmas.List.Sums.{sum_by-cons}
 use Rattle.std.proofs.lemmas.Option.{get_or_from_slice_get, slice_get_within, none-some}
 use Rattle.pp_count.specs.declared.edge.Edge.{Edge}
-use Rattle.pp_graph.specs.Links.{Links, AreLinked, edge_at}
-use Rattle.pp_graph.specs.Lists.{times, once_if}
+use Rattle.pp_graph.specs.Links.{EdgeLinks, AreEdgesLinked, numbered_edge}
+use Rattle.pp_graph.specs.Lists.{occurrences, once_if}
 use Rattle.pp_graph.specs.Neighbours.{Neighbour}
 use Rattle.pp_model.specs.FrameTexts.{Written}
 use Rattle.pp_tree.specs.declared.near.Near.{Near as CodeNear}
 use Rattle.pp_tree.specs.Ends.{edges_at, neighbour_of}
 
 -- a number at a place of a list stands in it
-times-at : (ns : List ℕ) (k : ℕ) → k < length ns → 0 < times (get_or ns k 0) ns
+times-at : (ns : List ℕ) (k : ℕ) → k < length ns → 0 < occurrences (get_or ns k 0) ns
 times-at [] k within = absurd (omega (arith, within))
 times-at (n ∷ ns) zero within = omega (arith, sum_by-cons (λ x. cond (eqb x n) 1 0) n ns, ap {B = ℕ} (λ b. cond b 1 0) (eq-eqb n n refl))
 times-at (n ∷ ns) (suc k) within =
-    let rest : 0 < times (get_or ns k 0) ns = times-at ns k (omega (arith, within)) in
+    let rest : 0 < occurrences (get_or ns k 0) ns = times-at ns k (omega (arith, within)) in
     omega (arith, rest, sum_by-cons (λ x. cond (eqb x (get_or ns k 0)) 1 0) n ns)
 
 -- an item that is there
@@ -30,24 +30,24 @@ there [] i x found = absurd (none-some x found)
 there (o ∷ xs) zero x found = ap Some found
 there (o ∷ xs) (suc i) x found = there xs i x found
 
-module _ (g : Links) (near : Edge → ℕ) (n : ℕ) (ns : List ℕ) (counts : (e : ℕ) → times e ns ≡ once_if (option_map_or (λ edge. eqb (near edge) n) (edge_at g e) false)) where
+module _ (g : EdgeLinks) (near : Edge → ℕ) (n : ℕ) (ns : List ℕ) (counts : (e : ℕ) → occurrences e ns ≡ once_if (option_map_or (λ edge. eqb (near edge) n) (numbered_edge g e) false)) where
   -- the numbers of the list are those of live edges
-  pub live : (k e : ℕ) → slice_get ns k ≡ Some e → IsSome (edge_at g e)
+  pub live : (k e : ℕ) → slice_get ns k ≡ Some e → IsSome (numbered_edge g e)
   live k e found =
       let within : k < length ns = slice_get_within ns k e found in
-      let some : 0 < times e ns = subst (λ m. 0 < times m ns) (get_or_from_slice_get ns k e 0 found) (times-at ns k within) in
-      elim (edge_at g e) as (λ o. times e ns ≡ once_if (option_map_or (λ edge. eqb (near edge) n) o false) → IsSome o) [
+      let some : 0 < occurrences e ns = subst (λ m. 0 < occurrences m ns) (get_or_from_slice_get ns k e 0 found) (times-at ns k within) in
+      elim (numbered_edge g e) as (λ o. occurrences e ns ≡ once_if (option_map_or (λ edge. eqb (near edge) n) o false) → IsSome o) [
         | None ↦ λ is. absurd (omega (arith, is, some))
         | Some edge ↦ λ is. refl
       ] (counts e)
 
 -- both ends of a live edge are nodes
-pub ends_below : (g : Links) (count e : ℕ) (edge : Edge) → AreLinked g → length g.nodes ≡ count → edge_at g e ≡ Some edge → (edge.from < count) × (edge.to < count)
+pub ends_below : (g : EdgeLinks) (count e : ℕ) (edge : Edge) → AreEdgesLinked g → length g.nodes ≡ count → numbered_edge g e ≡ Some edge → (edge.from < count) × (edge.to < count)
 ends_below g count e edge linked is found = subst (λ m. (edge.from < m) × (edge.to < m)) is (linked.ends e edge (there g.edges e edge found))
 
 -- one more edge is passed
-pub walked_more : (g : Links) (ns : List ℕ) (end : Edge → Neighbour Written) (nears more : List CodeNear) (x : CodeNear) (e : ℕ) (edge : Edge)
-    → slice_get ns (length nears) ≡ Some e → edge_at g e ≡ Some edge → neighbour_of x ≡ end edge → more ≡ nears ++ x ∷ []
+pub walked_more : (g : EdgeLinks) (ns : List ℕ) (end : Edge → Neighbour Written) (nears more : List CodeNear) (x : CodeNear) (e : ℕ) (edge : Edge)
+    → slice_get ns (length nears) ≡ Some e → numbered_edge g e ≡ Some edge → neighbour_of x ≡ end edge → more ≡ nears ++ x ∷ []
     → map neighbour_of nears ≡ map end (edges_at g (take (length nears) ns))
     → map neighbour_of more ≡ map end (edges_at g (take (length more) ns))
 walked_more g ns end nears more x e edge at found is pushed so_far =
@@ -56,7 +56,7 @@ walked_more g ns end nears more x e edge at found is pushed so_far =
     let item : get_or ns k 0 ≡ e = get_or_from_slice_get ns k e 0 at in
     let grown : edges_at g (take (length more) ns) ≡ edges_at g (take k ns) ++ edge ∷ [] =
     ap (λ m. edges_at g (take m ns)) one ∙ ap (edges_at g) (take_more ns k 0 (slice_get_within ns k e at))
-    ∙ filter_map-append (edge_at g) (take k ns) (get_or ns k 0 ∷ []) ∙ ap (λ m. edges_at g (take k ns) ++ cons_option (edge_at g m) []) item
+    ∙ filter_map-append (numbered_edge g) (take k ns) (get_or ns k 0 ∷ []) ∙ ap (λ m. edges_at g (take k ns) ++ cons_option (numbered_edge g m) []) item
     ∙ ap (λ o. edges_at g (take k ns) ++ cons_option o []) found in
     ap (map neighbour_of) pushed ∙ map-append neighbour_of nears (x ∷ [])
     ∙ (λ i. so_far i ++ is i ∷ [])
@@ -69,7 +69,7 @@ pub next_at : (ns : List ℕ) (next : Option ℕ) (nears more : List CodeNear) (
 next_at ns next nears more x pushed is = is ∙ ap (slice_get ns) (sym (ap length pushed ∙ length-append nears (x ∷ [])))
 
 -- at the end all are passed
-pub walked_all : (g : Links) (ns : List ℕ) (end : Edge → Neighbour Written) (nears : List CodeNear) → None ≡ slice_get ns (length nears)
+pub walked_all : (g : EdgeLinks) (ns : List ℕ) (end : Edge → Neighbour Written) (nears : List CodeNear) → None ≡ slice_get ns (length nears)
     → map neighbour_of nears ≡ map end (edges_at g (take (length nears) ns)) → map neighbour_of nears ≡ map end (edges_at g ns)
 walked_all g ns end nears none so_far =
     so_far ∙ ap (λ ms. map end (edges_at g ms)) (take_all (length nears) ns (past ns (length nears) none)) where

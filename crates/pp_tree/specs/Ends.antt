@@ -14,13 +14,13 @@ use Rattle.pp_count.specs.declared.edge.Edge.{Edge}
 use Rattle.pp_count.specs.declared.sums.Sums.{Sums}
 use Rattle.pp_count.specs.EdgeSums.{edges_between}
 use Rattle.pp_count.specs.Table.{written_key}
-use Rattle.pp_graph.specs.Links.{Links, AreLinked, edge_at, live_edges}
-use Rattle.pp_graph.specs.Neighbours.{Neighbour, listed}
+use Rattle.pp_graph.specs.Links.{EdgeLinks, AreEdgesLinked, numbered_edge, live_edges}
+use Rattle.pp_graph.specs.Neighbours.{Neighbour, neighbour_list}
 use Rattle.pp_graph.specs.Trimmed.{HasNodes}
 use Rattle.pp_graph.specs.KeyRows.{row_at}
 use Rattle.pp_tree.specs.declared.near.Near.{Near as CodeNear}
 use Rattle.pp_graph.specs.declared.trimming.Trimmed.{Trimmed}
-use Rattle.pp_tree.specs.Nodes.{Node, table_heading, nodes_text}
+use Rattle.pp_tree.specs.Nodes.{Node, table_heading, tree_nodes_text}
 use Rattle.pp_tree.specs.Tree.{near_of, summary_text}
 
 -- Which pairs of a caller and a callee a report shows, what each comes to, and the keys among which they are.
@@ -32,13 +32,13 @@ pub record Pairs : Type 0 where
 -- the callers of a key, as the report lists them
 abbrev pub callers_in : Pairs → Written → List (Neighbour Written)
 callers_in pairs callee =
-    listed key_cmp (λ caller. pairs.shows caller callee) (λ caller. pairs.value caller callee)
+    neighbour_list key_cmp (λ caller. pairs.shows caller callee) (λ caller. pairs.value caller callee)
     pairs.keys
 
 -- the callees of a key in the same way
 abbrev pub callees_in : Pairs → Written → List (Neighbour Written)
 callees_in pairs caller =
-    listed key_cmp (λ callee. pairs.shows caller callee) (λ callee. pairs.value caller callee)
+    neighbour_list key_cmp (λ callee. pairs.shows caller callee) (λ callee. pairs.value caller callee)
     pairs.keys
 
 -- the node of the name with this number
@@ -50,8 +50,8 @@ node_at p sums pairs n = record {
 }
 
 -- the absolute cum of the name with this number
-abbrev pub cum_size : Sums → ℕ → ℕ
-cum_size sums n = nat_abs (slice_index_or sums.cum n (pos 0))
+abbrev pub cum_weight : Sums → ℕ → ℕ
+cum_weight sums n = nat_abs (slice_index_or sums.cum n (pos 0))
 
 -- the pair of two names, as a list of none or one edge between their numbers
 abbrev pub edge_if : Profile → List Key → Pairs → ℕ → ℕ → List Edge
@@ -63,7 +63,7 @@ edge_if p names pairs a b =
     else []
 
 -- The graph shows these pairs: each has one edge and no other has any, and the keys are those of the names, each once.
-pub record ShowsPairs (p : Profile) (names : List Key) (g : Links) (pairs : Pairs) : Type 0 where
+pub record ShowsPairs (p : Profile) (names : List Key) (g : EdgeLinks) (pairs : Pairs) : Type 0 where
   pub keys : (k : Written)
       → list_any (eq_by_cmp key_cmp k) pairs.keys
       ≡ list_any (eq_by_cmp key_cmp k) (map (key_written p) names)
@@ -72,9 +72,9 @@ pub record ShowsPairs (p : Profile) (names : List Key) (g : Links) (pairs : Pair
       → edges_between a b (live_edges g) ≡ edge_if p names pairs a b
 
 -- The graph can be walked: it is linked, and its nodes are those of the names, whose keys are keys of the profile.
-pub record CanWalk (p : Profile) (sums : Sums) (g : Links) : Type 0 where
+pub record CanWalk (p : Profile) (sums : Sums) (g : EdgeLinks) : Type 0 where
   pub keys : All (IsKeyOf p) sums.names
-  pub linked : AreLinked g
+  pub linked : AreEdgesLinked g
   pub nodes : HasNodes sums g
 
 -- what an end of an edge stands for
@@ -100,8 +100,8 @@ abbrev pub callee_end : Profile → List Key → Edge → Neighbour Written
 callee_end p names edge = record { key = written_key p names edge.to; value = edge.value }
 
 -- the edges with these numbers
-abbrev pub edges_at : Links → List ℕ → List Edge
-edges_at g numbers = filter_map (edge_at g) numbers
+abbrev pub edges_at : EdgeLinks → List ℕ → List Edge
+edges_at g numbers = filter_map (numbered_edge g) numbers
 
 -- what is written of a trimmed graph
 abbrev pub trimmed_text : Profile → Sums → Trimmed → Pairs → Facts → List ℕ
@@ -110,10 +110,10 @@ trimmed_text p sums t pairs h =
     ++ summary_text h t.ranked.shown_flat t.ranked.dropped_nodes t.dropped_edges
     (length t.ranked.order) t.ranked.candidates
     ++ table_heading
-    ++ nodes_text h.unit h.total (pos 0) (map (node_at p sums pairs) t.ranked.order)
+    ++ tree_nodes_text h.unit h.total (pos 0) (map (node_at p sums pairs) t.ranked.order)
 
 -- what is written of these names, where all flats have this sum
 abbrev pub peeked_text : Profile → Sums → ℤ → List ℕ → Pairs → Facts → List ℕ
 peeked_text p sums sum order pairs h =
     facts_text h ++ showing_line h.unit h.total sum ++ table_heading
-    ++ nodes_text h.unit h.total (pos 0) (map (node_at p sums pairs) order)
+    ++ tree_nodes_text h.unit h.total (pos 0) (map (node_at p sums pairs) order)

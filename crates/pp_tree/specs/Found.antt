@@ -12,14 +12,14 @@ use Rattle.pp_model.specs.declared.profile.Sample.{Sample}
 use Rattle.pp_model.specs.Finders.{Finder, Finders}
 use Rattle.pp_model.specs.FrameTexts.{Written, written}
 use Rattle.pp_grain.specs.declared.key.Key.{Key}
-use Rattle.pp_grain.specs.Keys.{key_cmp, key_written, counts}
+use Rattle.pp_grain.specs.Keys.{key_cmp, key_written, frame_counts}
 use Rattle.pp_stack.specs.Filters.{frames_of_sample}
 use Rattle.pp_count.specs.Column.{selected}
 use Rattle.pp_count.specs.Seeing.{counted_frames, key_of_frame}
 
 -- one of the keys is this one
-abbrev pub has_key : Profile → List Key → Written → Bool
-has_key p keys k = list_any (eq_by_cmp key_cmp k) (map (key_written p) keys)
+abbrev pub holds_key : Profile → List Key → Written → Bool
+holds_key p keys k = list_any (eq_by_cmp key_cmp k) (map (key_written p) keys)
 
 -- the pattern finds the frame's function, and the key is the frame's
 abbrev pub is_own_frame : Profile → Config → Finder → Written → Frame → Bool
@@ -33,7 +33,7 @@ no_frame = record { place = 0; location = 0; row = Option.None }
 -- the frame at the place counts, and is such a one
 abbrev pub is_own_at : Profile → Config → Finder → Written → List Frame → ℕ → Bool
 is_own_at p config find k stack place =
-    counts stack place config.noinlines
+    frame_counts stack place config.noinlines
     && is_own_frame p config find k (slice_index_or stack place no_frame)
 
 -- one of the stack's frames that count is such a one

@@ -17,8 +17,8 @@ pub record Node : Type 0 where
   pub callees : List Near
 
 -- 69 dashes, a cross and 20 dashes
-unfoldable pub separator : List ℕ
-separator =
+unfoldable pub node_separator : List ℕ
+node_separator =
     codes "---------------------------------------------------------------------+--------------------\n"
 
 -- the columns of a node and of its edges
@@ -28,7 +28,7 @@ columns_line =
 
 -- the heading of the table
 abbrev pub table_heading : List ℕ
-table_heading = separator ++ columns_line ++ separator
+table_heading = node_separator ++ columns_line ++ node_separator
 
 -- the place of a node's columns, in front of an edge
 unfoldable pub edge_indent : List ℕ
@@ -62,9 +62,9 @@ node_text unit total sum node =
     flat_map (near_text unit (nat_abs node.row.cum)) node.callers
     ++ itself_text unit total sum node.row
     ++ flat_map (near_text unit (nat_abs node.row.cum)) node.callees
-    ++ separator
+    ++ node_separator
 
 -- the lines of nodes, where the flats before them have this sum
-abbrev pub nodes_text : Shown → ℕ → ℤ → List Node → List ℕ
-nodes_text unit total before nodes =
+abbrev pub tree_nodes_text : Shown → ℕ → ℤ → List Node → List ℕ
+tree_nodes_text unit total before nodes =
     running_text (λ node. node.row.flat) (node_text unit total) before nodes

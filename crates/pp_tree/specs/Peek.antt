@@ -9,21 +9,21 @@ use Rattle.pp_model.specs.FrameTexts.{Written}
 use Rattle.pp_units.specs.Head.{Facts, facts_text}
 use Rattle.pp_units.specs.Rows.{showing_line}
 use Rattle.pp_grain.specs.Keys.{key_cmp, key_texts}
-use Rattle.pp_count.specs.Counted.{report_samples, report_frames, is_own}
+use Rattle.pp_count.specs.Counted.{report_samples, report_frames, finds_own}
 use Rattle.pp_graph.specs.Neighbours.{all_callers_of, all_callees_of}
 use Rattle.pp_graph.specs.Trim.{all_report_keys}
 use Rattle.pp_graph.specs.KeyRows.{key_row, flat_sum}
-use Rattle.pp_tree.specs.Nodes.{Node, table_heading, nodes_text}
+use Rattle.pp_tree.specs.Nodes.{Node, table_heading, tree_nodes_text}
 use Rattle.pp_tree.specs.Tree.{near_of}
 
 -- the own pattern finds the frame's function, and the key is the frame's
 abbrev pub is_own_of : Finders → Config → Written → Written → Bool
 is_own_of f config k w =
-    is_own f w && eq_by_cmp key_cmp k (key_texts config.grain config.showcolumns w)
+    finds_own f w && eq_by_cmp key_cmp k (key_texts config.grain config.showcolumns w)
 
 -- Whether the own pattern finds the function of a frame that counts and has the key.
-abbrev pub is_own_key : Profile → Finders → Config → Option ℕ → Written → Bool
-is_own_key p f config column k =
+abbrev pub is_found_key : Profile → Finders → Config → Option ℕ → Written → Bool
+is_found_key p f config column k =
     list_any (λ s. list_any (is_own_of f config k) s.keys) (report_frames p f config column)
 
 -- the node of a key with all its callers and callees
@@ -42,5 +42,5 @@ peek_text p f config column h =
     facts_text h
     ++ showing_line h.unit h.total (flat_sum (report_samples p f config column) keys)
     ++ table_heading
-    ++ nodes_text h.unit h.total (pos 0)
-    (map (whole_node_of p f config column) (filter (is_own_key p f config column) keys))
+    ++ tree_nodes_text h.unit h.total (pos 0)
+    (map (whole_node_of p f config column) (filter (is_found_key p f config column) keys))

@@ -10,9 +10,9 @@ use Rattle.pp_units.specs.Rows as lines
 use Rattle.pp_grain.specs.Naming.{name_text}
 use Rattle.pp_count.specs.Counted.{report_samples}
 use Rattle.pp_graph.specs.Neighbours.{Neighbour, callers_of, callees_of}
-use Rattle.pp_graph.specs.Trim.{candidate_keys, report_keys, dropped_nodes, dropped_edges}
+use Rattle.pp_graph.specs.Trim.{candidate_keys, report_keys, light_nodes, light_edges}
 use Rattle.pp_graph.specs.KeyRows.{key_row, flat_sum}
-use Rattle.pp_tree.specs.Nodes.{Near, Node, table_heading, nodes_text}
+use Rattle.pp_tree.specs.Nodes.{Near, Node, table_heading, tree_nodes_text}
 
 -- the other end of an edge, as it is printed
 abbrev pub near_of : Neighbour Written → Near
@@ -38,7 +38,7 @@ tree_text p f config column limit h =
     let keys = report_keys p f config column limit in
     facts_text h
     ++ summary_text h (flat_sum (report_samples p f config column) keys)
-    (dropped_nodes p f config column) (dropped_edges p f config column limit) (length keys)
+    (light_nodes p f config column) (light_edges p f config column limit) (length keys)
     (length (candidate_keys p f config column))
     ++ table_heading
-    ++ nodes_text h.unit h.total (pos 0) (map (node_of p f config column limit) keys)
+    ++ tree_nodes_text h.unit h.total (pos 0) (map (node_of p f config column limit) keys)

@@ -7,9 +7,9 @@ ghost use Rattle.pp_grain.specs.Naming.{name_text};
 ghost use Rattle.pp_count.specs.Counted.{FitSums};
 ghost use Rattle.pp_count.specs.Table.{written_key};
 ghost use Rattle.pp_graph.specs.KeyRows.{CanShow, row_at};
-ghost use Rattle.pp_tree.specs.Nodes.{separator, columns_line, table_heading, near_text, node_gap, line_end, itself_text, node_text, nodes_text};
+ghost use Rattle.pp_tree.specs.Nodes.{node_separator, columns_line, table_heading, near_text, node_gap, line_end, itself_text, node_text, tree_nodes_text};
 ghost use Rattle.pp_tree.specs.Tree.{near_of};
-ghost use Rattle.pp_tree.specs.Ends.{Pairs, ShowsPairs, CanWalk, node_at, cum_size, callers_in, callees_in};
+ghost use Rattle.pp_tree.specs.Ends.{Pairs, ShowsPairs, CanWalk, node_at, cum_weight, callers_in, callees_in};
 
 use crate::ends::{callees, callers};
 use crate::near::put_nears;
@@ -51,9 +51,9 @@ pub fn put_table_heading(out: &mut Text) -> Result<(), Memory>
     put_separator(out)
 }
 
-#[tactic(auto, unfolding(crate::specs::Nodes::separator))]
+#[tactic(auto, unfolding(crate::specs::Nodes::node_separator))]
 fn put_separator(out: &mut Text) -> Result<(), Memory>
-    ensures { IfOk result (λ _. out.new ≡ out.old ++ separator) }
+    ensures { IfOk result (λ _. out.new ≡ out.old ++ node_separator) }
 {
     out.extend(SEPARATOR)
 }
@@ -72,7 +72,7 @@ pub fn put_nodes(alloc: Global, table: &Table, order: &[u64], out: &mut Text) ->
     ensures { (pairs : Pairs) →
         ShowsPairs table.now.p.now table.now.sums.now.names table.now.graph.now pairs →
         IfOk result (λ _. out.new ≡ out.old
-        ++ nodes_text (shown table.now.head.now.unit) table.now.head.now.total (pos 0)
+        ++ tree_nodes_text (shown table.now.head.now.unit) table.now.head.now.total (pos 0)
         (map (node_at table.now.p.now table.now.sums.now pairs) order.now)) }
 {
     let mut scratch = Text::new(alloc);
@@ -122,7 +122,7 @@ fn put_callers(
     ensures { (pairs : Pairs) →
         ShowsPairs table.now.p.now table.now.sums.now.names table.now.graph.now pairs →
         IfOk result (λ _. out.new ≡ out.old ++ flat_map
-        (near_text (shown table.now.head.now.unit) (cum_size table.now.sums.now number))
+        (near_text (shown table.now.head.now.unit) (cum_weight table.now.sums.now number))
         (map near_of (callers_in pairs
         (written_key table.now.p.now table.now.sums.now.names number)))) }
 {
@@ -145,7 +145,7 @@ fn put_callees(
     ensures { (pairs : Pairs) →
         ShowsPairs table.now.p.now table.now.sums.now.names table.now.graph.now pairs →
         IfOk result (λ _. out.new ≡ out.old ++ flat_map
-        (near_text (shown table.now.head.now.unit) (cum_size table.now.sums.now number))
+        (near_text (shown table.now.head.now.unit) (cum_weight table.now.sums.now number))
         (map near_of (callees_in pairs
         (written_key table.now.p.now table.now.sums.now.names number)))) }
 {
@@ -158,7 +158,7 @@ fn put_callees(
 fn cum_size(sums: &Sums, number: u64) -> u64
     requires fits { FitSums sums.now }
     requires below { number < length sums.now.names }
-    ensures { result ≡ cum_size sums.now number }
+    ensures { result ≡ cum_weight sums.now number }
 {
     sums.cum.as_slice()[number as usize].unsigned_abs()
 }

@@ -11,8 +11,8 @@ ghost use Rattle.pp_stack.specs.Filters.{AreVerdicts};
 ghost use Rattle.pp_stack.specs.Tables.{AreTables};
 ghost use Rattle.pp_count.specs.Counted.{IsCountedOf, has_own_match};
 ghost use Rattle.pp_count.specs.Seeing.{HoldsFilters};
-ghost use Rattle.pp_tree.specs.Peek.{is_own_key};
-ghost use Rattle.pp_tree.specs.Found.{has_key, has_own_frame, has_own_number, is_own_at, no_frame, CanAsk};
+ghost use Rattle.pp_tree.specs.Peek.{is_found_key};
+ghost use Rattle.pp_tree.specs.Found.{holds_key, has_own_frame, has_own_number, is_own_at, no_frame, CanAsk};
 
 use indexmap::IndexSet;
 use pp_base::{List, MatchRefusal, Memory};
@@ -47,7 +47,7 @@ pub fn found_names(
     requires verdicts { HasVerdicts l.now.profile v.now }
     requires counted { IsCountedOf l.now v.now config.now column c.now }
     ensures found { (f : Finders) → HoldsFilters l.now v.now config.now f →
-        IfOk result (λ found. found ≡ map (λ key. is_own_key l.now.profile f config.now column
+        IfOk result (λ found. found ≡ map (λ key. is_found_key l.now.profile f config.now column
         (key_written l.now.profile key)) c.now.sums.names) }
     ensures some { (f : Finders) → HoldsFilters l.now v.now config.now f →
         IfOk result (λ _. has_own_match l.now.profile f config.now column ≡ true) }
@@ -80,7 +80,7 @@ fn own_keys(alloc: Global, asked: &Asked<'_>, kept: &[u32]) -> Result<IndexSet<K
     ensures of_profile { IfOk result (λ keys. All (IsKeyOf asked.now.l.now.profile) keys.keys) }
     ensures found { (f : Finders) (find : Finder) → HoldsFinders asked.now.l.now asked.now.v.now f →
         AreVerdicts asked.now.l.now.profile asked.now.own.now find →
-        IfOk result (λ keys. (k : Written) → has_key asked.now.l.now.profile keys.keys k
+        IfOk result (λ keys. (k : Written) → holds_key asked.now.l.now.profile keys.keys k
         ≡ list_any (has_own_number asked.now.l.now.profile f asked.now.config.now asked.now.column find k)
         kept.now) }
 {
@@ -107,8 +107,8 @@ fn add_sample(
         IfOk result (λ _. All (IsKeyOf asked.now.l.now.profile) keys.new.keys) }
     ensures found { (f : Finders) (find : Finder) → HoldsFinders asked.now.l.now asked.now.v.now f →
         AreVerdicts asked.now.l.now.profile asked.now.own.now find →
-        IfOk result (λ _. (k : Written) → has_key asked.now.l.now.profile keys.new.keys k
-        ≡ (has_key asked.now.l.now.profile keys.old.keys k
+        IfOk result (λ _. (k : Written) → holds_key asked.now.l.now.profile keys.new.keys k
+        ≡ (holds_key asked.now.l.now.profile keys.old.keys k
         || has_own_number asked.now.l.now.profile f asked.now.config.now asked.now.column find k number)) }
 {
     let samples = asked.l.profile.get().sample.as_slice();
@@ -130,8 +130,8 @@ fn add_stack(asked: &Asked<'_>, stack: &Stack, keys: &mut IndexSet<Key>) -> Resu
     ensures of_profile { All (IsKeyOf asked.now.l.now.profile) keys.old.keys →
         IfOk result (λ _. All (IsKeyOf asked.now.l.now.profile) keys.new.keys) }
     ensures found { (find : Finder) → AreVerdicts asked.now.l.now.profile asked.now.own.now find →
-        IfOk result (λ _. (k : Written) → has_key asked.now.l.now.profile keys.new.keys k
-        ≡ (has_key asked.now.l.now.profile keys.old.keys k
+        IfOk result (λ _. (k : Written) → holds_key asked.now.l.now.profile keys.new.keys k
+        ≡ (holds_key asked.now.l.now.profile keys.old.keys k
         || has_own_frame asked.now.l.now.profile asked.now.config.now find k stack.now)) }
 {
     for place in 0..stack.len() {
@@ -153,8 +153,8 @@ fn add_frame(
     ensures of_profile { All (IsKeyOf asked.now.l.now.profile) keys.old.keys →
         IfOk result (λ _. All (IsKeyOf asked.now.l.now.profile) keys.new.keys) }
     ensures found { (find : Finder) → AreVerdicts asked.now.l.now.profile asked.now.own.now find →
-        IfOk result (λ _. (k : Written) → has_key asked.now.l.now.profile keys.new.keys k
-        ≡ (has_key asked.now.l.now.profile keys.old.keys k
+        IfOk result (λ _. (k : Written) → holds_key asked.now.l.now.profile keys.new.keys k
+        ≡ (holds_key asked.now.l.now.profile keys.old.keys k
         || is_own_at asked.now.l.now.profile asked.now.config.now find k stack.now place)) }
 {
     let config = asked.config;

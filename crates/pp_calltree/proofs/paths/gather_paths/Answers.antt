@@ -1,7 +1,7 @@
 use Rattle.std.proofs.Common.{◌<◌, ℕ, get_or, length, map, refl, sym, ◌∙◌, ap, subst}
 use Rattle.pp_model.specs.Conditions.{RefersTo, IsSampleOf}
 use Rattle.pp_stack.specs.Runs.{kept_if}
-use Rattle.pp_count.specs.Scope.{profile_of}
+use Rattle.pp_count.specs.Scope.{profile_in_scope}
 use Rattle.pp_count.proofs.Ranges.{name_of}
 use Rattle.pp_calltree.proofs.Gathering.{gathered_none, met_none, met_more, met_all, paths_more, paths_same}
 use Rattle.pp_calltree.proofs.Kept.{kept_none}
@@ -18,13 +18,13 @@ pub see-requires-clause-member : goal.see-requires-clause-member
 see-requires-clause-member c =
     let number : ℕ = get_or c.args.kept.now c.loop-number.number-index 0 in
     let here : number < length c.args.samples.now = c.requires.rising.below c.loop-number.number-index 0 c.loop-number-test.true in
-    subst (λ s. IsSampleOf (profile_of c.args.scope.now) s) (sym c.index-samples-number.is) (c.requires.members number c.index-samples-number.result here)
+    subst (λ s. IsSampleOf (profile_in_scope c.args.scope.now) s) (sym c.index-samples-number.is) (c.requires.members number c.index-samples-number.result here)
 
 pub see-requires-clause-refers : goal.see-requires-clause-refers
 see-requires-clause-refers c =
     let number : ℕ = get_or c.args.kept.now c.loop-number.number-index 0 in
     let here : number < length c.args.samples.now = c.requires.rising.below c.loop-number.number-index 0 c.loop-number-test.true in
-    subst (λ s. RefersTo (profile_of c.args.scope.now) s) (sym c.index-samples-number.is) (c.requires.refers number c.index-samples-number.result here)
+    subst (λ s. RefersTo (profile_in_scope c.args.scope.now) s) (sym c.index-samples-number.is) (c.requires.refers number c.index-samples-number.result here)
 
 pub loop-number-preserved : goal.loop-number-preserved
 loop-number-preserved c =

@@ -3,7 +3,7 @@ use Rattle.std.specs.List.{filter}
 use Rattle.std.proofs.lemmas.Int.{fits_signed_from_abs, to_z-of_z}
 use Rattle.pp_model.specs.Rules.{IsCompact}
 use Rattle.pp_count.specs.Base.{is_base_number}
-use Rattle.pp_count.specs.Rising.{AreRising}
+use Rattle.pp_count.specs.Rising.{AreRisingBetween}
 use Rattle.pp_count.specs.Tally.{tally_at}
 use Rattle.pp_count.proofs.Based.{base_sums_are, base_fits}
 use Rattle.pp_count.proofs.Kept.{values_fit}
@@ -12,7 +12,7 @@ use Rattle.pp_count.proofs.base.base_sums.Goals as goal
 
 pub chosen_tallies-requires-clause-rising : goal.chosen_tallies-requires-clause-rising
 chosen_tallies-requires-clause-rising g c = λ _ _.
-    subst (AreRising 0 (length c.args.l.now.profile.sample))
+    subst (AreRisingBetween 0 (length c.args.l.now.profile.sample))
     (sym (c.as_slice-chosen.ensures ∙ c.in_ok-list.ensures ∙ (λ i. filter (is_base_number (c.get-compact.ensures.same i)) (c.as_slice-kept.ensures i))))
     (rising-filter (is_base_number c.args.l.now.profile) 0 (length c.args.l.now.profile.sample) c.args.counted.now.kept c.requires.counted.rising)
 
@@ -22,7 +22,7 @@ selected_sum-whole-requires-clause-fits g c =
 
 pub selected_sum-whole-requires-clause-rising : goal.selected_sum-whole-requires-clause-rising
 selected_sum-whole-requires-clause-rising g c =
-    subst (AreRising 0 (length c.args.l.now.profile.sample))
+    subst (AreRisingBetween 0 (length c.args.l.now.profile.sample))
     (sym (c.as_slice-chosen.ensures ∙ c.in_ok-list.ensures ∙ (λ i. filter (is_base_number (c.get-compact.ensures.same i)) (c.as_slice-kept.ensures i))))
     (rising-filter (is_base_number c.args.l.now.profile) 0 (length c.args.l.now.profile.sample) c.args.counted.now.kept c.requires.counted.rising)
 
@@ -42,7 +42,7 @@ returns-clause-fits g c =
     c.args.counted.now.table.names c.requires.counted.table.keys c.requires.counted.table.distinct c.as_slice-chosen.result.now (tally_at c.in_ok-tallies.tallies) c.in_ok-tallies.ensures
     c.args.counted.now.sums c.args.counted.now.numbers c.requires.counted.names c.requires.counted.numbered c.in_ok-sums.sums
     (rw c.as_slice-numbers.ensures at c.in_ok-sums.ensures.flat) (rw c.as_slice-numbers.ensures at c.in_ok-sums.ensures.cum)
-    (subst (AreRising 0 (length c.args.l.now.profile.sample))
+    (subst (AreRisingBetween 0 (length c.args.l.now.profile.sample))
     (sym (c.as_slice-chosen.ensures ∙ c.in_ok-list.ensures ∙ (λ i. filter (is_base_number (c.get-compact.ensures.same i)) (c.as_slice-kept.ensures i))))
     (rising-filter (is_base_number c.args.l.now.profile) 0 (length c.args.l.now.profile.sample) c.args.counted.now.kept c.requires.counted.rising)) (values_fit c.args.l.now.profile c.args.column c.args.config.now.divide_by c.requires.can.countable c.requires.can.column)
     (rw (c.in_ok-sums.ensures.whole, to_z-of_z w64 c.selected_sum-whole.result (fits_signed_from_abs w64 c.selected_sum-whole.result c.selected_sum-whole.ensures.small)) c.selected_sum-whole.ensures.small)

@@ -2,7 +2,7 @@ use Rattle.std.proofs.Common.{w64, length, sym, ap, ◌∙◌, subst}
 use Rattle.std.proofs.lemmas.Int.{fits_signed_from_abs, to_z-of_z}
 use Rattle.pp_count.specs.Base.{selected_all}
 use Rattle.pp_count.specs.Counts.{samples_at}
-use Rattle.pp_count.specs.Rising.{AreRising}
+use Rattle.pp_count.specs.Rising.{AreRisingBetween}
 use Rattle.pp_count.proofs.Kept.{kept_samples, values_fit}
 use Rattle.pp_count.proofs.base.counted_whole.Goals as goal
 
@@ -12,7 +12,7 @@ selected_sum-requires-clause-fits c =
 
 pub selected_sum-requires-clause-rising : goal.selected_sum-requires-clause-rising
 selected_sum-requires-clause-rising c =
-    subst (AreRising 0 (length c.args.l.now.profile.sample)) (sym c.as_slice.ensures) c.requires.counted.rising
+    subst (AreRisingBetween 0 (length c.args.l.now.profile.sample)) (sym c.as_slice.ensures) c.requires.counted.rising
 
 pub returns : goal.returns
 returns c = λ f holds.

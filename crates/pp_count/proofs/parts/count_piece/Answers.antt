@@ -1,17 +1,17 @@
 use Rattle.std.proofs.Common.{◌*◌, refl, subst, sym, arith}
 use Rattle.pp_model.specs.Rules.{IsCompact}
 use Rattle.pp_count.specs.Parts.{piece_samples}
-use Rattle.pp_count.specs.Scope.{IsSound, AreCountable, IsPartOf, samples_of}
+use Rattle.pp_count.specs.Scope.{IsSoundScope, AreCountable, IsPartOf, samples_in_scope}
 use Rattle.pp_count.proofs.Joined.{range_part}
 use Rattle.pp_count.proofs.Kept.{values_fit}
 use Rattle.pp_count.proofs.parts.count_piece.Goals as goal
 
 pub count_piece_of-requires-clause-sound : goal.count_piece_of-requires-clause-sound
-count_piece_of-requires-clause-sound c = subst IsSound (sym c.whole-scope.ensures)
+count_piece_of-requires-clause-sound c = subst IsSoundScope (sym c.whole-scope.ensures)
     (record { filters = c.in_ok-filters.ensures; verdicts = c.requires.can.verdicts; table = c.requires.table; few_kept = tt; chosen = tt })
 
 pub count_piece_of-requires-clause-countable : goal.count_piece_of-requires-clause-countable
-count_piece_of-requires-clause-countable c = subst (λ scope. AreCountable scope (samples_of scope)) (sym c.whole-scope.ensures)
+count_piece_of-requires-clause-countable c = subst (λ scope. AreCountable scope (samples_in_scope scope)) (sym c.whole-scope.ensures)
     (record {
       fits = values_fit c.args.l.now.profile c.args.column c.args.config.now.divide_by c.requires.can.countable c.requires.can.column;
       few = c.requires.can.countable.samples;
@@ -20,4 +20,4 @@ count_piece_of-requires-clause-countable c = subst (λ scope. AreCountable scope
 pub returns : goal.returns
 returns c =
     range_part _ (c.args.piece * 1024) (1024 * c.args.piece) _ c.in_ok-part.part refl refl (subst IsCompact c.get-compact.ensures.same c.get-compact.ensures.compact) c.requires.table (omega arith)
-    (subst (λ scope. IsPartOf scope (c.args.piece * 1024) (piece_samples (samples_of scope) c.args.piece) c.in_ok-part.part) c.whole-scope.ensures c.in_ok-part.ensures)
+    (subst (λ scope. IsPartOf scope (c.args.piece * 1024) (piece_samples (samples_in_scope scope) c.args.piece) c.in_ok-part.part) c.whole-scope.ensures c.in_ok-part.ensures)

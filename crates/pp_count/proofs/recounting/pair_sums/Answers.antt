@@ -2,7 +2,7 @@ use Rattle.std.proofs.Common.{ℕ, List, length, map, ap, sym, ◌∙◌, subst}
 use Rattle.pp_count.specs.Sums.{weighed}
 use Rattle.pp_count.specs.Counts.{samples_at}
 use Rattle.pp_count.specs.Edges.{paired}
-use Rattle.pp_count.specs.Rising.{AreRising}
+use Rattle.pp_count.specs.Rising.{AreRisingBetween}
 use Rattle.pp_count.specs.Seeing.{seen_samples}
 use Rattle.pp_count.specs.Tally.{tally_at}
 use Rattle.pp_count.proofs.Based.{chosen_fits, chosen_few, kept_seen}
@@ -15,13 +15,13 @@ count_all-requires-clause-sound g c = λ _ _. record {
   verdicts = c.requires.can.verdicts;
   table = c.requires.counted.table;
   few_kept = c.requires.over;
-  chosen = subst (AreRising 0 (length c.args.l.now.profile.sample)) (sym c.as_slice-kept.ensures) c.requires.counted.rising;
+  chosen = subst (AreRisingBetween 0 (length c.args.l.now.profile.sample)) (sym c.as_slice-kept.ensures) c.requires.counted.rising;
 }
 
 pub count_all-requires-clause-countable : goal.count_all-requires-clause-countable
 count_all-requires-clause-countable g c = λ _ _.
-    let rising : AreRising 0 (length c.args.l.now.profile.sample) c.as_slice-kept.result.now =
-    subst (AreRising 0 (length c.args.l.now.profile.sample)) (sym c.as_slice-kept.ensures) c.requires.counted.rising in
+    let rising : AreRisingBetween 0 (length c.args.l.now.profile.sample) c.as_slice-kept.result.now =
+    subst (AreRisingBetween 0 (length c.args.l.now.profile.sample)) (sym c.as_slice-kept.ensures) c.requires.counted.rising in
     record {
       fits = chosen_fits c.args.l.now.profile c.args.column c.args.config.now.divide_by c.as_slice-kept.result.now c.requires.can.countable c.requires.can.column rising;
       few = chosen_few c.args.l.now.profile c.as_slice-kept.result.now c.requires.can.countable rising;

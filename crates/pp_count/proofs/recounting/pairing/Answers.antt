@@ -1,5 +1,5 @@
 use Rattle.std.proofs.Common.{◌<◌, All, length, get_or, map, sym, ap, ◌∙◌, subst, arith}
-use Rattle.pp_count.specs.Edges.{AreOnce, ArePlaces}
+use Rattle.pp_count.specs.Edges.{AreOnce, ArePairPlaces}
 use Rattle.pp_count.proofs.Edged.{keys_below}
 use Rattle.pp_count.proofs.recounting.pairing.Goals as goal
 
@@ -19,5 +19,5 @@ places-requires-clause-once c =
 
 pub returns-clause-places : goal.returns-clause-places
 returns-clause-places c =
-    subst (λ ks. ArePlaces ks c.in_ok-place.place) (c.as_slice-keys.ensures ∙ c.in_ok-list.ensures ∙ ap (λ ns. map (λ n. get_or ns n 0) c.args.kept.now) c.as_slice-numbers.ensures)
+    subst (λ ks. ArePairPlaces ks c.in_ok-place.place) (c.as_slice-keys.ensures ∙ c.in_ok-list.ensures ∙ ap (λ ns. map (λ n. get_or ns n 0) c.args.kept.now) c.as_slice-numbers.ensures)
     c.in_ok-place.ensures

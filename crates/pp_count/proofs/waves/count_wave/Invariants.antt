@@ -1,8 +1,8 @@
 use Rattle.std.proofs.Common.{◌+◌}
-use Rattle.pp_count.specs.Scope.{samples_of, AreCounted}
+use Rattle.pp_count.specs.Scope.{samples_in_scope, AreCounted}
 use Rattle.pp_count.proofs.Pieces.{front_of}
 use Rattle.pp_count.proofs.waves.count_wave.Given as goal
 
 -- the pieces so far are counted
 abbrev pub invariant-loop-part : goal.invariant-loop-part
-invariant-loop-part g l = AreCounted l.job.scope (front_of (samples_of l.job.scope) (l.job.first + l.part-index)) l.sofar
+invariant-loop-part g l = AreCounted l.job.scope (front_of (samples_in_scope l.job.scope) (l.job.first + l.part-index)) l.sofar

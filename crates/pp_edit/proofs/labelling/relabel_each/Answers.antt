@@ -2,7 +2,7 @@ use Rattle.std.proofs.Common.{◌++◌, ap, refl, ◌∙◌}
 use Rattle.std.proofs.lemmas.List.{length-set}
 use Rattle.pp_model.specs.declared.profile.Sample.{Sample}
 use Rattle.pp_share.proofs.ChangeLemmas.{change_next}
-use Rattle.pp_edit.specs.Keys.{names}
+use Rattle.pp_edit.specs.Keys.{names_key}
 use Rattle.pp_edit.specs.Labels.{relabelled_sample}
 use Rattle.pp_edit.proofs.labelling.relabel_each.Goals as goal
 
@@ -15,7 +15,7 @@ loop-place-preserved c =
     let labels_are = c.in_ok-extend.ensures.ok ∙ ap (λ ls. ls ++ c.args.labels.now) c.drop_labels.ensures in
     record {
       so_far =
-          change_next (relabelled_sample (names c.args.key.now) c.args.labels.now) c.args.samples.now c.loop-place.samples _
+          change_next (relabelled_sample (names_key c.args.key.now) c.args.labels.now) c.args.samples.now c.loop-place.samples _
           c.loop-place.place before s kept.so_far c.item_mut-sample.ensures.value
           (λ j. record before { label = labels_are j }) refl;
       as_long = length-set c.loop-place.samples c.loop-place.place s ∙ kept.as_long;

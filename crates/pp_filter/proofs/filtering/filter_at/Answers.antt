@@ -2,7 +2,7 @@ use Rattle.std.proofs.Common.{sym, ap, subst, ◌∙◌}
 use Rattle.std.proofs.lemmas.Result.{IfOk-weaker}
 use Rattle.pp_model.specs.declared.loaded.Loaded.{Loaded}
 use Rattle.pp_model.specs.Sizes.{IsCountable}
-use Rattle.pp_filter.specs.Filtered.{saved_by}
+use Rattle.pp_filter.specs.Filtered.{saved_of}
 use Rattle.pp_filter.proofs.FilterLemmas.{saves}
 use Rattle.pp_filter.proofs.filtering.filter_at.Goals as goal
 
@@ -18,5 +18,5 @@ returns g c =
     let made_of = c.basis.ensures ∙ c.in_ok-tagged.ensures.tagged in
     IfOk-weaker c.filter_loaded.result _ _
     (λ q is. saves finds c.args.profile config c.in_ok-l.l q c.in_ok-l.ensures.same c.in_ok-l.ensures.found
-    (is ∙ ap (λ (l : Loaded). saved_by finds l config) made_of))
+    (is ∙ ap (λ (l : Loaded). saved_of finds l config) made_of))
     c.filter_loaded.ensures

@@ -1,6 +1,6 @@
-use Rattle.pp_graph.specs.Ranks.{sum_at}
+use Rattle.pp_graph.specs.Ranks.{sum_of_name}
 use Rattle.pp_graph.proofs.Summing.{Summing}
 use Rattle.pp_graph.proofs.ranking.flat_sum.Given as goal
 
 abbrev pub invariant-loop-number : goal.invariant-loop-number
-invariant-loop-number l = Summing (sum_at l.flats) l.order l.number-index l.sum
+invariant-loop-number l = Summing (sum_of_name l.flats) l.order l.number-index l.sum

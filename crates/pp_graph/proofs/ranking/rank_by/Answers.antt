@@ -3,7 +3,7 @@ use Rattle.std.proofs.lemmas.Int.{to_z-of_z}
 use Rattle.pp_model.specs.declared.config.Sort.{Sort}
 use Rattle.pp_model.specs.declared.profile.Profile.{Profile}
 use Rattle.pp_graph.specs.declared.heavy.Row.{Row}
-use Rattle.pp_graph.specs.Ranks.{AreRanked, sum_at}
+use Rattle.pp_graph.specs.Ranks.{AreRanked, sum_of_name}
 use Rattle.pp_graph.specs.Trim.{shown_keys}
 use Rattle.pp_graph.specs.Trimmed.{int_sum}
 use Rattle.pp_graph.proofs.Reported.{numbers_below, numbers_small, ranked_of}
@@ -19,7 +19,7 @@ flat_sum-shown_flat-requires-clause-below c =
 
 pub flat_sum-shown_flat-requires-clause-small : goal.flat_sum-shown_flat-requires-clause-small
 flat_sum-shown_flat-requires-clause-small c =
-    subst (λ (xs : List ℕ). sum_by (λ n. nat_abs (sum_at c.args.counted.now.sums.flat n)) xs < 2 ^ 63)
+    subst (λ (xs : List ℕ). sum_by (λ n. nat_abs (sum_of_name c.args.counted.now.sums.flat n)) xs < 2 ^ 63)
     (sym (c.as_slice.ensures ∙ c.in_ok-order.ensures ∙ ap (map (λ (r : Row). r.number)) (c.first_rows.ensures ∙ ap (shown_keys c.args.limit) c.deref.ensures.value)))
     (numbers_small c.get-p.result.now c.args.sort c.args.counted.now.sums c.requires.fits c.args.counted.now.total c.args.least.billionths
     c.in_ok-heavy.heavy.rows.items c.in_ok-heavy.heavy.light c.args.limit c.in_ok-heavy.ensures)
@@ -34,6 +34,6 @@ returns c = λ v config column sort_is least_is counted.
     (subst (λ n. AreRanked c.args.l.now.profile c.args.sort c.args.counted.now.sums c.args.counted.now.total n c.in_ok-heavy.heavy.rows.items c.in_ok-heavy.heavy.light) (sym least_is) ranked))
     _
     (c.in_ok-order.ensures ∙ ap (map (λ (r : Row). r.number)) (c.first_rows.ensures ∙ ap (shown_keys c.args.limit) c.deref.ensures.value))
-    (to_z-of_z w64 c.flat_sum-shown_flat.result fits ∙ c.flat_sum-shown_flat.ensures ∙ ap (λ (xs : List ℕ). int_sum (map (sum_at c.args.counted.now.sums.flat) xs)) c.as_slice.ensures)
+    (to_z-of_z w64 c.flat_sum-shown_flat.result fits ∙ c.flat_sum-shown_flat.ensures ∙ ap (λ (xs : List ℕ). int_sum (map (sum_of_name c.args.counted.now.sums.flat) xs)) c.as_slice.ensures)
     refl
     (c.len.ensures ∙ search rules)

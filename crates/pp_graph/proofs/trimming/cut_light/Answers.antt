@@ -2,7 +2,7 @@ use Rattle.std.proofs.Common.{◌≡◌, ◌<◌, ℕ, map, length, Option, Some
 use Rattle.std.specs.Option.{is_some}
 use Rattle.std.proofs.lemmas.List.{length-map}
 use Rattle.pp_count.specs.declared.edge.Edge.{Edge}
-use Rattle.pp_graph.specs.Links.{Links, live_edges}
+use Rattle.pp_graph.specs.Links.{EdgeLinks, live_edges}
 use Rattle.pp_graph.proofs.Pruning.{pruned_none, edge_is, pruned_heavy, pruned_light, pruned_all, cut_bound}
 use Rattle.pp_graph.proofs.trimming.cut_light.Goals.{then-is_light, else-is_light}
 use Rattle.pp_graph.proofs.trimming.cut_light.Goals as goal
@@ -11,7 +11,7 @@ some_edge : Edge
 some_edge = record { from = 0; to = 0; value = pos 0 }
 
 -- there are as many live edges as numbers
-all_there : (g : Links) (count : ℕ) → count ≡ length g.edges → g.edges ≡ map Some (live_edges g) → count ≡ length (live_edges g)
+all_there : (g : EdgeLinks) (count : ℕ) → count ≡ length g.edges → g.edges ≡ map Some (live_edges g) → count ≡ length (live_edges g)
 all_there g count is whole = is ∙ ap length whole ∙ length-map (live_edges g) (λ (e : Edge). Some e)
 
 pub loop-e-init : goal.loop-e-init

@@ -1,6 +1,6 @@
 use Rattle.std.proofs.Common.{◌≡◌, ap, ◌∙◌}
 use Rattle.pp_model.specs.declared.profile.Profile.{Profile}
-use Rattle.pp_export.specs.Table.{table_text}
+use Rattle.pp_export.specs.Table.{exact_table}
 use Rattle.pp_report.specs.Heads.{unit_text}
 use Rattle.pp_report.proofs.FinishingLemmas.{made_text}
 use Rattle.pp_report.proofs.exports.table.Goals as goal
@@ -22,4 +22,4 @@ returns c = λ f holds.
     made_text c.write_table.new.out c.new-text.result _ c.new-text.ensures
     (c.in_ok-write_table.ensures.ok c.args.counts.now.verdicts config c.args.column c.limit_of-limit.result f c.requires.counted
     (c.in_ok-ranked.ensures c.args.counts.now.verdicts c.args.column c.requires.counted) holds)
-    ∙ (λ i. table_text p f config c.args.column (c.limit_of-limit.ensures i) (unit i))
+    ∙ (λ i. exact_table p f config c.args.column (c.limit_of-limit.ensures i) (unit i))

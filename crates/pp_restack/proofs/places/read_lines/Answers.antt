@@ -3,7 +3,7 @@ use Rattle.std.specs.Prelude.{Option}
 use Rattle.std.specs.List.{cons_option}
 use Rattle.std.proofs.lemmas.List.{append-nil}
 use Rattle.pp_model.specs.declared.profile.Line.{Line}
-use Rattle.pp_restack.specs.Stacks.{lines_of}
+use Rattle.pp_restack.specs.Stacks.{lines_of_frames}
 use Rattle.pp_restack.proofs.PlacesLemmas.{lines_more, no_frame}
 use Rattle.pp_restack.proofs.places.read_lines.Goals.{in-Some+in_ok-push, in_default}
 use Rattle.pp_restack.proofs.places.read_lines.Goals as goal
@@ -12,7 +12,7 @@ use Rattle.pp_restack.proofs.places.read_lines.Goals as goal
 pub loop-frame-preserved : goal.loop-frame-preserved
 loop-frame-preserved c =
     let p = c.args.p.now in
-    let so_far = lines_of p (take c.loop-frame.frame-index c.args.group.now) in
+    let so_far = lines_of_frames p (take c.loop-frame.frame-index c.args.group.now) in
     let more = lines_more p c.args.group.now c.loop-frame.frame-index no_frame c.loop-frame-test.true in
     elim c.match-line_in.branch [
       | in-Some+in_ok-push w ↦

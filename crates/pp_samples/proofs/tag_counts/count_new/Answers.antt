@@ -1,8 +1,8 @@
 use Rattle.std.proofs.Common.{subst}
 use Rattle.indexmap.specs.IndexMap.{get}
 use Rattle.pp_samples.specs.TagLines.{TagTexts}
-use Rattle.pp_samples.specs.Places.{HasPlace}
-use Rattle.pp_samples.specs.Counting.{same_label}
+use Rattle.pp_samples.specs.Places.{HasTagPlace}
+use Rattle.pp_samples.specs.Counting.{same_label_parts}
 use Rattle.pp_samples.proofs.CountLemmas.{known_more}
 use Rattle.pp_samples.proofs.tag_counts.count_new.Goals as goal
 
@@ -14,8 +14,8 @@ returns-clause-sound c =
     record {
       even = c.in_ok-place.ensures.even;
       known =
-          known_more c.args.p.now c.args.counts.now.keys new (get same_label c.args.counts.now.places) (get same_label c.insert.new.self) c.args.label.now place
+          known_more c.args.p.now c.args.counts.now.keys new (get same_label_parts c.args.counts.now.places) (get same_label_parts c.insert.new.self) c.args.label.now place
           c.requires.known c.in_ok-place.ensures.kept
-          (subst (λ (tag : TagTexts). HasPlace new tag place) c.in_ok-tag.ensures c.in_ok-place.ensures.place)
+          (subst (λ (tag : TagTexts). HasTagPlace new tag place) c.in_ok-tag.ensures c.in_ok-place.ensures.place)
           c.in_ok-insert.ensures.updates.0;
     }

@@ -3,7 +3,7 @@ use Rattle.std.proofs.lemmas.List.{append-nil}
 use Rattle.pp_model.specs.declared.profile.Sample.{Sample}
 use Rattle.pp_model.specs.declared.profile.Profile.{Profile}
 use Rattle.pp_count.specs.Counts.{samples_at}
-use Rattle.pp_samples.specs.Scope.{profile_of}
+use Rattle.pp_samples.specs.Scope.{scope_profile}
 use Rattle.pp_samples.specs.Tables.{Event, AreKeys, AreSmall, sample_events, events_from}
 use Rattle.pp_samples.specs.Tagged.{scope_tagged}
 use Rattle.pp_count.proofs.KeptSamples.{none_at, one_at}
@@ -12,7 +12,7 @@ use Rattle.pp_samples.proofs.tag_counts.count_numbered.Goals as goal
 -- there is no such sample
 pub returns-then-place-samples-clause-keys : goal.returns-then-place-samples-clause-keys
 returns-then-place-samples-clause-keys c f finds events is small =
-    let p = profile_of c.args.scope.now in
+    let p = scope_profile c.args.scope.now in
     let past : length p.sample ≤ c.args.number =
     omega (arith, c.if-place-samples.true, ap length c.as_slice-samples.ensures, ap (λ (q : Profile). length q.sample) c.get.ensures.same) in
     subst (λ (samples : List Sample). AreKeys (events ++ events_from c.args.turn (map (scope_tagged c.args.scope.now f) samples)) c.args.counts.now.keys)
@@ -21,7 +21,7 @@ returns-then-place-samples-clause-keys c f finds events is small =
 -- there is this one
 pub returns-clause-keys : goal.returns-clause-keys
 returns-clause-keys c f finds events is small =
-    let p = profile_of c.args.scope.now in
+    let p = scope_profile c.args.scope.now in
     let s = c.index-samples-place.result in
     let turn = c.args.turn in
     let tagged = scope_tagged c.args.scope.now f in

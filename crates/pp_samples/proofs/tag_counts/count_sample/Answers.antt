@@ -3,7 +3,7 @@ use Rattle.std.proofs.lemmas.Int.{to_z-of_z}
 use Rattle.std.specs.Result.{OnOk}
 use Rattle.pp_tags.specs.TagFilters.{shown_labels}
 use Rattle.pp_count.specs.Column.{selected}
-use Rattle.pp_samples.specs.Scope.{profile_of}
+use Rattle.pp_samples.specs.Scope.{scope_profile}
 use Rattle.pp_samples.specs.Tables.{Event, AreKeys, AreSmall, label_event}
 use Rattle.pp_samples.proofs.CountLemmas.{labels_are}
 use Rattle.pp_samples.proofs.tag_counts.count_sample.Goals as goal
@@ -11,7 +11,7 @@ use Rattle.pp_samples.proofs.tag_counts.count_sample.Goals as goal
 pub returns-clause-keys : goal.returns-clause-keys
 returns-clause-keys c f finds events is small =
     let scope = c.args.scope.now in
-    let p = profile_of scope in
+    let p = scope_profile scope in
     let fits : FitsSigned w64 c.selected-value.result = search rules in
     let value = to_z-of_z w64 c.selected-value.result fits ∙ c.selected-value.ensures in
     let labels = c.as_slice.ensures ∙ c.in_ok-show_tags_into.ensures f finds in

@@ -1,7 +1,7 @@
 use Rattle.std.proofs.Common.{List, ℕ, [], ◌∷◌, map, length, take, get_or, ap, sym, subst, arith}
 use Rattle.std.proofs.lemmas.List.{length-append, take_all}
 use Rattle.pp_count.specs.Counts.{samples_at}
-use Rattle.pp_samples.specs.Scope.{profile_of}
+use Rattle.pp_samples.specs.Scope.{scope_profile}
 use Rattle.pp_samples.specs.Tables.{Event, AreKeys, AreSmall, events_from}
 use Rattle.pp_samples.specs.Tagged.{scope_tagged}
 use Rattle.pp_count.proofs.KeptSamples.{samples_more}
@@ -12,7 +12,7 @@ use Rattle.pp_samples.proofs.tag_counts.count_tags.Goals as goal
 -- one number more
 pub loop-number-preserved : goal.loop-number-preserved
 loop-number-preserved c =
-    let p = profile_of c.args.scope.now in
+    let p = scope_profile c.args.scope.now in
     let kept = c.args.kept.now in
     let i = c.loop-number.number-index in
     let before = samples_at p (take i kept) in
@@ -33,6 +33,6 @@ loop-number-preserved c =
 pub returns-clause-keys : goal.returns-clause-keys
 returns-clause-keys c f finds small =
     let whole = take_all c.loop-number.number-index c.args.kept.now (omega (arith, c.loop-number-test.false)) in
-    let events = λ (kept : List ℕ). events_from 0 (map (scope_tagged c.args.scope.now f) (samples_at (profile_of c.args.scope.now) kept)) in
+    let events = λ (kept : List ℕ). events_from 0 (map (scope_tagged c.args.scope.now f) (samples_at (scope_profile c.args.scope.now) kept)) in
     subst (λ (kept : List ℕ). AreKeys (events kept) c.loop-number.counts.keys) whole
     (c.loop-number.invariant.keys f finds (subst (λ (kept : List ℕ). AreSmall (events kept)) (sym whole) small))

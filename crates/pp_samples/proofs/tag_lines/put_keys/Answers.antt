@@ -11,7 +11,7 @@ use Rattle.pp_samples.specs.TagLines.{key_lines}
 use Rattle.pp_samples.specs.Tables.{key_event, events_from}
 use Rattle.pp_samples.specs.declared.tag_table.TagTable.{TagTable}
 use Rattle.pp_samples.specs.declared.tag_lines.TagLine.{TagLine}
-use Rattle.pp_samples.specs.Ranked.{line_key, key_cmp, IsKeyLine}
+use Rattle.pp_samples.specs.Ranked.{line_key, line_key_cmp, IsKeyLine}
 use Rattle.pp_samples.proofs.Listed.{keys_listed, lines_keys}
 use Rattle.pp_samples.proofs.tag_lines.put_keys.Goals as goal
 
@@ -31,8 +31,8 @@ returns c samples is =
     let keys = c.args.keys.now in
     let are = c.in_ok-lines.ensures.entries (map key_event (events_from 0 samples)) is.sums in
     let sorted =
-    c.in_ok-sort_by.ensures.sorted (λ a b. is_lt (key_cmp a b)) (ranks_by nat_list_cmp_total line_key)
-    (always_returns_same _ (λ a r. is_lt r ≡ is_lt (key_cmp a.0.now a.1.0.now)) _ (λ a r f' k. search rules)) in
+    c.in_ok-sort_by.ensures.sorted (λ a b. is_lt (line_key_cmp a b)) (ranks_by nat_list_cmp_total line_key)
+    (always_returns_same _ (λ a r. is_lt r ≡ is_lt (line_key_cmp a.0.now a.1.0.now)) _ (λ a r f' k. search rules)) in
     let moved = c.in_ok-sort_by.ensures.permutation in
     let before = c.in_ok-lines.lines.items in
     let tables = c.as_slice.ensures.value in

@@ -3,7 +3,7 @@ use Rattle.std.proofs.lemmas.List.{append-nil}
 use Rattle.std.proofs.Math.ListN.{drop_of_length-le}
 use Rattle.pp_model.specs.declared.frame.Frame.{Frame}
 use Rattle.pp_count.specs.Seeing.{counted_frames}
-use Rattle.pp_samples.specs.Scope.{profile_of}
+use Rattle.pp_samples.specs.Scope.{scope_profile}
 use Rattle.pp_samples.proofs.Counting.{counted_read, counted_other}
 use Rattle.pp_samples.proofs.traces.gather_counted.Goals.{then-counted+in_ok-push, else-counted}
 use Rattle.pp_samples.proofs.traces.gather_counted.Goals as goal
@@ -15,11 +15,11 @@ pub loop-place-preserved : goal.loop-place-preserved
 loop-place-preserved c = elim c.if-counted.branch [
   | then-counted+in_ok-push w ↦
       rw (w.frames-is, w.in_ok-push.ensures.items)
-      (counted_read (profile_of c.args.scope.now) c.args.scope.now.config.now.noinlines c.args.stack.now c.as_slice-frame-items.result.now c.loop-place.frames.items
+      (counted_read (scope_profile c.args.scope.now) c.args.scope.now.config.now.noinlines c.args.stack.now c.as_slice-frame-items.result.now c.loop-place.frames.items
       c.loop-place.place _ c.as_slice-frame-items.ensures c.loop-place-test.true c.requires (sym c.counted.ensures ∙ w.if-counted.true) c.loop-place.invariant)
   | else-counted w ↦
       rw w.frames-is
-      (counted_other (profile_of c.args.scope.now) c.args.scope.now.config.now.noinlines c.args.stack.now c.as_slice-frame-items.result.now c.loop-place.frames.items
+      (counted_other (scope_profile c.args.scope.now) c.args.scope.now.config.now.noinlines c.args.stack.now c.as_slice-frame-items.result.now c.loop-place.frames.items
       c.loop-place.place c.as_slice-frame-items.ensures c.loop-place-test.true (sym c.counted.ensures ∙ w.if-counted.false) c.loop-place.invariant)
 ]
 

@@ -6,13 +6,13 @@ use Rattle.pp_units.specs.Head.{head_text}
 use Rattle.pp_count.specs.Counts.{samples_at}
 use Rattle.pp_samples.specs.declared.scope.Scope.{Scope}
 use Rattle.pp_samples.specs.Scope.{stack_trace, sample_trace}
-use Rattle.pp_samples.specs.Traces.{separator, trace_of}
+use Rattle.pp_samples.specs.Traces.{trace_separator, trace_of}
 use Rattle.pp_count.proofs.KeptSamples.{made_of_kept}
 use Rattle.pp_samples.proofs.traces.write_traces.Goals as goal
 
 -- the head, the samples that the filters leave, and the last separator
 pub returns-clause-ok : goal.returns-clause-ok
-unfolding separator
+unfolding trace_separator
 returns-clause-ok c f holds =
     let p = c.args.l.now.profile in
     let config = c.args.config.now in
@@ -27,5 +27,5 @@ returns-clause-ok c f holds =
     c.in_ok-put_report.ensures f holds.found ∙ ap (λ (old : List ℕ). old ++ flat_map (sample_trace scope f) (samples_at p c.as_slice.result.now)) begun
     ∙ ap (λ (text : List ℕ). head ++ text) same in
     subst (λ (text : List ℕ). OnOk c.append.result (c.append.new.self ≡ c.args.out.now ++ text))
-    (c.in_ok-extend.ensures.ok ∙ ap (λ (text : List ℕ). text ++ separator) traced)
+    (c.in_ok-extend.ensures.ok ∙ ap (λ (text : List ℕ). text ++ trace_separator) traced)
     c.append.ensures.ok

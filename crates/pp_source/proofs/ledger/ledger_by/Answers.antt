@@ -5,7 +5,7 @@ use Rattle.pp_model.specs.Lookup.{text_at}
 use Rattle.pp_model.specs.Rules.{IsCompact, NoRuleFails}
 use Rattle.pp_grain.specs.declared.key.Key.{Key}
 use Rattle.pp_count.specs.Counts.{samples_at}
-use Rattle.pp_count.specs.Scope.{samples_of}
+use Rattle.pp_count.specs.Scope.{samples_in_scope}
 use Rattle.pp_count.specs.Seeing.{seen_samples}
 use Rattle.pp_count.specs.Sums.{renamed}
 use Rattle.pp_count.specs.Table.{written_key}
@@ -27,7 +27,7 @@ returns-clause-sums c f holds kept_is =
     let compact : IsCompact p = subst IsCompact c.get-valid.ensures.same c.get-valid.ensures.compact in
     let names : List Key = c.args.scope.now.table.now.names in
     let w = c.in_ok-sums.ensures in
-    let chosen : samples_of c.args.scope.now ≡ samples_at p c.args.kept.now = ap (λ o. option_map_or (samples_at p) o p.sample) c.requires.chosen in
+    let chosen : samples_in_scope c.args.scope.now ≡ samples_at p c.args.kept.now = ap (λ o. option_map_or (samples_at p) o p.sample) c.requires.chosen in
     let are : map (renamed (written_key p names)) w.seen ≡ seen_samples p f c.args.scope.now.config.now c.args.scope.now.column (samples_at p c.args.kept.now) =
     w.are.are f holds ∙ ap (seen_samples p f c.args.scope.now.config.now c.args.scope.now.column) chosen in
     record {

@@ -8,7 +8,7 @@ use Rattle.std.specs.declared.slice.Split.{Split}
 use Rattle.std.proofs.lemmas.Iterator.Consumers.{YieldsList-end, YieldsList-at}
 use Rattle.std.proofs.lemmas.Iterator.Splits.{YieldsList-from_slice_split}
 use denote.Param.Members.{Mut}
-use Rattle.pp_source.specs.Paths.{is_colon, is_given}
+use Rattle.pp_source.specs.Paths.{is_list_colon, is_given}
 use Rattle.pp_source.proofs.paths.entries.Goals as goal
 
 -- the parts of a slice that a loop has gone over
@@ -24,6 +24,6 @@ pub returns : goal.returns
 returns c =
     let split = c.split-entry-items.ensures in
     let given =
-    parts_given is_colon c.args.text.now split.rest split.done split.closure c.into_iter-entry-iterator.ensures.into_iter_gives
+    parts_given is_list_colon c.args.text.now split.rest split.done split.closure c.into_iter-entry-iterator.ensures.into_iter_gives
     c.loop-entry.yielded _ c.loop-entry.yielded_by _ _ c.in-None.is c.next.ensures.steps (λ x b q called. search rules) in
     c.loop-entry.invariant ∙ ap (filter is_given) given

@@ -1,7 +1,7 @@
 use Rattle.std.proofs.Common.{◌≡◌, ◌<◌, length, map, take, w64, ap, ◌∙◌, arith}
 use Rattle.std.proofs.lemmas.Int.{to_z-of_z}
 use Rattle.std.proofs.lemmas.List.{get_or_default, take_all}
-use Rattle.pp_source.specs.Tally.{number_of, tally_of, with_cum, with_flat}
+use Rattle.pp_source.specs.Tally.{number_of, tally_of, cum_with, flat_with}
 use Rattle.pp_source.proofs.Keys.{cums_more, flat_is}
 use Rattle.pp_source.proofs.tallies.add_keys.Goals as goal
 
@@ -18,5 +18,5 @@ returns-in-len1-up-clause-added c k =
     let all : take c.loop-key.key-index c.args.keys.now ≡ c.args.keys.now = take_all c.loop-key.key-index c.args.keys.now (omega (arith, c.loop-key-test.false)) in
     flat_is (number_of c.args.numbers.now) c.args.value c.args.keys.now _ (tally_of c.loop-key.tallies.items) (tally_of c.lead_at.new.tallies.items) some
     (get_or_default c.args.keys.now 0 0 _ some) (rw (to_z-of_z w64 c.args.value c.ranges.value) at c.lead_at.ensures.number) c.lead_at.ensures.others k
-    ∙ ap (with_flat c.args.value (map (number_of c.args.numbers.now) c.args.keys.now) k)
-    ((rw (to_z-of_z w64 c.args.value c.ranges.value) at c.loop-key.invariant.1 k) ∙ ap (λ ks. with_cum c.args.value c.args.turn (map (number_of c.args.numbers.now) ks) k (tally_of c.args.tallies.now.items k)) all)
+    ∙ ap (flat_with c.args.value (map (number_of c.args.numbers.now) c.args.keys.now) k)
+    ((rw (to_z-of_z w64 c.args.value c.ranges.value) at c.loop-key.invariant.1 k) ∙ ap (λ ks. cum_with c.args.value c.args.turn (map (number_of c.args.numbers.now) ks) k (tally_of c.args.tallies.now.items k)) all)

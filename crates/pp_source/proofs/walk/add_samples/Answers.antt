@@ -2,10 +2,10 @@ use Rattle.std.proofs.Common.{◌≡◌, ◌<◌, length, get_or, map, take, sym
 use Rattle.std.proofs.lemmas.List.{take_all}
 use Rattle.std.proofs.lemmas.Option.{get_or_from_slice_get}
 use Rattle.pp_stack.specs.Runs.{kept_if}
-use Rattle.pp_count.specs.Scope.{samples_of}
+use Rattle.pp_count.specs.Scope.{samples_in_scope}
 use Rattle.pp_count.proofs.Chosen.{chosen_length}
 use Rattle.pp_count.proofs.Ranges.{name_of}
-use Rattle.pp_source.specs.Ledgers.{WalkedTo}
+use Rattle.pp_source.specs.Ledgers.{HasWalkedTo}
 use Rattle.pp_source.proofs.Walking.{lines_ready, routines_ready, walked_more, walked_same}
 use Rattle.pp_source.proofs.walk.add_samples.Goals.{then-branch, else-branch}
 use Rattle.pp_source.proofs.walk.add_samples.Goals as goal
@@ -14,22 +14,22 @@ pub add_seen-requires-clause-lines_ready : goal.add_seen-requires-clause-lines_r
 add_seen-requires-clause-lines_ready c =
     lines_ready c.args.walk.now c.loop-place.place c.sample_at-sample.result.now c.see.new.keys.items c.loop-place.sums
     (omega (arith, c.loop-place-test.true, chosen_length c.args.walk.now.scope c.args.kept.now c.requires.chosen c.requires.sound.scope))
-    (sym (get_or_from_slice_get (samples_of c.args.walk.now.scope) c.loop-place.place c.sample_at-sample.result.now c.sample_at-sample.result.now c.sample_at-sample.ensures.is))
+    (sym (get_or_from_slice_get (samples_in_scope c.args.walk.now.scope) c.loop-place.place c.sample_at-sample.result.now c.sample_at-sample.result.now c.sample_at-sample.ensures.is))
     c.loop-place.invariant c.requires.sound.countable.fits
 
 pub add_seen-requires-clause-routines_ready : goal.add_seen-requires-clause-routines_ready
 add_seen-requires-clause-routines_ready c =
     routines_ready c.args.walk.now c.loop-place.place c.sample_at-sample.result.now c.see.new.keys.items c.loop-place.sums
     (omega (arith, c.loop-place-test.true, chosen_length c.args.walk.now.scope c.args.kept.now c.requires.chosen c.requires.sound.scope))
-    (sym (get_or_from_slice_get (samples_of c.args.walk.now.scope) c.loop-place.place c.sample_at-sample.result.now c.sample_at-sample.result.now c.sample_at-sample.ensures.is))
+    (sym (get_or_from_slice_get (samples_in_scope c.args.walk.now.scope) c.loop-place.place c.sample_at-sample.result.now c.sample_at-sample.result.now c.sample_at-sample.ensures.is))
     c.loop-place.invariant c.requires.sound.countable.fits
 
 pub loop-place-preserved : goal.loop-place-preserved
 loop-place-preserved c =
-    let here : c.loop-place.place < length (samples_of c.args.walk.now.scope) =
+    let here : c.loop-place.place < length (samples_in_scope c.args.walk.now.scope) =
     omega (arith, c.loop-place-test.true, chosen_length c.args.walk.now.scope c.args.kept.now c.requires.chosen c.requires.sound.scope) in
-    let is : c.sample_at-sample.result.now ≡ get_or (samples_of c.args.walk.now.scope) c.loop-place.place c.sample_at-sample.result.now =
-    sym (get_or_from_slice_get (samples_of c.args.walk.now.scope) c.loop-place.place c.sample_at-sample.result.now c.sample_at-sample.result.now c.sample_at-sample.ensures.is) in
+    let is : c.sample_at-sample.result.now ≡ get_or (samples_in_scope c.args.walk.now.scope) c.loop-place.place c.sample_at-sample.result.now =
+    sym (get_or_from_slice_get (samples_in_scope c.args.walk.now.scope) c.loop-place.place c.sample_at-sample.result.now c.sample_at-sample.result.now c.sample_at-sample.ensures.is) in
     elim c.if-branch.branch [
       | then-branch w ↦
           rw w.sums-is
@@ -44,7 +44,7 @@ loop-place-preserved c =
 
 pub returns : goal.returns
 returns c =
-    let long : length (samples_of c.args.walk.now.scope) ≡ length c.args.kept.now = chosen_length c.args.walk.now.scope c.args.kept.now c.requires.chosen c.requires.sound.scope in
+    let long : length (samples_in_scope c.args.walk.now.scope) ≡ length c.args.kept.now = chosen_length c.args.walk.now.scope c.args.kept.now c.requires.chosen c.requires.sound.scope in
     let past : c.loop-place.place ≡ length c.args.kept.now = search (rules, arith, c.loop-place-test.false) in
-    subst (λ ss. WalkedTo c.args.walk.now (length c.args.kept.now) ss c.loop-place.sums) (take_all (length c.args.kept.now) (samples_of c.args.walk.now.scope) (omega (arith, long)))
-    (subst (λ n. WalkedTo c.args.walk.now n (take n (samples_of c.args.walk.now.scope)) c.loop-place.sums) past c.loop-place.invariant)
+    subst (λ ss. HasWalkedTo c.args.walk.now (length c.args.kept.now) ss c.loop-place.sums) (take_all (length c.args.kept.now) (samples_in_scope c.args.walk.now.scope) (omega (arith, long)))
+    (subst (λ n. HasWalkedTo c.args.walk.now n (take n (samples_in_scope c.args.walk.now.scope)) c.loop-place.sums) past c.loop-place.invariant)

@@ -1,8 +1,8 @@
 use Rattle.std.proofs.Common.{take}
-use Rattle.pp_count.specs.Scope.{samples_of}
-use Rattle.pp_source.specs.Ledgers.{WalkedTo}
+use Rattle.pp_count.specs.Scope.{samples_in_scope}
+use Rattle.pp_source.specs.Ledgers.{HasWalkedTo}
 use Rattle.pp_source.proofs.walk.add_samples.Given as goal
 
 -- the samples so far are added
 abbrev pub invariant-loop-place : goal.invariant-loop-place
-invariant-loop-place l = WalkedTo l.walk l.place (take l.place (samples_of l.walk.scope)) l.sums
+invariant-loop-place l = HasWalkedTo l.walk l.place (take l.place (samples_in_scope l.walk.scope)) l.sums

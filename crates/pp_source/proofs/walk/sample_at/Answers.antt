@@ -1,5 +1,5 @@
 use Rattle.std.proofs.Common.{◌<◌, length, get_or, ap, arith}
-use Rattle.pp_count.specs.Scope.{samples_of}
+use Rattle.pp_count.specs.Scope.{samples_in_scope}
 use Rattle.pp_count.proofs.Chosen.{chosen_at, chosen_below, chosen_length, is_read}
 use Rattle.pp_source.proofs.walk.sample_at.Goals as goal
 
@@ -15,7 +15,7 @@ bounds-samples-kept c =
 
 pub returns-clause-is : goal.returns-clause-is
 returns-clause-is c =
-    let inside : c.args.place < length (samples_of c.args.walk.now.scope) =
+    let inside : c.args.place < length (samples_in_scope c.args.walk.now.scope) =
     omega (arith, c.requires.within, chosen_length c.args.walk.now.scope c.args.kept.now c.requires.chosen c.requires.sound.scope) in
     let here : get_or c.args.kept.now c.args.place 0 < length c.as_slice-samples.result.now =
     omega (arith, chosen_below c.args.walk.now.scope c.args.kept.now c.requires.chosen c.requires.sound.scope c.args.place inside, ap length c.as_slice-samples.ensures, ap (λ p. length p.sample) c.get.ensures.same) in
@@ -24,7 +24,7 @@ returns-clause-is c =
 
 pub returns-clause-refers : goal.returns-clause-refers
 returns-clause-refers c =
-    let inside : c.args.place < length (samples_of c.args.walk.now.scope) =
+    let inside : c.args.place < length (samples_in_scope c.args.walk.now.scope) =
     omega (arith, c.requires.within, chosen_length c.args.walk.now.scope c.args.kept.now c.requires.chosen c.requires.sound.scope) in
     let here : get_or c.args.kept.now c.args.place 0 < length c.as_slice-samples.result.now =
     omega (arith, chosen_below c.args.walk.now.scope c.args.kept.now c.requires.chosen c.requires.sound.scope c.args.place inside, ap length c.as_slice-samples.ensures, ap (λ p. length p.sample) c.get.ensures.same) in

@@ -1,6 +1,6 @@
 use Rattle.std.proofs.Common.{sym, ap, subst, arith, ◌∙◌, ◌≡◌, ◌+◌, ℕ, List, length, get_or, not, false}
 use Rattle.std.proofs.lemmas.List.{length-replicate}
-use Rattle.pp_steal.specs.Pool.{times, Rises}
+use Rattle.pp_steal.specs.Pool.{count_in, Rises}
 use Rattle.pp_steal.specs.Dealing.{upto}
 use Rattle.pp_steal.specs.Closing.{times_in, first_make}
 use Rattle.pp_steal.proofs.Marking.{rises_left, all_once}
@@ -17,4 +17,4 @@ returns-clause-once c =
     let count : length c.mark.new.marks.items ≡ s.result.pieces = c.mark.ensures.count ∙ old in
     let all = all_once s.result.pieces c.mark.new.marks.items s.result.taken.items count s.ensures.once (λ x lt. c.mark.ensures.marks x (omega arith)) in
     let made = s.ensures.pieces ∙ g.pieces ∙ ap (λ l. (first_make l).pieces) c.into_vec.ensures in
-    λ x. ap (λ l. times_in x l + times x c.from_vec-2.result) c.from_vec.ensures ∙ ap (λ (l : List ℕ). times_in x s.result.taken.items + times x l) (c.from_vec-2.ensures ∙ c.unmarked-left.ensures) ∙ all x ∙ ap (λ (n : ℕ). times x (upto n)) made
+    λ x. ap (λ l. times_in x l + count_in x c.from_vec-2.result) c.from_vec.ensures ∙ ap (λ (l : List ℕ). times_in x s.result.taken.items + count_in x l) (c.from_vec-2.ensures ∙ c.unmarked-left.ensures) ∙ all x ∙ ap (λ (n : ℕ). count_in x (upto n)) made

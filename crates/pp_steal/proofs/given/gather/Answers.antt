@@ -1,5 +1,5 @@
 use Rattle.std.proofs.Common.{sym, ap, subst, arith, ◌∙◌, ◌≡◌, ◌<◌, ◌≤◌, ◌+◌, ℕ, [], ◌∷◌, ◌++◌, length, length-append, drop, get_or}
-use Rattle.pp_steal.specs.Room.{RoomFor, HasRoom}
+use Rattle.pp_steal.specs.Room.{RoomFor, HasLaneRoom}
 use Rattle.pp_steal.specs.Closing.{Gathers, first_make}
 use Rattle.pp_steal.specs.Lanes.{Make}
 use Rattle.pp_steal.proofs.Ends.{next_is, next_gone}
@@ -14,7 +14,7 @@ loop-lane-init c =
     let s = c.remove.result in
     let p = c.into_parts-deal in
     let lt : 0 < length c.args.lanes.items = c.requires.some in
-    let h : HasRoom (length p.result.chairs.items) s.make.pieces c.in-Some.room = subst (RoomFor s.own (length p.result.chairs.items) s.make.pieces) c.in-Some.is p.ensures.room in
+    let h : HasLaneRoom (length p.result.chairs.items) s.make.pieces c.in-Some.room = subst (RoomFor s.own (length p.result.chairs.items) s.make.pieces) c.in-Some.is p.ensures.room in
     let m : s.make ≡ make = lane_make make lanes 0 s c.requires.all lt c.remove.ensures.value in
     let n : length c.args.lanes.items ≤ length p.result.chairs.items = let k = row_count make lanes s p.result.chairs.items c.requires.all m p.ensures.deques in omega arith in
     let g : Gathers make 1 lanes (p.result.worker ∷ []) (p.result.chairs ∷ []) (c.from_vec.result ∷ []) =

@@ -1,7 +1,7 @@
 use Rattle.std.proofs.Common.{◌≡◌, ℕ, ℤ, List, ◌+ℤ◌, pos, ap, ◌∙◌, w64, to_z, of_z, get_or}
 use Rattle.pp_units.specs.Shown.{shown}
 use Rattle.pp_graph.specs.KeyRows.{KeyRow, row_at}
-use Rattle.pp_top.specs.Top.{row_text}
+use Rattle.pp_top.specs.Top.{top_row}
 use Rattle.pp_graph.proofs.Running.{next_fits, next_sum, summing_more, putting_more}
 use Rattle.pp_top.proofs.rows.put_rows.Goals as goal
 
@@ -23,6 +23,6 @@ loop-number-preserved c =
     ∙ next_sum (λ n. get_or flats n (pos 0)) order i sum 0 c.loop-number-test.true c.loop-number.invariant.summing c.requires.small in
     record {
       summing = rw is (summing_more (λ n. get_or flats n (pos 0)) order i sum 0 c.loop-number-test.true c.loop-number.invariant.summing);
-      putting = putting_more (λ (row : KeyRow). row.flat) (row_text (shown c.args.head.now.unit) c.args.head.now.total) (row_at c.args.l.now.profile c.args.sums.now)
+      putting = putting_more (λ (row : KeyRow). row.flat) (top_row (shown c.args.head.now.unit) c.args.head.now.total) (row_at c.args.l.now.profile c.args.sums.now)
           order c.args.out.now i sum next c.loop-number.out c.put_row.new.out 0 c.loop-number-test.true is c.loop-number.invariant.putting c.in_ok-put_row.ensures;
     }

@@ -1,7 +1,7 @@
 use Rattle.std.proofs.Common.{pos, slice_index_or}
 use Rattle.pp_units.specs.Shown.{shown}
 use Rattle.pp_graph.specs.KeyRows.{row_at}
-use Rattle.pp_top.specs.Top.{row_text}
+use Rattle.pp_top.specs.Top.{top_row}
 use Rattle.pp_graph.proofs.Running.{Summing, Putting}
 use Rattle.pp_top.proofs.rows.put_rows.Given as goal
 
@@ -9,5 +9,5 @@ use Rattle.pp_top.proofs.rows.put_rows.Given as goal
 abbrev pub invariant-loop-number : goal.invariant-loop-number
 invariant-loop-number l = record {
   summing : Summing (λ n. slice_index_or l.sums.flat n (pos 0)) l.order l.number-index l.sum;
-  putting : Putting (λ row. row.flat) (row_text (shown l.head.unit) l.head.total) (row_at l.l.profile l.sums) l.order l.initial.out l.number-index l.sum l.out;
+  putting : Putting (λ row. row.flat) (top_row (shown l.head.unit) l.head.total) (row_at l.l.profile l.sums) l.order l.initial.out l.number-index l.sum l.out;
 }

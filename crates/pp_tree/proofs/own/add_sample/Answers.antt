@@ -1,7 +1,7 @@
 use Rattle.std.proofs.Common.{w64, of_z, sym, ap, ◌∙◌}
 use Rattle.pp_stack.specs.Runs.{kept_if}
 use Rattle.pp_count.proofs.Totals.{looked_up}
-use Rattle.pp_tree.specs.Found.{has_key, has_own_frame, has_own_number}
+use Rattle.pp_tree.specs.Found.{holds_key, has_own_frame, has_own_number}
 use Rattle.pp_tree.proofs.Marking.{found_as, dropped, asked, is_member}
 use Rattle.pp_tree.proofs.own.add_sample.Goals as goal
 
@@ -14,12 +14,12 @@ pub returns-then-not-branch-clause-found : goal.returns-then-not-branch-clause-f
 returns-then-not-branch-clause-found c = λ f find holds verdicts k.
     let there = rw (c.as_slice-samples.ensures, c.get.ensures.same) at c.in-Some.ensures.lookup in
     dropped c.args.asked.now.l.now.profile f c.args.asked.now.config.now c.args.asked.now.column find c.args.number c.in-Some.sample.now (looked_up c.args.asked.now.l.now.profile.sample c.args.number c.in-Some.sample.now there.0 there.1)
-    (sym (c.in_ok-filter_into.ensures.places f holds) ∙ ap (λ b. kept_if b c.filter_into.new.stack) c.if-not-branch.true) (has_key c.args.asked.now.l.now.profile c.args.keys.now.keys k) k
+    (sym (c.in_ok-filter_into.ensures.places f holds) ∙ ap (λ b. kept_if b c.filter_into.new.stack) c.if-not-branch.true) (holds_key c.args.asked.now.l.now.profile c.args.keys.now.keys k) k
 
 pub returns-clause-found : goal.returns-clause-found
 returns-clause-found c = λ f find holds verdicts.
     let there = rw (c.as_slice-samples.ensures, c.get.ensures.same) at c.in-Some.ensures.lookup in
-    found_as c.add_stack.result (has_key c.args.asked.now.l.now.profile c.add_stack.new.keys.keys) (has_key c.args.asked.now.l.now.profile c.args.keys.now.keys)
+    found_as c.add_stack.result (holds_key c.args.asked.now.l.now.profile c.add_stack.new.keys.keys) (holds_key c.args.asked.now.l.now.profile c.args.keys.now.keys)
     (λ k. has_own_frame c.args.asked.now.l.now.profile c.args.asked.now.config.now find k c.filter_into.new.stack) (λ k. has_own_number c.args.asked.now.l.now.profile f c.args.asked.now.config.now c.args.asked.now.column find k c.args.number)
     (asked c.args.asked.now.l.now.profile f c.args.asked.now.config.now c.args.asked.now.column find c.args.number c.in-Some.sample.now (looked_up c.args.asked.now.l.now.profile.sample c.args.number c.in-Some.sample.now there.0 there.1)
     c.filter_into.new.stack (sym (c.in_ok-filter_into.ensures.places f holds) ∙ ap (λ b. kept_if b c.filter_into.new.stack) c.if-not-branch.false) (λ e. c.if-selected-eq0.false (ap (of_z w64) (c.selected.ensures ∙ e))))

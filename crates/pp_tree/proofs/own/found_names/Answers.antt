@@ -1,6 +1,6 @@
 use Rattle.std.proofs.Common.{subst, sym, ◌∙◌}
 use Rattle.pp_model.specs.Rules.{IsCompact}
-use Rattle.pp_tree.specs.Peek.{is_own_key}
+use Rattle.pp_tree.specs.Peek.{is_found_key}
 use Rattle.pp_tree.proofs.Owned.{own_finder, keys_found, no_own, no_match, key_match, no_keys, some_key, names_marked}
 use Rattle.pp_tree.proofs.own.found_names.Goals as goal
 
@@ -23,7 +23,7 @@ returns-clause-found c = λ f holds.
     (c.requires.counted.kept f holds) (c.in_ok-keys.ensures.found f own.0 holds.found own.2) in
     c.in_ok-found.ensures
     ∙ names_marked c.args.l.now.profile (subst IsCompact c.get-compact.ensures.same c.get-compact.ensures.compact) c.in_ok-keys.keys.keys c.in_ok-keys.ensures.of_profile
-    (is_own_key c.args.l.now.profile f c.args.config.now c.args.column) are c.args.c.now.sums.names c.requires.counted.of_profile
+    (is_found_key c.args.l.now.profile f c.args.config.now c.args.column) are c.args.c.now.sums.names c.requires.counted.of_profile
 
 pub returns-clause-some : goal.returns-clause-some
 returns-clause-some c = λ f holds.

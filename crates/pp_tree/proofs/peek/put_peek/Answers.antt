@@ -5,7 +5,7 @@ use Rattle.pp_units.specs.Head.{facts, facts_text}
 use Rattle.pp_units.specs.Rows.{showing_line}
 use Rattle.pp_units.specs.Shown.{shown}
 use Rattle.pp_base.proofs.TextLemmas.{put_is}
-use Rattle.pp_tree.specs.Nodes.{table_heading, nodes_text}
+use Rattle.pp_tree.specs.Nodes.{table_heading, tree_nodes_text}
 use Rattle.pp_tree.specs.Ends.{ShowsPairs, node_at}
 use Rattle.pp_tree.proofs.Walking.{joined_four}
 use Rattle.pp_tree.proofs.peek.put_peek.Goals as goal
@@ -17,10 +17,10 @@ returns c = λ pairs shows.
     (facts_text (facts c.args.head.now))
     (showing_line (shown c.args.head.now.unit) c.args.head.now.total c.args.sum)
     table_heading
-    (nodes_text (shown c.args.head.now.unit) c.args.head.now.total (pos 0) (map (node_at c.args.l.now.profile c.args.c.now.sums pairs) c.args.shown.now))
+    (tree_nodes_text (shown c.args.head.now.unit) c.args.head.now.total (pos 0) (map (node_at c.args.l.now.profile c.args.c.now.sums pairs) c.args.shown.now))
     c.in_ok-write_head.ensures.ok (rw (to_z-of_z w64 c.args.sum c.ranges.sum) at c.in_ok-put_showing.ensures) c.in_ok-put_table_heading.ensures
     (put_is c.put_nodes.result c.put_nodes.new.out c.put_table_heading.new.out
-    (nodes_text (shown c.args.head.now.unit) c.args.head.now.total (pos 0) (map (node_at c.get.result.now c.args.c.now.sums pairs) c.args.shown.now))
-    (nodes_text (shown c.args.head.now.unit) c.args.head.now.total (pos 0) (map (node_at c.args.l.now.profile c.args.c.now.sums pairs) c.args.shown.now))
-    (λ i. nodes_text (shown c.args.head.now.unit) c.args.head.now.total (pos 0) (map (node_at (c.get.ensures.same i) c.args.c.now.sums pairs) c.args.shown.now))
+    (tree_nodes_text (shown c.args.head.now.unit) c.args.head.now.total (pos 0) (map (node_at c.get.result.now c.args.c.now.sums pairs) c.args.shown.now))
+    (tree_nodes_text (shown c.args.head.now.unit) c.args.head.now.total (pos 0) (map (node_at c.args.l.now.profile c.args.c.now.sums pairs) c.args.shown.now))
+    (λ i. tree_nodes_text (shown c.args.head.now.unit) c.args.head.now.total (pos 0) (map (node_at (c.get.ensures.same i) c.args.c.now.sums pairs) c.args.shown.now))
     (c.put_nodes.ensures pairs there))

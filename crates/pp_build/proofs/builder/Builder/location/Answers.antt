@@ -6,7 +6,7 @@ use Rattle.pp_model.specs.declared.profile.Location.{Location}
 use Rattle.pp_model.specs.declared.profile.Profile.{Profile}
 use Rattle.pp_share.proofs.NumberedLemmas.{all_mapped}
 use Rattle.pp_build.specs.declared.given.SourceLine.{SourceLine}
-use Rattle.pp_build.specs.Given.{line_of, location_of}
+use Rattle.pp_build.specs.Given.{given_line, given_location}
 use Rattle.pp_build.specs.Seen.{keyed_location, bare_location}
 use Rattle.pp_build.specs.Growing.{IsBuilt, LocationIn}
 use Rattle.pp_build.proofs.PutLemmas.{location_put}
@@ -36,11 +36,11 @@ invariant_of-self-2 c =
     let p = c.self.inside.profile in
     let e = c.in_ok-number.ensures in
     let lines = c.args.lines.now in
-    let l = location_of c.args.mapping c.args.address lines in
+    let l = given_location c.args.mapping c.args.address lines in
     let has : LocationIn (length p.mapping) (length p.function) l =
     subst (λ (q : Profile). LocationIn (length q.mapping) (length q.function) l) (sym c.self.view_is) (
       c.requires.mapping,
-      all_mapped (λ (line : Line). line.function_id ≤ length c.args.self.now.function) line_of lines
+      all_mapped (λ (line : Line). line.function_id ≤ length c.args.self.now.function) given_line lines
           (recursion_from_All (λ (line : SourceLine). line.function.number ≤ length c.args.self.now.function) lines c.requires.lines),
     ) in
     let it = location_put p c.args.self.now c.self.view_is c.self.invariant.built _ _ l _ _ _ _ has
@@ -68,11 +68,11 @@ returns-clause-id c =
     let p = c.self.inside.profile in
     let e = c.in_ok-number.ensures in
     let lines = c.args.lines.now in
-    let l = location_of c.args.mapping c.args.address lines in
+    let l = given_location c.args.mapping c.args.address lines in
     let has : LocationIn (length p.mapping) (length p.function) l =
     subst (λ (q : Profile). LocationIn (length q.mapping) (length q.function) l) (sym c.self.view_is) (
       c.requires.mapping,
-      all_mapped (λ (line : Line). line.function_id ≤ length c.args.self.now.function) line_of lines
+      all_mapped (λ (line : Line). line.function_id ≤ length c.args.self.now.function) given_line lines
           (recursion_from_All (λ (line : SourceLine). line.function.number ≤ length c.args.self.now.function) lines c.requires.lines),
     ) in
     let it = location_put p c.args.self.now c.self.view_is c.self.invariant.built _ _ l _ _ _ _ has
@@ -92,11 +92,11 @@ returns-clause-new c =
     let p = c.self.inside.profile in
     let e = c.in_ok-number.ensures in
     let lines = c.args.lines.now in
-    let l = location_of c.args.mapping c.args.address lines in
+    let l = given_location c.args.mapping c.args.address lines in
     let has : LocationIn (length p.mapping) (length p.function) l =
     subst (λ (q : Profile). LocationIn (length q.mapping) (length q.function) l) (sym c.self.view_is) (
       c.requires.mapping,
-      all_mapped (λ (line : Line). line.function_id ≤ length c.args.self.now.function) line_of lines
+      all_mapped (λ (line : Line). line.function_id ≤ length c.args.self.now.function) given_line lines
           (recursion_from_All (λ (line : SourceLine). line.function.number ≤ length c.args.self.now.function) lines c.requires.lines),
     ) in
     let it = location_put p c.args.self.now c.self.view_is c.self.invariant.built _ _ l _ _ _ _ has
@@ -116,11 +116,11 @@ returns-clause-within c =
     let p = c.self.inside.profile in
     let e = c.in_ok-number.ensures in
     let lines = c.args.lines.now in
-    let l = location_of c.args.mapping c.args.address lines in
+    let l = given_location c.args.mapping c.args.address lines in
     let has : LocationIn (length p.mapping) (length p.function) l =
     subst (λ (q : Profile). LocationIn (length q.mapping) (length q.function) l) (sym c.self.view_is) (
       c.requires.mapping,
-      all_mapped (λ (line : Line). line.function_id ≤ length c.args.self.now.function) line_of lines
+      all_mapped (λ (line : Line). line.function_id ≤ length c.args.self.now.function) given_line lines
           (recursion_from_All (λ (line : SourceLine). line.function.number ≤ length c.args.self.now.function) lines c.requires.lines),
     ) in
     let it = location_put p c.args.self.now c.self.view_is c.self.invariant.built _ _ l _ _ _ _ has
@@ -140,10 +140,10 @@ pub returns-clause-stands : goal.returns-clause-stands
 returns-clause-stands c =
     let old = c.args.self.now in
     let lines = c.args.lines.now in
-    let l = location_of c.args.mapping c.args.address lines in
+    let l = given_location c.args.mapping c.args.address lines in
     let has : LocationIn (length old.mapping) (length old.function) l = (
       c.requires.mapping,
-      all_mapped (λ (line : Line). line.function_id ≤ length old.function) line_of lines
+      all_mapped (λ (line : Line). line.function_id ≤ length old.function) given_line lines
           (recursion_from_All (λ (line : SourceLine). line.function.number ≤ length old.function) lines c.requires.lines),
     ) in
     let built = subst IsBuilt c.self.view_is c.self.invariant.built in
@@ -155,10 +155,10 @@ pub returns-clause-said : goal.returns-clause-said
 returns-clause-said c =
     let old = c.args.self.now in
     let lines = c.args.lines.now in
-    let l = location_of c.args.mapping c.args.address lines in
+    let l = given_location c.args.mapping c.args.address lines in
     let has : LocationIn (length old.mapping) (length old.function) l = (
       c.requires.mapping,
-      all_mapped (λ (line : Line). line.function_id ≤ length old.function) line_of lines
+      all_mapped (λ (line : Line). line.function_id ≤ length old.function) given_line lines
           (recursion_from_All (λ (line : SourceLine). line.function.number ≤ length old.function) lines c.requires.lines),
     ) in
     let built = subst IsBuilt c.self.view_is c.self.invariant.built in

@@ -1,6 +1,6 @@
 use Rattle.std.proofs.Common.{ℕ, ◌+◌, ◌<◌, length, Some, sym, ap, subst, ◌∙◌}
 use Rattle.pp_model.specs.declared.profile.Profile.{Profile}
-use Rattle.pp_build.specs.Given.{mapping_of}
+use Rattle.pp_build.specs.Given.{given_mapping}
 use Rattle.pp_build.proofs.ChangeLemmas.{text_in}
 use Rattle.pp_build.proofs.PutLemmas.{mapping_put}
 use Rattle.pp_share.specs.Described.{mapping_found, mapping_text}
@@ -15,7 +15,7 @@ pub invariant_of-self-2 : goal.invariant_of-self-2
 invariant_of-self-2 c =
     let p = c.self.inside.profile in
     let e = c.in_ok-number.ensures in
-    let m = mapping_of c.args.m.now in
+    let m = given_mapping c.args.m.now in
     let low = λ (i : ℕ) (is : i < length c.args.self.now.text). text_in (length p.text) i (subst (λ (q : Profile). i < length q.text) (sym c.self.view_is) is) in
     let it = mapping_put p c.args.self.now c.self.view_is c.self.invariant.built _ _ m _ _ _ _
     (low c.args.m.now.file.index c.requires.file, low c.args.m.now.build_id.index c.requires.build_id)
@@ -36,7 +36,7 @@ pub returns-clause-id : goal.returns-clause-id
 returns-clause-id c =
     let p = c.self.inside.profile in
     let e = c.in_ok-number.ensures in
-    let m = mapping_of c.args.m.now in
+    let m = given_mapping c.args.m.now in
     let low = λ (i : ℕ) (is : i < length c.args.self.now.text). text_in (length p.text) i (subst (λ (q : Profile). i < length q.text) (sym c.self.view_is) is) in
     let it = mapping_put p c.args.self.now c.self.view_is c.self.invariant.built _ _ m _ _ _ _
     (low c.args.m.now.file.index c.requires.file, low c.args.m.now.build_id.index c.requires.build_id)
@@ -49,7 +49,7 @@ pub returns-clause-new : goal.returns-clause-new
 returns-clause-new c =
     let p = c.self.inside.profile in
     let e = c.in_ok-number.ensures in
-    let m = mapping_of c.args.m.now in
+    let m = given_mapping c.args.m.now in
     let low = λ (i : ℕ) (is : i < length c.args.self.now.text). text_in (length p.text) i (subst (λ (q : Profile). i < length q.text) (sym c.self.view_is) is) in
     let it = mapping_put p c.args.self.now c.self.view_is c.self.invariant.built _ _ m _ _ _ _
     (low c.args.m.now.file.index c.requires.file, low c.args.m.now.build_id.index c.requires.build_id)
@@ -62,7 +62,7 @@ pub returns-clause-within : goal.returns-clause-within
 returns-clause-within c =
     let p = c.self.inside.profile in
     let e = c.in_ok-number.ensures in
-    let m = mapping_of c.args.m.now in
+    let m = given_mapping c.args.m.now in
     let low = λ (i : ℕ) (is : i < length c.args.self.now.text). text_in (length p.text) i (subst (λ (q : Profile). i < length q.text) (sym c.self.view_is) is) in
     let it = mapping_put p c.args.self.now c.self.view_is c.self.invariant.built _ _ m _ _ _ _
     (low c.args.m.now.file.index c.requires.file, low c.args.m.now.build_id.index c.requires.build_id)
@@ -75,7 +75,7 @@ returns-clause-within c =
 pub returns-clause-stands : goal.returns-clause-stands
 returns-clause-stands c =
     let old = c.args.self.now in
-    let m = mapping_of c.args.m.now in
+    let m = given_mapping c.args.m.now in
     let built = subst IsBuilt c.self.view_is c.self.invariant.built in
     let low = λ (i : ℕ) (is : i < length old.text). text_in (length old.text) i is in
     let after = mapping_built old built m (low c.args.m.now.file.index c.requires.file, low c.args.m.now.build_id.index c.requires.build_id) in
@@ -86,7 +86,7 @@ returns-clause-stands c =
 pub returns-clause-said : goal.returns-clause-said
 returns-clause-said c =
     let old = c.args.self.now in
-    let m = mapping_of c.args.m.now in
+    let m = given_mapping c.args.m.now in
     let built = subst IsBuilt c.self.view_is c.self.invariant.built in
     let low = λ (i : ℕ) (is : i < length old.text). text_in (length old.text) i is in
     ap said_samples (returns-clause-new c)

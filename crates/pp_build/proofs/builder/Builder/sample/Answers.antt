@@ -2,7 +2,7 @@ use Rattle.std.proofs.Common.{◌≡◌, List, [], ◌∷◌, ◌++◌, ap, ◌�
 use Rattle.indexmap.proofs.MapLemmas.{OnOk-map}
 use Rattle.pp_model.specs.declared.profile.Sample.{Sample}
 use Rattle.pp_build.proofs.SampleLemmas.{sample_pushed}
-use Rattle.pp_build.specs.Given.{sample_of}
+use Rattle.pp_build.specs.Given.{given_sample}
 use Rattle.pp_build.specs.Said.{said_sample, said_samples}
 use Rattle.pp_build.proofs.SaidLemmas.{sample_said}
 use Rattle.pp_build.proofs.builder.Builder.sample.Goals as goal
@@ -27,7 +27,7 @@ returns-clause-said c =
       value = c.in_ok-values_of.field-0;
       label = c.in_ok-labels_of.field-0;
     } in
-    let given : item ≡ sample_of c.args.locations.now c.args.values.now c.args.labels.now =
+    let given : item ≡ given_sample c.args.locations.now c.args.values.now c.args.labels.now =
     (λ i. record {
       location_id = c.in_ok-ids_of.ensures i;
       value = c.in_ok-values_of.ensures i;

@@ -1,17 +1,17 @@
 use Rattle.std.proofs.Common.{[], sym, refl, subst, arith, ◌∙◌}
-use Rattle.pp_steal.specs.Pool.{IsLive}
+use Rattle.pp_steal.specs.Pool.{TakesPart}
 use Rattle.pp_steal.proofs.Keeps.{takes, pops, finds}
 use Rattle.pp_steal.proofs.Tending.{after_pop}
 use Rattle.pp_steal.proofs.lane.LaneReach.pop.Goals as goal
 
 pub pop_as-requires-clause-fifo : goal.pop_as-requires-clause-fifo
-pop_as-requires-clause-fifo c = λ _. takes _ _ (subst IsLive (sym c.self.invariant.0.marked) tt)
+pop_as-requires-clause-fifo c = λ _. takes _ _ (subst TakesPart (sym c.self.invariant.0.marked) tt)
 
 pub pop_as-requires-clause-lifo : goal.pop_as-requires-clause-lifo
-pop_as-requires-clause-lifo c = λ _. pops _ _ (subst IsLive (sym c.self.invariant.0.marked) tt)
+pop_as-requires-clause-lifo c = λ _. pops _ _ (subst TakesPart (sym c.self.invariant.0.marked) tt)
 
 pub pop_as-requires-clause-empty : goal.pop_as-requires-clause-empty
-pop_as-requires-clause-empty c = λ views. finds _ _ [] views (subst IsLive (sym c.self.invariant.0.marked) tt)
+pop_as-requires-clause-empty c = λ views. finds _ _ [] views (subst TakesPart (sym c.self.invariant.0.marked) tt)
 
 pub push_reserved-requires : goal.push_reserved-requires
 push_reserved-requires c = let t = (after_pop _ _ _ _ _ _ _ _ c.self.invariant.0 c.in-Some.ensures.rule).0.room in omega arith
