@@ -1,7 +1,7 @@
 -- What is written of a graph in which nothing is trimmed is the peek report.
-use Rattle.std.proofs.Common.{◌≡◌, ℕ, zero, suc, ◌+◌, ◌<◌, ◌≤◌, Bool, true, false, cond, not, ◌&&◌, ◌||◌, nat_abs, pos, ◌+ℤ◌, List, [], ◌∷◌, ◌++◌, length, map, drop, get_or, replicate, All, Option, Some, refl, sym, ap, subst, ◌∙◌, arith, append_assoc, length-append}
+use Rattle.std.proofs.Common.{◌≡◌, ℕ, zero, suc, ◌+◌, ◌<◌, ◌≤◌, Bool, true, false, cond, not, ◌&&◌, ◌||◌, nat_abs, pos, ◌+ℤ◌, List, [], ◌∷◌, ◌++◌, length, map, drop, get_or, replicate, All, Option, refl, sym, ap, subst, ◌∙◌, arith, append_assoc, length-append}
 use Rattle.std.proofs.Math.Seq.{get_or-append_seam}
-use Rattle.std.specs.List.{filter, filter_map, list_any, sum_by, range_with_len}
+use Rattle.std.specs.List.{filter, list_any, sum_by, range_with_len}
 use Rattle.std.specs.Ordering.{eq_by_cmp}
 use Rattle.std.proofs.lemmas.List.{drop_more, drop_all, append-nil}
 use Rattle.std.proofs.lemmas.List.Elements.{All-head, All-tail, All-filter}
@@ -20,8 +20,8 @@ use Rattle.pp_count.specs.declared.counted.Counted.{Counted}
 use Rattle.pp_count.specs.declared.edge.Edge.{Edge}
 use Rattle.pp_count.specs.Counted.{IsCountedOf, report_samples}
 use Rattle.pp_count.specs.Counts.{total_of}
-use Rattle.pp_count.specs.EdgeSums.{has_edge, has_pair, edge_occurs, edge_sum, is_kept_name, AreEdgesOf, edges_between}
-use Rattle.pp_count.specs.Edges.{is_kept_key}
+use Rattle.pp_count.specs.EdgeSums.{has_edge, has_pair, edge_occurs, edge_sum, is_kept_name, AreEdgesAbout, edges_between}
+use Rattle.pp_count.specs.Edges.{is_kept_key, is_marked}
 use Rattle.pp_count.specs.Seeing.{HoldsFilters}
 use Rattle.pp_count.specs.Sums.{Seen, has, occurs}
 use Rattle.pp_count.specs.Table.{no_key, written_key}
@@ -30,12 +30,14 @@ use Rattle.pp_graph.specs.declared.ranking.Ranked.{Ranked}
 use Rattle.pp_graph.specs.Links.{EdgeLinks, live_edges}
 use Rattle.pp_graph.specs.Trim.{all_report_keys}
 use Rattle.pp_graph.specs.Trimmed.{IsWholeRanking}
-use Rattle.pp_graph.specs.KeyRows.{CanShow}
+use Rattle.pp_graph.specs.KeyRows.{CanShow, key_row}
+use Rattle.pp_graph.specs.Neighbours.{neighbour_list}
 use Rattle.pp_graph.proofs.Whole.{light-none}
-use Rattle.pp_tree.specs.Nodes.{table_heading, tree_nodes_text}
+use Rattle.pp_tree.specs.Nodes.{Node, table_heading, tree_nodes_text}
+use Rattle.pp_tree.specs.Tree.{near_of}
 use Rattle.pp_tree.specs.Peek.{is_found_key, whole_node_of, peek_text}
-use Rattle.pp_tree.specs.Ends.{ShowsPairs, node_at, peeked_text, edge_if}
-use Rattle.pp_tree.specs.Whole.{any_key, all_pairs}
+use Rattle.pp_tree.specs.Ends.{Pairs, ShowsPairs, callers_in, callees_in, node_at, peeked_text, edge_if}
+use Rattle.pp_tree.specs.Whole.{any_key, all_pairs, pairs_about}
 use Rattle.pp_tree.proofs.Shown.{keys_of_names, nodes_are}
 
 -- a filter, item by item
@@ -118,49 +120,68 @@ module _ (p : Profile) (names : List Key) where
       ap (list_any (λ n. eq_by_cmp key_cmp q (written_key p names n))) (numbers_all 0 (length names) (length names) (omega arith))
       ∙ in_range q [] names refl some
 
-live-all : (g : EdgeLinks) (edges : List Edge) → g.edges ≡ map Some edges → live_edges g ≡ edges
-live-all g edges is = ap (filter_map (λ edge. edge)) is ∙ each edges where
-  each : (es : List Edge) → filter_map (λ edge. edge) (map Some es) ≡ es
-  each [] = refl
-  each (e ∷ es) = ap (λ r. e ∷ r) (each es)
+-- the mark of a name is that of its key
+marked_at : (p : Profile) (own : Written → Bool) (ks : List Key) (n : ℕ) → n < length ks → get_or (map (λ key. own (key_written p key)) ks) n false ≡ own (written_key p ks n)
+marked_at p own [] n within = absurd (omega (arith, within))
+marked_at p own (k ∷ ks) zero within = refl
+marked_at p own (k ∷ ks) (suc n) within = marked_at p own ks n (omega (arith, within))
+
+-- what is made of the items that pass, where it is alike at each of them
+map_alike : {X Y : Type 0} (test : X → Bool) (g h : X → Y) → ((x : X) → test x ≡ true → g x ≡ h x) → (xs : List X) → map g (filter test xs) ≡ map h (filter test xs)
+map_alike test g h alike [] = refl
+map_alike test g h alike (x ∷ xs) =
+    elim (test x) as (λ b. test x ≡ b → map g (cond b (x ∷ filter test xs) (filter test xs)) ≡ map h (cond b (x ∷ filter test xs) (filter test xs))) [
+      | true ↦ λ passes i. alike x passes i ∷ map_alike test g h alike xs i
+      | false ↦ λ fails. map_alike test g h alike xs
+    ] refl
+
+-- The pairs about a key of its own are all its pairs.
+module _ (own : Written → Bool) (pairs : Pairs) (k : Written) (is : own k ≡ true) where
+  callers_about : callers_in (pairs_about own pairs) k ≡ callers_in pairs k
+  callers_about = λ i. neighbour_list key_cmp (λ caller. shown caller i) (λ caller. pairs.value caller k) pairs.keys where
+    shown : (caller : Written) → ((own caller || own k) && pairs.shows caller k) ≡ pairs.shows caller k
+    shown caller =
+        ap (λ b. (own caller || b) && pairs.shows caller k) is
+        ∙ elim (own caller) as (λ b. ((b || true) && pairs.shows caller k) ≡ pairs.shows caller k) [ true ↦ refl | false ↦ refl ]
+
+  callees_about : callees_in (pairs_about own pairs) k ≡ callees_in pairs k
+  callees_about = λ i. neighbour_list key_cmp (λ callee. (is i || own callee) && pairs.shows k callee) (λ callee. pairs.value k callee) pairs.keys
 
 module _ (l : Loaded) (v : Verdicts) (config : Config) (column : Option ℕ) (c : Counted) (f : Finders) (holds : HoldsFilters l v config f) (counted : IsCountedOf l v config column c) where
-  -- the graph of all edges shows all pairs
-  pub whole_shows : (g : EdgeLinks) (keep : List Bool) (edges : List Edge) → keep ≡ replicate (length c.sums.names) true → g.edges ≡ map Some edges
-      → AreEdgesOf l.profile (report_samples l.profile f config column) c.sums.names keep edges
-      → ShowsPairs l.profile c.sums.names g (all_pairs l.profile f config column)
-  whole_shows g keep edges keeps made are = record {
+  -- the graph of the edges about some keys shows the pairs about them
+  pub about_shows : (own : Written → Bool) (g : EdgeLinks) (keep marked : List Bool) (edges : List Edge) → keep ≡ replicate (length c.sums.names) true
+      → marked ≡ map (λ key. own (key_written l.profile key)) c.sums.names → live_edges g ≡ edges
+      → AreEdgesAbout l.profile (report_samples l.profile f config column) c.sums.names keep marked edges
+      → ShowsPairs l.profile c.sums.names g (pairs_about own (all_pairs l.profile f config column))
+  about_shows own g keep marked edges keeps marks live are = record {
     keys = keys_of_names l.profile (report_samples l.profile f config column) c.sums (counted.sums_are f holds);
     once = (counted.sums_are f holds).once;
     edges = λ a b in_a in_b.
-        ap (edges_between a b) (live-all g edges made) ∙ are.each a b in_a in_b
-        ∙ same a b;
+        ap (edges_between a b) live ∙ are.each a b in_a in_b
+        ∙ same a b in_a in_b;
   } where
-    S : List (Seen Written)
-    S = report_samples l.profile f config column
-
-    kept : Written → Bool
-    kept = is_kept_name l.profile c.sums.names keep
+    mark : (n : ℕ) → n < length c.sums.names → is_marked marked n ≡ own (written_key l.profile c.sums.names n)
+    mark n within = ap (λ marks. is_marked marks n) marks ∙ marked_at l.profile own c.sums.names n within
 
     every : (q : Written) → occurs key_cmp (report_samples l.profile f config column) q ≡ true → is_kept_name l.profile c.sums.names keep q ≡ true
     every q some =
         ap (λ k. is_kept_name l.profile c.sums.names k q) keeps
         ∙ all_kept_names l.profile c.sums.names q ((counted.sums_are f holds).occur q ∙ some)
 
-    same : (a b : ℕ)
-        → cond (edge_occurs key_cmp (is_kept_name l.profile c.sums.names keep) (report_samples l.profile f config column) (written_key l.profile c.sums.names a) (written_key l.profile c.sums.names b))
+    same : (a b : ℕ) → a < length c.sums.names → b < length c.sums.names
+        → cond ((is_marked marked a || is_marked marked b) && edge_occurs key_cmp (is_kept_name l.profile c.sums.names keep) (report_samples l.profile f config column) (written_key l.profile c.sums.names a) (written_key l.profile c.sums.names b))
         (record {
           from = a;
           to = b;
           value = edge_sum key_cmp (is_kept_name l.profile c.sums.names keep) (report_samples l.profile f config column) (written_key l.profile c.sums.names a) (written_key l.profile c.sums.names b);
         } ∷ []) []
-        ≡ edge_if l.profile c.sums.names (all_pairs l.profile f config column) a b
-    same a b =
+        ≡ edge_if l.profile c.sums.names (pairs_about own (all_pairs l.profile f config column)) a b
+    same a b in_a in_b =
         let x : Written = written_key l.profile c.sums.names a in
         let y : Written = written_key l.profile c.sums.names b in
         let sums = edge_sum key_cmp any_key (report_samples l.profile f config column) x y in
         λ i. cond
-        ((occurs-alike (is_kept_name l.profile c.sums.names keep) x y (report_samples l.profile f config column) every
+        ((mark a in_a i || mark b in_b i) && (occurs-alike (is_kept_name l.profile c.sums.names keep) x y (report_samples l.profile f config column) every
         ∙ sym (and-true (edge_occurs key_cmp any_key (report_samples l.profile f config column) x y))
         ∙ ap (λ b. edge_occurs key_cmp any_key (report_samples l.profile f config column) x y && b) (sym (light-none (total_of l.profile f config column) sums))) i)
         (record { from = a; to = b; value = sum-alike (is_kept_name l.profile c.sums.names keep) x y (report_samples l.profile f config column) every i } ∷ []) [] where
@@ -172,7 +193,8 @@ module _ (l : Loaded) (v : Verdicts) (config : Config) (column : Option ℕ) (c 
   pub peeked_is : (t : Ranked) (found : List Bool) (shown : List ℕ) (h : Facts) → IsWholeRanking l v config column 0 c t
       → found ≡ map (λ key. is_found_key l.profile f config column (key_written l.profile key)) c.sums.names
       → shown ≡ filter (λ n. get_or found n false) t.order
-      → peeked_text l.profile c.sums t.shown_flat shown (all_pairs l.profile f config column) h ≡ peek_text l.profile f config column h
+      → peeked_text l.profile c.sums t.shown_flat shown (pairs_about (is_found_key l.profile f config column) (all_pairs l.profile f config column)) h
+      ≡ peek_text l.profile f config column h
   peeked_is t found shown h whole found_is shown_is =
       let samples : List (Seen Written) = report_samples l.profile f config column in
       let test : Written → Bool = is_found_key l.profile f config column in
@@ -180,21 +202,22 @@ module _ (l : Loaded) (v : Verdicts) (config : Config) (column : Option ℕ) (c 
       let keys : map (written_key l.profile c.sums.names) shown ≡ filter test (all_report_keys l.profile f config column) =
       ap (map (written_key l.profile c.sums.names)) (shown_is ∙ ap (λ fs. filter (λ n. get_or fs n false) t.order) found_is)
       ∙ filtered t.order whole.below ∙ ap (filter test) (whole.keys f holds) in
-      let nodes : map (node_at l.profile c.sums (all_pairs l.profile f config column)) shown ≡ map (whole_node_of l.profile f config column) (filter test (all_report_keys l.profile f config column)) =
-      nodes_are l.profile samples c.sums (all_pairs l.profile f config column) shown (counted.sums_are f holds) below ∙ ap (map (whole_node_of l.profile f config column)) keys in
+      let all : Pairs = all_pairs l.profile f config column in
+      let about : Pairs = pairs_about test all in
+      let node : Written → Node = λ k. record { row = key_row samples k; callers = map near_of (callers_in about k); callees = map near_of (callees_in about k) } in
+      let nodes : map (node_at l.profile c.sums about) shown ≡ map (whole_node_of l.profile f config column) (filter test (all_report_keys l.profile f config column)) =
+      nodes_are l.profile samples c.sums about shown (counted.sums_are f holds) below ∙ ap (map node) keys
+      ∙ map_alike test node (whole_node_of l.profile f config column)
+      (λ k is i. record { row = key_row samples k; callers = map near_of (callers_about test all k is i); callees = map near_of (callees_about test all k is i) })
+      (all_report_keys l.profile f config column) in
       λ i. facts_text h ++ showing_line h.unit h.total (whole.shown_flat f holds i) ++ table_heading ++ tree_nodes_text h.unit h.total (pos 0) (nodes i) where
-        marked : (ks : List Key) (n : ℕ) → n < length ks → get_or (map (λ key. is_found_key l.profile f config column (key_written l.profile key)) ks) n false ≡ is_found_key l.profile f config column (written_key l.profile ks n)
-        marked [] n within = absurd (omega (arith, within))
-        marked (k ∷ ks) zero within = refl
-        marked (k ∷ ks) (suc n) within = marked ks n (omega (arith, within))
-
         filtered : (order : List ℕ) → All (λ n. n < length c.sums.names) order
             → map (written_key l.profile c.sums.names) (filter (λ n. get_or (map (λ key. is_found_key l.profile f config column (key_written l.profile key)) c.sums.names) n false) order)
             ≡ filter (is_found_key l.profile f config column) (map (written_key l.profile c.sums.names) order)
         filtered [] all = refl
         filtered (n ∷ order) all =
             let rest = filtered order (All-tail (λ m. m < length c.sums.names) n order all) in
-            (λ i. map (written_key l.profile c.sums.names) (cond (marked c.sums.names n (All-head (λ m. m < length c.sums.names) n order all) i)
+            (λ i. map (written_key l.profile c.sums.names) (cond (marked_at l.profile (is_found_key l.profile f config column) c.sums.names n (All-head (λ m. m < length c.sums.names) n order all) i)
             (n ∷ filter (λ m. get_or (map (λ key. is_found_key l.profile f config column (key_written l.profile key)) c.sums.names) m false) order)
             (filter (λ m. get_or (map (λ key. is_found_key l.profile f config column (key_written l.profile key)) c.sums.names) m false) order)))
             ∙ elim (is_found_key l.profile f config column (written_key l.profile c.sums.names n)) as (λ b.

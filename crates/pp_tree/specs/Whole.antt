@@ -1,5 +1,5 @@
 -- A graph in which nothing is trimmed. No public clause cites this file.
-use Rattle.std.specs.Prelude.{ℕ, Bool, true, Option}
+use Rattle.std.specs.Prelude.{ℕ, Bool, true, ◌&&◌, ◌||◌, Option}
 use Rattle.pp_model.specs.declared.config.Config.{Config}
 use Rattle.pp_model.specs.declared.profile.Profile.{Profile}
 use Rattle.pp_model.specs.Finders.{Finders}
@@ -24,4 +24,12 @@ all_pairs p f config column = record {
       (total_of p f config column) 0;
   value = edge_sum key_cmp any_key (report_samples p f config column);
   keys = all_keys (report_samples p f config column);
+}
+
+-- of these pairs those of which an end is a key of its own
+abbrev pub pairs_about : (Written → Bool) → Pairs → Pairs
+pairs_about own pairs = record {
+  shows = λ caller callee. (own caller || own callee) && pairs.shows caller callee;
+  value = pairs.value;
+  keys = pairs.keys;
 }

@@ -1,23 +1,36 @@
 //! The whole peek report.
-ghost use Rattle.std.specs.Prelude.{◌≡◌, ◌++◌, Option, filter, replicate, slice_index_or, IfOk, IfErr, OnOk, OnErr, true, false};
+ghost use Rattle.std.specs.Prelude.{◌≡◌, ◌++◌, Bool, Option, filter, map, replicate, slice_index_or, IfOk, IfErr, OnOk, OnErr, true, false};
 ghost use Rattle.pp_model.specs.Finders.{Finders};
+ghost use Rattle.pp_model.specs.FrameTexts.{Written};
 ghost use Rattle.pp_units.specs.Head.{facts};
+ghost use Rattle.pp_grain.specs.Keys.{key_written};
 ghost use Rattle.pp_count.specs.Counted.{CanCount, IsCountedOf, has_own_match};
 ghost use Rattle.pp_count.specs.Seeing.{HoldsFilters};
 ghost use Rattle.pp_graph.specs.KeyRows.{CanShow};
 ghost use Rattle.pp_tree.specs.Peek.{peek_text};
 ghost use Rattle.pp_tree.specs.Ends.{Pairs, ShowsPairs, CanWalk, peeked_text};
-ghost use Rattle.pp_tree.specs.Whole.{all_pairs};
+ghost use Rattle.pp_tree.specs.Whole.{all_pairs, pairs_about};
 
 use crate::nodes::{Table, put_nodes, put_table_heading};
 use crate::own::found_names;
 use pp_base::{Gate, List, MatchRefusal, Memory, Text};
-use pp_count::{Counted, recount};
+use pp_count::{Counted, Ends, recount_about};
 use pp_graph::{Graph, rank_all};
 use pp_model::{Config, Loaded, Verdicts};
 use pp_units::{Head, write_head};
 use std::alloc::Global;
 use std::thread::Threads;
+
+// What the report is of.
+#[derive(Clone, Copy)]
+struct Subject<'a> {
+    l: &'a Loaded,
+    v: &'a Verdicts,
+    c: &'a Counted,
+    config: &'a Config,
+    // The column of values that is counted.
+    column: Option<u32>,
+}
 
 /// Appends the peek report: the lines of the head, the heading, and each node that the own pattern finds, in report
 /// order, between all its callers and all its callees, as in a tree report. Nothing is trimmed.
@@ -50,7 +63,14 @@ pub fn write_peek<R: Threads + Sync, G: Gate>(
 {
     let found = found_names(alloc, l, v, c, config, column)?;
     let ranked = rank_all(alloc, l, c, config, 0)?;
-    let graph = whole_graph(rt, alloc, l, v, c, config, column, gate)?;
+    let subject = Subject {
+        l,
+        v,
+        c,
+        config,
+        column,
+    };
+    let graph = graph_about(rt, alloc, &subject, found.as_slice(), gate)?;
     let shown = found_of(alloc, ranked.order.as_slice(), found.as_slice())?;
     let mut text = Text::new(alloc);
     put_peek(
@@ -67,26 +87,41 @@ pub fn write_peek<R: Threads + Sync, G: Gate>(
     Ok(())
 }
 
-// The graph of all keys and all edges.
-fn whole_graph<R: Threads + Sync, G: Gate>(
+// The graph of all keys, and of the edges that have a marked end.
+fn graph_about<R: Threads + Sync, G: Gate>(
     rt: &R,
     alloc: Global,
-    l: &Loaded,
-    v: &Verdicts,
-    c: &Counted,
-    config: &Config,
-    column: Option<u32>,
+    subject: &Subject<'_>,
+    marked: &[bool],
     gate: &G,
 ) -> Result<Graph, Memory>
-    requires can { CanCount l.now.profile v.now config.now column }
-    requires counted { IsCountedOf l.now v.now config.now column c.now }
-    ensures walk { IfOk result (CanWalk l.now.profile c.now.sums) }
-    ensures shows { (f : Finders) → HoldsFilters l.now v.now config.now f →
-        IfOk result (λ g. ShowsPairs l.now.profile c.now.sums.names g
-        (all_pairs l.now.profile f config.now column)) }
+    requires can { CanCount subject.now.l.now.profile subject.now.v.now
+        subject.now.config.now subject.now.column }
+    requires counted { IsCountedOf subject.now.l.now subject.now.v.now
+        subject.now.config.now subject.now.column subject.now.c.now }
+    ensures walk { IfOk result
+        (CanWalk subject.now.l.now.profile subject.now.c.now.sums) }
+    ensures shows { (f : Finders) (own : Written → Bool) →
+        HoldsFilters subject.now.l.now subject.now.v.now subject.now.config.now f →
+        marked.now ≡ map (λ key. own (key_written subject.now.l.now.profile key))
+        subject.now.c.now.sums.names →
+        IfOk result (λ g. ShowsPairs subject.now.l.now.profile subject.now.c.now.sums.names g
+        (pairs_about own (all_pairs subject.now.l.now.profile f subject.now.config.now
+        subject.now.column))) }
 {
+    let Subject {
+        l,
+        v,
+        c,
+        config,
+        column,
+    } = *subject;
     let keep = all_kept(alloc, c.sums.names.len())?;
-    let edges = recount(rt, alloc, l, v, c, &keep, config, column, gate)?;
+    let ends = Ends {
+        keep: keep.as_slice(),
+        marked,
+    };
+    let edges = recount_about(rt, alloc, l, v, c, &ends, config, column, gate)?;
     Graph::make(alloc, &c.sums, edges)
 }
 

@@ -2,15 +2,16 @@ use Rattle.std.proofs.Common.{◌≡◌, ◌++◌, false, get_or, w64, FitsSigne
 use Rattle.std.specs.List.{filter}
 use Rattle.std.proofs.lemmas.Int.{to_z-of_z}
 use Rattle.pp_units.specs.Head.{facts}
-use Rattle.pp_tree.specs.Whole.{all_pairs}
+use Rattle.pp_tree.specs.Peek.{is_found_key}
+use Rattle.pp_tree.specs.Whole.{all_pairs, pairs_about}
 use Rattle.pp_tree.proofs.Peeking.{found_fits, peeked_is}
 use Rattle.pp_tree.proofs.peek.write_peek.Goals as goal
 
 pub put_peek-requires-clause-show : goal.put_peek-requires-clause-show
 put_peek-requires-clause-show g c =
     let is : c.in_ok-shown.shown ≡ filter (λ n. get_or c.in_ok-found.found n false) c.in_ok-ranked.ranked.order =
-    c.in_ok-shown.ensures ∙ (λ i. filter (λ n. get_or (c.as_slice-2.ensures i) n false) (c.as_slice.ensures i)) in
-    rw c.as_slice-3.ensures
+    c.in_ok-shown.ensures ∙ (λ i. filter (λ n. get_or (c.as_slice-3.ensures i) n false) (c.as_slice-2.ensures i)) in
+    rw c.as_slice-4.ensures
     (found_fits c.args.l.now c.args.v.now c.args.config.now c.args.column c.args.c.now c.in_ok-ranked.ranked (λ n. get_or c.in_ok-found.found n false) c.in_ok-shown.shown c.requires.counted
     (c.in_ok-ranked.ensures c.args.v.now c.args.column c.requires.counted) is)
 
@@ -18,10 +19,13 @@ pub returns-clause-ok : goal.returns-clause-ok
 returns-clause-ok g c = λ f holds.
     let fits : FitsSigned w64 c.in_ok-ranked.ranked.shown_flat = search rules in
     let is : c.in_ok-shown.shown ≡ filter (λ n. get_or c.in_ok-found.found n false) c.in_ok-ranked.ranked.order =
-    c.in_ok-shown.ensures ∙ (λ i. filter (λ n. get_or (c.as_slice-2.ensures i) n false) (c.as_slice.ensures i)) in
-    let put = c.in_ok-put_peek.ensures (all_pairs c.args.l.now.profile f c.args.config.now c.args.column) (c.in_ok-graph.ensures.shows f holds) in
+    c.in_ok-shown.ensures ∙ (λ i. filter (λ n. get_or (c.as_slice-3.ensures i) n false) (c.as_slice-2.ensures i)) in
+    let own = is_found_key c.args.l.now.profile f c.args.config.now c.args.column in
+    let put =
+    c.in_ok-put_peek.ensures (pairs_about own (all_pairs c.args.l.now.profile f c.args.config.now c.args.column))
+    (c.in_ok-graph.ensures.shows f own holds (c.as_slice.ensures ∙ c.in_ok-found.ensures.found f holds)) in
     c.in_ok-append.ensures.ok
     ∙ ap (λ t. c.args.out.now ++ t)
-    (rw (c.new-text.ensures, to_z-of_z w64 c.in_ok-ranked.ranked.shown_flat fits, c.as_slice-3.ensures) at put
+    (rw (c.new-text.ensures, to_z-of_z w64 c.in_ok-ranked.ranked.shown_flat fits, c.as_slice-4.ensures) at put
     ∙ peeked_is c.args.l.now c.args.v.now c.args.config.now c.args.column c.args.c.now f holds c.requires.counted c.in_ok-ranked.ranked c.in_ok-found.found c.in_ok-shown.shown (facts c.args.head.now)
     (c.in_ok-ranked.ensures c.args.v.now c.args.column c.requires.counted) (c.in_ok-found.ensures.found f holds) is)
