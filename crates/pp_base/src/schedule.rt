@@ -24,6 +24,7 @@ impl Model for Schedule {
 }
 
 impl Schedule {
+    /// The schedule before the first call. The numbers stand in any order; one that stands twice is one call.
     pub fn new(fails: List<u32>) -> Self
         ensures { result ≡ record { fails = fails; number = 0; faults = 0 } }
     {

@@ -22,6 +22,7 @@ pub struct Cursor {
 /// A stack, and how often it was seen.
 #[derive(Drop)]
 pub struct Record<'a> {
+    /// How many samples had the stack, from 1: the record's first word.
     pub count: i64,
     /// The count times the period, in nanoseconds.
     pub nanos: i64,
@@ -32,6 +33,7 @@ pub struct Record<'a> {
 /// The records of a file, in order.
 #[derive(Drop)]
 pub struct Records<'a> {
+    /// The records before the trailer, which isn't among them.
     pub records: Vec<Record<'a>>,
     /// The number of the word behind the trailer.
     pub text: u64,

@@ -16,7 +16,9 @@ use std::alloc::Global;
 /// Samples, and the addresses to whose places their location ids refer.
 #[derive(Drop)]
 pub struct Samples {
+    /// A sample for each record, in their order, with two values: the count, and its nanoseconds.
     pub samples: List<Sample>,
+    /// The addresses without repeats, in the order of first sight. The location id of one is its place here plus 1.
     pub addresses: IndexSet<u64>,
 }
 

@@ -41,5 +41,6 @@ impl From<WantOfMemory> for MergeRefusal {
 #[derive(Clone, Copy, Debug, PartialEq, Eq, Error)]
 #[error("column {column} has nothing to scale")]
 pub struct NothingToScale {
+    /// The place of the sample type, from 0.
     pub column: u32,
 }

@@ -33,7 +33,9 @@ pub enum Grain {
 /// All variables. An empty text means that its variable isn't in force.
 #[derive(Debug, Drop)]
 pub struct Config {
+    /// Which figure of a key its row is ordered by; the greater absolute value comes first.
     pub sort: Sort,
+    /// What one row of a report stands for (`granularity`).
     pub grain: Grain,
     /// Whether inlined calls count for the function that they were inlined into.
     pub noinlines: bool,

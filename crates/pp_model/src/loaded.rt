@@ -8,6 +8,7 @@ use pp_base::List;
 /// A profile that reports are made of. A verdict says whether a pattern finds the text of that index.
 #[derive(Debug, Drop)]
 pub struct Loaded {
+    /// The tables, in which ids are places from 1 and no text stands twice.
     pub profile: Compact,
     /// What `drop_frames` finds, where it is in force.
     pub drop: Option<List<bool>>,

@@ -19,6 +19,7 @@ pub struct Sample {
     pub location_id: List<u64>,
     /// One value per sample type, in that type's unit.
     pub value: List<i64>,
+    /// The labels, in the order of the message; a name may have several.
     pub label: List<Label>,
 }
 
@@ -106,9 +107,13 @@ pub struct Function {
 pub struct Profile {
     /// What the values of a sample are, in their order.
     pub sample_type: List<ValueType>,
+    /// The samples. A stack with the same labels may stand in several, and their values then add up.
     pub sample: List<Sample>,
+    /// The files in memory; profile.proto has the program's own file first.
     pub mapping: List<Mapping>,
+    /// The locations to which samples refer.
     pub location: List<Location>,
+    /// The functions to which the lines of locations refer.
     pub function: List<Function>,
     /// The texts that indices name (`string_table`); the first is empty in a valid profile.
     pub text: List<Text>,

@@ -7,16 +7,22 @@ use crate::Origin;
 use pp_base::{List, Text};
 use pp_model::{BaseKind, Config, Report};
 
-// What the words before a place ask for; as a `Plan`, but that there may be no origin yet.
+/// What the words before a place ask for; as a `Plan`, but that there may be no origin yet.
 #[derive(Debug, Drop)]
 pub struct Draft {
+    /// The sources in the order of their words.
     pub origins: List<Origin>,
+    /// The paths of the bases in the order of their words.
     pub bases: List<Text>,
+    /// How the bases are taken off; there exactly where there is a base.
     pub base_kind: Option<BaseKind>,
+    /// What the last `-normalize` said, and false before the first.
     pub normalize: bool,
-    // The number of the first word that asks to normalize.
+    /// The number of the first word that asks to normalize.
     pub normalized_at: Option<u64>,
+    /// The report, where a word named one.
     pub report: Option<Report>,
+    /// The variables as the words set them, and the others at their defaults.
     pub config: Config,
     pub ghost few: { length origins + length bases ≤ 256 },
     pub ghost fair: { IsTrue (list_all is_fair origins) },

@@ -19,7 +19,7 @@ use std::alloc::Global;
 const MOST: usize = 256;
 
 impl Draft {
-    // Nothing is asked for yet.
+    /// The draft of no words: each variable is at its default.
     pub fn new(alloc: Global) -> Result<Draft, Memory>
         ensures { IfOk result (λ draft. IsDraftOf draft []) }
     {
@@ -35,7 +35,8 @@ impl Draft {
         })
     }
 
-    // Takes what the word of the number asks for.
+    /// Takes what the word asks for. `at` is the number of the word, from 1, which a fault tells. `Err` where the word
+    /// can't stand after those before it, or there is no memory.
     pub fn take(&mut self, at: u64, item: Item) -> Result<(), UsageRefusal>
         requires { IsTrue (is_fair_item item) }
         ensures { TakesItem self.old self.new at item result }

@@ -34,8 +34,8 @@ pub enum Item {
     Set(Setting),
 }
 
-// What the word of the number asks for. `next` is the next word where the word takes it as its
-// value.
+/// What the word asks for. `at` is its number, from 1, and `next` the next word, where this one takes it as its value.
+/// `Err` is the word's own fault, whatever the words before it are, or want of memory.
 #[tactic(auto, unfolding(crate::specs::Items::item_of))]
 pub fn item_of(
     alloc: Global,
@@ -187,7 +187,7 @@ fn samples_of(value: &[u8]) -> Option<u32>
     Some(samples as u32)
 }
 
-// The refusal of the word of the number.
+/// The refusal of the word of the number, from 1.
 pub fn refuse<T>(kind: UsageKind, at: u64) -> Result<T, UsageRefusal>
     ensures { result ≡ Err (refusals.Fault (fault_at kind at)) }
 {

@@ -20,6 +20,7 @@ pub struct Plan {
     pub normalize: bool,
     /// The report; without one the shell starts. The pattern of peek and list isn't empty.
     pub report: Option<Report>,
+    /// The variables, each at the last value that a word gave it, else at its default.
     pub config: Config,
     pub ghost some_origin: { 0 < length origins },
     pub ghost few: { length origins + length bases ≤ 256 },

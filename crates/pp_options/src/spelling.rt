@@ -5,7 +5,7 @@ ghost use Rattle.pp_options.specs.Spelling.{is_option, without_dash, without_das
 use crate::name::option_named;
 use pp_units::cut_at;
 
-// Whether the word is an option: it begins with a dash and is longer.
+/// Whether the word is an option: it begins with a dash and is longer.
 pub fn is_option(word: &[u8]) -> bool
     ensures { result ≡ is_option word.now }
 {
@@ -31,7 +31,7 @@ fn without_dashes(word: &[u8]) -> &[u8]
     without_dash(without_dash(word))
 }
 
-// The name of the option: what stands after the dashes, before the first `=`.
+/// The name of the option: what stands after the dashes, before the first `=`.
 pub fn name_in(word: &[u8]) -> &[u8]
     ensures { result.now ≡ name_in word.now }
 {
@@ -42,7 +42,7 @@ pub fn name_in(word: &[u8]) -> &[u8]
     }
 }
 
-// The value that stands after the first `=` of the option.
+/// The value that stands after the first `=` of the option, and may be empty. `None` where there is no `=`.
 pub fn value_in(word: &[u8]) -> Option<&[u8]>
     ensures { option_map (λ x. x.now) result ≡ value_in word.now }
 {
@@ -50,7 +50,7 @@ pub fn value_in(word: &[u8]) -> Option<&[u8]>
     Some(value)
 }
 
-// Whether the word is an option whose value is the next word.
+/// Whether the word is an option whose value is the next word: it needs a value, and has no `=`.
 #[tactic(auto, unfolding(crate::specs::Spelling::takes_next))]
 pub fn takes_next(word: &[u8]) -> bool
     ensures { result ≡ takes_next word.now }

@@ -7,7 +7,9 @@ use crate::text::is;
 /// A name and what it stands for.
 #[derive(Clone, Copy, Debug)]
 pub struct Named<T> {
+    /// The name as it is written, without dashes. Letters of either case differ.
     pub name: &'static [u8],
+    /// What the name stands for.
     pub value: T,
 }
 

@@ -38,6 +38,7 @@ pub enum UsageKind {
 #[derive(Clone, Copy, Debug, PartialEq, Eq, Error)]
 #[error("word {word}: {kind}")]
 pub struct UsageFault {
+    /// What is wrong with the word.
     pub kind: UsageKind,
     /// The number of the word, from 1; of an option whose value is the next word, the option's.
     pub word: u64,

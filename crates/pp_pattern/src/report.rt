@@ -24,30 +24,45 @@ pub struct PatternRefused {
     pub option: Slot,
 }
 
-// What the patterns of frames find, by text.
+/// What the patterns of frames find: for each, a verdict on each text of the profile, in their order, and `None` where
+/// the pattern isn't in force.
 #[derive(Debug, Drop)]
 pub struct FrameVerdicts {
+    /// A stack must have a frame that is found.
     pub focus: Option<List<bool>>,
+    /// A stack may have no frame that is found.
     pub ignore: Option<List<bool>>,
+    /// Frames that are found are left out.
     pub hide: Option<List<bool>>,
+    /// Frames that are not found are left out.
     pub show: Option<List<bool>>,
+    /// What lies above the frame nearest to the root that is found is left out.
     pub show_from: Option<List<bool>>,
 }
 
-// The tags of the profile, where a tag filter is in force, and what the parts of the filters find.
+/// What the parts of the tag filters find, in the order of the parts: of each text of the profile where the filter has
+/// a name, else of each tag. A filter that isn't in force has no part.
 #[derive(Debug, Drop)]
 pub struct TagVerdicts {
+    /// The tags of the profile, by rising key index, then rising text index; none where no filter is in force.
     pub tag: List<Tag>,
+    /// A sample must have a label that is selected.
     pub tagfocus: List<List<bool>>,
+    /// A sample may have no label that is selected.
     pub tagignore: List<List<bool>>,
 }
 
-// What the other patterns find, by text.
+/// What the other patterns find: for each, a verdict on each text of the profile, in their order, and `None` where the
+/// pattern isn't in force.
 #[derive(Debug, Drop)]
 pub struct NameVerdicts {
+    /// What lies below a frame that is found is left out.
     pub prune_from: Option<List<bool>>,
+    /// Labels whose name is not found are left out.
     pub tagshow: Option<List<bool>>,
+    /// Labels whose name is found are left out.
     pub taghide: Option<List<bool>>,
+    /// What the pattern of a peek or list report finds.
     pub own: Option<List<bool>>,
 }
 

@@ -7,7 +7,9 @@ use pp_base::Memory;
 /// A table of `len` entries that goes behind `after` others.
 #[derive(Clone, Copy, Debug)]
 pub struct Behind {
+    /// How many entries stand before the table.
     pub after: u64,
+    /// How many entries the table has itself.
     pub len: u64,
     pub ghost small: { after + len < 2 ^ 62 },
 }

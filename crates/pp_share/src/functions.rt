@@ -14,9 +14,13 @@ use std::alloc::Global;
 /// What tells a function apart where texts stand once: three text indices, and the first line.
 #[derive(Clone, Copy, Debug, PartialEq, Eq, Hash)]
 pub struct FunctionKey {
+    /// The text index of the name in the form for people.
     pub name: i64,
+    /// The text index of the name as the linker has it.
     pub system_name: i64,
+    /// The text index of the path of the source file.
     pub filename: i64,
+    /// The line in that file where the function begins; 0 where it isn't known.
     pub start_line: i64,
 }
 

@@ -21,7 +21,9 @@ use std::mem;
 /// file it maps.
 #[derive(Clone, Copy, Debug, PartialEq, Eq, Hash)]
 pub struct MappingKey {
+    /// How many addresses it covers: the limit less the start, and 0 where the start is greater.
     pub size: u64,
+    /// Where the mapped part begins in the file, in bytes from its start.
     pub offset: u64,
     /// The index of the build id's text, or of the path's where that is empty.
     pub identity: i64,
@@ -46,10 +48,13 @@ impl Keyed<MappingKey> for Mapping {
 /// What tells a location apart where mappings and functions stand once.
 #[derive(Debug, Drop, PartialEq, Eq, Hash)]
 pub struct LocationKey {
+    /// The id of its mapping among those that stand once; 0 where there is none.
     pub mapping_id: u64,
     /// How far behind the start of its mapping the location lies, modulo 2^64.
     pub distance: u64,
+    /// Its lines; each but the last was inlined into the one after it.
     pub line: Vec<Line>,
+    /// Whether it stands for several places of the same content, which the linker folded into one.
     pub folded: bool,
 }
 

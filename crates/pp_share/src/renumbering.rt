@@ -14,9 +14,13 @@ use pp_model::{Function, Label, Line, Location, Mapping, Profile, Sample, ValueT
 /// What the ids of each table and the references to it become.
 #[derive(Drop)]
 pub struct Renumbering {
+    /// The ids of texts, which are their indices plus 1.
     pub text: Ids,
+    /// The ids of mappings, to which locations refer.
     pub mapping: Ids,
+    /// The ids of functions, to which lines refer.
     pub function: Ids,
+    /// The ids of locations, to which samples refer.
     pub location: Ids,
 }
 

@@ -15,7 +15,9 @@ use std::alloc::Global;
 /// What tells a sample apart where texts and locations stand once: its locations, leaf first, and its labels, in order.
 #[derive(Debug, Drop, PartialEq, Eq, Hash)]
 pub struct SampleKey {
+    /// The ids of its locations, leaf first.
     pub locations: Stack,
+    /// Its labels. The same labels in another order are another key.
     pub labels: Vec<Label>,
 }
 

@@ -7,6 +7,7 @@ use std::hash::{Hash, Hasher};
 /// The locations of a sample, leaf first. Stacks are long, so a hasher takes all their ids as one number.
 #[derive(Debug, Drop, PartialEq, Eq)]
 pub struct Stack {
+    /// The ids of the locations, leaf first.
     pub ids: Vec<u64>,
 }
 

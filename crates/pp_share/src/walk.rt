@@ -8,16 +8,19 @@ use crate::met::Met;
 use pp_base::Memory;
 use pp_model::{Function, Label, Line, Location, Mapping, Sample, ValueType};
 
-/// The table that ids are of.
+/// The table of texts, whose ids are their indices plus 1. It and those below tell of which table a reference is.
 #[derive(Clone, Copy, Debug)]
 pub struct Texts;
 
+/// The table of mappings, to which locations refer.
 #[derive(Clone, Copy, Debug)]
 pub struct Mappings;
 
+/// The table of functions, to which the lines of locations refer.
 #[derive(Clone, Copy, Debug)]
 pub struct Functions;
 
+/// The table of locations, to which samples refer.
 #[derive(Clone, Copy, Debug)]
 pub struct Locations;
 

@@ -24,7 +24,7 @@ pub enum Argument {
     Focus(Text),
 }
 
-// What the word asks for, where it isn't `>` alone.
+/// What the word asks for, where it isn't `>` alone. `Err` where it begins with `|`, or there is no memory.
 #[tactic(auto, unfolding(crate::specs::Arguments::argument_of))]
 pub fn argument_of(alloc: Global, word: &[u8]) -> Result<Argument, LineRefusal>
     ensures argument { Answers (argument_of word.now) result }

@@ -13,7 +13,7 @@ fn is_blank(byte: u8) -> bool
     byte == b' ' || byte == b'\t'
 }
 
-// The text without the spaces and tabs at both ends.
+/// The text without the spaces and tabs at both ends.
 pub fn trimmed(text: &[u8]) -> &[u8]
     ensures { result.now ≡ trimmed text.now }
 {
@@ -46,7 +46,7 @@ fn without_end(text: &[u8]) -> &[u8]
     kept
 }
 
-// The words of the text, parted by spaces and tabs.
+/// The words of the text in their order, parted by spaces and tabs. None is empty.
 pub fn words_in(alloc: Global, text: &[u8]) -> Result<Vec<&[u8]>, Memory>
     ensures { IfOk result (λ words. map (λ w. w.now) words.items ≡ words_in text.now) }
 {

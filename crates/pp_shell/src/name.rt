@@ -52,7 +52,7 @@ pub fn plain_named(name: &[u8]) -> Option<Plain>
     value_named(&PLAINS, name)
 }
 
-// The word without the digits at its end.
+/// The word without the decimal digits at its end.
 pub fn report_name(word: &[u8]) -> &[u8]
     ensures name { result.now ≡ report_name word.now }
     ensures within { length result.now ≤ length word.now }
@@ -67,7 +67,7 @@ pub fn report_name(word: &[u8]) -> &[u8]
     name
 }
 
-// The words, after the digits where there are any.
+/// The words, after the digits where there are any.
 pub fn with_digits<'a>(
     alloc: Global,
     digits: &'a [u8],

@@ -25,7 +25,7 @@ pub struct Narrowing {
     pub output: Option<Text>,
 }
 
-// What the words ask for, or their first fault.
+/// What the words ask for, or the fault of the first that is wrong. The last number of rows and the last file count.
 pub fn narrowing_of(alloc: Global, words: &[&[u8]]) -> Result<Narrowing, LineRefusal>
     ensures narrowing { Answers (together (arguments (map (λ w. w.now) words.now))) result }
     ensures fair { IfOk result (λ n. IsTrue (are_fair_rows n.rows)) }

@@ -14,7 +14,8 @@ use std::alloc::Global;
 // How many rows top and compare have, where nothing else is said.
 const FEW_ROWS: i32 = 10;
 
-// The report of the format and the pattern, as the words after them want it.
+/// The report of the format and the pattern, as the words after them want it: `config` with the changes of this one
+/// command. `Err` is the first fault of the words.
 pub fn run(
     alloc: Global,
     format: Format,

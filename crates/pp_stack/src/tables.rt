@@ -14,10 +14,15 @@ use std::alloc::Global;
 /// verdicts on texts.
 #[derive(Debug, Drop)]
 pub struct VerdictTables {
+    /// For `focus`: a stack must have a frame that is found.
     pub focus: Option<VerdictTable>,
+    /// For `ignore`: a stack may have no frame that is found.
     pub ignore: Option<VerdictTable>,
+    /// For `hide`: frames that are found are left out.
     pub hide: Option<VerdictTable>,
+    /// For `show`: frames that are not found are left out.
     pub show: Option<VerdictTable>,
+    /// For `show_from`: what lies above the frame nearest to the root that is found is left out.
     pub show_from: Option<VerdictTable>,
 }
 

@@ -2,7 +2,7 @@
 use crossbeam_deque::protocol::{Join, Outcome, Protocol, Split};
 use std::collections::LinkedList;
 
-// Whose view it is. These are words of contracts, and no value of them is made.
+/// Whose view it is. These are words of contracts, and no value of them is made.
 pub enum Role {
     /// The owner's, while there is no other pass.
     Owner,
@@ -14,14 +14,17 @@ pub enum Role {
     Spent,
 }
 
-// What a pass knows: the pieces dealt to the deque, and those that it took. No value of it is made.
+/// What a pass knows: the pieces dealt to the deque, and those that it took. No value of it is made.
 pub struct View {
+    /// Whose view it is.
     pub role: Role,
+    /// The numbers of the pieces that were dealt to the deque so far, which rise. A spent view needs none.
     pub dealt: LinkedList<u32>,
+    /// The numbers of the pieces that this pass took, in the order in which it took them.
     pub taken: LinkedList<u32>,
 }
 
-// The rule of each deque: every piece that was dealt is in the deque, or was taken once.
+/// The rule of each deque: every piece that was dealt is in the deque, or was taken once.
 pub struct OnceEach;
 
 impl Protocol<u32, View> for OnceEach {
@@ -36,7 +39,7 @@ impl Protocol<u32, View> for OnceEach {
     ghost guest = { spent };
 }
 
-// The owner deals a piece.
+/// The owner deals a piece.
 pub struct Dealt;
 
 impl Outcome<u32, View> for Dealt {
@@ -45,7 +48,7 @@ impl Outcome<u32, View> for Dealt {
     ghost then = { Deals };
 }
 
-// A pass takes a piece, or finds none: either way it learns that it took only dealt pieces, none twice.
+/// A pass takes a piece, or finds none: either way it learns that it took only dealt pieces, none twice.
 pub struct Take;
 
 impl Outcome<u32, View> for Take {
@@ -56,7 +59,7 @@ impl Outcome<u32, View> for Take {
     ghost empty = { TookDealt };
 }
 
-// A pass is split in two, or two are joined.
+/// A pass is split in two, or two are joined.
 pub struct Hand;
 
 impl Split<View> for Hand {

@@ -67,7 +67,8 @@ pub fn write_percent(value: i64, total: u64, out: &mut Small)
     out.push(b'%');
 }
 
-// The number of a value with this sign and this absolute value.
+/// The number of a value with this sign and this absolute value, in the unit: with two decimals, or with none where
+/// both would be 0.
 pub fn write_number(negative: bool, size: u64, unit: &Unit, out: &mut Small)
     ensures { let h = nearest (size * (100 * unit.now.from)) (to_at size (shown unit.now)) in
         out.new ≡ sign_text negative h ++ shortened h }

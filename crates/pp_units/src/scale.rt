@@ -61,6 +61,7 @@ fn first_named(unit: &[u8], scales: &[Scale]) -> Option<Scale>
 }
 
 impl Scale {
+    /// What the unit measures. Units of one family are converted into each other.
     pub fn family(self) -> Family
         ensures { result ≡ family_of_scale self }
     {
