@@ -12,6 +12,7 @@ use std::alloc::Global;
 /// The texts of all names.
 #[derive(Drop)]
 pub struct Texts<'a> {
+    /// The texts of each name, at the place of its number.
     pub all: Vec<KeyTexts<'a>>,
     /// What stands for a number that no name has.
     pub none: KeyTexts<'a>,

@@ -12,6 +12,7 @@ use std::marker::Model;
 /// A node of a call tree.
 #[derive(Clone, Copy, Debug, PartialEq, Eq, Drop)]
 pub struct PathNode {
+    /// The key at which the node's path ends.
     pub key: Key,
     /// The sum over the samples whose path ends here.
     pub flat: i64,

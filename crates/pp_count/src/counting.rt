@@ -16,7 +16,9 @@ pub const PIECE: usize = 1024;
 /// A wave of pieces, to be counted on any thread.
 #[derive(Drop)]
 pub struct Counting<'a> {
+    /// Where what the pieces come to is allocated.
     pub alloc: Global,
+    /// How samples are seen, and which of them are counted.
     pub scope: Scope<'a>,
     /// The first piece of the wave.
     pub first: u32,

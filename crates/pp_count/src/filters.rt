@@ -31,10 +31,15 @@ pub struct Filters {
 /// searched for.
 #[derive(Clone, Copy, Debug, PartialEq, Eq)]
 pub struct Reach {
+    /// Whether `focus` may; true where it isn't in force or has no table.
     pub focus: bool,
+    /// Whether `ignore` may; true where it isn't in force or has no table.
     pub ignore: bool,
+    /// Whether `hide` may; true where it isn't in force or has no table.
     pub hide: bool,
+    /// Whether `show` may; true where it isn't in force or has no table.
     pub show: bool,
+    /// Whether `show_from` may; true where it isn't in force or has no table.
     pub show_from: bool,
 }
 

@@ -12,8 +12,11 @@ use pp_model::{Config, Loaded, Sample, Verdicts};
 /// What all pieces of a count share.
 #[derive(Clone, Copy)]
 pub struct Scope<'a> {
+    /// The profile whose samples are counted.
     pub l: &'a Loaded,
+    /// What the patterns of the report find of its texts.
     pub v: &'a Verdicts,
+    /// The variables of the report.
     pub config: &'a Config,
     /// The filters of `v` and `config`.
     pub filters: &'a Filters,

@@ -22,6 +22,7 @@ pub struct Sums {
 /// Sums, and the numbers of their keys.
 #[derive(Drop)]
 pub(crate) struct NumberedSums {
+    /// The sums of the keys that occur.
     pub sums: Sums,
     /// For each name of the sums, the number of its key.
     pub numbers: List<u64>,

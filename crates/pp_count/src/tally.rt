@@ -16,6 +16,7 @@ pub struct Tally {
 }
 
 impl Tally {
+    /// What a key has before any sample: both sums are 0.
     pub const NONE: Tally = Tally {
         flat: 0,
         cum: 0,

@@ -15,7 +15,9 @@ use std::alloc::Global;
 /// one sample.
 #[derive(Drop)]
 pub struct Cut {
+    /// What is left of the samples so far, in their order; their ids are of locations in `places`.
     pub samples: List<Sample>,
+    /// The locations of the profile, and behind them those of which lines were taken off.
     pub places: Places,
     /// Its frames, leaf first.
     pub stack: Stack,

@@ -6,16 +6,16 @@ use pp_base::{List, Memory, Text};
 use pp_model::Label;
 use std::alloc::Global;
 
-// Which texts of a profile are a key, so that no text is compared once a label.
+/// Which texts of a profile are a key, so that no text is compared once a label.
 #[derive(Drop)]
 pub struct Key {
-    // For each text, whether it is the key.
+    /// For each text, whether it is the key.
     pub texts: List<bool>,
-    // Whether the empty text is, for which an index past the texts stands.
+    /// Whether the empty text is the key, for which an index past the texts stands.
     pub past: bool,
 }
 
-// The key among these texts.
+/// The key among these texts, which are compared byte by byte. `Err` is want of memory.
 pub fn key_in(alloc: Global, texts: &[Text], key: &[u8]) -> Result<Key, Memory>
     ensures { IfOk result (λ k. AreKeyVerdicts texts.now key.now k) }
 {
@@ -30,7 +30,7 @@ pub fn key_in(alloc: Global, texts: &[Text], key: &[u8]) -> Result<Key, Memory>
 }
 
 impl Key {
-    // Whether it is the key of the label.
+    /// Whether the label's name is the key. A negative index stands for the first text.
     pub fn is_of(&self, label: &Label) -> bool
         ensures { result ≡ names_key self.now label.now }
     {

@@ -6,7 +6,7 @@ ghost use Rattle.pp_model.specs.FirstSight.{place_of, seen_with};
 use pp_base::{List, Memory, Text};
 use std::alloc::Global;
 
-// The index of the text, which is added where it is not there.
+/// The index of the first text that is this one. Where there is none, it is added at the end. `Err` is want of memory.
 pub fn index_of(alloc: Global, texts: &mut List<Text>, text: &[u8]) -> Result<i64, Memory>
     ensures index { IfOk result (λ i. i ≡ pos (place_of bytes_eq texts.old text.now)) }
     ensures texts { OnOk result (texts.new ≡ seen_with bytes_eq texts.old text.now) }

@@ -20,7 +20,9 @@ use std::alloc::Global;
 /// The locations of the frames so far, and the names of those that are made from labels.
 #[derive(Drop)]
 pub struct Frames {
+    /// The names of the frames that were made, without repeats, in the order of first sight.
     pub names: Names,
+    /// The locations of the profile, and behind them those that load pruning left a part of and those of names.
     pub places: Places,
     /// The name that is being put together.
     pub name: Text,

@@ -15,6 +15,7 @@ use std::alloc::Global;
 /// Locations whose ids are places plus 1.
 #[derive(Drop)]
 pub struct Places {
+    /// Those of the profile, in its order, and behind them those that were cut from them.
     pub locations: List<Location>,
     /// For each location of the profile the place of the one that was cut from it last, 0 where there is none.
     pub hints: List<u64>,

@@ -24,16 +24,22 @@ const AROUND: u64 = 5;
 /// What the texts of all routines are made of.
 #[derive(Clone, Copy)]
 pub struct Listing<'a> {
+    /// The profile.
     pub l: &'a Loaded,
+    /// What the patterns of the report find of its texts.
     pub v: &'a Verdicts,
+    /// How values are printed.
     pub head: &'a Head,
+    /// What the samples come to, by line and by routine.
     pub ledger: &'a Ledger,
 }
 
 /// The first and the last line of a routine that have a frame.
 #[derive(Clone, Copy)]
 pub struct Span {
+    /// The number of the first such line, as the profile has it.
     pub first: u64,
+    /// The number of the last such line, which isn't below the first.
     pub last: u64,
 }
 

@@ -29,7 +29,9 @@ pub struct Walk<'a> {
 /// What samples come to, by the numbers of what was found. One tally more than those has all else.
 #[derive(Debug, Drop)]
 pub struct Sums {
+    /// The tally of each line that was found, and last that of all else.
     pub lines: Vec<Tally>,
+    /// The tally of each routine that was found, and last that of all else.
     pub routines: Vec<Tally>,
 }
 

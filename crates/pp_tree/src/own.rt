@@ -25,10 +25,13 @@ use std::alloc::Global;
 /// What samples are asked by.
 #[derive(Clone, Copy)]
 pub struct Asked<'a> {
+    /// The profile.
     pub l: &'a Loaded,
+    /// What the patterns of the report find of its texts.
     pub v: &'a Verdicts,
     /// The own pattern's verdicts on texts.
     pub own: &'a List<bool>,
+    /// The variables of the report, by which the samples were counted.
     pub config: &'a Config,
     /// The column of values that is counted.
     pub column: Option<u32>,
