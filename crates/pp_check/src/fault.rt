@@ -10,13 +10,22 @@ use thiserror::Error;
 /// A table of a profile. The header, which is no list, counts as a table with the index 0.
 #[derive(Clone, Copy, Debug, PartialEq, Eq)]
 pub enum Table {
+    /// The texts (`string_table`).
     Texts,
+    /// The text indices that stand once: of the period type, the two patterns, the default type and the address of the
+    /// documentation.
     Header,
+    /// The text indices of the comments.
     Comments,
+    /// The sample types.
     SampleTypes,
+    /// The samples, their values and labels included.
     Samples,
+    /// The mappings.
     Mappings,
+    /// The functions.
     Functions,
+    /// The locations, their lines included.
     Locations,
 }
 

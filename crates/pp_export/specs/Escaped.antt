@@ -2,24 +2,31 @@
 use Rattle.std.specs.Prelude.{ℕ, ◌==◌, ◌||◌, List, [], ◌∷◌, map, if◌then◌else◌}
 use Rattle.std.specs.List.{flat_map}
 
+-- a tab, which ends a cell of a table
 abbrev pub tab : ℕ
 tab = 9
 
+-- a line feed, which ends a row and a path
 abbrev pub line_feed : ℕ
 line_feed = 10
 
+-- a carriage return, which ends a line for some programs
 abbrev pub carriage_return : ℕ
 carriage_return = 13
 
+-- a space, which stands in a path for the end of a line
 abbrev pub space : ℕ
 space = 32
 
+-- a colon, which stands in a path for a `;`
 abbrev pub colon : ℕ
 colon = 58
 
+-- a `;`, which sets the names of a path apart
 abbrev pub semicolon : ℕ
 semicolon = 59
 
+-- a `\`, which stands in a cell before the letter of a byte
 abbrev pub backslash : ℕ
 backslash = 92
 

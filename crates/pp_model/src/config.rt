@@ -16,17 +16,24 @@ pub const WORKERS: u32 = 4;
 /// What rows are sorted by.
 #[derive(Clone, Copy, Debug, PartialEq, Eq)]
 pub enum Sort {
+    /// The sum over the samples whose leaf has the key.
     Flat,
+    /// The sum over the samples that have the key at any frame.
     Cum,
 }
 
 /// What one row stands for.
 #[derive(Clone, Copy, Debug, PartialEq, Eq)]
 pub enum Grain {
+    /// A function, by its name alone.
     Functions,
+    /// A function in a source file.
     FileFunctions,
+    /// A source file.
     Files,
+    /// A line of a function in a source file, and its column with `showcolumns`.
     Lines,
+    /// An address, with its function, file and line.
     Addresses,
 }
 

@@ -9,17 +9,29 @@ use pp_base::Text;
 /// A report, with the pattern of those that have one of their own.
 #[derive(Debug, Drop)]
 pub enum Report {
+    /// A row for each key that is shown, the greatest first.
     Top,
+    /// Each key between its callers and its callees, or the call tree where `path_tree` says so.
     Tree,
+    /// The callers and the callees of each key whose function the pattern finds.
     Peek(Text),
+    /// Each sample with its stack.
     Traces,
+    /// The values by label.
     Tags,
+    /// The tables as text.
     Raw,
+    /// The comments of the profile.
     Comments,
+    /// The profile as the filters leave it, in the bytes of profile.proto.
     Proto,
+    /// The values by source line, for the functions that the pattern finds.
     List(Text),
+    /// The value of each path, a line each, for programs that draw flame graphs.
     Folded,
+    /// The figures of each key, a line each, divided by tabs.
     Table,
+    /// The figures of each key before and after a change; it needs a base of the kind `DiffBase`.
     Compare,
 }
 
@@ -105,6 +117,8 @@ impl Report {
 /// How a base is taken off: alone, or beside a label that says which samples are the base's.
 #[derive(Clone, Copy, Debug, PartialEq, Eq)]
 pub enum BaseKind {
+    /// The negated samples of the base are merged with the source's (`-base`).
     Base,
+    /// The same, under the label `pprof::base` of the text `true`, and percentages are of the base (`-diff_base`).
     DiffBase,
 }

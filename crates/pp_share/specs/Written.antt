@@ -78,9 +78,11 @@ module _ (c : Contents) where
   abbrev pub location_id : LocationText → ℕ
   location_id l = place_of same_location locations l + 1
 
+  -- the sample type or period type, by text indices
   abbrev pub written_type : TypeText → ValueType
   written_type t = record { kind = index_of t.kind; unit = index_of t.unit }
 
+  -- the function under its id, by text indices
   abbrev pub written_function : FunctionText → Function
   written_function f = record {
     id = function_id f;
@@ -90,6 +92,7 @@ module _ (c : Contents) where
     start_line = f.start_line;
   }
 
+  -- the mapping under its id, by text indices
   abbrev pub written_mapping : MappingText → Mapping
   written_mapping m = record {
     id = mapping_id m;
@@ -104,6 +107,7 @@ module _ (c : Contents) where
     has_inline_frames = m.has_inline_frames;
   }
 
+  -- the line, with the id of its function, and 0 for none
   abbrev pub written_line : LineText → Line
   written_line l = record {
     function_id = option_map_or function_id l.function 0;
@@ -111,6 +115,7 @@ module _ (c : Contents) where
     column = l.column;
   }
 
+  -- the location under its id; its address is its distance from the mapping's start, and from 0 without one
   abbrev pub written_location : LocationText → Location
   written_location l = record {
     id = location_id l;
@@ -120,6 +125,7 @@ module _ (c : Contents) where
     folded = l.folded;
   }
 
+  -- the label, by text indices
   abbrev pub written_label : LabelText → Label
   written_label l = record {
     key = index_of l.key;
@@ -128,6 +134,7 @@ module _ (c : Contents) where
     num_unit = index_of l.unit;
   }
 
+  -- the sample, by location ids, with its values
   abbrev pub written_sample : SampleText × List ℤ → Sample
   written_sample s = record {
     location_id = map location_id s.0.locations;

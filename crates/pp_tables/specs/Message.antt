@@ -38,6 +38,7 @@ fault_by (Nested faults) (Eight n) at = wrong_kind at
 fault_by (Nested faults) (Four n) at = wrong_kind at
 fault_by (Nested faults) (Bytes bytes place) at = faults bytes place
 
+-- the fault of a field, by the rule of its number
 abbrev pub fault_of : (ℕ → Rule) → Item → Option WireFault
 fault_of rules item = fault_by (rules item.number) item.content item.at
 
@@ -51,6 +52,7 @@ abbrev pub first_item_fault : (ℕ → Rule) → List Item → Option WireFault 
 first_item_fault rules [] end = end
 first_item_fault rules (item ∷ items) end = or_else (fault_of rules item) (first_item_fault rules items end)
 
+-- the first fault of the fields, or else what ends them
 abbrev pub walk_fault : (ℕ → Rule) → Walk Item → Option WireFault
 walk_fault rules walk = first_item_fault rules walk.items walk.fault
 

@@ -17,6 +17,7 @@ pub enum ReadRefusal {
     /// The first fault of the message, nested messages included.
     #[error("{0}")]
     Wire(WireFault),
+    /// Want of memory.
     #[error("out of memory")]
     Memory,
 }

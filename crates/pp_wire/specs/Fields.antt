@@ -24,12 +24,14 @@ pub record Item : Type 0 where
   pub content : Content
   pub at : ℕ
 
+-- a payload, with the bytes themselves for a slice of them
 abbrev pub content_of : Payload → Content
 content_of (payload.Varint n) = Varint n
 content_of (payload.Eight n) = Eight n
 content_of (payload.Four n) = Four n
 content_of (payload.Bytes bytes at) = Bytes bytes.now at
 
+-- a field that the code reads, as a field of definitions
 abbrev pub item : Field → Item
 item field = record { number = field.number; content = content_of field.payload; at = field.at }
 

@@ -15,6 +15,7 @@ next_of (x ∷ items) fault = Some (Ok x)
 next_of [] (Some fault) = Some (Err fault)
 next_of [] None = None
 
+-- what the next call gives: an item, the fault, or nothing at the end
 abbrev pub first : {A : Type 0} → Walk A → Option (Result A WireFault)
 first walk = next_of walk.items walk.fault
 
