@@ -7,8 +7,8 @@ use Rattle.pp_model.specs.Finders.{Finders}
 use Rattle.pp_stack.specs.LoadFinders.{finder_by}
 use Rattle.pp_pattern.specs.Load.{load_verdicts}
 use Rattle.pp_pattern.specs.Report.{Finds, finders_of}
+use Rattle.pp_pseudo.specs.Basis.{framed_for}
 use Rattle.pp_dump.specs.Saved.{saved}
-use Rattle.pp_filter.specs.Basis.{framed_for}
 
 -- what the patterns find: those of the configuration, and the profile's own two
 abbrev pub own_finders : Finds → Loaded → Config → Finders

@@ -8,13 +8,13 @@ ghost use Rattle.pp_dump.specs.Saved.{saved};
 ghost use Rattle.pp_filter.specs.Filtered.{saved_of, SavesFiltered};
 
 use crate::FilterRefusal;
-use crate::basis::{basis, tagged_for};
 use crate::judging::{load, verdicts};
 use pp_base::{CalmFiles, CalmSink, CalmSource, List, Matcher, Memory, OpenGate, Text};
 use pp_count::count;
 use pp_desk::{Desk, Objects};
 use pp_dump::saved_profile;
 use pp_model::{Compact, Config, Loaded, Verdicts};
+use pp_pseudo::{basis, framed_for};
 use std::alloc::Global;
 use std::thread::Threads;
 
@@ -62,8 +62,8 @@ fn filter_at<R: Threads + Sync, D: Desk>(
     ensures { IfOk result (SavesFiltered D.finds profile config.now) }
 {
     let l = load(alloc, profile, desk)?;
-    let tagged = tagged_for(alloc, &l, config)?;
-    filter_loaded(rt, alloc, basis(&tagged, &l), config, desk)
+    let framed = framed_for(alloc, &l, config)?;
+    filter_loaded(rt, alloc, basis(&framed, &l), config, desk)
 }
 
 // What is saved of the profile that is filtered.

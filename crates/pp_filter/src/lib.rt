@@ -2,7 +2,6 @@
 //! own. It needs no desk.
 #![tactic(auto)]
 
-mod basis;
 mod filtering;
 mod judging;
 mod refusal;

@@ -1,3 +1,4 @@
+pub mod Basis
 pub mod Framed
 pub mod Grown
 pub mod KeyList

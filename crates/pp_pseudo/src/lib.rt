@@ -2,6 +2,7 @@
 //! that key.
 #![tactic(auto)]
 
+mod basis;
 mod frame_name;
 mod frames;
 mod growing;
@@ -9,5 +10,6 @@ mod keys;
 mod names;
 mod tagging;
 
+pub use basis::{basis, framed_for};
 pub use keys::key_list;
 pub use tagging::with_tags;

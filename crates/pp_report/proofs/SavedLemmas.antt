@@ -39,7 +39,8 @@ use Rattle.pp_report.specs.Patterns.{report_finders}
 use Rattle.pp_stack.specs.LoadFinders.{finder_by}
 use Rattle.pp_report.specs.Prepared.{Showing, showing_for}
 use Rattle.pp_report.specs.Reports.{finish, finish_on, finish_by, text_by}
-use Rattle.pp_report.specs.Tagged.{basis_of, tagged_by}
+use Rattle.pp_pseudo.specs.Basis.{framed_by}
+use Rattle.pp_report.specs.Tagged.{basis_of}
 use Rattle.pp_report.specs.SavedReports.{SavedReports, IsSavedOf, NamesNoKey, reads_figures}
 use Rattle.pp_report.proofs.TypesLemmas.{HasTypesOf, same_showing, types_by_header}
 
@@ -78,7 +79,7 @@ head_is p f config column wanted =
 -- without keys no frames are made from labels
 pub plain_basis : (report : Report) (l : Loaded) (config : Config) → NamesNoKey config → basis_of report l config ≡ l
 unfolding basis_of
-plain_basis report l config keyless = (λ i. if is_counted report then tagged_by l (keyless.roots i) (keyless.leaves i) else l) ∙ by (is_counted report)
+plain_basis report l config keyless = (λ i. if is_counted report then framed_by l (keyless.roots i) (keyless.leaves i) else l) ∙ by (is_counted report)
   where
     by : (b : Bool) → (if b then l else l) ≡ l
     by true = refl

@@ -24,7 +24,8 @@ use Rattle.pp_pseudo.specs.KeyList.{key_list}
 use Rattle.pp_pseudo.specs.WithTags.{tagged, tagged_contents}
 use Rattle.pp_report.specs.Heads.{unit_text, wanted_unit}
 use Rattle.pp_report.specs.Prepared.{in_column, in_unit, showing_for}
-use Rattle.pp_report.specs.Tagged.{basis_of, tagged_by, tagged_for}
+use Rattle.pp_pseudo.specs.Basis.{framed_by, framed_for}
+use Rattle.pp_report.specs.Tagged.{basis_of}
 
 -- The sample types of q, and its default, are those of p.
 pub record HasTypesOf (p q : Profile) : Type 0 where
@@ -124,7 +125,7 @@ module _ (l : Loaded) where
       }
 
   -- frames from labels leave the sample types
-  pub by_types : (roots leaves : List (List ℕ)) → HasTypesOf l.profile (tagged_by l roots leaves).profile
+  pub by_types : (roots leaves : List (List ℕ)) → HasTypesOf l.profile (framed_by l roots leaves).profile
   by_types roots leaves = elim (length roots == 0 && length leaves == 0) as (λ none. HasTypesOf l.profile (if none then l else tagged l roots leaves).profile) [
     | true ↦ record { types = refl; default = refl }
     | false ↦ tagged_types roots leaves
@@ -132,7 +133,7 @@ module _ (l : Loaded) where
 
   pub basis_types : (report : Report) (config : Config) → HasTypesOf l.profile (basis_of report l config).profile
   unfolding basis_of
-  basis_types report config = elim (is_counted report) as (λ counted. HasTypesOf l.profile (if counted then tagged_for l config else l).profile) [
+  basis_types report config = elim (is_counted report) as (λ counted. HasTypesOf l.profile (if counted then framed_for l config else l).profile) [
     | true ↦ by_types (key_list config.tagroot) (key_list config.tagleaf)
     | false ↦ record { types = refl; default = refl }
   ]

@@ -1,22 +1,12 @@
 -- The profile that a report is made of: the loaded one, or that one with frames made from labels.
-use Rattle.std.specs.Prelude.{ℕ, ◌==◌, ◌&&◌, List, length, if◌then◌else◌}
+use Rattle.std.specs.Prelude.{if◌then◌else◌}
 use Rattle.pp_model.specs.declared.config.Config.{Config}
 use Rattle.pp_model.specs.declared.loaded.Loaded.{Loaded}
 use Rattle.pp_model.specs.declared.report.Report.{Report}
 use Rattle.pp_model.specs.ReportFacts.{is_counted}
-use Rattle.pp_pseudo.specs.KeyList.{key_list}
-use Rattle.pp_pseudo.specs.WithTags.{tagged}
-
--- the profile with the frames of these keys at the root and at the leaf, where any is named
-abbrev pub tagged_by : Loaded → List (List ℕ) → List (List ℕ) → Loaded
-tagged_by l roots leaves =
-    if length roots == 0 && length leaves == 0 then l else tagged l roots leaves
-
--- the profile with the frames that the configuration asks for
-abbrev pub tagged_for : Loaded → Config → Loaded
-tagged_for l config = tagged_by l (key_list config.tagroot) (key_list config.tagleaf)
+use Rattle.pp_pseudo.specs.Basis.{framed_for}
 
 -- What a report is made of, also the texts that its patterns are asked of. One that counts no samples is made of the
 -- loaded profile.
 unfoldable pub basis_of : Report → Loaded → Config → Loaded
-basis_of report l config = if is_counted report then tagged_for l config else l
+basis_of report l config = if is_counted report then framed_for l config else l

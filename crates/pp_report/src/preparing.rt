@@ -12,11 +12,12 @@ use crate::asking::ask_patterns;
 use crate::notes::notes_by;
 use crate::prepared::{Counts, Prepared};
 use crate::shows::{Shows, shows_for};
-use crate::tagging::{basis, tagged_of};
+use crate::tagging::tagged_of;
 use pp_base::{Gate, Memory, Text};
 use pp_count::count;
 use pp_desk::{Desk, Stop};
 use pp_model::{Config, Loaded, Report, Verdicts};
+use pp_pseudo::basis;
 use std::alloc::Global;
 use std::thread::Threads;
 
