@@ -33,5 +33,5 @@ check "" -base = x
 check "" -focus = fl
 check "" cpu
 check "" sort c
-check "-comments -cum" sort -c
+check "-comments -compare -cum -contentions" sort -c
 exit "$failed"

@@ -1,9 +1,9 @@
 //! The outside in one hand, and what stages do with it: scripts of steps, how a stage went by its script, the desk that
 //! holds files, input, both outputs and a matcher, and the lines of an input.
 //!
-//! A stage is a function over a desk. Its one clause says that it went as its script, `Went old new script result`. A
-//! script is a definition, of the same name and with the same cases as the stage: it gives a value, or makes a step at
-//! the outside and goes on by the reply.
+//! A stage is a function over a desk. Its main clause says that it went as its script, `Went old new script result`. A
+//! script is a definition, mostly of the stage's name and with its cases: it gives a value, or makes a step at the
+//! outside and goes on by the reply.
 #![tactic(auto)]
 
 mod desk;
