@@ -5,7 +5,7 @@ use Rattle.pp_model.specs.declared.profile.Profile.{Profile}
 use Rattle.pp_model.specs.Rules.{NoRuleFails}
 use Rattle.pp_check.specs.declared.fault.Table.{Table}
 use Rattle.pp_check.specs.declared.fault.TableFault.{TableFault}
-use Rattle.pp_check.specs.Finds.{at, first_fault_of}
+use Rattle.pp_check.specs.Finds.{rule_fault, first_fault_of}
 use Rattle.pp_check.specs.FirstFault.{faults, first_fault}
 
 -- each of these is none
@@ -20,7 +20,7 @@ all_none (None ∷ os) none = (refl, all_none os none)
 all_none (Some f ∷ os) none = cc
 
 -- a rule without a fault fails nowhere
-at_none : (rule : ℕ) (table : Table) (found : Option ℕ) → at rule table found ≡ None → found ≡ None
+at_none : (rule : ℕ) (table : Table) (found : Option ℕ) → rule_fault rule table found ≡ None → found ≡ None
 at_none rule table None none = refl
 at_none rule table (Some k) none = cc
 
@@ -55,7 +55,7 @@ none_first (None ∷ os) none = none_first os none.1
 none_first (Some f ∷ os) none = absurd cc
 
 -- a rule that fails nowhere has no fault
-none_at : (rule : ℕ) (table : Table) (found : Option ℕ) → found ≡ None → at rule table found ≡ None
+none_at : (rule : ℕ) (table : Table) (found : Option ℕ) → found ≡ None → rule_fault rule table found ≡ None
 none_at rule table None none = refl
 none_at rule table (Some k) none = cc
 

@@ -6,7 +6,7 @@ use Rattle.std.specs.List.{list_any}
 use Rattle.std.proofs.lemmas.Bool.{cases_order, and_from, and_right, or_right, lt-ltb, le-ltb, le-leb, lt-leb, eq-eqb, ne_eqb, eqb-true}
 use Rattle.std.proofs.Math.Bool.{or-false}
 use Rattle.pp_check.specs.declared.known.Known.{Known}
-use Rattle.pp_check.specs.Known.{holds, Knows, Adds}
+use Rattle.pp_check.specs.Known.{holds, Knows, Inserts}
 use Rattle.pp_check.proofs.Repeats.{stands_in_more}
 
 -- ids up to a number, and up to the next one
@@ -57,12 +57,12 @@ knows_none known none empty = λ id.
     ]
 
 -- an id that is known is added
-pub adds_known : (known : Known) (added : ℕ) → holds known added ≡ true → Adds known known added
+pub adds_known : (known : Known) (added : ℕ) → holds known added ≡ true → Inserts known known added
 adds_known known added is = λ id.
     or_same (holds known id) (added == id) (λ same. subst (λ i. holds known i ≡ true) (eqb-true added id same) is)
 
 -- the next number is added
-pub adds_next : (old new : Known) (added : ℕ) → added ≡ old.numbered + 1 → new.numbered ≡ added → new.others ≡ old.others → Adds old new added
+pub adds_next : (old new : Known) (added : ℕ) → added ≡ old.numbered + 1 → new.numbered ≡ added → new.others ≡ old.others → Inserts old new added
 adds_next old new added next numbered others = λ id.
     ap (λ n. (nat_lt 0 id && nat_le id n) || contains nat_eq new.others id) numbered
     ∙ ap (λ s. (nat_lt 0 id && nat_le id added) || contains nat_eq s id) others
@@ -71,13 +71,13 @@ adds_next old new added next numbered others = λ id.
 
 -- another id is added
 pub adds_other : (old new : Known) (added : ℕ) → new.numbered ≡ old.numbered
-    → ((id : ℕ) → contains nat_eq new.others id ≡ cond (added == id) true (contains nat_eq old.others id)) → Adds old new added
+    → ((id : ℕ) → contains nat_eq new.others id ≡ cond (added == id) true (contains nat_eq old.others id)) → Inserts old new added
 adds_other old new added numbered updates = λ id.
     ap (λ n. (nat_lt 0 id && nat_le id n) || contains nat_eq new.others id) numbered
     ∙ ap (λ b. (nat_lt 0 id && nat_le id old.numbered) || b) (updates id)
     ∙ or_cond (nat_lt 0 id && nat_le id old.numbered) (contains nat_eq old.others id) (added == id)
 
 -- one more id of the list is known
-pub knows_more : (old new : Known) (ids : List ℕ) (i : ℕ) → i < length ids → Knows old (take i ids) → Adds old new (slice_index ids i) → Knows new (take (i + 1) ids)
+pub knows_more : (old new : Known) (ids : List ℕ) (i : ℕ) → i < length ids → Knows old (take i ids) → Inserts old new (slice_index ids i) → Knows new (take (i + 1) ids)
 knows_more old new ids i within known adds = λ id.
     adds id ∙ ap (λ b. b || slice_index ids i == id) (known id) ∙ sym (stands_in_more ids i id within)

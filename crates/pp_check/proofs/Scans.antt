@@ -6,7 +6,7 @@ use Rattle.std.proofs.lemmas.List.{get_or-map}
 use Rattle.std.proofs.lemmas.List.{take_all}
 use Rattle.pp_model.specs.Rules.{first_repeated, stands_in}
 use Rattle.pp_check.specs.declared.known.Known.{Known}
-use Rattle.pp_check.specs.Known.{holds, Knows, Adds}
+use Rattle.pp_check.specs.Known.{holds, Knows, Inserts}
 use Rattle.pp_check.proofs.Repeats.{repeats, NoneBelow, repeats_first, repeats_nowhere}
 use Rattle.pp_check.proofs.KnownLemmas.{knows_more}
 
@@ -31,9 +31,9 @@ found_again known ids i id added within scanned is new not_new =
 
 -- the scan goes on past a new id
 pub scanned_more : (old new : Known) (ids : List ℕ) (i id : ℕ) (added : Bool) → i < length ids → Scanned old ids i → id ≡ slice_index ids i
-    → added ≡ not (holds old id) → added ≡ true → Adds old new id → Scanned new ids (i + 1)
+    → added ≡ not (holds old id) → added ≡ true → Inserts old new id → Scanned new ids (i + 1)
 scanned_more old new ids i id added within scanned is new_id added_true adds = record {
-  seen = knows_more old new ids i within scanned.seen (subst (λ j. Adds old new j) is adds);
+  seen = knows_more old new ids i within scanned.seen (subst (λ j. Inserts old new j) is adds);
   distinct = below_more (λ k. repeats ids k ≡ false) i scanned.distinct (sym (seen_before old ids i id scanned is) ∙ not-true _ (sym new_id ∙ added_true));
 }
 

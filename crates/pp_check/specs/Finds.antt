@@ -6,8 +6,8 @@ use Rattle.pp_check.specs.declared.fault.CheckRefusal.{CheckRefusal}
 use Rattle.pp_check.specs.declared.fault.CheckRefusal.TheVariants.{Fault, Memory}
 
 -- the fault of a rule that was tried on a table, where it fails at an index
-abbrev pub at : ℕ → Table → Option ℕ → Option TableFault
-at rule table found =
+abbrev pub rule_fault : ℕ → Table → Option ℕ → Option TableFault
+rule_fault rule table found =
     option_map (λ index. record { rule = rule; table = table; index = index }) found
 
 -- the first fault that there is
@@ -22,7 +22,7 @@ FindsFault fault (Ok done) = fault ≡ None
 FindsFault fault (Err found) = fault ≡ Some found
 
 -- A call answers the fault, where there is one, or want of memory.
-abbrev pub Finds : {A : Type 0} → Option TableFault → Result A CheckRefusal → Type 0
-Finds fault (Ok done) = fault ≡ None
-Finds fault (Err (Fault found)) = fault ≡ Some found
-Finds fault (Err Memory) = ⊤
+abbrev pub AnswersFault : {A : Type 0} → Option TableFault → Result A CheckRefusal → Type 0
+AnswersFault fault (Ok done) = fault ≡ None
+AnswersFault fault (Err (Fault found)) = fault ≡ Some found
+AnswersFault fault (Err Memory) = ⊤

@@ -13,5 +13,5 @@ abbrev pub Knows : Known → List ℕ → Type 0
 Knows known ids = (id : ℕ) → holds known id ≡ stands_in ids id
 
 -- the new ids are the old ones and this one
-abbrev pub Adds : Known → Known → ℕ → Type 0
-Adds old new added = (id : ℕ) → holds new id ≡ (holds old id || added == id)
+abbrev pub Inserts : Known → Known → ℕ → Type 0
+Inserts old new added = (id : ℕ) → holds new id ≡ (holds old id || added == id)

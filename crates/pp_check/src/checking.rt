@@ -1,7 +1,7 @@
 // The table rules, in the order in which they decide.
 ghost use Rattle.std.specs.Prelude.{◌≡◌, IfOk};
 ghost use Rattle.pp_check.specs.FirstFault.{first_fault, text_faults, mapping_faults, function_faults, location_faults, reference_faults, IsIndexed};
-ghost use Rattle.pp_check.specs.Finds.{first_fault_of, Finds, FindsFault};
+ghost use Rattle.pp_check.specs.Finds.{first_fault_of, AnswersFault, FindsFault};
 ghost use Rattle.pp_check.specs.Checks.{Checks};
 ghost use Rattle.pp_check.specs.Known.{Knows};
 ghost use Rattle.pp_model.specs.Rules.{mapping_ids, function_ids, location_ids};
@@ -44,7 +44,7 @@ pub fn check(alloc: Global, p: Profile) -> Result<Valid, CheckRefusal>
 // Asks all rules, in their order.
 fn keep_rules(alloc: Global, p: &Profile) -> Result<(), CheckRefusal>
     requires { IsIndexed p.now }
-    ensures { Finds (first_fault p.now) result }
+    ensures { AnswersFault (first_fault p.now) result }
 {
     keep_texts(p)?;
     let mappings = known_mappings(alloc, p)?;
@@ -72,7 +72,7 @@ fn keep_texts(p: &Profile) -> Result<(), TableFault>
 // Asks rules 4 and 5. Where none fails, these are the ids of the mappings.
 fn known_mappings(alloc: Global, p: &Profile) -> Result<Known, CheckRefusal>
     requires { IsIndexed p.now }
-    ensures faults { Finds (first_fault_of (mapping_faults p.now)) result }
+    ensures faults { AnswersFault (first_fault_of (mapping_faults p.now)) result }
     ensures known { IfOk result (λ known. Knows known (mapping_ids p.now)) }
 {
     known_ids(alloc, 4, Table::Mappings, p.mapping.as_slice())
@@ -81,7 +81,7 @@ fn known_mappings(alloc: Global, p: &Profile) -> Result<Known, CheckRefusal>
 // Asks rules 6 and 7. Where none fails, these are the ids of the functions.
 fn known_functions(alloc: Global, p: &Profile) -> Result<Known, CheckRefusal>
     requires { IsIndexed p.now }
-    ensures faults { Finds (first_fault_of (function_faults p.now)) result }
+    ensures faults { AnswersFault (first_fault_of (function_faults p.now)) result }
     ensures known { IfOk result (λ known. Knows known (function_ids p.now)) }
 {
     known_ids(alloc, 6, Table::Functions, p.function.as_slice())
@@ -90,7 +90,7 @@ fn known_functions(alloc: Global, p: &Profile) -> Result<Known, CheckRefusal>
 // Asks rules 8 and 9. Where none fails, these are the ids of the locations.
 fn known_locations(alloc: Global, p: &Profile) -> Result<Known, CheckRefusal>
     requires { IsIndexed p.now }
-    ensures faults { Finds (first_fault_of (location_faults p.now)) result }
+    ensures faults { AnswersFault (first_fault_of (location_faults p.now)) result }
     ensures known { IfOk result (λ known. Knows known (location_ids p.now)) }
 {
     known_ids(alloc, 8, Table::Locations, p.location.as_slice())

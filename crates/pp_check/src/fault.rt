@@ -1,7 +1,7 @@
 // The first rule that a profile breaks.
 ghost use Rattle.std.specs.Prelude.{◌≡◌, ◌<◌, ◌^◌, IfSome};
 ghost use Rattle.pp_check.specs.declared.fault.CheckRefusal.TheVariants as refusals;
-ghost use Rattle.pp_check.specs.Finds.{at, FindsFault};
+ghost use Rattle.pp_check.specs.Finds.{rule_fault, FindsFault};
 
 use pp_base::Memory as WantOfMemory;
 use std::alloc::{AllocError, AllocFailed};
@@ -71,7 +71,7 @@ impl From<WantOfMemory> for CheckRefusal {
 /// Refuses a profile whose rule fails somewhere.
 pub fn refuse(rule: u8, table: Table, found: Option<usize>) -> Result<(), TableFault>
     requires { IfSome found (λ index. index < 2 ^ 32) }
-    ensures { FindsFault (at rule table found) result }
+    ensures { FindsFault (rule_fault rule table found) result }
 {
     match found {
         Some(index) => Err(TableFault {

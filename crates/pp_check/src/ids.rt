@@ -3,7 +3,7 @@ ghost use Rattle.std.specs.Prelude.{◌≡◌, ◌<◌, ◌^◌, [], length, map
 ghost use Rattle.pp_model.specs.Rules.{first_failing, first_repeated};
 ghost use Rattle.pp_check.specs.Known.{Knows};
 ghost use Rattle.pp_check.specs.FirstFault.{id_faults};
-ghost use Rattle.pp_check.specs.Finds.{first_fault_of, Finds};
+ghost use Rattle.pp_check.specs.Finds.{first_fault_of, AnswersFault};
 
 use crate::fault::{CheckRefusal, Table, refuse};
 use crate::known::Known;
@@ -21,7 +21,7 @@ pub fn known_ids<T: HasId>(
 ) -> Result<Known, CheckRefusal>
     requires numbers { rule < 255 }
     requires indexed { length items.now < 2 ^ 32 }
-    ensures faults { Finds (first_fault_of (id_faults rule table (map T.id_of items.now))) result }
+    ensures faults { AnswersFault (first_fault_of (id_faults rule table (map T.id_of items.now))) result }
     ensures known { IfOk result (λ known. Knows known (map T.id_of items.now)) }
 {
     refuse(rule, table, zero_id(items))?;

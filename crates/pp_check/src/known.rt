@@ -1,6 +1,6 @@
 // The ids of a table.
 ghost use Rattle.std.specs.Prelude.{◌≡◌, ℕ, ◌==◌, ◌||◌, not, [], IfOk};
-ghost use Rattle.pp_check.specs.Known.{holds, Knows, Adds};
+ghost use Rattle.pp_check.specs.Known.{holds, Knows, Inserts};
 
 use pp_base::Memory;
 use std::alloc::Global;
@@ -34,7 +34,7 @@ impl Known {
     /// Adds the id, and tells whether it is new.
     pub fn insert(&mut self, id: u64) -> Result<bool, Memory>
         ensures added { IfOk result (λ added. added ≡ not (holds self.old id)) }
-        ensures after { IfOk result (λ added. Adds self.old self.new id) }
+        ensures after { IfOk result (λ added. Inserts self.old self.new id) }
     {
         if self.contains(id) {
             return Ok(false);

@@ -10,9 +10,10 @@ use Rattle.pp_base.specs.Told.{before}
 use Rattle.pp_desk.specs.declared.input_line.InputLine.{InputLine}
 use Rattle.pp_desk.specs.declared.line_reader.TheConstants.{LINE_LIMIT}
 use Rattle.pp_desk.specs.Finding.{HasNoEnd, EndsAt}
-use Rattle.pp_desk.specs.Lines.{is_line_end, lines_in}
+use Rattle.pp_desk.specs.Lines.{lines_in}
 use Rattle.pp_desk.specs.Reader.{ReaderHeld, left_of, to_come, lines_from}
 use Rattle.pp_desk.proofs.Parting.{lines_passed, lines_taken}
+use Rattle.pp_base.specs.Marks.{is_line_end}
 
 -- what is passed over ends no line
 pub zeros_end_nothing : (count : ℕ) → HasNoEnd (replicate count 0)

@@ -11,9 +11,10 @@ use Rattle.pp_desk.specs.declared.line_reader.LineRead.{LineRead}
 use Rattle.pp_desk.specs.declared.line_reader.LineRead.TheVariants as reads
 use Rattle.pp_desk.specs.declared.line_reader.TheConstants.{LINE_LIMIT}
 use Rattle.pp_desk.specs.Finding.{HasNoEnd, EndsAt, GivesFront}
-use Rattle.pp_desk.specs.Lines.{is_line_end, lines_in, line_of, ending_of, next_of, after_next}
-use Rattle.pp_desk.specs.Reader.{ReaderHeld, pending, left_of, to_come, Gives, GivesLine, last_answer}
+use Rattle.pp_desk.specs.Lines.{lines_in, line_of, ending_of, next_of, after_next}
+use Rattle.pp_desk.specs.Reader.{ReaderHeld, pending, left_of, to_come, GivesNext, GivesLine, last_answer}
 use Rattle.pp_desk.proofs.Parting.{lines_first, lines_last, after_first, too_long}
+use Rattle.pp_base.specs.Marks.{is_line_end}
 
 -- a line that is short enough
 short_enough : (line : List ℕ) → length line ≤ LINE_LIMIT → line_of line ≡ lines.Line line
@@ -21,7 +22,7 @@ short_enough line short = grind (arith, nat_tests)
 
 -- what a line gives, by how it is given
 module _ (f g : List ℕ → List InputLine) (line : InputLine) (same : (l : List ℕ) → f l ≡ line ∷ g l) (rest : (l : List ℕ) → after_next (line ∷ g l) ≡ g l) where
-  gives_next : (left : Option (List ℕ)) → Gives (option_map f left) (option_map g left) line
+  gives_next : (left : Option (List ℕ)) → GivesNext (option_map f left) (option_map g left) line
   gives_next None = (tt, refl)
   gives_next (Some l) = (ap next_of (sym (same l)), ap Some (sym (ap after_next (same l) ∙ rest l)))
 
@@ -40,7 +41,7 @@ module _ (old new : ReaderHeld) (len : ℕ) (ends : EndsAt (pending old) len) (r
   unfolding to_come
   behind_first line l = after_first line _ _
 
-  pub gives_first : (line : InputLine) → line_of (take len (pending old)) ≡ line → (left : Option (List ℕ)) → Gives (option_map (to_come old) left) (option_map (to_come new) left) line
+  pub gives_first : (line : InputLine) → line_of (take len (pending old)) ≡ line → (left : Option (List ℕ)) → GivesNext (option_map (to_come old) left) (option_map (to_come new) left) line
   gives_first line e = gives_next (to_come old) (to_come new) line (λ l. first_line l ∙ ap (λ x. x ∷ to_come new l) e) (behind_first line)
 
 -- nothing is given
@@ -76,7 +77,7 @@ no_bytes (x ∷ xs) e = absurd (omega arith)
 
 module _ (old : ReaderHeld) (ended : old.ended ≡ true) (room : 0 < old.room) (none : HasNoEnd (pending old)) where
   -- no byte is left
-  pub gives_end : length (pending old) ≡ 0 → (left : Option (List ℕ)) → Gives (option_map (to_come old) left) (option_map (to_come old) left) lines.End
+  pub gives_end : length (pending old) ≡ 0 → (left : Option (List ℕ)) → GivesNext (option_map (to_come old) left) (option_map (to_come old) left) lines.End
   gives_end e None = (tt, refl)
   gives_end e (Some l) =
       let c : to_come old l ≡ lines.End ∷ [] = ended_lines old ended room none l ∙ ap (λ b. ending_of b true) (no_bytes (pending old) e) in
@@ -89,7 +90,7 @@ module _ (old : ReaderHeld) (ended : old.ended ≡ true) (room : 0 < old.room) (
         let empty : pending new ≡ [] = behind ∙ drop_of_length-le (pending old) {i = length (pending old)} (omega arith) in
         ended_lines new (same_end ∙ ended) (rw same_room room) (rw empty (All-nil (λ byte. is_line_end byte ≡ false))) l ∙ ap (λ b. ending_of b true) empty
 
-    last_line : 0 < length (pending old) → (line : InputLine) → line_of (pending old) ≡ line → (left : Option (List ℕ)) → Gives (option_map (to_come old) left) (option_map (to_come new) left) line
+    last_line : 0 < length (pending old) → (line : InputLine) → line_of (pending old) ≡ line → (left : Option (List ℕ)) → GivesNext (option_map (to_come old) left) (option_map (to_come new) left) line
     last_line some line e = gives_next (to_come old) (to_come new) line
         (λ l. ended_lines old ended room none l ∙ ending_line (pending old) some ∙ (λ i. e i ∷ sym (end_behind l) i))
         (λ l. ap (λ ls. after_next (line ∷ ls)) (end_behind l) ∙ sym (end_behind l))
@@ -111,7 +112,7 @@ full_lines r reading full none l =
     let test : nat_lt (length l) 0 ≡ false = grind (arith, nat_tests) in
     rw (reading, full, append-nil, test) (lines_last (pending r) false none)
 
-pub gives_full : (r : ReaderHeld) → r.ended ≡ false → r.room ≡ 0 → HasNoEnd (pending r) → (left : Option (List ℕ)) → Gives (option_map (to_come r) left) (option_map (to_come r) left) lines.InputTooLong
+pub gives_full : (r : ReaderHeld) → r.ended ≡ false → r.room ≡ 0 → HasNoEnd (pending r) → (left : Option (List ℕ)) → GivesNext (option_map (to_come r) left) (option_map (to_come r) left) lines.InputTooLong
 gives_full r reading full none None = (tt, refl)
 gives_full r reading full none (Some l) = rw (full_lines r reading full none l) (refl, refl)
 

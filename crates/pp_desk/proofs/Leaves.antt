@@ -21,7 +21,7 @@ use Rattle.pp_desk.specs.declared.input_line.InputLine.{InputLine}
 use Rattle.pp_desk.specs.declared.input_line.InputLine.TheVariants as lines
 use Rattle.pp_desk.specs.declared.line_reader.LineRead.{LineRead}
 use Rattle.pp_desk.specs.declared.line_reader.LineRead.TheVariants as reads
-use Rattle.pp_desk.specs.Reader.{Gives, GivesLine, IsLeftBehind}
+use Rattle.pp_desk.specs.Reader.{GivesNext, GivesLine, IsLeftBehind}
 use Rattle.pp_desk.specs.Taking.{line_or_stop}
 use Rattle.pp_desk.specs.Went.{Went, Knowing, Ways, Goes, Halts, HasFailed, IsTakenOn, LeavesPart, LeavesRead, content_within}
 
@@ -218,7 +218,7 @@ module _ (w : World) where
       input = (taken_none w.intake, λ behind. behind);
     })
 
-  line_read : (ls : Option (List InputLine)) (u : Option (List ℕ)) (n : ℕ) (left : Intake) (line : InputLine) → Gives w.told.lines ls line → u ≡ None → w.faults.input ≤ n → HasTaken w.intake left → IsLeftBehind ls left.left → Went w (input_now ls u n left) next_line (Ok line)
+  line_read : (ls : Option (List InputLine)) (u : Option (List ℕ)) (n : ℕ) (left : Intake) (line : InputLine) → GivesNext w.told.lines ls line → u ≡ None → w.faults.input ≤ n → HasTaken w.intake left → IsLeftBehind ls left.left → Went w (input_now ls u n left) next_line (Ok line)
   unfolding IsTakenOn Ways Goes
   line_read ls u n left line g e h took behind = Knowing (record {
     ways = (line, g.0, (λ i. record w.told { lines = g.1 i; unread = e i }, refl));

@@ -8,7 +8,7 @@ use Rattle.pp_desk.specs.declared.line_reader.Found.{Found}
 use Rattle.pp_desk.specs.declared.line_reader.Found.TheVariants as founds
 use Rattle.pp_desk.specs.declared.line_reader.TheConstants.{LINE_LIMIT, INPUT_LIMIT}
 use Rattle.pp_desk.specs.declared.window.TheConstants.{WINDOW_LIMIT}
-use Rattle.pp_desk.specs.Lines.{is_line_end}
+use Rattle.pp_base.specs.Marks.{is_line_end}
 use Rattle.pp_desk.specs.Reader.{ReaderHeld, pending}
 
 -- What is true of each reader: only a line that is too long is passed over, no more bytes are held
@@ -36,11 +36,11 @@ IsFirstEnd bytes (Some at) = EndsAt bytes at
 IsFirstEnd bytes None = HasNoEnd bytes
 
 -- what was found, of what is held now
-abbrev pub Finds : ReaderHeld → Found → Type 0
-Finds r (founds.Line at) = EndsAt (pending r) at × (r.passed ≤ at) × (at < INPUT_LIMIT)
-Finds r founds.Ended = (r.ended ≡ true) × (0 < r.room) × HasNoEnd (pending r)
-Finds r founds.Full = (r.ended ≡ false) × (r.room ≡ 0) × HasNoEnd (pending r)
-Finds r founds.Failed = ⊤
+abbrev pub FindsEnd : ReaderHeld → Found → Type 0
+FindsEnd r (founds.Line at) = EndsAt (pending r) at × (r.passed ≤ at) × (at < INPUT_LIMIT)
+FindsEnd r founds.Ended = (r.ended ≡ true) × (0 < r.room) × HasNoEnd (pending r)
+FindsEnd r founds.Full = (r.ended ≡ false) × (r.room ≡ 0) × HasNoEnd (pending r)
+FindsEnd r founds.Failed = ⊤
 
 -- what is found again, where the reader repeats its answer
 abbrev pub FindsAgain : LineRead → Found → Type 0

@@ -1,13 +1,10 @@
 -- The lines of an input. At most the first 16,777,216 bytes of it are read.
-use Rattle.std.specs.Prelude.{ℕ, nat_lt, ◌==◌, Bool, true, false, List, [], ◌∷◌, length, take, if◌then◌else◌}
+use Rattle.std.specs.Prelude.{ℕ, nat_lt, Bool, true, false, List, [], ◌∷◌, length, take, if◌then◌else◌}
 use Rattle.std.specs.List.{slice_split}
 use Rattle.pp_desk.specs.declared.line_reader.TheConstants.{LINE_LIMIT, INPUT_LIMIT}
 use Rattle.pp_desk.specs.declared.input_line.InputLine.{InputLine}
 use Rattle.pp_desk.specs.declared.input_line.InputLine.TheVariants.{Line, TooLong, End, InputTooLong}
-
--- a line ends at the byte 0a
-abbrev pub is_line_end : ℕ → Bool
-is_line_end byte = byte == 10
+use Rattle.pp_base.specs.Marks.{is_line_end}
 
 -- a line by its bytes, where there aren't too many
 abbrev pub line_of : List ℕ → InputLine

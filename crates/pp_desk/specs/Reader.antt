@@ -7,7 +7,8 @@ use Rattle.pp_desk.specs.declared.line_reader.LineRead.{LineRead}
 use Rattle.pp_desk.specs.declared.line_reader.LineRead.TheVariants as reads
 use Rattle.pp_desk.specs.declared.line_reader.TheConstants.{INPUT_LIMIT}
 use Rattle.pp_desk.specs.declared.window.TheConstants.{WINDOW_LIMIT}
-use Rattle.pp_desk.specs.Lines.{is_line_end, lines_in, lines_of, next_of, after_next}
+use Rattle.pp_desk.specs.Lines.{lines_in, lines_of, next_of, after_next}
+use Rattle.pp_base.specs.Marks.{is_line_end}
 
 -- What a reader holds: how many bytes of the present line it passed over, since the line is too
 -- long, the bytes behind them that it took of the source, how many it may still take, and whether
@@ -34,16 +35,16 @@ to_come r left = lines_in (pending r ++ take r.room (left_of r.ended left))
     (nat_lt (length (left_of r.ended left)) r.room)
 
 -- the next line of those that were to come, where they are told; the others are to come now
-abbrev pub Gives : Option (List InputLine) → Option (List InputLine) → InputLine → Type 0
-Gives old new line = IfSome old (λ lines. line ≡ next_of lines) × (new ≡ option_map after_next old)
+abbrev pub GivesNext : Option (List InputLine) → Option (List InputLine) → InputLine → Type 0
+GivesNext old new line = IfSome old (λ lines. line ≡ next_of lines) × (new ≡ option_map after_next old)
 
 -- What a reader answers, from the lines that were to come to those that are. Without a line they
 -- are the same.
 abbrev pub GivesLine : Option (List InputLine) → Option (List InputLine) → LineRead → Type 0
-GivesLine old new (reads.Line bytes) = Gives old new (lines.Line bytes)
-GivesLine old new reads.TooLong = Gives old new lines.TooLong
-GivesLine old new reads.End = Gives old new lines.End
-GivesLine old new reads.InputTooLong = Gives old new lines.InputTooLong
+GivesLine old new (reads.Line bytes) = GivesNext old new (lines.Line bytes)
+GivesLine old new reads.TooLong = GivesNext old new lines.TooLong
+GivesLine old new reads.End = GivesNext old new lines.End
+GivesLine old new reads.InputTooLong = GivesNext old new lines.InputTooLong
 GivesLine old new reads.Failed = new ≡ old
 GivesLine old new reads.Memory = new ≡ old
 

@@ -2,11 +2,11 @@
 ghost use Rattle.std.specs.Prelude.{◌≡◌, ◌≢◌, ◌≤◌, ◌<◌, ◌-◌, [], true, false, Some, IfOk, IfSome, option_map, length, take, drop};
 ghost use Rattle.std.specs.List.{list_any};
 ghost use Rattle.pp_base.specs.Fault.{Rose};
-ghost use Rattle.pp_desk.specs.Lines.{is_line_end};
+ghost use Rattle.pp_base.specs.Marks.{is_line_end};
 ghost use Rattle.pp_desk.specs.World.{intake, HasTaken};
 ghost use Rattle.pp_desk.specs.declared.window.TheConstants.{WINDOW_LIMIT};
 ghost use Rattle.pp_desk.specs.Reader.{pending, to_come, GivesLine, last_answer, is_ending};
-ghost use Rattle.pp_desk.specs.Finding.{HasNoEnd, IsFirstEnd, Finds, FindsAgain, GivesFront, Adds};
+ghost use Rattle.pp_desk.specs.Finding.{HasNoEnd, IsFirstEnd, FindsEnd, FindsAgain, GivesFront, Adds};
 
 use crate::window::Window;
 use pp_base::{Memory, Source, SourceRead, Text};
@@ -131,7 +131,7 @@ impl LineReader {
 
     // Finds the end of the next line, and takes more bytes only where it is not among those that are held.
     fn find<I: Source>(&mut self, input: &mut I) -> Found
-        ensures found { Finds self.new result }
+        ensures found { FindsEnd self.new result }
         ensures same { option_map (to_come self.new) (I.left input.new)
             ≡ option_map (to_come self.old) (I.left input.old) }
         ensures taken { HasTaken (intake (I.left input.old) self.old.room)
@@ -172,7 +172,7 @@ impl LineReader {
     fn read_on<I: Source>(&mut self, input: &mut I) -> Found
         requires none { HasNoEnd (pending self.old) }
         requires reading { self.old.ended ≡ false }
-        ensures found { Finds self.new result }
+        ensures found { FindsEnd self.new result }
         ensures same { option_map (to_come self.new) (I.left input.new)
             ≡ option_map (to_come self.old) (I.left input.old) }
         ensures taken { HasTaken (intake (I.left input.old) self.old.room)

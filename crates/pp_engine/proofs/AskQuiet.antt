@@ -11,10 +11,9 @@ use Rattle.pp_model.specs.declared.verdicts.Tag.{Tag}
 use Rattle.pp_model.specs.Lookup.{text_of}
 use Rattle.pp_pattern.specs.Load.{judge_load, whole_name}
 use Rattle.pp_pattern.specs.Patterns.{judge_pattern, judge_option, judge_part, judge_parts}
-use Rattle.pp_pattern.specs.Report.{judge_frames, judge_filter, judge_tags, judge_names, judge_with, judge}
+use Rattle.pp_pattern.specs.Report.{judge_frames, judge_filter, judge_tags, judge_names, judge_with, judge, Finds}
 use Rattle.pp_tags.specs.declared.tag_filter.TagFilter.{TagFilter}
 use Rattle.pp_tags.specs.TagFilters.{subjects}
-use Rattle.pp_engine.specs.Reporting.{Finds}
 
 module _ (test : Step → Bool) where
   only_on : {R A B : Type 0} (q : A → Asking R B) (x : Result A R) → ((x : A) → Only test (q x)) → Only test (go_on q x)

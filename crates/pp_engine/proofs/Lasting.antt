@@ -20,11 +20,12 @@ use Rattle.pp_shell.specs.declared.fault.LineFault.{LineFault}
 use Rattle.pp_engine.specs.declared.ending.Outcome.{Outcome}
 use Rattle.pp_engine.specs.declared.ending.Outcome.TheVariants as outcomes
 use Rattle.pp_engine.specs.declared.shell.TheConstants.{MOST_LINES}
-use Rattle.pp_engine.specs.Reporting.{Finds, noted_report, tell_locked, save, hand_out, hand_out_made, report_on}
+use Rattle.pp_engine.specs.Reporting.{noted_report, tell_locked, save, hand_out, hand_out_made, report_on}
 use Rattle.pp_engine.specs.Shell.{Turn, complain, obey, obey_or_complain, follow, turn, shell}
 use Rattle.pp_engine.specs.Turns.{turns, given_or}
 use Rattle.pp_engine.proofs.LineLemmas.{is_last, AreEnded, lines_ended, lines_few}
 use Rattle.pp_engine.proofs.Quiet.{quiet_noted}
+use Rattle.pp_pattern.specs.Report.{Finds}
 
 -- two scripts that were done, one after the other
 goes_join : {A B : Type 0} (a b c : Told) (p : Script A) (q : A → Script B) (x : A) (y : B) → Goes a b p x → Goes b c (q x) y → Goes a c (p >>= q) y

@@ -9,8 +9,9 @@ use Rattle.std.proofs.lemmas.List.Splits.{slice_split-cons_yes, slice_split-cons
 use Rattle.pp_desk.specs.declared.input_line.InputLine.{InputLine}
 use Rattle.pp_desk.specs.declared.input_line.InputLine.TheVariants as lines
 use Rattle.pp_desk.specs.declared.line_reader.TheConstants.{INPUT_LIMIT}
-use Rattle.pp_desk.specs.Lines.{is_line_end, line_of, ending_of, lines_of_parts, lines_in, lines_of}
+use Rattle.pp_desk.specs.Lines.{line_of, ending_of, lines_of_parts, lines_in, lines_of}
 use Rattle.pp_engine.specs.declared.shell.TheConstants.{MOST_LINES}
+use Rattle.pp_base.specs.Marks.{is_line_end}
 
 -- the line tells how the input ends
 abbrev pub is_last : InputLine → Bool

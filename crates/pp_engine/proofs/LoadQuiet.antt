@@ -8,13 +8,13 @@ use Rattle.pp_model.specs.declared.profile.Profile.{Profile}
 use Rattle.pp_load.specs.declared.reading.Read.{Read}
 use Rattle.pp_load.specs.declared.refusal.LoadRefusal.{LoadRefusal}
 use Rattle.pp_load.specs.Load.{read_bytes, read_next, read_base, read_all, read_plan, load}
-use Rattle.pp_load.specs.Reads.{size_limit, read_path, judged}
+use Rattle.pp_load.specs.Reads.{size_limit, read_path, with_verdicts}
 use Rattle.pp_load.specs.Sources.{nothing_read}
 use Rattle.pp_options.specs.declared.origin.Origin.{Origin}
 use Rattle.pp_options.specs.declared.origin.Origin.TheVariants.{Path, Gen}
 use Rattle.pp_options.specs.declared.plan.Plan.{Plan}
 use Rattle.pp_pattern.specs.Load.{judge_load}
-use Rattle.pp_engine.specs.Reporting.{Finds}
+use Rattle.pp_pattern.specs.Report.{Finds}
 use Rattle.pp_engine.proofs.AskQuiet.{only_asking, only_load}
 use Rattle.pp_engine.proofs.Courses.{only_looks}
 
@@ -47,8 +47,8 @@ module _ (test : Step → Bool) (reads : (path : List ℕ) (limit : ℕ) → tes
   only_plan plan = only_asking test (read_all read_next nothing_read plan.origins) _ (only_all read_next nothing_read plan.origins only_next) (λ sources. only_all read_base sources plan.bases only_base)
 
   module _ (asks : (pattern : List ℕ) → test (Ask pattern) ≡ true) (finds : Finds) where
-    only_judged : (p : Profile) → Only test (judged finds p)
-    unfolding judged
+    only_judged : (p : Profile) → Only test (with_verdicts finds p)
+    unfolding with_verdicts
     only_judged p = only_then test (judge_load finds p) _ (only_load test asks finds p) (λ answer. tt)
 
     only_loading : (plan : Plan) → Only test (load finds plan)

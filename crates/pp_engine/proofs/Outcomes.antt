@@ -26,12 +26,13 @@ use Rattle.pp_engine.specs.declared.ending.Outcome.TheVariants as outcomes
 use Rattle.pp_engine.specs.declared.shell.TheConstants.{MOST_LINES}
 use Rattle.pp_engine.specs.Endings.{cause_of_outcome}
 use Rattle.pp_engine.specs.Plans.{plan_of}
-use Rattle.pp_engine.specs.Reporting.{Finds, noted_report, end_with, end_report, report_once, report_on}
+use Rattle.pp_engine.specs.Reporting.{noted_report, end_with, end_report, report_once, report_on}
 use Rattle.pp_engine.specs.Shell.{Turn, complain, obey, obey_or_complain, follow, turn, shell}
 use Rattle.pp_engine.specs.Session.{serve, serve_loaded, perform, perform_some, perform_words, tell_topic, begin, session}
 use Rattle.pp_engine.specs.Words.{can_end, EndsBy, Ends}
 use Rattle.pp_engine.proofs.Gives.{Gives, gives_then, gives_more, turns_give}
 use Rattle.pp_engine.proofs.PlanLemmas.{plan_report}
+use Rattle.pp_pattern.specs.Report.{Finds}
 
 -- an outcome is how a session of this report can end
 abbrev CanBe : Option Report → Outcome → Type 0

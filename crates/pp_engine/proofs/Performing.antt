@@ -8,9 +8,10 @@ use Rattle.pp_options.specs.Plans.{request_of}
 use Rattle.pp_options.specs.Words.{Request}
 use Rattle.pp_engine.specs.declared.ending.Outcome.TheVariants as outcomes
 use Rattle.pp_engine.specs.Messages.{usage_line}
-use Rattle.pp_engine.specs.Reporting.{Finds, end_with}
+use Rattle.pp_engine.specs.Reporting.{end_with}
 use Rattle.pp_engine.specs.Session.{perform, perform_some, perform_words}
 use Rattle.pp_engine.proofs.PlanLemmas.{plan_again}
+use Rattle.pp_pattern.specs.Report.{Finds}
 
 -- words that are a plan
 pub perform_plan : (finds : Finds) (said : Result Request UsageFault) (plan : Plan) → said ≡ Ok (request_of plan) → perform_words finds said ≡ perform finds plan

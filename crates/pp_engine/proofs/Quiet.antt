@@ -19,12 +19,13 @@ use Rattle.pp_report.specs.declared.refusal.ReportRefusal.{ReportRefusal}
 use Rattle.pp_report.specs.Prepared.{Settled, prepare}
 use Rattle.pp_engine.specs.declared.ending.Outcome.{Outcome}
 use Rattle.pp_engine.specs.Plans.{plan_of}
-use Rattle.pp_engine.specs.Reporting.{Finds, noted_report, note_and_finish, end_with, end_report, report_once}
+use Rattle.pp_engine.specs.Reporting.{noted_report, note_and_finish, end_with, end_report, report_once}
 use Rattle.pp_engine.specs.Session.{serve, serve_loaded, perform, perform_some, perform_words, tell_topic, begin, session}
 use Rattle.pp_engine.specs.Words.{asks_shell, starts_shell}
 use Rattle.pp_engine.proofs.LoadQuiet.{load_reads_no_line}
 use Rattle.pp_engine.proofs.PlanLemmas.{plan_report}
 use Rattle.pp_engine.proofs.ReportQuiet.{prepare_reads_no_line, finish_reads_no_line}
+use Rattle.pp_pattern.specs.Report.{Finds}
 
 quiet_end : (line : List ℕ) (outcome : Outcome) → Only reads_no_line (end_with line outcome)
 unfolding end_with ◌>>=◌

@@ -9,7 +9,8 @@ use Rattle.pp_model.specs.declared.loaded.Loaded.{Loaded}
 use Rattle.pp_model.specs.declared.report.Report.{Report}
 use Rattle.pp_report.specs.declared.refusal.ReportRefusal.{ReportRefusal}
 use Rattle.pp_report.specs.Prepared.{prepare}
-use Rattle.pp_engine.specs.Reporting.{Finds, note_and_finish, noted_report}
+use Rattle.pp_engine.specs.Reporting.{note_and_finish, noted_report}
+use Rattle.pp_pattern.specs.Report.{Finds}
 
 -- A report that is refused so has no notes and no text.
 pub refused_early : (finds : Finds) (l : Loaded) (report : Report) (config : Config) (a b : World) (refusal : ReportRefusal) → Went a b (prepare finds l report config) (Ok (Err refusal))

@@ -14,7 +14,7 @@ use Rattle.pp_units.specs.Head.{Facts}
 use Rattle.pp_count.specs.Counted.{has_own_match}
 use Rattle.pp_count.specs.Sums.{Seen}
 use Rattle.pp_model.specs.FrameTexts.{Written}
-use Rattle.pp_pattern.specs.Report.{judge}
+use Rattle.pp_pattern.specs.Report.{judge, Finds}
 use Rattle.pp_report.specs.declared.refusal.ReportRefusal.{ReportRefusal}
 use Rattle.pp_model.specs.ReportFacts.{own_pattern}
 use Rattle.pp_report.specs.Patterns.{ask_patterns}
@@ -24,8 +24,7 @@ use Rattle.pp_report.specs.Tagged.{basis_of}
 use Rattle.pp_source.specs.Files.{files_of_lines}
 use Rattle.pp_source.specs.declared.source.Source.{Source}
 use Rattle.pp_source.specs.declared.source.TheConstants.{SOURCE_LIMIT}
-use Rattle.pp_source.specs.Listing.{or_next, first_present, source_in, source_of, read_sources, list_lines, list_found, list_report}
-use Rattle.pp_engine.specs.Reporting.{Finds}
+use Rattle.pp_source.specs.Listing.{or_next, first_present, source_found, source_of, read_sources, list_lines, list_found, list_report}
 use Rattle.pp_engine.proofs.AskQuiet.{only_asking, only_judge}
 use Rattle.pp_engine.proofs.Courses.{only_looks, writes_nothing}
 
@@ -70,7 +69,7 @@ module _ (test : Step → Bool) where
     only_present : (paths : List (List ℕ)) → Only test (first_present paths)
     unfolding first_present ◌>>=◌
     only_present [] = tt
-    only_present (path ∷ paths) = (reads path SOURCE_LIMIT, λ content. only_or (first_present paths) (source_in content) (only_present paths))
+    only_present (path ∷ paths) = (reads path SOURCE_LIMIT, λ content. only_or (first_present paths) (source_found content) (only_present paths))
 
     only_source : (config : Config) (file : List ℕ) → Only test (source_of config file)
     unfolding source_of

@@ -28,7 +28,7 @@ use Rattle.pp_engine.specs.declared.ending.Outcome.{Outcome}
 use Rattle.pp_engine.specs.declared.ending.Outcome.TheVariants as outcomes
 use Rattle.pp_engine.specs.Endings.{cause_of, cause_of_outcome, cause_of_stop, fault_line, stop_line, end_line}
 use Rattle.pp_engine.specs.Run.{Ran, TakesFront, told_at}
-use Rattle.pp_engine.specs.Reporting.{Finds}
+use Rattle.pp_pattern.specs.Report.{Finds}
 use Rattle.pp_engine.specs.Session.{session, told_run, RanWhole, RanFront}
 use Rattle.pp_engine.specs.Validity.{is_valid}
 use Rattle.pp_engine.specs.Words.{Ends, starts_shell}

@@ -15,9 +15,10 @@ use Rattle.pp_model.specs.declared.report.Report.{Report}
 use Rattle.pp_report.specs.declared.refusal.ReportRefusal.{ReportRefusal}
 use Rattle.pp_report.specs.Prepared.{Settled, prepare}
 use Rattle.pp_report.specs.Reports.{Reported, reported_with, finish, report_settled, report_script}
-use Rattle.pp_engine.specs.Reporting.{Finds, Tells, note_and_finish, noted_report}
+use Rattle.pp_engine.specs.Reporting.{Tells, note_and_finish, noted_report}
 use Rattle.pp_engine.proofs.Courses.{AreReads, joined, rest_of, course_both, only_reads, outs_none, errs_none, files_same, outs_more, errs_more, files_more}
 use Rattle.pp_engine.proofs.ReportQuiet.{prepare_looks, prepare_writes_nothing, finish_looks, finish_writes_nothing}
+use Rattle.pp_pattern.specs.Report.{Finds}
 
 -- a course that only reads before both
 tells_after : {A : Type 0} (before : Course A) (told : Course (Result (List ℕ) ReportRefusal)) (made : Course Reported) → AreReads before.effects → Tells told made → Tells (joined before told) (joined before made)

@@ -25,7 +25,7 @@ use Rattle.pp_report.specs.Reports.{report_script}
 use Rattle.pp_engine.specs.declared.ending.Outcome.{Outcome}
 use Rattle.pp_engine.specs.declared.ending.Outcome.TheVariants as outcomes
 use Rattle.pp_engine.specs.Plans.{plan_of}
-use Rattle.pp_engine.specs.Reporting.{Finds, noted_report, note_and_finish, end_report, report_once}
+use Rattle.pp_engine.specs.Reporting.{noted_report, note_and_finish, end_report, report_once}
 use Rattle.pp_engine.specs.Shell.{shell}
 use Rattle.pp_engine.specs.Session.{serve, serve_loaded, perform, perform_some, perform_words, begin, session}
 use Rattle.pp_engine.specs.Words.{plan_in}
@@ -36,6 +36,7 @@ use Rattle.pp_engine.proofs.LoadQuiet.{load_looks}
 use Rattle.pp_engine.proofs.Outcomes.{IsShellEnd, shell_gives}
 use Rattle.pp_engine.proofs.ReportQuiet.{prepare_looks, finish_looks}
 use Rattle.pp_engine.proofs.Telling.{tells_report}
+use Rattle.pp_pattern.specs.Report.{Finds}
 
 module _ (finds : Finds) (files : FileMap) (locked : List (List ℕ)) (lines : List InputLine) where
   made_done : (report : Report) (made : Result (List ℕ) ReportRefusal) (answers : List Answer) → is_ok made ≡ true → (course (end_report report made) files locked lines answers).value ≡ outcomes.Done

@@ -24,14 +24,14 @@ use Rattle.pp_options.specs.declared.usage.UsageFault.{UsageFault}
 use Rattle.pp_options.specs.declared.usage.UsageKind.{UsageKind}
 use Rattle.pp_options.specs.declared.usage.UsageKind.TheVariants.{BadValue, MissingValue, NoSource, BaseTwice, NormalizeAlone}
 use Rattle.pp_options.specs.Conditions.{is_fair_number, is_fair, is_patterned, has_pattern}
-use Rattle.pp_options.specs.Drafts.{with_origin, with_item, noted}
+use Rattle.pp_options.specs.Drafts.{with_origin, with_item, normalized_first}
 use Rattle.pp_options.specs.Formats.{takes_pattern, report_of}
-use Rattle.pp_options.specs.Items.{fault_at, is_true_word, chosen, selected, pattern_report, item_with, valued_item, named_item, item_of}
+use Rattle.pp_options.specs.Items.{word_fault, is_true_word, chosen, selected_type, pattern_report, item_with, valued_item, named_item, item_of}
 use Rattle.pp_options.specs.Names.{option_named, needs_value}
 use Rattle.pp_options.specs.Settings.{setting_of}
-use Rattle.pp_options.specs.Spelling.{is_option, name_in, value_in, takes_next}
+use Rattle.pp_options.specs.Spelling.{is_option, name_part, value_part, takes_next}
 use Rattle.pp_options.specs.Values.{is_number, truth_of, whole_number}
-use Rattle.pp_options.specs.Words.{Entry, Request, entry, entries, sources, ends_options, request, normalized_at, is_full, one_more, has_other_kind, item_fault, asked_fault, entry_fault, first_fault, late_fault, unless_fault, words}
+use Rattle.pp_options.specs.Words.{Entry, Request, entry, entries, sources, ends_options, request, normalized_at, is_full, count_fault, has_other_kind, item_fault, asked_fault, entry_fault, first_entry_fault, late_fault, unless_fault, words}
 use Rattle.pp_options.proofs.RequestLemmas.{request_push, noted_push}
 use Rattle.pp_engine.specs.Plans.{is_same, same_equal, is_within, is_plan, plan_of}
 use Rattle.pp_engine.proofs.PlanLemmas.{same_from}
@@ -122,7 +122,7 @@ item_with_fair : (name : OptionName) (value : List ℕ) → IsFairOption (item_w
 unfolding item_with
 item_with_fair (names.Variable variable) value = made Set (setting_of variable value) (λ s is. refl)
 item_with_fair (names.Choice choice) value = made Set (chosen choice value) (λ s is. refl)
-item_with_fair (names.SampleType kind) value = made Set (selected kind value) (λ s is. refl)
+item_with_fair (names.SampleType kind) value = made Set (selected_type kind value) (λ s is. refl)
 item_with_fair (names.Format format) value = report_fair format value (takes_pattern format) refl
 item_with_fair (names.Base kind) value = refl
 item_with_fair names.Gen value = made Gen (whole_number 1 1000000 value) (samples_fair value)
@@ -146,7 +146,7 @@ word_fair word item false fair = refl
 
 item_fair : (word : List ℕ) (next : Option (List ℕ)) → IsFairAsked (item_of word next)
 unfolding item_of
-item_fair word next = word_fair word _ (is_option word) (named_fair (option_named (name_in word)) (option_or (value_in word) next))
+item_fair word next = word_fair word _ (is_option word) (named_fair (option_named (name_part word)) (option_or (value_part word) next))
 
 -- ---- all words
 
@@ -182,14 +182,14 @@ record IsSound (r : Request) (normalized : Option ℕ) : Type 0 where
   patterned : has_pattern r.report ≡ true
   noted : r.normalize ≡ true → is_some normalized ≡ true
 
-room_by : (r : Request) (full : Bool) → is_full r ≡ full → one_more r ≡ None → length r.origins + length r.bases < 256
+room_by : (r : Request) (full : Bool) → is_full r ≡ full → count_fault r ≡ None → length r.origins + length r.bases < 256
 room_by r true is none = absurd (cc)
 room_by r false is none = leb-false 256 (length r.origins + length r.bases) is
 
-room : (r : Request) → one_more r ≡ None → length r.origins + length r.bases < 256
+room : (r : Request) → count_fault r ≡ None → length r.origins + length r.bases < 256
 room r none = room_by r (is_full r) refl none
 
-more_origin : (r : Request) (n : Option ℕ) (o : Origin) → IsSound r n → one_more r ≡ None → is_fair o ≡ true → IsSound (with_origin r o) n
+more_origin : (r : Request) (n : Option ℕ) (o : Origin) → IsSound r n → count_fault r ≡ None → is_fair o ≡ true → IsSound (with_origin r o) n
 more_origin r n o s none fair = record {
   few = omega (arith, room r none, length-append r.origins (o ∷ []));
   fair = list_all-append is_fair r.origins (o ∷ []) ∙ and_from _ _ s.fair (and_from _ _ fair refl);
@@ -206,7 +206,7 @@ same_kind : (other : Bool) (more : Option UsageKind) → (if other then Some Bas
 same_kind true more none = absurd (cc)
 same_kind false more none = none
 
-more_base : (r : Request) (n : Option ℕ) (kind : BaseKind) (path : List ℕ) → IsSound r n → one_more r ≡ None → IsSound (with_item r (Base kind path)) n
+more_base : (r : Request) (n : Option ℕ) (kind : BaseKind) (path : List ℕ) → IsSound r n → count_fault r ≡ None → IsSound (with_item r (Base kind path)) n
 more_base r n kind path s none =
     let one_more : length (r.bases ++ path ∷ []) ≡ length r.bases + 1 = omega (arith, length-append r.bases (path ∷ [])) in
     record {
@@ -222,10 +222,10 @@ more_report None report had has = has
 more_report (Some known) report had has = had
 
 -- one item more, which has no fault
-more_item : (r : Request) (n : Option ℕ) (at : ℕ) (item : Item) → IsSound r n → item_fault r item ≡ None → can_be_planned item ≡ true → IsSound (with_item r item) (noted n at item)
+more_item : (r : Request) (n : Option ℕ) (at : ℕ) (item : Item) → IsSound r n → item_fault r item ≡ None → can_be_planned item ≡ true → IsSound (with_item r item) (normalized_first n at item)
 more_item r n at (Source path) s none fair = more_origin r n (origin.Path path) s none refl
 more_item r n at (Gen samples) s none fair = more_origin r n (origin.Gen samples) s none fair
-more_item r n at (Base kind path) s none fair = more_base r n kind path s (same_kind (has_other_kind kind r.base_kind) (one_more r) none)
+more_item r n at (Base kind path) s none fair = more_base r n kind path s (same_kind (has_other_kind kind r.base_kind) (count_fault r) none)
 more_item r n at (Normalize true) s none fair = record { few = s.few; fair = s.fair; kinds = s.kinds; patterned = s.patterned; noted = λ on. some_or n at }
 more_item r n at (Normalize false) s none fair = record { few = s.few; fair = s.fair; kinds = s.kinds; patterned = s.patterned; noted = λ on. absurd (false≢true on) }
 more_item r n at (Format report) s none fair = record { few = s.few; fair = s.fair; kinds = s.kinds; patterned = more_report r.report report s.patterned fair; noted = s.noted }
@@ -240,18 +240,18 @@ or_none None q is = (refl, is)
 or_none (Some x) q is = absurd (cc)
 
 more_entry : (before : List Entry) (at : ℕ) (asked : Result Item UsageKind) → IsSound (request before) (normalized_at before) → IsFairAsked asked
-    → option_map (λ kind. fault_at kind at) (asked_fault (request before) asked) ≡ None
+    → option_map (λ kind. word_fault kind at) (asked_fault (request before) asked) ≡ None
     → IsSound (request (before ++ record { at = at; asked = asked } ∷ [])) (normalized_at (before ++ record { at = at; asked = asked } ∷ []))
 more_entry before at (Err kind) s fair none = absurd (cc)
 more_entry before at (Ok item) s fair none =
     subst (λ (x : Request × Option ℕ). IsSound x.0 x.1) (λ i. (sym (request_push before at item) i, sym (noted_push before at item) i))
     (more_item (request before) (normalized_at before) at item s (map_none _ (item_fault (request before) item) none) fair)
 
-all_entries : (before es : List Entry) → IsSound (request before) (normalized_at before) → AreFair es → first_fault before es ≡ None
+all_entries : (before es : List Entry) → IsSound (request before) (normalized_at before) → AreFair es → first_entry_fault before es ≡ None
     → IsSound (request (before ++ es)) (normalized_at (before ++ es))
 all_entries before [] s fair none = subst (λ (all : List Entry). IsSound (request all) (normalized_at all)) (sym (append-nil before)) s
 all_entries before (e ∷ es) s fair none =
-    let faultless = or_none (entry_fault (request before) e) (first_fault (before ++ e ∷ []) es) none in
+    let faultless = or_none (entry_fault (request before) e) (first_entry_fault (before ++ e ∷ []) es) none in
     subst (λ (all : List Entry). IsSound (request all) (normalized_at all)) (append_assoc before (e ∷ []) es)
     (all_entries (before ++ e ∷ []) es (more_entry before e.at e.asked s fair.0 faultless.0) fair.1 faultless.1)
 
@@ -262,7 +262,7 @@ nothing_asked = record { few = omega arith; fair = refl; kinds = refl; patterned
 
 -- without a late fault there is an origin, and a base where the sources are normalized
 not_late : (some based normalize : Bool) (n : Option ℕ) (count : ℕ) → (normalize ≡ true → is_some n ≡ true)
-    → (if not some then Some (fault_at NoSource (count + 1)) else if normalize && not based then option_map (fault_at NormalizeAlone) n else None) ≡ None
+    → (if not some then Some (word_fault NoSource (count + 1)) else if normalize && not based then option_map (word_fault NormalizeAlone) n else None) ≡ None
     → (some ≡ true) × (is_within normalize based ≡ true)
 not_late false based normalize n count noted none = absurd (cc)
 not_late true true true n count noted none = (refl, refl)
@@ -298,7 +298,7 @@ unfolding words
 words_planned ws r is =
     let es = entries 1 ws in
     let late = late_fault (length ws) (request es) (normalized_at es) in
-    let (none, asked) = faultless_request (option_or (first_fault [] es) late) (request es) r is in
-    let faultless = or_none (first_fault [] es) late none in
+    let (none, asked) = faultless_request (option_or (first_entry_fault [] es) late) (request es) r is in
+    let faultless = or_none (first_entry_fault [] es) late none in
     let sound : IsSound (request es) (normalized_at es) = all_entries [] es nothing_asked (entries_fair 1 ws) faultless.0 in
     plan_made r (subst (λ (q : Request). is_plan q ≡ true) asked (fits (length ws) (request es) (normalized_at es) sound faultless.1))

@@ -10,14 +10,11 @@ use Rattle.pp_model.specs.declared.report.Report.{Report}
 use Rattle.pp_report.specs.declared.refusal.ReportRefusal.{ReportRefusal}
 use Rattle.pp_report.specs.Prepared.{Settled, prepare}
 use Rattle.pp_report.specs.Reports.{Reported, finish}
-use Rattle.pp_report.specs.Messages.{refusal_line}
+use Rattle.pp_report.specs.Messages.{report_refusal_line}
 use Rattle.pp_engine.specs.declared.ending.Outcome.{Outcome}
 use Rattle.pp_engine.specs.declared.ending.Outcome.TheVariants as outcomes
 use Rattle.pp_engine.specs.Messages.{locked_line}
-
--- whether a pattern is found in a subject
-abbrev pub Finds : Type 0
-Finds = List ℕ → List ℕ → Bool
+use Rattle.pp_pattern.specs.Report.{Finds}
 
 -- the notes of a report, and then its text; none where it was refused before they were known
 unfoldable pub note_and_finish : Finds → Loaded → Report → Config → Result Settled ReportRefusal
@@ -55,7 +52,7 @@ unfoldable pub end_report : Report → Result (List ℕ) ReportRefusal → Scrip
 end_report report (Ok text) = do
   _ ← write_out text
   Give outcomes.Done
-end_report report (Err refusal) = end_with (refusal_line report refusal) (outcomes.Report refusal)
+end_report report (Err refusal) = end_with (report_refusal_line report refusal) (outcomes.Report refusal)
 
 -- The report that the words ask for.
 unfoldable pub report_once : Finds → Loaded → Report → Config → Script Outcome
@@ -83,7 +80,7 @@ hand_out (Some path) text = save path text
 unfoldable pub hand_out_made : Report → Option (List ℕ) → Result (List ℕ) ReportRefusal
     → Script (Unit {0})
 hand_out_made report to (Ok text) = hand_out to text
-hand_out_made report to (Err refusal) = write_err (refusal_line report refusal)
+hand_out_made report to (Err refusal) = write_err (report_refusal_line report refusal)
 
 -- A report of the shell. A refusal is told, and the session goes on.
 unfoldable pub report_on : Finds → Loaded → Report → Config → Option (List ℕ) → Script (Unit {0})

@@ -25,8 +25,9 @@ use Rattle.pp_engine.specs.declared.ending.Outcome.TheVariants as outcomes
 use Rattle.pp_engine.specs.Endings.{cause_of_outcome}
 use Rattle.pp_engine.specs.Messages.{usage_line}
 use Rattle.pp_engine.specs.Plans.{plan_of}
-use Rattle.pp_engine.specs.Reporting.{Finds, end_with, report_once}
+use Rattle.pp_engine.specs.Reporting.{end_with, report_once}
 use Rattle.pp_engine.specs.Shell.{shell}
+use Rattle.pp_pattern.specs.Report.{Finds}
 
 -- the report that the words name, and the shell where they name none
 unfoldable pub serve : Finds → Config → Option Report → Loaded → Script Outcome

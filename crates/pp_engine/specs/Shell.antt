@@ -16,8 +16,9 @@ use Rattle.pp_engine.specs.declared.ending.Outcome.{Outcome}
 use Rattle.pp_engine.specs.declared.ending.Outcome.TheVariants as outcomes
 use Rattle.pp_engine.specs.declared.shell.TheConstants.{MOST_LINES}
 use Rattle.pp_engine.specs.Messages.{line_fault_line, input_too_long_line}
-use Rattle.pp_engine.specs.Reporting.{Finds, report_on}
+use Rattle.pp_engine.specs.Reporting.{report_on}
 use Rattle.pp_engine.specs.Turns.{turns}
+use Rattle.pp_pattern.specs.Report.{Finds}
 
 -- what stands before each line that is read
 unfoldable pub prompt : List ℕ

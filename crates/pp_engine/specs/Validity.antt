@@ -14,7 +14,7 @@ use Rattle.pp_options.specs.declared.plan.Plan.{Plan}
 use Rattle.pp_report.specs.Reports.{report_script}
 use Rattle.pp_engine.specs.declared.ending.Outcome.{Outcome}
 use Rattle.pp_engine.specs.declared.ending.Outcome.TheVariants as outcomes
-use Rattle.pp_engine.specs.Reporting.{Finds}
+use Rattle.pp_pattern.specs.Report.{Finds}
 use Rattle.pp_engine.specs.Shell.{shell}
 use Rattle.pp_engine.specs.Words.{planned}
 

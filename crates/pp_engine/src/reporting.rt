@@ -11,7 +11,8 @@ ghost use Rattle.pp_model.specs.declared.report.Report.{Report};
 ghost use Rattle.pp_model.specs.Sizes.{IsCountable};
 ghost use Rattle.pp_report.specs.Prepared.{IsPrepared, settled_by};
 ghost use Rattle.pp_report.specs.Reports.{report_script};
-ghost use Rattle.pp_engine.specs.Reporting.{Finds, Tells, noted_report, note_and_finish, report_once, report_on, end_report, end_with, hand_out_made, hand_out, save, tell_locked};
+ghost use Rattle.pp_engine.specs.Reporting.{Tells, noted_report, note_and_finish, report_once, report_on, end_report, end_with, hand_out_made, hand_out, save, tell_locked};
+ghost use Rattle.pp_pattern.specs.Report.{Finds};
 
 use crate::ending::Outcome;
 use crate::message::locked_line;

@@ -9,7 +9,7 @@ ghost use Rattle.pp_model.specs.declared.loaded.Loaded.{Loaded};
 ghost use Rattle.pp_model.specs.Sizes.{IsCountable};
 ghost use Rattle.pp_options.specs.Listing.{options_text};
 ghost use Rattle.pp_shell.specs.Lines.{line_command};
-ghost use Rattle.pp_engine.specs.Reporting.{Finds};
+ghost use Rattle.pp_pattern.specs.Report.{Finds};
 ghost use Rattle.pp_engine.specs.declared.ending.Outcome.{Outcome};
 ghost use Rattle.pp_engine.specs.Shell.{shell, turn, follow, obey, obey_or_complain, complain, without_return, prompt, prompt_end, help};
 ghost use Rattle.pp_engine.specs.Turns.{turns};

@@ -7,8 +7,9 @@ use Rattle.std.proofs.Math.Seq.{take-append_seam}
 use Rattle.std.proofs.lemmas.Bool.{ne_eqb}
 use Rattle.std.proofs.lemmas.List.{take-append-drop}
 use Rattle.pp_model.specs.FrameTexts.{Written}
-use Rattle.pp_grain.specs.Keys.{is_empty_text, is_zero}
+use Rattle.pp_grain.specs.Keys.{is_zero}
 use Rattle.pp_grain.specs.Naming.{colon_number, hex16, word_if, place_text, object_text, code_words, name_text}
+use Rattle.pp_base.specs.Marks.{is_empty_text}
 
 -- three texts, one after the other
 pub joined :

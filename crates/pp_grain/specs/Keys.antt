@@ -1,5 +1,5 @@
 -- The keys that the rows of a report stand for, made of texts and numbers, with their order.
-use Rattle.std.specs.Prelude.{ℕ, ◌+◌, ◌<◌, Bool, true, false, not, ◌&&◌, ◌||◌, ◌==◌, ℤ, pos, List, [], ◌∷◌, length, slice_get, slice_index_or, if◌then◌else◌}
+use Rattle.std.specs.Prelude.{ℕ, ◌+◌, ◌<◌, Bool, true, false, not, ◌&&◌, ◌||◌, ◌==◌, ℤ, pos, List, [], length, slice_get, slice_index_or, if◌then◌else◌}
 use Rattle.std.specs.Option.{option_map_or}
 use Rattle.std.specs.declared.cmp.Ordering.{Ordering}
 use Rattle.std.specs.Ordering.{nat_cmp, int_cmp, then_cmp}
@@ -11,6 +11,7 @@ use Rattle.pp_model.specs.declared.profile.Profile.{Profile}
 use Rattle.pp_model.specs.Lookup.{text_at}
 use Rattle.pp_model.specs.FrameTexts.{Written}
 use Rattle.pp_grain.specs.declared.key.Key.{Key}
+use Rattle.pp_base.specs.Marks.{is_empty_text}
 
 -- no frame of the same place follows on the way to the root
 abbrev pub is_last_of_place : List Frame → ℕ → Bool
@@ -22,11 +23,6 @@ is_last_of_place stack i =
 -- inlined into.
 abbrev pub frame_counts : List Frame → ℕ → Bool → Bool
 frame_counts stack i noinlines = not noinlines || is_last_of_place stack i
-
--- whether nothing stands in the text
-abbrev pub is_empty_text : List ℕ → Bool
-is_empty_text [] = true
-is_empty_text (_ ∷ _) = false
 
 -- whether the number is 0
 abbrev pub is_zero : ℤ → Bool

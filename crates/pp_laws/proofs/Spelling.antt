@@ -16,7 +16,7 @@ use Rattle.pp_units.specs.declared.scale.Scale.TheVariants.{Nanoseconds, Microse
 use Rattle.pp_units.specs.Numbers.{number_text, value_text, signed_text, shortened}
 use Rattle.pp_units.specs.Rounded.{IsNearest, nearest, rounded}
 use Rattle.pp_units.specs.Scales.{factor, suffix_of_scale, falling, family_of_scale, scale_of}
-use Rattle.pp_units.specs.Shown.{Shown, smallest, largest_within, picked, picked_by, forced, each, factor_of, suffix_of, is_same_kind, to_at}
+use Rattle.pp_units.specs.Shown.{Shown, smallest, largest_within, picked, picked_by, forced, picked_for_each, factor_of, suffix_of, is_same_kind, to_at}
 use Rattle.pp_units.proofs.ZeroText.{number_text-zero}
 use Rattle.pp_laws.specs.Units.{RowsStay, UnitsSpell, PickedUnitsSpell, ForcedUnitsSpell, EachUnitsSpell, EachIsPicked, EachTellsZero}
 
@@ -105,7 +105,7 @@ each_some size unit None = omega arith
 each_some size unit (Some scale) = some_factor (largest_within (size * factor scale) (family_of_scale scale))
 
 pub each_units_spell : EachUnitsSpell
-unfolding each
+unfolding picked_for_each
 each_units_spell unit size = each_some size unit (scale_of unit)
 
 to_bounded : (size : ℕ) (unit : List ℕ) (scale : Option Scale) → to_at size (each_by unit scale) ≤ 2 ^ 50
@@ -118,7 +118,7 @@ alone unit value None = refl
 alone unit value (Some scale) = refl
 
 pub each_is_picked : EachIsPicked
-unfolding each picked
+unfolding picked_for_each picked
 each_is_picked unit value = alone unit value (scale_of unit)
 
 first_or : (b : Bool) (amount : ℕ) (scale : Scale) (found : Option Scale) (least : Scale) → nat_le (factor scale) amount ≡ b
@@ -220,5 +220,5 @@ tells unit value scale small e =
     ((number_text-zero value own small from from).0 number)
 
 pub each_tells_zero : EachTellsZero
-unfolding each
+unfolding picked_for_each
 each_tells_zero unit value small e = tells unit value (scale_of unit) small e

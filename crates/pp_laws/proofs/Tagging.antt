@@ -19,7 +19,7 @@ use Rattle.pp_units.specs.declared.range.Range.{Range}
 use Rattle.pp_units.specs.Ranges.{in_range}
 use Rattle.pp_tags.specs.declared.tag_filter.TagFilter.{TagFilter}
 use Rattle.pp_tags.specs.Labels.{has_text, key_value, unit_or, number_unit}
-use Rattle.pp_tags.specs.TagFilters.{is_named, selects_range, selects_some, selects_parts, selects_or, filter_in_force}
+use Rattle.pp_tags.specs.TagFilters.{has_name, selects_range, selects_some, selects_parts, selects_or, filter_in_force}
 use Rattle.pp_share.specs.Described.{LabelText, label_text}
 use Rattle.pp_count.specs.Seeing.{passes_tags}
 
@@ -73,7 +73,7 @@ module _ (p : Profile) where
   abbrev pub TellsText : Label → Type 0
   TellsText label = has_text label ≡ has_told (said label)
 
-  named_is : (name : List ℕ) (label : Label) → is_named p name label ≡ named_told name (said label)
+  named_is : (name : List ℕ) (label : Label) → has_name p name label ≡ named_told name (said label)
   named_is [] label = refl
   named_is (b ∷ bs) label = refl
 
@@ -83,7 +83,7 @@ module _ (p : Profile) where
     asked g h each = list_any_each g (λ label. h (said label)) s.label (all_into TellsText (λ label. g label ≡ h (said label)) each s.label tells) ∙ sym (list_any-map said h s.label)
 
     range_is : (name : List ℕ) (range : Range) → selects_range p name range s ≡ range_told name range (map said s.label)
-    range_is name range = asked (λ label. not (has_text label) && is_named p name label && in_range range label.num (number_unit p label))
+    range_is name range = asked (λ label. not (has_text label) && has_name p name label && in_range range label.num (number_unit p label))
         (λ label. not (has_told label) && named_told name label && in_range range label.num (unit_or label.key label.unit))
         (λ label is i. not (is i) && named_is name label i && in_range range label.num (number_unit p label))
 

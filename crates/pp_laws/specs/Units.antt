@@ -2,7 +2,7 @@
 use Rattle.std.specs.Prelude.{◌≡◌, ℕ, ◌<◌, ◌≤◌, ◌*◌, ◌^◌, ℤ, pos, ◌≤ℤ◌, ◌<ℤ◌, nat_abs, List, Option, IfSome, codes}
 use Rattle.pp_units.specs.Numbers.{number_text, value_text, signed_text, shortened}
 use Rattle.pp_units.specs.Rounded.{IsNearest}
-use Rattle.pp_units.specs.Shown.{Shown, picked, forced, each, to_at}
+use Rattle.pp_units.specs.Shown.{Shown, picked, forced, picked_for_each, to_at}
 use Rattle.pp_model.specs.declared.config.Config.{Config}
 use Rattle.pp_model.specs.declared.profile.Profile.{Profile}
 use Rattle.pp_model.specs.Finders.{Finders}
@@ -49,13 +49,13 @@ ForcedUnitsSpell = (wanted unit : List ℕ) (size : ℕ) → IfSome (forced want
 
 -- Where each value has its own unit, none of these is empty.
 abbrev pub EachUnitsSpell : Type 0
-EachUnitsSpell = (unit : List ℕ) (size : ℕ) → 0 < to_at size (each unit)
+EachUnitsSpell = (unit : List ℕ) (size : ℕ) → 0 < to_at size (picked_for_each unit)
 
 -- Where each value has its own unit, it is printed as beside a total of its size.
 abbrev pub EachIsPicked : Type 0
-EachIsPicked = (unit : List ℕ) (value : ℤ) → value_text value (each unit) ≡ value_text value (picked (nat_abs value) unit)
+EachIsPicked = (unit : List ℕ) (value : ℤ) → value_text value (picked_for_each unit) ≡ value_text value (picked (nat_abs value) unit)
 
 -- Where each value has its own unit, only 0 is printed as `0`.
 abbrev pub EachTellsZero : Type 0
 EachTellsZero =
-    (unit : List ℕ) (value : ℤ) → nat_abs value ≤ 2 ^ 63 → value_text value (each unit) ≡ codes "0" → value ≡ pos 0
+    (unit : List ℕ) (value : ℤ) → nat_abs value ≤ 2 ^ 63 → value_text value (picked_for_each unit) ≡ codes "0" → value ≡ pos 0

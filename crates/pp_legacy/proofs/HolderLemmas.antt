@@ -15,7 +15,7 @@ use Rattle.std.proofs.lemmas.Grind.{same_number_lists}
 use Rattle.std.proofs.lemmas.Option.{none-some, same_Some}
 use Rattle.std.proofs.Math.Bool.{or-false}
 use Rattle.pp_model.specs.declared.profile.Mapping.{Mapping}
-use Rattle.pp_legacy.specs.Tables.{holds, holder_of}
+use Rattle.pp_legacy.specs.Tables.{holds_address, holder_of}
 use Rattle.pp_legacy.specs.Free.{Places, place_in, HasPlaces, TakesAddress}
 
 -- two numbers are the same or not
@@ -62,25 +62,25 @@ both_fail true b fails = absurd (true≢false fails)
 both_fail false b fails = (refl, fails)
 
 -- the first mapping that holds an address
-first_holder : (a : ℕ) (ms : List Mapping) (i : ℕ) (d : Mapping) → i < length ms → list_any (holds a) (take i ms) ≡ false
-    → holds a (get_or ms i d) ≡ true → find (holds a) ms ≡ Some (get_or ms i d)
+first_holder : (a : ℕ) (ms : List Mapping) (i : ℕ) (d : Mapping) → i < length ms → list_any (holds_address a) (take i ms) ≡ false
+    → holds_address a (get_or ms i d) ≡ true → find (holds_address a) ms ≡ Some (get_or ms i d)
 first_holder a [] i d within none here = absurd (omega arith)
-first_holder a (m ∷ ms) zero d within none here = ap (λ b. cond b (Some m) (find (holds a) ms)) here
+first_holder a (m ∷ ms) zero d within none here = ap (λ b. cond b (Some m) (find (holds_address a) ms)) here
 first_holder a (m ∷ ms) (suc i) d within none here =
-    let fail = both_fail (holds a m) (list_any (holds a) (take i ms)) none in
-    ap (λ b. cond b (Some m) (find (holds a) ms)) fail.0 ∙ first_holder a ms i d (omega arith) fail.1 here
+    let fail = both_fail (holds_address a m) (list_any (holds_address a) (take i ms)) none in
+    ap (λ b. cond b (Some m) (find (holds_address a) ms)) fail.0 ∙ first_holder a ms i d (omega arith) fail.1 here
 
 -- no mapping holds the address
-no_holder : (a : ℕ) (ms : List Mapping) → list_any (holds a) ms ≡ false → find (holds a) ms ≡ None
+no_holder : (a : ℕ) (ms : List Mapping) → list_any (holds_address a) ms ≡ false → find (holds_address a) ms ≡ None
 no_holder a [] none = refl
 no_holder a (m ∷ ms) none =
-    let fail = both_fail (holds a m) (list_any (holds a) ms) none in
-    ap (λ b. cond b (Some m) (find (holds a) ms)) fail.0 ∙ no_holder a ms fail.1
+    let fail = both_fail (holds_address a m) (list_any (holds_address a) ms) none in
+    ap (λ b. cond b (Some m) (find (holds_address a) ms)) fail.0 ∙ no_holder a ms fail.1
 
 -- An address is free, and none of the first i mappings holds it, or it isn't, and its holder is known.
 abbrev pub IsSettled : List Mapping → Places → List ℕ → ℕ → ℕ → ℕ → Type 0
 IsSettled ms free holders i a k =
-    ((place_in free a ≡ Some k) × (get_or holders k 0 ≡ 0) × (list_any (holds a) (take i ms) ≡ false))
+    ((place_in free a ≡ Some k) × (get_or holders k 0 ≡ 0) × (list_any (holds_address a) (take i ms) ≡ false))
     ⊎ ((place_in free a ≡ None) × (get_or holders k 0 ≡ holder_of ms a))
 
 -- the first i mappings have taken their addresses, or some of them
@@ -101,11 +101,11 @@ none_placed ms addresses free holders has are = record {
 module _ (ms : List Mapping) (addresses : List ℕ) (i : ℕ) (d : Mapping) (within : i < length ms) where
   module _ (old new : Places) (holders : List ℕ) (is_placed : IsPlaced ms addresses old holders i) where
     -- what stands at the place of an address that a mapping takes
-    taken_at : (q p : ℕ) → place_in old q ≡ Some p → holds q (get_or ms i d) ≡ true → holder_of ms q ≡ (get_or ms i d).id
+    taken_at : (q p : ℕ) → place_in old q ≡ Some p → holds_address q (get_or ms i d) ≡ true → holder_of ms q ≡ (get_or ms i d).id
     taken_at q p is here =
         let known = is_placed.only q p is in
-        let none : list_any (holds q) (take i ms) ≡ false = elim (is_placed.each p known.0) [
-          | inl free ↦ ap (λ a. list_any (holds a) (take i ms)) (sym known.1) ∙ free.2
+        let none : list_any (holds_address q) (take i ms) ≡ false = elim (is_placed.each p known.0) [
+          | inl free ↦ ap (λ a. list_any (holds_address a) (take i ms)) (sym known.1) ∙ free.2
           | inr gone ↦ absurd (none-some p (sym gone.0 ∙ ap (place_in old) known.1 ∙ is))
         ] in
         ap (λ o. option_map_or (λ m. m.id) o 0) (first_holder q ms i d within none here)
@@ -152,9 +152,9 @@ module _ (ms : List Mapping) (addresses : List ℕ) (i : ℕ) (d : Mapping) (wit
             inl (
               same a ∙ free.0,
               free.1,
-              ap (list_any (holds a)) (take_more ms i d within) ∙ list_any-append (holds a) (take i ms) (get_or ms i d ∷ [])
-                  ∙ ap (λ b. b || (holds a (get_or ms i d) || false)) free.2
-                  ∙ or-false (holds a (get_or ms i d))
+              ap (list_any (holds_address a)) (take_more ms i d within) ∙ list_any-append (holds_address a) (take i ms) (get_or ms i d ∷ [])
+                  ∙ ap (λ b. b || (holds_address a (get_or ms i d) || false)) free.2
+                  ∙ or-false (holds_address a (get_or ms i d))
                   ∙ not_held a k free.0,
             )
         | inr gone ↦ inr (same (slice_index addresses k) ∙ gone.0, gone.1)
@@ -162,10 +162,10 @@ module _ (ms : List Mapping) (addresses : List ℕ) (i : ℕ) (d : Mapping) (wit
       only = λ q p given. is_placed.only q p (sym (same q) ∙ given);
     }
       where
-        not_held : (a k : ℕ) → place_in old a ≡ Some k → holds a (get_or ms i d) ≡ false
-        not_held a k is = by (holds a (get_or ms i d)) refl
+        not_held : (a k : ℕ) → place_in old a ≡ Some k → holds_address a (get_or ms i d) ≡ false
+        not_held a k is = by (holds_address a (get_or ms i d)) refl
           where
-            by : (b : Bool) → holds a (get_or ms i d) ≡ b → b ≡ false
+            by : (b : Bool) → holds_address a (get_or ms i d) ≡ b → b ≡ false
             by true held = absurd (none-some k (sym (none a held) ∙ is))
             by false not_held = refl
 
@@ -179,7 +179,7 @@ all_placed ms addresses free holders i past placed =
     let mapped : get_or (map (holder_of ms) addresses) k 0 ≡ holder_of ms (slice_index addresses k) = get_or-map (holder_of ms) addresses k 0 0 low in
     elim (placed.each k low) [
       | inl free ↦
-          let none = ap (list_any (holds (slice_index addresses k))) (sym (take_all i ms past)) ∙ free.2 in
+          let none = ap (list_any (holds_address (slice_index addresses k))) (sym (take_all i ms past)) ∙ free.2 in
           free.1 ∙ sym (mapped ∙ ap (λ o. option_map_or (λ m. m.id) o 0) (no_holder (slice_index addresses k) ms none))
       | inr gone ↦ gone.1 ∙ sym mapped
     ])

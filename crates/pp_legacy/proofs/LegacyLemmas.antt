@@ -9,31 +9,33 @@ use Rattle.std.proofs.lemmas.List.Splits.{length-slice_split}
 use Rattle.std.proofs.lemmas.List.Sums.{count_by-le-length}
 use Rattle.pp_legacy.specs.declared.fault.LegacyFault.{LegacyFault}
 use Rattle.pp_legacy.specs.declared.header.Header.{Header}
-use Rattle.pp_legacy.specs.Words.{words}
+use Rattle.pp_legacy.specs.Words.{whole_words}
 use Rattle.pp_legacy.specs.Header.{header}
 use Rattle.pp_legacy.specs.Records.{StackRecord, Entries, entries_from}
-use Rattle.pp_legacy.specs.Regions.{Region, code_in, is_line_end, regions}
-use Rattle.pp_legacy.specs.Tables.{addresses_of, sample_of, mapping_of, mappings_of, location_of, locations_of, fixed_texts, texts_of, profile_of}
-use Rattle.pp_legacy.specs.Sizes.{HasAtMost, HasFew}
+use Rattle.pp_legacy.specs.Regions.{Region, code_in, regions}
+use Rattle.pp_legacy.specs.Tables.{addresses_of, entry_sample, mapping_of, numbered_mappings, location_of, numbered_locations, fixed_texts, texts_of, legacy_profile}
+use Rattle.pp_legacy.specs.Sizes.{HasFew}
 use Rattle.pp_legacy.specs.Legacy.{legacy}
 use Rattle.pp_model.proofs.FirstSightLemmas.{length-distinct}
+use Rattle.pp_base.specs.Marks.{is_line_end}
+use Rattle.pp_model.specs.Sizes.{HasAtMost}
 
 module _ (bytes : List ℕ) where
   -- a fault of the header
-  pub header_fails : (fault : LegacyFault) → header (words bytes) ≡ Err fault → legacy bytes ≡ Err fault
+  pub header_fails : (fault : LegacyFault) → header (whole_words bytes) ≡ Err fault → legacy bytes ≡ Err fault
   unfolding legacy
   header_fails fault is = rw is refl
 
-  module _ (head : Header) (header_is : header (words bytes) ≡ Ok head) where
+  module _ (head : Header) (header_is : header (whole_words bytes) ≡ Ok head) where
     -- a fault of the entries
-    pub entries_fail : (fault : LegacyFault) → entries_from (words bytes) head.nanos (record { word = head.first; counts = 0 }) ≡ Err fault
+    pub entries_fail : (fault : LegacyFault) → entries_from (whole_words bytes) head.nanos (record { word = head.first; counts = 0 }) ≡ Err fault
         → legacy bytes ≡ Err fault
     unfolding legacy
     entries_fail fault is = rw (header_is, is) refl
 
     -- the profile
-    pub profile_is : (found : Entries) → entries_from (words bytes) head.nanos (record { word = head.first; counts = 0 }) ≡ Ok found
-        → legacy bytes ≡ Ok (profile_of head.nanos found.entries (regions (drop (8 * found.text) bytes)))
+    pub profile_is : (found : Entries) → entries_from (whole_words bytes) head.nanos (record { word = head.first; counts = 0 }) ≡ Ok found
+        → legacy bytes ≡ Ok (legacy_profile head.nanos found.entries (regions (drop (8 * found.text) bytes)))
     unfolding legacy
     profile_is found is = rw (header_is, is) refl
 
@@ -54,22 +56,22 @@ regions_len text =
 
 -- the tables have no more entries than the file has bytes
 pub few_entries : (nanos : ℕ) (entries : List StackRecord) (text : ℕ) (bytes : List ℕ) → HasFew text entries → 3 ≤ text → 8 * text ≤ length bytes
-    → HasAtMost (length bytes) (profile_of nanos entries (regions (drop (8 * text) bytes)))
-unfolding profile_of
+    → HasAtMost (length bytes) (legacy_profile nanos entries (regions (drop (8 * text) bytes)))
+unfolding legacy_profile
 few_entries nanos entries text bytes few behind within =
     let found = regions (drop (8 * text) bytes) in
     let regions_few : length found + 8 * text ≤ length bytes + 1 = omega (arith, regions_len (drop (8 * text) bytes), length-drop (8 * text) bytes) in
     let numbered_len = length-map (enumerate_from 0 found) (λ p. mapping_of p.0 p.1) in
     record {
       sample_types = omega arith;
-      samples = omega (arith, few.entries_len, length-map entries (sample_of (addresses_of entries)));
+      samples = omega (arith, few.entries_len, length-map entries (entry_sample (addresses_of entries)));
       mappings = omega (arith, regions_few, numbered_len, length-enumerate_from 0 found);
       locations =
           omega (
             arith,
             few.addresses_len,
             length-distinct nat_eq nat_eq_equiv (flat_map (λ (e : StackRecord). e.stack) entries),
-            length-map (enumerate_from 0 (addresses_of entries)) (λ p. location_of (mappings_of found) p.0 p.1),
+            length-map (enumerate_from 0 (addresses_of entries)) (λ p. location_of (numbered_mappings found) p.0 p.1),
             length-enumerate_from 0 (addresses_of entries),
           );
       functions = omega arith;

@@ -7,9 +7,10 @@ use Rattle.std.specs.List.{flat_map}
 use Rattle.pp_legacy.specs.declared.fault.LegacyFault.{LegacyFault}
 use Rattle.pp_legacy.specs.declared.records.Cursor.{Cursor}
 use Rattle.pp_legacy.specs.declared.records.Record.{Record}
-use Rattle.pp_legacy.specs.Steps.{Reading, ◌>>=◌}
+use Rattle.pp_legacy.specs.Steps.{Reading}
 use Rattle.pp_legacy.specs.Sizes.{HasFew}
 use Rattle.pp_legacy.specs.Records.{StackRecord, Entries, in_front, record_at, entries_in, entries_from}
+use Rattle.pp_base.specs.Results.{◌>>=◌}
 
 -- these entries in front of those that are read
 abbrev pub behind : List StackRecord → Reading Entries → Reading Entries

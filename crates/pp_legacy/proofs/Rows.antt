@@ -7,11 +7,11 @@ use Rattle.std.specs.List.{flat_map, list_all, list_any}
 use Rattle.pp_legacy.specs.declared.fault.LegacyFault.{LegacyFault}
 use Rattle.pp_legacy.specs.declared.fault.LegacyKind.TheVariants.{Truncated, BadHeader, BadRecord, TooLarge}
 use Rattle.pp_legacy.specs.Steps.{fault_at}
-use Rattle.pp_legacy.specs.Words.{words}
+use Rattle.pp_legacy.specs.Words.{whole_words}
 use Rattle.pp_legacy.specs.Header.{header}
 use Rattle.pp_legacy.specs.Records.{record_at, entries_in, entries_from}
-use Rattle.pp_legacy.specs.Regions.{hex_in, behind_dash, behind_gap, field_in, permissions_in, range_in, source_in, region_in, code_in, regions}
-use Rattle.pp_legacy.specs.Tables.{profile_of, samples_type, cpu_type}
+use Rattle.pp_legacy.specs.Regions.{hex_in, behind_dash, behind_gap, spaced_field_in, permissions_in, range_in, offset_and_path_in, region_in, code_in, regions}
+use Rattle.pp_legacy.specs.Tables.{legacy_profile, samples_type, cpu_type}
 use Rattle.pp_legacy.specs.Legacy.{legacy}
 
 -- a file of words and a text
@@ -20,7 +20,7 @@ file ws text = flat_map (to_le_bytes w64) ws ++ text
 
 -- sixteen zeros
 zeros : legacy (replicate 16 0) ≡ Err (fault_at BadHeader 1)
-unfolding legacy words header
+unfolding legacy whole_words header
 zeros = refl
 
 -- two stacks of a program, and its one region of code
@@ -32,11 +32,11 @@ prog_text = codes "00400000-00500000 r-xp 00000000 08:01 131 /bin/prog" ++ 10 �
 
 -- the file ends within its header
 cut_short : legacy (take 24 (file prog_words prog_text)) ≡ Err (fault_at Truncated 3)
-unfolding legacy words header file prog_words prog_text
+unfolding legacy whole_words header file prog_words prog_text
 cut_short = refl
 
-prog_is_spelled : words (file prog_words (codes "1234567")) ≡ prog_words
-unfolding words file prog_words
+prog_is_spelled : whole_words (file prog_words (codes "1234567")) ≡ prog_words
+unfolding whole_words file prog_words
 prog_is_spelled = refl
 
 prog_header : header prog_words ≡ Ok (record { nanos = 10000000; first = 5 })
@@ -57,7 +57,7 @@ prog_entries = refl
 prog_regions :
     regions prog_text
     ≡ record { start = 4194304; limit = 5242880; permissions = codes "r-xp"; offset = 0; path = codes "/bin/prog" } ∷ []
-unfolding prog_text regions region_in range_in source_in hex_in behind_dash behind_gap field_in permissions_in
+unfolding prog_text regions region_in range_in offset_and_path_in hex_in behind_dash behind_gap spaced_field_in permissions_in
 prog_regions = refl
 
 -- the whole of it
@@ -98,8 +98,8 @@ prog :
       doc_url = pos 0;
     })
 unfolding
-    legacy words file prog_words prog_text header entries_in record_at regions region_in range_in source_in hex_in behind_dash behind_gap field_in
-    permissions_in profile_of
+    legacy whole_words file prog_words prog_text header entries_in record_at regions region_in range_in offset_and_path_in hex_in behind_dash behind_gap spaced_field_in
+    permissions_in legacy_profile
 prog = refl
 
 -- the fault of a file of words, where it has one
@@ -123,7 +123,7 @@ headers :
     ≡ map Some (
     fault_at BadHeader 1 ∷ fault_at Truncated 2 ∷ fault_at BadHeader 2 ∷ fault_at BadHeader 3 ∷ fault_at BadHeader 3 ∷ fault_at BadHeader 3
     ∷ fault_at Truncated 4 ∷ fault_at BadHeader 4 ∷ fault_at Truncated 5 ∷ fault_at Truncated 8 ∷ fault_at Truncated 8 ∷ [])
-unfolding fault_of legacy words header file
+unfolding fault_of legacy whole_words header file
 headers = refl
 
 -- what follows a header of five words, as a fault
@@ -148,7 +148,7 @@ records :
     ≡ map Some (
     fault_at Truncated 5 ∷ fault_at Truncated 6 ∷ fault_at Truncated 7 ∷ fault_at BadRecord 5 ∷ fault_at BadRecord 5 ∷ fault_at BadRecord 5
     ∷ fault_at BadRecord 6 ∷ fault_at Truncated 8 ∷ fault_at Truncated 8 ∷ fault_at TooLarge 5 ∷ fault_at TooLarge 8 ∷ fault_at Truncated 10 ∷ [])
-unfolding behind_header fault_of legacy words header file entries_in record_at
+unfolding behind_header fault_of legacy whole_words header file entries_in record_at
 records = refl
 
 -- whether a line tells of a region of code
@@ -162,7 +162,7 @@ lines_that_tell :
     ∷ codes "1000-FFFFffffFFFFffff ??x? aF0 : :"
     ∷ codes "1000-2000 r-xp 0 0 0 " ∷ [])
     ≡ true
-unfolding tells region_in range_in source_in hex_in behind_dash behind_gap field_in permissions_in
+unfolding tells region_in range_in offset_and_path_in hex_in behind_dash behind_gap spaced_field_in permissions_in
 lines_that_tell = refl
 
 lines_passed_over :
@@ -185,5 +185,5 @@ lines_passed_over :
     ∷ codes "1000-2000 r-xp g 0 0"
     ∷ codes "1000-2000 r-xp 0g 0 0" ∷ [])
     ≡ false
-unfolding tells region_in range_in source_in hex_in behind_dash behind_gap field_in permissions_in
+unfolding tells region_in range_in offset_and_path_in hex_in behind_dash behind_gap spaced_field_in permissions_in
 lines_passed_over = refl

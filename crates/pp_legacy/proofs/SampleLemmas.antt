@@ -9,7 +9,7 @@ use Rattle.std.proofs.lemmas.List.Sums.{fold-append}
 use Rattle.pp_model.specs.declared.profile.Sample.{Sample}
 use Rattle.pp_model.specs.FirstSight.{seen_with, seen_after, distinct, place_of}
 use Rattle.pp_legacy.specs.Records.{StackRecord}
-use Rattle.pp_legacy.specs.Tables.{addresses_of, location_id, sample_of}
+use Rattle.pp_legacy.specs.Tables.{addresses_of, location_id, entry_sample}
 use Rattle.pp_model.proofs.FirstSightLemmas.{IsSeen, all_as, map_agree, all_seen, place-seen_with, place-seen_after, place_when_seen}
 
 -- a number is itself
@@ -87,19 +87,19 @@ module _ (entries : List StackRecord) (e : StackRecord) where
 
   -- a sample whose addresses are all seen
   sample_stays : (f : StackRecord) → AllByRecursion (IsSeen nat_eq (addresses_of entries)) f.stack
-      → sample_of (seen_after nat_eq (addresses_of entries) e.stack) f ≡ sample_of (addresses_of entries) f
+      → entry_sample (seen_after nat_eq (addresses_of entries) e.stack) f ≡ entry_sample (addresses_of entries) f
   sample_stays f all =
       ap (λ ids. let s : Sample = record { location_id = ids; value = f.count ∷ f.nanos ∷ []; label = [] } in s)
       (ids_stay (addresses_of entries) e.stack f.stack all)
 
   -- the samples with one more
   pub samples_more :
-      map (sample_of (seen_after nat_eq (addresses_of entries) e.stack)) (entries ++ e ∷ [])
-      ≡ map (sample_of (addresses_of entries)) entries ++ sample_of (seen_after nat_eq (addresses_of entries) e.stack) e ∷ []
+      map (entry_sample (seen_after nat_eq (addresses_of entries) e.stack)) (entries ++ e ∷ [])
+      ≡ map (entry_sample (addresses_of entries)) entries ++ entry_sample (seen_after nat_eq (addresses_of entries) e.stack) e ∷ []
   samples_more =
-      map-append (sample_of (seen_after nat_eq (addresses_of entries) e.stack)) entries (e ∷ [])
-      ∙ ap (λ l. l ++ sample_of (seen_after nat_eq (addresses_of entries) e.stack) e ∷ [])
-      (map_agree _ (sample_of (addresses_of entries)) entries
+      map-append (entry_sample (seen_after nat_eq (addresses_of entries) e.stack)) entries (e ∷ [])
+      ∙ ap (λ l. l ++ entry_sample (seen_after nat_eq (addresses_of entries) e.stack) e ∷ [])
+      (map_agree _ (entry_sample (addresses_of entries)) entries
       (all_as _ _ sample_stays entries
       (all_parts (IsSeen nat_eq (addresses_of entries)) entries (all_seen nat_eq same_self [] (flat_map (λ f. f.stack) entries)))))
 
@@ -109,11 +109,11 @@ module _ (entries more : List StackRecord) (e : StackRecord) (next : more ≡ en
   pub entry_seen : keys' ≡ addresses_of more
   entry_seen = next_keys ∙ ap (λ k. seen_after nat_eq k e.stack) keys_are ∙ sym (addresses_more entries e) ∙ ap addresses_of (sym next)
 
-  pub entry_sampled : (samples samples' : List Sample) (sample : Sample) → samples ≡ map (sample_of (addresses_of entries)) entries
-      → sample ≡ sample_of keys' e → samples' ≡ samples ++ sample ∷ [] → samples' ≡ map (sample_of (addresses_of more)) more
+  pub entry_sampled : (samples samples' : List Sample) (sample : Sample) → samples ≡ map (entry_sample (addresses_of entries)) entries
+      → sample ≡ entry_sample keys' e → samples' ≡ samples ++ sample ∷ [] → samples' ≡ map (entry_sample (addresses_of more)) more
   entry_sampled samples samples' sample are is next_samples =
       let known = next_keys ∙ ap (λ k. seen_after nat_eq k e.stack) keys_are in
-      next_samples ∙ (λ j. are j ++ (is ∙ ap (λ k. sample_of k e) known) j ∷ [])
+      next_samples ∙ (λ j. are j ++ (is ∙ ap (λ k. entry_sample k e) known) j ∷ [])
       ∙ sym (samples_more entries e)
-      ∙ ap (λ k. map (sample_of k) (entries ++ e ∷ [])) (sym (addresses_more entries e))
-      ∙ ap (λ es. map (sample_of (addresses_of es)) es) (sym next)
+      ∙ ap (λ k. map (entry_sample k) (entries ++ e ∷ [])) (sym (addresses_more entries e))
+      ∙ ap (λ es. map (entry_sample (addresses_of es)) es) (sym next)

@@ -17,7 +17,7 @@ use Rattle.pp_model.specs.Rules.{NoRuleFails, first_failing, first_repeated, sta
 use Rattle.pp_model.specs.FirstSight.{place_of}
 use Rattle.pp_legacy.specs.Records.{StackRecord}
 use Rattle.pp_legacy.specs.Regions.{Region}
-use Rattle.pp_legacy.specs.Tables.{addresses_of, location_id, sample_of, mapping_of, mappings_of, holds, holder_of, location_of, locations_of, fixed_texts, texts_of, samples_type, cpu_type, profile_of}
+use Rattle.pp_legacy.specs.Tables.{addresses_of, location_id, entry_sample, mapping_of, numbered_mappings, holds_address, holder_of, location_of, numbered_locations, fixed_texts, texts_of, samples_type, cpu_type, legacy_profile}
 use Rattle.pp_model.proofs.FirstSightLemmas.{IsSeen, all_as, all_seen}
 use Rattle.pp_legacy.proofs.SampleLemmas.{same_self, all_parts}
 
@@ -136,10 +136,10 @@ zero_or_later h m ids is = by (h == 0) (m == h) (stands_in ids h) is
 -- the first mapping that holds an address is a mapping
 holder_in : (a : ℕ) (ms : List Mapping) → is_zero_or_in (map (λ (m : Mapping). m.id) ms) (holder_of ms a) ≡ true
 holder_in a [] = refl
-holder_in a (m ∷ ms) = by (holds a m) (holder_in a ms)
+holder_in a (m ∷ ms) = by (holds_address a m) (holder_in a ms)
   where
     by : (b : Bool) → is_zero_or_in (map (λ (n : Mapping). n.id) ms) (holder_of ms a) ≡ true
-        → is_zero_or_in (map (λ (n : Mapping). n.id) (m ∷ ms)) (option_map_or (λ (n : Mapping). n.id) (cond b (Some m) (find (holds a) ms)) 0) ≡ true
+        → is_zero_or_in (map (λ (n : Mapping). n.id) (m ∷ ms)) (option_map_or (λ (n : Mapping). n.id) (cond b (Some m) (find (holds_address a) ms)) 0) ≡ true
     by true rest = or_right (m.id == 0) _ (ap (λ b. b || stands_in (map (λ (n : Mapping). n.id) ms) m.id) (eq-eqb m.id m.id refl))
     by false rest = zero_or_later (holder_of ms a) m.id (map (λ (n : Mapping). n.id) ms) rest
 
@@ -155,11 +155,11 @@ module _ (nanos : ℕ) (entries : List StackRecord) (regions : List Region) wher
   texts_len : length (texts_of regions) ≡ length regions + 5
   texts_len = let h = length-append fixed_texts (map (λ (r : Region). r.path) regions) in omega (arith, h, length-map regions (λ (r : Region). r.path))
 
-  mapping_numbers : map (λ (m : Mapping). m.id) (mappings_of regions) ≡ range_with_len 1 (length regions)
+  mapping_numbers : map (λ (m : Mapping). m.id) (numbered_mappings regions) ≡ range_with_len 1 (length regions)
   mapping_numbers = ids_in_order mapping_of (λ m. m.id) 0 regions (λ k x. refl)
 
-  location_numbers : map (λ (l : Location). l.id) (locations_of (mappings_of regions) (addresses_of entries)) ≡ range_with_len 1 (length (addresses_of entries))
-  location_numbers = ids_in_order (location_of (mappings_of regions)) (λ l. l.id) 0 (addresses_of entries) (λ k x. refl)
+  location_numbers : map (λ (l : Location). l.id) (numbered_locations (numbered_mappings regions) (addresses_of entries)) ≡ range_with_len 1 (length (addresses_of entries))
+  location_numbers = ids_in_order (location_of (numbered_mappings regions)) (λ l. l.id) 0 (addresses_of entries) (λ k x. refl)
 
   text_is : (i : ℕ) → i < length regions + 5 → nat_lt i (length (texts_of regions)) ≡ true
   text_is i low = lt-ltb i _ (omega (arith, texts_len))
@@ -175,26 +175,26 @@ module _ (nanos : ℕ) (entries : List StackRecord) (regions : List Region) wher
     (and_from _ _ (text_is 3 (omega arith)) (text_is 4 (omega arith)), tt),
   )
 
-  pub no_rule_fails : NoRuleFails (profile_of nanos entries regions)
-  unfolding profile_of has_texts
+  pub no_rule_fails : NoRuleFails (legacy_profile nanos entries regions)
+  unfolding legacy_profile has_texts
   no_rule_fails = record {
     text_zero = refl;
     header_text = ap (λ b. if b then None else Some 0) (fixed_are_texts (length (texts_of regions)) (omega (arith, texts_len)));
     comment_text = refl;
     type_text = nowhere has_texts (samples_type ∷ cpu_type ∷ []) types_are_texts;
-    sample_text = nowhere _ _ (each_made (sample_of (addresses_of entries)) _ entries (each _ (λ e. refl) entries));
+    sample_text = nowhere _ _ (each_made (entry_sample (addresses_of entries)) _ entries (each _ (λ e. refl) entries));
     mapping_text = nowhere _ _ (each_numbered mapping_of _ 0 regions (λ k r below. and_from _ _ (text_is (k + 5) (omega arith)) (text_is 0 (omega arith))));
     function_text = refl;
-    untyped = ap (λ b. if b then None else Some 0) (or_right (length (map (sample_of (addresses_of entries)) entries) == 0) _ refl);
+    untyped = ap (λ b. if b then None else Some 0) (or_right (length (map (entry_sample (addresses_of entries)) entries) == 0) _ refl);
     mapping_zero = ap (first_failing (λ id. nat_lt 0 id)) mapping_numbers ∙ nowhere _ _ (all_positive 1 (length regions) (omega arith));
     mapping_repeat = ap first_repeated mapping_numbers ∙ none_repeated (length regions);
     function_zero = refl;
     function_repeat = refl;
     location_zero = ap (first_failing (λ id. nat_lt 0 id)) location_numbers ∙ nowhere _ _ (all_positive 1 (length (addresses_of entries)) (omega arith));
     location_repeat = ap first_repeated location_numbers ∙ none_repeated (length (addresses_of entries));
-    location_reference = nowhere _ _ (each_numbered (location_of (mappings_of regions)) _ 0 (addresses_of entries) (λ k a below. and_from _ _ (holder_in a (mappings_of regions)) refl));
-    sample_reference = nowhere _ _ (each_made (sample_of (addresses_of entries)) _ entries
+    location_reference = nowhere _ _ (each_numbered (location_of (numbered_mappings regions)) _ 0 (addresses_of entries) (λ k a below. and_from _ _ (holder_in a (numbered_mappings regions)) refl));
+    sample_reference = nowhere _ _ (each_made (entry_sample (addresses_of entries)) _ entries
         (all_as _ _ (λ e all. refers (addresses_of entries) _ e.stack location_numbers all) entries
         (all_parts (IsSeen nat_eq (addresses_of entries)) entries (all_seen nat_eq same_self [] (flat_map (λ e. e.stack) entries)))));
-    values = nowhere _ _ (each_made (sample_of (addresses_of entries)) _ entries (each _ (λ e. refl) entries));
+    values = nowhere _ _ (each_made (entry_sample (addresses_of entries)) _ entries (each _ (λ e. refl) entries));
   }

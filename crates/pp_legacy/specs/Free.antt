@@ -3,7 +3,7 @@ use Rattle.std.specs.Prelude.{◌≡◌, ℕ, ◌<◌, ◌≤◌, true, List, sl
 use Rattle.std.specs.Ordering.{nat_cmp}
 use Rattle.std.specs.BTreeMap.{BTreeMap, get}
 use Rattle.pp_model.specs.declared.profile.Mapping.{Mapping}
-use Rattle.pp_legacy.specs.Tables.{holds}
+use Rattle.pp_legacy.specs.Tables.{holds_address}
 
 -- a table of places by addresses
 abbrev pub Places : Type 0
@@ -29,7 +29,7 @@ IsLeastFrom free from (Some least) =
 abbrev pub TakesAddress : Mapping → Places → Places → Option ℕ → Type 0
 TakesAddress mapping old new None =
     ((address : ℕ) → place_in new address ≡ place_in old address)
-    × ((address : ℕ) → holds address mapping ≡ true → place_in old address ≡ None)
+    × ((address : ℕ) → holds_address address mapping ≡ true → place_in old address ≡ None)
 TakesAddress mapping old new (Some place) =
-    (address : ℕ) × (place_in old address ≡ Some place) × (holds address mapping ≡ true)
+    (address : ℕ) × (place_in old address ≡ Some place) × (holds_address address mapping ≡ true)
     × ((other : ℕ) → place_in new other ≡ (if nat_eq other address then None else place_in old other))

@@ -4,8 +4,9 @@
 use Rattle.std.specs.Prelude.{ℕ, ◌*◌, ◌==◌, ◌&&◌, List, nat_le, Ok}
 use Rattle.pp_legacy.specs.declared.fault.LegacyKind.TheVariants.{BadHeader}
 use Rattle.pp_legacy.specs.declared.header.Header.{Header}
-use Rattle.pp_legacy.specs.Steps.{Reading, ◌>>=◌, fault_unless}
+use Rattle.pp_legacy.specs.Steps.{Reading, fault_unless}
 use Rattle.pp_legacy.specs.Words.{word_at, behind_words}
+use Rattle.pp_base.specs.Results.{◌>>=◌}
 
 -- the most microseconds whose nanoseconds are a number of 63 bits
 abbrev pub most_period : ℕ

@@ -1,11 +1,12 @@
 -- The text behind the trailer (gperftools, "CPU Profile format", "Text list of mapped
 -- objects"; proc(5), /proc/pid/maps): the mapped regions of the process, one a line, as
 -- in `00400000-00500000 r-xp 00000000 08:01 131    /bin/prog`.
-use Rattle.std.specs.Prelude.{ℕ, ◌+◌, ◌==◌, Bool, ◌&&◌, not, List, length, take, drop, slice_index, nat_lt, nat_le, Option, Some, None, if◌then◌else◌}
+use Rattle.std.specs.Prelude.{ℕ, ◌==◌, Bool, ◌&&◌, not, List, length, take, drop, slice_index, nat_lt, nat_le, Option, Some, None, if◌then◌else◌}
 use Rattle.std.specs.List.{prefix_len, slice_split, filter_map}
 use Rattle.std.specs.Char.{is_ascii_hexdigit}
 use Rattle.std.specs.Str.Parse.{digits_value}
 use Rattle.std.specs.Option.{option_and_then}
+use Rattle.pp_base.specs.Marks.{is_line_end}
 
 -- a part of a line, and what stands behind it
 abbrev pub Part : Type 0 → Type 0
@@ -19,10 +20,6 @@ o >>= f = option_and_then f o
 -- a space, by which fields are set apart
 abbrev pub is_space : ℕ → Bool
 is_space b = b == 32
-
--- the byte that ends a line
-abbrev pub is_line_end : ℕ → Bool
-is_line_end b = b == 10
 
 -- the hexadecimal number at the front, of 1 to 16 digits in either case
 unfoldable pub hex_in : List ℕ → Part ℕ
@@ -44,15 +41,15 @@ unfoldable pub behind_gap : List ℕ → Option (List ℕ)
 behind_gap line = if slice_index line 0 == 32 then Some (behind_spaces line) else None
 
 -- the bytes at the front up to a space or the end, of which there is one at least
-unfoldable pub field_in : List ℕ → Part (List ℕ)
-field_in line =
+unfoldable pub spaced_field_in : List ℕ → Part (List ℕ)
+spaced_field_in line =
     let bytes = prefix_len (λ b. not (is_space b)) line in
     if nat_le 1 bytes then Some (take bytes line, drop bytes line) else None
 
 -- a field of four bytes
 unfoldable pub permissions_in : List ℕ → Part (List ℕ)
 permissions_in line = do
-  field ← field_in line
+  field ← spaced_field_in line
   if length field.0 == 4 then Some field else None
 
 -- A mapped region: its first address and the first behind it, what may be done there, the place in the file, and the
@@ -75,21 +72,21 @@ range_in line = do
   Some ((start.0, limit.0, permissions.0), permissions.1)
 
 -- the place in the file and the path: between them stand a device and an inode, which may be any fields
-unfoldable pub source_in : List ℕ → Option (ℕ × List ℕ)
-source_in line = do
+unfoldable pub offset_and_path_in : List ℕ → Option (ℕ × List ℕ)
+offset_and_path_in line = do
   first_gap ← behind_gap line
   offset ← hex_in first_gap
   second_gap ← behind_gap offset.1
-  device ← field_in second_gap
+  device ← spaced_field_in second_gap
   third_gap ← behind_gap device.1
-  inode ← field_in third_gap
+  inode ← spaced_field_in third_gap
   Some (offset.0, behind_spaces inode.1)
 
 -- the region that a line tells of
 unfoldable pub region_in : List ℕ → Option Region
 region_in line = do
   range ← range_in line
-  source ← source_in range.1
+  source ← offset_and_path_in range.1
   Some (record {
     start = range.0.0;
     limit = range.0.1;

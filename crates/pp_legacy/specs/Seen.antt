@@ -5,14 +5,14 @@ use Rattle.pp_legacy.specs.declared.records.Record.{Record}
 use Rattle.pp_legacy.specs.declared.records.Records.{Records}
 use Rattle.pp_legacy.specs.declared.line.Region.{Region}
 use Rattle.pp_legacy.specs.declared.line.Span.{Span}
-use Rattle.pp_legacy.specs.Words.{words}
+use Rattle.pp_legacy.specs.Words.{whole_words}
 use Rattle.pp_legacy.specs.Records as spec
 use Rattle.pp_legacy.specs.Records.{StackRecord, Entries, Found}
 use Rattle.pp_legacy.specs.Regions as text
 
 -- a record
 abbrev pub entry_of : Record → StackRecord
-entry_of r = record { count = r.count; nanos = r.nanos; stack = words r.stack.now }
+entry_of r = record { count = r.count; nanos = r.nanos; stack = whole_words r.stack.now }
 
 -- a record and where the next one is, or none
 abbrev pub step_of : Option (Record × Cursor) → Found

@@ -9,12 +9,6 @@ use Rattle.pp_legacy.specs.declared.fault.LegacyRefusal.TheVariants as refusal
 abbrev pub Reading : Type 0 → Type 0
 Reading A = Result A LegacyFault
 
--- what the first reading gave goes into the second
-infixl 10 ◌>>=◌
-abbrev pub ◌>>=◌ : {A B : Type 0} → Reading A → (A → Reading B) → Reading B
-(Ok x) >>= f = f x
-(Err e) >>= f = Err e
-
 -- the fault of that kind at the word
 abbrev pub fault_at : LegacyKind → ℕ → LegacyFault
 fault_at kind word = record { kind = kind; word = word }
@@ -23,18 +17,14 @@ fault_at kind word = record { kind = kind; word = word }
 abbrev pub fault_unless : Bool → LegacyKind → ℕ → Reading (Unit {0})
 fault_unless passes kind word = if passes then Ok tt else Err (fault_at kind word)
 
--- what a function returned, seen by view, is what reading gives
-abbrev pub Reads : {X Y : Type 0} → (X → Y) → Reading X → Reading Y → Type 0
-Reads view (Ok x) read = read ≡ Ok (view x)
-Reads view (Err e) read = read ≡ Err e
-
--- the same of a function that takes memory: want of memory may come in place of any answer
-abbrev pub Gives : {X Y : Type 0} → (X → Y) → Result X LegacyRefusal → Reading Y → Type 0
-Gives view (Ok x) read = read ≡ Ok (view x)
-Gives view (Err (refusal.Fault e)) read = read ≡ Err e
-Gives view (Err refusal.Memory) read = ⊤
+-- what a function that takes memory returned, seen by view, is what reading gives: want of memory may come in place
+-- of any answer
+abbrev pub GivesOrMemory : {X Y : Type 0} → (X → Y) → Result X LegacyRefusal → Reading Y → Type 0
+GivesOrMemory view (Ok x) read = read ≡ Ok (view x)
+GivesOrMemory view (Err (refusal.Fault e)) read = read ≡ Err e
+GivesOrMemory view (Err refusal.Memory) read = ⊤
 
 -- what a search returned, seen by view, is what is found
-abbrev pub Finds : {X Y : Type 0} → (X → Y) → Option X → Option Y → Type 0
-Finds view (Some x) found = found ≡ Some (view x)
-Finds view None found = found ≡ None
+abbrev pub FindsSeen : {X Y : Type 0} → (X → Y) → Option X → Option Y → Type 0
+FindsSeen view (Some x) found = found ≡ Some (view x)
+FindsSeen view None found = found ≡ None

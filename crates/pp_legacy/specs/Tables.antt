@@ -20,8 +20,8 @@ abbrev pub location_id : List ℕ → ℕ → ℕ
 location_id addresses address = place_of nat_eq addresses address + 1
 
 -- a sample of two values, the count and the nanoseconds
-abbrev pub sample_of : List ℕ → StackRecord → Sample
-sample_of addresses entry = record {
+abbrev pub entry_sample : List ℕ → StackRecord → Sample
+entry_sample addresses entry = record {
   location_id = map (location_id addresses) entry.stack;
   value = entry.count ∷ entry.nanos ∷ [];
   label = [];
@@ -43,20 +43,20 @@ mapping_of place region = record {
 }
 
 -- the mappings, numbered from 1
-abbrev pub mappings_of : List Region → List Mapping
-mappings_of regions = map (λ p. mapping_of p.0 p.1) (enumerate_from 0 regions)
+abbrev pub numbered_mappings : List Region → List Mapping
+numbered_mappings regions = map (λ p. mapping_of p.0 p.1) (enumerate_from 0 regions)
 
 -- the address lies in the mapping
-abbrev pub holds : ℕ → Mapping → Bool
-holds address mapping = nat_le mapping.start address && nat_lt address mapping.limit
+abbrev pub holds_address : ℕ → Mapping → Bool
+holds_address address mapping = nat_le mapping.start address && nat_lt address mapping.limit
 
 -- the id of the first mapping that holds the address, and 0 where none does
 abbrev pub holder_of : List Mapping → ℕ → ℕ
-holder_of mappings address = option_map_or (λ m. m.id) (find (holds address) mappings) 0
+holder_of mappings address = option_map_or (λ m. m.id) (find (holds_address address) mappings) 0
 
 -- the location of that place, in the mapping with the id, of an address
-abbrev pub location_at : ℕ → ℕ → ℕ → Location
-location_at place mapping_id address = record {
+abbrev pub numbered_location : ℕ → ℕ → ℕ → Location
+numbered_location place mapping_id address = record {
   id = place + 1;
   mapping_id = mapping_id;
   address = address;
@@ -66,11 +66,11 @@ location_at place mapping_id address = record {
 
 -- the same in the first mapping that holds the address
 abbrev pub location_of : List Mapping → ℕ → ℕ → Location
-location_of mappings place address = location_at place (holder_of mappings address) address
+location_of mappings place address = numbered_location place (holder_of mappings address) address
 
 -- the locations, numbered from 1
-abbrev pub locations_of : List Mapping → List ℕ → List Location
-locations_of mappings addresses =
+abbrev pub numbered_locations : List Mapping → List ℕ → List Location
+numbered_locations mappings addresses =
     map (λ p. location_of mappings p.0 p.1) (enumerate_from 0 addresses)
 
 -- the texts that each such profile begins with
@@ -91,12 +91,12 @@ abbrev pub cpu_type : ValueType
 cpu_type = record { kind = pos 3; unit = pos 4 }
 
 -- the profile of the entries and of the regions, where a period has so many nanoseconds
-unfoldable pub profile_of : ℕ → List StackRecord → List Region → Profile
-profile_of nanos entries regions = record {
+unfoldable pub legacy_profile : ℕ → List StackRecord → List Region → Profile
+legacy_profile nanos entries regions = record {
   sample_type = samples_type ∷ cpu_type ∷ [];
-  sample = map (sample_of (addresses_of entries)) entries;
-  mapping = mappings_of regions;
-  location = locations_of (mappings_of regions) (addresses_of entries);
+  sample = map (entry_sample (addresses_of entries)) entries;
+  mapping = numbered_mappings regions;
+  location = numbered_locations (numbered_mappings regions) (addresses_of entries);
   function = [];
   text = texts_of regions;
   drop_frames = pos 0;

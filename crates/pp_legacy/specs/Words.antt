@@ -12,8 +12,8 @@ abbrev pub number_at : List ℕ → ℕ → ℕ
 number_at bytes i = from_le_bytes w64 (take 8 (drop (8 * i) bytes))
 
 -- the whole words of the bytes, in order; up to seven bytes behind them are none
-unfoldable pub words : List ℕ → List ℕ
-words bytes = map (number_at bytes) (range_with_len 0 (length bytes / 8))
+unfoldable pub whole_words : List ℕ → List ℕ
+whole_words bytes = map (number_at bytes) (range_with_len 0 (length bytes / 8))
 
 -- a word that is needed isn't there: the fault is told at the number of whole words
 abbrev pub truncated : List ℕ → LegacyFault

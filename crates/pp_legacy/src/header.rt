@@ -1,6 +1,6 @@
 //! The header of a CPU profile.
 ghost use Rattle.std.specs.Prelude.{◌≡◌, ◌<◌, ◌^◌, IfOk};
-ghost use Rattle.pp_legacy.specs.Words.{words};
+ghost use Rattle.pp_legacy.specs.Words.{whole_words};
 ghost use Rattle.pp_legacy.specs.Header.{header};
 
 use crate::words::{behind_words, fault_unless, word_at};
@@ -21,7 +21,7 @@ pub struct Header {
 /// The header of a file whose word 0 is known to be 0.
 #[tactic(auto, unfolding(crate::specs::Header::header))]
 pub fn header_of(bytes: &[u8]) -> Result<Header, LegacyFault>
-    ensures read { result ≡ header (words bytes.now) }
+    ensures read { result ≡ header (whole_words bytes.now) }
     ensures period { IfOk result (λ head. (0 < head.nanos) × (head.nanos < 2 ^ 63)) }
 {
     let slots = word_at(bytes, 1)?;

@@ -5,7 +5,7 @@
 ghost use Rattle.std.specs.Prelude.{◌≡◌, ◌≢◌, ◌+◌, ◌<◌, ◌^◌, length, map, AllPairs, IfOk, OnSome};
 ghost use Rattle.std.specs.BTreeMap.{btree_map_len};
 ghost use Rattle.pp_legacy.specs.Free.{HasPlaces, IsLeastFrom, TakesAddress};
-ghost use Rattle.pp_legacy.specs.Tables.{holder_of, location_at, locations_of};
+ghost use Rattle.pp_legacy.specs.Tables.{holder_of, numbered_location, numbered_locations};
 
 use pp_base::{List, Memory};
 use pp_model::{Location, Mapping};
@@ -19,7 +19,7 @@ pub fn locations_of(
     addresses: &[u64],
 ) -> Result<List<Location>, Memory>
     requires { AllPairs (λ a b. a ≢ b) addresses.now }
-    ensures { IfOk result (λ ls. ls ≡ locations_of mappings.now addresses.now) }
+    ensures { IfOk result (λ ls. ls ≡ numbered_locations mappings.now addresses.now) }
 {
     let holders = holders_of(alloc, mappings, addresses)?;
     let mut locations = List::new(alloc);
@@ -32,7 +32,7 @@ pub fn locations_of(
 // The location of that place, whose id is the place plus 1.
 fn location_at(alloc: Global, place: u64, mapping_id: u64, address: u64) -> Location
     requires { place < 2 ^ 63 }
-    ensures { result ≡ location_at place mapping_id address }
+    ensures { result ≡ numbered_location place mapping_id address }
 {
     Location {
         id: place + 1,

@@ -3,8 +3,8 @@ ghost use Rattle.std.specs.Prelude.{◌≡◌, ℕ, List, ◌<◌, ◌≤◌, �
 ghost use Rattle.std.specs.List.{prefix_len};
 ghost use Rattle.std.specs.Char.{is_ascii_hexdigit, digit_value};
 ghost use Rattle.std.specs.Str.Parse.{AllDigits, digits_value};
-ghost use Rattle.pp_legacy.specs.Steps.{Finds};
-ghost use Rattle.pp_legacy.specs.Regions.{is_space, hex_in, behind_dash, behind_spaces, behind_gap, field_in, permissions_in, range_in, source_in, region_in, is_code};
+ghost use Rattle.pp_legacy.specs.Steps.{FindsSeen};
+ghost use Rattle.pp_legacy.specs.Regions.{is_space, hex_in, behind_dash, behind_spaces, behind_gap, spaced_field_in, permissions_in, range_in, offset_and_path_in, region_in, is_code};
 ghost use Rattle.pp_legacy.specs.Seen.{region_of, span_of};
 
 /// A mapped region, as its line tells it.
@@ -35,7 +35,7 @@ impl<'a> Region<'a> {
 /// the place in the file, device, inode, and a path or none.
 #[tactic(auto, unfolding(crate::specs::Regions::region_in))]
 pub fn region_in(line: &[u8]) -> Option<Region<'_>>
-    ensures { Finds region_of result (region_in line.now) }
+    ensures { FindsSeen region_of result (region_in line.now) }
 {
     let (range, rest) = range_in(line)?;
     let (offset, path) = source_in(rest)?;
@@ -58,7 +58,7 @@ struct Span<'a> {
 
 #[tactic(auto, unfolding(crate::specs::Regions::range_in))]
 fn range_in(line: &[u8]) -> Option<(Span<'_>, &[u8])>
-    ensures { Finds (λ p. (span_of p.0, p.1.now)) result (range_in line.now) }
+    ensures { FindsSeen (λ p. (span_of p.0, p.1.now)) result (range_in line.now) }
 {
     let (start, rest) = hex_in(line)?;
     let (limit, rest) = hex_in(behind_dash(rest)?)?;
@@ -74,9 +74,9 @@ fn range_in(line: &[u8]) -> Option<(Span<'_>, &[u8])>
 }
 
 // The place in the file, and the path. The device and the inode may be any fields.
-#[tactic(auto, unfolding(crate::specs::Regions::source_in))]
+#[tactic(auto, unfolding(crate::specs::Regions::offset_and_path_in))]
 fn source_in(line: &[u8]) -> Option<(u64, &[u8])>
-    ensures { Finds (λ p. (p.0, p.1.now)) result (source_in line.now) }
+    ensures { FindsSeen (λ p. (p.0, p.1.now)) result (offset_and_path_in line.now) }
 {
     let (offset, rest) = hex_in(behind_gap(line)?)?;
     let (_, rest) = field_in(behind_gap(rest)?)?;
@@ -87,7 +87,7 @@ fn source_in(line: &[u8]) -> Option<(u64, &[u8])>
 // The hexadecimal number at the front, of 1 to 16 digits.
 #[tactic(auto, using(crate::proofs::HexLemmas::all_hex), unfolding(crate::specs::Regions::hex_in))]
 fn hex_in(line: &[u8]) -> Option<(u64, &[u8])>
-    ensures { Finds (λ p. (p.0, p.1.now)) result (hex_in line.now) }
+    ensures { FindsSeen (λ p. (p.0, p.1.now)) result (hex_in line.now) }
 {
     let (digits, rest) = line.split_at(digits_len(line));
     if 1 <= digits.len() && digits.len() <= 16 {
@@ -133,7 +133,7 @@ fn digit_of(digit: u8) -> u8
 
 #[tactic(auto, unfolding(crate::specs::Regions::behind_dash))]
 fn behind_dash(line: &[u8]) -> Option<&[u8]>
-    ensures { Finds (λ rest. rest.now) result (behind_dash line.now) }
+    ensures { FindsSeen (λ rest. rest.now) result (behind_dash line.now) }
 {
     match line {
         [b'-', rest @ ..] => Some(rest),
@@ -143,7 +143,7 @@ fn behind_dash(line: &[u8]) -> Option<&[u8]>
 
 #[tactic(auto, unfolding(crate::specs::Regions::behind_gap))]
 fn behind_gap(line: &[u8]) -> Option<&[u8]>
-    ensures { Finds (λ rest. rest.now) result (behind_gap line.now) }
+    ensures { FindsSeen (λ rest. rest.now) result (behind_gap line.now) }
 {
     match line {
         [b' ', ..] => Some(behind_spaces(line)),
@@ -159,7 +159,7 @@ fn behind_spaces(line: &[u8]) -> &[u8]
 
 #[tactic(auto, unfolding(crate::specs::Regions::permissions_in))]
 fn permissions_in(line: &[u8]) -> Option<(&[u8], &[u8])>
-    ensures { Finds (λ p. (p.0.now, p.1.now)) result (permissions_in line.now) }
+    ensures { FindsSeen (λ p. (p.0.now, p.1.now)) result (permissions_in line.now) }
 {
     let (field, rest) = field_in(line)?;
     if field.len() == 4 {
@@ -169,9 +169,9 @@ fn permissions_in(line: &[u8]) -> Option<(&[u8], &[u8])>
     }
 }
 
-#[tactic(auto, unfolding(crate::specs::Regions::field_in))]
+#[tactic(auto, unfolding(crate::specs::Regions::spaced_field_in))]
 fn field_in(line: &[u8]) -> Option<(&[u8], &[u8])>
-    ensures { Finds (λ p. (p.0.now, p.1.now)) result (field_in line.now) }
+    ensures { FindsSeen (λ p. (p.0.now, p.1.now)) result (spaced_field_in line.now) }
 {
     let (field, rest) = line.split_at(field_len(line));
     if field.is_empty() {

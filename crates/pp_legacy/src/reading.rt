@@ -1,9 +1,9 @@
 //! The profile that a file's bytes are.
 ghost use Rattle.std.specs.Prelude.{◌≡◌, ◌<◌, ◌^◌, length, map, IsTrue, IfOk};
-ghost use Rattle.pp_legacy.specs.Steps.{Gives};
+ghost use Rattle.pp_legacy.specs.Steps.{GivesOrMemory};
 ghost use Rattle.pp_legacy.specs.Legacy.{is_legacy, legacy};
-ghost use Rattle.pp_legacy.specs.Sizes.{HasAtMost};
-ghost use Rattle.pp_legacy.specs.Tables.{profile_of};
+ghost use Rattle.pp_model.specs.Sizes.{HasAtMost};
+ghost use Rattle.pp_legacy.specs.Tables.{legacy_profile};
 ghost use Rattle.pp_legacy.specs.Seen.{entry_of, regions_of};
 
 use crate::LegacyRefusal;
@@ -39,7 +39,7 @@ pub fn is_legacy(bytes: &[u8]) -> bool
 /// location in the first mapping that holds it. Or the first fault of the file.
 pub fn read_legacy(alloc: Global, bytes: &[u8]) -> Result<Valid, LegacyRefusal>
     requires { IsTrue (is_legacy bytes.now) }
-    ensures read { Gives (λ p. p) result (legacy bytes.now) }
+    ensures read { GivesOrMemory (λ p. p) result (legacy bytes.now) }
     ensures few { IfOk result (HasAtMost (length bytes.now)) }
 {
     let head = header_of(bytes)?;
@@ -55,7 +55,7 @@ pub fn read_legacy(alloc: Global, bytes: &[u8]) -> Result<Valid, LegacyRefusal>
 }
 
 // The tables, where a period has so many nanoseconds.
-#[tactic(auto, unfolding(crate::specs::Tables::profile_of))]
+#[tactic(auto, unfolding(crate::specs::Tables::legacy_profile))]
 fn profile_of(
     alloc: Global,
     nanos: u64,
@@ -63,7 +63,7 @@ fn profile_of(
     regions: &[Region<'_>],
 ) -> Result<Profile, Memory>
     requires { nanos < 2 ^ 63 }
-    ensures { IfOk result (λ p. p ≡ profile_of nanos (map entry_of records.now) (regions_of regions.now)) }
+    ensures { IfOk result (λ p. p ≡ legacy_profile nanos (map entry_of records.now) (regions_of regions.now)) }
 {
     let stacks = samples_of(alloc, records)?;
     let mappings = mappings_of(alloc, regions)?;

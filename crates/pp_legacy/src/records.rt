@@ -1,10 +1,11 @@
 //! The records of a CPU profile.
 ghost use Rattle.std.specs.Prelude.{◌≡◌, ℕ, ◌+◌, ◌*◌, ◌-◌, ◌<◌, ◌≤◌, ◌^◌, length, map, IfOk, IfSome, IfNone, IsSome, IsNone, SomeIff, option_map};
-ghost use Rattle.pp_legacy.specs.Steps.{Reads, Gives};
-ghost use Rattle.pp_legacy.specs.Words.{words};
+ghost use Rattle.pp_legacy.specs.Steps.{GivesOrMemory};
+ghost use Rattle.pp_legacy.specs.Words.{whole_words};
 ghost use Rattle.pp_legacy.specs.Records.{trailer_at, entry_at, record_at, entries_from};
 ghost use Rattle.pp_legacy.specs.Seen.{entry_of, step_of, entries_of};
 ghost use Rattle.pp_legacy.specs.Sizes.{HasFew};
+ghost use Rattle.pp_base.specs.Results.{Gives};
 
 use crate::words::{behind_words, fault_unless, word_at, words_between};
 use crate::{LegacyFault, LegacyKind, LegacyRefusal};
@@ -47,8 +48,8 @@ pub fn records_of<'a>(
     first: u64,
 ) -> Result<Records<'a>, LegacyRefusal>
     requires period { 0 < nanos }
-    ensures read { Gives entries_of result (entries_from (words bytes.now) nanos (record { word = first; counts = 0 })) }
-    ensures within { IfOk result (λ r. (3 ≤ r.text) × (r.text ≤ length (words bytes.now))) }
+    ensures read { GivesOrMemory entries_of result (entries_from (whole_words bytes.now) nanos (record { word = first; counts = 0 })) }
+    ensures within { IfOk result (λ r. (3 ≤ r.text) × (r.text ≤ length (whole_words bytes.now))) }
     ensures few { IfOk result (λ r. HasFew r.text (map entry_of r.records.items)) }
 {
     let mut records = Vec::new(alloc);
@@ -74,9 +75,9 @@ fn record_at<'a>(
     at: Cursor,
 ) -> Result<Option<(Record<'a>, Cursor)>, LegacyFault>
     requires period { 0 < nanos }
-    ensures read { Reads step_of result (record_at (words bytes.now) nanos at) }
-    ensures forward { IfOk result (λ found. IfSome found (λ p. (at.word + length (words p.0.stack.now) < p.1.word) × (p.1.word ≤ length (words bytes.now)))) }
-    ensures within { IfOk result (λ found. IfNone found (at.word + 3 ≤ length (words bytes.now))) }
+    ensures read { Gives step_of result (record_at (whole_words bytes.now) nanos at) }
+    ensures forward { IfOk result (λ found. IfSome found (λ p. (at.word + length (whole_words p.0.stack.now) < p.1.word) × (p.1.word ≤ length (whole_words bytes.now)))) }
+    ensures within { IfOk result (λ found. IfNone found (at.word + 3 ≤ length (whole_words bytes.now))) }
 {
     let count = word_at(bytes, at.word)?;
     let depth = word_at(bytes, at.word + 1)?;
@@ -94,10 +95,10 @@ fn trailer_at<'a>(
     word: u64,
     depth: u64,
 ) -> Result<Option<(Record<'a>, Cursor)>, LegacyFault>
-    requires { word < length (words bytes.now) }
-    ensures read { Reads step_of result (trailer_at (words bytes.now) word depth) }
+    requires { word < length (whole_words bytes.now) }
+    ensures read { Gives step_of result (trailer_at (whole_words bytes.now) word depth) }
     ensures none { IfOk result (λ found. IsNone found) }
-    ensures within { IfOk result (λ found. word + 3 ≤ length (words bytes.now)) }
+    ensures within { IfOk result (λ found. word + 3 ≤ length (whole_words bytes.now)) }
 {
     fault_unless(depth == 1, LegacyKind::BadRecord, word)?;
     let last = word_at(bytes, word + 2)?;
@@ -114,9 +115,9 @@ fn entry_at<'a>(
     depth: u64,
 ) -> Result<Option<(Record<'a>, Cursor)>, LegacyFault>
     requires period { 0 < nanos }
-    requires here { at.word + 1 < length (words bytes.now) }
-    ensures read { Reads step_of result (entry_at (words bytes.now) nanos at count depth) }
-    ensures forward { IfOk result (λ found. IfSome found (λ p. (at.word + length (words p.0.stack.now) < p.1.word) × (p.1.word ≤ length (words bytes.now)))) }
+    requires here { at.word + 1 < length (whole_words bytes.now) }
+    ensures read { Gives step_of result (entry_at (whole_words bytes.now) nanos at count depth) }
+    ensures forward { IfOk result (λ found. IfSome found (λ p. (at.word + length (whole_words p.0.stack.now) < p.1.word) × (p.1.word ≤ length (whole_words bytes.now)))) }
     ensures some { IfOk result (λ found. IsSome found) }
 {
     fault_unless(0 < depth, LegacyKind::BadRecord, at.word + 1)?;

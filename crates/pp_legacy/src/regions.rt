@@ -1,8 +1,8 @@
 //! The regions of code that a text tells of, as mappings and their texts.
 ghost use Rattle.std.specs.Prelude.{◌≡◌, ◌<◌, ◌^◌, ◌++◌, option_to_list, IfOk, OnOk};
-ghost use Rattle.pp_legacy.specs.Steps.{Finds};
+ghost use Rattle.pp_legacy.specs.Steps.{FindsSeen};
 ghost use Rattle.pp_legacy.specs.Regions.{code_in, regions};
-ghost use Rattle.pp_legacy.specs.Tables.{mapping_of, mappings_of, fixed_texts, texts_of};
+ghost use Rattle.pp_legacy.specs.Tables.{mapping_of, numbered_mappings, fixed_texts, texts_of};
 ghost use Rattle.pp_legacy.specs.Seen.{region_of, regions_of};
 
 use crate::line::{Region, region_in};
@@ -33,7 +33,7 @@ fn add_code<'a>(regions: &mut Vec<Region<'a>>, line: &'a [u8]) -> Result<(), Mem
 
 // The region of code that a line tells of.
 fn code_in(line: &[u8]) -> Option<Region<'_>>
-    ensures { Finds region_of result (code_in line.now) }
+    ensures { FindsSeen region_of result (code_in line.now) }
 {
     let region = region_in(line)?;
     if region.is_code() { Some(region) } else { None }
@@ -41,7 +41,7 @@ fn code_in(line: &[u8]) -> Option<Region<'_>>
 
 /// The mappings of the regions, numbered from 1.
 pub fn mappings_of(alloc: Global, regions: &[Region<'_>]) -> Result<List<Mapping>, Memory>
-    ensures { IfOk result (λ ms. ms ≡ mappings_of (regions_of regions.now)) }
+    ensures { IfOk result (λ ms. ms ≡ numbered_mappings (regions_of regions.now)) }
 {
     let mut mappings = List::new(alloc);
     for (place, region) in regions.iter().enumerate() {

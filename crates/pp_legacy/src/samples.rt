@@ -1,9 +1,9 @@
 //! Records as samples, whose addresses are numbered at first sight.
 ghost use Rattle.std.specs.Prelude.{◌≡◌, ◌+◌, [], map, nat_eq, IfOk, OnOk};
 ghost use Rattle.std.specs.List.{flat_map};
-ghost use Rattle.pp_legacy.specs.Words.{words};
+ghost use Rattle.pp_legacy.specs.Words.{whole_words};
 ghost use Rattle.pp_model.specs.FirstSight.{seen_with, seen_after, place_of};
-ghost use Rattle.pp_legacy.specs.Tables.{addresses_of, location_id, sample_of};
+ghost use Rattle.pp_legacy.specs.Tables.{addresses_of, location_id, entry_sample};
 ghost use Rattle.pp_legacy.specs.Seen.{entry_of};
 
 use crate::records::Record;
@@ -25,7 +25,7 @@ pub struct Samples {
 /// The samples of the records, in order.
 pub fn samples_of(alloc: Global, records: &[Record<'_>]) -> Result<Samples, Memory>
     ensures addresses { IfOk result (λ s. s.addresses.keys ≡ addresses_of (map entry_of records.now)) }
-    ensures samples { IfOk result (λ s. s.samples ≡ map (sample_of (addresses_of (map entry_of records.now))) (map entry_of records.now)) }
+    ensures samples { IfOk result (λ s. s.samples ≡ map (entry_sample (addresses_of (map entry_of records.now))) (map entry_of records.now)) }
 {
     let mut samples = List::new(alloc);
     let mut addresses = IndexSet::new(alloc);
@@ -41,8 +41,8 @@ fn sample_of(
     entry: &Record<'_>,
     addresses: &mut IndexSet<u64>,
 ) -> Result<Sample, Memory>
-    ensures addresses { OnOk result (addresses.new.keys ≡ seen_after nat_eq addresses.old.keys (words entry.now.stack.now)) }
-    ensures sample { IfOk result (λ s. s ≡ sample_of addresses.new.keys (entry_of entry.now)) }
+    ensures addresses { OnOk result (addresses.new.keys ≡ seen_after nat_eq addresses.old.keys (whole_words entry.now.stack.now)) }
+    ensures sample { IfOk result (λ s. s ≡ entry_sample addresses.new.keys (entry_of entry.now)) }
 {
     let value = [entry.count, entry.nanos].to_vec(alloc)?;
     Ok(Sample {
@@ -58,8 +58,8 @@ fn location_ids(
     stack: &[u8],
     addresses: &mut IndexSet<u64>,
 ) -> Result<Vec<u64>, Memory>
-    ensures addresses { OnOk result (addresses.new.keys ≡ seen_after nat_eq addresses.old.keys (words stack.now)) }
-    ensures ids { IfOk result (λ ids. ids.items ≡ map (location_id addresses.new.keys) (words stack.now)) }
+    ensures addresses { OnOk result (addresses.new.keys ≡ seen_after nat_eq addresses.old.keys (whole_words stack.now)) }
+    ensures ids { IfOk result (λ ids. ids.items ≡ map (location_id addresses.new.keys) (whole_words stack.now)) }
 {
     let depth = word_count(stack);
     let mut ids = Vec::with_capacity(alloc, depth as usize)?;

@@ -28,14 +28,15 @@ use Rattle.pp_pattern.specs.Patterns.{judge_option, finder_in_force}
 use Rattle.pp_load.specs.declared.reading.Read.{Read}
 use Rattle.pp_load.specs.declared.refusal.LoadRefusal.{LoadRefusal}
 use Rattle.pp_load.specs.declared.refusal.LoadRefusal.TheVariants as refusals
-use Rattle.pp_load.specs.Alone.{IsSettled, HasOneFile, SettledFilesLoad}
+use Rattle.pp_load.specs.Alone.{IsMergedAlone, HasOneFile, SettledFilesLoad}
 use Rattle.pp_load.specs.Combine.{agreeing, merging, less_bases, joining, combined}
 use Rattle.pp_load.specs.Decode.{decoded}
 use Rattle.pp_load.specs.Load.{read_bytes, read_next, read_base, read_all, read_plan, load}
-use Rattle.pp_load.specs.Reads.{Finds, size_limit, whole_of, read_path, loaded_or, judged}
-use Rattle.pp_load.specs.Sources.{nothing_read, fitting, with_profile, with_bytes}
+use Rattle.pp_load.specs.Reads.{size_limit, bytes_found, read_path, loaded_or, with_verdicts}
+use Rattle.pp_load.specs.Sources.{nothing_read, within_size_limit, with_profile, with_bytes}
 use Rattle.pp_load.specs.Steps as steps
 use Rattle.pp_load.specs.Steps.{unless}
+use Rattle.pp_pattern.specs.Report.{Finds}
 
 -- the bytes are read whole
 whole_read : (content : Option (List ℕ)) (bytes : List ℕ) → content ≡ Some bytes → length bytes ≤ size_limit → content_within size_limit content ≡ contents.Whole bytes
@@ -43,7 +44,7 @@ whole_read content bytes is short =
     ap (content_within size_limit) is ∙ ap (λ long. if long then contents.TooLong else contents.Whole bytes) (le-ltb size_limit (length bytes) short)
 
 -- they are no more than fit
-bytes_fit : (bytes : List ℕ) → length bytes ≤ size_limit → fitting nothing_read (length bytes) ≡ Ok tt
+bytes_fit : (bytes : List ℕ) → length bytes ≤ size_limit → within_size_limit nothing_read (length bytes) ≡ Ok tt
 bytes_fit bytes short = ap (λ long. if long then Err (refusals.AllTooLong 0) else Ok tt) (le-ltb size_limit (0 + length bytes) (omega (arith, short)))
 
 -- their profile is the one that is read
@@ -52,11 +53,11 @@ unfolding with_bytes steps.◌>>=◌
 one_read bytes p short is = rw (bytes_fit bytes short, is) refl
 
 -- alone it stays as it is
-one_merged : (p : Profile) → IsSettled p → merging (p ∷ []) ≡ Ok p
+one_merged : (p : Profile) → IsMergedAlone p → merging (p ∷ []) ≡ Ok p
 unfolding merging
 one_merged p settled = ap (λ found. unless found refusals.TotalTooLarge (merged p [])) settled.small ∙ ap Ok settled.alone
 
-one_combined : (p : Profile) (normalize : Bool) → IsSettled p → combined 1 None normalize (p ∷ []) ≡ Ok p
+one_combined : (p : Profile) (normalize : Bool) → IsMergedAlone p → combined 1 None normalize (p ∷ []) ≡ Ok p
 unfolding combined agreeing joining less_bases steps.◌>>=◌
 one_combined p normalize settled = rw (one_merged p settled) refl
 
@@ -67,13 +68,13 @@ asked_by finds p drop keep =
     (λ dropped. asking.◌>>=◌ (judge_option finds frames.KeepFrames p.text (whole_name keep)) (λ kept. Give (Ok (dropped, kept))))
 
 -- without patterns nothing is asked
-none_asked : (finds : Finds) (p : Profile) → IsSettled p → judge_load finds p ≡ Give (Ok (None, None))
+none_asked : (finds : Finds) (p : Profile) → IsMergedAlone p → judge_load finds p ≡ Give (Ok (None, None))
 unfolding judge_load judge_option asking.◌>>=◌ scripts.◌>>=◌
 none_asked finds p settled = λ i. asked_by finds p (settled.drop i) (settled.keep i)
 
 -- and there are no verdicts
-none_judged : (finds : Finds) (p : Profile) → IsSettled p → judged finds p ≡ Give (Ok (loaded_of p None None))
-unfolding judged scripts.◌>>=◌
+none_judged : (finds : Finds) (p : Profile) → IsMergedAlone p → with_verdicts finds p ≡ Give (Ok (loaded_of p None None))
+unfolding with_verdicts scripts.◌>>=◌
 none_judged finds p settled =
     ap (λ asked. scripts.◌>>=◌ asked (λ answer. Give (loaded_or finds p answer))) (none_asked finds p settled)
     ∙ (λ i. Give (Ok (loaded_of p (finder_in_force finds (whole_name (settled.drop i))) (finder_in_force finds (whole_name (settled.keep i))))))
@@ -86,7 +87,7 @@ no_kind (Some kind) is = absurd (cc)
 loading : Finds → List Origin → List (List ℕ) → Option BaseKind → Bool → asking.Asking LoadRefusal Loaded
 loading finds origins bases kind normalize =
     asking.◌>>=◌ (asking.◌>>=◌ (read_all read_next nothing_read origins) (λ sources. read_all read_base sources bases))
-    (λ read. asking.◌>>=◌ (Give (combined (length origins) kind normalize read.profiles)) (judged finds))
+    (λ read. asking.◌>>=◌ (Give (combined (length origins) kind normalize read.profiles)) (with_verdicts finds))
 
 parts_loaded : (finds : Finds) (plan : Plan) → load finds plan ≡ loading finds plan.origins plan.bases plan.base_kind plan.normalize
 unfolding load read_plan loading
@@ -96,21 +97,21 @@ parts_loaded finds plan = refl
 abbrev after_bytes : Finds → Bool → Result Read LoadRefusal → asking.Asking LoadRefusal Loaded
 after_bytes finds normalize read =
     asking.◌>>=◌ (asking.◌>>=◌ (asking.◌>>=◌ (Give read) (λ more. Give (Ok more))) (λ sources. Give (Ok sources)))
-    (λ all. asking.◌>>=◌ (Give (combined 1 None normalize all.profiles)) (judged finds))
+    (λ all. asking.◌>>=◌ (Give (combined 1 None normalize all.profiles)) (with_verdicts finds))
 
 -- the rest, by the content of the file
 abbrev after_content : Finds → Bool → FileContent → asking.Asking LoadRefusal Loaded
 after_content finds normalize content =
     asking.◌>>=◌
-    (asking.◌>>=◌ (asking.◌>>=◌ (asking.◌>>=◌ (Give (whole_of 0 content)) (λ bytes. Give (with_bytes nothing_read bytes))) (λ more. Give (Ok more))) (λ sources. Give (Ok sources)))
-    (λ all. asking.◌>>=◌ (Give (combined 1 None normalize all.profiles)) (judged finds))
+    (asking.◌>>=◌ (asking.◌>>=◌ (asking.◌>>=◌ (Give (bytes_found 0 content)) (λ bytes. Give (with_bytes nothing_read bytes))) (λ more. Give (Ok more))) (λ sources. Give (Ok sources)))
+    (λ all. asking.◌>>=◌ (Give (combined 1 None normalize all.profiles)) (with_verdicts finds))
 
-module _ (finds : Finds) (path bytes : List ℕ) (p : Profile) (normalize : Bool) (short : length bytes ≤ size_limit) (is : decoded 0 bytes ≡ Ok p) (settled : IsSettled p) where
+module _ (finds : Finds) (path bytes : List ℕ) (p : Profile) (normalize : Bool) (short : length bytes ≤ size_limit) (is : decoded 0 bytes ≡ Ok p) (settled : IsMergedAlone p) where
   one_given : after_content finds normalize (contents.Whole bytes) ≡ Give (Ok (loaded_of p None None))
   unfolding asking.◌>>=◌ scripts.◌>>=◌
   one_given =
       ap (after_bytes finds normalize) (one_read bytes p short is)
-      ∙ ap (asking.go_on (judged finds)) (one_combined p normalize settled)
+      ∙ ap (asking.go_on (with_verdicts finds)) (one_combined p normalize settled)
       ∙ none_judged finds p settled
 
   one_loaded : (files : FileMap) (locked : List (List ℕ)) (lines : List InputLine) (answers : List Answer) → content_at files path ≡ Some bytes

@@ -15,11 +15,11 @@ use Rattle.pp_tables.specs.Encode.{encode}
 use Rattle.pp_tables.specs.Fits.{ProfileFits}
 use Rattle.pp_tables.proofs.Written.{written_again}
 use Rattle.pp_check.proofs.Keeps.{has_no_fault}
-use Rattle.pp_legacy.specs.Words.{words}
+use Rattle.pp_legacy.specs.Words.{whole_words}
 use Rattle.pp_legacy.specs.Header.{header}
 use Rattle.pp_legacy.specs.Records.{entries_from}
 use Rattle.pp_legacy.specs.Regions.{regions}
-use Rattle.pp_legacy.specs.Tables.{profile_of}
+use Rattle.pp_legacy.specs.Tables.{legacy_profile}
 use Rattle.pp_legacy.specs.Legacy.{is_legacy, legacy}
 use Rattle.pp_legacy.proofs.TableRules.{no_rule_fails}
 use Rattle.pp_load.specs.Steps.{◌>>=◌}
@@ -60,8 +60,8 @@ written_loaded source p valid fits short = message_loaded source (encode p) p (w
 pub legacy_valid : (bytes : List ℕ) (p : Profile) → legacy bytes ≡ Ok p → NoRuleFails p
 unfolding legacy
 legacy_valid bytes p is =
-    let (head, rest) = reading_some _ (header (words bytes)) p is in
-    let (found, rest) = reading_some _ (entries_from (words bytes) head.nanos (record { word = head.first; counts = 0 })) p rest in
+    let (head, rest) = reading_some _ (header (whole_words bytes)) p is in
+    let (found, rest) = reading_some _ (entries_from (whole_words bytes) head.nanos (record { word = head.first; counts = 0 })) p rest in
     subst NoRuleFails (same_Ok _ _ rest) (no_rule_fails head.nanos found.entries (regions (drop (8 * found.text) bytes)))
 
 pub legacy_loaded : (source : ℕ) (bytes : List ℕ) (p : Profile) → is_legacy bytes ≡ true → legacy bytes ≡ Ok p → decoded source bytes ≡ Ok p

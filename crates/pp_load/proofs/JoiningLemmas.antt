@@ -18,7 +18,7 @@ use Rattle.pp_share.proofs.NumberedLemmas.{all_by}
 use Rattle.pp_desk.specs.declared.halt.Halt.{Halt}
 use Rattle.pp_load.specs.declared.refusal.LoadRefusal.{LoadRefusal}
 use Rattle.pp_load.specs.declared.refusal.LoadRefusal.TheVariants as refusals
-use Rattle.pp_load.specs.Steps.{unless, Gives}
+use Rattle.pp_load.specs.Steps.{unless, Loads}
 use Rattle.pp_load.specs.Combine.{merging}
 use Rattle.pp_load.specs.Joining.{Kinds, kinds, first_kinds, AreOf, AreFew, AreMergeable, IsOneOf, CanTakeOff, IsPair, HasStarts, halt_of}
 use Rattle.pp_load.proofs.KindLemmas.{kinds_agree, agreed_kinds, none_disagree, nothing_found}
@@ -106,28 +106,28 @@ one_of (p ∷ ps) r can is =
     subst (IsOneOf (p ∷ ps)) found.1 (merged_is_one p ps can.few can.alike found.0)
 
 -- the profiles were merged
-pub merge_gives : (list : List Profile) (r : Profile) → AreMergeable list → Merges list (Ok r) → Gives (merging list) (Ok r)
-unfolding merging Gives
+pub merge_gives : (list : List Profile) (r : Profile) → AreMergeable list → Merges list (Ok r) → Loads (merging list) (Ok r)
+unfolding merging Loads
 merge_gives [] r can is = absurd (omega (arith, can.some))
 merge_gives (p ∷ ps) r can is = ap (λ o. unless o refusals.TotalTooLarge (merged p ps)) is.1.0 ∙ ap (λ q. Ok q) (sym is.1.1)
 
 pub merge_one : (list : List Profile) (r : Profile) → AreMergeable list → Merges list (Ok r) → IsOneOf list r
-unfolding Gives
+unfolding Loads
 merge_one list r can is = one_of list r can (merge_gives list r can is)
 
 some_of : {A : Type 0} (x : A) → None ≡ Some x → ⊥
 some_of x h = absurd cc
 
-refused : (list : List Profile) (e : MergeRefusal) → 0 < length list → AreOf (first_kinds list) list → Merges list (Err e) → Gives (merging list) (Err (halt_of e))
-unfolding merging Gives
+refused : (list : List Profile) (e : MergeRefusal) → 0 < length list → AreOf (first_kinds list) list → Merges list (Err e) → Loads (merging list) (Err (halt_of e))
+unfolding merging Loads
 refused [] e some alike is = absurd (omega (arith, some))
 refused (p ∷ ps) (merge.Incompatible source what) some alike is = absurd (some_of (source, what) (sym (none_disagree p 1 ps alike.1) ∙ is))
 refused (p ∷ ps) (merge.TotalTooLarge column) some alike is = ap (λ o. unless o refusals.TotalTooLarge (merged p ps)) is.1
 refused (p ∷ ps) merge.Memory some alike is = refl
 
 -- the profiles were not merged
-pub merge_halts : (list : List Profile) (e : MergeRefusal) (h : Halt LoadRefusal) → AreMergeable list → Merges list (Err e) → h ≡ halt_of e → Gives (merging list) (Err h)
-merge_halts list e h can is same = subst (λ k. Gives (merging list) (Err k)) (sym same) (refused list e can.some can.alike is)
+pub merge_halts : (list : List Profile) (e : MergeRefusal) (h : Halt LoadRefusal) → AreMergeable list → Merges list (Err e) → h ≡ halt_of e → Loads (merging list) (Err h)
+merge_halts list e h can is same = subst (λ k. Loads (merging list) (Err k)) (sym same) (refused list e can.some can.alike is)
 
 -- what is needed where profiles are merged
 pub ruleset joins = (merge_gives, merge_one, merge_halts)

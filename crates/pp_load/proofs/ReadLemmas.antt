@@ -13,7 +13,7 @@ use Rattle.pp_desk.proofs.AskingLemmas.{asking_stops, asking_refused}
 use Rattle.std.proofs.lemmas.List.Sums.{sum_by-append}
 use Rattle.pp_model.specs.declared.profile.Profile.{Profile}
 use Rattle.pp_model.specs.Rules.{NoRuleFails}
-use Rattle.pp_tables.specs.Read.{HasAtMost}
+use Rattle.pp_model.specs.Sizes.{HasAtMost}
 use Rattle.pp_merge.proofs.SettledLemmas.{all_join}
 use Rattle.pp_load.specs.Reads.{size_limit}
 use Rattle.pp_load.specs.Joining.{HasStarts}

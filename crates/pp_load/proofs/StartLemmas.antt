@@ -16,11 +16,10 @@ use Rattle.pp_legacy.specs.Header.{header}
 use Rattle.pp_legacy.specs.Legacy.{is_legacy, legacy}
 use Rattle.pp_legacy.specs.Records.{entries_from}
 use Rattle.pp_legacy.specs.Regions as regions
-use Rattle.pp_legacy.specs.Regions.{Region, hex_in, range_in, region_in, is_code, code_in, is_line_end}
-use Rattle.pp_legacy.specs.Steps as legacy
+use Rattle.pp_legacy.specs.Regions.{Region, hex_in, range_in, region_in, is_code, code_in}
 use Rattle.pp_legacy.specs.Steps.{Reading}
-use Rattle.pp_legacy.specs.Tables.{mapping_of, profile_of}
-use Rattle.pp_legacy.specs.Words.{words}
+use Rattle.pp_legacy.specs.Tables.{mapping_of, legacy_profile}
+use Rattle.pp_legacy.specs.Words.{whole_words}
 use Rattle.pp_legacy.proofs.HexLemmas.{all_hex}
 use Rattle.pp_tables.specs.declared.refusal.ReadRefusal.{ReadRefusal}
 use Rattle.pp_tables.specs.declared.refusal.ReadRefusal.TheVariants as reading
@@ -32,10 +31,12 @@ use Rattle.pp_share.specs.Written.{written, written_mapping, mappings}
 use Rattle.pp_share.proofs.NumberedLemmas.{all_by, all_mapped}
 use Rattle.pp_merge.proofs.SettledLemmas.{all_any, all_flat, all_some, settled_contents}
 use Rattle.pp_merge.proofs.WrittenAgain.{contents_again}
-use Rattle.pp_load.specs.Steps.{◌>>=◌, Gives}
+use Rattle.pp_load.specs.Steps.{◌>>=◌, Loads}
 use Rattle.pp_load.specs.Decode.{legacy_given, tables_given, checked, tables_of, decoded}
 use Rattle.pp_load.specs.Joining.{HasStarts}
 use Rattle.pp_load.proofs.KindLemmas.{nothing_found}
+use Rattle.pp_base.specs.Marks.{is_line_end}
+use Rattle.pp_base.specs.Results as results
 
 -- a number of at most 16 hexadecimal digits has 64 bits
 hex_small : (line : List ℕ) (part : ℕ × List ℕ) → hex_in line ≡ Some part → part.0 < 2 ^ 64
@@ -81,7 +82,7 @@ unfolding region_in
 region_small line =
     let IsSmall : Region → Type 0 = (λ r. r.start < 2 ^ 64) in
     and_then_holds IsSmall _ (range_in line) (λ range found.
-    and_then_holds IsSmall _ (regions.source_in range.1) (λ source _ region is.
+    and_then_holds IsSmall _ (regions.offset_and_path_in range.1) (λ source _ region is.
     subst IsSmall (same_Some _ _ is) (range_small line range found)))
 
 -- also one of code
@@ -104,7 +105,7 @@ mappings_small n [] all = tt
 mappings_small n (r ∷ rs) all = (all.0, mappings_small (n + 1) rs all.1)
 
 -- what is told of a reading that gave something
-pub reading_some : {A B : Type 0} (f : A → Reading B) (r : Reading A) (y : B) → legacy.◌>>=◌ r f ≡ Ok y → (x : A) × (f x ≡ Ok y)
+pub reading_some : {A B : Type 0} (f : A → Reading B) (r : Reading A) (y : B) → results.◌>>=◌ r f ≡ Ok y → (x : A) × (f x ≡ Ok y)
 reading_some f (Ok x) y is = (x, is)
 reading_some f (Err e) y is = absurd cc
 
@@ -113,10 +114,10 @@ same_Ok x y is = (cc)
 
 -- a profile of gperftools
 legacy_starts : (bytes : List ℕ) (p : Profile) → legacy bytes ≡ Ok p → HasStarts p
-unfolding legacy profile_of
+unfolding legacy legacy_profile
 legacy_starts bytes p is =
-    let (head, rest) = reading_some _ (header (words bytes)) p is in
-    let (found, rest) = reading_some _ (entries_from (words bytes) head.nanos (record { word = head.first; counts = 0 })) p rest in
+    let (head, rest) = reading_some _ (header (whole_words bytes)) p is in
+    let (found, rest) = reading_some _ (entries_from (whole_words bytes) head.nanos (record { word = head.first; counts = 0 })) p rest in
     subst HasStarts (same_Ok _ _ rest) (mappings_small 0 _ (regions_small (drop (8 * found.text) bytes)))
 
 -- a profile of any bytes
@@ -142,8 +143,8 @@ decoded_starts source bytes p is = by (is_legacy bytes) is
     by false h = of_read (read bytes) refl h
 
 -- the same of what was given
-pub decoded_has : (source : ℕ) (bytes : List ℕ) (p : Profile) → Gives (decoded source bytes) (Ok p) → HasStarts p
-unfolding Gives
+pub decoded_has : (source : ℕ) (bytes : List ℕ) (p : Profile) → Loads (decoded source bytes) (Ok p) → HasStarts p
+unfolding Loads
 decoded_has source bytes p is = decoded_starts source bytes p is
 
 module _ (p : Profile) (ps : List Profile) (starts : AllByRecursion HasStarts (p ∷ ps)) where

@@ -12,11 +12,12 @@ use Rattle.pp_merge.specs.Merge.{too_large, merged}
 use Rattle.pp_options.specs.declared.origin.Origin.TheVariants.{Path}
 use Rattle.pp_options.specs.declared.plan.Plan.{Plan}
 use Rattle.pp_load.specs.Decode.{decoded}
-use Rattle.pp_load.specs.Reads.{Finds, size_limit}
+use Rattle.pp_load.specs.Reads.{size_limit}
 use Rattle.pp_load.specs.Load.{load}
+use Rattle.pp_pattern.specs.Report.{Finds}
 
 -- Merged alone the profile stays as it is, no column of it is too large for that, and it has no patterns of its own.
-pub record IsSettled (p : Profile) : Type 0 where
+pub record IsMergedAlone (p : Profile) : Type 0 where
   pub alone : merged p [] ≡ p
   pub small : too_large (length p.sample_type) (p ∷ []) ≡ None
   pub drop : text_of p p.drop_frames ≡ []
@@ -34,6 +35,6 @@ SettledFilesLoad =
     (finds : Finds) (plan : Plan) (path bytes : List ℕ) (p : Profile)
     (files : FileMap) (locked : List (List ℕ)) (lines : List InputLine) (answers : List Answer)
     → HasOneFile plan path → content_at files path ≡ Some bytes → length bytes ≤ size_limit
-    → decoded 0 bytes ≡ Ok p → IsSettled p
+    → decoded 0 bytes ≡ Ok p → IsMergedAlone p
     → course (load finds plan) files locked lines answers
     ≡ record { effects = FromFile path ∷ []; value = Ok (loaded_of p None None); asked = [] }

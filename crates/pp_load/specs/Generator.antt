@@ -9,8 +9,8 @@ use Rattle.pp_merge.specs.Merge.{merged}
 use Rattle.pp_tables.specs.Encode.{encode}
 
 -- the texts but for the names of the functions that main calls
-abbrev pub fixed_texts : List (List ℕ)
-fixed_texts =
+abbrev pub generator_texts : List (List ℕ)
+generator_texts =
     [] ∷ codes "samples" ∷ codes "count" ∷ codes "cpu" ∷ codes "nanoseconds" ∷ codes "id"
     ∷ codes "gen.c" ∷ codes "main" ∷ []
 
@@ -20,7 +20,7 @@ made_name number = codes "fn" ++ (number + 48) ∷ []
 
 -- All texts. Those of the functions stand from 7 on.
 abbrev pub made_texts : List (List ℕ)
-made_texts = fixed_texts ++ map made_name (range_with_len 0 8)
+made_texts = generator_texts ++ map made_name (range_with_len 0 8)
 
 -- the function at the place: main, and from 1 on fn0, fn1 and so on
 abbrev pub made_function : ℕ → Function

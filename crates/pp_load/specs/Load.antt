@@ -12,7 +12,8 @@ use Rattle.pp_load.specs.declared.refusal.LoadRefusal.{LoadRefusal}
 use Rattle.pp_load.specs.Generator.{generated}
 use Rattle.pp_load.specs.Sources.{nothing_read, with_bytes}
 use Rattle.pp_load.specs.Combine.{combined}
-use Rattle.pp_load.specs.Reads.{Finds, read_path, judged}
+use Rattle.pp_load.specs.Reads.{read_path, with_verdicts}
+use Rattle.pp_pattern.specs.Report.{Finds}
 
 -- the bytes of the source of this number: a file's, or those that are made
 unfoldable pub read_bytes : ℕ → Origin → Asking LoadRefusal (List ℕ)
@@ -49,4 +50,4 @@ unfoldable pub load : Finds → Plan → Script (Result Loaded LoadRefusal)
 load finds plan = do
   read ← read_plan plan
   p ← Give (combined (length plan.origins) plan.base_kind plan.normalize read.profiles)
-  judged finds p
+  with_verdicts finds p

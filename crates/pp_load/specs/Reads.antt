@@ -14,26 +14,23 @@ use Rattle.pp_load.specs.declared.reading.TheConstants.{SIZE_LIMIT}
 use Rattle.pp_load.specs.declared.refusal.LoadRefusal.{LoadRefusal}
 use Rattle.pp_load.specs.declared.refusal.LoadRefusal.TheVariants as refusals
 use Rattle.pp_load.specs.Steps.{Loading}
-
--- what a pattern finds in a subject
-abbrev pub Finds : Type 0
-Finds = List ℕ → List ℕ → Bool
+use Rattle.pp_pattern.specs.Report.{Finds}
 
 -- the most bytes of one file, and of all sources and bases together
 abbrev pub size_limit : ℕ
 size_limit = SIZE_LIMIT
 
 -- the bytes that were read of a source's path
-abbrev pub whole_of : ℕ → FileContent → Loading (List ℕ)
-whole_of source (contents.Whole bytes) = Ok bytes
-whole_of source contents.Missing = Err (refusals.Missing source)
-whole_of source contents.TooLong = Err (refusals.TooLong source)
+abbrev pub bytes_found : ℕ → FileContent → Loading (List ℕ)
+bytes_found source (contents.Whole bytes) = Ok bytes
+bytes_found source contents.Missing = Err (refusals.Missing source)
+bytes_found source contents.TooLong = Err (refusals.TooLong source)
 
 -- the bytes of the source of this number, which has this path
 unfoldable pub read_path : ℕ → List ℕ → Asking LoadRefusal (List ℕ)
 read_path source path = do
   content ← read_file path size_limit
-  Give (whole_of source content)
+  Give (bytes_found source content)
 
 -- the profile with what its patterns find, where none of them is refused
 abbrev pub loaded_or : Finds → Profile
@@ -43,7 +40,7 @@ loaded_or finds p (Err frames.DropFrames) = Err refusals.DropFrames
 loaded_or finds p (Err frames.KeepFrames) = Err refusals.KeepFrames
 
 -- the profile with what its patterns find, which are asked
-unfoldable pub judged : Finds → Profile → Asking LoadRefusal Loaded
-judged finds p = do
+unfoldable pub with_verdicts : Finds → Profile → Asking LoadRefusal Loaded
+with_verdicts finds p = do
   answer ← judge_load finds p
   Give (loaded_or finds p answer)

@@ -15,8 +15,8 @@ abbrev pub nothing_read : Read
 nothing_read = record { profiles = []; size = 0 }
 
 -- nothing, unless the bytes of all sources up to this one, which has so many, are too many
-abbrev pub fitting : Read → ℕ → Loading (Unit {0})
-fitting read len =
+abbrev pub within_size_limit : Read → ℕ → Loading (Unit {0})
+within_size_limit read len =
     if nat_lt size_limit (read.size + len) then Err (refusals.AllTooLong (length read.profiles))
     else Ok tt
 
@@ -27,7 +27,7 @@ with_profile read len p = record { profiles = read.profiles ++ p ∷ []; size = 
 -- the profile of the bytes of one source more
 unfoldable pub with_bytes : Read → List ℕ → Loading Read
 with_bytes read bytes = do
-  _ ← fitting read (length bytes)
+  _ ← within_size_limit read (length bytes)
   p ← decoded (length read.profiles) bytes
   Ok (with_profile read (length bytes) p)
 

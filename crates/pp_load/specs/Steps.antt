@@ -21,7 +21,7 @@ unless None refusal value = Ok value
 unless (Some found) refusal value = Err (refusal found)
 
 -- what a function gave that takes memory is this: want of memory may come in place of any answer
-unfoldable pub Gives : {A : Type 0} → Loading A → Result A (Halt LoadRefusal) → Type 0
-Gives wanted (Ok given) = wanted ≡ Ok given
-Gives wanted (Err (halts.Refused refused)) = wanted ≡ Err refused
-Gives wanted (Err (halts.Stopped stop)) = stop ≡ stops.Memory
+unfoldable pub Loads : {A : Type 0} → Loading A → Result A (Halt LoadRefusal) → Type 0
+Loads wanted (Ok given) = wanted ≡ Ok given
+Loads wanted (Err (halts.Refused refused)) = wanted ≡ Err refused
+Loads wanted (Err (halts.Stopped stop)) = stop ≡ stops.Memory

@@ -1,7 +1,7 @@
 //! Sources and bases that were read become one profile.
 ghost use Rattle.std.specs.Prelude.{◌≡◌, ◌+◌, ◌<◌, ◌≤◌, ◌^◌, [], ◌∷◌, Ok, take, drop, length, IfOk, IfSome, is_some, nat_lt};
 ghost use Rattle.pp_merge.specs.Scale.{negated};
-ghost use Rattle.pp_load.specs.Steps.{Gives};
+ghost use Rattle.pp_load.specs.Steps.{Loads};
 ghost use Rattle.pp_load.specs.Joining.{AreFew, AreMergeable, IsOneOf, CanTakeOff, IsPair, IsReady, halt_of};
 ghost use Rattle.pp_load.specs.Combine.{agreeing, agreeing_with, merging, scaling_if, subtracting, less_bases, joining, combined};
 
@@ -26,7 +26,7 @@ pub fn combine(
     requires some { 0 < sources }
     requires all { sources ≤ length profiles }
     requires bases { is_some kind ≡ nat_lt sources (length profiles) }
-    ensures is { Gives (combined sources kind normalize profiles) result }
+    ensures is { Loads (combined sources kind normalize profiles) result }
     ensures ready { IfOk result IsReady }
 {
     compare(profiles.as_slice())?;
@@ -37,7 +37,7 @@ pub fn combine(
 #[tactic(auto, using(crate::proofs::Giving::giving), unfolding(crate::specs::Combine::agreeing))]
 fn compare(profiles: &[Valid]) -> Result<(), Halt<LoadRefusal>>
     requires { length profiles.now < 2 ^ 32 }
-    ensures { Gives (agreeing profiles.now) result }
+    ensures { Loads (agreeing profiles.now) result }
 {
     match profiles {
         [] => Ok(()),
@@ -46,10 +46,10 @@ fn compare(profiles: &[Valid]) -> Result<(), Halt<LoadRefusal>>
 }
 
 // All the others agree with the first.
-#[tactic(auto, unfolding(crate::specs::Steps::Gives))]
+#[tactic(auto, unfolding(crate::specs::Steps::Loads))]
 fn compare_with(first: &Valid, others: &[Valid]) -> Result<(), Halt<LoadRefusal>>
     requires { length others.now + 1 < 2 ^ 32 }
-    ensures { Gives (agreeing_with first.now others.now) result }
+    ensures { Loads (agreeing_with first.now others.now) result }
 {
     for (place, p) in others.iter().enumerate() {
         if let Some(what) = agree(first, p) {
@@ -74,7 +74,7 @@ fn join(
     requires some { 0 < sources }
     requires all { sources ≤ length profiles }
     requires bases { is_some kind ≡ nat_lt sources (length profiles) }
-    ensures is { Gives (joining sources kind normalize profiles) result }
+    ensures is { Loads (joining sources kind normalize profiles) result }
     ensures ready { IfOk result IsReady }
 {
     let (sources, bases) = split(profiles, sources)?;
@@ -97,7 +97,7 @@ fn split(profiles: List<Valid>, place: usize) -> Result<(List<Valid>, List<Valid
 #[tactic(auto, using(crate::proofs::JoiningLemmas::joins))]
 fn merge_all(alloc: Global, profiles: List<Valid>) -> Result<Compact, Halt<LoadRefusal>>
     requires { AreMergeable profiles }
-    ensures is { Gives (merging profiles) result }
+    ensures is { Loads (merging profiles) result }
     ensures one { IfOk result (IsOneOf profiles) }
 {
     match merge(alloc, profiles) {
@@ -132,7 +132,7 @@ fn less_bases(
 ) -> Result<Compact, Halt<LoadRefusal>>
     requires ready { IsReady source }
     requires bases { IfSome kind (λ _. CanTakeOff source bases) }
-    ensures is { Gives (less_bases kind normalize source bases) result }
+    ensures is { Loads (less_bases kind normalize source bases) result }
     ensures ready { IfOk result IsReady }
 {
     match kind {
@@ -151,7 +151,7 @@ fn take_off(
     bases: List<Valid>,
 ) -> Result<Compact, Halt<LoadRefusal>>
     requires { CanTakeOff source bases }
-    ensures is { Gives (subtracting kind normalize source bases) result }
+    ensures is { Loads (subtracting kind normalize source bases) result }
     ensures ready { IfOk result IsReady }
 {
     let base = merge_all(alloc, bases)?;
@@ -160,10 +160,10 @@ fn take_off(
 }
 
 // The source scaled to the base, where that is asked for.
-#[tactic(auto, using(crate::proofs::JoiningLemmas::pairs), unfolding(crate::specs::Steps::Gives, crate::specs::Combine::scaling_if, crate::specs::Combine::scaling))]
+#[tactic(auto, using(crate::proofs::JoiningLemmas::pairs), unfolding(crate::specs::Steps::Loads, crate::specs::Combine::scaling_if, crate::specs::Combine::scaling))]
 fn scale_if(wanted: bool, mut source: Compact, base: &Compact) -> Result<Compact, Halt<LoadRefusal>>
     requires { IsPair source base.now }
-    ensures is { Gives (scaling_if wanted source base.now) result }
+    ensures is { Loads (scaling_if wanted source base.now) result }
     ensures pair { IfOk result (λ scaled. IsPair scaled base.now) }
 {
     if !wanted {
@@ -185,7 +185,7 @@ fn subtract_base(
     kind: BaseKind,
 ) -> Result<Compact, Halt<LoadRefusal>>
     requires { IsPair source base }
-    ensures is { Gives (merging (source ∷ negated kind base ∷ [])) result }
+    ensures is { Loads (merging (source ∷ negated kind base ∷ [])) result }
     ensures ready { IfOk result IsReady }
 {
     let (_source, _base) = (source.get(), base.get());

@@ -2,9 +2,10 @@
 ghost use Rattle.std.specs.Prelude.{◌≡◌, ◌<◌, ◌≤◌, ◌^◌, length, IfOk, IsTrue};
 ghost use Rattle.pp_check.specs.FirstFault.{IsIndexed};
 ghost use Rattle.pp_legacy.specs.Legacy.{is_legacy, legacy};
-ghost use Rattle.pp_tables.specs.Read.{HasAtMost, read};
-ghost use Rattle.pp_load.specs.Steps.{Gives};
+ghost use Rattle.pp_tables.specs.Read.{read};
+ghost use Rattle.pp_load.specs.Steps.{Loads};
 ghost use Rattle.pp_load.specs.Decode.{legacy_given, tables_given, checked, tables_of, decoded};
+ghost use Rattle.pp_model.specs.Sizes.{HasAtMost};
 
 use crate::refusal::LoadRefusal;
 use pp_check::{CheckRefusal, check};
@@ -19,7 +20,7 @@ use std::alloc::Global;
 #[tactic(auto, unfolding(crate::specs::Decode::decoded))]
 pub fn decode(alloc: Global, source: u32, bytes: &[u8]) -> Result<Valid, Halt<LoadRefusal>>
     requires { length bytes.now < 2 ^ 32 }
-    ensures is { Gives (decoded source bytes.now) result }
+    ensures is { Loads (decoded source bytes.now) result }
     ensures few { IfOk result (HasAtMost (length bytes.now)) }
 {
     if is_legacy(bytes) {
@@ -28,10 +29,10 @@ pub fn decode(alloc: Global, source: u32, bytes: &[u8]) -> Result<Valid, Halt<Lo
     decode_tables(alloc, source, bytes)
 }
 
-#[tactic(auto, unfolding(crate::specs::Steps::Gives))]
+#[tactic(auto, unfolding(crate::specs::Steps::Loads))]
 fn decode_legacy(alloc: Global, source: u32, bytes: &[u8]) -> Result<Valid, Halt<LoadRefusal>>
     requires { IsTrue (is_legacy bytes.now) }
-    ensures is { Gives (legacy_given source (legacy bytes.now)) result }
+    ensures is { Loads (legacy_given source (legacy bytes.now)) result }
     ensures few { IfOk result (HasAtMost (length bytes.now)) }
 {
     match read_legacy(alloc, bytes) {
@@ -46,16 +47,16 @@ fn decode_legacy(alloc: Global, source: u32, bytes: &[u8]) -> Result<Valid, Halt
 #[tactic(auto, using(crate::proofs::Giving::giving), unfolding(crate::specs::Decode::tables_of))]
 fn decode_tables(alloc: Global, source: u32, bytes: &[u8]) -> Result<Valid, Halt<LoadRefusal>>
     requires { length bytes.now < 2 ^ 32 }
-    ensures is { Gives (tables_of source bytes.now) result }
+    ensures is { Loads (tables_of source bytes.now) result }
     ensures few { IfOk result (HasAtMost (length bytes.now)) }
 {
     let profile = read_tables(alloc, source, bytes)?;
     check_tables(alloc, source, profile)
 }
 
-#[tactic(auto, unfolding(crate::specs::Steps::Gives))]
+#[tactic(auto, unfolding(crate::specs::Steps::Loads))]
 fn read_tables(alloc: Global, source: u32, bytes: &[u8]) -> Result<Profile, Halt<LoadRefusal>>
-    ensures is { Gives (tables_given source (read bytes.now)) result }
+    ensures is { Loads (tables_given source (read bytes.now)) result }
     ensures few { IfOk result (HasAtMost (length bytes.now)) }
 {
     match read_profile(alloc, bytes) {
@@ -67,10 +68,10 @@ fn read_tables(alloc: Global, source: u32, bytes: &[u8]) -> Result<Profile, Halt
     }
 }
 
-#[tactic(auto, unfolding(crate::specs::Steps::Gives))]
+#[tactic(auto, unfolding(crate::specs::Steps::Loads))]
 fn check_tables(alloc: Global, source: u32, profile: Profile) -> Result<Valid, Halt<LoadRefusal>>
     requires { IsIndexed profile }
-    ensures is { Gives (checked source profile) result }
+    ensures is { Loads (checked source profile) result }
     ensures same { IfOk result (λ valid. valid ≡ profile) }
 {
     match check(alloc, profile) {

@@ -1,7 +1,7 @@
 //! A large profile that is made, so that the program can be tried without a file.
 ghost use Rattle.std.specs.Prelude.{◌≡◌, ◌<◌, ◌≤◌, map, IfOk};
 ghost use Rattle.std.specs.List.{range_with_len};
-ghost use Rattle.pp_load.specs.Generator.{made, made_sample, made_function, made_location, made_texts, fixed_texts, ids_down, generated};
+ghost use Rattle.pp_load.specs.Generator.{made, made_sample, made_function, made_location, made_texts, generator_texts, ids_down, generated};
 
 use pp_base::{List, Memory, Text};
 use pp_merge::merge;
@@ -63,7 +63,7 @@ fn made_texts(alloc: Global) -> Result<List<Text>, Memory>
 }
 
 fn fixed_texts(alloc: Global) -> Result<List<Text>, Memory>
-    ensures { IfOk result (λ texts. texts ≡ fixed_texts) }
+    ensures { IfOk result (λ texts. texts ≡ generator_texts) }
 {
     let mut texts = List::new(alloc);
     texts.push(Text::new(alloc))?;

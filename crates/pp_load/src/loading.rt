@@ -5,11 +5,11 @@ ghost use Rattle.pp_desk.specs.Asking.{settled};
 ghost use Rattle.pp_model.specs.Sizes.{IsCountable};
 ghost use Rattle.pp_pattern.specs.Load.{load_verdicts};
 ghost use Rattle.pp_merge.specs.Merge.{merged};
-ghost use Rattle.pp_load.specs.Steps.{Gives};
+ghost use Rattle.pp_load.specs.Steps.{Loads};
 ghost use Rattle.pp_load.specs.Joining.{IsReady};
 ghost use Rattle.pp_load.specs.Combine.{combined};
 ghost use Rattle.pp_load.specs.Sources.{IsCountableRead};
-ghost use Rattle.pp_load.specs.Reads.{judged, loaded_or};
+ghost use Rattle.pp_load.specs.Reads.{with_verdicts, loaded_or};
 ghost use Rattle.pp_load.specs.Load.{load};
 
 use crate::combine::combine;
@@ -60,7 +60,7 @@ fn load_plan<D: Desk>(alloc: Global, plan: &Plan, desk: &mut D) -> Result<Loaded
 fn combine_read(alloc: Global, plan: &Plan, read: Read) -> Result<Compact, Halt<LoadRefusal>>
     requires few { IsCountableRead read }
     requires all { length read.profiles ≡ length plan.now.origins + length plan.now.bases }
-    ensures is { Gives (combined (length plan.now.origins) plan.now.base_kind
+    ensures is { Loads (combined (length plan.now.origins) plan.now.base_kind
         plan.now.normalize read.profiles) result }
     ensures ready { IfOk result IsReady }
 {
@@ -75,13 +75,13 @@ fn combine_read(alloc: Global, plan: &Plan, read: Read) -> Result<Compact, Halt<
 }
 
 // The profile with what its own patterns find.
-#[tactic(auto, using(pp_desk::proofs::Going::going, crate::proofs::Giving::given), unfolding(crate::specs::Reads::judged))]
+#[tactic(auto, using(pp_desk::proofs::Going::going, crate::proofs::Giving::given), unfolding(crate::specs::Reads::with_verdicts))]
 fn judge<D: Desk>(
     alloc: Global,
     profile: Compact,
     desk: &mut D,
 ) -> Result<Loaded, Halt<LoadRefusal>>
-    ensures went { Went (D.world desk.old) (D.world desk.new) (judged D.finds profile)
+    ensures went { Went (D.world desk.old) (D.world desk.new) (with_verdicts D.finds profile)
         (settled result) }
     ensures same { IfOk result (λ l. l.profile ≡ profile) }
     ensures found { IfOk result (λ l. (l.drop, l.keep) ≡ load_verdicts D.finds l.profile) }
@@ -91,13 +91,13 @@ fn judge<D: Desk>(
 }
 
 // The profile with the verdicts of its patterns, where none of them was refused.
-#[tactic(auto, unfolding(crate::specs::Steps::Gives))]
+#[tactic(auto, unfolding(crate::specs::Steps::Loads))]
 fn loaded<D: Desk>(
     profile: Compact,
     answer: Result<(Option<List<bool>>, Option<List<bool>>), FramesRefused>,
 ) -> Result<Loaded, Halt<LoadRefusal>>
     requires { IfOk answer (λ v. v ≡ load_verdicts D.finds profile) }
-    ensures is { Gives (loaded_or D.finds profile answer) result }
+    ensures is { Loads (loaded_or D.finds profile answer) result }
     ensures same { IfOk result (λ l. l.profile ≡ profile) }
     ensures found { IfOk result (λ l. (l.drop, l.keep) ≡ load_verdicts D.finds l.profile) }
 {

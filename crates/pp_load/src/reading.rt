@@ -3,12 +3,12 @@ ghost use Rattle.std.specs.Prelude.{◌≡◌, ◌+◌, ◌<◌, ◌≤◌, ◌^
 ghost use Rattle.std.specs.List.{list_all};
 ghost use Rattle.pp_desk.specs.Went.{Went};
 ghost use Rattle.pp_desk.specs.Asking.{settled};
-ghost use Rattle.pp_tables.specs.Read.{HasAtMost};
+ghost use Rattle.pp_model.specs.Sizes.{HasAtMost};
 ghost use Rattle.pp_options.specs.Conditions.{is_fair};
-ghost use Rattle.pp_load.specs.Steps.{Gives};
+ghost use Rattle.pp_load.specs.Steps.{Loads};
 ghost use Rattle.pp_load.specs.Joining.{HasStarts};
-ghost use Rattle.pp_load.specs.Reads.{size_limit, read_path, whole_of};
-ghost use Rattle.pp_load.specs.Sources.{fitting, with_profile, with_bytes, IsCountableRead};
+ghost use Rattle.pp_load.specs.Reads.{size_limit, read_path, bytes_found};
+ghost use Rattle.pp_load.specs.Sources.{within_size_limit, with_profile, with_bytes, IsCountableRead};
 ghost use Rattle.pp_load.specs.Load.{read_bytes, read_next, read_base, read_all, read_plan};
 
 use crate::decode::decode;
@@ -162,9 +162,9 @@ fn read_path<D: Desk>(source: u32, path: &Text, desk: &mut D) -> Result<Text, Ha
 }
 
 // The content, where there is one.
-#[tactic(auto, unfolding(crate::specs::Steps::Gives))]
+#[tactic(auto, unfolding(crate::specs::Steps::Loads))]
 fn whole_of(source: u32, content: FileContent) -> Result<Text, Halt<LoadRefusal>>
-    ensures { Gives (whole_of source content) result }
+    ensures { Loads (bytes_found source content) result }
 {
     match content {
         FileContent::Whole(bytes) => Ok(bytes),
@@ -178,7 +178,7 @@ fn whole_of(source: u32, content: FileContent) -> Result<Text, Halt<LoadRefusal>
 fn add(alloc: Global, read: Read, bytes: Text) -> Result<Read, Halt<LoadRefusal>>
     requires few { IsCountableRead read }
     requires room { length read.profiles + 1 < 2 ^ 32 }
-    ensures is { Gives (with_bytes read bytes) result }
+    ensures is { Loads (with_bytes read bytes) result }
     ensures few { IfOk result IsCountableRead }
     ensures all { IfOk result (λ more. length more.profiles ≡ length read.profiles + 1) }
 {
@@ -189,11 +189,11 @@ fn add(alloc: Global, read: Read, bytes: Text) -> Result<Read, Halt<LoadRefusal>
 }
 
 // So many bytes more are not too many.
-#[tactic(auto, unfolding(crate::specs::Steps::Gives))]
+#[tactic(auto, unfolding(crate::specs::Steps::Loads))]
 fn fit(read: &Read, len: u64) -> Result<(), Halt<LoadRefusal>>
     requires few { read.now.size ≤ size_limit }
     requires room { length read.now.profiles + 1 < 2 ^ 32 }
-    ensures is { Gives (fitting read.now len) result }
+    ensures is { Loads (within_size_limit read.now len) result }
     ensures fits { IsOk result → read.now.size + len ≤ size_limit }
 {
     if len > SIZE_LIMIT - read.size {

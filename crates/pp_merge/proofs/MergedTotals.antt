@@ -16,7 +16,7 @@ use Rattle.pp_model.specs.FirstSight.{distinct}
 use Rattle.pp_share.specs.Described.{SampleText, location_found, sample_text, samples_found}
 use Rattle.pp_share.specs.Alike.{same_sample, first_alike}
 use Rattle.pp_merge.specs.Merge.{all_mappings, all_samples, contents, merged}
-use Rattle.pp_share.specs.Sums.{added, counts, keys_of, rows_of, summed, sum_of, total_of}
+use Rattle.pp_share.specs.Sums.{added, counts, keys_of, rows_of, summed, sum_of, column_totals}
 use Rattle.pp_merge.specs.Totals.{value_sum, value_sums}
 use Rattle.pp_share.specs.Written.{written_sample}
 use Rattle.pp_share.proofs.Deciding.{sample_decides}
@@ -49,7 +49,7 @@ zeros_at (suc n) (suc column) = zeros_at n column
 
 -- the value of a column, of the sum of rows
 pub at_total : (n column : ℕ) (rows : List (List ℤ)) → column < n → AllByRecursion (λ row. length row ≡ n) rows
-    → get_or (total_of n rows) column (pos 0) ≡ total adding_ℤ (λ row. get_or row column (pos 0)) rows
+    → get_or (column_totals n rows) column (pos 0) ≡ total adding_ℤ (λ row. get_or row column (pos 0)) rows
 at_total n column rows within wide =
     let long = length-replicate n (pos 0) in
     at_added rows (replicate n (pos 0)) column (omega (arith, within, long)) (subst (λ m. AllByRecursion (λ r. length r ≡ m) rows) (sym long) wide)

@@ -17,3 +17,13 @@ pub record IsCountable (p : Profile) : Type 0 where
   pub samples : length p.sample < 2 ^ 32
   pub columns : length p.sample_type < 2 ^ 32
   pub sums : (column : ℕ) → column < length p.sample_type → absolute_sum p column ≤ 2 ^ 63 - 1
+
+-- no table has more entries than that
+pub record HasAtMost (n : ℕ) (p : Profile) : Type 0 where
+  pub sample_types : length p.sample_type ≤ n
+  pub samples : length p.sample ≤ n
+  pub mappings : length p.mapping ≤ n
+  pub locations : length p.location ≤ n
+  pub functions : length p.function ≤ n
+  pub texts : length p.text ≤ n
+  pub comments : length p.comment ≤ n

@@ -10,11 +10,11 @@ use Rattle.pp_options.specs.declared.usage.UsageRefusal.{UsageRefusal}
 use Rattle.pp_options.specs.declared.usage.UsageRefusal.TheVariants.{Fault, Memory}
 use Rattle.pp_options.specs.declared.item.Item.{Item}
 use Rattle.pp_options.specs.declared.item.Item.TheVariants.{Source}
-use Rattle.pp_options.specs.Items.{fault_at}
+use Rattle.pp_options.specs.Items.{word_fault}
 use Rattle.pp_options.specs.Spelling.{takes_next}
-use Rattle.pp_options.specs.Words.{Entry, Request, entry, entries, sources, ends_options, request, normalized_at, item_fault, entry_fault, first_fault, late_fault, unless_fault, words}
-use Rattle.pp_options.specs.Plans.{request_of, Reads}
-use Rattle.pp_options.specs.Drafts.{request_in, with_item, noted, Took, TakesItem, TookEntry, TakesEntry, IsDraftOf, IsReading, ReadsAll, Finishes, next_of, left_after}
+use Rattle.pp_options.specs.Words.{Entry, Request, entry, entries, sources, ends_options, request, normalized_at, item_fault, entry_fault, first_entry_fault, late_fault, unless_fault, words}
+use Rattle.pp_options.specs.Plans.{request_of, ReadsPlan}
+use Rattle.pp_options.specs.Drafts.{request_in, with_item, normalized_first, Took, TakesItem, TookEntry, TakesEntry, IsDraftOf, IsReading, ReadsAll, Finishes, taken_next, left_after}
 use Rattle.pp_options.proofs.RequestLemmas.{request_push, noted_push}
 
 -- before the first word nothing is read
@@ -25,12 +25,12 @@ reading_start draft whole has = record { before = []; split = refl; same_fault =
 took_item : (old new : Draft) (at : ℕ) (item : Item) (before : List Entry) → IsDraftOf old before → Took old new at item → IsDraftOf new (before ++ record { at = at; asked = Ok item } ∷ [])
 took_item old new at item before has took = record {
   request = took.request ∙ ap (λ r. with_item r item) has.request ∙ sym (request_push before at item);
-  noted = took.noted ∙ ap (λ known. noted known at item) has.noted ∙ sym (noted_push before at item);
+  noted = took.noted ∙ ap (λ known. normalized_first known at item) has.noted ∙ sym (noted_push before at item);
 }
 
 -- an item without a fault is no fault of the whole
 no_fault : (r s : Request) (at : ℕ) (item : Item) → r ≡ s → item_fault r item ≡ None → entry_fault s (record { at = at; asked = Ok item }) ≡ None
-no_fault r s at item same none = ap (option_map (λ kind. fault_at kind at)) (ap (λ q. item_fault q item) (sym same) ∙ none)
+no_fault r s at item same none = ap (option_map (λ kind. word_fault kind at)) (ap (λ q. item_fault q item) (sym same) ∙ none)
 
 -- the item that is next was taken
 pub read_item :
@@ -43,7 +43,7 @@ read_item old new whole left at item reading took =
       split = reading.split ∙ sym (append_assoc reading.before (e ∷ []) left);
       same_fault =
           reading.same_fault
-          ∙ ap (λ o. option_or o (first_fault (reading.before ++ e ∷ []) left)) (no_fault _ _ at item reading.has.request took.faultless);
+          ∙ ap (λ o. option_or o (first_entry_fault (reading.before ++ e ∷ []) left)) (no_fault _ _ at item reading.has.request took.faultless);
       has = took_item old new at item reading.before reading.has took;
     }
 
@@ -56,13 +56,13 @@ read_entry old new whole left e reading taken =
 -- the entry that is next has a fault, which is the first
 pub read_fault :
     (draft : Draft) (whole left : List Entry) (e : Entry) (fault : UsageFault) → IsReading draft whole (e ∷ left) → entry_fault (request_in draft) e ≡ Some fault
-    → first_fault [] whole ≡ Some fault
+    → first_entry_fault [] whole ≡ Some fault
 read_fault draft whole left e fault reading at_entry =
     reading.same_fault
-    ∙ ap (λ o. option_or o (first_fault (reading.before ++ e ∷ []) left)) (ap (λ r. entry_fault r e) (sym reading.has.request) ∙ at_entry)
+    ∙ ap (λ o. option_or o (first_entry_fault (reading.before ++ e ∷ []) left)) (ap (λ r. entry_fault r e) (sym reading.has.request) ∙ at_entry)
 
 -- after the last entry there is no fault
-pub read_whole : (draft : Draft) (whole : List Entry) → IsReading draft whole [] → (first_fault [] whole ≡ None) × IsDraftOf draft whole
+pub read_whole : (draft : Draft) (whole : List Entry) → IsReading draft whole [] → (first_entry_fault [] whole ≡ None) × IsDraftOf draft whole
 read_whole draft whole reading =
     (reading.same_fault, subst (λ es. IsDraftOf draft es) (sym (append-nil reading.before) ∙ sym reading.split) reading.has)
 
@@ -96,7 +96,7 @@ next_entry false at word next words =
 -- another word is an entry, with the next one where it takes that
 pub entries_next :
     (at : ℕ) (word : List ℕ) (after : List (List ℕ)) → ends_options word ≡ false
-    → entries at (word ∷ after) ≡ entry at word (next_of word after) ∷ entries (at + 1 + (length after - length (left_after word after))) (left_after word after)
+    → entries at (word ∷ after) ≡ entry at word (taken_next word after) ∷ entries (at + 1 + (length after - length (left_after word after))) (left_after word after)
 entries_next at word [] ends = rw ends refl
 entries_next at word (next ∷ words) ends = rw ends (next_entry (takes_next word) at word next words)
 
@@ -109,7 +109,7 @@ late_is count draft es o has late =
 
 -- the answer of words without a fault from left to right
 answered :
-    (ws : List (List ℕ)) (late : Option UsageFault) → first_fault [] (entries 1 ws) ≡ None
+    (ws : List (List ℕ)) (late : Option UsageFault) → first_entry_fault [] (entries 1 ws) ≡ None
     → late_fault (length ws) (request (entries 1 ws)) (normalized_at (entries 1 ws)) ≡ late → words ws ≡ unless_fault late (request (entries 1 ws))
 unfolding words
 answered ws late none is =
@@ -118,19 +118,19 @@ answered ws late none is =
 
 -- the plan is what the words ask for
 pub words_read :
-    (ws : List (List ℕ)) (draft : Draft) (plan : Plan) → (first_fault [] (entries 1 ws) ≡ None) × IsDraftOf draft (entries 1 ws)
+    (ws : List (List ℕ)) (draft : Draft) (plan : Plan) → (first_entry_fault [] (entries 1 ws) ≡ None) × IsDraftOf draft (entries 1 ws)
     → Finishes (length ws) draft (Ok plan) → words ws ≡ Ok (request_of plan)
 words_read ws draft plan read done =
     answered ws None read.0 (late_is (length ws) draft _ None read.1 done.0) ∙ ap Ok (sym (done.1 ∙ read.1.request))
 
 -- the fault that shows only after the last word is the words' first
 pub words_late :
-    (ws : List (List ℕ)) (draft : Draft) (fault : UsageFault) → (first_fault [] (entries 1 ws) ≡ None) × IsDraftOf draft (entries 1 ws)
+    (ws : List (List ℕ)) (draft : Draft) (fault : UsageFault) → (first_entry_fault [] (entries 1 ws) ≡ None) × IsDraftOf draft (entries 1 ws)
     → late_fault (length ws) (request_in draft) draft.normalized_at ≡ Some fault → words ws ≡ Err fault
 words_late ws draft fault read late = answered ws (Some fault) read.0 (late_is (length ws) draft _ (Some fault) read.1 late)
 
 -- the first fault from left to right is the words' first
-pub words_fault : (ws : List (List ℕ)) (fault : UsageFault) → first_fault [] (entries 1 ws) ≡ Some fault → words ws ≡ Err fault
+pub words_fault : (ws : List (List ℕ)) (fault : UsageFault) → first_entry_fault [] (entries 1 ws) ≡ Some fault → words ws ≡ Err fault
 unfolding words
 words_fault ws fault first =
     ap (λ o. unless_fault (option_or o (late_fault (length ws) (request (entries 1 ws)) (normalized_at (entries 1 ws)))) (request (entries 1 ws))) first
@@ -140,8 +140,8 @@ pub item_refused :
     (A B : Type 0) (old new after : Draft) (whole left : List Entry) (at : ℕ) (item : Item) (e : UsageRefusal) (r : Result B UsageRefusal)
     → IsReading old whole (record { at = at; asked = Ok item } ∷ left) → TakesItem {A = A} old new at item (Err e) → r ≡ Err e → ReadsAll whole after r
 item_refused A B old new after whole left at item (Fault fault) r reading refused is =
-    let same : fault_at fault.kind at ≡ fault = λ i. record { kind = fault.kind; word = sym refused.1 i } in
-    let first : first_fault [] whole ≡ Some fault = read_fault old whole left _ fault reading (ap (option_map (λ kind. fault_at kind at)) refused.0 ∙ ap Some same) in
+    let same : word_fault fault.kind at ≡ fault = λ i. record { kind = fault.kind; word = sym refused.1 i } in
+    let first : first_entry_fault [] whole ≡ Some fault = read_fault old whole left _ fault reading (ap (option_map (λ kind. word_fault kind at)) refused.0 ∙ ap Some same) in
     subst (λ (x : Result B UsageRefusal). ReadsAll whole after x) (sym is) first
 item_refused A B old new after whole left at item Memory r reading refused is =
     subst (λ (x : Result B UsageRefusal). ReadsAll whole after x) (sym is) tt
@@ -179,31 +179,31 @@ pub read_next :
     (draft : Draft) (whole : List Entry) (ws rest : List (List ℕ)) (word : List ℕ) (after left : List (List ℕ))
     → IsReading draft whole (entries (length ws - length rest + 1) rest) → rest ≡ word ∷ after → length rest ≤ length ws → ends_options word ≡ false
     → left ≡ left_after word after
-    → IsReading draft whole (entry (length ws - length after) word (next_of word after) ∷ entries (length ws - length left + 1) left)
+    → IsReading draft whole (entry (length ws - length after) word (taken_next word after) ∷ entries (length ws - length left + 1) left)
 read_next draft whole ws rest word after left reading is within ends left_is =
     let len : length rest ≡ length after + 1 = ap length is ∙ sym (add-one (length after)) in
     let at : length ws - length rest + 1 ≡ length ws - length after = omega arith in
     let fewer : length left ≤ length after = rw left_is (left_shorter word after) in
     let then_at : length ws - length after + 1 + (length after - length left) ≡ length ws - length left + 1 = omega arith in
-    let here : entries (length ws - length rest + 1) rest ≡ entry (length ws - length after) word (next_of word after) ∷ entries (length ws - length left + 1) left =
+    let here : entries (length ws - length rest + 1) rest ≡ entry (length ws - length after) word (taken_next word after) ∷ entries (length ws - length left + 1) left =
     ap (entries (length ws - length rest + 1)) is
     ∙ ap (λ n. entries n (word ∷ after)) at
     ∙ entries_next (length ws - length after) word after ends
-    ∙ ap (λ (ls : List (List ℕ)). entry (length ws - length after) word (next_of word after) ∷ entries (length ws - length after + 1 + (length after - length ls)) ls) (sym left_is)
-    ∙ ap (λ n. entry (length ws - length after) word (next_of word after) ∷ entries n left) then_at in
+    ∙ ap (λ (ls : List (List ℕ)). entry (length ws - length after) word (taken_next word after) ∷ entries (length ws - length after + 1 + (length after - length ls)) ls) (sym left_is)
+    ∙ ap (λ n. entry (length ws - length after) word (taken_next word after) ∷ entries n left) then_at in
     subst (λ (es : List Entry). IsReading draft whole es) here reading
 
 -- a refusal while words are read is the words' answer
 pub refused_reads :
     (A : Type 0) (ws : List (List ℕ)) (new : Draft) (e : UsageRefusal) (r : Result Plan UsageRefusal)
-    → ReadsAll {A = A} (entries 1 ws) new (Err e) → r ≡ Err e → Reads ws r
-refused_reads A ws new (Fault fault) r refused is = subst (λ (x : Result Plan UsageRefusal). Reads ws x) (sym is) (words_fault ws fault refused)
-refused_reads A ws new Memory r refused is = subst (λ (x : Result Plan UsageRefusal). Reads ws x) (sym is) tt
+    → ReadsAll {A = A} (entries 1 ws) new (Err e) → r ≡ Err e → ReadsPlan ws r
+refused_reads A ws new (Fault fault) r refused is = subst (λ (x : Result Plan UsageRefusal). ReadsPlan ws x) (sym is) (words_fault ws fault refused)
+refused_reads A ws new Memory r refused is = subst (λ (x : Result Plan UsageRefusal). ReadsPlan ws x) (sym is) tt
 
 -- what is found after the last word is the words' answer
 pub finished_reads :
     (ws : List (List ℕ)) (draft : Draft) (r : Result Plan UsageRefusal)
-    → (first_fault [] (entries 1 ws) ≡ None) × IsDraftOf draft (entries 1 ws) → Finishes (length ws) draft r → Reads ws r
+    → (first_entry_fault [] (entries 1 ws) ≡ None) × IsDraftOf draft (entries 1 ws) → Finishes (length ws) draft r → ReadsPlan ws r
 finished_reads ws draft (Ok plan) read done = words_read ws draft plan read done
 finished_reads ws draft (Err (Fault fault)) read late = words_late ws draft fault read late
 finished_reads ws draft (Err Memory) read late = tt

@@ -12,7 +12,7 @@ use Rattle.pp_options.specs.declared.item.Item.{Item}
 use Rattle.pp_options.specs.declared.item.Item.TheVariants.{Source, Base, Gen, Normalize, Format, Set}
 use Rattle.pp_options.specs.Settings.{assigned}
 use Rattle.pp_options.specs.Words.{Entry, Request, request, all_of, origin_of, base_of, kind_of, normalize_of, report_of, setting_of, normalizes, normalized_at}
-use Rattle.pp_options.specs.Drafts.{with_item, noted}
+use Rattle.pp_options.specs.Drafts.{with_item, normalized_first}
 
 -- two requests with the same fields are the same
 pub same_request :
@@ -92,7 +92,7 @@ pub request_push : (es : List Entry) (at : ℕ) (item : Item) → request (es ++
 request_push es at item = asked_push es at item ∙ pushed_is (request es) item
 
 -- the number of the first word that asks to normalize, with an item more
-noted_is : (known : Option ℕ) (at : ℕ) (item : Item) → option_or known (normalizes (record { at = at; asked = Ok item })) ≡ noted known at item
+noted_is : (known : Option ℕ) (at : ℕ) (item : Item) → option_or known (normalizes (record { at = at; asked = Ok item })) ≡ normalized_first known at item
 noted_is known at (Source path) = kept known
 noted_is known at (Gen samples) = kept known
 noted_is known at (Base kind path) = kept known
@@ -102,7 +102,7 @@ noted_is known at (Format report) = kept known
 noted_is known at (Set setting) = kept known
 
 -- the same, of all entries
-pub noted_push : (es : List Entry) (at : ℕ) (item : Item) → normalized_at (es ++ record { at = at; asked = Ok item } ∷ []) ≡ noted (normalized_at es) at item
+pub noted_push : (es : List Entry) (at : ℕ) (item : Item) → normalized_at (es ++ record { at = at; asked = Ok item } ∷ []) ≡ normalized_first (normalized_at es) at item
 noted_push es at item =
     let e : Entry = record { at = at; asked = Ok item } in
     ap (λ ns. slice_get ns 0) (filter_map-append normalizes es (e ∷ []))

@@ -11,7 +11,7 @@ use Rattle.pp_options.specs.declared.item.Item.TheVariants.{Source, Base, Gen, N
 use Rattle.pp_options.specs.declared.draft.Draft.{Draft}
 use Rattle.pp_options.specs.Settings.{assigned}
 use Rattle.pp_options.specs.Spelling.{takes_next}
-use Rattle.pp_options.specs.Words.{Entry, Request, request, normalized_at, one_more, item_fault, entry_fault, first_fault, late_fault}
+use Rattle.pp_options.specs.Words.{Entry, Request, request, normalized_at, count_fault, item_fault, entry_fault, first_entry_fault, late_fault}
 use Rattle.pp_options.specs.Plans.{request_of}
 
 -- what a draft asks for
@@ -40,13 +40,13 @@ with_item r (Format report) = record r { report = option_or r.report (Some repor
 with_item r (Set setting) = record r { config = assigned r.config setting }
 
 -- the number of the first word that asks to normalize, with an item more at the word of the number
-abbrev pub noted : Option ℕ → ℕ → Item → Option ℕ
-noted known at (Normalize true) = option_or known (Some at)
-noted known at item = known
+abbrev pub normalized_first : Option ℕ → ℕ → Item → Option ℕ
+normalized_first known at (Normalize true) = option_or known (Some at)
+normalized_first known at item = known
 
 -- the origin was added
 pub record TookOrigin (old new : Draft) (origin : Origin) : Type 0 where
-  pub faultless : one_more (request_in old) ≡ None
+  pub faultless : count_fault (request_in old) ≡ None
   pub request : request_in new ≡ with_origin (request_in old) origin
   pub noted : new.normalized_at ≡ old.normalized_at
 
@@ -54,14 +54,14 @@ pub record TookOrigin (old new : Draft) (origin : Origin) : Type 0 where
 abbrev pub TakesOrigin : {A : Type 0} → Draft → Draft → ℕ → Origin → Result A UsageRefusal → Type 0
 TakesOrigin old new at origin (Ok done) = TookOrigin old new origin
 TakesOrigin old new at origin (Err (Fault fault)) =
-    (one_more (request_in old) ≡ Some fault.kind) × (fault.word ≡ at)
+    (count_fault (request_in old) ≡ Some fault.kind) × (fault.word ≡ at)
 TakesOrigin old new at origin (Err Memory) = ⊤
 
 -- the item of the word was taken
 pub record Took (old new : Draft) (at : ℕ) (item : Item) : Type 0 where
   pub faultless : item_fault (request_in old) item ≡ None
   pub request : request_in new ≡ with_item (request_in old) item
-  pub noted : new.normalized_at ≡ noted old.normalized_at at item
+  pub noted : new.normalized_at ≡ normalized_first old.normalized_at at item
 
 -- the item of the word was taken, or has the fault, unless memory ran out
 abbrev pub TakesItem : {A : Type 0} → Draft → Draft → ℕ → Item → Result A UsageRefusal → Type 0
@@ -92,13 +92,13 @@ pub record IsDraftOf (draft : Draft) (es : List Entry) : Type 0 where
 pub record IsReading (draft : Draft) (whole left : List Entry) : Type 0 where
   pub before : List Entry
   pub split : whole ≡ before ++ left
-  pub same_fault : first_fault [] whole ≡ first_fault before left
+  pub same_fault : first_entry_fault [] whole ≡ first_entry_fault before left
   pub has : IsDraftOf draft before
 
 -- all entries were taken, or one has the fault, unless memory ran out
 abbrev pub ReadsAll : {A : Type 0} → List Entry → Draft → Result A UsageRefusal → Type 0
-ReadsAll whole new (Ok done) = (first_fault [] whole ≡ None) × IsDraftOf new whole
-ReadsAll whole new (Err (Fault fault)) = first_fault [] whole ≡ Some fault
+ReadsAll whole new (Ok done) = (first_entry_fault [] whole ≡ None) × IsDraftOf new whole
+ReadsAll whole new (Err (Fault fault)) = first_entry_fault [] whole ≡ Some fault
 ReadsAll whole new (Err Memory) = ⊤
 
 -- the plan has what the draft has, or something is missing after so many words
@@ -111,9 +111,9 @@ Finishes count draft (Err (Fault fault)) =
 Finishes count draft (Err Memory) = ⊤
 
 -- the next word, where the word takes it as its value
-abbrev pub next_of : List ℕ → List (List ℕ) → Option (List ℕ)
-next_of word [] = None
-next_of word (next ∷ words) = if takes_next word then Some next else None
+abbrev pub taken_next : List ℕ → List (List ℕ) → Option (List ℕ)
+taken_next word [] = None
+taken_next word (next ∷ words) = if takes_next word then Some next else None
 
 -- the words after the word, and after the next one where the word takes it
 abbrev pub left_after : List ℕ → List (List ℕ) → List (List ℕ)

@@ -23,12 +23,12 @@ use Rattle.pp_options.specs.Formats.{takes_pattern, report_of}
 use Rattle.pp_options.specs.Names.{option_named, needs_value}
 use Rattle.pp_options.specs.SampleTypes.{type_name}
 use Rattle.pp_options.specs.Settings.{setting_of, is_fitting}
-use Rattle.pp_options.specs.Spelling.{is_option, name_in, value_in}
+use Rattle.pp_options.specs.Spelling.{is_option, name_part, value_part}
 use Rattle.pp_options.specs.Values.{truth_of, whole_number}
 
 -- a fault of the word of the number
-abbrev pub fault_at : UsageKind → ℕ → UsageFault
-fault_at kind at = record { kind = kind; word = at }
+abbrev pub word_fault : UsageKind → ℕ → UsageFault
+word_fault kind at = record { kind = kind; word = at }
 
 -- what was answered for the word of the number is that, unless memory ran out
 abbrev pub AnswersAt : {A : Type 0} → ℕ → Result A UsageKind → Result A UsageRefusal → Type 0
@@ -59,8 +59,8 @@ abbrev pub chosen : ChoiceName → List ℕ → Option Setting
 chosen choice value = if is_true_word value then Some (setting_of_choice choice) else None
 
 -- a sample type can only be selected
-abbrev pub selected : SampleType → List ℕ → Option Setting
-selected kind value = if is_true_word value then Some (set.Text texts.SampleIndex (type_name kind)) else None
+abbrev pub selected_type : SampleType → List ℕ → Option Setting
+selected_type kind value = if is_true_word value then Some (set.Text texts.SampleIndex (type_name kind)) else None
 
 -- a report with a pattern, which isn't empty
 abbrev pub pattern_report : ReportFormat → List ℕ → Option Report
@@ -77,7 +77,7 @@ report_with format value =
 unfoldable pub item_with : OptionName → List ℕ → Option Item
 item_with (names.Variable variable) value = option_map Set (setting_of variable value)
 item_with (names.Choice choice) value = option_map Set (chosen choice value)
-item_with (names.SampleType kind) value = option_map Set (selected kind value)
+item_with (names.SampleType kind) value = option_map Set (selected_type kind value)
 item_with (names.Format format) value = option_map Format (report_with format value)
 item_with (names.Base kind) value = Some (Base kind value)
 item_with names.Gen value = option_map Gen (whole_number 1 1000000 value)
@@ -105,5 +105,5 @@ named_item (Some name) value = option_item name value
 unfoldable pub item_of : List ℕ → Option (List ℕ) → Result Item UsageKind
 item_of word next =
     if is_option word
-    then named_item (option_named (name_in word)) (option_or (value_in word) next)
+    then named_item (option_named (name_part word)) (option_or (value_part word) next)
     else Ok (Source word)

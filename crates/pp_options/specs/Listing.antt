@@ -39,12 +39,12 @@ truth_text true = codes "true"
 truth_text false = codes "false"
 
 -- the digit is 0
-abbrev pub is_zero : ℕ → Bool
-is_zero digit = digit == 48
+abbrev pub is_zero_digit : ℕ → Bool
+is_zero_digit digit = digit == 48
 
 -- the digits up to the last that isn't 0
 abbrev pub without_zeros : List ℕ → List ℕ
-without_zeros digits = without_end is_zero digits
+without_zeros digits = without_end is_zero_digit digits
 
 -- the nine decimals of so many billionths, without the zeros at the end: the digits of that many
 -- and a billion together, after the first
@@ -90,19 +90,19 @@ text_in c texts.SourcePath = c.source_path
 text_in c texts.TrimPath = c.trim_path
 
 -- how a variable's value is printed
-abbrev pub value_text : Config → Variable → List ℕ
-value_text c Sort = sort_text c.sort
-value_text c Granularity = grain_text c.grain
-value_text c (Flag which) = truth_text (flag_in c which)
-value_text c Nodecount = signed_decimal c.nodecount
-value_text c (Fraction which) = fraction_text (fraction_in c which)
-value_text c (Text which) = text_in c which
-value_text c DivideBy = decimal c.divide_by
-value_text c Workers = decimal c.workers
+abbrev pub variable_text : Config → Variable → List ℕ
+variable_text c Sort = sort_text c.sort
+variable_text c Granularity = grain_text c.grain
+variable_text c (Flag which) = truth_text (flag_in c which)
+variable_text c Nodecount = signed_decimal c.nodecount
+variable_text c (Fraction which) = fraction_text (fraction_in c which)
+variable_text c (Text which) = text_in c which
+variable_text c DivideBy = decimal c.divide_by
+variable_text c Workers = decimal c.workers
 
 -- a line `NAME=VALUE`
 abbrev pub option_line : Config → Row Variable → List ℕ
-option_line c row = row.name ++ codes "=" ++ value_text c row.value ++ codes "\n"
+option_line c row = row.name ++ codes "=" ++ variable_text c row.value ++ codes "\n"
 
 -- a line for each variable, in their order
 unfoldable pub options_text : Config → List ℕ

@@ -17,7 +17,7 @@ request_of plan = record {
 }
 
 -- the answer is what the words ask for, or their first fault, unless memory ran out
-abbrev pub Reads : List (List ℕ) → Result Plan UsageRefusal → Type 0
-Reads ws (Ok plan) = words ws ≡ Ok (request_of plan)
-Reads ws (Err (Fault fault)) = words ws ≡ Err fault
-Reads ws (Err Memory) = ⊤
+abbrev pub ReadsPlan : List (List ℕ) → Result Plan UsageRefusal → Type 0
+ReadsPlan ws (Ok plan) = words ws ≡ Ok (request_of plan)
+ReadsPlan ws (Err (Fault fault)) = words ws ≡ Err fault
+ReadsPlan ws (Err Memory) = ⊤

@@ -3,6 +3,7 @@ use Rattle.std.specs.Prelude.{ℕ, Bool, false, not, ◌&&◌, ◌==◌, List, [
 use Rattle.std.specs.Option.{option_map_or}
 use Rattle.std.specs.List.{list_any, before_first, after_first}
 use Rattle.pp_options.specs.Names.{option_named, needs_value}
+use Rattle.pp_base.specs.Marks.{is_equals}
 
 -- the text begins with a dash
 abbrev pub has_dash : List ℕ → Bool
@@ -21,22 +22,18 @@ without_dash text = if has_dash text then drop 1 text else text
 abbrev pub without_dashes : List ℕ → List ℕ
 without_dashes word = without_dash (without_dash word)
 
--- the sign between an option's name and its value
-abbrev pub is_equals : ℕ → Bool
-is_equals byte = byte == 61
-
 -- the option's name stands before the first `=`
-abbrev pub name_in : List ℕ → List ℕ
-name_in word = before_first is_equals (without_dashes word)
+abbrev pub name_part : List ℕ → List ℕ
+name_part word = before_first is_equals (without_dashes word)
 
 -- the option's value stands after the first `=`, where there is one
-abbrev pub value_in : List ℕ → Option (List ℕ)
-value_in word =
+abbrev pub value_part : List ℕ → Option (List ℕ)
+value_part word =
     let option = without_dashes word in
     if list_any is_equals option then Some (after_first is_equals option) else None
 
 -- the word is an option whose value is the next word
 unfoldable pub takes_next : List ℕ → Bool
 takes_next word =
-    (is_option word && not (is_some (value_in word)))
-    && option_map_or needs_value (option_named (name_in word)) false
+    (is_option word && not (is_some (value_part word)))
+    && option_map_or needs_value (option_named (name_part word)) false

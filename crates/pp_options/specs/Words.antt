@@ -16,7 +16,7 @@ use Rattle.pp_options.specs.declared.usage.UsageKind.TheVariants.{TwoFormats, No
 use Rattle.pp_options.specs.declared.usage.UsageFault.{UsageFault}
 use Rattle.pp_options.specs.declared.item.Item.{Item}
 use Rattle.pp_options.specs.declared.item.Item.TheVariants.{Source, Base, Gen, Normalize, Format, Set}
-use Rattle.pp_options.specs.Items.{fault_at, item_of}
+use Rattle.pp_options.specs.Items.{word_fault, item_of}
 use Rattle.pp_options.specs.Settings.{assigned}
 use Rattle.pp_options.specs.Spelling.{takes_next}
 
@@ -105,30 +105,30 @@ request es = record {
 }
 
 -- two kinds of base are the same
-abbrev pub is_same_kind : BaseKind → BaseKind → Bool
-is_same_kind bases.Base bases.Base = true
-is_same_kind bases.DiffBase bases.DiffBase = true
-is_same_kind kind other = false
+abbrev pub is_same_base : BaseKind → BaseKind → Bool
+is_same_base bases.Base bases.Base = true
+is_same_base bases.DiffBase bases.DiffBase = true
+is_same_base kind other = false
 
 -- there is a base of another kind
 abbrev pub has_other_kind : BaseKind → Option BaseKind → Bool
 has_other_kind kind None = false
-has_other_kind kind (Some known) = not (is_same_kind known kind)
+has_other_kind kind (Some known) = not (is_same_base known kind)
 
 -- there are as many origins and bases as there can be
 abbrev pub is_full : Request → Bool
 is_full r = nat_le 256 (length r.origins + length r.bases)
 
 -- one origin or base more is one too many
-abbrev pub one_more : Request → Option UsageKind
-one_more r = if is_full r then Some TooMany else None
+abbrev pub count_fault : Request → Option UsageKind
+count_fault r = if is_full r then Some TooMany else None
 
 -- what is wrong with an item after all that was asked for before it
 abbrev pub item_fault : Request → Item → Option UsageKind
-item_fault r (Source path) = one_more r
-item_fault r (Gen samples) = one_more r
+item_fault r (Source path) = count_fault r
+item_fault r (Gen samples) = count_fault r
 item_fault r (Base kind path) =
-    if has_other_kind kind r.base_kind then Some BaseTwice else one_more r
+    if has_other_kind kind r.base_kind then Some BaseTwice else count_fault r
 item_fault r (Format report) = if is_some r.report then Some TwoFormats else None
 item_fault r (Normalize on) = None
 item_fault r (Set setting) = None
@@ -140,13 +140,13 @@ asked_fault r (Ok item) = item_fault r item
 
 -- the same, with the number of the word
 abbrev pub entry_fault : Request → Entry → Option UsageFault
-entry_fault r e = option_map (λ kind. fault_at kind e.at) (asked_fault r e.asked)
+entry_fault r e = option_map (λ kind. word_fault kind e.at) (asked_fault r e.asked)
 
 -- The first fault of the entries, from left to right, each after those before it.
-abbrev pub first_fault : List Entry → List Entry → Option UsageFault
-first_fault before [] = None
-first_fault before (e ∷ es) =
-    option_or (entry_fault (request before) e) (first_fault (before ++ e ∷ []) es)
+abbrev pub first_entry_fault : List Entry → List Entry → Option UsageFault
+first_entry_fault before [] = None
+first_entry_fault before (e ∷ es) =
+    option_or (entry_fault (request before) e) (first_entry_fault (before ++ e ∷ []) es)
 
 -- the entry asks to normalize
 abbrev pub normalizes : Entry → Option ℕ
@@ -164,9 +164,9 @@ is_empty xs = not (nat_lt 0 (length xs))
 -- The fault that shows only after the last of so many words: no source, or nothing to normalize by.
 abbrev pub late_fault : ℕ → Request → Option ℕ → Option UsageFault
 late_fault count r normalized_at =
-    if is_empty r.origins then Some (fault_at NoSource (count + 1))
+    if is_empty r.origins then Some (word_fault NoSource (count + 1))
     else if r.normalize && is_empty r.bases
-    then option_map (fault_at NormalizeAlone) normalized_at
+    then option_map (word_fault NormalizeAlone) normalized_at
     else None
 
 -- a fault, or what is asked for where there is none
@@ -179,4 +179,4 @@ unfoldable pub words : List (List ℕ) → Result Request UsageFault
 words ws =
     let es = entries 1 ws in
     let late = late_fault (length ws) (request es) (normalized_at es) in
-    unless_fault (option_or (first_fault [] es) late) (request es)
+    unless_fault (option_or (first_entry_fault [] es) late) (request es)

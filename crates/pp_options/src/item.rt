@@ -1,7 +1,7 @@
 //! What one word asks for, or an option together with the word that is its value.
 ghost use Rattle.std.specs.Prelude.{◌≡◌, option_map, Err, IfOk, IfSome, IsTrue};
 ghost use Rattle.pp_options.specs.declared.usage.UsageRefusal.TheVariants as refusals;
-ghost use Rattle.pp_options.specs.Items.{fault_at, AnswersAt, is_fair_item, is_true_word, setting_of_choice, chosen, selected, pattern_report, report_with, item_with, valued_item, flag_item, option_item, item_of};
+ghost use Rattle.pp_options.specs.Items.{word_fault, AnswersAt, is_fair_item, is_true_word, setting_of_choice, chosen, selected_type, pattern_report, report_with, item_with, valued_item, flag_item, option_item, item_of};
 ghost use Rattle.pp_options.specs.Conditions.{is_fair_number, has_pattern};
 ghost use Rattle.pp_options.specs.Settings.{is_fitting};
 ghost use Rattle.pp_options.specs.Values.{whole_number};
@@ -123,7 +123,7 @@ fn chosen(choice: Choice, value: &[u8]) -> Option<Setting>
 
 // A sample type, whose word alone names it, can only be selected.
 fn selected(alloc: Global, kind: SampleType, value: &[u8]) -> Result<Option<Setting>, Memory>
-    ensures value { IfOk result (λ found. found ≡ selected kind value.now) }
+    ensures value { IfOk result (λ found. found ≡ selected_type kind value.now) }
     ensures fitting { IfOk result (λ found. IfSome found (λ s. IsTrue (is_fitting s))) }
 {
     if !is_true_word(value) {
@@ -189,7 +189,7 @@ fn samples_of(value: &[u8]) -> Option<u32>
 
 /// The refusal of the word of the number, from 1.
 pub fn refuse<T>(kind: UsageKind, at: u64) -> Result<T, UsageRefusal>
-    ensures { result ≡ Err (refusals.Fault (fault_at kind at)) }
+    ensures { result ≡ Err (refusals.Fault (word_fault kind at)) }
 {
     Err(UsageRefusal::Fault(UsageFault { kind, word: at }))
 }

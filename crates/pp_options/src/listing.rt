@@ -4,7 +4,7 @@ ghost use Rattle.std.specs.Fmt.{signed_decimal};
 ghost use Rattle.std.specs.List.{flat_map};
 ghost use Rattle.pp_base.specs.Grew.{Grew};
 ghost use Rattle.pp_options.specs.Tables.{row_of};
-ghost use Rattle.pp_options.specs.Listing.{options_text, option_line, value_text, sort_text, grain_text, truth_text, flag_in, fraction_in, text_in, fraction_text, decimals_text, without_zeros};
+ghost use Rattle.pp_options.specs.Listing.{options_text, option_line, variable_text, sort_text, grain_text, truth_text, flag_in, fraction_in, text_in, fraction_text, decimals_text, without_zeros};
 
 use crate::table::Named;
 use crate::{FlagVariable, FractionVariable, TextVariable, VARIABLES, Variable};
@@ -47,7 +47,7 @@ fn put_line(config: &Config, variable: &Named<Variable>, out: &mut Text) -> Resu
 }
 
 fn put_value(config: &Config, variable: Variable, out: &mut Text) -> Result<(), Memory>
-    ensures ok { OnOk result (out.new ≡ out.old ++ value_text config.now variable) }
+    ensures ok { OnOk result (out.new ≡ out.old ++ variable_text config.now variable) }
     ensures err { OnErr result (out.new ≡ out.old) }
 {
     match variable {

@@ -1,6 +1,6 @@
 //! How options are spelled.
 ghost use Rattle.std.specs.Prelude.{◌≡◌, option_map};
-ghost use Rattle.pp_options.specs.Spelling.{is_option, without_dash, without_dashes, name_in, value_in, takes_next};
+ghost use Rattle.pp_options.specs.Spelling.{is_option, without_dash, without_dashes, name_part, value_part, takes_next};
 
 use crate::name::option_named;
 use pp_units::cut_at;
@@ -33,7 +33,7 @@ fn without_dashes(word: &[u8]) -> &[u8]
 
 /// The name of the option: what stands after the dashes, before the first `=`.
 pub fn name_in(word: &[u8]) -> &[u8]
-    ensures { result.now ≡ name_in word.now }
+    ensures { result.now ≡ name_part word.now }
 {
     let option = without_dashes(word);
     match cut_at(option, b'=') {
@@ -44,7 +44,7 @@ pub fn name_in(word: &[u8]) -> &[u8]
 
 /// The value that stands after the first `=` of the option, and may be empty. `None` where there is no `=`.
 pub fn value_in(word: &[u8]) -> Option<&[u8]>
-    ensures { option_map (λ x. x.now) result ≡ value_in word.now }
+    ensures { option_map (λ x. x.now) result ≡ value_part word.now }
 {
     let (_, value) = cut_at(without_dashes(word), b'=')?;
     Some(value)

@@ -2,8 +2,8 @@
 ghost use Rattle.std.specs.Prelude.{◌≡◌, ◌+◌, ◌<◌, ◌^◌, ◌&&◌, List, length, None, option_map, IfOk, if◌then◌else◌};
 ghost use Rattle.pp_options.specs.Items.{is_fair_item};
 ghost use Rattle.pp_options.specs.Words.{Entry, entry, entries, sources, is_empty};
-ghost use Rattle.pp_options.specs.Plans.{Reads};
-ghost use Rattle.pp_options.specs.Drafts.{IsReading, ReadsAll, TakesEntry, next_of, left_after, Finishes};
+ghost use Rattle.pp_options.specs.Plans.{ReadsPlan};
+ghost use Rattle.pp_options.specs.Drafts.{IsReading, ReadsAll, TakesEntry, taken_next, left_after, Finishes};
 
 use crate::draft::Draft;
 use crate::item::{Item, item_of, refuse};
@@ -20,7 +20,7 @@ use std::alloc::Global;
 /// sources.
 #[tactic(auto, unfolding(crate::specs::Words::words))]
 pub fn read_words(alloc: Global, words: &[Text]) -> Result<Plan, UsageRefusal>
-    ensures { Reads words.now result }
+    ensures { ReadsPlan words.now result }
 {
     let mut draft = Draft::new(alloc)?;
     draft.take_words(alloc, words)?;
@@ -70,7 +70,7 @@ impl Draft {
         after: &'a [Text],
     ) -> Result<&'a [Text], UsageRefusal>
         ensures taken { TakesEntry self.old self.new
-            (entry at word.now (next_of word.now after.now)) result }
+            (entry at word.now (taken_next word.now after.now)) result }
         ensures left { IfOk result (λ left. left.now ≡ left_after word.now after.now) }
     {
         match after {

@@ -12,7 +12,7 @@ use Rattle.pp_desk.specs.Course.{course}
 use Rattle.pp_desk.specs.Script as scripts
 use Rattle.pp_desk.specs.Asking.{◌>>=◌}
 use Rattle.pp_pattern.specs.Patterns.{judge_pattern, judge_option, judge_part, judge_parts}
-use Rattle.pp_pattern.specs.Report.{judge_with, judge_frames, judge_tags, judge_filter, judge_names, at}
+use Rattle.pp_pattern.specs.Report.{judge_with, judge_frames, judge_tags, judge_filter, judge_names, slot_refused}
 use Rattle.pp_pattern.specs.Load.{judge_load}
 
 -- a profile of no more than texts, the third of which is drop_frames
@@ -55,7 +55,7 @@ unfolding ◌>>=◌ scripts.◌>>=◌ judge_with judge_frames judge_tags judge_f
 in_order files = refl
 
 -- after a refusal nothing is asked, and its option is named
-refused : (files : FileMap) → (course (judge_with occurs_in config None p filter None) files [] [] ((codes "f", true) ∷ (codes "h", false) ∷ [])).value ≡ Err (at Hide)
+refused : (files : FileMap) → (course (judge_with occurs_in config None p filter None) files [] [] ((codes "f", true) ∷ (codes "h", false) ∷ [])).value ≡ Err (slot_refused Hide)
 unfolding ◌>>=◌ scripts.◌>>=◌ judge_with judge_frames judge_tags judge_filter judge_names judge_option judge_parts judge_part judge_pattern
 refused files = refl
 

@@ -1,21 +1,17 @@
 -- What a pattern finds of texts, and how it is asked.
-use Rattle.std.specs.Prelude.{ℕ, Bool, true, false, not, ◌&&◌, List, [], ◌∷◌, ◌++◌, map, Option, None, Some, Ok, Err, if◌then◌else◌}
+use Rattle.std.specs.Prelude.{ℕ, Bool, not, ◌&&◌, List, [], ◌∷◌, ◌++◌, map, Option, None, Some, Ok, Err, if◌then◌else◌}
 use Rattle.pp_model.specs.Finders.{Finder}
 use Rattle.pp_desk.specs.Script.{Give, Make, Ask}
 use Rattle.pp_desk.specs.Asking.{Asking, ◌>>=◌}
-
--- whether nothing stands in the text
-abbrev pub is_empty : List ℕ → Bool
-is_empty [] = true
-is_empty (_ ∷ _) = false
+use Rattle.pp_base.specs.Marks.{is_empty_text}
 
 -- what each text but the empty one is
 abbrev pub any_text : Finder
-any_text text = not (is_empty text)
+any_text text = not (is_empty_text text)
 
 -- what a pattern finds: what the matcher finds, but never the empty text
 abbrev pub finder : (List ℕ → List ℕ → Bool) → List ℕ → Finder
-finder finds pattern text = not (is_empty text) && finds pattern text
+finder finds pattern text = not (is_empty_text text) && finds pattern text
 
 -- the same of an option's value, where it isn't empty
 abbrev pub finder_in_force : (List ℕ → List ℕ → Bool) → List ℕ → Option Finder

@@ -27,17 +27,17 @@ abbrev pub Finds : Type 0
 Finds = List ℕ → List ℕ → Bool
 
 -- the refusal of the pattern of an option
-abbrev pub at : Slot → PatternRefused
-at slot = record { option = slot }
+abbrev pub slot_refused : Slot → PatternRefused
+slot_refused slot = record { option = slot }
 
 -- Asks for the patterns of frames: focus, ignore, hide, show, show_from.
 unfoldable pub judge_frames : Finds → Config → List (List ℕ) → Asking PatternRefused FrameVerdicts
 judge_frames finds config texts = do
-  focus ← judge_option finds (at Focus) texts config.focus
-  ignore ← judge_option finds (at Ignore) texts config.ignore
-  hide ← judge_option finds (at Hide) texts config.hide
-  show ← judge_option finds (at Show) texts config.show
-  show_from ← judge_option finds (at ShowFrom) texts config.show_from
+  focus ← judge_option finds (slot_refused Focus) texts config.focus
+  ignore ← judge_option finds (slot_refused Ignore) texts config.ignore
+  hide ← judge_option finds (slot_refused Hide) texts config.hide
+  show ← judge_option finds (slot_refused Show) texts config.show
+  show_from ← judge_option finds (slot_refused ShowFrom) texts config.show_from
   Give (Ok (record {
     focus = focus;
     ignore = ignore;
@@ -56,7 +56,7 @@ unfoldable pub judge_filter : Finds → Slot → Profile → List Tag → Option
     → Asking PatternRefused (List (List Bool))
 judge_filter finds slot p tags None = Give (Ok [])
 judge_filter finds slot p tags (Some f) =
-    judge_parts finds (at slot) (subjects p tags f.name) [] f.parts
+    judge_parts finds (slot_refused slot) (subjects p tags f.name) [] f.parts
 
 -- Asks for the patterns of tag filters: the parts of tagfocus, then those of tagignore.
 unfoldable pub judge_tags : Finds → Profile → Option TagFilter → Option TagFilter
@@ -74,10 +74,10 @@ judge_tags finds p focus ignore = do
 unfoldable pub judge_names : Finds → Config → Option (List ℕ) → List (List ℕ)
     → Asking PatternRefused NameVerdicts
 judge_names finds config own texts = do
-  prune_from ← judge_option finds (at PruneFrom) texts config.prune_from
-  tagshow ← judge_option finds (at TagShow) texts config.tagshow
-  taghide ← judge_option finds (at TagHide) texts config.taghide
-  own ← judge_option finds (at Own) texts (unwrap_or own [])
+  prune_from ← judge_option finds (slot_refused PruneFrom) texts config.prune_from
+  tagshow ← judge_option finds (slot_refused TagShow) texts config.tagshow
+  taghide ← judge_option finds (slot_refused TagHide) texts config.taghide
+  own ← judge_option finds (slot_refused Own) texts (unwrap_or own [])
   Give (Ok (record { prune_from = prune_from; tagshow = tagshow; taghide = taghide; own = own }))
 
 -- all verdicts of a report

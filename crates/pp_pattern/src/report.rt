@@ -6,7 +6,7 @@ ghost use Rattle.pp_model.specs.declared.verdicts.Slot.TheVariants.{Own};
 ghost use Rattle.pp_desk.specs.Went.{Went};
 ghost use Rattle.pp_desk.specs.Asking.{settled};
 ghost use Rattle.pp_pattern.specs.Patterns.{judge_option};
-ghost use Rattle.pp_pattern.specs.Report.{AreVerdictsOf, at, found_in, all_verdicts, judge, judge_with, verdicts_with, judge_frames, judge_tags, judge_filter, judge_names, verdicts_of, frames_found, tags_found, parts_found, names_found, tags_for};
+ghost use Rattle.pp_pattern.specs.Report.{AreVerdictsOf, slot_refused, found_in, all_verdicts, judge, judge_with, verdicts_with, judge_frames, judge_tags, judge_filter, judge_names, verdicts_of, frames_found, tags_found, parts_found, names_found, tags_for};
 
 use crate::asking::judge_option;
 use crate::parts::judge_parts;
@@ -156,7 +156,7 @@ fn judge_frames<D: Desk>(
 
 // The refusal of an option's pattern.
 fn at(option: Slot) -> PatternRefused
-    ensures { result ≡ at option }
+    ensures { result ≡ slot_refused option }
 {
     PatternRefused { option }
 }
@@ -256,7 +256,7 @@ fn judge_own<D: Desk>(
     texts: &List<Text>,
 ) -> Result<Option<List<bool>>, Halt<PatternRefused>>
     ensures went { Went (D.world desk.old) (D.world desk.new)
-        (judge_option D.finds (at Own) texts.now (unwrap_or (option_copied own.entry) []))
+        (judge_option D.finds (slot_refused Own) texts.now (unwrap_or (option_copied own.entry) []))
         (settled result) }
     ensures found { IfOk result (λ found. found
         ≡ found_in D.finds texts.now (unwrap_or (option_copied own.entry) [])) }

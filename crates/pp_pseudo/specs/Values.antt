@@ -5,12 +5,12 @@ use Rattle.std.specs.Fmt.{signed_decimal}
 use Rattle.pp_model.specs.declared.profile.Label.{Label}
 use Rattle.pp_model.specs.declared.profile.Profile.{Profile}
 use Rattle.pp_model.specs.Lookup.{text_of}
-use Rattle.pp_tags.specs.Labels.{has_text, key_text, value_text}
+use Rattle.pp_tags.specs.Labels.{has_text, key_text, label_value_text}
 
 -- the value of a label: its text, or its number's digits followed by the text of the unit that it names
 abbrev pub frame_value : Profile → Label → List ℕ
 frame_value p label =
-    if has_text label then value_text p label
+    if has_text label then label_value_text p label
     else signed_decimal label.num ++ text_of p label.num_unit
 
 -- the values of the labels of the key, in order

@@ -8,31 +8,31 @@ use Rattle.pp_units.specs.Scales.{is_named, scale_of}
 use Rattle.pp_units.specs.Shown.{forced, is_same_kind}
 use Rattle.pp_report.specs.declared.refusal.ReportRefusal.TheVariants.{BadSampleIndex, PatternRefused, NoMatch}
 use Rattle.pp_report.specs.Heads.{wanted_unit}
-use Rattle.pp_report.specs.Messages.{refusal_line}
+use Rattle.pp_report.specs.Messages.{report_refusal_line}
 use Rattle.pp_model.specs.ReportFacts.{option_name}
 use Rattle.pp_report.specs.Notes.{note_unless, notes_by}
 use Rattle.pp_stack.specs.LoadFinders.{known_verdict}
 
 -- an option is called as its variable
-refused_focus : refusal_line reports.Top (PatternRefused slots.Focus) ≡ codes "pprof: focus: pattern refused\n"
-unfolding refusal_line option_name
+refused_focus : report_refusal_line reports.Top (PatternRefused slots.Focus) ≡ codes "pprof: focus: pattern refused\n"
+unfolding report_refusal_line option_name
 refused_focus = refl
 
 -- and the pattern of a report as the report
-refused_peek : refusal_line (reports.Peek (codes "f")) (PatternRefused slots.Own) ≡ codes "pprof: peek: pattern refused\n"
-unfolding refusal_line option_name
+refused_peek : report_refusal_line (reports.Peek (codes "f")) (PatternRefused slots.Own) ≡ codes "pprof: peek: pattern refused\n"
+unfolding report_refusal_line option_name
 refused_peek = refl
 
-refused_list : refusal_line (reports.List (codes "f")) (PatternRefused slots.Own) ≡ codes "pprof: list: pattern refused\n"
-unfolding refusal_line option_name
+refused_list : report_refusal_line (reports.List (codes "f")) (PatternRefused slots.Own) ≡ codes "pprof: list: pattern refused\n"
+unfolding report_refusal_line option_name
 refused_list = refl
 
-no_match : refusal_line (reports.List (codes "f")) NoMatch ≡ codes "pprof: no function matches\n"
-unfolding refusal_line
+no_match : report_refusal_line (reports.List (codes "f")) NoMatch ≡ codes "pprof: no function matches\n"
+unfolding report_refusal_line
 no_match = refl
 
-bad_index : refusal_line reports.Top BadSampleIndex ≡ codes "pprof: sample_index: no such sample type\n"
-unfolding refusal_line
+bad_index : report_refusal_line reports.Top BadSampleIndex ≡ codes "pprof: sample_index: no such sample type\n"
+unfolding report_refusal_line
 bad_index = refl
 
 -- an option without a match is noted, in the order of the options, and one that is empty is not

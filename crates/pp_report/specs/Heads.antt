@@ -7,7 +7,7 @@ use Rattle.pp_model.specs.declared.profile.ValueType.{ValueType}
 use Rattle.pp_model.specs.Finders.{Finders}
 use Rattle.pp_model.specs.Lookup.{text_of}
 use Rattle.pp_units.specs.Head.{Facts}
-use Rattle.pp_units.specs.Shown.{Shown, each, forced, picked}
+use Rattle.pp_units.specs.Shown.{Shown, picked_for_each, forced, picked}
 use Rattle.pp_count.specs.Counts.{total_of}
 
 -- the sample type of the column, if there is one
@@ -35,7 +35,7 @@ each_word = codes "each"
 abbrev pub wanted_unit : List ℕ → List ℕ → Option (Option Shown)
 wanted_unit [] unit = Some None
 wanted_unit (b ∷ wanted) unit =
-    if bytes_eq (b ∷ wanted) each_word then Some (Some (each unit))
+    if bytes_eq (b ∷ wanted) each_word then Some (Some (picked_for_each unit))
     else option_map Some (forced (b ∷ wanted) unit)
 
 -- The head of a report over a total, whose values are printed in the unit that is wanted,

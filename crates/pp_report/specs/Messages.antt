@@ -15,5 +15,5 @@ report_reason report refusals.NoMatch = codes "no function matches"
 report_reason report refusals.NoBase = codes "compare: no -diff_base was given"
 
 -- The line on a report that is not made, opaque, so that no goal shows its bytes.
-unfoldable pub refusal_line : Report → ReportRefusal → List ℕ
-refusal_line report refusal = codes "pprof: " ++ report_reason report refusal ++ codes "\n"
+unfoldable pub report_refusal_line : Report → ReportRefusal → List ℕ
+report_refusal_line report refusal = codes "pprof: " ++ report_reason report refusal ++ codes "\n"

@@ -1,7 +1,7 @@
 //! The lines that tell why a report is not made.
 ghost use Rattle.std.specs.Prelude.{◌≡◌, ◌++◌, codes, IfOk};
 ghost use Rattle.pp_model.specs.ReportFacts.{option_name};
-ghost use Rattle.pp_report.specs.Messages.{report_reason, refusal_line};
+ghost use Rattle.pp_report.specs.Messages.{report_reason, report_refusal_line};
 
 use crate::ReportRefusal;
 use pp_base::{Memory, Text};
@@ -9,9 +9,9 @@ use pp_model::{Report, Slot};
 use std::alloc::Global;
 
 /// The line on a report that is not made, with its line end.
-#[tactic(auto, unfolding(crate::specs::Messages::refusal_line))]
+#[tactic(auto, unfolding(crate::specs::Messages::report_refusal_line))]
 pub fn refusal_line(alloc: Global, report: &Report, refusal: ReportRefusal) -> Result<Text, Memory>
-    ensures { IfOk result (λ line. line ≡ refusal_line report.now refusal) }
+    ensures { IfOk result (λ line. line ≡ report_refusal_line report.now refusal) }
 {
     let mut line = Text::from_slice(alloc, b"pprof: ")?;
     put_reason(report, refusal, &mut line)?;

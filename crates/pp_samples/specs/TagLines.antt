@@ -14,7 +14,7 @@ use Rattle.pp_units.specs.Shown.{Shown}
 use Rattle.pp_units.specs.Numbers.{value_text, percent_text}
 use Rattle.pp_units.specs.Rows.{value_column}
 use Rattle.pp_units.specs.Head.{Facts}
-use Rattle.pp_tags.specs.Labels.{has_text, key_text, value_text as label_text, number_unit}
+use Rattle.pp_tags.specs.Labels.{has_text, key_text, label_value_text as label_text, number_unit}
 use Rattle.pp_tags.specs.TagFilters.{shown_labels}
 use Rattle.pp_count.specs.Column.{selected}
 use Rattle.pp_count.specs.Counts.{filtered_samples}

@@ -11,7 +11,7 @@ use Rattle.pp_model.specs.FrameTexts.{Written}
 use Rattle.pp_units.specs.Shown.{Shown, picked}
 use Rattle.pp_units.specs.Numbers.{value_text, right_text}
 use Rattle.pp_units.specs.Head.{Facts, facts_text}
-use Rattle.pp_tags.specs.Labels.{has_text, key_text, value_text as label_text, number_unit}
+use Rattle.pp_tags.specs.Labels.{has_text, key_text, label_value_text as label_text, number_unit}
 use Rattle.pp_tags.specs.TagFilters.{shown_labels}
 use Rattle.pp_grain.specs.Naming.{name_text}
 use Rattle.pp_count.specs.Column.{selected}

@@ -5,7 +5,7 @@ use Rattle.std.proofs.lemmas.List.Sums.{sum_by-cons}
 use Rattle.std.specs.List.{list_any, All, AllByRecursion, IsDistinct}
 use Rattle.std.specs.Cmp.{IsEquivalence}
 use Rattle.pp_model.specs.FirstSight.{seen_with, distinct, place_of}
-use Rattle.pp_share.specs.Sums.{added, total_of, keys_of, rows_of, sum_of, rows_with}
+use Rattle.pp_share.specs.Sums.{added, column_totals, keys_of, rows_of, sum_of, rows_with}
 use Rattle.pp_model.proofs.FirstSightLemmas.{IsSeen, all_as, map_agree, all_seen, distinct_push}
 use Rattle.pp_share.proofs.Prefix.{IsNext, next_holds, seen_all, next_weight}
 use Rattle.pp_share.proofs.SumLemmas.{added-zeros, total_push, length-total_of, abs-total_of, weight}
@@ -70,11 +70,11 @@ module _ {K : Type 0} (same : K → K → Bool) (laws : IsEquivalence same) wher
   module _ (columns : ℕ) (items : List (K × List ℤ)) (k : K) (row : List ℤ) where
     -- a key that is another's keeps its sum
     sum_other : (q : K) → same q k ≡ false → sum_of same columns (items ++ (k, row) ∷ []) q ≡ sum_of same columns items q
-    sum_other q other = ap (total_of columns) (rows_push items k q row ∙ ap (λ b. rows_of same items q ++ row_if b row) other ∙ append-nil _)
+    sum_other q other = ap (column_totals columns) (rows_push items k q row ∙ ap (λ b. rows_of same items q ++ row_if b row) other ∙ append-nil _)
 
     -- the item's key has the row added
     sum_own : (q : K) → same q k ≡ true → sum_of same columns (items ++ (k, row) ∷ []) q ≡ added (sum_of same columns items q) row
-    sum_own q own = ap (total_of columns) (rows_push items k q row ∙ ap (λ b. rows_of same items q ++ row_if b row) own) ∙ total_push columns (rows_of same items q) row
+    sum_own q own = ap (column_totals columns) (rows_push items k q row ∙ ap (λ b. rows_of same items q ++ row_if b row) own) ∙ total_push columns (rows_of same items q) row
 
     pub keys_push : distinct same (keys_of same (items ++ (k, row) ∷ [])) ≡ seen_with same (distinct same (keys_of same items)) k
     keys_push = ap (distinct same) (map-append (λ (item : K × List ℤ). item.0) items ((k, row) ∷ [])) ∙ distinct_push same laws.refl (keys_of same items) k
@@ -87,7 +87,7 @@ module _ {K : Type 0} (same : K → K → Bool) (laws : IsEquivalence same) wher
         let sum = sum_of same columns (items ++ (k, row) ∷ []) in
         let keys = distinct same (keys_of same items) in
         let own : sum k ≡ row = sum_own k (laws.refl k)
-        ∙ ap (λ rows. added (total_of columns rows) row) (no_rows items k (not_among k (keys_of same items) new)) ∙ added-zeros columns row wide in
+        ∙ ap (λ rows. added (column_totals columns rows) row) (no_rows items k (not_among k (keys_of same items) new)) ∙ added-zeros columns row wide in
         let others : map sum keys ≡ map (sum_of same columns items) keys =
         map_agree sum (sum_of same columns items) keys (all_as (λ q. same q k ≡ false) (λ q. sum q ≡ sum_of same columns items q) sum_other keys (none_is k keys new)) in
         ap (map sum) (keys_push ∙ ap (λ b. if b then keys else keys ++ k ∷ []) new)

@@ -6,7 +6,7 @@ use Rattle.std.proofs.Common.{◌≡◌, subst, fold, sum_by, ℕ, zero, suc, �
 use Rattle.std.proofs.Math.IntN.{+ℤ_idl}
 use Rattle.std.proofs.lemmas.Int.{ints}
 use Rattle.std.proofs.lemmas.List.{ext_get_or}
-use Rattle.pp_share.specs.Sums.{added, total_of}
+use Rattle.pp_share.specs.Sums.{added, column_totals}
 
 pub triangle : (a b : ℤ) → nat_abs (a +ℤ b) ≤ nat_abs a + nat_abs b
 triangle a b = omega (arith, ints)
@@ -37,14 +37,14 @@ added-zeros zero (y ∷ ys) is = absurd (omega arith)
 added-zeros (suc n) (y ∷ ys) is = (λ j. +ℤ_idl y j ∷ added-zeros n ys (omega arith) j)
 
 -- one more row
-pub total_push : (n : ℕ) (rows : List (List ℤ)) (row : List ℤ) → total_of n (rows ++ row ∷ []) ≡ added (total_of n rows) row
+pub total_push : (n : ℕ) (rows : List (List ℤ)) (row : List ℤ) → column_totals n (rows ++ row ∷ []) ≡ added (column_totals n rows) row
 total_push n rows row = fold-append added (replicate n (pos 0)) rows (row ∷ [])
 
 length-added_all : (rows : List (List ℤ)) (sum : List ℤ) → length (fold added sum rows) ≡ length sum
 length-added_all [] sum = refl
 length-added_all (row ∷ rows) sum = length-added_all rows (added sum row) ∙ length-added sum row
 
-pub length-total_of : (n : ℕ) (rows : List (List ℤ)) → length (total_of n rows) ≡ n
+pub length-total_of : (n : ℕ) (rows : List (List ℤ)) → length (column_totals n rows) ≡ n
 length-total_of n rows = length-added_all rows (replicate n (pos 0)) ∙ length-replicate n (pos 0)
 
 -- the absolute values of a column, added up
@@ -69,7 +69,7 @@ get_or-zeros (suc n) (suc column) = get_or-zeros n column
 
 -- the sum of a column is within the sum of its absolute values
 pub abs-total_of : (n : ℕ) (rows : List (List ℤ)) (column : ℕ) → column < n → AllByRecursion (λ row. length row ≡ n) rows
-    → nat_abs (get_or (total_of n rows) column (pos 0)) ≤ weight column rows
+    → nat_abs (get_or (column_totals n rows) column (pos 0)) ≤ weight column rows
 abs-total_of n rows column within wide =
     let long = length-replicate n (pos 0) in
     let all = abs-added_all rows (replicate n (pos 0)) column (omega arith) (subst (λ m. AllByRecursion (λ r. length r ≡ m) rows) (sym long) wide) in

@@ -3,7 +3,7 @@ use Rattle.std.proofs.Common.{◌≡◌, ℕ, Bool, true, false, ◌||◌, ℤ, 
 use Rattle.std.specs.List.{list_any, AllByRecursion, IsDistinct}
 use Rattle.std.specs.Cmp.{IsEquivalence}
 use Rattle.pp_model.specs.FirstSight.{distinct}
-use Rattle.pp_share.specs.Sums.{total_of, keys_of, rows_of, sum_of, summed}
+use Rattle.pp_share.specs.Sums.{column_totals, keys_of, rows_of, sum_of, summed}
 use Rattle.pp_model.proofs.FirstSightLemmas.{all_as, map_agree, distinct-map, all-seen_after}
 use Rattle.pp_share.proofs.DistinctLemmas.{distinct_same}
 use Rattle.pp_share.proofs.SumLemmas.{added-zeros}
@@ -46,7 +46,7 @@ module _ {A B : Type 0} (one : A → A → Bool) (other : B → B → Bool) (des
       ∙ ap (map put) (distinct-map one other describe P agree keys (keys_all items all))
       ∙ map_map describe put few
       ∙ map_agree (λ key. put (describe key)) (λ key. with_text (own key)) few
-      (all_as P (λ key. put (describe key) ≡ with_text (own key)) (λ key p. ap (λ rows. (describe key, total_of columns rows)) (rows-map key p items all)) few few_all)
+      (all_as P (λ key. put (describe key) ≡ with_text (own key)) (λ key p. ap (λ rows. (describe key, column_totals columns rows)) (rows-map key p items all)) few few_all)
       ∙ sym (map_map own with_text few)
 
 module _ {K : Type 0} (same : K → K → Bool) (laws : IsEquivalence same) (columns : ℕ) where
@@ -59,9 +59,9 @@ module _ {K : Type 0} (same : K → K → Bool) (laws : IsEquivalence same) (col
   with_sum items key = (key, sum_of same columns items key)
 
   with_sum_is : (x : K × List ℤ) (xs : List (K × List ℤ)) (key : K) (b : Bool) → same key x.0 ≡ b
-      → with_sum (x ∷ xs) key ≡ (key, total_of columns (map (λ (item : K × List ℤ). item.1) (if b then x ∷ filter (λ item. same key item.0) xs else filter (λ item. same key item.0) xs)))
+      → with_sum (x ∷ xs) key ≡ (key, column_totals columns (map (λ (item : K × List ℤ). item.1) (if b then x ∷ filter (λ item. same key item.0) xs else filter (λ item. same key item.0) xs)))
   with_sum_is x xs key b is =
-      ap {B = K × List ℤ} (λ c. (key, total_of columns (map (λ (item : K × List ℤ). item.1) (if c then x ∷ filter (λ item. same key item.0) xs else filter (λ item. same key item.0) xs)))) is
+      ap {B = K × List ℤ} (λ c. (key, column_totals columns (map (λ (item : K × List ℤ). item.1) (if c then x ∷ filter (λ item. same key item.0) xs else filter (λ item. same key item.0) xs)))) is
 
   alone : (items : List (K × List ℤ)) → IsDistinct same (keys_of same items) → AllByRecursion (λ item. length item.1 ≡ columns) items
       → map (with_sum items) (keys_of same items) ≡ items
@@ -72,7 +72,7 @@ module _ {K : Type 0} (same : K → K → Bool) (laws : IsEquivalence same) (col
       first : with_sum (x ∷ xs) x.0 ≡ x
       first =
           with_sum_is x xs x.0 true (laws.refl x.0)
-          ∙ ap {B = K × List ℤ} (λ rows. (x.0, total_of columns (x.1 ∷ rows))) (no_rows same laws xs x.0 (any_none x.0 (keys_of same xs) apart.0))
+          ∙ ap {B = K × List ℤ} (λ rows. (x.0, column_totals columns (x.1 ∷ rows))) (no_rows same laws xs x.0 (any_none x.0 (keys_of same xs) apart.0))
           ∙ ap {B = K × List ℤ} (λ row. (x.0, row)) (added-zeros columns x.1 wide.0)
 
       others : map (with_sum (x ∷ xs)) (keys_of same xs) ≡ map (with_sum xs) (keys_of same xs)

@@ -15,10 +15,10 @@ abbrev pub with_id : ℕ → ℕ → ℕ
 with_id number id = folded (bit_xor number id * 11400714819323198485 % 2 ^ 64)
 
 -- A number in which each id counts, and its place.
-abbrev pub number_of : List ℕ → ℕ
-number_of ids = fold with_id 0 ids
+abbrev pub stack_number : List ℕ → ℕ
+stack_number ids = fold with_id 0 ids
 
 -- Equal ids have the same number.
-pub same_number : (xs ys : List ℕ) → pointwise (λ i j. i == j) xs ys ≡ true → u64 (number_of xs) ≡ u64 (number_of ys)
+pub same_number : (xs ys : List ℕ) → pointwise (λ i j. i == j) xs ys ≡ true → u64 (stack_number xs) ≡ u64 (stack_number ys)
 same_number xs ys same =
-    ap (λ ids. u64 (number_of ids)) ((slice_eq-Decides Decides-eqb xs ys (pointwise (λ i j. i == j) xs ys) refl).0 same)
+    ap (λ ids. u64 (stack_number ids)) ((slice_eq-Decides Decides-eqb xs ys (pointwise (λ i j. i == j) xs ys) refl).0 same)

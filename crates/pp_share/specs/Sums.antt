@@ -11,8 +11,8 @@ added (x ∷ xs) [] = x ∷ xs
 added (x ∷ xs) (y ∷ ys) = (x +ℤ y) ∷ added xs ys
 
 -- rows of so many columns added up
-abbrev pub total_of : ℕ → List (List ℤ) → List ℤ
-total_of columns rows = fold added (replicate columns (pos 0)) rows
+abbrev pub column_totals : ℕ → List (List ℤ) → List ℤ
+column_totals columns rows = fold added (replicate columns (pos 0)) rows
 
 module _ {K : Type 0} (same : K → K → Bool) where
   -- the keys of the items
@@ -25,7 +25,7 @@ module _ {K : Type 0} (same : K → K → Bool) where
 
   -- the values of the key, added up
   abbrev pub sum_of : ℕ → List (K × List ℤ) → K → List ℤ
-  sum_of columns items key = total_of columns (rows_of items key)
+  sum_of columns items key = column_totals columns (rows_of items key)
 
   -- Each key once, in the order of first sight, and its values added up.
   abbrev pub summed : ℕ → List (K × List ℤ) → List (K × List ℤ)

@@ -1,6 +1,6 @@
 //! The locations of a sample, by which it is told apart.
 ghost use Rattle.std.specs.Prelude.{◌≡◌};
-ghost use Rattle.pp_share.specs.Stacks.{number_of, with_id};
+ghost use Rattle.pp_share.specs.Stacks.{stack_number, with_id};
 
 use std::hash::{Hash, Hasher};
 
@@ -13,9 +13,9 @@ pub struct Stack {
 
 impl Hash for Stack {
     ghost use Rattle.std.specs.Hash as fed;
-    ghost use Rattle.pp_share.specs.Stacks.{number_of, same_number};
+    ghost use Rattle.pp_share.specs.Stacks.{stack_number, same_number};
 
-    ghost hash_input = { λ stack. fed.u64 (number_of stack.ids.items) };
+    ghost hash_input = { λ stack. fed.u64 (stack_number stack.ids.items) };
 
     ghost respects_eq = { λ x y. same_number x.ids.items y.ids.items };
 
@@ -27,7 +27,7 @@ impl Hash for Stack {
 // A number in which each id counts, and its place.
 #[tactic(auto, using(std::proofs::lemmas::List::Sums::fold_more))]
 fn number_of(ids: &[u64]) -> u64
-    ensures { result ≡ number_of ids.now }
+    ensures { result ≡ stack_number ids.now }
 {
     let mut number = 0;
     for id in ids {

@@ -14,9 +14,9 @@ use Rattle.pp_shell.specs.declared.fault.LineRefusal.TheVariants.{Fault, Memory}
 use Rattle.pp_shell.specs.declared.argument.Argument.{Argument}
 use Rattle.pp_shell.specs.declared.argument.Argument.TheVariants.{Rows, Output, ByCum, Ignore, Focus}
 use Rattle.pp_shell.specs.declared.narrowing.Narrowing.{Narrowing}
-use Rattle.pp_shell.specs.Answers.{Answers}
-use Rattle.pp_shell.specs.Arguments.{argument_of, is_redirect, onto, arguments, nonempty, rows_of, output_of, is_by_cum, focus_of, ignore_of, one_pattern, narrowing, together}
-use Rattle.pp_shell.specs.Taking.{added, with_argument, next_argument, taken_after, left_after, TookArgument, TakesArgument, prepended, IsNarrowing}
+use Rattle.pp_shell.specs.Answers.{AnswersLine}
+use Rattle.pp_shell.specs.Arguments.{argument_of, is_redirect, argument_before, arguments, nonempty, rows_of, output_of, is_by_cum, focus_of, ignore_of, one_pattern, narrowing, together}
+use Rattle.pp_shell.specs.Taking.{with_alternative, with_argument, next_argument, taken_after, rest_after, TookArgument, TakesArgument, prepended, IsNarrowing}
 
 -- two with the same fields are the same
 same_narrowing : (a b : Narrowing) → a.rows ≡ b.rows → a.by_cum ≡ b.by_cum → a.focus ≡ b.focus → a.ignore ≡ b.ignore → a.output ≡ b.output → a ≡ b
@@ -46,7 +46,7 @@ StartsNonempty ([] ∷ xs) = ⊥
 StartsNonempty ((b ∷ bs) ∷ xs) = Unit {0}
 
 -- the same, as `added` says it
-joined_push : (xs : List (List ℕ)) (p : List ℕ) → StartsNonempty xs → one_pattern (xs ++ cons_option (nonempty p) []) ≡ added (one_pattern xs) p
+joined_push : (xs : List (List ℕ)) (p : List ℕ) → StartsNonempty xs → one_pattern (xs ++ cons_option (nonempty p) []) ≡ with_alternative (one_pattern xs) p
 joined_push xs [] starts = ap one_pattern (append-nil xs)
 joined_push [] (b ∷ bs) starts = refl
 joined_push ([] ∷ ys) (b ∷ bs) starts = absurd starts
@@ -83,7 +83,7 @@ last_of part args a = ap (last_or None) (filter_map-append part args (a ∷ []))
 -- the patterns of arguments, with one more
 joined_of :
     (part : Argument → Option (List ℕ)) (args : List Argument) (a : Argument) (p : List ℕ) → StartsNonempty (filter_map part args) → part a ≡ nonempty p
-    → one_pattern (filter_map part (args ++ a ∷ [])) ≡ added (one_pattern (filter_map part args)) p
+    → one_pattern (filter_map part (args ++ a ∷ [])) ≡ with_alternative (one_pattern (filter_map part args)) p
 joined_of part args a p h is =
     ap one_pattern (filter_map-append part args (a ∷ []))
     ∙ ap (λ o. one_pattern (filter_map part args ++ cons_option o [])) is
@@ -114,20 +114,20 @@ narrowing_push args (Focus pattern) =
 -- a word alone, by whether it is `>`
 by_redirect :
     (b : Bool) (word : List ℕ)
-    → cond b (Err EmptyRedirect) (onto (argument_of word) (Ok [])) ≡ onto (cond b (Err EmptyRedirect) (argument_of word)) (arguments (cond b [] []))
+    → cond b (Err EmptyRedirect) (argument_before (argument_of word) (Ok [])) ≡ argument_before (cond b (Err EmptyRedirect) (argument_of word)) (arguments (cond b [] []))
 by_redirect true word = refl
 by_redirect false word = refl
 
 -- a word before another, by whether it is `>`
 next_by_redirect :
     (b : Bool) (word next : List ℕ) (words : List (List ℕ))
-    → cond b (onto (Ok (Output next)) (arguments words)) (onto (argument_of word) (arguments (next ∷ words)))
-    ≡ onto (cond b (Ok (Output next)) (argument_of word)) (arguments (cond b words (next ∷ words)))
+    → cond b (argument_before (Ok (Output next)) (arguments words)) (argument_before (argument_of word) (arguments (next ∷ words)))
+    ≡ argument_before (cond b (Ok (Output next)) (argument_of word)) (arguments (cond b words (next ∷ words)))
 next_by_redirect true word next words = refl
 next_by_redirect false word next words = refl
 
 -- the words of a command are the first argument and the others
-arguments_next : (word : List ℕ) (after : List (List ℕ)) → arguments (word ∷ after) ≡ onto (next_argument word after) (arguments (left_after word after))
+arguments_next : (word : List ℕ) (after : List (List ℕ)) → arguments (word ∷ after) ≡ argument_before (next_argument word after) (arguments (rest_after word after))
 arguments_next word [] = by_redirect (is_redirect word) word
 arguments_next word (next ∷ words) = next_by_redirect (is_redirect word) word next words
 
@@ -137,7 +137,7 @@ all_before (Ok args) = refl
 all_before (Err fault) = refl
 
 -- an argument between those before and those after it
-prepended_next : (before : List Argument) (a : Argument) (r : Result (List Argument) LineFault) → prepended before (onto (Ok a) r) ≡ prepended (before ++ a ∷ []) r
+prepended_next : (before : List Argument) (a : Argument) (r : Result (List Argument) LineFault) → prepended before (argument_before (Ok a) r) ≡ prepended (before ++ a ∷ []) r
 prepended_next before a (Ok args) = ap Ok (sym (append_assoc before (a ∷ []) args))
 prepended_next before a (Err fault) = refl
 
@@ -148,7 +148,7 @@ narrowing_start n words is = record { before = []; split = sym (all_before (argu
 -- the argument of the next words was taken
 narrowing_next :
     (old new : Narrowing) (words rest : List (List ℕ)) (word : List ℕ) (after left : List (List ℕ))
-    → IsNarrowing old words rest → rest ≡ word ∷ after → TookArgument old new (next_argument word after) → left ≡ left_after word after
+    → IsNarrowing old words rest → rest ≡ word ∷ after → TookArgument old new (next_argument word after) → left ≡ rest_after word after
     → IsNarrowing new words left
 narrowing_next old new words rest word after left reading is taken left_is = record {
   before = reading.before ++ taken.argument ∷ [];
@@ -156,8 +156,8 @@ narrowing_next old new words rest word after left reading is taken left_is = rec
       reading.split
       ∙ ap (λ (ws : List (List ℕ)). prepended reading.before (arguments ws)) is
       ∙ ap (prepended reading.before) (arguments_next word after)
-      ∙ ap (λ a. prepended reading.before (onto a (arguments (left_after word after)))) taken.asked
-      ∙ prepended_next reading.before taken.argument (arguments (left_after word after))
+      ∙ ap (λ a. prepended reading.before (argument_before a (arguments (rest_after word after)))) taken.asked
+      ∙ prepended_next reading.before taken.argument (arguments (rest_after word after))
       ∙ ap (λ (ws : List (List ℕ)). prepended (reading.before ++ taken.argument ∷ []) (arguments ws)) (sym left_is);
   has = taken.took ∙ ap (λ n. with_argument n taken.argument) reading.has ∙ sym (narrowing_push reading.before taken.argument);
 }
@@ -171,17 +171,17 @@ narrowing_fault n words rest word after fault reading is wrong =
     (reading.split
     ∙ ap (λ (ws : List (List ℕ)). prepended reading.before (arguments ws)) is
     ∙ ap (prepended reading.before) (arguments_next word after)
-    ∙ ap (λ a. prepended reading.before (onto a (arguments (left_after word after)))) wrong)
+    ∙ ap (λ a. prepended reading.before (argument_before a (arguments (rest_after word after)))) wrong)
 
 -- a refusal of the next words is that of all
 narrowing_refused :
     (A B : Type 0) (old new : Narrowing) (words rest : List (List ℕ)) (word : List ℕ) (after : List (List ℕ)) (e : LineRefusal) (r : Result Narrowing LineRefusal)
     → IsNarrowing old words rest → rest ≡ word ∷ after → TakesArgument {A = A} old new (next_argument word after) (Err e) → r ≡ Err e
-    → Answers (together (arguments words)) r
+    → AnswersLine (together (arguments words)) r
 narrowing_refused A B old new words rest word after (Fault fault) r reading is refused r_is =
-    subst (λ (x : Result Narrowing LineRefusal). Answers (together (arguments words)) x) (sym r_is) (narrowing_fault old words rest word after fault reading is refused)
+    subst (λ (x : Result Narrowing LineRefusal). AnswersLine (together (arguments words)) x) (sym r_is) (narrowing_fault old words rest word after fault reading is refused)
 narrowing_refused A B old new words rest word after Memory r reading is refused r_is =
-    subst (λ (x : Result Narrowing LineRefusal). Answers (together (arguments words)) x) (sym r_is) tt
+    subst (λ (x : Result Narrowing LineRefusal). AnswersLine (together (arguments words)) x) (sym r_is) tt
 
 -- after the last word all is taken
 pub narrowing_whole : (n : Narrowing) (words : List (List ℕ)) → IsNarrowing n words [] → together (arguments words) ≡ Ok n
@@ -216,7 +216,7 @@ left_by now false (x ∷ xs) n is = rw is refl
 -- the words that are left after a word and those that belong to it
 left_is :
     {A : Type 0} (now : A → List ℕ) (words : List A) (i : ℕ) (word : List ℕ) (n : ℕ) → n ≡ taken_after word (map now (drop (i + 1) words))
-    → map now (drop (i + (1 + n)) words) ≡ left_after word (map now (drop (i + 1) words))
+    → map now (drop (i + (1 + n)) words) ≡ rest_after word (map now (drop (i + 1) words))
 left_is now words i word n is =
     let at : i + (1 + n) ≡ i + 1 + n = omega arith in
     ap (λ k. map now (drop k words)) at
@@ -250,14 +250,14 @@ word_taken now words i d after n old new below is count reading taken =
       narrowing_next old new (map now words) (map now (drop i words)) word after (map now (drop (i + (1 + n)) words)) reading
           (opened now words i d below ∙ ap (λ (ws : List (List ℕ)). word ∷ ws) (sym is))
           taken
-          (left_is now words i word n counted ∙ ap (left_after word) (sym is)),
+          (left_is now words i word n counted ∙ ap (rest_after word) (sym is)),
     )
 
 -- the word at a place was refused
 pub word_refused :
     {A : Type 0} (now : A → List ℕ) (words : List A) (i : ℕ) (d : A) (after : List (List ℕ)) (B : Type 0) (old new : Narrowing) (e : LineRefusal)
     (r : Result Narrowing LineRefusal) → i < length words → after ≡ map now (drop (i + 1) words) → IsNarrowing old (map now words) (map now (drop i words))
-    → TakesArgument {A = B} old new (next_argument (now (get_or words i d)) after) (Err e) → r ≡ Err e → Answers (together (arguments (map now words))) r
+    → TakesArgument {A = B} old new (next_argument (now (get_or words i d)) after) (Err e) → r ≡ Err e → AnswersLine (together (arguments (map now words))) r
 word_refused now words i d after B old new e r below is reading refused r_is =
     narrowing_refused B B old new (map now words) (map now (drop i words)) (now (get_or words i d)) after e r reading
     (opened now words i d below ∙ ap (λ (ws : List (List ℕ)). now (get_or words i d) ∷ ws) (sym is)) refused r_is

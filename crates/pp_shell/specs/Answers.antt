@@ -5,7 +5,7 @@ use Rattle.pp_shell.specs.declared.fault.LineRefusal.{LineRefusal}
 use Rattle.pp_shell.specs.declared.fault.LineRefusal.TheVariants.{Fault, Memory}
 
 -- the answer is that, unless memory ran out
-abbrev pub Answers : {A : Type 0} → Result A LineFault → Result A LineRefusal → Type 0
-Answers wanted (Ok given) = wanted ≡ Ok given
-Answers wanted (Err (Fault fault)) = wanted ≡ Err fault
-Answers wanted (Err Memory) = ⊤
+abbrev pub AnswersLine : {A : Type 0} → Result A LineFault → Result A LineRefusal → Type 0
+AnswersLine wanted (Ok given) = wanted ≡ Ok given
+AnswersLine wanted (Err (Fault fault)) = wanted ≡ Err fault
+AnswersLine wanted (Err Memory) = ⊤

@@ -32,11 +32,11 @@ unfoldable pub argument_of : List ℕ → Result Argument LineFault
 argument_of word = argument_or word (whole_number 0 2147483647 word)
 
 -- an argument before the others, or the first fault
-abbrev pub onto : Result Argument LineFault → Result (List Argument) LineFault
+abbrev pub argument_before : Result Argument LineFault → Result (List Argument) LineFault
     → Result (List Argument) LineFault
-onto (Err fault) others = Err fault
-onto (Ok argument) (Err fault) = Err fault
-onto (Ok argument) (Ok others) = Ok (argument ∷ others)
+argument_before (Err fault) others = Err fault
+argument_before (Ok argument) (Err fault) = Err fault
+argument_before (Ok argument) (Ok others) = Ok (argument ∷ others)
 
 -- the sign of a redirection, alone
 abbrev pub is_redirect : List ℕ → Bool
@@ -47,10 +47,10 @@ is_redirect word = bytes_eq word (codes ">")
 abbrev pub arguments : List (List ℕ) → Result (List Argument) LineFault
 arguments [] = Ok []
 arguments (word ∷ []) =
-    if is_redirect word then Err EmptyRedirect else onto (argument_of word) (Ok [])
+    if is_redirect word then Err EmptyRedirect else argument_before (argument_of word) (Ok [])
 arguments (word ∷ next ∷ words) =
-    if is_redirect word then onto (Ok (Output next)) (arguments words)
-    else onto (argument_of word) (arguments (next ∷ words))
+    if is_redirect word then argument_before (Ok (Output next)) (arguments words)
+    else argument_before (argument_of word) (arguments (next ∷ words))
 
 -- the number of rows that an argument asks for
 abbrev pub rows_of : Argument → Option ℕ

@@ -141,12 +141,12 @@ format_command first name None words c = Err (UnknownCommand first)
 format_command first name (Some format) words c = report format name words c
 
 -- the first word without the digits at its end
-abbrev pub report_name : List ℕ → List ℕ
-report_name word = without_end is_ascii_digit word
+abbrev pub without_digits : List ℕ → List ℕ
+without_digits word = without_end is_ascii_digit word
 
 -- the digits at the end of the first word
 abbrev pub report_digits : List ℕ → List ℕ
-report_digits word = drop (length (report_name word)) word
+report_digits word = drop (length (without_digits word)) word
 
 -- digits right after the name are the first of the words
 abbrev pub with_digits : List ℕ → List (List ℕ) → List (List ℕ)
@@ -156,7 +156,7 @@ with_digits (digit ∷ digits) words = (digit ∷ digits) ∷ words
 -- a report by its first word and the others
 abbrev pub report_command : List ℕ → List (List ℕ) → Config → Result Command LineFault
 report_command first words c =
-    let name = report_name first in
+    let name = without_digits first in
     format_command first name (format_named name) (with_digits (report_digits first) words) c
 
 -- a command that takes no words, or a report

@@ -10,7 +10,7 @@ use Rattle.pp_options.specs.declared.variable.Variable.TheVariants as variables
 use Rattle.pp_options.specs.Items.{setting_of_choice}
 use Rattle.pp_options.specs.Names.{choice_named}
 use Rattle.pp_options.specs.Settings.{setting_of, assigned}
-use Rattle.pp_options.specs.Spelling.{is_equals}
+use Rattle.pp_base.specs.Marks.{is_equals}
 use Rattle.pp_options.specs.Variables.{variable_named}
 use Rattle.pp_shell.specs.declared.command.Command.{Command}
 use Rattle.pp_shell.specs.declared.command.Command.TheVariants as commands

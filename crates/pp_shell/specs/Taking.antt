@@ -10,18 +10,18 @@ use Rattle.pp_shell.specs.declared.narrowing.Narrowing.{Narrowing}
 use Rattle.pp_shell.specs.Arguments.{argument_of, is_redirect, rows_of, arguments, narrowing}
 
 -- a pattern more, after those that are joined; the empty one adds nothing
-abbrev pub added : List ℕ → List ℕ → List ℕ
-added known [] = known
-added [] (byte ∷ bytes) = byte ∷ bytes
-added (first ∷ known) (byte ∷ bytes) = first ∷ known ++ 124 ∷ byte ∷ bytes
+abbrev pub with_alternative : List ℕ → List ℕ → List ℕ
+with_alternative known [] = known
+with_alternative [] (byte ∷ bytes) = byte ∷ bytes
+with_alternative (first ∷ known) (byte ∷ bytes) = first ∷ known ++ 124 ∷ byte ∷ bytes
 
 -- what is asked for with an argument more
 abbrev pub with_argument : Narrowing → Argument → Narrowing
 with_argument n (Rows rows) = record n { rows = Some rows }
 with_argument n (Output path) = record n { output = Some path }
 with_argument n ByCum = record n { by_cum = true }
-with_argument n (Ignore pattern) = record n { ignore = added n.ignore pattern }
-with_argument n (Focus pattern) = record n { focus = added n.focus pattern }
+with_argument n (Ignore pattern) = record n { ignore = with_alternative n.ignore pattern }
+with_argument n (Focus pattern) = record n { focus = with_alternative n.focus pattern }
 
 -- the file that `>` alone names: the next word
 abbrev pub redirected : List (List ℕ) → Result Argument LineFault
@@ -38,8 +38,8 @@ taken_after word [] = 0
 taken_after word (next ∷ words) = if is_redirect word then 1 else 0
 
 -- the words that are left after that
-abbrev pub left_after : List ℕ → List (List ℕ) → List (List ℕ)
-left_after word after = if is_redirect word then drop 1 after else after
+abbrev pub rest_after : List ℕ → List (List ℕ) → List (List ℕ)
+rest_after word after = if is_redirect word then drop 1 after else after
 
 -- so many rows can be shown
 abbrev pub are_fair_rows : Option ℕ → Bool
@@ -47,8 +47,8 @@ are_fair_rows None = true
 are_fair_rows (Some rows) = nat_le rows 2147483647
 
 -- where the argument is a number of rows, so many can be shown
-abbrev pub is_fair : Argument → Bool
-is_fair argument = are_fair_rows (rows_of argument)
+abbrev pub has_fair_rows : Argument → Bool
+has_fair_rows argument = are_fair_rows (rows_of argument)
 
 -- the word asks for an argument, which was taken
 pub record TookArgument (old new : Narrowing) (wanted : Result Argument LineFault) : Type 0 where

@@ -1,8 +1,8 @@
 //! The words after a command.
 ghost use Rattle.std.specs.Prelude.{◌≡◌, IfOk, IsTrue};
 ghost use Rattle.pp_shell.specs.Arguments.{argument_of};
-ghost use Rattle.pp_shell.specs.Answers.{Answers};
-ghost use Rattle.pp_shell.specs.Taking.{is_fair};
+ghost use Rattle.pp_shell.specs.Answers.{AnswersLine};
+ghost use Rattle.pp_shell.specs.Taking.{has_fair_rows};
 
 use crate::fault::{LineFault, LineRefusal};
 use pp_base::Text;
@@ -27,8 +27,8 @@ pub enum Argument {
 /// What the word asks for, where it isn't `>` alone. `Err` where it begins with `|`, or there is no memory.
 #[tactic(auto, unfolding(crate::specs::Arguments::argument_of))]
 pub fn argument_of(alloc: Global, word: &[u8]) -> Result<Argument, LineRefusal>
-    ensures argument { Answers (argument_of word.now) result }
-    ensures fair { IfOk result (λ argument. IsTrue (is_fair argument)) }
+    ensures argument { AnswersLine (argument_of word.now) result }
+    ensures fair { IfOk result (λ argument. IsTrue (has_fair_rows argument)) }
 {
     if let Some(rows) = whole_number(word, 0, i32::MAX as u64) {
         return Ok(Argument::Rows(rows as u32));

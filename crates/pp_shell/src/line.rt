@@ -5,7 +5,7 @@ ghost use Rattle.pp_shell.specs.declared.command.Command.TheVariants as commands
 ghost use Rattle.pp_shell.specs.declared.fault.LineFault.TheVariants as faults;
 ghost use Rattle.pp_shell.specs.Commands.{command, report_command, report};
 ghost use Rattle.pp_shell.specs.Lines.{line_command, assigned_variable, assigned_name, assigned_value, assigns, setting_alone};
-ghost use Rattle.pp_shell.specs.Answers.{Answers};
+ghost use Rattle.pp_shell.specs.Answers.{AnswersLine};
 
 use crate::blank::{trimmed, words_in};
 use crate::name::{Plain, plain_named, report_name, with_digits};
@@ -24,7 +24,7 @@ use std::alloc::Global;
 /// The configuration is the one that stands; it is copied and not changed.
 #[tactic(auto, unfolding(crate::specs::Lines::line_command))]
 pub fn read_line(alloc: Global, line: &[u8], config: &Config) -> Result<Command, LineRefusal>
-    ensures { Answers (line_command line.now config.now) result }
+    ensures { AnswersLine (line_command line.now config.now) result }
 {
     let line = trimmed(line);
     if line.is_empty() {
@@ -62,7 +62,7 @@ fn assign(
     value: &[u8],
     config: &Config,
 ) -> Result<Command, LineRefusal>
-    ensures { Answers (assigns name.now config.now (setting_of variable value.now)) result }
+    ensures { AnswersLine (assigns name.now config.now (setting_of variable value.now)) result }
 {
     let Some(setting) = setting_of(alloc, variable, value)? else {
         return bad_assignment(alloc, name);
@@ -77,7 +77,7 @@ fn assign_alone(
     name: &[u8],
     config: &Config,
 ) -> Result<Command, LineRefusal>
-    ensures { Answers (assigns name.now config.now (setting_alone variable)) result }
+    ensures { AnswersLine (assigns name.now config.now (setting_alone variable)) result }
 {
     match variable {
         Variable::Flag(which) => changed(alloc, Setting::Flag(which, true), config),
@@ -87,7 +87,7 @@ fn assign_alone(
 
 fn changed(alloc: Global, setting: Setting, config: &Config) -> Result<Command, LineRefusal>
     requires { IsTrue (is_fitting setting) }
-    ensures { Answers (Ok (commands.Set (assigned config.now setting))) result }
+    ensures { AnswersLine (Ok (commands.Set (assigned config.now setting))) result }
 {
     let mut config = config.copy(alloc)?;
     setting.assign(&mut config);
@@ -95,7 +95,7 @@ fn changed(alloc: Global, setting: Setting, config: &Config) -> Result<Command, 
 }
 
 fn bad_assignment(alloc: Global, name: &[u8]) -> Result<Command, LineRefusal>
-    ensures { Answers (Err (faults.BadAssignment name.now)) result }
+    ensures { AnswersLine (Err (faults.BadAssignment name.now)) result }
 {
     let name = Text::from_slice(alloc, name)?;
     Err(LineRefusal::Fault(LineFault::BadAssignment(name)))
@@ -104,7 +104,7 @@ fn bad_assignment(alloc: Global, name: &[u8]) -> Result<Command, LineRefusal>
 // What the words of a line ask for that is no assignment.
 #[tactic(auto, unfolding(crate::specs::Commands::command))]
 fn command(alloc: Global, words: &[&[u8]], config: &Config) -> Result<Command, LineRefusal>
-    ensures { Answers (command (map (λ w. w.now) words.now) config.now) result }
+    ensures { AnswersLine (command (map (λ w. w.now) words.now) config.now) result }
 {
     let [first, rest @ ..] = words else {
         return Ok(Command::Nothing);
@@ -123,7 +123,7 @@ fn report_command(
     rest: &[&[u8]],
     config: &Config,
 ) -> Result<Command, LineRefusal>
-    ensures { Answers (report_command first.now (map (λ w. w.now) rest.now) config.now) result }
+    ensures { AnswersLine (report_command first.now (map (λ w. w.now) rest.now) config.now) result }
 {
     let name = report_name(first);
     let Some(format) = format_named(name) else {
@@ -140,7 +140,7 @@ fn report(
     words: &[&[u8]],
     config: &Config,
 ) -> Result<Command, LineRefusal>
-    ensures { Answers (report format name.now (map (λ w. w.now) words.now) config.now) result }
+    ensures { AnswersLine (report format name.now (map (λ w. w.now) words.now) config.now) result }
 {
     if !format.takes_pattern() {
         return run(alloc, format, Text::new(alloc), words, config);
@@ -153,14 +153,14 @@ fn report(
 }
 
 fn unknown_command(alloc: Global, word: &[u8]) -> Result<Command, LineRefusal>
-    ensures { Answers (Err (faults.UnknownCommand word.now)) result }
+    ensures { AnswersLine (Err (faults.UnknownCommand word.now)) result }
 {
     let word = Text::from_slice(alloc, word)?;
     Err(LineRefusal::Fault(LineFault::UnknownCommand(word)))
 }
 
 fn missing_argument(alloc: Global, name: &[u8]) -> Result<Command, LineRefusal>
-    ensures { Answers (Err (faults.MissingArgument name.now)) result }
+    ensures { AnswersLine (Err (faults.MissingArgument name.now)) result }
 {
     let name = Text::from_slice(alloc, name)?;
     Err(LineRefusal::Fault(LineFault::MissingArgument(name)))

@@ -2,7 +2,7 @@
 ghost use Rattle.std.specs.Prelude.{◌≡◌, ◌≤◌, length, map, IfOk};
 ghost use Rattle.std.specs.Char.{is_ascii_digit};
 ghost use Rattle.pp_options.specs.Ends.{without_end};
-ghost use Rattle.pp_shell.specs.Commands.{plain_named, report_name, report_digits, with_digits};
+ghost use Rattle.pp_shell.specs.Commands.{plain_named, without_digits, report_digits, with_digits};
 
 use pp_base::Memory;
 use pp_options::{Named, value_named};
@@ -54,7 +54,7 @@ pub fn plain_named(name: &[u8]) -> Option<Plain>
 
 /// The word without the decimal digits at its end.
 pub fn report_name(word: &[u8]) -> &[u8]
-    ensures name { result.now ≡ report_name word.now }
+    ensures name { result.now ≡ without_digits word.now }
     ensures within { length result.now ≤ length word.now }
 {
     let mut name = word;

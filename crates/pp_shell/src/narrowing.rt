@@ -1,8 +1,8 @@
 //! What the words after a command ask for together.
 ghost use Rattle.std.specs.Prelude.{◌≡◌, [], map, IfOk, OnOk, IsTrue};
 ghost use Rattle.pp_shell.specs.Arguments.{arguments, narrowing, together};
-ghost use Rattle.pp_shell.specs.Answers.{Answers};
-ghost use Rattle.pp_shell.specs.Taking.{added, with_argument, next_argument, taken_after, TakesArgument, are_fair_rows, is_fair};
+ghost use Rattle.pp_shell.specs.Answers.{AnswersLine};
+ghost use Rattle.pp_shell.specs.Taking.{with_alternative, with_argument, next_argument, taken_after, TakesArgument, are_fair_rows, has_fair_rows};
 
 use crate::argument::{Argument, argument_of};
 use crate::fault::{LineFault, LineRefusal};
@@ -27,7 +27,7 @@ pub struct Narrowing {
 
 /// What the words ask for, or the fault of the first that is wrong. The last number of rows and the last file count.
 pub fn narrowing_of(alloc: Global, words: &[&[u8]]) -> Result<Narrowing, LineRefusal>
-    ensures narrowing { Answers (together (arguments (map (λ w. w.now) words.now))) result }
+    ensures narrowing { AnswersLine (together (arguments (map (λ w. w.now) words.now))) result }
     ensures fair { IfOk result (λ n. IsTrue (are_fair_rows n.rows)) }
 {
     let mut narrowing = Narrowing::new(alloc);
@@ -79,7 +79,7 @@ impl Narrowing {
     }
 
     fn take(&mut self, argument: Argument) -> Result<(), Memory>
-        requires argument { IsTrue (is_fair argument) }
+        requires argument { IsTrue (has_fair_rows argument) }
         requires rows { IsTrue (are_fair_rows self.old.rows) }
         ensures taken { OnOk result (self.new ≡ with_argument self.old argument) }
         ensures fair { OnOk result (IsTrue (are_fair_rows self.new.rows)) }
@@ -97,7 +97,7 @@ impl Narrowing {
 
 // Adds the pattern to the others; the empty one adds nothing.
 fn add(pattern: &[u8], others: &mut Text) -> Result<(), Memory>
-    ensures { OnOk result (others.new ≡ added others.old pattern.now) }
+    ensures { OnOk result (others.new ≡ with_alternative others.old pattern.now) }
 {
     if pattern.is_empty() {
         return Ok(());

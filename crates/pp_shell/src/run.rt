@@ -1,7 +1,7 @@
 //! Reports with the settings of one command.
 ghost use Rattle.std.specs.Prelude.{◌≡◌, map, IsTrue};
 ghost use Rattle.pp_shell.specs.Commands.{run, narrowed, with_rows, with_order, with_pattern, with_few_rows, is_short, is_of_labels, focus_variable, ignore_variable};
-ghost use Rattle.pp_shell.specs.Answers.{Answers};
+ghost use Rattle.pp_shell.specs.Answers.{AnswersLine};
 ghost use Rattle.pp_shell.specs.Taking.{are_fair_rows};
 
 use crate::narrowing::{Narrowing, narrowing_of};
@@ -23,7 +23,7 @@ pub fn run(
     words: &[&[u8]],
     config: &Config,
 ) -> Result<Command, LineRefusal>
-    ensures { Answers (run format pattern (map (λ word. word.now) words.now) config.now) result }
+    ensures { AnswersLine (run format pattern (map (λ word. word.now) words.now) config.now) result }
 {
     let narrowing = narrowing_of(alloc, words)?;
     let mut config = config.copy(alloc)?;

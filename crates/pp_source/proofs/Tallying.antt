@@ -13,7 +13,7 @@ use Rattle.pp_count.proofs.CallerLemmas.{weighed-renamed}
 use Rattle.pp_source.specs.declared.found.Found.{Found}
 use Rattle.pp_source.specs.declared.tally.Tally.{Tally}
 use Rattle.pp_source.specs.Ledgers.{AreAdded}
-use Rattle.pp_source.specs.Tally.{AddsKeys, IsReadyFor, IsTallyBy, led, number_of, tally_of, cum_with, tally_with}
+use Rattle.pp_source.specs.Tally.{AddsKeys, IsReadyFor, IsTallyBy, led, renumbered, tally_of, cum_with, tally_with}
 
 -- the sum with one more sample
 pushed : (test : List ℕ → Bool) (ss : List (Seen ℕ)) (s : Seen ℕ) (b : Bool) → test s.keys ≡ b
@@ -70,7 +70,7 @@ absolute_renamed f (s ∷ ss) =
 
 module _ (found : Found) (turn : ℕ) (seen : List (Seen ℕ)) (old : List Tally) (added : AreAdded found turn seen old) where
   abbrev number : ℕ → ℕ
-  number = number_of found.numbers.items
+  number = renumbered found.numbers.items
 
   -- a turn at which nothing is added
   pub added_later : AreAdded found (turn + 1) seen old

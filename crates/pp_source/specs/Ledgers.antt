@@ -25,7 +25,7 @@ use Rattle.pp_source.specs.declared.walk.Sums.{Sums}
 use Rattle.pp_source.specs.declared.walk.Walk.{Walk}
 use Rattle.pp_source.specs.Amounts.{source_line, routine_of}
 use Rattle.pp_source.specs.Found.{IsFoundOf, is_among_keys, has_own_function}
-use Rattle.pp_source.specs.Tally.{no_line_tally, number_of, tally_of, IsTallyBy}
+use Rattle.pp_source.specs.Tally.{no_line_tally, renumbered, tally_of, IsTallyBy}
 
 -- the configuration under which the lines of frames are counted
 abbrev pub by_lines : Config → Config
@@ -47,7 +47,7 @@ pub record AreAdded (found : Found) (turn : ℕ) (seen : List (Seen ℕ)) (talli
     : Type 0 where
   pub count : HasPartTallies found tallies
   pub each : (k : ℕ)
-      → IsTallyBy nat_cmp (map (renamed (number_of found.numbers.items)) (weighed seen)) k (tally_of tallies k)
+      → IsTallyBy nat_cmp (map (renamed (renumbered found.numbers.items)) (weighed seen)) k (tally_of tallies k)
   pub earlier : (k : ℕ) → (tally_of tallies k).last ≤ turn
 
 -- These samples are added to the sums.

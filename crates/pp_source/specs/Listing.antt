@@ -21,10 +21,10 @@ use Rattle.pp_source.specs.Routines.{found_lines}
 use Rattle.pp_source.specs.SourceText.{lines_text}
 
 -- the source that a read has found, if any
-abbrev pub source_in : FileContent → Option Source
-source_in contents.Missing = None
-source_in contents.TooLong = Some TooLong
-source_in (contents.Whole bytes) = Some (Whole bytes)
+abbrev pub source_found : FileContent → Option Source
+source_found contents.Missing = None
+source_found contents.TooLong = Some TooLong
+source_found (contents.Whole bytes) = Some (Whole bytes)
 
 -- what was found, and else what is done next
 abbrev pub or_next : Script Source → Option Source → Script Source
@@ -36,7 +36,7 @@ unfoldable pub first_present : List (List ℕ) → Script Source
 first_present [] = Give NotFound
 first_present (path ∷ paths) = do
   content ← read_file path SOURCE_LIMIT
-  or_next (first_present paths) (source_in content)
+  or_next (first_present paths) (source_found content)
 
 -- Looks for the source of a file text; nothing is read for an empty one.
 unfoldable pub source_of : Config → List ℕ → Script Source

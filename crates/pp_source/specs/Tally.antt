@@ -48,15 +48,15 @@ pub record IsReadyFor (value : ℤ) (turn : ℕ) (tallies : List Tally) : Type 0
   pub flats : (k : ℕ) → nat_abs (tally_of tallies k).flat + nat_abs value < 2 ^ 63
 
 -- the number that stands for another one
-abbrev pub number_of : List ℕ → ℕ → ℕ
-number_of numbers key = slice_index_or numbers key 0
+abbrev pub renumbered : List ℕ → ℕ → ℕ
+renumbered numbers key = slice_index_or numbers key 0
 
 -- A sample with these keys is added to the tallies of their numbers.
 pub record AddsKeys (numbers : List ℕ) (value : ℤ) (turn : ℕ) (keys : List ℕ) (old new : List Tally)
     : Type 0 where
   pub count : length new ≡ length old
   pub added : (k : ℕ) → tally_of new k
-      ≡ tally_with_seen value turn (map (number_of numbers) keys) k (tally_of old k)
+      ≡ tally_with_seen value turn (map (renumbered numbers) keys) k (tally_of old k)
 
 -- the sums of a tally, as a report prints them
 abbrev pub amounts_of_tally : Tally → Amounts

@@ -1,7 +1,7 @@
 //! Looking for the source of a file.
 ghost use Rattle.std.specs.Prelude.{◌≡◌};
 ghost use Rattle.pp_desk.specs.Went.{Went};
-ghost use Rattle.pp_source.specs.Listing.{first_present, source_in, source_of};
+ghost use Rattle.pp_source.specs.Listing.{first_present, source_found, source_of};
 
 use crate::paths::paths_to_try;
 use crate::source::{SOURCE_LIMIT, Source};
@@ -44,7 +44,7 @@ fn first_present<D: Desk>(paths: &[Text], desk: &mut D) -> Result<Source, Stop>
 
 // The source that a read has found, if any.
 fn source_in(content: FileContent) -> Option<Source>
-    ensures { result ≡ source_in content }
+    ensures { result ≡ source_found content }
 {
     match content {
         FileContent::Missing => None,

@@ -1,7 +1,7 @@
 //! Tallies by number, and by key.
 ghost use Rattle.std.specs.Prelude.{◌≡◌, ◌≢◌, ℕ, ◌+◌, ◌<◌, ◌^◌, nat_abs, length, map, All};
 ghost use Rattle.pp_source.specs.Ledgers.{tally_of_key};
-ghost use Rattle.pp_source.specs.Tally.{amounts_of_tally, credited_once, led, number_of, tally_of, tally_with, IsReadyFor};
+ghost use Rattle.pp_source.specs.Tally.{amounts_of_tally, credited_once, led, renumbered, tally_of, tally_with, IsReadyFor};
 
 use crate::amounts::Amounts;
 use crate::tally::Tally;
@@ -51,7 +51,7 @@ pub fn add_keys(tallies: &mut Vec<Tally>, numbers: &[u64], value: i64, keys: &[u
     requires ready { IsReadyFor value turn tallies.old.items }
     ensures count { length tallies.new.items ≡ length tallies.old.items }
     ensures added { (k : ℕ) → tally_of tallies.new.items k ≡ tally_with value turn
-        (map (number_of numbers.now) keys.now) k (tally_of tallies.old.items k) }
+        (map (renumbered numbers.now) keys.now) k (tally_of tallies.old.items k) }
 {
     for key in keys {
         let number = numbers[*key as usize];

@@ -17,7 +17,7 @@ use Rattle.pp_steal.specs.declared.chair.Chair.{Chair}
 use Rattle.pp_steal.specs.Pool.{count_in, took, TakesPieces, TookDealt, TakesPart}
 use Rattle.pp_steal.specs.Dealing.{is_of, lane_of, upto, dealt_to}
 use Rattle.pp_steal.specs.Lanes.{AllSit, Deques}
-use Rattle.pp_steal.specs.Closing.{times_in, chair_taken, times_at, EndsAt, AllEndAt, AreParts, AreGivenOnce, IsLearned}
+use Rattle.pp_steal.specs.Closing.{times_in, chair_taken, times_at, RowEndsAt, AllEndAt, AreParts, AreGivenOnce, IsLearned}
 use Rattle.pp_steal.proofs.Keeps.{times-append}
 use Rattle.pp_steal.proofs.Dealt.{times-filter}
 use Rattle.pp_steal.proofs.Making.{as_many, lane_home}
@@ -35,7 +35,7 @@ chair_taken_at zero (x ∷ chairs) c lt = refl
 chair_taken_at (suc lane) (x ∷ chairs) c lt = chair_taken_at lane chairs c (omega arith)
 
 -- the chair that comes off the row
-pub last_is : (home : (ℕ × ℕ) × Global) (lane : ℕ) (chairs : List Chair) (c : Chair) (n : ℕ) → EndsAt home lane chairs → n ≡ lane → Some c ≡ Some (get_or chairs n c)
+pub last_is : (home : (ℕ × ℕ) × Global) (lane : ℕ) (chairs : List Chair) (c : Chair) (n : ℕ) → RowEndsAt home lane chairs → n ≡ lane → Some c ≡ Some (get_or chairs n c)
     → IsPassOf home c.pass × ((view c.pass).role ≡ Guest) × ((view c.pass).taken ≡ chair_taken lane chairs)
 last_is home lane chairs c n ends at e =
     let is : c ≡ get_or chairs lane c = subst (λ (m : ℕ). c ≡ get_or chairs m c) at (cc) in
@@ -154,13 +154,13 @@ pub rows_end : (deal : Deal) (pieces : ℕ) (workers : Deques) (first rows : Lis
 rows_end deal pieces workers first rows taken lane k w parts same at lt is cut i d below =
     let r = part_row deal pieces workers first taken i w d parts (omega arith) in
     let chairs : List Chair = (get_or first i d).items in
-    let fits : EndsAt (worker_deque w) lane (take k chairs) = record {
+    let fits : RowEndsAt (worker_deque w) lane (take k chairs) = record {
       last = length-take-le k chairs (omega arith) ∙ at;
       pass = λ c. subst (λ (u : Chair). IsPassOf (worker_deque w) u.pass) (sym (get_or-take k chairs lane c (omega arith)))
           (subst (λ h. IsPassOf h (get_or chairs lane c).pass) (sym (lane_home workers chairs lane w (parts.homes i d (omega arith)) lt is c)) (r.1 lane c (omega arith)).pass);
       guest = λ c. subst (λ (u : Chair). (view u.pass).role ≡ Guest) (sym (get_or-take k chairs lane c (omega arith))) (r.1 lane c (omega arith)).guest;
     } in
-    subst (EndsAt (worker_deque w) lane) (sym (cut i d below)) fits
+    subst (RowEndsAt (worker_deque w) lane) (sym (cut i d below)) fits
 
 chair_is : (lane : ℕ) (chairs : List Chair) → lane < length chairs → (v : List ℕ) → ((c : Chair) → (view (get_or chairs lane c).pass).taken ≡ v) → chair_taken lane chairs ≡ v
 chair_is lane [] lt v h = absurd (omega arith)

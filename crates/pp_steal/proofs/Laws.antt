@@ -6,7 +6,7 @@ use Rattle.pp_steal.specs.declared.view.Role.TheVariants.{Owner, Marked, Guest, 
 use Rattle.pp_steal.specs.declared.view.View.{View}
 use Rattle.pp_steal.specs.Pool.{count_in, times_taken, TakesPart, FitsAs, Sound, took, joined_view}
 use Rattle.pp_steal.specs.Dealing.{is_of, lane_of, dealt_to, upto}
-use Rattle.pp_steal.specs.Core.{Deque, empty_deque, End, Front, Back, Step, Push, Pop, PopNothing, Steal, StealNothing, SplitOff, JoinIn, IsAt, LeavesAt, Steps, Runs, IsOfPool, pool_times, pool_taken, AllEmpty, EachStateIsSound, EachPieceOnce, EachTakenOnce}
+use Rattle.pp_steal.specs.Core.{Deque, empty_deque, End, Front, Back, PoolStep, Push, Pop, PopNothing, Steal, StealNothing, SplitOff, JoinIn, IsAt, LeavesAt, Steps, Runs, IsOfPool, pool_times, pool_taken, AllEmpty, EachStateIsSound, EachPieceOnce, EachTakenOnce}
 use Rattle.pp_steal.proofs.Keeps.{begins, pushes, takes, pops, forks, merges}
 use Rattle.pp_steal.proofs.Dealt.{times-filter}
 use Rattle.pp_steal.proofs.Closing.{lane_below}
@@ -30,7 +30,7 @@ takes_at : (end : End) (d : Deque) (v : View) (x : ℕ) (rest : List ℕ) → Ta
 takes_at Front d v x rest = takes_first d 0 v x rest
 takes_at Back d v x rest = takes_last d 0 v x rest
 
-step_sound : (s : Step) (d e : Deque) → Steps s d e → SoundD d → SoundD e
+step_sound : (s : PoolStep) (d e : Deque) → Steps s d e → SoundD d → SoundD e
 step_sound (Push p) d e h s =
     let t = pushes 0 h.owner p h.unmarked h.above d.items d.views s h.at in subst SoundD (sym h.next) (subst (λ (w : View). Sound (d.items ++ p ∷ []) (set d.views 0 w)) t.2 t.1)
 step_sound (Pop end) d e h s = subst SoundD (sym h.next) (takes_at end d h.owner h.piece h.rest h.live h.at h.leaves s)
@@ -41,7 +41,7 @@ step_sound (SplitOff splitter) d e h s = subst SoundD (sym h.next) (forks splitt
 step_sound (JoinIn pass other) d e h s =
     subst SoundD (sym h.next) (merges pass h.view other h.guest h.live h.role d.items d.views s h.at h.two (set_else d.views pass other (joined_view h.view h.guest) h.two ∙ h.other_at))
 
-pub runs_sound : (steps : List Step) (d e : Deque) → Runs steps d e → SoundD d → SoundD e
+pub runs_sound : (steps : List PoolStep) (d e : Deque) → Runs steps d e → SoundD d → SoundD e
 runs_sound [] d e h s = subst SoundD (sym h) s
 runs_sound (x ∷ steps) d e h s = runs_sound steps h.0 e h.2 (step_sound x d h.0 h.1 s)
 

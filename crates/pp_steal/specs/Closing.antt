@@ -50,7 +50,7 @@ times_at x lane [] = 0
 times_at x lane (row ∷ rows) = count_in x (chair_taken lane row.items) + times_at x lane rows
 
 -- the last chair of the row is at this deque
-pub record EndsAt (home : DequeId × Global) (lane : ℕ) (chairs : List Chair) : Type 0 where
+pub record RowEndsAt (home : DequeId × Global) (lane : ℕ) (chairs : List Chair) : Type 0 where
   pub last : length chairs ≡ lane + 1
   pub pass : (c : Chair) → IsPassOf home (slice_index_or chairs lane c).pass
   pub guest : (c : Chair) → (view (slice_index_or chairs lane c).pass).role ≡ Guest
@@ -59,7 +59,7 @@ pub record EndsAt (home : DequeId × Global) (lane : ℕ) (chairs : List Chair) 
 abbrev pub AllEndAt : DequeId × Global → ℕ → List (Vec Chair Global) → Type 0
 AllEndAt home lane rows =
     (k : ℕ) (row : Vec Chair Global) → k < length rows
-    → EndsAt home lane (slice_index_or rows k row).items
+    → RowEndsAt home lane (slice_index_or rows k row).items
 
 -- the parts of all lanes: the owners' handles, a row of chairs for each lane, and what each took
 pub record AreParts (deal : Deal) (pieces : ℕ) (workers : Deques) (rows : List (Vec Chair Global))

@@ -28,14 +28,14 @@ pub data End : Type 0 where
   Back : End
 
 -- The seven kinds of step. Passes go by their numbers
-pub data Step : Type 0 where
-  Push : (piece : ℕ) → Step
-  Pop : (end : End) → Step
-  PopNothing : Step
-  Steal : (thief : ℕ) → Step
-  StealNothing : (thief : ℕ) → Step
-  SplitOff : (splitter : ℕ) → Step
-  JoinIn : (pass other : ℕ) → Step
+pub data PoolStep : Type 0 where
+  Push : (piece : ℕ) → PoolStep
+  Pop : (end : End) → PoolStep
+  PopNothing : PoolStep
+  Steal : (thief : ℕ) → PoolStep
+  StealNothing : (thief : ℕ) → PoolStep
+  SplitOff : (splitter : ℕ) → PoolStep
+  JoinIn : (pass other : ℕ) → PoolStep
 
 -- the view of a pass
 abbrev pub IsAt : Deque → ℕ → View → Type 0
@@ -103,7 +103,7 @@ pub record Joins (pass other : ℕ) (d e : Deque) : Type 0 where
       ≡ a_deque d.items (slice_set (slice_set d.views pass (joined_view view guest)) other spent)
 
 -- the step may come at the first deque, and leaves the second
-abbrev pub Steps : Step → Deque → Deque → Type 0
+abbrev pub Steps : PoolStep → Deque → Deque → Type 0
 Steps (Push piece) d e = Pushes piece d e
 Steps (Pop end) d e = Pops end d e
 Steps PopNothing d e = FindsNone d e
@@ -113,14 +113,14 @@ Steps (SplitOff splitter) d e = Splits splitter d e
 Steps (JoinIn pass other) d e = Joins pass other d e
 
 -- the steps lead from the first deque to the second
-abbrev pub Runs : List Step → Deque → Deque → Type 0
+abbrev pub Runs : List PoolStep → Deque → Deque → Type 0
 Runs [] d e = e ≡ d
 Runs (s ∷ steps) d e = (m : Deque) × Steps s d m × Runs steps m e
 
 -- a deque of the pool: it comes from an empty one by some steps, and its owner was dealt these
 -- pieces
 pub record IsOfPool (dealt : List ℕ) (d : Deque) : Type 0 where
-  pub steps : List Step
+  pub steps : List PoolStep
   pub run : Runs steps empty_deque d
   pub owner : View
   pub at : IsAt d 0 owner
@@ -149,7 +149,7 @@ AllEmpty ds = (lane : ℕ) (d : Deque) → lane < length ds → (slice_index_or 
 -- whatever steps came, the deque is sound
 abbrev pub EachStateIsSound : Type 0
 EachStateIsSound =
-    (steps : List Step) (d : Deque) → Runs steps empty_deque d → Sound d.items d.views
+    (steps : List PoolStep) (d : Deque) → Runs steps empty_deque d → Sound d.items d.views
 
 -- after dealing, items and taken lists of the pool hold each piece once
 abbrev pub EachPieceOnce : Type 0

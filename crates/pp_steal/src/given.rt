@@ -5,7 +5,7 @@ ghost use Rattle.pp_steal.specs.declared.view.Role.TheVariants.{Marked};
 ghost use Rattle.pp_steal.specs.Pool.{took, TookDealt, Rises};
 ghost use Rattle.pp_steal.specs.Dealing.{AreDistinctPieces};
 ghost use Rattle.pp_steal.specs.Lanes.{taken_of};
-ghost use Rattle.pp_steal.specs.Closing.{times_in, chair_taken, EndsAt, AllEndAt, RowsCut, TookOnce, AreMarksOf, MarksMore, unmarked_of, AreParts, AreGivenOnce, HoldEachOnce, IsWholeMake, first_make};
+ghost use Rattle.pp_steal.specs.Closing.{times_in, chair_taken, RowEndsAt, AllEndAt, RowsCut, TookOnce, AreMarksOf, MarksMore, unmarked_of, AreParts, AreGivenOnce, HoldEachOnce, IsWholeMake, first_make};
 
 use crate::chair::{Chair, Owner};
 use crate::deal::Deal;
@@ -167,7 +167,7 @@ fn settle(mut worker: Owner, lane: usize, rows: &mut Vec<Vec<Chair>>)
 // Joins the last pass of the row, of this deque, into its owner's.
 fn join_last(worker: &mut Owner, lane: usize, row: &mut Vec<Chair>)
     requires worker { (worker_view worker.old).role ≡ Marked }
-    requires row { EndsAt (worker_deque worker.old) lane row.old.items }
+    requires row { RowEndsAt (worker_deque worker.old) lane row.old.items }
     ensures deque { worker_deque worker.new ≡ worker_deque worker.old }
     ensures joined { worker_view worker.new
         ≡ took (worker_view worker.old) (chair_taken lane row.old.items) }

@@ -11,7 +11,8 @@ use Rattle.pp_tables.specs.declared.refusal.ReadRefusal.{ReadRefusal}
 use Rattle.pp_tables.specs.Message.{fault_in}
 use Rattle.pp_tables.specs.Select.{all, listed, int_list_in, of_payload, texts_in, messages_in}
 use Rattle.pp_tables.specs.Tables.{profile_rules, value_type_after, no_value_type, sample_after, no_sample, mapping_after, no_mapping, location_after, no_location, function_after, no_function}
-use Rattle.pp_tables.specs.Read.{Answers, unless, read_message, profile_of, or_one_empty, HasAtMost}
+use Rattle.pp_tables.specs.Read.{Answers, profile_unless, read_message, profile_of, or_one_empty}
+use Rattle.pp_model.specs.Sizes.{HasAtMost}
 
 case_few : {A : Type 0} (b : Bool) (read : Item → List A) (i : Item) (rest : List Item) (n : ℕ) → length (read i) ≤ size_of i → length (flat_map read rest) ≤ n → length (flat_map read (cond b (i ∷ rest) rest)) ≤ size_of i + n
 case_few true read i rest n one others = omega (arith, length-append (read i) (flat_map read rest))
@@ -64,7 +65,7 @@ profile_few bytes some =
       comments = omega (arith, all_few int_list_in 13 ints_few items, most);
     }
 
-told : (P : Profile → Type 0) (fault : Option WireFault) (q : Profile) (r : Result Profile ReadRefusal) → P q → Answers r (unless fault q) → IfOk r P
+told : (P : Profile → Type 0) (fault : Option WireFault) (q : Profile) (r : Result Profile ReadRefusal) → P q → Answers r (profile_unless fault q) → IfOk r P
 told P None q (Ok p) h a = let same : q ≡ p = cc in subst P same h
 told P (Some f) q (Ok p) h a = absurd cc
 told P fault q (Err e) h a = tt

@@ -5,10 +5,11 @@ use Rattle.std.proofs.lemmas.Bool.{cases_lt, lt-ltb, le-ltb}
 use Rattle.std.proofs.lemmas.List.{length-append, take-append-le, drop-append-le}
 use Rattle.pp_wire.specs.declared.fault.WireKind.{WireKind}
 use Rattle.pp_wire.specs.declared.fault.WireKind.TheVariants.{Truncated, BadKind}
-use Rattle.pp_wire.specs.Reading.{◌>>=◌, Read}
+use Rattle.pp_wire.specs.Reading.{Read}
 use Rattle.pp_wire.specs.Varint.{groups, varint}
 use Rattle.pp_wire.specs.Walk.{placed}
-use Rattle.pp_wire.specs.Fields.{Content, Varint, Eight, Four, Bytes, Item, number_in, eight, four, run, number, content, field_in, field}
+use Rattle.pp_wire.specs.Fields.{Content, Varint, Eight, Four, Bytes, Item, number_in, eight, four, length_delimited, number, content, field_in, field}
+use Rattle.pp_base.specs.Results.{◌>>=◌}
 
 -- a content without its place
 abbrev pub bare : Content → Content
@@ -108,8 +109,8 @@ run_front end other size rest behind =
     enough SameContent behind (length rest) (length (rest ++ behind)) size Truncated _ _ (omega (arith, length-append rest behind))
     (λ long. (ap (λ b. Bytes b 0) (sym (take-append-le size rest behind long)), drop-append-le size rest behind long))
 
-run_followed : (end other : ℕ) (bytes behind : List ℕ) → Follows SameContent behind (run end bytes) (run other (bytes ++ behind))
-unfolding run
+run_followed : (end other : ℕ) (bytes behind : List ℕ) → Follows SameContent behind (length_delimited end bytes) (length_delimited other (bytes ++ behind))
+unfolding length_delimited
 run_followed end other bytes behind =
     chain Same SameContent behind (varint bytes) (varint (bytes ++ behind)) _ _ (varint_followed bytes behind)
     (λ x y same left. rw (← same, left) (run_front end other x.0 x.1 behind))
@@ -119,7 +120,7 @@ unfolding content
 content_followed end other kind bytes behind =
     choice SameContent behind (eqb kind 0) (number bytes) _ (number (bytes ++ behind)) _ (number_followed bytes behind)
     (choice SameContent behind (eqb kind 1) (eight bytes) _ (eight (bytes ++ behind)) _ (eight_followed bytes behind)
-    (choice SameContent behind (eqb kind 2) (run end bytes) _ (run other (bytes ++ behind)) _ (run_followed end other bytes behind)
+    (choice SameContent behind (eqb kind 2) (length_delimited end bytes) _ (length_delimited other (bytes ++ behind)) _ (run_followed end other bytes behind)
     (choice SameContent behind (eqb kind 5) (four bytes) (Err BadKind) (four (bytes ++ behind)) (Err BadKind) (four_followed bytes behind) tt)))
 
 field_in_followed : (end other : ℕ) (bytes behind : List ℕ) → Follows SameField behind (field_in end bytes) (field_in other (bytes ++ behind))

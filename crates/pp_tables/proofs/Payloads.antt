@@ -16,7 +16,7 @@ use Rattle.pp_tables.specs.Message.{Unknown, Scalar, Nested, fault_by, fault_of,
 use Rattle.pp_tables.specs.Select.{all, scalar, signed, ints_in, fields_in}
 use Rattle.pp_tables.specs.Tables.{value_type_rules, no_value_type, value_type_after, profile_rules}
 use Rattle.pp_tables.specs.Filling.{value_type_joined}
-use Rattle.pp_tables.specs.Read.{is_gzip, unless, profile_of, read_message, read}
+use Rattle.pp_tables.specs.Read.{is_gzip, profile_unless, profile_of, read_message, read}
 use Rattle.pp_tables.specs.Joined.{PayloadAt, payloads_in, joined_payload, fields_at, IsFaultless, Makes}
 use Rattle.pp_tables.proofs.Adds.{Message, Adds, adds_same, adds_none, adds_then, whole, nothing}
 use Rattle.pp_tables.proofs.Messages.{value_type_message}
@@ -201,7 +201,7 @@ record AreProfile (bytes : List ℕ) (p : Profile) : Type 0 where
   sound : fault_in profile_rules bytes 0 ≡ None
   is : profile_of (fields bytes 0).items ≡ p
 
-unless_ok : (fault : Option WireFault) (q p : Profile) → unless fault q ≡ Ok p → (fault ≡ None) × (q ≡ p)
+unless_ok : (fault : Option WireFault) (q p : Profile) → profile_unless fault q ≡ Ok p → (fault ≡ None) × (q ≡ p)
 unless_ok None q p e = (refl, cc)
 unless_ok (Some f) q p e = absurd cc
 

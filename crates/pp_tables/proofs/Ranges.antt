@@ -11,7 +11,7 @@ use Rattle.pp_tables.specs.declared.refusal.ReadRefusal.{ReadRefusal}
 use Rattle.pp_tables.specs.Message.{fault_in}
 use Rattle.pp_tables.specs.Select.{all, last_or, signed, scalar, uints_in, ints_in, listed, uint_list_in, int_list_in, of_payload, messages_in, fields_in}
 use Rattle.pp_tables.specs.Tables.{profile_rules, value_type_after, no_value_type, label_after, no_label, sample_after, no_sample, mapping_after, no_mapping, line_after, no_line, location_after, no_location, function_after, no_function}
-use Rattle.pp_tables.specs.Read.{is_gzip, unless, read_message, read, profile_of}
+use Rattle.pp_tables.specs.Read.{is_gzip, profile_unless, read_message, read, profile_of}
 use Rattle.pp_tables.specs.Fits.{IsUint, IsInt, ValueTypeFits, LabelFits, SampleFits, MappingFits, LineFits, LocationFits, FunctionFits, ProfileFits}
 
 -- ---- what the fields of one number give
@@ -167,7 +167,7 @@ profile_fits items are = record {
 
 -- ---- what was read
 
-made : (fault : Option WireFault) (q p : Profile) → ProfileFits q → unless fault q ≡ Ok p → ProfileFits p
+made : (fault : Option WireFault) (q p : Profile) → ProfileFits q → profile_unless fault q ≡ Ok p → ProfileFits p
 made None q p fits is = let same : q ≡ p = cc in subst ProfileFits same fits
 made (Some f) q p fits is = absurd cc
 

@@ -17,7 +17,7 @@ use Rattle.pp_tables.specs.Select.{signed}
 use Rattle.pp_tables.specs.Tables.{no_value_type, no_sample, no_mapping, no_location, no_function, profile_rules, no_profile, profile_after}
 use Rattle.pp_tables.specs.Takes.{profile_put}
 use Rattle.pp_tables.specs.Filling.{profile_none, profile_more}
-use Rattle.pp_tables.specs.Read.{is_gzip, or_one_empty, profile_of, unless, read_message, read}
+use Rattle.pp_tables.specs.Read.{is_gzip, or_one_empty, profile_of, profile_unless, read_message, read}
 use Rattle.pp_tables.specs.Encode.{unsigned, int_field, message_fields, value_type_bytes, sample_bytes, mapping_bytes, location_bytes, function_bytes, is_no_type, period_type_field, table_bytes, header_bytes, encode}
 use Rattle.pp_tables.specs.Fits.{IsInt, ValueTypeFits, SampleFits, MappingFits, LocationFits, FunctionFits, ProfileFits}
 use Rattle.pp_tables.proofs.Adds.{Message, Adds, Whole, adds_same, adds_none, adds_then, whole, scalar_adds, packed_adds, run_adds, each_adds, table_adds}
@@ -185,7 +185,7 @@ read_whole : (bytes : List ℕ) (p : Profile) → (bytes ≡ [] → ⊥) → fau
 read_whole [] p some sound is = absurd (some refl)
 read_whole (b ∷ bytes) p some sound is =
     let plain : is_gzip (b ∷ bytes) ≡ false = not_true (is_gzip (b ∷ bytes)) (λ e. gzip_fault (b ∷ bytes) e sound) in
-    let message : read_message (b ∷ bytes) ≡ Ok p = ap (λ f. unless f (profile_of (fields (b ∷ bytes) 0).items)) sound ∙ ap (unless None) is in
+    let message : read_message (b ∷ bytes) ≡ Ok p = ap (λ f. profile_unless f (profile_of (fields (b ∷ bytes) 0).items)) sound ∙ ap (profile_unless None) is in
     ap (λ c. cond c (Err refusal.Compressed) (read_message (b ∷ bytes))) plain ∙ message
 
 pub written_again : (p : Profile) → NoRuleFails p → ProfileFits p → length (encode p) < 2 ^ 64 → read (encode p) ≡ Ok p

@@ -1,5 +1,5 @@
 -- The profile that a file's bytes are, or why they are none.
-use Rattle.std.specs.Prelude.{◌≡◌, ℕ, ◌≤◌, length, ◌==◌, ◌&&◌, Bool, false, List, [], ◌∷◌, Option, Some, None, Result, Ok, Err, if◌then◌else◌, ⊤}
+use Rattle.std.specs.Prelude.{◌≡◌, ℕ, ◌==◌, ◌&&◌, Bool, false, List, [], ◌∷◌, Option, Some, None, Result, Ok, Err, if◌then◌else◌, ⊤}
 use Rattle.pp_wire.specs.declared.fault.WireFault.{WireFault}
 use Rattle.pp_wire.specs.Fields.{Item, fields}
 use Rattle.pp_model.specs.declared.profile.Profile.{Profile}
@@ -24,13 +24,13 @@ abbrev pub profile_of : List Item → Profile
 profile_of items = let p = profile_after no_profile items in record p { text = or_one_empty p.text }
 
 -- that profile, unless there is a fault
-abbrev pub unless : Option WireFault → Profile → Result Profile ReadRefusal
-unless (Some fault) p = Err (refusal.Wire fault)
-unless None p = Ok p
+abbrev pub profile_unless : Option WireFault → Profile → Result Profile ReadRefusal
+profile_unless (Some fault) p = Err (refusal.Wire fault)
+profile_unless None p = Ok p
 
 -- what the bytes of a message are: the first fault in them, or what its fields make
 abbrev pub read_message : List ℕ → Result Profile ReadRefusal
-read_message bytes = unless (fault_in profile_rules bytes 0) (profile_of (fields bytes 0).items)
+read_message bytes = profile_unless (fault_in profile_rules bytes 0) (profile_of (fields bytes 0).items)
 
 -- What a file's bytes are.
 abbrev pub read : List ℕ → Result Profile ReadRefusal
@@ -44,13 +44,3 @@ Answers (Err refusal.Memory) wanted = ⊤
 Answers (Err refusal.Empty) wanted = wanted ≡ Err refusal.Empty
 Answers (Err refusal.Compressed) wanted = wanted ≡ Err refusal.Compressed
 Answers (Err (refusal.Wire fault)) wanted = wanted ≡ Err (refusal.Wire fault)
-
--- no table has more entries than that
-pub record HasAtMost (n : ℕ) (p : Profile) : Type 0 where
-  pub sample_types : length p.sample_type ≤ n
-  pub samples : length p.sample ≤ n
-  pub mappings : length p.mapping ≤ n
-  pub locations : length p.location ≤ n
-  pub functions : length p.function ≤ n
-  pub texts : length p.text ≤ n
-  pub comments : length p.comment ≤ n

@@ -17,7 +17,7 @@ use Rattle.pp_model.specs.Lookup.{text_of, text_number}
 use Rattle.pp_model.specs.Judged.{judged}
 use Rattle.pp_model.specs.Rules.{NoRuleFails, label_has_texts, is_text}
 use Rattle.pp_model.proofs.RuleLemmas.{passes, text_below}
-use Rattle.pp_tags.specs.Labels.{has_text, key_text, value_text}
+use Rattle.pp_tags.specs.Labels.{has_text, key_text, label_value_text}
 use Rattle.pp_tags.specs.TagFilters.{selects_some, is_shown, shown_labels}
 use Rattle.pp_tags.specs.Verdicts.{verdict_on, verdict_or, is_shown_by, shown_by, finds_value, some_found}
 use Rattle.pp_tags.proofs.AlikeLemmas.{list_any_alike, filter_alike}
@@ -61,7 +61,7 @@ shown_alike l v f p labels same holds inside =
 
 -- some part finds the value
 value_alike : (p : Profile) (finders : List Finder) (label : Label) → label_has_texts p label ≡ true →
-    finds_value (map (λ find. map find p.text) finders) label ≡ list_any (λ find. find (value_text p label)) finders
+    finds_value (map (λ find. map find p.text) finders) label ≡ list_any (λ find. find (label_value_text p label)) finders
 value_alike p [] label inside = refl
 value_alike p (find ∷ finders) label inside =
     ap₂ (λ a b. a || b) (verdict_is p find label.text (value_inside p label inside)) (value_alike p finders label inside)

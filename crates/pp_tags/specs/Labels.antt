@@ -15,8 +15,8 @@ abbrev pub key_text : Profile → Label → List ℕ
 key_text p label = text_of p label.key
 
 -- the value of a text label
-abbrev pub value_text : Profile → Label → List ℕ
-value_text p label = text_of p label.text
+abbrev pub label_value_text : Profile → Label → List ℕ
+label_value_text p label = text_of p label.text
 
 -- key and value, with a colon between them
 abbrev pub key_value : List ℕ → List ℕ → List ℕ

@@ -10,12 +10,9 @@ use Rattle.pp_model.specs.Finders.{Finder, Finders}
 use Rattle.pp_units.specs.declared.range.Range.{Range}
 use Rattle.pp_units.specs.Ranges.{range_of, in_range}
 use Rattle.pp_tags.specs.declared.tag_filter.TagFilter.{TagFilter}
-use Rattle.pp_tags.specs.Labels.{has_text, key_text, value_text, key_value, number_unit}
+use Rattle.pp_tags.specs.Labels.{has_text, key_text, label_value_text, key_value, number_unit}
 use Rattle.pp_tags.specs.TagPairs.{tag_of, tag_pairs, tag_text}
-
--- an equals sign parts the name from the rest
-abbrev pub is_equals : ℕ → Bool
-is_equals b = b == 61
+use Rattle.pp_base.specs.Marks.{is_equals}
 
 -- a comma parts the parts
 abbrev pub is_comma : ℕ → Bool
@@ -47,15 +44,15 @@ filter_in_force [] = None
 filter_in_force (b ∷ bs) = Some (filter_of (b ∷ bs))
 
 -- the label has the name, where one is given
-abbrev pub is_named : Profile → List ℕ → Label → Bool
-is_named p [] label = true
-is_named p (b ∷ bs) label = bytes_eq (key_text p label) (b ∷ bs)
+abbrev pub has_name : Profile → List ℕ → Label → Bool
+has_name p [] label = true
+has_name p (b ∷ bs) label = bytes_eq (key_text p label) (b ∷ bs)
 
 -- a number label of the name lies in the range
 abbrev pub selects_range : Profile → List ℕ → Range → Sample → Bool
 selects_range p name range s =
     list_any
-    (λ label. not (has_text label) && is_named p name label
+    (λ label. not (has_text label) && has_name p name label
     && in_range range label.num (number_unit p label))
     s.label
 
@@ -64,7 +61,7 @@ abbrev pub selects_each : Profile → List Finder → Sample → Bool
 selects_each p parts s =
     list_all
     (λ find. list_any
-    (λ label. has_text label && find (key_value (key_text p label) (value_text p label)))
+    (λ label. has_text label && find (key_value (key_text p label) (label_value_text p label)))
     s.label)
     parts
 
@@ -73,7 +70,7 @@ abbrev pub selects_some : Profile → List ℕ → List Finder → Sample → Bo
 selects_some p name parts s =
     list_any
     (λ label. has_text label && bytes_eq (key_text p label) name
-    && list_any (λ find. find (value_text p label)) parts)
+    && list_any (λ find. find (label_value_text p label)) parts)
     s.label
 
 -- the parts select the sample, by the name or without one

@@ -8,7 +8,7 @@ ghost use Rattle.pp_model.specs.Finders.{Finder, Finders};
 ghost use Rattle.pp_model.specs.declared.verdicts.Tag.{Tag as TagValue};
 ghost use Rattle.pp_tags.specs.Labels.{has_text, number_unit};
 ghost use Rattle.pp_tags.specs.TagPairs.{tag_pairs, AreRising, tag_of, tag_cmp};
-ghost use Rattle.pp_tags.specs.TagFilters.{ArePartVerdicts, ArePartVerdictsBy, AreTagVerdicts, AreTagVerdictsBy, HasItsTags, selects, selects_by, selects_or, selects_by_or, is_named, is_tag_kept, is_tag_kept_by};
+ghost use Rattle.pp_tags.specs.TagFilters.{ArePartVerdicts, ArePartVerdictsBy, AreTagVerdicts, AreTagVerdictsBy, HasItsTags, selects, selects_by, selects_or, selects_by_or, has_name, is_tag_kept, is_tag_kept_by};
 ghost use Rattle.pp_tags.specs.Verdicts.{finds_value, some_found, finds_tag, HasTagsOf};
 
 use crate::labels::{has_text, number_unit};
@@ -102,7 +102,7 @@ pub fn selects(
 // Whether a number label of the name lies in the range.
 fn selects_range(p: &Profile, name: &[u8], range: &Range, labels: &[Label]) -> bool
     ensures { result ≡ list_any
-        (λ label. not (has_text label) && is_named p.now name.now label
+        (λ label. not (has_text label) && has_name p.now name.now label
         && in_range range.now label.num (number_unit p.now label)) labels.now }
 {
     labels.iter().any(|label| {
@@ -114,7 +114,7 @@ fn selects_range(p: &Profile, name: &[u8], range: &Range, labels: &[Label]) -> b
 
 // Whether the label has the name, where one is given.
 fn is_named(p: &Profile, name: &[u8], label: &Label) -> bool
-    ensures { result ≡ is_named p.now name.now label.now }
+    ensures { result ≡ has_name p.now name.now label.now }
 {
     name.is_empty() || text_of(p, label.key) == name
 }

@@ -4,7 +4,7 @@ use Rattle.std.specs.Fmt.{digits}
 use Rattle.pp_units.specs.declared.range.Bound.{Bound}
 use Rattle.pp_units.specs.declared.range.Range.{Range}
 use Rattle.pp_units.specs.Scales.{scale_of, is_named}
-use Rattle.pp_units.specs.Shown.{picked, forced, each, is_same_kind}
+use Rattle.pp_units.specs.Shown.{picked, forced, picked_for_each, is_same_kind}
 use Rattle.pp_units.specs.Numbers.{number_text, value_text, percent_text}
 use Rattle.pp_units.specs.Ranges.{bound_of, range_of, in_range}
 use Rattle.pp_units.specs.Fractions.{fraction_of}
@@ -123,26 +123,26 @@ lowest_hours = refl
 
 -- a value's text in a unit of its own
 alone : ℤ → List ℕ → List ℕ
-alone value unit = value_text value (each unit)
+alone value unit = value_text value (picked_for_each unit)
 
 alone_below : alone (negsuc 1535) (codes "bytes") ≡ codes "-1.50kB"
-unfolding alone value_text number_text each scale_of is_named digits
+unfolding alone value_text number_text picked_for_each scale_of is_named digits
 alone_below = refl
 
 alone_small : alone (pos 5) (codes "ms") ≡ codes "5ms"
-unfolding alone value_text number_text each scale_of is_named digits
+unfolding alone value_text number_text picked_for_each scale_of is_named digits
 alone_small = refl
 
 alone_large : alone (pos 7200000) (codes "ms") ≡ codes "2hrs"
-unfolding alone value_text number_text each scale_of is_named digits
+unfolding alone value_text number_text picked_for_each scale_of is_named digits
 alone_large = refl
 
 alone_nothing : alone (pos 0) (codes "ms") ≡ codes "0"
-unfolding alone value_text number_text each scale_of is_named digits
+unfolding alone value_text number_text picked_for_each scale_of is_named digits
 alone_nothing = refl
 
 alone_other : alone (negsuc 1) (codes "Widgets") ≡ codes "-2Widgets"
-unfolding alone value_text number_text each scale_of is_named digits
+unfolding alone value_text number_text picked_for_each scale_of is_named digits
 alone_other = refl
 
 percent_whole : percent_text (pos 60) 60 ≡ codes "100.00%"

@@ -70,8 +70,8 @@ range_of text =
     else option_map alone (bound_of text)
 
 -- a number of the unit, counted in the smallest unit of the family
-abbrev pub scaled : ℤ → List ℕ → ℤ
-scaled number unit = number *ℤ pos (factor_of unit)
+abbrev pub in_smallest_unit : ℤ → List ℕ → ℤ
+in_smallest_unit number unit = number *ℤ pos (factor_of unit)
 
 -- a bound without a unit has that of the number
 abbrev pub has_unit : Bound → Bool
@@ -82,7 +82,7 @@ abbrev pub is_above : Option Bound → ℤ → List ℕ → Bool
 is_above None num unit = true
 is_above (Some bound) num unit =
     if has_unit bound
-    then is_same_kind bound.unit unit && int_le (scaled bound.number bound.unit) (scaled num unit)
+    then is_same_kind bound.unit unit && int_le (in_smallest_unit bound.number bound.unit) (in_smallest_unit num unit)
     else int_le bound.number num
 
 -- the number is not above the bound, if there is one
@@ -90,7 +90,7 @@ abbrev pub is_below : Option Bound → ℤ → List ℕ → Bool
 is_below None num unit = true
 is_below (Some bound) num unit =
     if has_unit bound
-    then is_same_kind bound.unit unit && int_le (scaled num unit) (scaled bound.number bound.unit)
+    then is_same_kind bound.unit unit && int_le (in_smallest_unit num unit) (in_smallest_unit bound.number bound.unit)
     else int_le num bound.number
 
 -- the number of the unit lies in the range

@@ -80,8 +80,8 @@ abbrev pub known_family : List ℕ → Option Family
 known_family unit = option_map family_of_scale (scale_of unit)
 
 -- A unit for each value: the one that is picked for a total of its size. The unit that stands beside it is that of 1.
-unfoldable pub each : List ℕ → Shown
-each unit = record { from = factor_of unit; to = factor_of unit; suffix = suffix_of unit; each = known_family unit }
+unfoldable pub picked_for_each : List ℕ → Shown
+picked_for_each unit = record { from = factor_of unit; to = factor_of unit; suffix = suffix_of unit; each = known_family unit }
 
 -- the unit of the table in which a value of this size is printed, where each value has its own
 abbrev pub own_scale : ℕ → Shown → Option Scale

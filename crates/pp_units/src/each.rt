@@ -1,6 +1,6 @@
 //! A unit for each value.
 ghost use Rattle.std.specs.Prelude.{◌≡◌, IfOk};
-ghost use Rattle.pp_units.specs.Shown.{shown, each, known_family};
+ghost use Rattle.pp_units.specs.Shown.{shown, picked_for_each, known_family};
 
 use crate::forced::{factor_of, suffix_of};
 use crate::scale::scale_of;
@@ -9,9 +9,9 @@ use pp_base::{Memory, Text};
 use std::alloc::Global;
 
 /// How values are printed that have each the unit that would be picked for a total of its absolute value.
-#[tactic(auto, unfolding(crate::specs::Shown::each))]
+#[tactic(auto, unfolding(crate::specs::Shown::picked_for_each))]
 pub fn each_unit(alloc: Global, unit: &[u8]) -> Result<Unit, Memory>
-    ensures { IfOk result (λ unit'. shown unit' ≡ each unit.now) }
+    ensures { IfOk result (λ unit'. shown unit' ≡ picked_for_each unit.now) }
 {
     Ok(Unit {
         from: factor_of(unit),

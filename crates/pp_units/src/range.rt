@@ -3,7 +3,7 @@ ghost use Rattle.std.specs.Prelude.{◌≡◌, ◌≤◌, true, length, drop, ta
 ghost use Rattle.std.specs.Char.{is_ascii_digit, is_ascii_alphabetic};
 ghost use Rattle.std.specs.List.{list_all, prefix_len};
 ghost use Rattle.std.specs.Str.Parse.{digits_value, starts_with_minus, without_leading_sign};
-ghost use Rattle.pp_units.specs.Ranges.{range_of, bound_of, side_of, between, alone, with_sign, fitting, in_range, is_above, is_below, scaled};
+ghost use Rattle.pp_units.specs.Ranges.{range_of, bound_of, side_of, between, alone, with_sign, fitting, in_range, is_above, is_below, in_smallest_unit};
 ghost use Rattle.pp_units.specs.BoundIn.{whole_bound};
 
 use crate::forced::{factor_of, is_same_kind};
@@ -206,7 +206,7 @@ fn is_below(high: &Option<Bound>, num: i64, unit: &[u8]) -> bool
 
 // The number, counted in the smallest unit of the unit's family.
 fn scaled(number: i64, unit: &[u8]) -> i128
-    ensures { result ≡ scaled number unit.now }
+    ensures { result ≡ in_smallest_unit number unit.now }
 {
     i128::from(number) * i128::from(factor_of(unit))
 }

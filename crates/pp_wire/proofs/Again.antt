@@ -10,7 +10,7 @@ use Rattle.pp_wire.specs.declared.fault.WireKind.{WireKind}
 use Rattle.pp_wire.specs.Reading.{Read}
 use Rattle.pp_wire.specs.Varint.{groups, varint}
 use Rattle.pp_wire.specs.Walk.{walk_in, walk_of, placed, more}
-use Rattle.pp_wire.specs.Fields.{Content, Varint, Bytes, Item, number_in, run, number, content, field_in, field, fields, numbers}
+use Rattle.pp_wire.specs.Fields.{Content, Varint, Bytes, Item, number_in, length_delimited, number, content, field_in, field, fields, numbers}
 use Rattle.pp_wire.specs.Spelling.{shortest, varint_bytes, tag_bytes, number_field, bytes_field}
 use Rattle.pp_wire.proofs.Walks.{walk_more}
 use Rattle.pp_wire.proofs.Shrinking.{field_shrinks, number_shrinks}
@@ -70,8 +70,8 @@ number_again : (n : ℕ) (rest : List ℕ) → n < 2 ^ 64 → number (varint_byt
 unfolding number
 number_again n rest lt = rw (varint_again n rest lt) refl
 
-run_again : (end : ℕ) (bytes rest : List ℕ) → length bytes < 2 ^ 64 → run end (varint_bytes (length bytes) ++ (bytes ++ rest)) ≡ read_of (Bytes bytes (end - length (bytes ++ rest))) rest
-unfolding run
+run_again : (end : ℕ) (bytes rest : List ℕ) → length bytes < 2 ^ 64 → length_delimited end (varint_bytes (length bytes) ++ (bytes ++ rest)) ≡ read_of (Bytes bytes (end - length (bytes ++ rest))) rest
+unfolding length_delimited
 run_again end bytes rest lt =
     let long : ltb (length (bytes ++ rest)) (length bytes) ≡ false = le-ltb _ _ (omega (arith, length-append bytes rest)) in
     rw (varint_again (length bytes) (bytes ++ rest) lt, long, take_at bytes rest (length bytes) refl, drop_at bytes rest (length bytes) refl) refl
@@ -80,7 +80,7 @@ number_content : (end : ℕ) (bytes : List ℕ) → content end 0 bytes ≡ numb
 unfolding content
 number_content end bytes = refl
 
-run_content : (end : ℕ) (bytes : List ℕ) → content end 2 bytes ≡ run end bytes
+run_content : (end : ℕ) (bytes : List ℕ) → content end 2 bytes ≡ length_delimited end bytes
 unfolding content
 run_content end bytes = refl
 
@@ -132,7 +132,7 @@ bytes_field_again number bytes rest base least below lt =
     let end = base + length ((tag ++ (len ++ bytes)) ++ rest) in
     let place : end - length (bytes ++ rest) ≡ base + length (tag ++ len) =
     omega (arith, length-append (tag ++ (len ++ bytes)) rest, length-append tag (len ++ bytes), length-append len bytes, length-append bytes rest, length-append tag len) in
-    let read = run_content end ((len ++ bytes) ++ rest) ∙ ap (run end) (append_assoc len bytes rest) ∙ run_again end bytes rest lt in
+    let read = run_content end ((len ++ bytes) ++ rest) ∙ ap (length_delimited end) (append_assoc len bytes rest) ∙ run_again end bytes rest lt in
     let step = field_step number 2 (len ++ bytes) rest (Bytes bytes (end - length (bytes ++ rest))) base (omega arith) least below read in
     ap (λ (b : List ℕ). fields (b ++ rest) base) grouped ∙ step
     ∙ ap (λ (at : ℕ). more (item_of number (Bytes bytes at) base) (fields rest (base + length (tag ++ (len ++ bytes))))) place

@@ -5,10 +5,11 @@ use Rattle.std.proofs.Math.Nat.{pow-suc}
 use Rattle.std.proofs.lemmas.Nat.{div_below}
 use Rattle.std.proofs.lemmas.Bool.{cases_lt, lt-ltb, le-ltb}
 use Rattle.pp_wire.specs.declared.fault.WireKind.{WireKind}
-use Rattle.pp_wire.specs.Reading.{◌>>=◌, Read}
+use Rattle.pp_wire.specs.Reading.{Read}
 use Rattle.pp_wire.specs.Varint.{groups, varint}
 use Rattle.pp_wire.specs.Spelling.{shortest, varint_bytes}
 use Rattle.pp_wire.proofs.Shortest.{last_group, next_group, all_groups}
+use Rattle.pp_base.specs.Results.{◌>>=◌}
 
 -- what was read took one group and so many more, and its number lies below what these can spell
 pub record Took (bytes : List ℕ) (n : ℕ) (rest : List ℕ) : Type 0 where

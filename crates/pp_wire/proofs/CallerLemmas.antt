@@ -5,12 +5,13 @@ use Rattle.std.proofs.lemmas.List.{length-drop, length-take}
 use Rattle.pp_wire.specs.declared.fault.WireKind.{WireKind}
 use Rattle.pp_wire.specs.declared.fault.WireKind.TheVariants.{Truncated, BadKind}
 use Rattle.pp_wire.specs.declared.fault.WireFault.{WireFault}
-use Rattle.pp_wire.specs.Reading.{◌>>=◌, Read}
+use Rattle.pp_wire.specs.Reading.{Read}
 use Rattle.pp_wire.specs.Varint.{varint}
 use Rattle.pp_wire.specs.Walk.{Walk, and_then, walk_in, placed}
-use Rattle.pp_wire.specs.Fields.{Content, Varint, Eight, Four, Bytes, Item, number_in, eight, four, run, number, content, field_in, field, fields, numbers}
+use Rattle.pp_wire.specs.Fields.{Content, Varint, Eight, Four, Bytes, Item, number_in, eight, four, length_delimited, number, content, field_in, field, fields, numbers}
 use Rattle.pp_wire.proofs.Walks.{length-walk_of}
 use Rattle.pp_wire.proofs.Shrinking.{LeavesBelow, varint_below}
+use Rattle.pp_base.specs.Results.{◌>>=◌}
 
 -- no more numbers than bytes
 pub length-numbers : (bytes : List ℕ) (at : ℕ) → length (numbers bytes at).items ≤ length bytes
@@ -65,8 +66,8 @@ four_fits : (bytes : List ℕ) → FitsIn run_length (length bytes) (four bytes)
 unfolding four
 four_fits bytes = choice run_length (length bytes) (ltb (length bytes) 4) (Err Truncated) (Ok (Four (from_le_bytes w32 (take 4 bytes)), drop 4 bytes)) tt (omega (arith, length-drop 4 bytes))
 
-run_fits : (end : ℕ) (bytes : List ℕ) → FitsIn run_length (length bytes) (run end bytes)
-unfolding run
+run_fits : (end : ℕ) (bytes : List ℕ) → FitsIn run_length (length bytes) (length_delimited end bytes)
+unfolding length_delimited
 run_fits end bytes =
     after_read run_length (length bytes) (length bytes) (varint bytes) (λ len. cond (ltb (length len.1) len.0) (Err Truncated) (Ok (Bytes (take len.0 len.1) (end - length len.1), drop len.0 len.1))) (varint_below bytes)
     (λ len lt. choice run_length (length bytes) (ltb (length len.1) len.0) (Err Truncated) (Ok (Bytes (take len.0 len.1) (end - length len.1), drop len.0 len.1)) tt (omega (arith, length-take len.0 len.1, length-drop len.0 len.1)))
@@ -77,7 +78,7 @@ content_fits end kind bytes =
     let n = length bytes in
     choice run_length n (eqb kind 0) (number bytes) _ (number_fits bytes)
     (choice run_length n (eqb kind 1) (eight bytes) _ (eight_fits bytes)
-    (choice run_length n (eqb kind 2) (run end bytes) _ (run_fits end bytes)
+    (choice run_length n (eqb kind 2) (length_delimited end bytes) _ (run_fits end bytes)
     (choice run_length n (eqb kind 5) (four bytes) (Err BadKind) (four_fits bytes) tt)))
 
 field_in_fits : (end : ℕ) (bytes : List ℕ) → FitsIn size_of (length bytes) (field_in end bytes)

@@ -5,10 +5,11 @@ use Rattle.std.specs.List.{AllByRecursion}
 use Rattle.pp_wire.specs.declared.fault.WireKind.{WireKind}
 use Rattle.pp_wire.specs.declared.fault.WireKind.TheVariants.{Truncated, BadKind}
 use Rattle.pp_wire.specs.declared.fault.WireFault.{WireFault}
-use Rattle.pp_wire.specs.Reading.{◌>>=◌, Read}
+use Rattle.pp_wire.specs.Reading.{Read}
 use Rattle.pp_wire.specs.Varint.{groups, varint}
 use Rattle.pp_wire.specs.Walk.{Walk, and_then, walk_in, placed}
-use Rattle.pp_wire.specs.Fields.{Content, Varint, Eight, Four, Bytes, Item, number_in, eight, four, run, number, content, field_in, field, fields, numbers}
+use Rattle.pp_wire.specs.Fields.{Content, Varint, Eight, Four, Bytes, Item, number_in, eight, four, length_delimited, number, content, field_in, field, fields, numbers}
+use Rattle.pp_base.specs.Results.{◌>>=◌}
 
 -- a number of 64 bits
 abbrev IsUint : ℕ → Type 0
@@ -58,8 +59,8 @@ four_gets : (bytes : List ℕ) → Gets VarintFits (four bytes)
 unfolding four
 four_gets bytes = choice VarintFits (ltb (length bytes) 4) (Err Truncated) (Ok (Four (from_le_bytes w32 (take 4 bytes)), drop 4 bytes)) tt tt
 
-run_gets : (end : ℕ) (bytes : List ℕ) → Gets VarintFits (run end bytes)
-unfolding run
+run_gets : (end : ℕ) (bytes : List ℕ) → Gets VarintFits (length_delimited end bytes)
+unfolding length_delimited
 run_gets end bytes =
     any VarintFits (varint bytes) (λ len. cond (ltb (length len.1) len.0) (Err Truncated) (Ok (Bytes (take len.0 len.1) (end - length len.1), drop len.0 len.1)))
     (λ len. choice VarintFits (ltb (length len.1) len.0) (Err Truncated) (Ok (Bytes (take len.0 len.1) (end - length len.1), drop len.0 len.1)) tt tt)
@@ -69,7 +70,7 @@ unfolding content
 content_gets end kind bytes =
     choice VarintFits (eqb kind 0) (number bytes) _ (number_gets bytes)
     (choice VarintFits (eqb kind 1) (eight bytes) _ (eight_gets bytes)
-    (choice VarintFits (eqb kind 2) (run end bytes) _ (run_gets end bytes)
+    (choice VarintFits (eqb kind 2) (length_delimited end bytes) _ (run_gets end bytes)
     (choice VarintFits (eqb kind 5) (four bytes) (Err BadKind) (four_gets bytes) tt)))
 
 field_in_gets : (end : ℕ) (bytes : List ℕ) → Gets ItemFits (field_in end bytes)

@@ -4,11 +4,12 @@ use Rattle.std.specs.Int.{w32, w64, from_le_bytes}
 use Rattle.std.proofs.lemmas.List.{length-drop}
 use Rattle.pp_wire.specs.declared.fault.WireKind.{WireKind}
 use Rattle.pp_wire.specs.declared.fault.WireKind.TheVariants.{Truncated, BadKind}
-use Rattle.pp_wire.specs.Reading.{◌>>=◌, Read}
+use Rattle.pp_wire.specs.Reading.{Read}
 use Rattle.pp_wire.specs.Varint.{groups, varint}
 use Rattle.pp_wire.specs.Walk.{placed}
-use Rattle.pp_wire.specs.Fields.{Varint, Eight, Four, Bytes, number_in, eight, four, run, number, content, field_in, field}
+use Rattle.pp_wire.specs.Fields.{Varint, Eight, Four, Bytes, number_in, eight, four, length_delimited, number, content, field_in, field}
 use Rattle.pp_wire.proofs.Walks.{Shrinks}
+use Rattle.pp_base.specs.Results.{◌>>=◌}
 
 -- a value that was read leaves fewer bytes than that
 abbrev pub LeavesBelow : {A E : Type 0} → ℕ → Read A E → Type 0
@@ -51,8 +52,8 @@ four_below : (bytes : List ℕ) → LeavesBelow (suc (length bytes)) (four bytes
 unfolding four
 four_below bytes = choice (suc (length bytes)) (ltb (length bytes) 4) (Err Truncated) (Ok (Four (from_le_bytes w32 (take 4 bytes)), drop 4 bytes)) tt (omega (arith, length-drop 4 bytes))
 
-run_below : (end : ℕ) (bytes : List ℕ) → LeavesBelow (suc (length bytes)) (run end bytes)
-unfolding run
+run_below : (end : ℕ) (bytes : List ℕ) → LeavesBelow (suc (length bytes)) (length_delimited end bytes)
+unfolding length_delimited
 run_below end bytes =
     chain (length bytes) (suc (length bytes)) (varint bytes) (λ len. cond (ltb (length len.1) len.0) (Err Truncated) (Ok (Bytes (take len.0 len.1) (end - length len.1), drop len.0 len.1))) (varint_below bytes)
     (λ len lt. choice (suc (length bytes)) (ltb (length len.1) len.0) (Err Truncated) (Ok (Bytes (take len.0 len.1) (end - length len.1), drop len.0 len.1)) tt (omega (arith, length-drop len.0 len.1)))
@@ -63,7 +64,7 @@ content_below end kind bytes =
     let n = suc (length bytes) in
     choice n (eqb kind 0) (number bytes) _ (number_below bytes)
     (choice n (eqb kind 1) (eight bytes) _ (eight_below bytes)
-    (choice n (eqb kind 2) (run end bytes) _ (run_below end bytes)
+    (choice n (eqb kind 2) (length_delimited end bytes) _ (run_below end bytes)
     (choice n (eqb kind 5) (four bytes) (Err BadKind) (four_below bytes) tt)))
 
 pub field_in_below : (end : ℕ) (bytes : List ℕ) → LeavesBelow (length bytes) (field_in end bytes)

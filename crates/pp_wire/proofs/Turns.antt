@@ -7,12 +7,13 @@ use Rattle.std.proofs.lemmas.List.{take-append-drop}
 use Rattle.pp_wire.specs.declared.fault.WireKind.{WireKind}
 use Rattle.pp_wire.specs.declared.fault.WireKind.TheVariants.{Truncated, BadTag, BadKind, WrongKind}
 use Rattle.pp_wire.specs.declared.fault.WireFault.{WireFault}
-use Rattle.pp_wire.specs.Reading.{◌>>=◌, Read, EndsWith}
+use Rattle.pp_wire.specs.Reading.{Read, EndsWith}
 use Rattle.pp_wire.specs.Varint.{groups, varint}
 use Rattle.pp_wire.specs.Walk.{Walk, more, and_then, walk_in, walk_of, placed}
-use Rattle.pp_wire.specs.Fields.{Content, Eight, Four, Bytes, Item, number_in, eight, four, run, number, content, field_in, field_at, field, fields, numbers}
+use Rattle.pp_wire.specs.Fields.{Content, Eight, Four, Bytes, Item, number_in, eight, four, length_delimited, number, content, field_in, field_at, field, fields, numbers}
 use Rattle.pp_wire.proofs.Walks.{walk_more, walk_fails}
 use Rattle.pp_wire.proofs.Shrinking.{LeavesBelow, field_in_below, field_shrinks, number_shrinks}
+use Rattle.pp_base.specs.Results.{◌>>=◌}
 
 -- ---- what comes next
 
@@ -118,8 +119,8 @@ four_end : (bytes : List ℕ) → IfOk (four bytes) (λ x. EndsWith bytes x.1)
 unfolding four
 four_end bytes = either (λ x. EndsWith bytes x.1) (ltb (length bytes) 4) (Err Truncated) (Ok (Four (from_le_bytes w32 (take 4 bytes)), drop 4 bytes)) tt (ends_drop 4 bytes)
 
-run_end : (end : ℕ) (bytes : List ℕ) → IfOk (run end bytes) (λ x. EndsWith bytes x.1)
-unfolding run
+run_end : (end : ℕ) (bytes : List ℕ) → IfOk (length_delimited end bytes) (λ x. EndsWith bytes x.1)
+unfolding length_delimited
 run_end end bytes =
     then_ends bytes (varint bytes) _ (varint_end bytes)
     (λ len. either (λ x. EndsWith len.1 x.1) (ltb (length len.1) len.0) (Err Truncated) (Ok (Bytes (take len.0 len.1) (end - length len.1), drop len.0 len.1)) tt (ends_drop len.0 len.1))
@@ -130,7 +131,7 @@ content_end end kind bytes =
     let P = λ (x : Content × List ℕ). EndsWith bytes x.1 in
     either P (eqb kind 0) (number bytes) _ (number_end bytes)
     (either P (eqb kind 1) (eight bytes) _ (eight_end bytes)
-    (either P (eqb kind 2) (run end bytes) _ (run_end end bytes)
+    (either P (eqb kind 2) (length_delimited end bytes) _ (run_end end bytes)
     (either P (eqb kind 5) (four bytes) (Err BadKind) (four_end bytes) tt)))
 
 -- the bytes end with what a field leaves
@@ -184,8 +185,8 @@ four_faults : (bytes : List ℕ) → IfErr (four bytes) OfWire
 unfolding four
 four_faults bytes = choice OfWire (ltb (length bytes) 4) (Err Truncated) (Ok (Four (from_le_bytes w32 (take 4 bytes)), drop 4 bytes)) (λ e. cc) tt
 
-run_faults : (end : ℕ) (bytes : List ℕ) → IfErr (run end bytes) OfWire
-unfolding run
+run_faults : (end : ℕ) (bytes : List ℕ) → IfErr (length_delimited end bytes) OfWire
+unfolding length_delimited
 run_faults end bytes =
     of_both (varint bytes) _ OfWire (varint_faults bytes)
     (λ len. choice OfWire (ltb (length len.1) len.0) (Err Truncated) (Ok (Bytes (take len.0 len.1) (end - length len.1), drop len.0 len.1)) (λ e. cc) tt)
@@ -195,7 +196,7 @@ unfolding content
 content_faults end kind bytes =
     choice OfWire (eqb kind 0) (number bytes) _ (number_faults bytes)
     (choice OfWire (eqb kind 1) (eight bytes) _ (eight_faults bytes)
-    (choice OfWire (eqb kind 2) (run end bytes) _ (run_faults end bytes)
+    (choice OfWire (eqb kind 2) (length_delimited end bytes) _ (run_faults end bytes)
     (choice OfWire (eqb kind 5) (four bytes) (Err BadKind) (four_faults bytes) (λ e. cc))))
 
 field_in_faults : (end : ℕ) (bytes : List ℕ) → IfErr (field_in end bytes) OfWire

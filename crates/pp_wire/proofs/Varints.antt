@@ -5,8 +5,9 @@ use Rattle.std.proofs.lemmas.Nat.{mul-mod_first}
 use Rattle.std.proofs.lemmas.Bool.{lt-ltb, le-ltb}
 use Rattle.pp_wire.specs.declared.fault.WireKind.{WireKind}
 use Rattle.pp_wire.specs.declared.fault.WireKind.TheVariants.{Truncated, LongVarint}
-use Rattle.pp_wire.specs.Reading.{◌>>=◌, Read}
+use Rattle.pp_wire.specs.Reading.{Read}
 use Rattle.pp_wire.specs.Varint.{groups, varint}
+use Rattle.pp_base.specs.Results.{◌>>=◌}
 
 -- what is still read counts from the scale on, beside the value of what was read
 abbrev pub with_front : ℕ → ℕ → Read ℕ WireKind → Read ℕ WireKind

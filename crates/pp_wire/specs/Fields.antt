@@ -7,9 +7,10 @@ use Rattle.pp_wire.specs.declared.fault.WireFault.{WireFault}
 use Rattle.pp_wire.specs.declared.field.Payload.{Payload}
 use Rattle.pp_wire.specs.declared.field.Payload.TheVariants as payload
 use Rattle.pp_wire.specs.declared.field.Field.{Field}
-use Rattle.pp_wire.specs.Reading.{◌>>=◌, Read}
+use Rattle.pp_wire.specs.Reading.{Read}
 use Rattle.pp_wire.specs.Varint.{varint}
 use Rattle.pp_wire.specs.Walk.{Walk, walk_of, placed}
+use Rattle.pp_base.specs.Results.{◌>>=◌}
 
 -- a payload without where it lies in memory; with a run of bytes the place of the first
 pub data Content : Type 0 where
@@ -58,8 +59,8 @@ four bytes =
     else Ok (Four (from_le_bytes w32 (take 4 bytes)), drop 4 bytes)
 
 -- kind 2: a length, and that many bytes. All bytes end at the place `end`.
-unfoldable pub run : ℕ → List ℕ → Read Content WireKind
-run end bytes = do
+unfoldable pub length_delimited : ℕ → List ℕ → Read Content WireKind
+length_delimited end bytes = do
   len ← varint bytes
   if nat_lt (length len.1) len.0 then Err Truncated
       else Ok (Bytes (take len.0 len.1) (end - length len.1), drop len.0 len.1)
@@ -75,7 +76,7 @@ unfoldable pub content : ℕ → ℕ → List ℕ → Read Content WireKind
 content end kind bytes =
     if kind == 0 then number bytes
     else (if kind == 1 then eight bytes
-    else (if kind == 2 then run end bytes
+    else (if kind == 2 then length_delimited end bytes
     else (if kind == 5 then four bytes
     else Err BadKind)))
 

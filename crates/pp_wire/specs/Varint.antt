@@ -2,7 +2,8 @@
 use Rattle.std.specs.Prelude.{ℕ, zero, suc, ◌+◌, ◌-◌, ◌*◌, ◌%◌, ◌^◌, List, [], ◌∷◌, Ok, Err, nat_lt, if◌then◌else◌}
 use Rattle.pp_wire.specs.declared.fault.WireKind.{WireKind}
 use Rattle.pp_wire.specs.declared.fault.WireKind.TheVariants.{Truncated, LongVarint}
-use Rattle.pp_wire.specs.Reading.{◌>>=◌, Read}
+use Rattle.pp_wire.specs.Reading.{Read}
+use Rattle.pp_base.specs.Results.{◌>>=◌}
 
 -- groups of seven bits, lowest first, of which at most so many come: a byte from 128 on has another behind it
 unfoldable pub groups : ℕ → List ℕ → Read ℕ WireKind

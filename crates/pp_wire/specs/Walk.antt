@@ -10,18 +10,18 @@ pub record Walk (A : Type 0) : Type 0 where
   pub fault : Option WireFault
 
 -- what a call gives of what is left: the next item, the fault, or nothing at the end
-abbrev pub next_of : {A : Type 0} → List A → Option WireFault → Option (Result A WireFault)
-next_of (x ∷ items) fault = Some (Ok x)
-next_of [] (Some fault) = Some (Err fault)
-next_of [] None = None
+abbrev pub next_item : {A : Type 0} → List A → Option WireFault → Option (Result A WireFault)
+next_item (x ∷ items) fault = Some (Ok x)
+next_item [] (Some fault) = Some (Err fault)
+next_item [] None = None
 
 -- what the next call gives: an item, the fault, or nothing at the end
 abbrev pub first : {A : Type 0} → Walk A → Option (Result A WireFault)
-first walk = next_of walk.items walk.fault
+first walk = next_item walk.items walk.fault
 
 -- what is left behind the next item
-abbrev pub after : {A : Type 0} → Walk A → Walk A
-after walk = record { items = drop 1 walk.items; fault = walk.fault }
+abbrev pub rest_of : {A : Type 0} → Walk A → Walk A
+rest_of walk = record { items = drop 1 walk.items; fault = walk.fault }
 
 -- what is left is that fault alone, where there is one
 abbrev pub stopped : {A : Type 0} → Option WireFault → Walk A → Walk A

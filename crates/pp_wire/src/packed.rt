@@ -1,7 +1,7 @@
 //! The varints of a packed payload, one after another.
 
 ghost use Rattle.std.specs.Prelude.{◌≡◌, ◌≤◌, length};
-ghost use Rattle.pp_wire.specs.Walk.{first, after};
+ghost use Rattle.pp_wire.specs.Walk.{first, rest_of};
 ghost use Rattle.pp_wire.specs.Fields.{numbers};
 
 use crate::WireFault;
@@ -44,7 +44,7 @@ impl<'a> Packed<'a> {
     #[inline(always)]
     pub fn next(&mut self) -> Option<Result<u64, WireFault>>
         ensures given { result ≡ first self.old }
-        ensures left { self.new ≡ after self.old }
+        ensures left { self.new ≡ rest_of self.old }
     {
         if let Some(fault) = self.fault {
             return Some(Err(fault));

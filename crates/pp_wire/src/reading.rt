@@ -1,9 +1,9 @@
 //! One field at the front of bytes, by the steps of the wire format: tag, number, kind, payload.
 
 ghost use Rattle.std.specs.Prelude.{◌≡◌, ◌<◌, ◌≤◌, ◌^◌, ◌%◌, length, IfOk};
-ghost use Rattle.pp_wire.specs.Reading.{Gives};
+ghost use Rattle.pp_base.specs.Results.{Gives};
 ghost use Rattle.pp_wire.specs.Place.{end_of};
-ghost use Rattle.pp_wire.specs.Fields.{item, content_of, number_in, eight, four, run, number, content, field_in};
+ghost use Rattle.pp_wire.specs.Fields.{item, content_of, number_in, eight, four, length_delimited, number, content, field_in};
 
 use crate::varint::varint_of;
 use crate::{Field, Payload, WireKind};
@@ -98,10 +98,10 @@ fn four_payload(bytes: &[u8]) -> Result<(Payload<'_>, &[u8]), WireKind>
     Ok((Payload::Four(value), rest))
 }
 
-#[tactic(auto, unfolding(crate::specs::Fields::run))]
+#[tactic(auto, unfolding(crate::specs::Fields::length_delimited))]
 fn bytes_payload(end: u64, bytes: &[u8]) -> Result<(Payload<'_>, &[u8]), WireKind>
     requires { length bytes.now ≤ end }
-    ensures read { Gives (λ x. (content_of x.0, x.1.now)) result (run end bytes.now) }
+    ensures read { Gives (λ x. (content_of x.0, x.1.now)) result (length_delimited end bytes.now) }
     ensures shorter { IfOk result (λ x. length x.1.now ≤ length bytes.now) }
     ensures within { IfOk result (λ x. end_of x.0 < 2 ^ 64) }
 {

@@ -1,7 +1,7 @@
 //! The fields of a message, one after another.
 
 ghost use Rattle.std.specs.Prelude.{◌≡◌, ◌+◌, ◌≤◌, ◌<◌, ◌^◌, length};
-ghost use Rattle.pp_wire.specs.Walk.{first, after};
+ghost use Rattle.pp_wire.specs.Walk.{first, rest_of};
 ghost use Rattle.pp_wire.specs.Fields.{fields, item_or_fault};
 
 use crate::reading::field_of;
@@ -48,7 +48,7 @@ impl<'a> Walker<'a> {
     /// fields the message may have (`fields_are_read_in_turn`, `no_wrong_kind`).
     pub fn next(&mut self) -> Option<Result<Field<'a>, WireFault>>
         ensures given { item_or_fault result ≡ first self.old }
-        ensures left { self.new ≡ after self.old }
+        ensures left { self.new ≡ rest_of self.old }
     {
         if let Some(fault) = self.fault {
             return Some(Err(fault));

@@ -1,6 +1,6 @@
 use Rattle.std.proofs.Common.{◌≡◌, take}
-use Rattle.pp_legacy.specs.Tables.{locations_of}
+use Rattle.pp_legacy.specs.Tables.{numbered_locations}
 use Rattle.pp_legacy.proofs.holders.locations_of.Given as goal
 
 abbrev pub invariant-loop-place : goal.invariant-loop-place
-invariant-loop-place l = l.locations ≡ locations_of l.mappings (take l.place l.addresses)
+invariant-loop-place l = l.locations ≡ numbered_locations l.mappings (take l.place l.addresses)

@@ -1,9 +1,9 @@
 use Rattle.std.proofs.Common.{arith, sym, ap, subst, ◌∙◌, ◌*◌, ◌≤◌, length, map, Ok}
 use Rattle.pp_model.specs.Rules.{NoRuleFails}
-use Rattle.pp_legacy.specs.Sizes.{HasAtMost}
+use Rattle.pp_model.specs.Sizes.{HasAtMost}
 use Rattle.pp_legacy.specs.Seen.{entry_of, entries_of, regions_of}
 use Rattle.pp_legacy.specs.Regions.{regions}
-use Rattle.pp_legacy.specs.Tables.{profile_of}
+use Rattle.pp_legacy.specs.Tables.{legacy_profile}
 use Rattle.pp_legacy.proofs.WordsLemmas.{eight_a_word}
 use Rattle.pp_legacy.proofs.TableRules.{no_rule_fails}
 use Rattle.pp_legacy.proofs.Refusals.{told, passed_on}
@@ -28,13 +28,13 @@ returns-clause-read c =
     let seen = ap regions_of c.as_slice-2.ensures.value ∙ c.in_ok-regions.ensures ∙ ap regions c.bytes_from.ensures in
     profile_is c.args.bytes.now c.in_ok-head.head (sym c.in_ok-head.ensures.read) _ c.in_ok-found.ensures.read
     ∙ ap (λ p. Ok p)
-    (sym (c.claim.ensures ∙ c.in_ok-profile.ensures ∙ (λ j. profile_of c.in_ok-head.head.nanos (map entry_of (c.as_slice.ensures.value j)) (seen j))))
+    (sym (c.claim.ensures ∙ c.in_ok-profile.ensures ∙ (λ j. legacy_profile c.in_ok-head.head.nanos (map entry_of (c.as_slice.ensures.value j)) (seen j))))
 
 pub returns-clause-few : goal.returns-clause-few
 returns-clause-few c =
     let seen = ap regions_of c.as_slice-2.ensures.value ∙ c.in_ok-regions.ensures ∙ ap regions c.bytes_from.ensures in
     let found = c.in_ok-found.ensures in
     subst (HasAtMost (length c.args.bytes.now))
-    (sym (c.claim.ensures ∙ c.in_ok-profile.ensures ∙ (λ j. profile_of c.in_ok-head.head.nanos (map entry_of (c.as_slice.ensures.value j)) (seen j))))
+    (sym (c.claim.ensures ∙ c.in_ok-profile.ensures ∙ (λ j. legacy_profile c.in_ok-head.head.nanos (map entry_of (c.as_slice.ensures.value j)) (seen j))))
     (few_entries c.in_ok-head.head.nanos _ c.in_ok-found.found.text c.args.bytes.now found.few found.within.0
     (omega (arith, found.within.1, eight_a_word c.args.bytes.now)))

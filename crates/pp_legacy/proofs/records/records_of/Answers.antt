@@ -1,6 +1,6 @@
 use Rattle.std.proofs.Common.{rules, arith, ◌≡◌, ◌<◌, ◌≤◌, ◌∷◌, [], ◌++◌, length, map, ap, sym, ◌∙◌, Ok}
 use Rattle.std.proofs.lemmas.List.{map_push}
-use Rattle.pp_legacy.specs.Words.{words}
+use Rattle.pp_legacy.specs.Words.{whole_words}
 use Rattle.pp_legacy.specs.Records.{entries_from}
 use Rattle.pp_legacy.specs.Seen.{entry_of, step_of, entries_of}
 use Rattle.pp_legacy.proofs.Refusals.{told}

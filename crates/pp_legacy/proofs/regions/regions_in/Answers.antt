@@ -10,8 +10,9 @@ use Rattle.std.proofs.lemmas.Iterator.Splits.{YieldsList-from_slice_split}
 use Rattle.std.proofs.lemmas.List.{map_push}
 use Rattle.std.proofs.lemmas.List.Elements.{filter_map-append}
 use denote.Param.Members.{Mut}
-use Rattle.pp_legacy.specs.Regions.{is_line_end, code_in, regions}
+use Rattle.pp_legacy.specs.Regions.{code_in, regions}
 use Rattle.pp_legacy.proofs.regions.regions_in.Goals as goal
+use Rattle.pp_base.specs.Marks.{is_line_end}
 
 -- the parts of a slice that a loop has gone over
 parts_given :

@@ -5,7 +5,7 @@ use Rattle.pp_model.proofs.LoadedLemmas.{same_loaded}
 use Rattle.pp_model.specs.Judged.{judged_fits}
 use Rattle.pp_pattern.specs.Load.{load_verdicts, drop_finder, keep_finder}
 use Rattle.pp_load.specs.Reads.{loaded_or}
-use Rattle.pp_load.specs.Steps.{Gives}
+use Rattle.pp_load.specs.Steps.{Loads}
 use Rattle.pp_load.proofs.loading.loaded.Goals as goal
 
 -- there are as many verdicts as texts
@@ -20,7 +20,7 @@ invariant_of-result g c =
 
 -- the verdicts are what the patterns find
 pub returns-in-Ok-clause-is : goal.returns-in-Ok-clause-is
-unfolding Gives
+unfolding Loads
 returns-in-Ok-clause-is g c =
     let own : (c.in-Ok.drop, c.in-Ok.keep) ≡ load_verdicts g.D.Desk.finds c.args.profile = rw c.in-Ok.is at c.requires in
     ap (loaded_or g.D.Desk.finds c.args.profile) c.in-Ok.is

@@ -2,7 +2,7 @@ use Rattle.std.proofs.Common.{◌++◌, Bool, cond, sym, ap, ◌∙◌, append_a
 use Rattle.std.specs.Fmt.{signed_decimal}
 use Rattle.pp_model.specs.Lookup.{text_of}
 use Rattle.pp_base.proofs.TextLemmas.{then_ok}
-use Rattle.pp_tags.specs.Labels.{value_text}
+use Rattle.pp_tags.specs.Labels.{label_value_text}
 use Rattle.pp_pseudo.proofs.frame_name.put_value.Goals as goal
 
 -- the number, and the unit behind it
@@ -15,5 +15,5 @@ returns c =
     let unit = text_of p label.num_unit in
     then_ok c.put_number.result
     (λ is. is ∙ append_assoc out digits unit
-    ∙ ap (λ (b : Bool). out ++ cond b (value_text p label) (digits ++ unit)) (sym (sym c.has_text.ensures ∙ c.if-has_text.false)))
+    ∙ ap (λ (b : Bool). out ++ cond b (label_value_text p label) (digits ++ unit)) (sym (sym c.has_text.ensures ∙ c.if-has_text.false)))
     c.put_number.ensures
