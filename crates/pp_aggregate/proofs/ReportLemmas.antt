@@ -10,6 +10,7 @@ use Rattle.pp_model.specs.Finders.{Finder, Finders}
 use Rattle.pp_model.specs.FrameTexts.{Written, written}
 use Rattle.pp_model.specs.Frames.{stack_of}
 use Rattle.pp_model.specs.Lookup.{text_at}
+use Rattle.pp_model.proofs.FirstText.{text_zero}
 use Rattle.pp_stack.specs.Filters.{finds_frame, load_pruned, filtered, frames_of_sample}
 use Rattle.pp_stack.proofs.ToldLemmas.{list_any-map}
 use Rattle.pp_count.specs.Column.{selected}
@@ -27,7 +28,6 @@ use Rattle.pp_aggregate.specs.Laws.{KeysStay, AreLeft, FramesAreLeft, SamplesSta
 use Rattle.pp_aggregate.proofs.FilterLemmas.{FindSame, by_answers, same_pruned, same_filtered, unfiltered}
 use Rattle.pp_aggregate.proofs.KeyLemmas.{key_left}
 use Rattle.pp_aggregate.proofs.StackLemmas.{frames_whole, frame_whole, counted_left}
-use Rattle.pp_aggregate.proofs.ValidLemmas.{first_empty}
 
 -- what is seen of samples, with something else in the place of keys
 seen_mapped : {X J K : Type 0} (f : J → K) (g : X → Option (Seen J)) (xs : List X)
@@ -201,10 +201,10 @@ module _ (keep : Kept) (p : Profile) (f : Finders) (config : Config) (column : O
         }
 
 pub frames_are_left : FramesAreLeft
-frames_are_left keep p f config column valid stay = are_left keep p f config column (first_empty p valid) stay
+frames_are_left keep p f config column valid stay = are_left keep p f config column (text_zero p valid) stay
 
 pub samples_are_same : SamplesStay
-samples_are_same keep p f config column valid stay all = samples_stay keep p f config column (first_empty p valid) stay all
+samples_are_same keep p f config column valid stay all = samples_stay keep p f config column (text_zero p valid) stay all
 
 -- sums by keys, over the same samples and the same texts
 pub sums_are_same : SumsStay
@@ -221,7 +221,7 @@ sums_are_same keep p f config column sums valid stay all given =
 pub keys_are_same : KeysStay
 keys_are_same keep p config s valid counted all =
     sym (map_twice key (written kept) (counted_frames config.noinlines (stack_of kept s)))
-    ∙ ap (map key) (counted_left keep p (first_empty p valid) config.noinlines 0 s.location_id counted)
+    ∙ ap (map key) (counted_left keep p (text_zero p valid) config.noinlines 0 s.location_id counted)
     ∙ map_twice key (left_of_frame keep) (map (written p) (counted_frames config.noinlines (stack_of p s)))
     ∙ (λ i. map (λ w. key_left keep config.grain config.showcolumns w all i) (map (written p) (counted_frames config.noinlines (stack_of p s))))
     ∙ map_twice key (written p) (counted_frames config.noinlines (stack_of p s))

@@ -1,20 +1,20 @@
 -- A valid profile with what is kept of it is valid, and a compact one is compact.
-use Rattle.std.proofs.Common.{◌≡◌, ℕ, zero, suc, Bool, true, false, cond, ◌&&◌, List, [], ◌∷◌, map, length, drop, get_or, refl, sym, ap, ◌∙◌, subst, arith}
+use Rattle.std.proofs.Common.{◌≡◌, ℕ, zero, suc, Bool, true, false, cond, ◌&&◌, List, [], ◌∷◌, map, drop, refl, sym, ap, ◌∙◌, subst}
 use Rattle.std.specs.Prelude.{ℤ, None, nat_lt}
 use Rattle.std.specs.List.{list_all}
-use Rattle.std.proofs.lemmas.Bool.{and_parts, false≢true, lt-ltb}
+use Rattle.std.proofs.lemmas.Bool.{and_parts, and_from}
 use Rattle.std.proofs.lemmas.List.Elements.{recursion_from_All}
 use Rattle.std.proofs.lemmas.List.Folds.{list_all-map}
-use Rattle.std.proofs.lemmas.Option.{none-some}
+use Rattle.pp_base.proofs.Lists.{all_by}
 use Rattle.pp_model.specs.declared.profile.Function.{Function}
 use Rattle.pp_model.specs.declared.profile.Line.{Line}
 use Rattle.pp_model.specs.declared.profile.Location.{Location}
 use Rattle.pp_model.specs.declared.profile.Mapping.{Mapping}
 use Rattle.pp_model.specs.declared.profile.Profile.{Profile}
-use Rattle.pp_model.specs.Lookup.{text_at}
-use Rattle.pp_model.specs.Rules.{NoRuleFails, IsCompact, AreNumbered, begins_empty, zero_unless, is_text, is_zero_or_in, stands_in, mapping_ids, function_ids, location_ids, mapping_has_texts, function_has_texts, location_refers, first_failing, first_repeated}
+use Rattle.pp_model.specs.Rules.{NoRuleFails, IsCompact, AreNumbered, begins_empty, is_text, is_zero_or_in, stands_in, mapping_ids, function_ids, location_ids, mapping_has_texts, function_has_texts, location_refers, first_failing, first_repeated}
 use Rattle.pp_model.proofs.RuleLemmas.{passes}
-use Rattle.pp_share.proofs.NumberedLemmas.{all_by, all_mapped, nowhere}
+use Rattle.pp_model.proofs.FirstText.{no_fault, has_text, text_zero}
+use Rattle.pp_share.proofs.NumberedLemmas.{all_mapped, nowhere}
 use Rattle.pp_aggregate.specs.declared.aggregating.Kept.{Kept}
 use Rattle.pp_aggregate.specs.Aggregated.{number_if, aggregated_mapping, aggregated_function, aggregated_line, aggregated_location, aggregated, outermost}
 
@@ -36,28 +36,6 @@ all_dropped test zero xs all = all
 all_dropped test (suc n) [] all = all
 all_dropped test (suc n) (x ∷ xs) all = all_dropped test n xs (and_parts _ _ all).1
 
--- two tests that pass
-both : (a b : Bool) → a ≡ true → b ≡ true → (a && b) ≡ true
-both a b first second = ap (λ x. x && b) first ∙ second
-
--- the texts begin with the empty one
-begins : (b : Bool) → zero_unless b ≡ None → b ≡ true
-begins true is = refl
-begins false is = absurd (none-some 0 (sym is))
-
-some_text : (texts : List (List ℕ)) → begins_empty texts ≡ true → nat_lt 0 (length texts) ≡ true
-some_text [] is = absurd (false≢true is)
-some_text (text ∷ texts) is = lt-ltb 0 (length (text ∷ texts)) (omega arith)
-
-empty_text : (texts : List (List ℕ)) → begins_empty texts ≡ true → get_or texts 0 [] ≡ []
-empty_text [] is = refl
-empty_text ([] ∷ texts) is = refl
-empty_text ((b ∷ bs) ∷ texts) is = absurd (false≢true is)
-
--- text 0 is empty
-pub first_empty : (p : Profile) → NoRuleFails p → text_at p 0 ≡ []
-first_empty p valid = empty_text p.text (begins (begins_empty p.text) valid.text_zero)
-
 module _ (keep : Kept) (p : Profile) where
   abbrev kept : Profile
   kept = aggregated keep p
@@ -74,13 +52,13 @@ module _ (keep : Kept) (p : Profile) where
   module _ (zero_text : begins_empty p.text ≡ true) where
     text_then : (is_kept : Bool) (index : ℤ) → is_text p index ≡ true → is_text p (number_if is_kept index) ≡ true
     text_then true index is = is
-    text_then false index is = some_text p.text zero_text
+    text_then false index is = has_text p.text zero_text
 
     function_then : (f : Function) → function_has_texts p f ≡ true → function_has_texts p (aggregated_function keep f) ≡ true
     function_then f is =
         let (names, file) = and_parts _ _ is in
         let (name, system_name) = and_parts _ _ names in
-        both _ _ (both _ _ (text_then keep.functions f.name name) (text_then keep.functions f.system_name system_name))
+        and_from _ _ (and_from _ _ (text_then keep.functions f.name name) (text_then keep.functions f.system_name system_name))
         (text_then keep.filenames f.filename file)
 
   lines_then : (is_kept : Bool) (lines : List Line) → list_all (λ line. is_zero_or_in (function_ids p) line.function_id) lines ≡ true
@@ -93,12 +71,12 @@ module _ (keep : Kept) (p : Profile) where
       let (mapping, lines) = and_parts _ _ is in
       (λ i. is_zero_or_in (same_mappings i) l.mapping_id
       && list_all (λ line. is_zero_or_in (same_functions i) line.function_id) (map (aggregated_line keep) (cond keep.inline_frames l.line (outermost l.line))))
-      ∙ both _ _ mapping (lines_then keep.inline_frames l.line lines)
+      ∙ and_from _ _ mapping (lines_then keep.inline_frames l.line lines)
 
   -- No table rule fails.
   pub aggregated_valid : NoRuleFails p → NoRuleFails kept
   aggregated_valid valid =
-      let zero_text = begins (begins_empty p.text) valid.text_zero in
+      let zero_text = no_fault (begins_empty p.text) valid.text_zero in
       record {
         text_zero = valid.text_zero;
         header_text = valid.header_text;

@@ -1,5 +1,5 @@
 -- For the crates above: texts that are appended one after the other.
-use Rattle.std.proofs.Common.{◌≡◌, ◌++◌, List, ℕ, Result, Ok, Err, OnOk, IfOk, ap, ◌∙◌, append_assoc}
+use Rattle.std.proofs.Common.{◌≡◌, ◌++◌, List, ℕ, Result, Ok, Err, OnOk, IfOk, ap, ◌∙◌, append_assoc, OnErr}
 
 -- three texts, the last of which may fail
 pub joined : {T E : Type 0} (r : Result T E) (before first second all a b c : List ℕ) → first ≡ before ++ a → second ≡ first ++ b
@@ -43,3 +43,14 @@ and_two (Ok x) before now next all a b c p q h = rw (h, q, p) (simp append_assoc
 pub then_ok : {T E : Type 0} {P Q : Type 0} (r : Result T E) → (P → Q) → OnOk r P → OnOk r Q
 then_ok (Ok x) step h = step h
 then_ok (Err e) step h = tt
+
+-- four texts, the last of which may fail
+pub joined_four : {T E : Type 0} (r : Result T E) (before first second third all a b c d : List ℕ) → first ≡ before ++ a → second ≡ first ++ b → third ≡ second ++ c
+    → IfOk r (λ _. all ≡ third ++ d) → IfOk r (λ _. all ≡ before ++ (((a ++ b) ++ c) ++ d))
+joined_four (Err e) before first second third all a b c d p q s h = tt
+joined_four (Ok x) before first second third all a b c d p q s h = rw (h, s, q, p) (simp append_assoc)
+
+-- a fact holds after an error too
+pub on_err : {T E P : Type 0} (r : Result T E) → P → OnErr r P
+on_err (Ok x) holds = tt
+on_err (Err e) holds = holds

@@ -4,6 +4,7 @@ use Rattle.std.specs.Prelude.{◌==◌, nat_lt}
 use Rattle.std.specs.List.{AllByRecursion, list_all}
 use Rattle.std.proofs.lemmas.Bool.{lt-ltb, eq-eqb, and_from, or_right, cases_eq}
 use Rattle.std.proofs.lemmas.List.{length-map}
+use Rattle.pp_base.proofs.Lists.{all_by}
 use Rattle.pp_model.specs.declared.profile.ValueType.{ValueType}
 use Rattle.pp_model.specs.declared.profile.Label.{Label}
 use Rattle.pp_model.specs.declared.profile.Line.{Line}
@@ -13,7 +14,6 @@ use Rattle.pp_model.specs.declared.profile.Function.{Function}
 use Rattle.pp_model.specs.declared.profile.Sample.{Sample}
 use Rattle.pp_model.specs.declared.profile.Profile.{Profile}
 use Rattle.pp_model.specs.Rules.{NoRuleFails, AreNumbered, is_text, header_texts, zero_unless, stands_in, is_zero_or_in, location_refers, type_has_texts, label_has_texts, mapping_has_texts, function_has_texts, mapping_ids, function_ids, location_ids}
-use Rattle.pp_model.proofs.FirstSightLemmas.{all_as}
 use Rattle.pp_share.proofs.NumberedLemmas.{all_pass, nowhere, nonzero, unrepeated, stands_at}
 use Rattle.pp_build.specs.Growing.{IsBuilt, IdIn, TypeIn, LabelIn, MappingIn, FunctionIn, LocationIn, SampleIn}
 
@@ -36,7 +36,7 @@ module _ (p : Profile) (built : IsBuilt p) where
       and_from _ _
       (zero_or_stands (mapping_ids p) (length p.mapping) l.mapping_id built.mapping_ids (length-map p.mapping (λ (m : Mapping). m.id)) is.0)
       (all_pass (λ (line : Line). is_zero_or_in (function_ids p) line.function_id) l.line
-      (all_as (λ (line : Line). line.function_id ≤ length p.function) (λ (line : Line). is_zero_or_in (function_ids p) line.function_id ≡ true)
+      (all_by (λ (line : Line). line.function_id ≤ length p.function) (λ (line : Line). is_zero_or_in (function_ids p) line.function_id ≡ true)
       (λ line low. zero_or_stands (function_ids p) (length p.function) line.function_id built.function_ids (length-map p.function (λ (f : Function). f.id)) low)
       l.line is.1))
 
@@ -54,13 +54,13 @@ module _ (p : Profile) (built : IsBuilt p) where
     text_zero = ap (λ b. zero_unless b) built.begins;
     header_text = ap (λ b. zero_unless b) (all_pass (is_text p) (header_texts p) built.header);
     comment_text = nowhere (is_text p) p.comment built.comments;
-    type_text = nowhere (type_has_texts p) p.sample_type (all_as (TypeIn (length p.text)) (λ (t : ValueType). type_has_texts p t ≡ true) (λ t is. and_from _ _ is.0 is.1) p.sample_type built.types);
+    type_text = nowhere (type_has_texts p) p.sample_type (all_by (TypeIn (length p.text)) (λ (t : ValueType). type_has_texts p t ≡ true) (λ t is. and_from _ _ is.0 is.1) p.sample_type built.types);
     sample_text = nowhere (λ (s : Sample). list_all (label_has_texts p) s.label) p.sample
-        (all_as (SampleIn (length p.text) (length p.location) (length p.sample_type)) (λ (s : Sample). list_all (label_has_texts p) s.label ≡ true) (λ s is. all_pass (label_has_texts p) s.label
-        (all_as (LabelIn (length p.text)) (λ (l : Label). label_has_texts p l ≡ true)
+        (all_by (SampleIn (length p.text) (length p.location) (length p.sample_type)) (λ (s : Sample). list_all (label_has_texts p) s.label ≡ true) (λ s is. all_pass (label_has_texts p) s.label
+        (all_by (LabelIn (length p.text)) (λ (l : Label). label_has_texts p l ≡ true)
         (λ (l : Label) has. and_from _ _ (and_from _ _ has.0 has.1.0) has.1.1) s.label is.labels)) p.sample built.samples);
-    mapping_text = nowhere (mapping_has_texts p) p.mapping (all_as (MappingIn (length p.text)) (λ (m : Mapping). mapping_has_texts p m ≡ true) (λ m is. and_from _ _ is.0 is.1) p.mapping built.mappings);
-    function_text = nowhere (function_has_texts p) p.function (all_as (FunctionIn (length p.text)) (λ (f : Function). function_has_texts p f ≡ true) (λ f is. and_from _ _ (and_from _ _ is.0 is.1.0) is.1.1) p.function built.functions);
+    mapping_text = nowhere (mapping_has_texts p) p.mapping (all_by (MappingIn (length p.text)) (λ (m : Mapping). mapping_has_texts p m ≡ true) (λ m is. and_from _ _ is.0 is.1) p.mapping built.mappings);
+    function_text = nowhere (function_has_texts p) p.function (all_by (FunctionIn (length p.text)) (λ (f : Function). function_has_texts p f ≡ true) (λ f is. and_from _ _ (and_from _ _ is.0 is.1.0) is.1.1) p.function built.functions);
     untyped = ap (λ b. zero_unless b) some_types;
     mapping_zero = nonzero (mapping_ids p) built.mapping_ids;
     mapping_repeat = unrepeated (mapping_ids p) built.mapping_ids;
@@ -68,13 +68,13 @@ module _ (p : Profile) (built : IsBuilt p) where
     function_repeat = unrepeated (function_ids p) built.function_ids;
     location_zero = nonzero (location_ids p) built.location_ids;
     location_repeat = unrepeated (location_ids p) built.location_ids;
-    location_reference = nowhere (location_refers p) p.location (all_as (LocationIn (length p.mapping) (length p.function)) (λ (l : Location). location_refers p l ≡ true) location_stands p.location built.locations);
+    location_reference = nowhere (location_refers p) p.location (all_by (LocationIn (length p.mapping) (length p.function)) (λ (l : Location). location_refers p l ≡ true) location_stands p.location built.locations);
     sample_reference = nowhere (λ (s : Sample). list_all (stands_in (location_ids p)) s.location_id) p.sample
-        (all_as (SampleIn (length p.text) (length p.location) (length p.sample_type)) (λ (s : Sample). list_all (stands_in (location_ids p)) s.location_id ≡ true)
+        (all_by (SampleIn (length p.text) (length p.location) (length p.sample_type)) (λ (s : Sample). list_all (stands_in (location_ids p)) s.location_id ≡ true)
         (λ s is. all_pass (stands_in (location_ids p)) s.location_id
-        (all_as (IdIn (length p.location)) (λ (id : ℕ). stands_in (location_ids p) id ≡ true)
+        (all_by (IdIn (length p.location)) (λ (id : ℕ). stands_in (location_ids p) id ≡ true)
         (λ id in_it. id_stands (location_ids p) (length p.location) id built.location_ids (length-map p.location (λ (l : Location). l.id)) in_it)
         s.location_id is.places)) p.sample built.samples);
     values = nowhere (λ (s : Sample). length s.value == length p.sample_type) p.sample
-        (all_as (SampleIn (length p.text) (length p.location) (length p.sample_type)) (λ (s : Sample). (length s.value == length p.sample_type) ≡ true) (λ s is. eq-eqb _ _ is.values) p.sample built.samples);
+        (all_by (SampleIn (length p.text) (length p.location) (length p.sample_type)) (λ (s : Sample). (length s.value == length p.sample_type) ≡ true) (λ s is. eq-eqb _ _ is.values) p.sample built.samples);
   }

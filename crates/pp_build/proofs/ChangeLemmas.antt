@@ -4,6 +4,7 @@ use Rattle.std.specs.Prelude.{ℤ, pos, negsuc}
 use Rattle.std.specs.List.{AllByRecursion, list_any}
 use Rattle.std.specs.Str.{bytes_eq}
 use Rattle.std.proofs.lemmas.Bool.{lt-ltb, ltb-true}
+use Rattle.pp_base.proofs.Lists.{all_push, all_by}
 use Rattle.pp_model.specs.declared.profile.ValueType.{ValueType}
 use Rattle.pp_model.specs.declared.profile.Label.{Label}
 use Rattle.pp_model.specs.declared.profile.Line.{Line}
@@ -14,7 +15,6 @@ use Rattle.pp_model.specs.declared.profile.Sample.{Sample}
 use Rattle.pp_model.specs.declared.profile.Profile.{Profile}
 use Rattle.pp_model.specs.Rules.{begins_empty, header_texts}
 use Rattle.pp_model.specs.FirstSight.{seen_with}
-use Rattle.pp_model.proofs.FirstSightLemmas.{all_as, all_push}
 use Rattle.pp_build.specs.Adding.{no_entries, with_new_text, with_type, with_mapping, with_function, with_location, with_new_sample}
 use Rattle.pp_build.specs.Same.{same_mapping_entry, same_function_entry, same_location_entry}
 use Rattle.pp_build.specs.Growing.{IsBuilt, TextIn, TypeIn, LabelIn, MappingIn, FunctionIn, LocationIn, IdIn, SampleIn}
@@ -67,18 +67,18 @@ module _ (p : Profile) (built : IsBuilt p) where
       record {
         begins = begins_with p.text text built.begins;
         few = omega (arith, room, one_more bytes_eq p.text text);
-        header = all_as _ _ stays (header_texts p) built.header;
-        comments = all_as _ _ stays p.comment built.comments;
-        types = all_as _ _ (λ t is. (stays _ is.0, stays _ is.1)) p.sample_type built.types;
-        samples = all_as _ _
+        header = all_by _ _ stays (header_texts p) built.header;
+        comments = all_by _ _ stays p.comment built.comments;
+        types = all_by _ _ (λ t is. (stays _ is.0, stays _ is.1)) p.sample_type built.types;
+        samples = all_by _ _
             (λ (s : Sample) is. record {
               places = is.places;
-              labels = all_as (LabelIn (length p.text)) _ (λ (l : Label) has. (stays _ has.0, (stays _ has.1.0, stays _ has.1.1))) s.label is.labels;
+              labels = all_by (LabelIn (length p.text)) _ (λ (l : Label) has. (stays _ has.0, (stays _ has.1.0, stays _ has.1.1))) s.label is.labels;
               values = is.values;
               typed = is.typed;
             }) p.sample built.samples;
-        mappings = all_as _ _ (λ m is. (stays _ is.0, stays _ is.1)) p.mapping built.mappings;
-        functions = all_as _ _ (λ f is. (stays _ is.0, (stays _ is.1.0, stays _ is.1.1))) p.function built.functions;
+        mappings = all_by _ _ (λ m is. (stays _ is.0, stays _ is.1)) p.mapping built.mappings;
+        functions = all_by _ _ (λ f is. (stays _ is.0, (stays _ is.1.0, stays _ is.1.1))) p.function built.functions;
         locations = built.locations;
         mapping_ids = built.mapping_ids;
         function_ids = built.function_ids;
@@ -117,7 +117,7 @@ module _ (p : Profile) (built : IsBuilt p) where
         samples = built.samples;
         mappings = all_with same_mapping_entry (MappingIn (length p.text)) p.mapping next built.mappings is;
         functions = built.functions;
-        locations = all_as (LocationIn (length p.mapping) (length p.function)) _ (λ (l : Location) in_it. (omega (arith, in_it.0, more), in_it.1)) p.location built.locations;
+        locations = all_by (LocationIn (length p.mapping) (length p.function)) _ (λ (l : Location) in_it. (omega (arith, in_it.0, more), in_it.1)) p.location built.locations;
         mapping_ids = numbered_with same_mapping_entry (λ n. n.id) p.mapping next built.mapping_ids refl;
         function_ids = built.function_ids;
         location_ids = built.location_ids;
@@ -137,8 +137,8 @@ module _ (p : Profile) (built : IsBuilt p) where
         samples = built.samples;
         mappings = built.mappings;
         functions = all_with same_function_entry (FunctionIn (length p.text)) p.function next built.functions is;
-        locations = all_as (LocationIn (length p.mapping) (length p.function)) _
-            (λ (l : Location) in_it. (in_it.0, all_as (λ (line : Line). line.function_id ≤ length p.function) _ (λ line low. omega (arith, low, more)) l.line in_it.1)) p.location built.locations;
+        locations = all_by (LocationIn (length p.mapping) (length p.function)) _
+            (λ (l : Location) in_it. (in_it.0, all_by (λ (line : Line). line.function_id ≤ length p.function) _ (λ line low. omega (arith, low, more)) l.line in_it.1)) p.location built.locations;
         mapping_ids = built.mapping_ids;
         function_ids = numbered_with same_function_entry (λ g. g.id) p.function next built.function_ids refl;
         location_ids = built.location_ids;
@@ -155,9 +155,9 @@ module _ (p : Profile) (built : IsBuilt p) where
         header = built.header;
         comments = built.comments;
         types = built.types;
-        samples = all_as _ _
+        samples = all_by _ _
             (λ (s : Sample) in_it. record {
-              places = all_as (IdIn (length p.location)) _ (λ id has. record { some = has.some; within = omega (arith, has.within, more) }) s.location_id in_it.places;
+              places = all_by (IdIn (length p.location)) _ (λ id has. record { some = has.some; within = omega (arith, has.within, more) }) s.location_id in_it.places;
               labels = in_it.labels;
               values = in_it.values;
               typed = in_it.typed;

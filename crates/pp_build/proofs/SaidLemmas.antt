@@ -1,5 +1,5 @@
 -- What samples say stays where tables are extended.
-use Rattle.std.proofs.Common.{◌≡◌, ℕ, ◌+◌, ◌-◌, ◌<◌, ◌≤◌, Bool, true, false, true≢false, cond, List, [], ◌∷◌, ◌++◌, map, length, length-append, append-nil, get_or, Option, Some, None, IfSome, refl, sym, ap, ◌∙◌, arith}
+use Rattle.std.proofs.Common.{◌≡◌, ℕ, ◌+◌, ◌-◌, ◌<◌, ◌≤◌, Bool, true, false, true≢false, cond, List, [], ◌∷◌, ◌++◌, map, length, length-append, get_or, Option, Some, None, IfSome, refl, sym, ap, ◌∙◌, arith}
 use Rattle.std.specs.Prelude.{ℤ, pos, negsuc, ◌==◌, find, slice_get, if◌then◌else◌}
 use Rattle.std.specs.List.{AllByRecursion, flat_map}
 use Rattle.std.specs.Option.{option_map_or}
@@ -16,17 +16,17 @@ use Rattle.pp_model.specs.declared.profile.Function.{Function}
 use Rattle.pp_model.specs.declared.profile.Sample.{Sample}
 use Rattle.pp_model.specs.declared.profile.Profile.{Profile}
 use Rattle.pp_model.specs.Conditions.{no_location}
-use Rattle.pp_model.specs.Rules.{begins_empty}
 use Rattle.pp_model.specs.Lookup.{text_number, text_at, text_of, mapping_with, function_with, location_with, place_read}
 use Rattle.pp_model.specs.FrameTexts.{object_number, name_number, file_number, written_line, written_lines, written_at}
 use Rattle.pp_model.proofs.CompactLemmas.{find_by_place}
-use Rattle.pp_model.proofs.FirstSightLemmas.{all_as, map_agree}
 use Rattle.pp_model.proofs.LookupLemmas.{no_function, no_mapping}
 use Rattle.pp_share.specs.Described.{label_text}
 use Rattle.pp_build.specs.Growing.{IsBuilt, IdIn, TextIn, LabelIn, MappingIn, FunctionIn, LocationIn, SampleIn}
 use Rattle.pp_model.specs.FirstSight.{seen_with}
 use Rattle.std.specs.List.{list_any}
 use Rattle.std.specs.Str.{bytes_eq}
+use Rattle.pp_base.proofs.Lists.{all_by, map_agree, own_front}
+use Rattle.pp_model.proofs.FirstText.{some_text}
 use Rattle.pp_build.specs.Adding.{with_new_text, with_mapping, with_function, with_location, with_new_sample}
 use Rattle.pp_build.specs.Same.{same_mapping_entry, same_function_entry, same_location_entry}
 use Rattle.pp_build.specs.Said.{ExtendsTables, said_sample, said_samples}
@@ -57,11 +57,6 @@ found_all P test (x ∷ xs) all = elim (test x) as (λ b. IfSome (cond b (Some x
   | true ↦ all.0
   | false ↦ found_all P test xs all.1
 ]
-
--- there is a first text
-some_text : (texts : List (List ℕ)) → begins_empty texts ≡ true → 0 < length texts
-some_text [] is = absurd (true≢false (sym is))
-some_text (t ∷ texts) is = omega arith
 
 -- the number of a text is among them
 number_in : (n : ℕ) (i : ℤ) → TextIn n i → text_number i < n
@@ -140,7 +135,7 @@ module _ (p q : Profile) (built : IsBuilt p) (after : IsBuilt q) (grown : Extend
   } ∷ []
   lines_same l object (line ∷ lines) all =
       map_agree (written_line q l) (written_line p l) (line ∷ lines)
-      (all_as (λ (x : Line). x.function_id ≤ length p.function) (λ x. written_line q l x ≡ written_line p l x) (λ x low. line_same l object x low) (line ∷ lines) all)
+      (all_by (λ (x : Line). x.function_id ≤ length p.function) (λ x. written_line q l x ≡ written_line p l x) (λ x low. line_same l object x low) (line ∷ lines) all)
 
   frames_found : (found : Option Location) → IfSome found (LocationIn (length p.mapping) (length p.function))
       → option_map_or (λ (l : Location). written_lines q l l.line) found [] ≡ option_map_or (λ (l : Location). written_lines p l l.line) found []
@@ -175,7 +170,7 @@ module _ (p q : Profile) (built : IsBuilt p) (after : IsBuilt q) (grown : Extend
     values = s.value;
     labels =
         map_agree (label_text (text_of q)) (label_text (text_of p)) s.label
-        (all_as (LabelIn (length p.text)) (λ l. label_text (text_of q) l ≡ label_text (text_of p) l) label_same s.label is.labels) i;
+        (all_by (LabelIn (length p.text)) (λ l. label_text (text_of q) l ≡ label_text (text_of p) l) label_same s.label is.labels) i;
   }
 
   -- What the samples say stays.
@@ -183,11 +178,7 @@ module _ (p q : Profile) (built : IsBuilt p) (after : IsBuilt q) (grown : Extend
   said_same same =
       ap (map (said_sample q)) same
       ∙ map_agree (said_sample q) (said_sample p) p.sample
-      (all_as (SampleIn (length p.text) (length p.location) (length p.sample_type)) (λ s. said_sample q s ≡ said_sample p s) sample_same p.sample built.samples)
-
--- a list is its own front
-own_front : {X : Type 0} (xs : List X) → IsFront xs xs
-own_front xs = ([], sym (append-nil xs))
+      (all_by (SampleIn (length p.text) (length p.location) (length p.sample_type)) (λ s. said_sample q s ≡ said_sample p s) sample_same p.sample built.samples)
 
 -- a table is the front of the table with one entry more
 seen_front : {X : Type 0} (same : X → X → Bool) (xs : List X) (x : X) → IsFront xs (seen_with same xs x)

@@ -2,9 +2,9 @@
 use Rattle.std.proofs.Common.{◌≡◌, ℕ, ◌<◌, List, [], ◌∷◌, ◌++◌, map, length, sym, subst, arith, All}
 use Rattle.std.specs.Prelude.{ℤ, Result, Ok, Err, OnOk, OnErr}
 use Rattle.std.proofs.lemmas.List.Elements.{recursion_from_All}
+use Rattle.pp_base.proofs.Lists.{all_by}
 use Rattle.pp_model.specs.declared.profile.Sample.{Sample}
 use Rattle.pp_model.specs.declared.profile.Profile.{Profile}
-use Rattle.pp_model.proofs.FirstSightLemmas.{all_as}
 use Rattle.pp_share.proofs.NumberedLemmas.{all_mapped}
 use Rattle.pp_build.specs.declared.given.LocationId.{LocationId}
 use Rattle.pp_build.specs.declared.given.SampleLabel.{SampleLabel}
@@ -32,7 +32,7 @@ sample_in :
 sample_in p locations values labels there long typed marked = record {
   places = all_mapped (IdIn (length p.location)) (λ (l : LocationId). l.number) locations (recursion_from_All (λ (l : LocationId). IdIn (length p.location) l.number) locations there);
   labels = all_mapped (LabelIn (length p.text)) label_of labels
-      (all_as (LabelIsWithin (length p.text)) (λ (l : SampleLabel). LabelIn (length p.text) (label_of l)) (label_in (length p.text)) labels
+      (all_by (LabelIsWithin (length p.text)) (λ (l : SampleLabel). LabelIn (length p.text) (label_of l)) (label_in (length p.text)) labels
       (recursion_from_All (LabelIsWithin (length p.text)) labels marked));
   values = long;
   typed = typed;

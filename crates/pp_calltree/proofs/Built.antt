@@ -3,17 +3,14 @@ use Rattle.std.proofs.Common.{◌≡◌, ℕ, ◌<◌, ◌≤◌, ◌^◌, not, 
 use Rattle.std.specs.Ordering.{int_eq}
 use Rattle.std.proofs.lemmas.Grind.{reverse_onto}
 use Rattle.std.proofs.lemmas.List.{map-append}
-use Rattle.std.proofs.lemmas.List.Elements.{All-map, All-filter, All-from_get_or}
+use Rattle.std.proofs.lemmas.List.Elements.{All-map, All-filter}
 use Rattle.std.specs.List.Sorted.{IsPermutation}
 use Rattle.std.proofs.lemmas.List.Sorted.{All-permutation, IsPermutation-map, sum_by-IsPermutation}
 use Rattle.std.proofs.lemmas.List.Sums.{get_or-le-sum_by}
 use Rattle.pp_model.specs.declared.profile.Sample.{Sample}
 use Rattle.pp_model.specs.declared.profile.Profile.{Profile}
-use Rattle.pp_model.specs.Conditions.{IsSampleOf}
 use Rattle.pp_model.specs.Finders.{Finders}
 use Rattle.pp_model.specs.FrameTexts.{Written}
-use Rattle.pp_model.specs.Values.{no_sample}
-use Rattle.pp_model.proofs.RuleLemmas.{sample_at}
 use Rattle.pp_grain.specs.declared.key.Key.{Key}
 use Rattle.pp_grain.specs.Keys.{key_cmp}
 use Rattle.pp_count.specs.Table.{written_key}
@@ -30,12 +27,6 @@ use Rattle.pp_calltree.proofs.Gathering.{paths_within}
 use Rattle.pp_calltree.specs.Paths.{below, path_of}
 use Rattle.pp_calltree.proofs.LaidOut.{all_reversed}
 use Rattle.pp_calltree.proofs.Permuted.{alike_permuted, rows_alike}
-
--- the samples of a profile are its own
-pub all_members : (p q : Profile) → q ≡ p → All (IsSampleOf p) q.sample
-all_members p q same =
-    subst (λ (r : Profile). All (IsSampleOf r) q.sample) same
-    (All-from_get_or (IsSampleOf q) q.sample no_sample (λ k h. sample_at q k no_sample h))
 
 map-reversed : {J K : Type 0} (f : J → K) (ks : List J) → map f (reverse ks) ≡ reverse (map f ks)
 map-reversed f [] = refl

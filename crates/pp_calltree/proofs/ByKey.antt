@@ -1,5 +1,5 @@
 -- For each key, the flats of its nodes add up to its flat.
-use Rattle.std.proofs.Common.{◌≡◌, ℕ, zero, suc, ◌+◌, ◌<◌, ◌≤◌, Bool, true, false, cond, ◌&&◌, ◌||◌, T, ℤ, pos, ◌+ℤ◌, List, [], ◌∷◌, ◌++◌, length, map, reverse, get_or, All, Some, None, refl, sym, ap, ◌∙◌, arith}
+use Rattle.std.proofs.Common.{◌≡◌, ℕ, zero, suc, ◌+◌, ◌<◌, ◌≤◌, Bool, true, false, cond, ◌&&◌, ◌||◌, ℤ, pos, ◌+ℤ◌, List, [], ◌∷◌, ◌++◌, length, map, reverse, get_or, All, Some, None, refl, sym, ap, ◌∙◌, arith}
 use Rattle.std.specs.Prelude.{flat_map}
 use Rattle.std.specs.List.{list_any, cons_option, IsDistinct, AllByRecursion}
 use Rattle.std.specs.Ordering.{eq_by_cmp, is_lt, is_eq}
@@ -16,6 +16,8 @@ use Rattle.std.proofs.lemmas.Int.{ints}
 use Rattle.std.proofs.lemmas.List.Concat.{flat_map-cons}
 use Rattle.std.proofs.lemmas.List.Elements.{All-nil, All-cons, All-head, All-tail}
 use Rattle.std.proofs.lemmas.List.Sums.{get_or-le-sum_by}
+use Rattle.pp_base.proofs.Booleans.{is_true}
+use Rattle.pp_base.proofs.Orders.{equal_is}
 use Rattle.pp_model.specs.declared.profile.Profile.{Profile}
 use Rattle.pp_model.specs.FrameTexts.{Written}
 use Rattle.pp_grain.specs.Keys.{key_cmp}
@@ -29,13 +31,13 @@ use Rattle.pp_calltree.specs.CallTree.{TreeRow, rooted, any_row, is_end, first_k
 use Rattle.pp_calltree.specs.declared.tree.PathNode.{PathNode}
 use Rattle.pp_calltree.specs.Laid.{node_row}
 use Rattle.pp_calltree.specs.Tree.{flats_with, flats_at}
-use Rattle.pp_calltree.proofs.Children.{order_total, order_ties, ties}
+use Rattle.pp_calltree.proofs.Children.{order_total, order_ties}
 
 abbrev eq : Written → Written → Bool
 eq = eq_by_cmp key_cmp
 
 same : (x y : Written) → eq x y ≡ true → x ≡ y
-same x y e = key_cmp_ties x y (ties _ e)
+same x y e = key_cmp_ties x y (equal_is _ e)
 
 -- the path ends with a key that passes the test
 abbrev ends : (Written → Bool) → List Written → Bool
@@ -172,10 +174,6 @@ module _ (R : Written → Written → Ordering) (ties_same : (x y : Written) →
   unfolding IsDistinct
   distinct_all [] e = tt
   distinct_all (x ∷ es) e = let parts = both (below_all R x.0 es) (is_sorted R es) e in (apart_all x.0 es parts.0, distinct_all es parts.1)
-
-is_true : (b : Bool) → T b → b ≡ true
-is_true true t = refl
-is_true false t = absurd t
 
 found_at : (p : Written → Bool) (xs : List Written) (i : ℕ) (d : Written) → i < length xs → p (get_or xs i d) ≡ true → list_any p xs ≡ true
 found_at p [] i d here e = absurd (omega arith)

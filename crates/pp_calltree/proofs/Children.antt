@@ -4,22 +4,22 @@ use Rattle.std.specs.List.{list_any, IsDistinct, AllByRecursion}
 use Rattle.std.specs.List.Sorted.{IsPermutation, IsSorted}
 use Rattle.std.specs.Ordering.{nat_cmp, eq_by_cmp, is_lt, is_eq, ordering_then}
 use Rattle.std.specs.Cmp.{IsTotalOrder, nat_cmp_total, tied_itself, unsigned_tied}
-use Rattle.std.specs.declared.cmp.Ordering.{Ordering}
-use Rattle.std.specs.declared.cmp.Ordering.TheVariants.{Less, Equal, Greater}
 use Rattle.std.specs.FinMap.{IsAntisymmetric}
-use Rattle.std.proofs.lemmas.Bool.{false≢true, eq-eqb}
+use Rattle.std.proofs.lemmas.Bool.{eq-eqb, or_right}
 use Rattle.std.proofs.lemmas.Cmp.{nat_eq_equiv, on_total, then_total, back_total, eq_by_cmp_equiv}
 use Rattle.std.proofs.lemmas.List.{length-map}
 use Rattle.std.proofs.lemmas.List.Elements.{All-head, All-tail, All-map}
 use Rattle.std.proofs.lemmas.List.Sorted.{IsPermutation-map, All-permutation, list_any-IsPermutation}
 use Rattle.std.proofs.lemmas.Map.Keys.{IsDistinct-IsPermutation}
+use Rattle.pp_base.proofs.Booleans.{same_bool}
+use Rattle.pp_base.proofs.Orders.{both_equal, equal_is}
 use Rattle.pp_model.specs.FrameTexts.{Written}
 use Rattle.pp_grain.specs.Keys.{key_cmp}
-use Rattle.pp_grain.proofs.CallerLemmas.{key_cmp_total, both_equal, key_cmp_ties}
+use Rattle.pp_grain.proofs.CallerLemmas.{key_cmp_total, key_cmp_ties}
 use Rattle.pp_count.specs.Sums.{Seen, renamed}
 use Rattle.pp_count.specs.Parts.{HasBelow}
 use Rattle.pp_count.proofs.EachOnce.{Apart, AllApart, ranked}
-use Rattle.pp_count.proofs.Renaming.{same_bool, same_found, list_any-renamed}
+use Rattle.pp_count.proofs.Renaming.{same_found, list_any-renamed}
 use Rattle.pp_calltree.specs.declared.branch.Branch.{Branch}
 use Rattle.pp_calltree.specs.declared.texts.Texts.{Texts}
 use Rattle.pp_calltree.specs.CallTree.{first_keys, path_cum, path_flat, sibling_order, siblings}
@@ -37,12 +37,6 @@ listed depth S xs list are moved =
       distinct = IsDistinct-IsPermutation nat_eq nat_eq_equiv.symm _ _ keys are.distinct;
     }
 
--- what an order says where it says that two tie
-pub ties : (o : Ordering) → is_eq o ≡ true → o ≡ Equal
-ties Less h = absurd (false≢true h)
-ties Equal h = refl
-ties Greater h = absurd (false≢true h)
-
 module _ (W : List (Seen Written)) where
   pub order_total : IsTotalOrder (sibling_order key_cmp W)
   order_total =
@@ -56,8 +50,8 @@ module _ (W : List (Seen Written)) where
   -- it ties exactly what the order of keys ties
   pub order_ties : (x y : Written) → eq_by_cmp (sibling_order key_cmp W) x y ≡ eq_by_cmp key_cmp x y
   order_ties x y = same_bool _ _
-      (λ e. ap (λ k. eq_by_cmp key_cmp x k) (sym (order_same x y (ties _ e))) ∙ ap is_eq (tied_itself key_cmp_total x))
-      (λ e. ap (λ k. eq_by_cmp (sibling_order key_cmp W) x k) (sym (key_cmp_ties x y (ties _ e))) ∙ ap is_eq (tied_itself order_total x))
+      (λ e. ap (λ k. eq_by_cmp key_cmp x k) (sym (order_same x y (equal_is _ e))) ∙ ap is_eq (tied_itself key_cmp_total x))
+      (λ e. ap (λ k. eq_by_cmp (sibling_order key_cmp W) x k) (sym (key_cmp_ties x y (equal_is _ e))) ∙ ap is_eq (tied_itself order_total x))
 
   keys_apart : (k : Written) (ks : List Written) → IsDistinct (eq_by_cmp key_cmp) (k ∷ ks) → Apart (sibling_order key_cmp W) k ks
   unfolding IsDistinct
@@ -79,14 +73,10 @@ item_at [] j h = absurd (omega arith)
 item_at (x ∷ xs) zero h = x
 item_at (x ∷ xs) (suc j) h = item_at xs j (omega arith)
 
-or_later : (a b : Bool) → b ≡ true → (a || b) ≡ true
-or_later true b e = refl
-or_later false b e = e
-
 has_at : (p : ℕ → Bool) (ks : List ℕ) (i d : ℕ) → i < length ks → p (get_or ks i d) ≡ true → list_any p ks ≡ true
 has_at p [] i d here e = absurd (omega arith)
 has_at p (k ∷ ks) zero d here e = ap (λ b. b || list_any p ks) e
-has_at p (k ∷ ks) (suc i) d here e = or_later (p k) (list_any p ks) (has_at p ks i d (omega arith) e)
+has_at p (k ∷ ks) (suc i) d here e = or_right (p k) (list_any p ks) (has_at p ks i d (omega arith) e)
 
 module _ (texts : Texts) (name : ℕ → Written) (n : ℕ) (apart : (a b : ℕ) → a < n → b < n → eq_by_cmp key_cmp (name a) (name b) ≡ eq_by_cmp nat_cmp a b)
     (texts_are : (k : ℕ) → k < n → texts_at texts k ≡ name k) (depth : ℕ) (S : List (Seen ℕ)) (below : All (HasBelow n) S) (list : List Branch) (are : AreBranches depth S list) where

@@ -4,7 +4,7 @@ use Rattle.std.specs.List.{slice_get}
 use Rattle.std.specs.Option.{is_some, option_map_or}
 use Rattle.std.specs.Ordering.{int_eq}
 use Rattle.std.proofs.lemmas.Bool.{cases_lt, false≢true, eq-eqb, ne_eqb}
-use Rattle.std.proofs.lemmas.List.{take_more, take_all, drop_more, drop-drop, get_or_default, map-append}
+use Rattle.std.proofs.lemmas.List.{take_all, drop_more, drop-drop, get_or_default, map-append}
 use Rattle.std.proofs.lemmas.Option.{slice_get-get_or, slice_get_past}
 use Rattle.std.proofs.lemmas.List.Elements.{filter-append, All-nil}
 use Rattle.std.proofs.lemmas.List.Sums.{sum_by-cons}
@@ -21,7 +21,7 @@ use Rattle.pp_count.specs.Rising.{AreRisingBetween}
 use Rattle.pp_count.specs.Scope.{profile_in_scope, config_of, AreSeen}
 use Rattle.pp_count.specs.Seeing.{HoldsFilters, keys_of_stack, filtered_stack, numbers_from, filtered_from}
 use Rattle.pp_count.proofs.Sizes.{part_within}
-use Rattle.pp_count.proofs.Ranges.{IsSeen, name_of, by_numbers, seen_more, seen_same}
+use Rattle.pp_count.proofs.Ranges.{IsSeen, name_of, by_numbers, seen_more, seen_same, take_one}
 use Rattle.pp_calltree.specs.declared.paths.Paths.{Paths}
 use Rattle.pp_calltree.specs.CallTree.{rooted}
 use Rattle.pp_calltree.specs.Paths.{rooted_if, AreKeptAs, HasPaths}
@@ -29,9 +29,6 @@ use Rattle.pp_calltree.specs.Paths.{rooted_if, AreKeptAs, HasPaths}
 -- the number stands at the place
 abbrev stands_at : List ℕ → ℕ → ℕ → Bool
 stands_at numbers place number = option_map_or (λ other. other == number) (slice_get numbers place) false
-
-take_one : (samples : List Sample) (i : ℕ) (s : Sample) → i < length samples → s ≡ get_or samples i s → take i samples ++ s ∷ [] ≡ take (i + 1) samples
-take_one samples i s here is = ap (λ r. take i samples ++ r ∷ []) is ∙ sym (take_more samples i s here)
 
 -- a sample's path, unless its value is 0
 rooted_one : (v : ℤ) (keys : List ℕ) → map rooted (weighed (record { value = v; keys = keys } ∷ [])) ≡ rooted_if v keys

@@ -1,5 +1,5 @@
 -- In which order samples stand doesn't matter to the call tree.
-use Rattle.std.proofs.Common.{◌≡◌, ℕ, zero, suc, ◌+◌, Bool, false, cond, ◌||◌, ℤ, pos, negsuc, ◌+ℤ◌, List, [], ◌∷◌, map, Option, Some, None, refl, sym, ap, ◌∙◌, arith}
+use Rattle.std.proofs.Common.{◌≡◌, ℕ, zero, suc, ◌+◌, Bool, false, cond, ◌||◌, ℤ, pos, ◌+ℤ◌, List, [], ◌∷◌, map, Option, Some, None, refl, sym, ap, ◌∙◌, arith}
 use Rattle.std.specs.Prelude.{flat_map}
 use Rattle.std.specs.List.{cons_option, filter_map, list_any, sum_by}
 use Rattle.std.specs.List.Sorted.{IsPermutation}
@@ -9,10 +9,11 @@ use Rattle.std.specs.FinMap.Entries.{is_some-find}
 use Rattle.std.specs.Option.{is_some, option_map_or}
 use Rattle.std.specs.Ordering.{eq_by_cmp, then_cmp}
 use Rattle.std.specs.declared.cmp.Ordering.{Ordering}
-use Rattle.std.proofs.lemmas.Bool.{false≢true}
 use Rattle.std.proofs.lemmas.Int.{ints}
 use Rattle.std.proofs.lemmas.List.Sorted.{sum_by-IsPermutation, list_any-IsPermutation}
 use Rattle.std.proofs.lemmas.List.Sums.{sum_by-cons}
+use Rattle.pp_base.proofs.Booleans.{marked}
+use Rattle.pp_base.proofs.Sums.{above, below, above_below}
 use Rattle.pp_model.specs.FrameTexts.{Written}
 use Rattle.pp_grain.specs.Keys.{key_cmp}
 use Rattle.pp_count.specs.Ranks.{by_size, each_once, set_entry}
@@ -55,37 +56,16 @@ module _ {X Y : Type 0} (g : X → Option Y) where
     found = λ test. found_mapped test xs ∙ same.found (λ x. option_map_or test (g x) false) ∙ sym (found_mapped test ys);
   }
 
--- how far a number is above 0, and how far below
-high : ℤ → ℕ
-high (pos n) = n
-high (negsuc n) = 0
-
-low : ℤ → ℕ
-low (pos n) = 0
-low (negsuc n) = n + 1
-
-split : (v : ℤ) → v +ℤ pos (low v) ≡ pos (high v)
-unfolding high low
-split (pos n) = omega (arith, ints)
-split (negsuc n) = omega (arith, ints)
-
 module _ {K : Type 0} (p : List K → Bool) where
   abbrev part : Seen K → ℤ
   part s = cond (p s.keys) s.value (pos 0)
 
-  sum_split : (S : List (Seen K)) → sum_where p S +ℤ pos (sum_by (λ s. low (part s)) S) ≡ pos (sum_by (λ s. high (part s)) S)
+  sum_split : (S : List (Seen K)) → sum_where p S +ℤ pos (sum_by (λ s. below (part s)) S) ≡ pos (sum_by (λ s. above (part s)) S)
   sum_split [] = refl
-  sum_split (s ∷ S) = omega (arith, ints, sum_split S, split (part s), sum_by-cons (λ t. low (part t)) s S, sum_by-cons (λ t. high (part t)) s S)
+  sum_split (s ∷ S) = omega (arith, ints, sum_split S, above_below (part s), sum_by-cons (λ t. below (part t)) s S, sum_by-cons (λ t. above (part t)) s S)
 
   sum_alike : (S R : List (Seen K)) → AreAlike S R → sum_where p S ≡ sum_where p R
-  sum_alike S R same = omega (arith, ints, sum_split S, sum_split R, same.sums (λ s. low (part s)), same.sums (λ s. high (part s)))
-
--- what is found of a unit is told by whether it is found
-marked : (o p : Option (Unit {0})) → is_some o ≡ is_some p → o ≡ p
-marked None None e = refl
-marked None (Some u) e = absurd (false≢true e)
-marked (Some u) None e = absurd (false≢true (sym e))
-marked (Some u) (Some v) e = refl
+  sum_alike S R same = omega (arith, ints, sum_split S, sum_split R, same.sums (λ s. below (part s)), same.sums (λ s. above (part s)))
 
 -- lists with the same items list the same
 module _ {K : Type 0} {R : K → K → Ordering} (o : IsTotalOrder R) (same : finite.IsAntisymmetric R) where

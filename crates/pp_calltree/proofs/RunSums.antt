@@ -5,8 +5,9 @@ use Rattle.std.specs.Option.{option_map_or}
 use Rattle.std.proofs.lemmas.Int.{fits_signed_from_abs, to_z-of_z}
 use Rattle.std.proofs.lemmas.List.{map-append, take_all, take_more}
 use Rattle.std.proofs.lemmas.List.Sums.{sum_by-cons, sum_by_push, sum_by-take-le}
+use Rattle.pp_base.proofs.Sums.{triangle}
 use Rattle.pp_count.specs.Sums.{Seen, absolute, sum_where}
-use Rattle.pp_count.proofs.Adding.{sum_where_push, triangle}
+use Rattle.pp_count.proofs.Adding.{sum_where_push}
 use Rattle.pp_calltree.specs.declared.path.Path.{Path}
 use Rattle.pp_calltree.specs.CallTree.{any_path, is_end}
 use Rattle.pp_calltree.specs.Paths.{below, path_below, own_path_value}

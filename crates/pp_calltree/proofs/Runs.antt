@@ -17,8 +17,9 @@ use Rattle.std.proofs.lemmas.List.Sorted.{All-permutation, IsPermutation-sym, Is
 use Rattle.std.proofs.lemmas.List.Sums.{sum_by-append, sum_by-cons, sum_by_push}
 use Rattle.std.proofs.lemmas.Map.Keys.{IsDistinct-cons}
 use Rattle.std.proofs.lemmas.Option.{slice_get-get_or}
+use Rattle.std.proofs.Math.Bool.{or-false, or_comm}
+use Rattle.pp_base.proofs.Orders.{tied_with}
 use Rattle.pp_count.specs.Sums.{Seen, absolute, sum_where}
-use Rattle.pp_count.proofs.Adding.{or-false}
 use Rattle.pp_calltree.specs.declared.branch.Branch.{Branch}
 use Rattle.pp_calltree.specs.declared.path.Path.{Path}
 use Rattle.pp_calltree.specs.CallTree.{all_lengths, any_path, is_end, below_key, first_key, first_keys, under}
@@ -59,13 +60,10 @@ none_under : (k : ℕ) (S : List (Seen ℕ)) → list_any (eq_by_cmp nat_cmp k) 
 none_under k [] none = refl
 none_under k (s ∷ S) none = none_one k s.value s.keys S (none_under k S) none
 
-tied_self : (k : ℕ) → eq_by_cmp nat_cmp k k ≡ true
-tied_self k = unsigned_tied k k ∙ eq-eqb k k refl
-
 -- the samples of a run under its key, and under another
 under_own : (k : ℕ) (R : List (Seen ℕ)) → under nat_cmp k (map (onto k) R) ≡ R
 under_own k [] = refl
-under_own k (s ∷ R) = λ i. cons_option (cond (tied_self k i) (Some s) None) (under_own k R i)
+under_own k (s ∷ R) = λ i. cons_option (cond (tied_with k k refl i) (Some s) None) (under_own k R i)
 
 under_other : (m k : ℕ) (R : List (Seen ℕ)) → eq_by_cmp nat_cmp m k ≡ false → under nat_cmp m (map (onto k) R) ≡ []
 under_other m k [] apart = refl
@@ -168,12 +166,6 @@ said_more depth k A R (x ∷ xs) are none =
       apart : nat_eq k x.key ≡ false → eq_by_cmp nat_cmp x.key k ≡ false
       apart e = unsigned_tied x.key k ∙ ne_eqb x.key k (λ same. true≢false (sym (eq-eqb k x.key (sym same)) ∙ e))
 
-or_swap : (a b : Bool) → (a || b) ≡ (b || a)
-or_swap true true = refl
-or_swap true false = refl
-or_swap false true = refl
-or_swap false false = refl
-
 -- one more run
 module _ (depth k : ℕ) (A : List (Seen ℕ)) (list : List Branch) (s : Seen ℕ) (R : List (Seen ℕ)) (b : Branch) (fresh : list_any (eq_by_cmp nat_cmp k) (first_keys A) ≡ false)
     (is : branch_said b ≡ saying depth k (s ∷ R)) (ordered : AreOrdered depth A list) where
@@ -199,7 +191,7 @@ module _ (depth k : ℕ) (A : List (Seen ℕ)) (list : List Branch) (s : Seen �
         (said_more depth k A (s ∷ R) list ordered.are.said_are not_there);
     present = λ m.
         (λ i. nat_eq m (key_is i) || ordered.are.present m i)
-        ∙ or_swap (nat_eq m k) (list_any (eq_by_cmp nat_cmp m) (first_keys A))
+        ∙ or_comm (nat_eq m k) (list_any (eq_by_cmp nat_cmp m) (first_keys A))
         ∙ ap (λ e. list_any (eq_by_cmp nat_cmp m) (first_keys A) || e) (sym (same_heads m k s R))
         ∙ sym (ap (list_any (eq_by_cmp nat_cmp m)) (first_keys-append A run) ∙ list_any-append (eq_by_cmp nat_cmp m) (first_keys A) (first_keys run));
     distinct = subst (λ n. IsDistinct nat_eq (n ∷ map (λ (x : Branch). x.key) list)) (sym key_is)

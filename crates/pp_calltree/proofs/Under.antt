@@ -3,13 +3,13 @@ use Rattle.std.proofs.Common.{◌≡◌, ℕ, ◌+◌, ◌<◌, ◌≤◌, Bool,
 use Rattle.std.specs.List.{cons_option, list_any, sum_by, IsDistinct, AllByRecursion}
 use Rattle.std.specs.Cmp.{unsigned_tied}
 use Rattle.std.proofs.lemmas.Cmp.{nat_eq_equiv}
-use Rattle.pp_count.proofs.Adding.{triangle}
 use Rattle.std.specs.Ordering.{nat_cmp, eq_by_cmp}
 use Rattle.std.specs.declared.cmp.Ordering.{Ordering}
 use Rattle.std.proofs.lemmas.Bool.{false≢true}
 use Rattle.std.proofs.lemmas.List.{length-map}
 use Rattle.std.proofs.lemmas.List.Elements.{All-nil, All-cons, All-head, All-tail}
 use Rattle.std.proofs.lemmas.List.Sums.{sum_by-cons}
+use Rattle.pp_base.proofs.Sums.{triangle}
 use Rattle.pp_count.specs.Sums.{Seen, sum_where, absolute, renamed}
 use Rattle.pp_count.specs.Parts.{HasBelow}
 use Rattle.pp_count.proofs.Renaming.{tied_is}

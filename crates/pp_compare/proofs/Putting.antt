@@ -20,12 +20,6 @@ module _ (text : ℕ → List ℕ) where
   putting_all order before i out past so_far =
       sym (append-nil out) ∙ sym (ap (λ ns. out ++ flat_map text ns) (drop_all i order past)) ∙ so_far
 
--- four texts, the last of which may fail
-pub joined_four : {T E : Type 0} (r : Result T E) (before first second third all a b c d : List ℕ) → first ≡ before ++ a → second ≡ first ++ b → third ≡ second ++ c
-    → IfOk r (λ _. all ≡ third ++ d) → IfOk r (λ _. all ≡ before ++ (((a ++ b) ++ c) ++ d))
-joined_four (Err e) before first second third all a b c d p q s h = tt
-joined_four (Ok x) before first second third all a b c d p q s h = rw (h, s, q, p) (simp append_assoc)
-
 -- five texts, the last of which may fail
 pub joined_five : {T E : Type 0} (r : Result T E) (before first second third fourth all a b c d e : List ℕ) → first ≡ before ++ a → second ≡ first ++ b → third ≡ second ++ c → fourth ≡ third ++ d
     → IfOk r (λ _. all ≡ fourth ++ e) → IfOk r (λ _. all ≡ before ++ ((((a ++ b) ++ c) ++ d) ++ e))

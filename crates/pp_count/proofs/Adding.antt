@@ -2,11 +2,12 @@
 use Rattle.std.proofs.Common.{◌≡◌, ℕ, ◌+◌, ◌<◌, ◌≤◌, Bool, true, false, cond, not, ◌||◌, ℤ, pos, ◌+ℤ◌, nat_abs, List, [], ◌∷◌, ◌++◌, refl, sym, ap, ◌∙◌, subst, ⊎_elim, arith}
 use Rattle.std.specs.Ordering.{nat_cmp, int_eq}
 use Rattle.std.proofs.Math.IntN.{+ℤ_assoc, +ℤ_idl, +ℤ_idr}
-use Rattle.std.proofs.lemmas.Int.{ints}
 use Rattle.std.proofs.lemmas.Bool.{lt-ltb, cases_Bool}
 use Rattle.std.proofs.lemmas.List.Elements.{filter-append}
 use Rattle.std.proofs.lemmas.List.Sums.{sum_by-cons}
 use Rattle.std.proofs.lemmas.List.Folds.{list_any-append}
+use Rattle.std.proofs.Math.Bool.{or-false}
+use Rattle.pp_base.proofs.Sums.{triangle}
 use Rattle.pp_count.specs.declared.tally.Tally.{Tally}
 use Rattle.pp_count.specs.Sums.{Seen, weighed, sum_where, has, leads, cum, flat, occurs, absolute}
 use Rattle.pp_count.specs.Tally.{IsTallyOf, with_cum, with_sample, with_seen}
@@ -14,10 +15,6 @@ use Rattle.pp_count.specs.Tally.{IsTallyOf, with_cum, with_sample, with_seen}
 pub or-true : (a : Bool) → (a || true) ≡ true
 or-true true = refl
 or-true false = refl
-
-pub or-false : (a : Bool) → (a || false) ≡ a
-or-false true = refl
-or-false false = refl
 
 -- the value of a sample that passes, and 0 of another
 abbrev pub part : {K : Type 0} → (List K → Bool) → Seen K → ℤ
@@ -27,9 +24,6 @@ pub sum_where_push : {K : Type 0} (p : List K → Bool) (ss : List (Seen K)) (s 
     → sum_where p (ss ++ s ∷ []) ≡ sum_where p ss +ℤ part p s
 sum_where_push p [] s = +ℤ_idr (part p s) ∙ sym (+ℤ_idl (part p s))
 sum_where_push p (x ∷ ss) s = ap (λ z. part p x +ℤ z) (sum_where_push p ss s) ∙ sym (+ℤ_assoc (part p x) (sum_where p ss) (part p s))
-
-pub triangle : (a b : ℤ) → nat_abs (a +ℤ b) ≤ nat_abs a + nat_abs b
-triangle a b = omega (arith, ints)
 
 -- a sum is within the sum of all absolute values
 pub sum_bound : (p : List ℕ → Bool) (ss : List (Seen ℕ)) → nat_abs (sum_where p (weighed ss)) ≤ absolute ss
@@ -69,7 +63,7 @@ pushed : (p : List ℕ → Bool) (ss : List (Seen ℕ)) (s : Seen ℕ) (b : Bool
     → sum_where p ss +ℤ cond b s.value (pos 0) ≡ sum_where p (ss ++ s ∷ [])
 pushed p ss s b is = ap (λ q. sum_where p ss +ℤ cond q s.value (pos 0)) (sym is) ∙ sym (sum_where_push p ss s)
 
-occurs_push_or : (ss : List (Seen ℕ)) (s : Seen ℕ) (k : ℕ) (b : Bool) → has nat_cmp k s.keys ≡ b → (occurs nat_cmp ss k || b) ≡ occurs nat_cmp (ss ++ s ∷ []) k
+pub occurs_push_or : (ss : List (Seen ℕ)) (s : Seen ℕ) (k : ℕ) (b : Bool) → has nat_cmp k s.keys ≡ b → (occurs nat_cmp ss k || b) ≡ occurs nat_cmp (ss ++ s ∷ []) k
 occurs_push_or ss s k b is =
     ap (λ q. occurs nat_cmp ss k || q) (sym is ∙ sym (or-false (has nat_cmp k s.keys))) ∙ sym (list_any-append (λ (t : Seen ℕ). has nat_cmp k t.keys) ss (s ∷ []))
 

@@ -9,6 +9,7 @@ use Rattle.std.proofs.lemmas.List.{take_more, take_all, take-append-drop, get_or
 use Rattle.std.proofs.lemmas.List.Elements.{All-filter, filter-append, filter_map-append}
 use Rattle.std.proofs.lemmas.List.Sums.{sum_by-cons, sum_by-append, sum_by-take-drop}
 use Rattle.std.proofs.lemmas.Option.{slice_get-get_or}
+use Rattle.pp_base.proofs.Sums.{triangle}
 use Rattle.pp_model.specs.declared.config.Config.{Config}
 use Rattle.pp_model.specs.declared.loaded.Loaded.{Loaded}
 use Rattle.pp_model.specs.declared.profile.Sample.{Sample}
@@ -33,7 +34,7 @@ use Rattle.pp_count.specs.Rising.{AreRisingBetween}
 use Rattle.pp_count.specs.Seeing.{HoldsFilters, filtered_stack, filtered_from, seen_with, seen_samples, absolute_all}
 use Rattle.pp_count.specs.Sums.{Seen, weighed, renamed, flat, cum, has, leads}
 use Rattle.pp_count.specs.Table.{key_numbered, written_key}
-use Rattle.pp_count.proofs.Adding.{triangle, sum_bound}
+use Rattle.pp_count.proofs.Adding.{sum_bound}
 use Rattle.pp_count.proofs.CallerLemmas.{weighed-renamed}
 use Rattle.pp_count.proofs.Kept.{kept_samples, values_fit}
 use Rattle.pp_count.proofs.Keyed.{apart, same_map, map_twice}

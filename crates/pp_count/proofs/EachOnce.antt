@@ -9,12 +9,13 @@ use Rattle.std.specs.Ordering.{eq_by_cmp, is_lt, is_eq}
 use Rattle.std.specs.Cmp.{IsTotalOrder}
 use Rattle.std.proofs.lemmas.Cmp.{tied_itself}
 use Rattle.std.specs.declared.cmp.Ordering.{Ordering}
-use Rattle.std.specs.declared.cmp.Ordering.TheVariants.{Less, Equal, Greater}
+use Rattle.std.specs.declared.cmp.Ordering.TheVariants.{Less}
 use Rattle.std.proofs.lemmas.List.Kept.{IsStrictlySortedBy-dedup}
 use Rattle.std.specs.FinMap as finite
 use Rattle.std.specs.FinMap.Entries.{below_all, is_sorted, is_some-find}
+use Rattle.pp_base.proofs.Booleans.{same_bool}
+use Rattle.pp_base.proofs.Orders.{equal_is}
 use Rattle.pp_count.specs.Ranks.{each_once, set_entry}
-use Rattle.pp_count.proofs.Renaming.{same_bool}
 
 module _ {K : Type 0} (R : K → K → Ordering) where
   -- no item ties with the one before it
@@ -74,16 +75,10 @@ module _ {K : Type 0} {R : K → K → Ordering} (o : IsTotalOrder R) (same : fi
       ∙ members q ∙ sym (ap (list_any (eq_by_cmp R q)) (keys-items R ks)) ∙ sym (is_some-find R q (map set_entry ks)) ∙ sym (ap is_some (finite.get-from_sorted R (map set_entry ks) q in_order)))) in
       ap finite.keys equal ∙ listed
 
--- what an order says where it says that two tie
-ties : (o : Ordering) → is_eq o ≡ true → o ≡ Equal
-ties Less h = absurd (false≢true h)
-ties Equal h = refl
-ties Greater h = absurd (false≢true h)
-
 module _ {K : Type 0} {R : K → K → Ordering} (o : IsTotalOrder R) (alike : finite.IsAntisymmetric R) where
   -- where only what is the same ties, the test for ties decides what is the same
   pub tied_decides : (x y : K) → Decides (eq_by_cmp R x y) (x ≡ y)
-  tied_decides x y = (λ e. alike x y (ties (R x y) e), λ is. ap (eq_by_cmp R x) (sym is) ∙ ap is_eq (tied_itself o x))
+  tied_decides x y = (λ e. alike x y (equal_is (R x y) e), λ is. ap (eq_by_cmp R x) (sym is) ∙ ap is_eq (tied_itself o x))
 
 -- Items that are told apart by a test of its own.
 module _ {K : Type 0} {R : K → K → Ordering} (o : IsTotalOrder R) (alike : finite.IsAntisymmetric R)

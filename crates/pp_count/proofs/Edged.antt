@@ -4,12 +4,13 @@ use Rattle.std.specs.Prelude.{AllPairs}
 use Rattle.std.specs.List.{filter, list_any, range_with_len}
 use Rattle.std.specs.Option.{is_some}
 use Rattle.std.specs.Ordering.{nat_cmp, eq_by_cmp, int_eq}
-use Rattle.std.proofs.lemmas.Bool.{false≢true, eq-eqb, eqb-true, ne_eqb, cases_order}
+use Rattle.std.proofs.lemmas.Bool.{false≢true, eq-eqb, eqb-true, ne_eqb, cases_order, and_parts}
 use Rattle.std.proofs.lemmas.List.{get_or-map, length-map}
 use Rattle.std.proofs.lemmas.List.Elements.{All-filter, All-head, All-tail, filter-append, filter_passes}
 use Rattle.std.proofs.lemmas.List.FromFn.{map-range_with_len_more}
 use Rattle.std.proofs.lemmas.Nat.{div-mul-add, mod-mul-add, div-add-mod'}
 use Rattle.std.proofs.Math.Nat.{mod-lt, div-lt_iff_lt-mul}
+use Rattle.pp_base.proofs.Booleans.{same_bool}
 use Rattle.pp_model.specs.declared.config.Config.{Config}
 use Rattle.pp_model.specs.declared.loaded.Loaded.{Loaded}
 use Rattle.pp_model.specs.declared.verdicts.Verdicts.{Verdicts}
@@ -29,16 +30,11 @@ use Rattle.pp_count.specs.Parts.{sums_of, key_sum, HasBelow}
 use Rattle.pp_count.specs.Edges.{is_kept_key, is_marked, place_of, paired, edge_of_sum, AreOnce, ArePairPlaces}
 use Rattle.pp_count.specs.EdgeSums.{edge_occurs, edge_sum, kept_numbers, is_kept_name, edges_between, AreEdgesOf, AreEdgesAbout, HasPairSums}
 use Rattle.pp_count.specs.Rising.{AreRisingBetween}
-use Rattle.pp_count.proofs.Renaming.{same_bool}
 use Rattle.pp_count.proofs.CallerLemmas.{weighed-renamed}
 use Rattle.pp_count.proofs.Finals.{sums_below, has_root}
 use Rattle.pp_count.proofs.Keyed.{apart}
 use Rattle.pp_count.proofs.Paired.{occurs-paired, sum-paired, pairs_below, weighed-paired, none_from, none_to}
 use Rattle.pp_count.proofs.Rising.{rising_none, rising_one, rising-filter}
-
-and_parts : (a b : Bool) → (a && b) ≡ true → (a ≡ true) × (b ≡ true)
-and_parts true b e = (refl, e)
-and_parts false b e = absurd (false≢true e)
 
 -- a number is that of a pair where its parts are those of the pair
 is_pair : (n a b k : ℕ) → b < n → ((k / n == a) && (k % n == b)) ≡ (k == a * n + b)
@@ -49,10 +45,6 @@ is_pair n a b k in_b = same_bool _ _
     (λ same.
     let is : k ≡ a * n + b = eqb-true k (a * n + b) same in
     λ i. eq-eqb (k / n) a (ap (λ m. m / n) is ∙ div-mul-add a n b in_b) i && eq-eqb (k % n) b (ap (λ m. m % n) is ∙ mod-mul-add a n b in_b) i)
-
-is_not : (b : Bool) → (b ≡ true → ⊥) → b ≡ false
-is_not true never = absurd (never refl)
-is_not false never = refl
 
 -- numbers that rise stand once each
 pub once_rising : (low high : ℕ) (ns : List ℕ) → AreRisingBetween low high ns → AreOnce ns

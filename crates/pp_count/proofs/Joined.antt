@@ -1,11 +1,12 @@
 -- The part of a range by what its samples are, and the parts of consecutive ranges joined.
-use Rattle.std.proofs.Common.{◌≡◌, ◌==◌, ℕ, ◌+◌, ◌<◌, ◌≤◌, Bool, true, false, cond, ltb, not, pos, nat_abs, List, [], ◌∷◌, ◌++◌, length, take, drop, get_or, map, All, Option, None, refl, sym, ap, ◌∙◌, subst, append_assoc, arith, length-append}
+use Rattle.std.proofs.Common.{◌≡◌, ◌==◌, ℕ, ◌+◌, ◌<◌, ◌≤◌, Bool, cond, ltb, not, pos, nat_abs, List, [], ◌∷◌, ◌++◌, length, take, drop, get_or, map, All, Option, None, refl, sym, ap, ◌∙◌, subst, append_assoc, arith, length-append}
 use Rattle.std.specs.Option.{is_some}
 use Rattle.std.specs.Ordering.{nat_cmp, int_eq}
 use Rattle.std.proofs.lemmas.Grind.{flat_map-append}
 use Rattle.std.proofs.lemmas.List.{take_more, take_all, take-append-drop, append-nil}
 use Rattle.std.proofs.lemmas.List.Elements.{All-filter, filter-append, filter_map-append}
 use Rattle.std.proofs.lemmas.List.Sums.{sum_by-append}
+use Rattle.std.proofs.lemmas.Bool.{false_from_ne_true}
 use Rattle.pp_model.specs.declared.config.Config.{Config}
 use Rattle.pp_model.specs.declared.loaded.Loaded.{Loaded}
 use Rattle.pp_model.specs.declared.profile.Sample.{Sample}
@@ -37,10 +38,6 @@ use Rattle.pp_count.proofs.Pieces.{HasRoom, size_if}
 use Rattle.pp_count.proofs.Ranges.{name_of, numbers-append}
 use Rattle.pp_count.proofs.Renaming.{occurs_below, occurs_named, cum-renamed, flat-renamed}
 
-is_not : (b : Bool) → (b ≡ true → ⊥) → b ≡ false
-is_not true never = absurd (never refl)
-is_not false never = refl
-
 -- The part of a range, by what its samples are.
 pub range_part : (scope : Scope) (number m : ℕ) (samples : List Sample) (part : Part) → scope.over ≡ None → scope.chosen ≡ None → IsCompact (profile_in_scope scope)
     → IsKeyTable (profile_in_scope scope) (config_of scope) scope.table.now → number ≡ m → IsPartOf scope number samples part
@@ -66,7 +63,7 @@ range_part scope number m samples part none all compact table same is =
                   cum = (sym (cum-renamed key_cmp name n far k S below S_below) ∙ ap (λ r. cum key_cmp r (name k)) T_is) i;
                 } ∷ []) []);
             no_other = λ k above. sums_are k
-                ∙ ap (λ b. cond b (key_sum S k ∷ []) []) (is_not (occurs nat_cmp S k) (λ found. absurd (omega (arith, above, occurs_below n k S S_below found))));
+                ∙ ap (λ b. cond b (key_sum S k ∷ []) []) (false_from_ne_true (occurs nat_cmp S k) (λ found. absurd (omega (arith, above, occurs_below n k S S_below found))));
           };
       matched = λ f holds. is.matched all f holds;
       within = λ k. record {

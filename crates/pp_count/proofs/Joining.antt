@@ -3,17 +3,19 @@ use Rattle.std.proofs.Common.{◌≡◌, ℕ, ◌+◌, ◌<◌, ◌≤◌, Bool,
 use Rattle.std.specs.Ordering.{nat_cmp}
 use Rattle.std.specs.declared.cmp.Ordering.{Ordering}
 use Rattle.std.proofs.Math.IntN.{+ℤ_assoc, +ℤ_idl, +ℤ_idr}
-use Rattle.std.proofs.lemmas.Bool.{cases_eq, eq-eqb, ne_eqb}
+use Rattle.std.proofs.lemmas.Bool.{cases_eq, eq-eqb, ne_eqb, or_parts}
 use Rattle.std.proofs.lemmas.List.{take_more, take-append-drop, append-nil}
 use Rattle.std.proofs.lemmas.List.Elements.{filter-append}
 use Rattle.std.proofs.lemmas.List.Sums.{sum_by-cons, sum_by-append}
 use Rattle.std.proofs.lemmas.List.Folds.{list_any-append}
+use Rattle.std.proofs.Math.Bool.{or-false}
+use Rattle.pp_base.proofs.Sums.{triangle}
 use Rattle.pp_count.specs.declared.tally.Tally.{Tally}
 use Rattle.pp_count.specs.declared.part.KeySum.{KeySum}
 use Rattle.pp_count.specs.Sums.{Seen, sum_where, has, leads, cum, flat, occurs}
 use Rattle.pp_count.specs.Tally.{tally_plus, tally_added, IsTallyOf}
 use Rattle.pp_count.specs.Parts.{sums_of, AreSums, flat_size, cum_size}
-use Rattle.pp_count.proofs.Adding.{triangle, or-true, or-false}
+use Rattle.pp_count.proofs.Adding.{or-true}
 
 -- the entries of two ranges, one after the other
 pub added-append : (t : Tally) (xs ys : List KeySum) → tally_added t (xs ++ ys) ≡ tally_added (tally_added t xs) ys
@@ -83,26 +85,22 @@ sum_where-append p [] b = sym (+ℤ_idl (sum_where p b))
 sum_where-append p (s ∷ a) b =
     ap (λ z. cond (p s.keys) s.value (pos 0) +ℤ z) (sum_where-append p a b) ∙ sym (+ℤ_assoc (cond (p s.keys) s.value (pos 0)) (sum_where p a) (sum_where p b))
 
-either_false : (a b : Bool) → (a || b) ≡ false → (a ≡ false) × (b ≡ false)
-either_false true b e = cc
-either_false false b e = (refl, e)
-
 module _ {K : Type 0} (order : K → K → Ordering) where
   leads_has : (k : K) (keys : List K) → has order k keys ≡ false → leads order k keys ≡ false
   leads_has k [] none = refl
-  leads_has k (q ∷ keys) none = (either_false _ _ none).0
+  leads_has k (q ∷ keys) none = (or_parts _ _ none).0
 
   -- a key that does not occur has no sums
   cum_none : (b : List (Seen K)) (k : K) → occurs order b k ≡ false → cum order b k ≡ pos 0
   cum_none [] k none = refl
   cum_none (s ∷ b) k none =
-      let parts = either_false (has order k s.keys) (occurs order b k) none in
+      let parts = or_parts (has order k s.keys) (occurs order b k) none in
       ap (λ w. cond w s.value (pos 0) +ℤ cum order b k) parts.0 ∙ +ℤ_idl (cum order b k) ∙ cum_none b k parts.1
 
   flat_none : (b : List (Seen K)) (k : K) → occurs order b k ≡ false → flat order b k ≡ pos 0
   flat_none [] k none = refl
   flat_none (s ∷ b) k none =
-      let parts = either_false (has order k s.keys) (occurs order b k) none in
+      let parts = or_parts (has order k s.keys) (occurs order b k) none in
       ap (λ w. cond w s.value (pos 0) +ℤ flat order b k) (leads_has k s.keys parts.0) ∙ +ℤ_idl (flat order b k) ∙ flat_none b k parts.1
 
   -- The tally is that of the key over these samples.

@@ -4,13 +4,14 @@ use Rattle.std.specs.Prelude.{AllPairs}
 use Rattle.std.specs.List.{list_any}
 use Rattle.std.specs.Ordering.{nat_cmp, int_eq, eq_by_cmp, is_eq}
 use Rattle.std.specs.Cmp.{unsigned_tied}
-use Rattle.std.specs.declared.cmp.Ordering.{Ordering}
-use Rattle.std.specs.declared.cmp.Ordering.TheVariants.{Less, Equal, Greater}
 use Rattle.std.proofs.lemmas.Bool.{false≢true, cases_order, eq-eqb, eqb-true}
 use Rattle.std.proofs.lemmas.Cmp.{tied_itself}
 use Rattle.std.proofs.lemmas.List.{get_or-map, length-map, nil_from_length, take-append-drop}
 use Rattle.std.proofs.lemmas.List.Elements.{All-head, All-tail, All-filter, filter-append}
 use Rattle.std.proofs.lemmas.List.Folds.{list_any-append}
+use Rattle.pp_base.proofs.Booleans.{same_bool}
+use Rattle.pp_base.proofs.Orders.{equal_is}
+use Rattle.pp_base.proofs.Sums.{same_sums}
 use Rattle.pp_model.specs.declared.profile.Profile.{Profile}
 use Rattle.pp_model.specs.FrameTexts.{Written}
 use Rattle.pp_model.specs.Rules.{IsCompact}
@@ -29,10 +30,10 @@ use Rattle.pp_count.specs.Edges.{counted_keys}
 use Rattle.pp_count.specs.Scope.{profile_in_scope, counted_as, CountedTo}
 use Rattle.pp_count.specs.Counts.{AreSumsOf, written_names}
 use Rattle.pp_count.proofs.CallerLemmas.{weighed-renamed}
-use Rattle.pp_count.proofs.Sizes.{same_sums, flats_bound, part_within}
+use Rattle.pp_count.proofs.Sizes.{flats_bound, part_within}
 use Rattle.pp_count.proofs.Joining.{more_of}
 use Rattle.pp_count.proofs.Finals.{none_before}
-use Rattle.pp_count.proofs.Renaming.{same_bool, same_found, list_any-renamed, all_keys_occur, occurs_below, cum-renamed, flat-renamed, tied_is}
+use Rattle.pp_count.proofs.Renaming.{same_found, list_any-renamed, all_keys_occur, occurs_below, cum-renamed, flat-renamed, tied_is}
 
 -- an entry list with an item is that of a key that some sample had
 head_is : (w : Bool) (x e : KeySum) (rest : List KeySum) → cond w (x ∷ []) [] ≡ e ∷ rest → (w ≡ true) × (x ≡ e)
@@ -61,11 +62,6 @@ any_entry m (e ∷ es) w x is =
           (same_bool _ false (λ tied. absurd (false≢true (sym other ∙ eq-eqb e.key m (sym (tied_is m e.key tied))))) (λ no. absurd (false≢true no)))
           ∙ any_entry m es w x same
     ] refl is
-
-equal_is : (o : Ordering) → is_eq o ≡ true → o ≡ Equal
-equal_is Less e = cc
-equal_is Equal e = refl
-equal_is Greater e = cc
 
 self_tied : (k : Written) → eq_by_cmp key_cmp k k ≡ true
 self_tied k = ap is_eq (tied_itself key_cmp_total k)

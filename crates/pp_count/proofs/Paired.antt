@@ -5,7 +5,7 @@ use Rattle.std.specs.Option.{is_some, option_map_or, unwrap_or}
 use Rattle.std.specs.Ordering.{nat_cmp, eq_by_cmp, int_eq}
 use Rattle.std.specs.Cmp.{unsigned_tied, nat_cmp_total}
 use Rattle.std.specs.declared.cmp.Ordering.{Ordering}
-use Rattle.std.proofs.lemmas.Bool.{false≢true, eq-eqb, eqb-true, ne_eqb}
+use Rattle.std.proofs.lemmas.Bool.{false≢true, eq-eqb, eqb-true, ne_eqb, and_parts}
 use Rattle.std.proofs.lemmas.Cmp.{eq_by_cmp_equiv}
 use Rattle.std.proofs.lemmas.List.{get_or_default, drop_more}
 use Rattle.std.proofs.lemmas.List.Elements.{All-nil, All-cons, All-head, All-tail, All-append, All-filter, filter-append}
@@ -13,23 +13,15 @@ use Rattle.std.proofs.lemmas.List.Folds.{list_any-append, list_any_none}
 use Rattle.std.proofs.lemmas.Map.Views.{any-filter_same, list_any-from_Contains}
 use Rattle.std.proofs.lemmas.Nat.{div-mul-add, mod-mul-add}
 use Rattle.std.proofs.Math.Nat.{mul-le-mul_right}
+use Rattle.std.proofs.Math.Bool.{or-false}
+use Rattle.pp_base.proofs.Booleans.{same_bool}
+use Rattle.pp_base.proofs.Orders.{tied_with}
 use Rattle.pp_count.specs.declared.pairs.Pairing.{Pairing}
 use Rattle.pp_count.specs.Sums.{Seen, has, occurs, cum, weighed, renamed}
 use Rattle.pp_count.specs.Column.{first_else}
 use Rattle.pp_count.specs.Edges.{place_of, is_marked, has_mark, pair_if, pair_between, pairs_over, pairs_of, paired, ArePairPlaces}
 use Rattle.pp_count.specs.EdgeSums.{stands_over, has_pair, has_edge, edge_occurs, edge_sum}
-use Rattle.pp_count.proofs.Adding.{or-false}
-use Rattle.pp_count.proofs.Renaming.{same_bool, tied_is}
-
-tied_self : (k : ℕ) → eq_by_cmp nat_cmp k k ≡ true
-tied_self k = unsigned_tied k k ∙ eq-eqb k k refl
-
-tied_with : (a b : ℕ) → a ≡ b → eq_by_cmp nat_cmp a b ≡ true
-tied_with a b same = unsigned_tied a b ∙ eq-eqb a b same
-
-and_parts : (a b : Bool) → (a && b) ≡ true → (a ≡ true) × (b ≡ true)
-and_parts true b e = (refl, e)
-and_parts false b e = absurd (false≢true e)
+use Rattle.pp_count.proofs.Renaming.{tied_is}
 
 not_both : (w : Bool) → not w ≡ true → w ≡ false
 not_both true e = cc

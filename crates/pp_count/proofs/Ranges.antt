@@ -114,7 +114,7 @@ counted_size scope (s ∷ ss) =
     omega (arith, sum_by-cons size s ss, sum_by-cons size (counted_as scope s) (map (counted_as scope) ss), counted_size scope ss)
 
 -- the range with one more sample
-take_one : (samples : List Sample) (i : ℕ) (s : Sample) → i < length samples → s ≡ get_or samples i s → take i samples ++ s ∷ [] ≡ take (i + 1) samples
+pub take_one : (samples : List Sample) (i : ℕ) (s : Sample) → i < length samples → s ≡ get_or samples i s → take i samples ++ s ∷ [] ≡ take (i + 1) samples
 take_one samples i s here is = ap (λ r. take i samples ++ r ∷ []) is ∙ sym (take_more samples i s here)
 
 long_more : (samples : List Sample) (i : ℕ) (s : Sample) → i < length samples → length (take i samples ++ s ∷ []) ≡ i + 1

@@ -8,14 +8,8 @@ use Rattle.std.proofs.lemmas.Bool.{false≢true, eqb-true, eq-eqb}
 use Rattle.std.proofs.lemmas.List.{map-append}
 use Rattle.std.proofs.lemmas.List.Elements.{All-head, All-tail}
 use Rattle.std.proofs.lemmas.List.Folds.{list_any-append}
+use Rattle.pp_base.proofs.Booleans.{same_bool}
 use Rattle.pp_count.specs.Sums.{Seen, all_keys, renamed, has, leads, occurs, cum, flat}
-
--- a Bool is known by when it is true
-pub same_bool : (a b : Bool) → (a ≡ true → b ≡ true) → (b ≡ true → a ≡ true) → a ≡ b
-same_bool true true f g = refl
-same_bool true false f g = sym (f refl)
-same_bool false true f g = g refl
-same_bool false false f g = refl
 
 -- a number ties with another where they are the same
 pub tied_is : (m k : ℕ) → eq_by_cmp nat_cmp m k ≡ true → m ≡ k

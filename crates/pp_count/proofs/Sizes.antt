@@ -1,40 +1,17 @@
 -- How large the flats of all keys can be together.
-use Rattle.std.proofs.Common.{◌≡◌, ℕ, ◌+◌, ◌<◌, ◌≤◌, ◌^◌, Bool, true, false, cond, ◌==◌, ℤ, pos, nat_abs, List, [], ◌∷◌, length, map, All, refl, sym, ap, ◌∙◌, arith}
+use Rattle.std.proofs.Common.{◌≡◌, ℕ, ◌+◌, ◌<◌, ◌≤◌, ◌^◌, Bool, true, false, cond, ◌==◌, ℤ, pos, nat_abs, List, [], ◌∷◌, length, map, refl, sym, ap, ◌∙◌, arith}
 use Rattle.std.specs.List.{filter, sum_by}
 use Rattle.std.specs.Ordering.{nat_cmp, eq_by_cmp}
 use Rattle.std.specs.Cmp.{unsigned_tied}
 use Rattle.std.proofs.lemmas.List.{length-map}
-use Rattle.std.proofs.lemmas.List.Elements.{All-head, All-tail}
 use Rattle.std.proofs.lemmas.List.Sums.{sum_by-cons, sum_by-le-sum_by}
+use Rattle.pp_base.proofs.Sums.{sum_of_two, sum_of_none, sum_by-map, triangle}
 use Rattle.pp_grain.specs.declared.key.Key.{Key}
 use Rattle.pp_count.specs.declared.part.KeySum.{KeySum}
 use Rattle.pp_count.specs.declared.sums.Sums.{Sums}
 use Rattle.pp_count.specs.Sums.{Seen, flat, leads, absolute}
 use Rattle.pp_count.specs.Parts.{sums_of, key_at_sum, flat_size}
 use Rattle.pp_count.specs.Counted.{FitSums}
-use Rattle.pp_count.proofs.Adding.{triangle}
-
--- sums of equal terms are equal
-pub same_sums : {X : Type 0} (f g : X → ℕ) (xs : List X) → All (λ x. f x ≡ g x) xs → sum_by f xs ≡ sum_by g xs
-same_sums f g [] all = refl
-same_sums f g (x ∷ xs) all =
-    sum_by-cons f x xs ∙ (λ i. All-head (λ y. f y ≡ g y) x xs all i + same_sums f g xs (All-tail (λ y. f y ≡ g y) x xs all) i)
-    ∙ sym (sum_by-cons g x xs)
-
--- a sum of sums
-sum_of_two : {X : Type 0} (f g : X → ℕ) (xs : List X) → sum_by (λ x. f x + g x) xs ≡ sum_by f xs + sum_by g xs
-sum_of_two f g [] = refl
-sum_of_two f g (x ∷ xs) =
-    omega (arith, sum_of_two f g xs, sum_by-cons (λ y. f y + g y) x xs, sum_by-cons f x xs, sum_by-cons g x xs)
-
-sum_of_none : {X : Type 0} (xs : List X) → sum_by (λ x. 0) xs ≡ 0
-sum_of_none [] = refl
-sum_of_none (x ∷ xs) = omega (arith, sum_of_none xs, sum_by-cons (λ y. 0) x xs)
-
-sum_by-map : {X Y : Type 0} (f : Y → ℕ) (g : X → Y) (xs : List X) → sum_by f (map g xs) ≡ sum_by (λ x. f (g x)) xs
-sum_by-map f g [] = refl
-sum_by-map f g (x ∷ xs) =
-    sum_by-cons f (g x) (map g xs) ∙ ap (λ n. f (g x) + n) (sum_by-map f g xs) ∙ sym (sum_by-cons (λ y. f (g y)) x xs)
 
 pub part_within : {X : Type 0} (f : X → ℕ) (p : X → Bool) (xs : List X) → sum_by f (filter p xs) ≤ sum_by f xs
 part_within f p [] = omega arith

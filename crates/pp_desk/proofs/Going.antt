@@ -9,7 +9,7 @@ use Rattle.pp_desk.specs.Script.{Script, Give, Make, ◌>>=◌}
 use Rattle.pp_desk.specs.Went.{Goes, Halts, AtRest, Ways, HasFailed, IsTakenOn, Went, Knowing, parts, after}
 
 -- one script as a whole, and then another as a whole
-goes_on : {A B : Type 0} (a b c : Told) (p : Script A) (q : A → Script B) (x : A) (y : B) → Goes a b p x → Goes b c (q x) y → Goes a c (p >>= q) y
+pub goes_on : {A B : Type 0} (a b c : Told) (p : Script A) (q : A → Script B) (x : A) (y : B) → Goes a b p x → Goes b c (q x) y → Goes a c (p >>= q) y
 unfolding ◌>>=◌ Goes Halts
 goes_on a b c (Give z) q x y f g = rw (← f.0, ← f.1) g
 goes_on a b c (Make step p) q x y f g = (f.0, f.1, goes_on (after a step f.0) b c (p f.0) q x y f.2 g)

@@ -14,7 +14,7 @@ use Rattle.pp_desk.specs.Lines.{line_of, ending_of, lines_of_parts, lines_in, af
 use Rattle.pp_base.specs.Marks.{is_line_end}
 
 -- bytes always have a part
-parted : (bytes : List ℕ) → (part : List ℕ) × (parts : List (List ℕ)) × (slice_split is_line_end bytes ≡ part ∷ parts)
+pub parted : (bytes : List ℕ) → (part : List ℕ) × (parts : List (List ℕ)) × (slice_split is_line_end bytes ≡ part ∷ parts)
 parted [] = ([], [], refl)
 parted (x ∷ xs) = elim (cases_Bool (is_line_end x)) [
   | inl ends ↦ ([], slice_split is_line_end xs, slice_split-cons_yes is_line_end x xs ends)

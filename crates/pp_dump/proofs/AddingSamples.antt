@@ -9,6 +9,7 @@ use Rattle.std.proofs.lemmas.List.{map-append, append-nil}
 use Rattle.std.proofs.lemmas.Grind.{flat_map-append}
 use Rattle.std.proofs.lemmas.List.Elements.{recursion_from_All}
 use Rattle.pp_base.specs.Front.{IsFront}
+use Rattle.pp_base.proofs.Lists.{all_append}
 use Rattle.pp_model.specs.declared.frame.Frame.{Frame}
 use Rattle.pp_model.specs.declared.loaded.Loaded.{Loaded}
 use Rattle.pp_model.specs.declared.profile.Label.{Label}
@@ -26,7 +27,7 @@ use Rattle.pp_tags.specs.TagFilters.{shown_labels, is_shown}
 use Rattle.pp_share.proofs.NumberedLemmas.{all_pass}
 use Rattle.pp_merge.proofs.SettledLemmas.{all_filtered}
 use Rattle.pp_restack.specs.Places.{ArePlaces, IsCutSample, spread_in}
-use Rattle.pp_restack.proofs.Placing.{front_front, samples_still, spreads_still, all_append}
+use Rattle.pp_restack.proofs.Placing.{front_front, samples_still, spreads_still}
 use Rattle.pp_restack.proofs.CutValid.{some_type}
 use Rattle.pp_dump.specs.Places.{spread_of, spread_left, PlacesLeft, AddsSamples}
 

@@ -7,6 +7,7 @@ use Rattle.std.proofs.lemmas.List.{length-map, get_or-map}
 use Rattle.std.proofs.lemmas.List.Elements.{All-from_recursion, recursion_from_All, All-contains_itself}
 use Rattle.std.proofs.lemmas.Map.Made.{AllPairs-from_IsDistinct}
 use Rattle.std.proofs.lemmas.Option.{none-some, same_Some}
+use Rattle.pp_base.proofs.Lists.{all_by}
 use Rattle.pp_model.specs.declared.config.Config.{Config}
 use Rattle.pp_model.specs.declared.frame.Frame.{Frame}
 use Rattle.pp_model.specs.declared.profile.Sample.{Sample}
@@ -26,8 +27,9 @@ use Rattle.pp_merge.specs.Totals.{value_passing, sum_passing}
 use Rattle.pp_share.specs.Written.{Contents, locations}
 use Rattle.pp_share.proofs.Deciding.{sample_decides}
 use Rattle.pp_model.proofs.FirstSightLemmas.{IsSeen}
+use Rattle.pp_model.proofs.FirstText.{text_zero}
 use Rattle.pp_merge.proofs.KeptSums.{sum_stays}
-use Rattle.pp_share.proofs.NumberedLemmas.{all_by, all_mapped}
+use Rattle.pp_share.proofs.NumberedLemmas.{all_mapped}
 use Rattle.pp_merge.proofs.SettledLemmas.{all_distinct, all_filtered, all_some, all_unmapped}
 use Rattle.pp_merge.proofs.WrittenAgain.{map_back}
 use Rattle.pp_merge.proofs.WrittenCompact.{compact_written}
@@ -35,7 +37,6 @@ use Rattle.pp_merge.proofs.WrittenPlaces.{distance_there}
 use Rattle.pp_merge.proofs.WrittenValid.{seen_locations}
 use Rattle.pp_dump.specs.Saved.{cut_sample, cut_samples, saved_contents, saved}
 use Rattle.pp_dump.specs.Stacks.{PlaceText, StackText, whole_stacks, left_stacks, without_values, KeepsStacks}
-use Rattle.pp_restack.proofs.CutValid.{text_zero}
 use Rattle.pp_dump.proofs.PlaceTexts.{place_of}
 use Rattle.pp_dump.proofs.StackTexts.{stack_text, with_stack, whole_back, left_are}
 

@@ -35,7 +35,7 @@ use Rattle.pp_dump.proofs.SeenSums.{IsNatural, AreNatural, natural_plus, any_by_
 use Rattle.pp_dump.proofs.StackTexts.{with_stack, whole_back}
 
 -- a value that is at least 0
-natural : (v : ℤ) → pos 0 ≤ℤ v → IsNatural v
+pub natural : (v : ℤ) → pos 0 ≤ℤ v → IsNatural v
 natural (pos n) least = (n, refl)
 natural (negsuc n) least = absurd (omega (arith, ints, least))
 

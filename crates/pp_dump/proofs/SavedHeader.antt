@@ -11,12 +11,12 @@ use Rattle.pp_model.specs.declared.profile.Sample.{Sample}
 use Rattle.pp_model.specs.declared.profile.Profile.{Profile}
 use Rattle.pp_model.specs.Lookup.{text_of}
 use Rattle.pp_model.specs.Rules.{NoRuleFails}
+use Rattle.pp_model.proofs.FirstText.{text_zero}
 use Rattle.pp_stack.proofs.ToldLemmas.{position-map}
 use Rattle.pp_count.specs.Column.{last_of, first_else, type_named, column_of}
 use Rattle.pp_share.specs.Header.{TypeText, HeaderText, type_text, first_nonempty, header_of}
 use Rattle.pp_restack.specs.Stacks.{patternless}
 use Rattle.pp_restack.specs.Places.{with_cut}
-use Rattle.pp_restack.proofs.CutValid.{text_zero}
 
 -- The header of the profile that is merged alone.
 pub header_cut : (p : Profile) (samples : List Sample) (locations : List Location) → NoRuleFails p → header_of (with_cut p samples locations) [] ≡ patternless p
@@ -25,7 +25,7 @@ header_cut p samples locations valid =
     (λ i. record (header_of p []) { drop_frames = empty i; keep_frames = empty i })
 
 -- of one text the first that isn't empty is that text
-first_alone : (text : List ℕ) → first_nonempty (text ∷ []) ≡ text
+pub first_alone : (text : List ℕ) → first_nonempty (text ∷ []) ≡ text
 first_alone [] = refl
 first_alone (b ∷ bs) = refl
 

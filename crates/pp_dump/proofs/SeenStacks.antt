@@ -3,6 +3,7 @@
 use Rattle.std.proofs.Common.{◌≡◌, ℕ, suc, ◌/◌, ℤ, pos, negsuc, neg_ℤ, ◌+ℤ◌, Bool, List, [], ◌∷◌, map, get_or, refl, sym, ap, ◌∙◌, arith}
 use Rattle.std.specs.Prelude.{Option, Some, None, option_map, int_div}
 use Rattle.std.specs.List.{filter_map, cons_option}
+use Rattle.std.proofs.lemmas.Simd.{map-map}
 use Rattle.pp_model.specs.declared.config.Config.{Config}
 use Rattle.pp_model.specs.declared.config.Grain.{Grain}
 use Rattle.pp_model.specs.declared.frame.Frame.{Frame}
@@ -15,7 +16,6 @@ use Rattle.pp_grain.specs.Keys.{key_texts}
 use Rattle.pp_count.specs.Seeing.{counted_frames, keys_of_stack, filtered_stack, seen_with, seen, seen_samples}
 use Rattle.pp_count.specs.Sums.{Seen, sum_where}
 use Rattle.pp_merge.specs.Totals.{value_passing, sum_passing}
-use Rattle.pp_share.proofs.Agreement.{map_map}
 use Rattle.pp_restack.specs.Stacks.{by_place}
 use Rattle.pp_dump.specs.Stacks.{PlaceText, StackText, left_place, left_stack, left_stacks, whole_stacks, KeepsStacks}
 use Rattle.pp_dump.specs.Unfiltered.{KeepsSums}
@@ -48,9 +48,9 @@ module _ (p : Profile) (f : Finders) (config : Config) (column : ℕ) (undivided
   keys_are : (stack : List Frame) → keys_of_stack p config stack
       ≡ map (key_texts config.grain config.showcolumns) (counted_places config.noinlines (map (λ (place : PlaceText). place.frames) (map (left_place p) (by_place stack))))
   keys_are stack =
-      sym (map_map (written p) (key_texts config.grain config.showcolumns) (counted_frames config.noinlines stack))
+      sym (map-map (key_texts config.grain config.showcolumns) (written p) (counted_frames config.noinlines stack))
       ∙ ap (map (key_texts config.grain config.showcolumns)) (counted_stack p config.noinlines stack)
-      ∙ ap (λ frames. map (key_texts config.grain config.showcolumns) (counted_places config.noinlines frames)) (sym (map_map (left_place p) (λ (place : PlaceText). place.frames) (by_place stack)))
+      ∙ ap (λ frames. map (key_texts config.grain config.showcolumns) (counted_places config.noinlines frames)) (sym (map-map (λ (place : PlaceText). place.frames) (left_place p) (by_place stack)))
 
   one_seen : (s : Sample) (o : Option (List Frame)) → option_map (seen_with p config (Some column) s) o ≡ option_map as_seen (option_map (left_stack p f s) o)
   one_seen s None = refl

@@ -5,6 +5,7 @@ use Rattle.std.specs.List.{AllByRecursion, range_with_len}
 use Rattle.std.proofs.lemmas.Bool.{eqb-true}
 use Rattle.std.proofs.lemmas.List.{length-map}
 use Rattle.std.proofs.lemmas.List.Elements.{All-tail, recursion_from_All}
+use Rattle.pp_base.proofs.Lists.{all_by}
 use Rattle.pp_model.specs.declared.frame.Frame.{Frame}
 use Rattle.pp_model.specs.declared.profile.Line.{Line}
 use Rattle.pp_model.specs.declared.profile.Location.{Location}
@@ -18,7 +19,7 @@ use Rattle.pp_model.specs.Rules.{AreNumbered, location_ids}
 use Rattle.pp_model.proofs.CompactLemmas.{place_within}
 use Rattle.pp_model.proofs.FrameLemmas.{rows_of_profile}
 use Rattle.pp_stack.specs.Filters.{frames_of_sample}
-use Rattle.pp_share.proofs.NumberedLemmas.{all_by, all_mapped}
+use Rattle.pp_share.proofs.NumberedLemmas.{all_mapped}
 use Rattle.pp_merge.proofs.SettledLemmas.{all_join, all_any, all_filtered}
 use Rattle.pp_restack.specs.Stacks.{by_place, grouped_with}
 use Rattle.pp_dump.proofs.FilteredParts.{filters_keep}

@@ -3,6 +3,7 @@ use Rattle.std.proofs.Common.{◌≡◌, ℕ, zero, suc, ◌<◌, ◌^◌, ℤ, 
 use Rattle.std.specs.Prelude.{Option, Some, None, option_map, unwrap_or, IfSome, if◌then◌else◌}
 use Rattle.std.specs.List.{AllByRecursion, filter_map, cons_option}
 use Rattle.std.specs.Option.{option_map_or}
+use Rattle.pp_base.proofs.Lists.{all_by}
 use Rattle.pp_model.specs.declared.config.Config.{Config}
 use Rattle.pp_model.specs.declared.frame.Frame.{Frame}
 use Rattle.pp_model.specs.declared.profile.Location.{Location}
@@ -22,14 +23,14 @@ use Rattle.pp_merge.specs.Merge.{all_mappings, merged}
 use Rattle.pp_merge.specs.Settled.{IsSettled}
 use Rattle.pp_share.specs.Written.{Contents, written as profile_of, locations, location_id, written_location, written_sample}
 use Rattle.pp_model.proofs.FirstSightLemmas.{IsSeen}
-use Rattle.pp_share.proofs.NumberedLemmas.{all_by, all_both}
+use Rattle.pp_model.proofs.FirstText.{text_zero}
+use Rattle.pp_share.proofs.NumberedLemmas.{all_both}
 use Rattle.pp_merge.proofs.WrittenAgain.{labels_back}
 use Rattle.pp_merge.proofs.WrittenPlaces.{location_there, mapping_there, lines_there, mappings_stay, addresses_small}
 use Rattle.pp_merge.proofs.WrittenValid.{texts_of_samples, seen_locations, valid_written}
 use Rattle.pp_restack.specs.Stacks.{by_place, cut_location, cut_text}
 use Rattle.pp_dump.specs.Saved.{cut_sample}
 use Rattle.pp_dump.specs.Stacks.{PlaceText, StackText, location_place, whole_place, left_place, whole_stack, left_stack, whole_stacks}
-use Rattle.pp_restack.proofs.CutValid.{text_zero}
 use Rattle.pp_dump.proofs.PlaceTexts.{place_of, place_with, written_lines_are, group_frames}
 use Rattle.pp_dump.proofs.StackGroups.{IsGroup, Coheres, are_groups, left_coheres}
 

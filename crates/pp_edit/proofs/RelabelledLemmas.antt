@@ -9,6 +9,7 @@ use Rattle.std.proofs.lemmas.List.Sums.{AllPass-from_list_all, list_all-from_All
 use Rattle.std.proofs.lemmas.Bool.{and_from}
 use Rattle.std.proofs.lemmas.List.Folds.{list_all-append}
 use Rattle.pp_base.specs.Front.{IsFront}
+use Rattle.pp_base.proofs.Lists.{own_front}
 use Rattle.pp_model.specs.declared.profile.Label.{Label}
 use Rattle.pp_model.specs.declared.profile.Sample.{Sample}
 use Rattle.pp_model.specs.declared.profile.Profile.{Profile}
@@ -98,10 +99,6 @@ module _ (p : Profile) (valid : NoRuleFails p) (texts : List (List ℕ)) (front 
     locations = compact.locations;
     texts = apart;
   }
-
--- a table is its own front
-own_front : {X : Type 0} (xs : List X) → IsFront xs xs
-own_front xs = ([], sym (append-nil xs))
 
 -- A profile without labels of a key.
 module _ (p : Profile) (key : List ℕ) where

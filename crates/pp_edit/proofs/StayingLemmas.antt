@@ -1,41 +1,25 @@
 -- What stacks and labels say stays where texts are added, under the table rules.
-use Rattle.std.proofs.Common.{◌≡◌, ℕ, ◌<◌, Bool, true, false, true≢false, cond, List, [], ◌∷◌, ◌++◌, map, length, get_or, Some, None, refl, sym, ap, subst, ◌∙◌, arith}
+use Rattle.std.proofs.Common.{◌≡◌, ℕ, ◌<◌, Bool, true, false, cond, List, [], ◌∷◌, map, length, get_or, Some, sym, ap, subst, ◌∙◌}
 use Rattle.std.specs.Prelude.{pos, ◌==◌, find}
 use Rattle.std.specs.List.{AllByRecursion, flat_map}
 use Rattle.std.specs.Option.{option_map_or}
 use Rattle.std.proofs.lemmas.List.{get_or_append_left}
 use Rattle.std.proofs.lemmas.List.Elements.{recursion_from_All}
 use Rattle.std.proofs.lemmas.Bool.{and_parts}
-use Rattle.std.proofs.lemmas.Option.{none-some}
 use Rattle.pp_base.specs.Front.{IsFront}
+use Rattle.pp_base.proofs.Lists.{all_by}
 use Rattle.pp_model.specs.declared.profile.Label.{Label}
 use Rattle.pp_model.specs.declared.profile.Line.{Line}
 use Rattle.pp_model.specs.declared.profile.Location.{Location}
 use Rattle.pp_model.specs.declared.profile.Mapping.{Mapping}
 use Rattle.pp_model.specs.declared.profile.Function.{Function}
 use Rattle.pp_model.specs.declared.profile.Profile.{Profile}
-use Rattle.pp_model.specs.Rules.{NoRuleFails, zero_unless, begins_empty, label_has_texts, function_has_texts, mapping_has_texts}
+use Rattle.pp_model.specs.Rules.{NoRuleFails, begins_empty, label_has_texts, function_has_texts, mapping_has_texts}
 use Rattle.pp_model.specs.Lookup.{text_number, text_at, text_of, location_with}
 use Rattle.pp_model.specs.FrameTexts.{name_number, file_number, object_number, written_lines, written_at}
 use Rattle.pp_model.proofs.RuleLemmas.{passes, text_below}
+use Rattle.pp_model.proofs.FirstText.{no_fault, some_text, begins_then}
 use Rattle.pp_share.specs.Described.{label_text}
-use Rattle.pp_share.proofs.NumberedLemmas.{all_by}
-
--- a rule that fails nowhere
-begins_from : (b : Bool) → zero_unless b ≡ None → b ≡ true
-begins_from true none = refl
-begins_from false none = absurd (none-some 0 (sym none))
-
--- texts that begin with the empty one, and more behind them
-begins_then : (texts more : List (List ℕ)) → begins_empty texts ≡ true → begins_empty (texts ++ more) ≡ true
-begins_then [] more is = absurd (true≢false (sym is))
-begins_then ([] ∷ texts) more is = refl
-begins_then ((b ∷ bs) ∷ texts) more is = absurd (true≢false (sym is))
-
--- there is a first text
-some_text : (texts : List (List ℕ)) → begins_empty texts ≡ true → 0 < length texts
-some_text [] is = absurd (true≢false (sym is))
-some_text (t ∷ texts) is = omega arith
 
 -- the number of what is found, or 0
 found_below : {X : Type 0} (number : X → ℕ) (test : X → Bool) (n : ℕ) → 0 < n → (xs : List X) → AllByRecursion (λ x. number x < n) xs → option_map_or number (find test xs) 0 < n
@@ -53,10 +37,10 @@ module _ (p : Profile) (valid : NoRuleFails p) (texts : List (List ℕ)) (front 
 
   -- the texts begin with the empty one
   pub begins_still : begins_empty texts ≡ true
-  begins_still = subst (λ all. begins_empty all ≡ true) (sym front.1) (begins_then p.text front.0 (begins_from (begins_empty p.text) valid.text_zero))
+  begins_still = subst (λ all. begins_empty all ≡ true) (sym front.1) (begins_then p.text front.0 (no_fault (begins_empty p.text) valid.text_zero))
 
   first_text : 0 < length p.text
-  first_text = some_text p.text (begins_from (begins_empty p.text) valid.text_zero)
+  first_text = some_text p.text (no_fault (begins_empty p.text) valid.text_zero)
 
   text_same : (i : ℕ) → i < length p.text → text_at more i ≡ text_at p i
   text_same i low = ap (λ all. get_or all i []) front.1 ∙ get_or_append_left p.text front.0 [] i low

@@ -16,6 +16,7 @@ use Rattle.pp_model.specs.Sizes.{IsCountable}
 use Rattle.pp_model.specs.FirstSight.{place_of, seen_after}
 use Rattle.pp_model.specs.Lookup.{text_number, text_of}
 use Rattle.pp_model.proofs.FirstSightLemmas.{IsSeen, all_seen}
+use Rattle.pp_model.proofs.FirstText.{first_empty}
 use Rattle.pp_share.specs.Described.{LabelText, label_text}
 use Rattle.pp_share.proofs.Deciding.{place_gets}
 use Rattle.pp_share.proofs.DistinctLemmas.{place_below}
@@ -31,12 +32,6 @@ first_place : (texts : List (List ℕ)) → begins_empty texts ≡ true → plac
 first_place [] is = absurd (true≢false (sym is))
 first_place ([] ∷ texts) is = refl
 first_place ((b ∷ bs) ∷ texts) is = absurd (true≢false (sym is))
-
--- it is the first text
-first_empty : (texts : List (List ℕ)) → begins_empty texts ≡ true → get_or texts 0 [] ≡ []
-first_empty [] is = absurd (true≢false (sym is))
-first_empty ([] ∷ texts) is = refl
-first_empty ((b ∷ bs) ∷ texts) is = absurd (true≢false (sym is))
 
 -- a test that fails
 fails : (b : Bool) → (b ≡ true → ⊥) → not b ≡ true

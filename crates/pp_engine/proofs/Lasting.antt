@@ -10,6 +10,7 @@ use Rattle.pp_desk.specs.Script.{Script, Give, Make, Step, WriteOut, WriteErr, R
 use Rattle.pp_desk.specs.Went.{Goes, Ways, after}
 use Rattle.pp_desk.specs.World.{Told}
 use Rattle.pp_desk.proofs.Quiet.{Only, only_then, reads_no_line, input_alone}
+use Rattle.pp_desk.proofs.Going.{goes_on}
 use Rattle.pp_model.specs.declared.config.Config.{Config}
 use Rattle.pp_model.specs.declared.loaded.Loaded.{Loaded}
 use Rattle.pp_model.specs.declared.report.Report.{Report}
@@ -26,12 +27,6 @@ use Rattle.pp_engine.specs.Turns.{turns, given_or}
 use Rattle.pp_engine.proofs.LineLemmas.{is_last, AreEnded, lines_ended, lines_few}
 use Rattle.pp_engine.proofs.Quiet.{quiet_noted}
 use Rattle.pp_pattern.specs.Report.{Finds}
-
--- two scripts that were done, one after the other
-goes_join : {A B : Type 0} (a b c : Told) (p : Script A) (q : A → Script B) (x : A) (y : B) → Goes a b p x → Goes b c (q x) y → Goes a c (p >>= q) y
-unfolding ◌>>=◌ Goes
-goes_join a b c (Give z) q x y f g = rw (← f.0, ← f.1) g
-goes_join a b c (Make step p) q x y f g = (f.0, f.1, goes_join (after a step f.0) b c (p f.0) q x y f.2 g)
 
 goes_part : {A B : Type 0} (a c : Told) (p : Script A) (q : A → Script B) (y : B) → Goes a c (p >>= q) y → (b : Told) × (x : A) × Goes a b p x × Goes b c (q x) y
 unfolding ◌>>=◌ Goes
@@ -119,11 +114,11 @@ module _ (finds : Finds) (l : Loaded) where
   lasts (suc most) (suc more) spent other config a b (line ∷ []) x e ended few also g =
       let r = goes_part a b (turn finds l config) _ x g in
       let t = takes_one config a r.0 r.1 (line ∷ []) e r.2 in
-      goes_join a r.0 b (turn finds l config) _ r.1 x r.2 (goes_rest r.1.1 _ _ r.0 b x (λ none _. absurd (t.1 ended none)) r.3)
+      goes_on a r.0 b (turn finds l config) _ r.1 x r.2 (goes_rest r.1.1 _ _ r.0 b x (λ none _. absurd (t.1 ended none)) r.3)
   lasts (suc most) (suc more) spent other config a b (line ∷ next ∷ ls) x e ended few also g =
       let r = goes_part a b (turn finds l config) _ x g in
       let t = takes_one config a r.0 r.1 (line ∷ next ∷ ls) e r.2 in
-      goes_join a r.0 b (turn finds l config) _ r.1 x r.2 (goes_rest r.1.1 _ _ r.0 b x (λ none. lasts most more spent other r.1.0 r.0 b (next ∷ ls) x t.0 ended (omega arith) (omega arith)) r.3)
+      goes_on a r.0 b (turn finds l config) _ r.1 x r.2 (goes_rest r.1.1 _ _ r.0 b x (λ none. lasts most more spent other r.1.0 r.0 b (next ∷ ls) x t.0 ended (omega arith) (omega arith)) r.3)
 
 -- The shell over an input is done in the same way with more turns, whatever it were to give once they had run out.
 pub shell_lasts : (finds : Finds) (l : Loaded) (config : Config) (a b : Told) (input : List ℕ) (x other : Outcome) (more : ℕ) → a.lines ≡ Some (lines_of input) → Goes a b (shell finds l config) x

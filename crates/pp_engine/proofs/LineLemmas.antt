@@ -1,5 +1,5 @@
 -- The lines of an input: there are no more than the shell takes turns, and the last of them tells how the input ends.
-use Rattle.std.proofs.Common.{◌≡◌, ◌≤◌, ◌<◌, ◌+◌, ℕ, Bool, true, false, List, [], ◌∷◌, length, take, refl, ap, ◌∙◌, inl, inr, arith, nat_lt}
+use Rattle.std.proofs.Common.{◌≡◌, ◌≤◌, ◌<◌, ◌+◌, ℕ, Bool, true, false, List, [], ◌∷◌, length, take, refl, inl, inr, arith, nat_lt}
 use Rattle.std.specs.Prelude.{IsTrue}
 use Rattle.std.specs.List.{slice_split, onto_first}
 use Rattle.std.proofs.lemmas.Bool.{cases_Bool}
@@ -10,6 +10,7 @@ use Rattle.pp_desk.specs.declared.input_line.InputLine.{InputLine}
 use Rattle.pp_desk.specs.declared.input_line.InputLine.TheVariants as lines
 use Rattle.pp_desk.specs.declared.line_reader.TheConstants.{INPUT_LIMIT}
 use Rattle.pp_desk.specs.Lines.{line_of, ending_of, lines_of_parts, lines_in, lines_of}
+use Rattle.pp_desk.proofs.Parting.{parted}
 use Rattle.pp_engine.specs.declared.shell.TheConstants.{MOST_LINES}
 use Rattle.pp_base.specs.Marks.{is_line_end}
 
@@ -64,24 +65,17 @@ first_length : (byte : ℕ) (parts : List (List ℕ)) → length (onto_first byt
 first_length byte [] = omega arith
 first_length byte (part ∷ parts) = omega arith
 
-some_parts : (bytes : List ℕ) → (part : List ℕ) × (parts : List (List ℕ)) × (slice_split is_line_end bytes ≡ part ∷ parts)
-some_parts [] = ([], [], refl)
-some_parts (x ∷ xs) = elim (cases_Bool (is_line_end x)) [
-  | inl ends ↦ ([], slice_split is_line_end xs, slice_split-cons_yes is_line_end x xs ends)
-  | inr goes_on ↦ let q = some_parts xs in (x ∷ q.0, q.1, slice_split-cons_no is_line_end x xs goes_on ∙ ap (onto_first x) q.2)
-]
-
 split_few : (bytes : List ℕ) → length (slice_split is_line_end bytes) ≤ length bytes + 1
 split_few [] = omega arith
 split_few (x ∷ xs) = elim (cases_Bool (is_line_end x)) [
   | inl ends ↦ rw (slice_split-cons_yes is_line_end x xs ends) (omega (arith, split_few xs))
-  | inr goes_on ↦ let q = some_parts xs in rw (slice_split-cons_no is_line_end x xs goes_on, q.2) (let few = split_few xs in omega (arith, rw q.2 at few))
+  | inr goes_on ↦ let q = parted xs in rw (slice_split-cons_no is_line_end x xs goes_on, q.2) (let few = split_few xs in omega (arith, rw q.2 at few))
 ]
 
 lines_few_by : (bytes : List ℕ) (short : Bool) → length (lines_in bytes short) ≤ length bytes + 1 + one_if short
 unfolding lines_in
 lines_few_by bytes short =
-    let q = some_parts bytes in
+    let q = parted bytes in
     let few = split_few bytes in
     rw q.2 (omega (arith, rw q.2 at few, parts_few q.0 q.1 short))
 

@@ -1,5 +1,5 @@
 -- The lines of a walk over the nodes of a call tree.
-use Rattle.std.proofs.Common.{◌≡◌, ℕ, ◌+◌, ◌<◌, ◌≤◌, Bool, true, false, cond, not, ℤ, pos, List, [], ◌∷◌, ◌++◌, length, take, drop, map, get_or, All, Option, Some, Result, Ok, Err, IfOk, OnOk, refl, sym, ap, subst, ◌∙◌, append_assoc}
+use Rattle.std.proofs.Common.{◌≡◌, ℕ, ◌+◌, ◌<◌, ◌≤◌, Bool, true, false, cond, not, ℤ, pos, List, [], ◌∷◌, ◌++◌, length, take, drop, map, get_or, All, Option, Some, Result, Ok, Err, IfOk, refl, sym, ap, subst, ◌∙◌, append_assoc}
 use Rattle.std.specs.List.{filter, flat_map, slice_get}
 use Rattle.std.specs.Ordering.{int_eq}
 use Rattle.std.proofs.lemmas.Grind.{flat_map-append}
@@ -98,8 +98,3 @@ pub folded_is : (l : Loaded) (v : Verdicts) (config : Config) (column : Option �
 folded_is l v config column f nodes tree holds =
     ap (λ rows. path_lines (paths_along [] rows)) (tree.rows f holds)
     ∙ ap path_lines (paths_are key_cmp (path_samples l.profile f config column))
-
--- a text of its own, appended whole
-pub appended : {T E : Type 0} (r : Result T E) (new old own text : List ℕ) → own ≡ text → OnOk r (new ≡ old ++ own) → OnOk r (new ≡ old ++ text)
-appended (Err e) new old own text same h = tt
-appended (Ok x) new old own text same h = h ∙ ap (λ t. old ++ t) same

@@ -1,5 +1,5 @@
 -- The rows of a table are those of its keys.
-use Rattle.std.proofs.Common.{◌≡◌, ℕ, cond, List, ◌++◌, map, take, Option, Result, Ok, Err, IfOk, sym, ap, ◌∙◌, arith}
+use Rattle.std.proofs.Common.{◌≡◌, ℕ, cond, List, ◌++◌, map, take, Option, sym, ap, ◌∙◌, arith}
 use Rattle.std.specs.List.{take-map}
 use Rattle.std.proofs.lemmas.Bool.{ne_eqb}
 use Rattle.pp_model.specs.declared.config.Config.{Config}
@@ -33,8 +33,3 @@ limits_cut p f config column limit some =
     let keys : List Written = all_report_keys p f config column in
     ap (λ b. map row_line (map row (cond b keys (take limit keys)))) (ne_eqb limit 0 (λ none. omega (arith, some, none)))
     ∙ ap (map row_line) (sym (take-map row limit keys)) ∙ sym (take-map row_line limit (map row keys))
-
--- an appended text in another form
-pub put_is : {T E : Type 0} (r : Result T E) (new old a b : List ℕ) → a ≡ b → IfOk r (λ _. new ≡ old ++ a) → IfOk r (λ _. new ≡ old ++ b)
-put_is (Err e) new old a b same h = tt
-put_is (Ok x) new old a b same h = h ∙ ap (λ t. old ++ t) same

@@ -1,13 +1,12 @@
 -- The laws of keys, for crates above: their order is total, and in a compact profile keys are the same where their texts are.
-use Rattle.std.proofs.Common.{◌≡◌, ◌≢◌, ℕ, ◌<◌, List, [], length, get_or, inl, inr, refl, sym, ap}
+use Rattle.std.proofs.Common.{◌≡◌, ◌≢◌, ℕ, ◌<◌, List, [], length, get_or, inl, inr, sym, ap}
 use Rattle.std.specs.Prelude.{AllPairs}
-use Rattle.std.specs.declared.cmp.Ordering.{Ordering}
-use Rattle.std.specs.declared.cmp.Ordering.TheVariants.{Less, Equal, Greater}
+use Rattle.std.specs.declared.cmp.Ordering.TheVariants.{Equal}
 use Rattle.std.specs.FinMap.{nat_cmp-IsAntisymmetric, int_cmp-IsAntisymmetric, slice_cmp-IsAntisymmetric}
-use Rattle.std.specs.Ordering.{ordering_then}
 use Rattle.std.specs.Cmp.{IsTotalOrder}
 use Rattle.std.proofs.lemmas.Bool.{cases_order}
 use Rattle.std.proofs.lemmas.Cmp.{on_total, then_total, int_cmp_total, nat_list_cmp_total, nat_cmp_total}
+use Rattle.pp_base.proofs.Orders.{both_equal}
 use Rattle.pp_model.specs.declared.profile.Profile.{Profile}
 use Rattle.pp_model.specs.FrameTexts.{Written}
 use Rattle.pp_model.specs.Rules.{IsCompact}
@@ -30,12 +29,6 @@ key_cmp_total =
 -- The order of keys as indices is total.
 pub key_order_total : (p : Profile) → IsTotalOrder (λ (a b : Key). key_cmp (key_written p a) (key_written p b))
 key_order_total p = on_total (key_written p) key_cmp_total
-
--- Two orders in turn tie only where each does.
-pub both_equal : (a b : Ordering) → ordering_then a b ≡ Equal → (a ≡ Equal) × (b ≡ Equal)
-both_equal Less b tie = let no : ⊥ = cc in absurd no
-both_equal Equal b tie = (refl, tie)
-both_equal Greater b tie = let no : ⊥ = cc in absurd no
 
 -- Only a key and itself tie.
 pub key_cmp_ties : (a b : Written) → key_cmp a b ≡ Equal → a ≡ b

@@ -3,10 +3,14 @@ use Rattle.std.proofs.Common.{◌≡◌, ◌≢◌, ℕ, zero, suc, eqb, ◌+◌
 use Rattle.std.specs.List.{filter, list_any, sum_by, AllPairs}
 use Rattle.std.specs.Ordering.{nat_cmp, eq_by_cmp}
 use Rattle.std.specs.Cmp.{unsigned_tied}
-use Rattle.std.proofs.lemmas.Bool.{cases_eq, cases_order, eq-eqb, false≢true}
+use Rattle.std.proofs.lemmas.Bool.{cases_eq, cases_order, eq-eqb, false≢true, and_parts}
 use Rattle.std.proofs.lemmas.List.{length-map, get_or-map}
 use Rattle.std.proofs.lemmas.List.Elements.{All-nil, All-cons, All-head, All-tail, All-filter, All-from_get_or, All-get_or, filter_passes, filter_agree}
 use Rattle.std.proofs.lemmas.List.Sums.{sum_by-cons}
+use Rattle.std.proofs.Math.Bool.{and_comm}
+use Rattle.pp_base.proofs.Booleans.{either}
+use Rattle.pp_base.proofs.Sums.{same_sums, sum_of_two, sum_of_none}
+use Rattle.pp_base.proofs.Lists.{filter-both}
 use Rattle.pp_model.specs.declared.profile.Profile.{Profile}
 use Rattle.pp_model.specs.FrameTexts.{Written}
 use Rattle.pp_grain.specs.declared.key.Key.{Key}
@@ -24,39 +28,12 @@ use Rattle.pp_graph.proofs.Chaining.{eqb-not}
 use Rattle.pp_graph.proofs.Flags.{kept_are, among}
 use Rattle.pp_graph.proofs.Shown.{All-with}
 
-filter-both : {X : Type 0} (p q : X → Bool) (xs : List X) → filter p (filter q xs) ≡ filter (λ x. q x && p x) xs
-filter-both p q [] = refl
-filter-both p q (x ∷ xs) = elim (q x) as (λ b. filter p (cond b (x ∷ filter q xs) (filter q xs)) ≡ cond (b && p x) (x ∷ filter (λ y. q y && p y) xs) (filter (λ y. q y && p y) xs)) [
-  | true ↦ ap (λ l. cond (p x) (x ∷ l) l) (filter-both p q xs)
-  | false ↦ filter-both p q xs
-]
-
-and-swap : (a b : Bool) → (a && b) ≡ (b && a)
-and-swap true true = refl
-and-swap true false = refl
-and-swap false true = refl
-and-swap false false = refl
-
 filter-swap : {X : Type 0} (p q : X → Bool) (xs : List X) → filter p (filter q xs) ≡ filter q (filter p xs)
-filter-swap p q xs = filter-both p q xs ∙ filter_agree (λ x. q x && p x) (λ x. p x && q x) (λ x. and-swap (q x) (p x)) xs ∙ sym (filter-both q p xs)
+filter-swap p q xs = filter-both p q xs ∙ filter_agree (λ x. q x && p x) (λ x. p x && q x) (λ x. and_comm (q x) (p x)) xs ∙ sym (filter-both q p xs)
 
 length-one : (o : Bool) (x : Edge) → length (cond o (x ∷ []) []) ≡ once_if o
 length-one true x = refl
 length-one false x = refl
-
--- sums over lists
-sum-zero : {X : Type 0} (xs : List X) → sum_by (λ x. 0) xs ≡ 0
-sum-zero [] = refl
-sum-zero (x ∷ xs) = omega (arith, sum_by-cons (λ y. 0) x xs, sum-zero xs)
-
-sum-plus : {X : Type 0} (f g : X → ℕ) (xs : List X) → sum_by (λ x. f x + g x) xs ≡ sum_by f xs + sum_by g xs
-sum-plus f g [] = omega arith
-sum-plus f g (x ∷ xs) = omega (arith, sum_by-cons (λ y. f y + g y) x xs, sum_by-cons f x xs, sum_by-cons g x xs, sum-plus f g xs)
-
-sum-same : {X : Type 0} (f g : X → ℕ) (xs : List X) → All (λ x. f x ≡ g x) xs → sum_by f xs ≡ sum_by g xs
-sum-same f g [] all = refl
-sum-same f g (x ∷ xs) all =
-    omega (arith, sum_by-cons f x xs, sum_by-cons g x xs, All-head (λ y. f y ≡ g y) x xs all, sum-same f g xs (All-tail (λ y. f y ≡ g y) x xs all))
 
 sum-map : {A B : Type 0} (g : B → ℕ) (f : A → B) (xs : List A) → sum_by g (map f xs) ≡ sum_by (λ x. g (f x)) xs
 sum-map g f [] = refl
@@ -112,10 +89,10 @@ once_counted a (x ∷ order) apart found = elim (cases_eq a x) [
 -- items are as many as those of each number together, where each has one number of these
 split_count : {X : Type 0} (key : X → ℕ) (order : List ℕ) (xs : List X) → AllPairs (λ x y. x ≢ y) order → All (λ x. among (key x) order ≡ true) xs
     → sum_by (λ n. length (filter (λ x. eqb (key x) n) xs)) order ≡ length xs
-split_count key order [] apart all = sum-zero order
+split_count key order [] apart all = sum_of_none order
 split_count key order (x ∷ xs) apart all =
-    sum-same (λ n. length (filter (λ y. eqb (key y) n) (x ∷ xs))) (λ n. once_if (eqb (key x) n) + length (filter (λ y. eqb (key y) n) xs)) order (every one order)
-    ∙ sum-plus (λ n. once_if (eqb (key x) n)) (λ n. length (filter (λ y. eqb (key y) n) xs)) order
+    same_sums (λ n. length (filter (λ y. eqb (key y) n) (x ∷ xs))) (λ n. once_if (eqb (key x) n) + length (filter (λ y. eqb (key y) n) xs)) order (every one order)
+    ∙ sum_of_two (λ n. once_if (eqb (key x) n)) (λ n. length (filter (λ y. eqb (key y) n) xs)) order
     ∙ omega (arith, once_counted (key x) order apart (All-head (λ y. among (key y) order ≡ true) x xs all), split_count key order xs apart (All-tail (λ y. among (key y) order ≡ true) x xs all)) where
       one : (n : ℕ) → length (filter (λ y. eqb (key y) n) (x ∷ xs)) ≡ once_if (eqb (key x) n) + length (filter (λ y. eqb (key y) n) xs)
       one n = elim (eqb (key x) n) as (λ b. length (cond b (x ∷ filter (λ y. eqb (key y) n) xs) (filter (λ y. eqb (key y) n) xs)) ≡ once_if b + length (filter (λ y. eqb (key y) n) xs)) [
@@ -137,21 +114,13 @@ filter_some test (x ∷ xs) (suc i) d within passes =
       | false ↦ filter_some test xs i d (omega (arith, within)) passes
     ]
 
-both : (a b : Bool) → (a && b) ≡ true → (a ≡ true) × (b ≡ true)
-both true b e = (refl, e)
-both false b e = absurd (false≢true e)
-
-either : {P : Type 0} (a b : Bool) → (a || b) ≡ true → (a ≡ true → P) → (b ≡ true → P) → P
-either true b e f g = f refl
-either false b e f g = g e
-
 -- a pair that occurs over the keys that are kept has both its keys kept
 module _ (kept : Written → Bool) where
   over_kept : (a b under : Written) (keys : List Written) → kept under ≡ true → All (λ k. kept k ≡ true) keys → stands_over key_cmp a b under keys ≡ true → (kept a ≡ true) × (kept b ≡ true)
   over_kept a b under [] is all found = absurd (false≢true found)
   over_kept a b under (k ∷ keys) is all found =
       either (eq_by_cmp key_cmp a k && eq_by_cmp key_cmp b under) (stands_over key_cmp a b k keys) found
-      (λ here. let two = both (eq_by_cmp key_cmp a k) (eq_by_cmp key_cmp b under) here in
+      (λ here. let two = and_parts (eq_by_cmp key_cmp a k) (eq_by_cmp key_cmp b under) here in
       (ap kept (tied a k two.0) ∙ All-head (λ q. kept q ≡ true) k keys all, ap kept (tied b under two.1) ∙ is))
       (λ later. over_kept a b k keys (All-head (λ q. kept q ≡ true) k keys all) (All-tail (λ q. kept q ≡ true) k keys all) later)
 
@@ -163,7 +132,7 @@ module _ (kept : Written → Bool) where
   occurs_kept a b [] found = absurd (false≢true found)
   occurs_kept a b (s ∷ samples) found =
       either (has_edge key_cmp kept a b s.keys) (edge_occurs key_cmp kept samples a b) found
-      (λ here. pair_kept a b (filter kept s.keys) (filter_passes kept s.keys) (both (not (eq_by_cmp key_cmp a b)) (has_pair key_cmp a b (filter kept s.keys)) here).1)
+      (λ here. pair_kept a b (filter kept s.keys) (filter_passes kept s.keys) (and_parts (not (eq_by_cmp key_cmp a b)) (has_pair key_cmp a b (filter kept s.keys)) here).1)
       (λ later. occurs_kept a b samples later)
 
 module _ (p : Profile) (samples : List (Seen Written)) (names : List Key) (distinct : AllPairs (λ a b. a ≢ b) (map (key_written p) names))
@@ -267,7 +236,7 @@ module _ (p : Profile) (samples : List (Seen Written)) (names : List Key) (disti
   from_one a in_a =
       sym (split_count (λ (e : Edge). e.to) order (filter (λ (e : Edge). eqb e.from a) light) once
       (All-filter (λ (e : Edge). eqb e.from a) (λ (e : Edge). among e.to order ≡ true) light (All-with {P = λ (e : Edge). (among e.from order ≡ true) × (among e.to order ≡ true)} (λ e h. h.1) light light_ends)))
-      ∙ sum-same (λ b. length (filter (λ (e : Edge). eqb e.to b) (filter (λ (e : Edge). eqb e.from a) light))) (λ b. once_if (has_light_edge key_cmp kept samples total billionths (key_at a) (key_at b))) order
+      ∙ same_sums (λ b. length (filter (λ (e : Edge). eqb e.to b) (filter (λ (e : Edge). eqb e.from a) light))) (λ b. once_if (has_light_edge key_cmp kept samples total billionths (key_at a) (key_at b))) order
       (All-with {P = λ n. n < length names} (λ b in_b. ap length (filter-both (λ (e : Edge). eqb e.to b) (λ (e : Edge). eqb e.from a) light) ∙ light_between a b in_a in_b) order below)
       ∙ sym (length-filter_map (has_light_edge key_cmp kept samples total billionths (key_at a)) key_at order)
 
@@ -275,6 +244,6 @@ module _ (p : Profile) (samples : List (Seen Written)) (names : List Key) (disti
   pub light_count_is : length light ≡ light_edge_count key_cmp shown samples total billionths
   light_count_is =
       sym (split_count (λ (e : Edge). e.from) order light once (All-with {P = λ (e : Edge). (among e.from order ≡ true) × (among e.to order ≡ true)} (λ e h. h.0) light light_ends))
-      ∙ sum-same (λ a. length (filter (λ (e : Edge). eqb e.from a) light)) (λ a. length (filter (has_light_edge key_cmp kept samples total billionths (key_at a)) shown)) order
+      ∙ same_sums (λ a. length (filter (λ (e : Edge). eqb e.from a) light)) (λ a. length (filter (has_light_edge key_cmp kept samples total billionths (key_at a)) shown)) order
       (All-with {P = λ n. n < length names} (λ a in_a. from_one a in_a) order below)
       ∙ sym (sum-map (λ caller. length (filter (has_light_edge key_cmp kept samples total billionths caller) shown)) key_at order)

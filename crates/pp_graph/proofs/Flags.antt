@@ -10,9 +10,10 @@ use Rattle.std.proofs.lemmas.List.Elements.{All-head, All-tail}
 use Rattle.std.proofs.lemmas.List.Folds.{list_any-append}
 use Rattle.std.proofs.lemmas.List.FromFn.{fill_by_all, length-range_with_len, get_or-range_with_len, length-map-range_with_len, get_or-map-range_with_len}
 use Rattle.std.proofs.lemmas.Map.Views.{any-filter_same, list_any-from_Contains}
+use Rattle.std.proofs.Math.Bool.{or-false, and-true}
 use Rattle.pp_count.specs.Edges.{is_kept_key}
 use Rattle.pp_count.specs.EdgeSums.{kept_numbers}
-use Rattle.pp_count.proofs.Renaming.{tied_is, same_bool}
+use Rattle.pp_count.proofs.Renaming.{tied_is}
 use Rattle.pp_graph.specs.Cuts.{kept_flags}
 use Rattle.pp_graph.proofs.Chaining.{eqb-not}
 
@@ -22,10 +23,6 @@ among n order = list_any (eq_by_cmp nat_cmp n) order
 
 pub flags_none : (names : ℕ) (flags : List Bool) → flags ≡ replicate names false → flags ≡ kept_flags names []
 flags_none names flags is = is ∙ fill_by_all (λ n. among n []) (replicate names false) names false (length-replicate names false) (λ k within. get_or-replicate names k false false within)
-
-or-false : (b : Bool) → (b || false) ≡ b
-or-false true = refl
-or-false false = refl
 
 or-true : (b : Bool) → (b || true) ≡ true
 or-true true = refl
@@ -64,10 +61,6 @@ not_among names m [] below past = refl
 not_among names m (x ∷ order) below past =
     ap (λ b. b || among m order) (unsigned_tied m x ∙ eqb-not m x (λ is. omega (arith, past, is, All-head (λ n. n < names) x order below)))
     ∙ not_among names m order (All-tail (λ n. n < names) x order below) past
-
-and-true : (b : Bool) → (b && true) ≡ b
-and-true true = refl
-and-true false = refl
 
 -- the numbers that are kept are these
 pub kept_are : (names m : ℕ) (order : List ℕ) → All (λ n. n < names) order → among m (kept_numbers (kept_flags names order) names) ≡ among m order

@@ -5,7 +5,8 @@ use Rattle.std.specs.FinMap.{IsAntisymmetric}
 use Rattle.std.specs.Ordering.{then_cmp}
 use Rattle.std.specs.declared.cmp.Ordering.{Ordering}
 use Rattle.std.proofs.lemmas.Cmp.{on_total, then_total, back_total}
-use Rattle.pp_grain.proofs.CallerLemmas.{both_equal, key_cmp_total, key_cmp_ties}
+use Rattle.pp_base.proofs.Orders.{both_equal}
+use Rattle.pp_grain.proofs.CallerLemmas.{key_cmp_total, key_cmp_ties}
 use Rattle.pp_grain.specs.Keys.{key_cmp}
 use Rattle.pp_model.specs.FrameTexts.{Written}
 use Rattle.pp_model.specs.declared.config.Sort.{Sort}

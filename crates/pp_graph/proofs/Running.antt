@@ -3,7 +3,7 @@ use Rattle.std.proofs.Common.{◌≡◌, ℕ, ◌+◌, ◌<◌, ◌≤◌, ◌^�
 use Rattle.std.proofs.lemmas.Int.{fits_signed_from_abs, to_z-of_z}
 use Rattle.std.proofs.lemmas.List.{drop_more, drop_all, append-nil}
 use Rattle.std.proofs.lemmas.List.Sums.{sum_by-cons}
-use Rattle.pp_count.proofs.Adding.{triangle}
+use Rattle.pp_base.proofs.Sums.{triangle}
 use Rattle.pp_graph.specs.KeyRows.{running_text}
 
 module _ (flat : ℕ → ℤ) where

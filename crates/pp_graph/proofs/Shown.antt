@@ -14,6 +14,7 @@ use Rattle.std.proofs.lemmas.List.Sorted.{IsPermutation-map, list_any-IsPermutat
 use Rattle.std.proofs.lemmas.Map.Keys.{IsDistinct-IsPermutation}
 use Rattle.std.proofs.lemmas.Map.Made.{IsDistinct-from_AllPairs, length-from_keys}
 use Rattle.std.proofs.lemmas.Map.Views.{any-filter_same}
+use Rattle.std.proofs.lemmas.Simd.{map-map}
 use Rattle.pp_model.specs.declared.config.Sort.{Sort}
 use Rattle.pp_model.specs.declared.config.Sort.TheVariants as sorts
 use Rattle.pp_model.specs.declared.profile.Profile.{Profile}
@@ -63,10 +64,6 @@ All-unmap P g (x ∷ xs) all = All-cons (λ y. P (g y)) x xs (All-head P (g x) (
 map-same : {A B : Type 0} (f g : A → B) (xs : List A) → All (λ x. f x ≡ g x) xs → map f xs ≡ map g xs
 map-same f g [] all = refl
 map-same f g (x ∷ xs) all = λ i. All-head (λ y. f y ≡ g y) x xs all i ∷ map-same f g xs (All-tail (λ y. f y ≡ g y) x xs all) i
-
-map-both : {A B C : Type 0} (f : A → B) (g : B → C) (xs : List A) → map g (map f xs) ≡ map (λ x. g (f x)) xs
-map-both f g [] = refl
-map-both f g (x ∷ xs) = ap (λ r. g (f x) ∷ r) (map-both f g xs)
 
 pub shown_all : {A : Type 0} (P : A → Type 0) (limit : ℕ) (xs : List A) → All P xs → All P (shown_keys limit xs)
 shown_all P limit xs all = elim (eqb limit 0) as (λ b. All P (cond b xs (take limit xs))) [ true ↦ all | false ↦ All-take P limit xs all ]
@@ -173,7 +170,7 @@ module _ (p : Profile) (samples : List (Seen Written)) (sums : Sums) (fits : Fit
 
     -- the keys of the rows are those of their numbers
     keys_of_rows : (rs : List Row) → All (IsRankedRow p sort sums) rs → map row_key rs ≡ map key_at (map (λ (r : Row). r.number) rs)
-    keys_of_rows rs of = map-same row_key (λ (r : Row). key_at r.number) rs (All-with {P = IsRankedRow p sort sums} (λ r w. w.key) rs of) ∙ sym (map-both (λ (r : Row). r.number) key_at rs)
+    keys_of_rows rs of = map-same row_key (λ (r : Row). key_at r.number) rs (All-with {P = IsRankedRow p sort sums} (λ r w. w.key) rs of) ∙ sym (map-map key_at (λ (r : Row). r.number) rs)
 
     permuted : IsPermutation (filter (is_heavy_key key_cmp total billionths samples) names) (map row_key rows)
     permuted =
@@ -208,8 +205,8 @@ module _ (p : Profile) (samples : List (Seen Written)) (sums : Sums) (fits : Fit
     -- their flats
     pub flats_are : (limit : ℕ) → map (sum_of_name sums.flat) (map (λ (r : Row). r.number) (shown_keys limit rows)) ≡ map (flat key_cmp samples) (shown_keys limit (heavy_keys key_cmp sort total billionths samples))
     flats_are limit =
-        map-both (λ (r : Row). r.number) (sum_of_name sums.flat) (shown_keys limit rows)
+        map-map (sum_of_name sums.flat) (λ (r : Row). r.number) (shown_keys limit rows)
         ∙ map-same (λ (r : Row). sum_of_name sums.flat r.number) (λ (r : Row). flat key_cmp samples (key_at r.number)) (shown_keys limit rows)
         (All-with {P = IsRankedRow p sort sums} (λ r w. flat_at r.number w.below) (shown_keys limit rows) (shown_all (IsRankedRow p sort sums) limit rows ranked.rows_are))
-        ∙ sym (map-both (λ (r : Row). key_at r.number) (flat key_cmp samples) (shown_keys limit rows))
-        ∙ ap (map (flat key_cmp samples)) (sym (map-both (λ (r : Row). r.number) key_at (shown_keys limit rows)) ∙ order_is limit)
+        ∙ sym (map-map (flat key_cmp samples) (λ (r : Row). key_at r.number) (shown_keys limit rows))
+        ∙ ap (map (flat key_cmp samples)) (sym (map-map key_at (λ (r : Row). r.number) (shown_keys limit rows)) ∙ order_is limit)

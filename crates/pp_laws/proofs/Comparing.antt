@@ -1,5 +1,5 @@
 -- A comparison shows both sides.
-use Rattle.std.proofs.Common.{◌≡◌, ℕ, ◌+◌, Bool, true, false, true≢false, cond, not, ◌&&◌, ◌||◌, ℤ, pos, neg_ℤ, ◌+ℤ◌, ◌-ℤ◌, List, [], ◌∷◌, ◌++◌, length, map, get_or, Option, Some, refl, sym, ap, ◌∙◌, append_assoc, length-append, arith}
+use Rattle.std.proofs.Common.{◌≡◌, ℕ, ◌+◌, Bool, true, false, cond, not, ◌&&◌, ◌||◌, ℤ, pos, neg_ℤ, ◌+ℤ◌, ◌-ℤ◌, List, [], ◌∷◌, ◌++◌, length, map, get_or, Option, Some, refl, sym, ap, ◌∙◌, append_assoc, length-append, arith}
 use Rattle.std.specs.Prelude.{codes, bytes_eq}
 use Rattle.std.specs.List.{filter, list_any}
 use Rattle.std.specs.Option.{option_map_or}
@@ -7,6 +7,7 @@ use Rattle.std.proofs.Math.Seq.{get_or-append_seam}
 use Rattle.std.proofs.lemmas.Int.{ints}
 use Rattle.std.proofs.lemmas.List.{map-append}
 use Rattle.std.proofs.lemmas.List.Folds.{list_any-append}
+use Rattle.std.proofs.lemmas.Bool.{or_parts}
 use Rattle.pp_model.specs.declared.config.Config.{Config}
 use Rattle.pp_model.specs.declared.profile.Profile.{Profile}
 use Rattle.pp_model.specs.declared.profile.Sample.{Sample}
@@ -77,16 +78,12 @@ tell_base labels = list_any (λ label. bytes_eq label.key (codes "pprof::base") 
 pub base_told : (p : Profile) (s : Sample) → is_base p s ≡ tell_base (map (label_text (text_of p)) s.label)
 base_told p s = sym (list_any-map (label_text (text_of p)) (λ label. bytes_eq label.key (codes "pprof::base") && bytes_eq label.text (codes "true")) s.label)
 
-neither : (a b : Bool) → (a || b) ≡ false → (a ≡ false) × (b ≡ false)
-neither true b is = absurd (true≢false is)
-neither false b is = (refl, is)
-
 -- samples of which none passes come to nothing
 none_passes : (test more : Sample → Bool) (value : Sample → ℤ) (ss : List Sample) → list_any test ss ≡ false
     → total adding_ℤ (λ s. cond (test s && more s) (value s) (pos 0)) ss ≡ pos 0
 none_passes test more value [] none = refl
 none_passes test more value (s ∷ ss) none =
-    let parts = neither (test s) (list_any test ss) none in
+    let parts = or_parts (test s) (list_any test ss) none in
     λ i. cond (parts.0 i && more s) (value s) (pos 0) +ℤ none_passes test more value ss parts.1 i
 
 module _ (b : Profile) (valid : NoRuleFails b) where

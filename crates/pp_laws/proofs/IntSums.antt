@@ -1,5 +1,5 @@
 -- Sums of whole numbers over a list: how they split, compare, and pick one item.
-use Rattle.std.proofs.Common.{◌≡◌, ℕ, zero, suc, ◌+◌, ◌≤◌, Bool, true, false, true≢false, cond, ◌||◌, ℤ, pos, negsuc, neg_ℤ, ◌+ℤ◌, ◌*ℤ◌, nat_abs, List, [], ◌∷◌, ◌++◌, map, Option, Some, None, refl, sym, ap, ◌∙◌, arith}
+use Rattle.std.proofs.Common.{◌≡◌, ℕ, zero, suc, ◌+◌, ◌≤◌, Bool, true, false, true≢false, cond, ◌||◌, ℤ, pos, neg_ℤ, ◌+ℤ◌, ◌*ℤ◌, nat_abs, List, [], ◌∷◌, ◌++◌, map, Option, Some, None, refl, sym, ap, ◌∙◌, arith}
 use Rattle.std.specs.Prelude.{◌≤ℤ◌}
 use Rattle.std.specs.List.{AllByRecursion, IsDistinct, filter, filter_map, list_any, sum_by, cons_option}
 use Rattle.std.specs.List.Sorted.{IsPermutation}
@@ -10,7 +10,7 @@ use Rattle.std.proofs.lemmas.Int.{ints}
 use Rattle.std.proofs.lemmas.List.Sums.{sum_by-cons}
 use Rattle.std.proofs.lemmas.List.Sorted.{sum_by-IsPermutation}
 use Rattle.std.proofs.lemmas.Map.Keys.{IsDistinct-head, IsDistinct-tail}
-use Rattle.pp_count.proofs.Adding.{triangle}
+use Rattle.pp_base.proofs.Sums.{triangle, above, below, above_below}
 use Rattle.pp_graph.specs.Trimmed.{int_sum}
 
 -- the sum of what the items come to
@@ -93,23 +93,9 @@ pub sum_bound : {X : Type 0} (f : X → ℤ) (xs : List X) → nat_abs (sum_over
 sum_bound f [] = omega arith
 sum_bound f (x ∷ xs) = omega (arith, triangle (f x) (sum_over f xs), sum_bound f xs, sum_by-cons (λ y. nat_abs (f y)) x xs)
 
--- how far a number is above 0, and how far below
-above : ℤ → ℕ
-above (pos n) = n
-above (negsuc n) = 0
-
-below : ℤ → ℕ
-below (pos n) = 0
-below (negsuc n) = n + 1
-
-split : (v : ℤ) → v +ℤ pos (below v) ≡ pos (above v)
-unfolding above below
-split (pos n) = omega (arith, ints)
-split (negsuc n) = omega (arith, ints)
-
 sum_split : {X : Type 0} (f : X → ℤ) (xs : List X) → sum_over f xs +ℤ pos (sum_by (λ x. below (f x)) xs) ≡ pos (sum_by (λ x. above (f x)) xs)
 sum_split f [] = refl
-sum_split f (x ∷ xs) = omega (arith, ints, sum_split f xs, split (f x), sum_by-cons (λ y. below (f y)) x xs, sum_by-cons (λ y. above (f y)) x xs)
+sum_split f (x ∷ xs) = omega (arith, ints, sum_split f xs, above_below (f x), sum_by-cons (λ y. below (f y)) x xs, sum_by-cons (λ y. above (f y)) x xs)
 
 -- the order of the items doesn't matter
 pub sum_permuted : {X : Type 0} (f : X → ℤ) (xs ys : List X) → IsPermutation xs ys → sum_over f ys ≡ sum_over f xs

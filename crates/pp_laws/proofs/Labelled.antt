@@ -19,13 +19,14 @@ use Rattle.pp_model.specs.Rules.{NoRuleFails, is_text, mapping_has_texts, functi
 use Rattle.pp_model.specs.Sizes.{value_in}
 use Rattle.pp_model.proofs.RuleLemmas.{passes as rule_passes, text_below}
 use Rattle.std.specs.Option.{option_map_or}
+use Rattle.pp_base.proofs.Lists.{all_by}
 use Rattle.pp_tags.specs.TagFilters.{filter_in_force}
 use Rattle.pp_grain.specs.Keys.{key_cmp}
 use Rattle.pp_share.specs.Described.{LabelText, MappingText, SampleText, mapping_text, function_text, mapping_found, function_found, location_text, location_found, nowhere}
 use Rattle.pp_share.specs.Alike.{first_alike}
 use Rattle.pp_merge.specs.Merge.{all_mappings, merged}
 use Rattle.pp_merge.specs.Scale.{negated, negated_sample, labelled_sample, base_label, base_texts}
-use Rattle.pp_share.proofs.NumberedLemmas.{all_by, all_mapped}
+use Rattle.pp_share.proofs.NumberedLemmas.{all_mapped}
 use Rattle.pp_merge.proofs.SettledLemmas.{all_any, found_holds}
 use Rattle.pp_merge.proofs.TotalLemmas.{total-map, total_same, adding_ℤ}
 use Rattle.pp_count.specs.Sums.{has, leads}

@@ -1,5 +1,5 @@
 -- Keys listed each once, in an order: which they are, that they are told apart, and what a filter leaves of them.
-use Rattle.std.proofs.Common.{◌≡◌, Bool, true, false, cond, List, [], ◌∷◌, map, Option, Some, None, T, refl, sym, ap, ◌∙◌}
+use Rattle.std.proofs.Common.{◌≡◌, Bool, true, false, cond, List, [], ◌∷◌, map, None, refl, sym, ap, ◌∙◌}
 use Rattle.std.specs.List.{AllByRecursion, IsDistinct, filter, list_any}
 use Rattle.std.specs.Option.{is_some}
 use Rattle.std.specs.Ordering.{eq_by_cmp, is_lt, is_eq}
@@ -9,18 +9,8 @@ use Rattle.std.specs.FinMap.Entries.{below_all, is_sorted, where_key, is_some-fi
 use Rattle.std.specs.declared.cmp.Ordering.{Ordering}
 use Rattle.std.specs.declared.cmp.Ordering.TheVariants.{Less, Equal, Greater}
 use Rattle.std.proofs.lemmas.Bool.{false≢true, and_parts}
+use Rattle.pp_base.proofs.Booleans.{is_true, marked}
 use Rattle.pp_count.specs.Ranks.{each_once, set_entry}
-
--- what is found of a unit is told by whether it is found
-marked : (o p : Option (Unit {0})) → is_some o ≡ is_some p → o ≡ p
-marked None None e = refl
-marked None (Some u) e = absurd (false≢true e)
-marked (Some u) None e = absurd (false≢true (sym e))
-marked (Some u) (Some v) e = refl
-
-is_true : (b : Bool) → T b → b ≡ true
-is_true true h = refl
-is_true false h = absurd h
 
 items_keys : {K : Type 0} (ks : List K) → map (λ e. e.0) (map set_entry ks) ≡ ks
 items_keys [] = refl

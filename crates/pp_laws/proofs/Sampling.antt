@@ -7,12 +7,13 @@ use Rattle.std.specs.Option.{option_map_or}
 use Rattle.std.specs.Ordering.{eq_by_cmp, int_eq}
 use Rattle.std.specs.Cmp.{IsTotalOrder}
 use Rattle.std.specs.declared.cmp.Ordering.{Ordering}
-use Rattle.std.proofs.lemmas.Bool.{false≢true, and_parts, not-false}
+use Rattle.std.proofs.lemmas.Bool.{false≢true, and_parts, not-false, or_right}
 use Rattle.std.proofs.lemmas.Bool.Decides.{Decides-int_eq}
 use Rattle.std.proofs.lemmas.Cmp.{eq_by_cmp_equiv}
 use Rattle.std.proofs.lemmas.Int.{ints}
 use Rattle.std.proofs.lemmas.List.Sums.{sum_by-cons}
-use Rattle.pp_count.proofs.Adding.{triangle}
+use Rattle.pp_base.proofs.Booleans.{either}
+use Rattle.pp_base.proofs.Sums.{triangle}
 use Rattle.pp_count.specs.Sums.{Seen, weighed, absolute, sum_where, has, leads, occurs, flat}
 use Rattle.pp_count.specs.EdgeSums.{stands_over, has_pair, has_edge}
 use Rattle.pp_laws.specs.Figures.{has_frames, whole, NoneNegative}
@@ -99,14 +100,6 @@ sum_where_bound p (s ∷ ss) =
       | false ↦ omega (arith, triangle (pos 0) (sum_where p ss), sum_where_bound p ss, whole_is)
     ]
 
-pub or_later : (a b : Bool) → b ≡ true → (a || b) ≡ true
-or_later true b is = refl
-or_later false b is = is
-
-or_either : {P : Type 0} (a b : Bool) → (a || b) ≡ true → (a ≡ true → P) → (b ≡ true → P) → P
-or_either true b is f g = f refl
-or_either false b is f g = g is
-
 module _ {K : Type 0} (order : K → K → Ordering) where
   -- the leaf's key is one of the keys
   pub leads_has : (k : K) (ks : List K) → leads order k ks ≡ true → has order k ks ≡ true
@@ -117,27 +110,27 @@ module _ {K : Type 0} (order : K → K → Ordering) where
   has-filter kept k [] is = is
   has-filter kept k (q ∷ ks) is =
       elim (kept q) as (λ b. has order k (cond b (q ∷ filter kept ks) (filter kept ks)) ≡ true → (eq_by_cmp order k q || has order k ks) ≡ true) [
-        | true ↦ λ found. or_either (eq_by_cmp order k q) (has order k (filter kept ks)) found
+        | true ↦ λ found. either (eq_by_cmp order k q) (has order k (filter kept ks)) found
             (λ here. ap (λ b. b || has order k ks) here)
-            (λ later. or_later (eq_by_cmp order k q) (has order k ks) (has-filter kept k ks later))
-        | false ↦ λ found. or_later (eq_by_cmp order k q) (has order k ks) (has-filter kept k ks found)
+            (λ later. or_right (eq_by_cmp order k q) (has order k ks) (has-filter kept k ks later))
+        | false ↦ λ found. or_right (eq_by_cmp order k q) (has order k ks) (has-filter kept k ks found)
       ] is
 
   over_caller : (a b under : K) (ks : List K) → stands_over order a b under ks ≡ true → has order a ks ≡ true
   over_caller a b under [] is = is
-  over_caller a b under (k ∷ ks) is = or_either (eq_by_cmp order a k && eq_by_cmp order b under) (stands_over order a b k ks) is
+  over_caller a b under (k ∷ ks) is = either (eq_by_cmp order a k && eq_by_cmp order b under) (stands_over order a b k ks) is
       (λ here. ap (λ c. c || has order a ks) (and_parts _ _ here).0)
-      (λ later. or_later (eq_by_cmp order a k) (has order a ks) (over_caller a b k ks later))
+      (λ later. or_right (eq_by_cmp order a k) (has order a ks) (over_caller a b k ks later))
 
   over_callee : (a b under : K) (ks : List K) → stands_over order a b under ks ≡ true → has order b (under ∷ ks) ≡ true
   over_callee a b under [] is = absurd (false≢true is)
-  over_callee a b under (k ∷ ks) is = or_either (eq_by_cmp order a k && eq_by_cmp order b under) (stands_over order a b k ks) is
+  over_callee a b under (k ∷ ks) is = either (eq_by_cmp order a k && eq_by_cmp order b under) (stands_over order a b k ks) is
       (λ here. ap (λ c. c || has order b (k ∷ ks)) (and_parts _ _ here).1)
-      (λ later. or_later (eq_by_cmp order b under) (has order b (k ∷ ks)) (over_callee a b k ks later))
+      (λ later. or_right (eq_by_cmp order b under) (has order b (k ∷ ks)) (over_callee a b k ks later))
 
   pair_caller : (a b : K) (ks : List K) → has_pair order a b ks ≡ true → has order a ks ≡ true
   pair_caller a b [] is = is
-  pair_caller a b (k ∷ ks) is = or_later (eq_by_cmp order a k) (has order a ks) (over_caller a b k ks is)
+  pair_caller a b (k ∷ ks) is = or_right (eq_by_cmp order a k) (has order a ks) (over_caller a b k ks is)
 
   pair_callee : (a b : K) (ks : List K) → has_pair order a b ks ≡ true → has order b ks ≡ true
   pair_callee a b [] is = is
@@ -170,4 +163,4 @@ module _ {K : Type 0} {order : K → K → Ordering} (o : IsTotalOrder order) wh
   flats_add_up (s ∷ ss) keys apart known =
       sum_plus (λ k. part (leads order k) s) (flat order ss) keys
       ∙ (λ i. one_leaf s keys apart (λ k is. known k (ap (λ b. b || occurs order ss k) is)) i
-      +ℤ flats_add_up ss keys apart (λ k is. known k (or_later (has order k s.keys) (occurs order ss k) is)) i)
+      +ℤ flats_add_up ss keys apart (λ k is. known k (or_right (has order k s.keys) (occurs order ss k) is)) i)

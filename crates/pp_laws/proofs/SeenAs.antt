@@ -5,6 +5,7 @@ use Rattle.std.specs.List.{AllByRecursion, list_all}
 use Rattle.std.specs.Option.{option_map_or}
 use Rattle.std.specs.Str.{bytes_eq}
 use Rattle.std.proofs.lemmas.List.Elements.{recursion_from_All}
+use Rattle.pp_base.proofs.Lists.{all_by}
 use Rattle.pp_model.specs.declared.config.Config.{Config}
 use Rattle.pp_model.specs.declared.config.Grain.{Grain}
 use Rattle.pp_model.specs.declared.config.Grain.TheVariants.{Functions, FileFunctions, Files, Lines, Addresses}
@@ -24,7 +25,7 @@ use Rattle.pp_share.specs.Described.{MappingText, SampleText, location_found, sa
 use Rattle.pp_share.specs.Alike.{first_alike}
 use Rattle.pp_share.specs.Written.{Contents}
 use Rattle.pp_share.specs.Written as writing
-use Rattle.pp_share.proofs.NumberedLemmas.{all_by, all_both}
+use Rattle.pp_share.proofs.NumberedLemmas.{all_both}
 use Rattle.pp_share.proofs.Once.{head_distinct}
 use Rattle.pp_merge.specs.Merge.{all_mappings, merged}
 use Rattle.pp_merge.specs.Settled.{IsSettled}

@@ -5,6 +5,7 @@ use Rattle.std.specs.List.{AllByRecursion, filter}
 use Rattle.std.specs.Option.{option_map_or}
 use Rattle.std.proofs.Math.IntN.{+ℤ_idr}
 use Rattle.std.proofs.lemmas.List.{length-map}
+use Rattle.pp_base.proofs.Lists.{all_by}
 use Rattle.pp_model.specs.declared.config.Config.{Config}
 use Rattle.pp_model.specs.declared.config.Grain.TheVariants.{Addresses}
 use Rattle.pp_model.specs.declared.profile.Mapping.{Mapping}
@@ -20,7 +21,7 @@ use Rattle.pp_share.specs.Alike.{first_alike}
 use Rattle.pp_merge.specs.Merge.{all_mappings, contents, merged}
 use Rattle.pp_merge.specs.Settled.{IsSettled}
 use Rattle.pp_share.specs.Written.{Contents, written_sample, written_type}
-use Rattle.pp_share.proofs.NumberedLemmas.{all_by, all_both, all_mapped}
+use Rattle.pp_share.proofs.NumberedLemmas.{all_both, all_mapped}
 use Rattle.pp_merge.proofs.SettledLemmas.{all_any, all_flat, found_holds, settled_contents}
 use Rattle.pp_merge.proofs.TotalLemmas.{total, total_same, adding_ℤ}
 use Rattle.pp_merge.proofs.WrittenAgain.{contents_again}

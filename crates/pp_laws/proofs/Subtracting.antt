@@ -6,6 +6,7 @@ use Rattle.std.specs.Ordering.{int_eq}
 use Rattle.std.proofs.Math.IntN.{+ℤ_idr}
 use Rattle.std.proofs.lemmas.Int.{ints}
 use Rattle.std.proofs.lemmas.List.{length-map}
+use Rattle.pp_base.proofs.Lists.{all_by}
 use Rattle.pp_model.specs.declared.config.Config.{Config}
 use Rattle.pp_model.specs.declared.profile.Profile.{Profile}
 use Rattle.pp_model.specs.declared.profile.Sample.{Sample}
@@ -22,7 +23,7 @@ use Rattle.pp_merge.specs.Merge.{all_mappings, all_samples, contents, merged}
 use Rattle.pp_merge.specs.Scale.{negated, negated_sample}
 use Rattle.pp_share.specs.Sums.{counts, keys_of, rows_of, sum_of}
 use Rattle.pp_share.specs.Written.{written_sample}
-use Rattle.pp_share.proofs.NumberedLemmas.{all_by, all_mapped}
+use Rattle.pp_share.proofs.NumberedLemmas.{all_mapped}
 use Rattle.pp_merge.proofs.MergedTotals.{at_total}
 use Rattle.pp_merge.proofs.SettledLemmas.{all_any, all_flat}
 use Rattle.pp_share.proofs.SumLemmas.{length-total_of}

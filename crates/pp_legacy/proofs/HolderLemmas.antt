@@ -1,5 +1,5 @@
 -- Addresses that are free, and mappings that take them one after another.
-use Rattle.std.proofs.Common.{◌≡◌, ◌≢◌, ℕ, zero, suc, ◌+◌, ◌<◌, ◌≤◌, Bool, true, false, true≢false, cond, ◌||◌, ◌⊎◌, inl, inr, List, [], ◌∷◌, ◌++◌, length, map, replicate, take, get_or, refl, sym, ap, subst, ◌∙◌, arith}
+use Rattle.std.proofs.Common.{◌≡◌, ◌≢◌, ℕ, zero, suc, ◌+◌, ◌<◌, ◌≤◌, Bool, true, false, cond, ◌||◌, ◌⊎◌, inl, inr, List, [], ◌∷◌, ◌++◌, length, map, replicate, take, get_or, refl, sym, ap, subst, ◌∙◌, arith}
 use Rattle.std.specs.Prelude.{AllPairs, Option, Some, None, nat_eq, find, slice_index, slice_set}
 use Rattle.std.specs.BTreeMap.{is_at}
 use Rattle.std.specs.Cmp.{nat_cmp_is}
@@ -7,7 +7,7 @@ use Rattle.std.specs.List.{list_any}
 use Rattle.std.specs.Option.{option_map_or}
 use Rattle.std.specs.Ordering.{nat_cmp, is_eq}
 use Rattle.std.specs.declared.cmp.Ordering.TheVariants.{Less, Greater}
-use Rattle.std.proofs.lemmas.Bool.{cases_order, eqb-true, eq-eqb, ne_eqb}
+use Rattle.std.proofs.lemmas.Bool.{cases_order, eqb-true, eq-eqb, ne_eqb, or_parts}
 use Rattle.std.proofs.lemmas.Bool.Decides.{nat_tests}
 use Rattle.std.proofs.lemmas.List.{take_more, length-set, length-map, get_or-set_same, get_or-set_other, get_or-map, take_all, length-replicate, get_or-replicate}
 use Rattle.std.proofs.lemmas.List.Folds.{list_any-append}
@@ -56,25 +56,20 @@ one_more_free addresses n old new distinct within has here others = record {
   ];
 }
 
--- of two tests that fail together each fails
-both_fail : (a b : Bool) → (a || b) ≡ false → (a ≡ false) × (b ≡ false)
-both_fail true b fails = absurd (true≢false fails)
-both_fail false b fails = (refl, fails)
-
 -- the first mapping that holds an address
 first_holder : (a : ℕ) (ms : List Mapping) (i : ℕ) (d : Mapping) → i < length ms → list_any (holds_address a) (take i ms) ≡ false
     → holds_address a (get_or ms i d) ≡ true → find (holds_address a) ms ≡ Some (get_or ms i d)
 first_holder a [] i d within none here = absurd (omega arith)
 first_holder a (m ∷ ms) zero d within none here = ap (λ b. cond b (Some m) (find (holds_address a) ms)) here
 first_holder a (m ∷ ms) (suc i) d within none here =
-    let fail = both_fail (holds_address a m) (list_any (holds_address a) (take i ms)) none in
+    let fail = or_parts (holds_address a m) (list_any (holds_address a) (take i ms)) none in
     ap (λ b. cond b (Some m) (find (holds_address a) ms)) fail.0 ∙ first_holder a ms i d (omega arith) fail.1 here
 
 -- no mapping holds the address
 no_holder : (a : ℕ) (ms : List Mapping) → list_any (holds_address a) ms ≡ false → find (holds_address a) ms ≡ None
 no_holder a [] none = refl
 no_holder a (m ∷ ms) none =
-    let fail = both_fail (holds_address a m) (list_any (holds_address a) ms) none in
+    let fail = or_parts (holds_address a m) (list_any (holds_address a) ms) none in
     ap (λ b. cond b (Some m) (find (holds_address a) ms)) fail.0 ∙ no_holder a ms fail.1
 
 -- An address is free, and none of the first i mappings holds it, or it isn't, and its holder is known.

@@ -6,11 +6,12 @@ use Rattle.std.specs.List.{AllByRecursion, flat_map}
 use Rattle.std.proofs.lemmas.Grind.{flat_map-append}
 use Rattle.std.proofs.lemmas.List.{map-append, map_push, append-nil, take_more}
 use Rattle.std.proofs.lemmas.List.Sums.{fold-append}
+use Rattle.pp_base.proofs.Lists.{all_by, map_agree}
 use Rattle.pp_model.specs.declared.profile.Sample.{Sample}
 use Rattle.pp_model.specs.FirstSight.{seen_with, seen_after, distinct, place_of}
 use Rattle.pp_legacy.specs.Records.{StackRecord}
 use Rattle.pp_legacy.specs.Tables.{addresses_of, location_id, entry_sample}
-use Rattle.pp_model.proofs.FirstSightLemmas.{IsSeen, all_as, map_agree, all_seen, place-seen_with, place-seen_after, place_when_seen}
+use Rattle.pp_model.proofs.FirstSightLemmas.{IsSeen, all_seen, place-seen_with, place-seen_after, place_when_seen}
 
 -- a number is itself
 pub same_self : (n : ℕ) → nat_eq n n ≡ true
@@ -21,7 +22,7 @@ ids_stay : (seen more xs : List ℕ) → AllByRecursion (IsSeen nat_eq seen) xs
     → map (location_id (seen_after nat_eq seen more)) xs ≡ map (location_id seen) xs
 ids_stay seen more xs all =
     map_agree (location_id (seen_after nat_eq seen more)) (location_id seen) xs
-    (all_as (IsSeen nat_eq seen) _ (λ y is. ap (λ n. n + 1) (place-seen_after nat_eq seen more y is)) xs all)
+    (all_by (IsSeen nat_eq seen) _ (λ y is. ap (λ n. n + 1) (place-seen_after nat_eq seen more y is)) xs all)
 
 module _ (before xs : List ℕ) where
   -- the addresses so far
@@ -100,7 +101,7 @@ module _ (entries : List StackRecord) (e : StackRecord) where
       map-append (entry_sample (seen_after nat_eq (addresses_of entries) e.stack)) entries (e ∷ [])
       ∙ ap (λ l. l ++ entry_sample (seen_after nat_eq (addresses_of entries) e.stack) e ∷ [])
       (map_agree _ (entry_sample (addresses_of entries)) entries
-      (all_as _ _ sample_stays entries
+      (all_by _ _ sample_stays entries
       (all_parts (IsSeen nat_eq (addresses_of entries)) entries (all_seen nat_eq same_self [] (flat_map (λ f. f.stack) entries)))))
 
 -- one entry more is sampled

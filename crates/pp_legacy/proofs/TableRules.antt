@@ -8,6 +8,7 @@ use Rattle.std.proofs.lemmas.Bool.{cases_order, lt-ltb, le-ltb, ne_eqb, and_from
 use Rattle.std.proofs.lemmas.List.{length-append, length-map, length-take}
 use Rattle.std.proofs.lemmas.List.FromFn.{length-range_with_len, get_or-range_with_len, length-enumerate_from}
 use Rattle.std.proofs.Math.Bool.{or-false}
+use Rattle.pp_base.proofs.Lists.{all_by}
 use Rattle.pp_model.specs.declared.profile.ValueType.{ValueType}
 use Rattle.pp_model.specs.declared.profile.Sample.{Sample}
 use Rattle.pp_model.specs.declared.profile.Mapping.{Mapping}
@@ -18,7 +19,7 @@ use Rattle.pp_model.specs.FirstSight.{place_of}
 use Rattle.pp_legacy.specs.Records.{StackRecord}
 use Rattle.pp_legacy.specs.Regions.{Region}
 use Rattle.pp_legacy.specs.Tables.{addresses_of, location_id, entry_sample, mapping_of, numbered_mappings, holds_address, holder_of, location_of, numbered_locations, fixed_texts, texts_of, samples_type, cpu_type, legacy_profile}
-use Rattle.pp_model.proofs.FirstSightLemmas.{IsSeen, all_as, all_seen}
+use Rattle.pp_model.proofs.FirstSightLemmas.{IsSeen, all_seen}
 use Rattle.pp_legacy.proofs.SampleLemmas.{same_self, all_parts}
 
 -- a search for what no item has
@@ -37,7 +38,7 @@ nothing_found p xs all = past_end (position_or_len p xs) (length xs) (none_found
 
 -- a test that all items pass fails nowhere
 pub nowhere : {A : Type 0} (passes : A → Bool) (xs : List A) → AllByRecursion (λ x. passes x ≡ true) xs → first_failing passes xs ≡ None
-nowhere passes xs all = nothing_found (λ x. not (passes x)) xs (all_as (λ x. passes x ≡ true) _ (λ x is. ap not is) xs all)
+nowhere passes xs all = nothing_found (λ x. not (passes x)) xs (all_by (λ x. passes x ≡ true) _ (λ x is. ap not is) xs all)
 
 -- what holds of each item of a list holds of the list
 pub each : {A : Type 0} (P : A → Type 0) → ((x : A) → P x) → (xs : List A) → AllByRecursion P xs
@@ -194,7 +195,7 @@ module _ (nanos : ℕ) (entries : List StackRecord) (regions : List Region) wher
     location_repeat = ap first_repeated location_numbers ∙ none_repeated (length (addresses_of entries));
     location_reference = nowhere _ _ (each_numbered (location_of (numbered_mappings regions)) _ 0 (addresses_of entries) (λ k a below. and_from _ _ (holder_in a (numbered_mappings regions)) refl));
     sample_reference = nowhere _ _ (each_made (entry_sample (addresses_of entries)) _ entries
-        (all_as _ _ (λ e all. refers (addresses_of entries) _ e.stack location_numbers all) entries
+        (all_by _ _ (λ e all. refers (addresses_of entries) _ e.stack location_numbers all) entries
         (all_parts (IsSeen nat_eq (addresses_of entries)) entries (all_seen nat_eq same_self [] (flat_map (λ e. e.stack) entries)))));
     values = nowhere _ _ (each_made (entry_sample (addresses_of entries)) _ entries (each _ (λ e. refl) entries));
   }

@@ -1,12 +1,12 @@
 -- Profiles that are merged or scaled can still be counted.
-use Rattle.std.proofs.Common.{◌≡◌, ℕ, zero, suc, ◌+◌, ◌*◌, ◌/◌, ◌-◌, ◌^◌, ◌<◌, ◌≤◌, ◌⊎◌, inl, inr, Bool, false, List, [], ◌∷◌, length, get_or, refl, sym, ap, ◌∙◌, subst, arith}
-use Rattle.std.specs.Prelude.{None, ℤ, pos, negsuc, neg_ℤ, ◌*ℤ◌, int_div, nat_lt, nat_abs, ◌==◌, position, if◌then◌else◌}
-use Rattle.std.specs.List.{AllByRecursion, sum_by, range_with_len}
+use Rattle.std.proofs.Common.{◌≡◌, ℕ, zero, suc, ◌+◌, ◌*◌, ◌/◌, ◌-◌, ◌^◌, ◌<◌, ◌≤◌, ◌⊎◌, inl, inr, false, List, [], ◌∷◌, length, get_or, refl, sym, ap, ◌∙◌, subst, arith}
+use Rattle.std.specs.Prelude.{None, ℤ, pos, negsuc, neg_ℤ, ◌*ℤ◌, int_div, nat_lt, nat_abs, ◌==◌, if◌then◌else◌}
+use Rattle.std.specs.List.{AllByRecursion, sum_by}
 use Rattle.std.proofs.Math.Nat.{add-mul, div-mul-le_self, le_of_mul-le-mul_right, mul_comm}
 use Rattle.std.proofs.lemmas.Bool.{ltb-false, ne_eqb}
 use Rattle.std.proofs.lemmas.List.{length-map}
-use Rattle.std.proofs.lemmas.List.FromFn.{get_or-range_with_len, length-range_with_len}
-use Rattle.std.proofs.lemmas.List.Sums.{sum_by-cons, fails_before_first}
+use Rattle.std.proofs.lemmas.List.Sums.{sum_by-cons}
+use Rattle.pp_base.proofs.Lists.{all_by}
 use Rattle.pp_model.specs.declared.profile.Sample.{Sample}
 use Rattle.pp_model.specs.declared.profile.Profile.{Profile}
 use Rattle.pp_model.specs.Rules.{NoRuleFails}
@@ -14,23 +14,15 @@ use Rattle.pp_model.specs.Sizes.{IsCountable, absolute_sum, value_in}
 use Rattle.pp_share.specs.Header.{type_text}
 use Rattle.pp_merge.specs.Merge.{too_large, merged}
 use Rattle.pp_merge.specs.Scale.{scaled_value, normalized_value, normalized_values, normalized_sample, normalized}
-use Rattle.pp_share.proofs.IdLemmas.{place_missed}
 use Rattle.pp_merge.proofs.MergedLengths.{no_longer}
 use Rattle.pp_merge.proofs.MergedTotals.{absolutes_within}
 use Rattle.pp_merge.proofs.NormalizingLemmas.{wide_samples}
-use Rattle.pp_share.proofs.NumberedLemmas.{all_by, all_both}
+use Rattle.pp_share.proofs.NumberedLemmas.{all_both}
 use Rattle.pp_share.proofs.SampleKeyLemmas.{sum_by-map}
+use Rattle.pp_merge.proofs.MergeLemmas.{none_passes}
 use Rattle.pp_load.specs.Joining.{kinds, AreOf, AreFew, IsOneOf}
 use Rattle.pp_load.proofs.KindLemmas.{merged_kinds}
 use Rattle.pp_load.proofs.StartLemmas.{merged_alone, merged_starts}
-
--- what is found nowhere fails everywhere
-none_passes : (test : ℕ → Bool) (n k : ℕ) → position test (range_with_len 0 n) ≡ None → k < n → test k ≡ false
-none_passes test n k is within =
-    let past = place_missed test (range_with_len 0 n) is in
-    let fails = fails_before_first test (range_with_len 0 n) k 0 (omega (arith, past, within, length-range_with_len 0 n)) in
-    let here : 0 + k ≡ k = omega arith in
-    ap test (sym (get_or-range_with_len 0 n k 0 within ∙ here)) ∙ fails
 
 -- profiles of the same kinds have as many columns
 pub as_many : (p q : Profile) → kinds p ≡ kinds q → length p.sample_type ≡ length q.sample_type

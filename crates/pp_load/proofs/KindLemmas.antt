@@ -8,13 +8,13 @@ use Rattle.std.specs.Cmp.Lexicographic.{pointwise}
 use Rattle.std.proofs.lemmas.Bool.Decides.{Decides-and, Decides-like}
 use Rattle.std.proofs.lemmas.Option.{none-some}
 use Rattle.std.proofs.lemmas.Slice.Eq.{bytes_eq-Decides, slice_eq-Decides}
+use Rattle.pp_base.proofs.Lists.{all_by}
 use Rattle.pp_model.specs.declared.profile.Profile.{Profile}
 use Rattle.pp_merge.specs.declared.refusal.What.TheVariants.{SampleTypes, PeriodType}
 use Rattle.pp_share.specs.Header.{TypeText, type_text}
 use Rattle.pp_merge.specs.Merge.{same_type, difference, disagreeing, contents, merged}
 use Rattle.pp_share.specs.Written.{written, written_type, type_texts}
 use Rattle.pp_merge.proofs.MergeLemmas.{none_differs}
-use Rattle.pp_share.proofs.NumberedLemmas.{all_by}
 use Rattle.pp_merge.proofs.RoundTrip.{IsText, text_again}
 use Rattle.pp_merge.proofs.WrittenAgain.{map_back}
 use Rattle.pp_merge.proofs.WrittenValid.{texts_of_types, texts_of_period}

@@ -9,6 +9,7 @@ use Rattle.std.proofs.lemmas.Bool.{leb-true, and_parts}
 use Rattle.std.proofs.lemmas.Int.Digits.{digits_value-lt}
 use Rattle.std.proofs.lemmas.List.{length-take}
 use Rattle.std.proofs.lemmas.Option.{none-some, same_Some}
+use Rattle.pp_base.proofs.Lists.{all_by}
 use Rattle.pp_model.specs.declared.profile.Mapping.{Mapping}
 use Rattle.pp_model.specs.declared.profile.Profile.{Profile}
 use Rattle.pp_check.specs.FirstFault.{first_fault}
@@ -28,7 +29,7 @@ use Rattle.pp_tables.proofs.Ranges.{read_fits}
 use Rattle.pp_share.specs.Described.{mapping_text}
 use Rattle.pp_merge.specs.Merge.{all_mappings, contents, merged}
 use Rattle.pp_share.specs.Written.{written, written_mapping, mappings}
-use Rattle.pp_share.proofs.NumberedLemmas.{all_by, all_mapped}
+use Rattle.pp_share.proofs.NumberedLemmas.{all_mapped}
 use Rattle.pp_merge.proofs.SettledLemmas.{all_any, all_flat, all_some, settled_contents}
 use Rattle.pp_merge.proofs.WrittenAgain.{contents_again}
 use Rattle.pp_load.specs.Steps.{◌>>=◌, Loads}

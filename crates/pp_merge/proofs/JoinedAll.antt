@@ -5,8 +5,6 @@ use Rattle.std.specs.List.{AllByRecursion, flat_map}
 use Rattle.std.specs.Option.{unwrap_or}
 use Rattle.std.specs.Int.{saturate_to_bits}
 use Rattle.std.specs.Str.{bytes_eq}
-use Rattle.std.specs.Cmp.{IsEquivalence, nat_eq_equiv}
-use Rattle.std.specs.Cmp.Lexicographic.{lists_equiv}
 use Rattle.std.proofs.lemmas.Bool.{cases_lt}
 use Rattle.std.proofs.lemmas.Slice.Eq.{bytes_eq-Decides}
 use Rattle.std.proofs.lemmas.List.{length-map, map-append, append-nil}
@@ -33,6 +31,7 @@ use Rattle.pp_share.proofs.JoinLemmas.{get_or-front, behind_in, behind_past}
 use Rattle.pp_merge.proofs.JoinedTables.{HasIds, Holds, words, own_samples, own_mappings}
 use Rattle.pp_share.proofs.EntryLemmas.{index_next}
 use Rattle.pp_share.proofs.ShareLemmas.{rows}
+use Rattle.pp_share.proofs.SharedFunctions.{text_laws}
 
 pub joined_is : (a : Profile) (qs : List Profile) → fold (λ j p. Some (joined_next j p)) (Some a) qs ≡ Some (join_from a qs)
 joined_is a [] = refl
@@ -158,9 +157,6 @@ time_from : (a : Profile) (qs : List Profile) → (join_from a qs).time_nanos �
 time_from a [] = refl
 time_from a (q ∷ qs) = time_from (chained a (moved_behind (sizes_of a) q)) qs
 
-laws_T : IsEquivalence bytes_eq
-laws_T = lists_equiv nat_eq_equiv
-
 -- the index of a text behind others is that of one of the texts
 index_in : (after : Sizes) (q : Profile) (total : ℕ) → after.text + length q.text ≤ total → total < 4611686018427387904 → 1 ≤ after.text + length q.text → (i : ℤ)
     → text_number ((behind_ids after q).text i) < after.text + length q.text
@@ -182,7 +178,7 @@ empty_is t is = (bytes_eq-Decides t []).0 is
 
 nonempty_first : (t : List ℕ) (ts : List (List ℕ)) → bytes_eq t [] ≡ false → first_nonempty (t ∷ ts) ≡ t
 nonempty_first t ts is =
-    ap (λ b. unwrap_or (if not b then Some t else find (λ text. not (bytes_eq [] text)) ts) []) (laws_T.symm [] t ∙ is)
+    ap (λ b. unwrap_or (if not b then Some t else find (λ text. not (bytes_eq [] text)) ts) []) (text_laws.symm [] t ∙ is)
 
 -- A text of the header that is the first one which isn't empty.
 module _ (get : Profile → ℤ)

@@ -10,6 +10,7 @@ use Rattle.std.proofs.lemmas.List.Elements.{All-from_recursion}
 use Rattle.std.proofs.lemmas.List.FromFn.{get_or-range_with_len, length-range_with_len}
 use Rattle.std.proofs.lemmas.List.Sums.{sum_by-append, sum_by-cons, fails_before_first}
 use Rattle.std.proofs.lemmas.Option.{none-some, same_Some}
+use Rattle.pp_base.proofs.Lists.{all_of_map}
 use Rattle.pp_model.specs.declared.profile.Mapping.{Mapping}
 use Rattle.pp_model.specs.declared.profile.Location.{Location}
 use Rattle.pp_model.specs.declared.profile.Function.{Function}
@@ -41,7 +42,7 @@ use Rattle.pp_share.proofs.Prefix.{by_recursion, all_tt}
 use Rattle.pp_share.proofs.IdLemmas.{place_missed}
 use Rattle.pp_share.proofs.Lists.{all_mapped, all_both, all_filter}
 use Rattle.pp_share.proofs.SumLemmas.{length-total_of}
-use Rattle.pp_share.proofs.SampleKeyLemmas.{all_of_map, sum_by-map}
+use Rattle.pp_share.proofs.SampleKeyLemmas.{sum_by-map}
 use Rattle.pp_share.proofs.JoinLemmas.{behind_in}
 use Rattle.pp_merge.proofs.JoinedTables.{HasIds, Holds}
 use Rattle.pp_merge.proofs.JoinedAll.{joined_is, AllHaveIds, holds_next, holds_first, whole, whole_some, whole_empty, whole_gist, whole_duration, whole_rows, whole_types}
@@ -117,7 +118,7 @@ sum_by-flat weight g (x ∷ xs) =
     ∙ sym (sum_by-cons (λ y. sum_by weight (g y)) x xs)
 
 -- what is found nowhere fails everywhere
-none_passes : (test : ℕ → Bool) (n k : ℕ) → position test (range_with_len 0 n) ≡ None → k < n → test k ≡ false
+pub none_passes : (test : ℕ → Bool) (n k : ℕ) → position test (range_with_len 0 n) ≡ None → k < n → test k ≡ false
 none_passes test n k is within =
     let past = place_missed test (range_with_len 0 n) is in
     let fails = fails_before_first test (range_with_len 0 n) k 0 (omega (arith, past, within, length-range_with_len 0 n)) in

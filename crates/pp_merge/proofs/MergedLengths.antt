@@ -11,6 +11,7 @@ use Rattle.std.proofs.lemmas.List.Elements.{recursion_from_All, All-from_recursi
 use Rattle.std.proofs.lemmas.List.Sums.{AllPass-from_list_all, sum_by-cons}
 use Rattle.std.proofs.lemmas.Option.{none-some, same_Some}
 use Rattle.std.proofs.lemmas.Slice.Eq.{bytes_eq-Decides}
+use Rattle.pp_base.proofs.Lists.{all_by}
 use Rattle.pp_model.specs.declared.profile.Mapping.{Mapping}
 use Rattle.pp_model.specs.declared.profile.Location.{Location}
 use Rattle.pp_model.specs.declared.profile.Function.{Function}
@@ -33,7 +34,7 @@ use Rattle.pp_model.proofs.FirstSightLemmas.{IsSeen, length-distinct}
 use Rattle.pp_share.proofs.DistinctLemmas.{deciding_laws}
 use Rattle.pp_merge.proofs.LengthLemmas.{self_seen, distinct_within, parts_seen}
 use Rattle.pp_share.proofs.MergedMapping.{IsFound}
-use Rattle.pp_share.proofs.NumberedLemmas.{all_parts, all_by, all_both, all_mapped}
+use Rattle.pp_share.proofs.NumberedLemmas.{all_parts, all_both, all_mapped}
 use Rattle.pp_merge.proofs.SettledLemmas.{self_found, all_join, all_flat, all_any, all_distinct, all_some, all_filtered, all_unmapped, found_holds}
 use Rattle.pp_merge.proofs.WrittenAgain.{at_seen}
 use Rattle.pp_merge.proofs.WrittenCompact.{location_walk, mapping_walk, function_walk}

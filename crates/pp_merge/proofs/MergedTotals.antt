@@ -8,6 +8,7 @@ use Rattle.std.proofs.lemmas.Bool.Decides.{Decides-int_eq}
 use Rattle.std.proofs.lemmas.List.{length-replicate}
 use Rattle.std.proofs.lemmas.List.Sums.{sum_by-cons}
 use Rattle.std.proofs.Math.IntN.{+ℤ_idl, +ℤ_assoc, +ℤ_comm}
+use Rattle.pp_base.proofs.Lists.{all_by}
 use Rattle.pp_model.specs.declared.profile.Sample.{Sample}
 use Rattle.pp_model.specs.declared.profile.Profile.{Profile}
 use Rattle.pp_model.specs.Lookup.{text_of}
@@ -22,7 +23,7 @@ use Rattle.pp_share.specs.Written.{written_sample}
 use Rattle.pp_share.proofs.Deciding.{sample_decides}
 use Rattle.pp_share.proofs.DistinctLemmas.{deciding_laws}
 use Rattle.pp_model.proofs.FirstSightLemmas.{IsSeen, all_seen, distinct_apart}
-use Rattle.pp_share.proofs.NumberedLemmas.{all_by, all_mapped}
+use Rattle.pp_share.proofs.NumberedLemmas.{all_mapped}
 use Rattle.pp_merge.proofs.SettledLemmas.{all_flat, all_filtered, all_unmapped, all_any}
 use Rattle.pp_share.proofs.SumLemmas.{length-added, get_or-added, abs-total_of}
 use Rattle.pp_merge.proofs.TotalLemmas.{total, total-flat_map, total-map, total-filter, total_same, parted, adding_ℕ, adding_ℤ}

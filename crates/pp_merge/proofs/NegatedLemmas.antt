@@ -1,16 +1,15 @@
 -- A base with its values negated and its samples labelled breaks no table rule.
-use Rattle.std.proofs.Common.{◌≡◌, ℕ, zero, suc, ◌+◌, ◌-◌, ◌^◌, ◌<◌, ◌≤◌, Bool, true, false, true≢false, cond, ◌&&◌, ◌||◌, List, [], ◌∷◌, ◌++◌, map, length, get_or, refl, sym, ap, ◌∙◌, subst, arith, length-append}
+use Rattle.std.proofs.Common.{◌≡◌, ℕ, zero, suc, ◌+◌, ◌-◌, ◌^◌, ◌<◌, ◌≤◌, Bool, true, true≢false, cond, ◌||◌, List, [], ◌∷◌, ◌++◌, map, length, get_or, refl, sym, ap, ◌∙◌, subst, arith, length-append}
 use Rattle.std.specs.Prelude.{None, Some, nat_abs, nat_lt, ◌==◌, ℤ, pos, negsuc, neg_ℤ}
-use Rattle.std.specs.List.{AllByRecursion, list_all}
+use Rattle.std.specs.List.{list_all}
 use Rattle.std.specs.Int.{saturate_to_bits}
 use Rattle.std.proofs.Math.Nat.{min-eq_left}
 use Rattle.std.proofs.Math.IntN.{+ℤ_idl}
-use Rattle.std.proofs.lemmas.Bool.{and_parts, eqb-true, ltb-true, lt-ltb}
+use Rattle.std.proofs.lemmas.Bool.{and_parts, eqb-true, ltb-true, lt-ltb, and_from}
 use Rattle.std.proofs.lemmas.List.{length-map, get_or_default, get_or_append_left}
 use Rattle.std.proofs.lemmas.List.Elements.{recursion_from_All}
 use Rattle.std.proofs.lemmas.List.Folds.{list_all-append}
 use Rattle.std.proofs.lemmas.List.Sums.{AllPass-from_list_all, get_or-le-sum_by}
-use Rattle.std.proofs.lemmas.Option.{none-some}
 use Rattle.pp_model.specs.declared.profile.Label.{Label}
 use Rattle.pp_model.specs.declared.profile.Mapping.{Mapping}
 use Rattle.pp_model.specs.declared.profile.Function.{Function}
@@ -25,11 +24,13 @@ use Rattle.pp_model.specs.Sizes.{IsCountable, value_in}
 use Rattle.pp_model.specs.Values.{no_sample}
 use Rattle.pp_merge.specs.Scale.{negated, negated_sample, negated_nearest, nearest_negative, labelled_sample, base_label, base_texts}
 use Rattle.std.specs.Cmp.Lexicographic.{pointwise}
+use Rattle.pp_base.proofs.Lists.{all_by, map_agree}
 use Rattle.pp_model.specs.Lookup.{text_of}
+use Rattle.pp_model.proofs.FirstText.{no_fault, begins_then}
 use Rattle.pp_merge.specs.declared.refusal.What.TheVariants.{SampleTypes, PeriodType}
 use Rattle.pp_share.specs.Header.{type_text}
 use Rattle.pp_merge.specs.Merge.{difference, same_type}
-use Rattle.pp_share.proofs.NumberedLemmas.{all_by, all_mapped, all_pass, nowhere}
+use Rattle.pp_share.proofs.NumberedLemmas.{all_mapped, all_pass, nowhere}
 
 -- a test that passes for each item before a map passes after it
 module _ {A B : Type 0} (before : A → Bool) (after : B → Bool) (f : A → B) (step : (x : A) → before x ≡ true → after (f x) ≡ true) where
@@ -53,14 +54,6 @@ module _ {A : Type 0} (before after : A → Bool) (step : (x : A) → before x �
   all_then xs all =
       all_pass after xs (all_by (λ x. before x ≡ true) (λ x. after x ≡ true) step xs (recursion_from_All (λ x. before x ≡ true) xs (AllPass-from_list_all before xs all)))
 
--- two tests that pass
-both : (a b : Bool) → a ≡ true → b ≡ true → (a && b) ≡ true
-both a b first second = ap (λ x. x && b) first ∙ second
-
-no_fault : (b : Bool) → zero_unless b ≡ None → b ≡ true
-no_fault true h = refl
-no_fault false h = absurd (none-some 0 (sym h))
-
 -- A profile with more texts, whose samples keep their locations and their number of values, and whose labels have texts.
 module _ (p : Profile) (texts : List (List ℕ)) (f : Sample → Sample) (valid : NoRuleFails p) (begins : begins_empty texts ≡ true) (longer : length p.text ≤ length texts)
     (places : (s : Sample) → (f s).location_id ≡ s.location_id) (values : (s : Sample) → length (f s).value ≡ length s.value) where
@@ -75,19 +68,19 @@ module _ (p : Profile) (texts : List (List ℕ)) (f : Sample → Sample) (valid 
   label_then l inside =
       let (first, unit) = and_parts _ _ inside in
       let (key, text) = and_parts _ _ first in
-      both _ _ (both _ _ (text_then l.key key) (text_then l.text text)) (text_then l.num_unit unit)
+      and_from _ _ (and_from _ _ (text_then l.key key) (text_then l.text text)) (text_then l.num_unit unit)
 
   type_then : (t : ValueType) → type_has_texts p t ≡ true → type_has_texts changed t ≡ true
-  type_then t inside = let (kind, unit) = and_parts _ _ inside in both _ _ (text_then t.kind kind) (text_then t.unit unit)
+  type_then t inside = let (kind, unit) = and_parts _ _ inside in and_from _ _ (text_then t.kind kind) (text_then t.unit unit)
 
   mapping_then : (m : Mapping) → mapping_has_texts p m ≡ true → mapping_has_texts changed m ≡ true
-  mapping_then m inside = let (file, build_id) = and_parts _ _ inside in both _ _ (text_then m.file file) (text_then m.build_id build_id)
+  mapping_then m inside = let (file, build_id) = and_parts _ _ inside in and_from _ _ (text_then m.file file) (text_then m.build_id build_id)
 
   function_then : (g : Function) → function_has_texts p g ≡ true → function_has_texts changed g ≡ true
   function_then g inside =
       let (names, file) = and_parts _ _ inside in
       let (name, system_name) = and_parts _ _ names in
-      both _ _ (both _ _ (text_then g.name name) (text_then g.system_name system_name)) (text_then g.filename file)
+      and_from _ _ (and_from _ _ (text_then g.name name) (text_then g.system_name system_name)) (text_then g.filename file)
 
   pub still_valid : ((s : Sample) → list_all (label_has_texts p) s.label ≡ true → list_all (label_has_texts changed) (f s).label ≡ true) → NoRuleFails changed
   still_valid labels = record {
@@ -112,12 +105,6 @@ module _ (p : Profile) (texts : List (List ℕ)) (f : Sample → Sample) (valid 
         (λ s as_many. subst (λ n. (n == length p.sample_type) ≡ true) (sym (values s)) as_many) p.sample valid.values;
   }
 
--- texts that begin with the empty one, and more behind them
-begins_then : (texts more : List (List ℕ)) → begins_empty texts ≡ true → begins_empty (texts ++ more) ≡ true
-begins_then [] more h = absurd (true≢false (sym h))
-begins_then ([] ∷ texts) more h = refl
-begins_then ((b ∷ bs) ∷ texts) more h = absurd (true≢false (sym h))
-
 -- The base as it is merged into a source keeps the table rules.
 pub negated_valid : (kind : BaseKind) (p : Profile) → NoRuleFails p → NoRuleFails (negated kind p)
 negated_valid Base p valid =
@@ -131,10 +118,10 @@ negated_valid DiffBase p valid =
     let most : length texts ≡ length p.text + 2 = length-append p.text base_texts in
     let changed : Profile = record p { sample = map f p.sample; text = texts } in
     let own : label_has_texts changed label ≡ true =
-    both _ _ (both _ _ (lt-ltb (length p.text) (length texts) (omega (arith, most))) (lt-ltb (length p.text + 1) (length texts) (omega (arith, most)))) (lt-ltb 0 (length texts) (omega (arith, most))) in
+    and_from _ _ (and_from _ _ (lt-ltb (length p.text) (length texts) (omega (arith, most))) (lt-ltb (length p.text + 1) (length texts) (omega (arith, most)))) (lt-ltb 0 (length texts) (omega (arith, most))) in
     still_valid p texts f valid begins longer (λ s. refl) (λ s. length-map s.value neg_ℤ)
     (λ s all. list_all-append (label_has_texts changed) s.label (label ∷ [])
-    ∙ both _ _ (all_then (label_has_texts p) (label_has_texts changed) (label_then p texts f valid begins longer (λ t. refl) (λ t. length-map t.value neg_ℤ)) s.label all) (both _ _ own refl))
+    ∙ and_from _ _ (all_then (label_has_texts p) (label_has_texts changed) (label_then p texts f valid begins longer (λ t. refl) (λ t. length-map t.value neg_ℤ)) s.label all) (and_from _ _ own refl))
 
 -- as many samples
 pub negated_length : (kind : BaseKind) (p : Profile) → length (negated kind p).sample ≡ length p.sample
@@ -150,21 +137,16 @@ nearest_is value within = ap (saturate_to_bits 63) (+ℤ_idl (neg_ℤ value)) �
     nearest (pos (suc n)) within = ap negsuc (min-eq_left {n = n} {m = 2 ^ 63 - 1} (omega (arith, within)))
     nearest (negsuc n) within = ap pos (min-eq_left {n = suc n} {m = 2 ^ 63 - 1} within)
 
--- functions that agree on each item of a list
-map_then : {A B : Type 0} (f g : A → B) (xs : List A) → AllByRecursion (λ x. f x ≡ g x) xs → map f xs ≡ map g xs
-map_then f g [] all = refl
-map_then f g (x ∷ xs) all = (λ j. all.0 j ∷ map_then f g xs all.1 j)
-
 -- each value of a profile whose sums are small has its negative in the type
 pub nearest_samples : (p : Profile) → NoRuleFails p → IsCountable p → map negated_nearest p.sample ≡ map negated_sample p.sample
 nearest_samples p valid countable =
-    map_then negated_nearest negated_sample p.sample (recursion_from_All (λ s. negated_nearest s ≡ negated_sample s) p.sample (λ k d within. each k d within))
+    map_agree negated_nearest negated_sample p.sample (recursion_from_All (λ s. negated_nearest s ≡ negated_sample s) p.sample (λ k d within. each k d within))
   where
     each : (k : ℕ) (d : Sample) → k < length p.sample → negated_nearest (get_or p.sample k d) ≡ negated_sample (get_or p.sample k d)
     each k d within =
         let s = get_or p.sample k d in
         let as_many : length s.value ≡ length p.sample_type = eqb-true _ _ (passes (λ (t : Sample). length t.value == length p.sample_type) p.sample valid.values k d within) in
-        ap (λ values. record s { value = values }) (map_then nearest_negative neg_ℤ s.value (recursion_from_All (λ v. nearest_negative v ≡ neg_ℤ v) s.value
+        ap (λ values. record s { value = values }) (map_agree nearest_negative neg_ℤ s.value (recursion_from_All (λ v. nearest_negative v ≡ neg_ℤ v) s.value
         (λ j e inside. nearest_is (get_or s.value j e) (small s j e inside k d within refl as_many))))
       where
         small : (s : Sample) (j : ℕ) (e : ℤ) → j < length s.value → (k : ℕ) (d : Sample) → k < length p.sample → s ≡ get_or p.sample k d → length s.value ≡ length p.sample_type
@@ -198,7 +180,7 @@ negated_agrees Base p q valid = refl
 negated_agrees DiffBase p q valid =
     let r = negated DiffBase q in
     let types : map (type_text r) q.sample_type ≡ map (type_text q) q.sample_type =
-    map_then (type_text r) (type_text q) q.sample_type (recursion_from_All (λ t. type_text r t ≡ type_text q t) q.sample_type
+    map_agree (type_text r) (type_text q) q.sample_type (recursion_from_All (λ t. type_text r t ≡ type_text q t) q.sample_type
     (λ k d within. type_same _ (passes (type_has_texts q) q.sample_type valid.type_text k d within))) in
     let (_, rest) = and_parts (is_text q q.drop_frames) _ (no_fault (list_all (is_text q) (header_texts q)) valid.header_text) in
     let (_, rest) = and_parts (is_text q q.keep_frames) _ rest in

@@ -14,12 +14,12 @@ use Rattle.std.proofs.lemmas.Bool.{eqb-true}
 use Rattle.std.proofs.lemmas.List.{length-map}
 use Rattle.std.proofs.lemmas.List.Elements.{recursion_from_All}
 use Rattle.std.proofs.lemmas.Option.{none-some}
+use Rattle.std.proofs.lemmas.Simd.{map-map}
 use Rattle.pp_model.specs.Rules.{NoRuleFails}
 use Rattle.pp_model.proofs.RuleLemmas.{passes}
 use Rattle.pp_merge.specs.declared.refusal.What.TheVariants.{SampleTypes, PeriodType}
 use Rattle.pp_share.specs.Header.{type_text}
 use Rattle.pp_merge.specs.Merge.{same_type, has_types_of, has_period_type_of, difference}
-use Rattle.pp_share.proofs.Agreement.{map_map}
 
 pub mapped : {A B : Type 0} (f g : A → B) → ((x : A) → f x ≡ g x) → (xs : List A) → map f xs ≡ map g xs
 mapped f g same [] = refl
@@ -101,7 +101,7 @@ module _ (source base : Profile) where
                 ∙ value_next k 0 k s.value (omega arith)) i;
           }) source.sample)
       by false is = ap (λ samples. record source { sample = samples })
-          (map_map (front_sample k) (scaled_sample k (absolute_sum base k) (absolute_sum source k)) source.sample
+          (map-map (scaled_sample k (absolute_sum base k) (absolute_sum source k)) (front_sample k) source.sample
           ∙ mapped (λ s. scaled_sample k (absolute_sum base k) (absolute_sum source k) (front_sample k s)) (front_sample (k + 1)) (λ s i. record s {
             value = (ap (set (front_values k 0 s.value) k) (sym (ap (λ b. if b then get_or (front_values k 0 s.value) k (pos 0) else scaled_value (absolute_sum base k) (absolute_sum source k) (get_or (front_values k 0 s.value) k (pos 0))) is))
                 ∙ value_next k 0 k s.value (omega arith)) i;

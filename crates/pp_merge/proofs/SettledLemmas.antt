@@ -12,6 +12,7 @@ use Rattle.std.proofs.lemmas.Map.Keys.{IsDistinct-cons, IsDistinct-head, IsDisti
 use Rattle.std.proofs.lemmas.Map.Made.{IsDistinct-keys_filter}
 use Rattle.std.proofs.lemmas.Option.{none-some, same_Some}
 use Rattle.std.proofs.lemmas.Slice.Eq.{bytes_eq-Decides}
+use Rattle.pp_base.proofs.Lists.{all_by}
 use Rattle.pp_model.specs.declared.profile.Mapping.{Mapping}
 use Rattle.pp_model.specs.declared.profile.Location.{Location}
 use Rattle.pp_model.specs.declared.profile.Profile.{Profile}
@@ -28,7 +29,7 @@ use Rattle.pp_model.proofs.FirstSightLemmas.{all-seen_after, distinct_apart}
 use Rattle.pp_share.proofs.Deciding.{mapping_decides, sample_decides}
 use Rattle.pp_share.proofs.DistinctLemmas.{deciding_laws}
 use Rattle.pp_share.proofs.MergedMapping.{mapping_laws, IsFound, find_congr, alike_tells}
-use Rattle.pp_share.proofs.NumberedLemmas.{all_parts, all_by, all_both, all_mapped}
+use Rattle.pp_share.proofs.NumberedLemmas.{all_parts, all_both, all_mapped}
 use Rattle.pp_share.proofs.SumLemmas.{length-total_of}
 use Rattle.pp_merge.proofs.WrittenAgain.{map_back}
 use Rattle.pp_merge.proofs.WrittenCompact.{mapping_walk}

@@ -8,6 +8,7 @@ use Rattle.std.specs.Str.{bytes_eq}
 use Rattle.std.proofs.lemmas.List.{length-map, get_or-map}
 use Rattle.std.proofs.lemmas.Map.Keys.{IsDistinct-head, IsDistinct-tail}
 use Rattle.std.proofs.lemmas.Slice.Eq.{bytes_eq-Decides}
+use Rattle.pp_base.proofs.Lists.{all_by}
 use Rattle.pp_model.specs.declared.profile.Mapping.{Mapping}
 use Rattle.pp_model.specs.declared.profile.Location.{Location}
 use Rattle.pp_model.specs.declared.profile.Function.{Function}
@@ -28,7 +29,7 @@ use Rattle.pp_share.proofs.EntryLemmas.{less_plus, none_text, none_mapping, none
 use Rattle.pp_share.proofs.DistinctLemmas.{deciding_laws, place_below, distinct_same}
 use Rattle.pp_share.proofs.MergedMapping.{mapping_laws}
 use Rattle.pp_share.proofs.SummedLemmas.{summed_same}
-use Rattle.pp_share.proofs.NumberedLemmas.{all_by, all_both}
+use Rattle.pp_share.proofs.NumberedLemmas.{all_both}
 use Rattle.pp_merge.proofs.RoundTrip.{IsText, text_again, function_again}
 use Rattle.pp_merge.proofs.WrittenCompact.{compact_written}
 use Rattle.pp_merge.proofs.WrittenValid.{texts_of_types, texts_of_samples, texts_of_mappings, texts_of_functions, texts_of_comments, texts_of_patterns, texts_of_period, last_texts, seen_mappings, seen_functions, seen_locations}

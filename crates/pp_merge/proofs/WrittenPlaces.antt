@@ -3,6 +3,7 @@ use Rattle.std.proofs.Common.{◌≡◌, ℕ, ◌<◌, ◌^◌, [], ◌∷◌, m
 use Rattle.std.specs.Prelude.{Option, None, Some, ◌==◌}
 use Rattle.std.specs.List.{AllByRecursion}
 use Rattle.std.specs.Option.{option_map}
+use Rattle.pp_base.proofs.Lists.{all_by}
 use Rattle.pp_model.specs.declared.profile.Mapping.{Mapping}
 use Rattle.pp_model.specs.declared.profile.Location.{Location}
 use Rattle.pp_model.specs.declared.profile.Profile.{Profile}
@@ -15,7 +16,7 @@ use Rattle.pp_share.specs.Written.{Contents, written, locations, mappings, locat
 use Rattle.pp_share.proofs.Deciding.{mapping_decides, location_decides}
 use Rattle.pp_share.proofs.DistinctLemmas.{deciding_laws}
 use Rattle.pp_model.proofs.FirstSightLemmas.{IsSeen, all_seen}
-use Rattle.pp_share.proofs.NumberedLemmas.{all_by, all_both, all_mapped}
+use Rattle.pp_share.proofs.NumberedLemmas.{all_both, all_mapped}
 use Rattle.pp_merge.proofs.RoundTrip.{IsText}
 use Rattle.pp_merge.proofs.SettledLemmas.{all_any, all_distinct, found_holds, settled_contents}
 use Rattle.pp_share.proofs.EntryLemmas.{less_plus}

@@ -1,12 +1,13 @@
 -- In a written profile no table rule fails: its references are places of its tables.
-use Rattle.std.proofs.Common.{◌≡◌, ℕ, Bool, true, false, ◌&&◌, ◌||◌, if◌then◌else◌, List, [], ◌∷◌, ◌++◌, map, length, refl, sym, ap, ◌∙◌, inl, inr, arith, append_assoc, subst}
+use Rattle.std.proofs.Common.{◌≡◌, ℕ, Bool, true, false, ◌||◌, if◌then◌else◌, List, [], ◌∷◌, ◌++◌, map, length, refl, sym, ap, ◌∙◌, inl, inr, arith, append_assoc, subst}
 use Rattle.std.specs.Prelude.{Option, None, Some, ◌==◌, nat_lt}
 use Rattle.std.specs.List.{AllByRecursion, flat_map, filter_map, list_all, list_any}
 use Rattle.std.specs.Option.{option_to_list, option_map_or}
 use Rattle.std.specs.Str.{bytes_eq}
-use Rattle.std.proofs.lemmas.Bool.{lt-ltb, eq-eqb, cases_eq}
+use Rattle.std.proofs.lemmas.Bool.{lt-ltb, eq-eqb, cases_eq, and_from, or_right}
 use Rattle.std.proofs.lemmas.List.{length-map}
 use Rattle.std.proofs.lemmas.Slice.Eq.{bytes_eq-Decides}
+use Rattle.pp_base.proofs.Lists.{all_by}
 use Rattle.pp_model.specs.declared.profile.Mapping.{Mapping}
 use Rattle.pp_model.specs.declared.profile.Location.{Location}
 use Rattle.pp_model.specs.declared.profile.Function.{Function}
@@ -20,18 +21,9 @@ use Rattle.pp_share.specs.Written.{Contents, FitsTypes, written, texts, location
 use Rattle.pp_model.proofs.FirstSightLemmas.{IsSeen, all_seen}
 use Rattle.pp_share.proofs.Deciding.{function_decides, mapping_decides, location_decides}
 use Rattle.pp_share.proofs.DistinctLemmas.{deciding_laws, place_below}
-use Rattle.pp_share.proofs.NumberedLemmas.{all_front, all_behind, all_parts, all_there, all_by, all_both, all_mapped, all_pass, nowhere, nonzero, unrepeated, stands_at}
+use Rattle.pp_share.proofs.NumberedLemmas.{all_front, all_behind, all_parts, all_there, all_both, all_mapped, all_pass, nowhere, nonzero, unrepeated, stands_at}
 use Rattle.pp_merge.proofs.RoundTrip.{IsText, walked}
 use Rattle.pp_merge.proofs.WrittenCompact.{location_walk, mapping_walk, function_walk, compact_written}
-
--- two tests that pass
-both : (a b : Bool) → a ≡ true → b ≡ true → (a && b) ≡ true
-both a b first second = ap (λ x. x && b) first ∙ second
-
--- the second test passes
-second_of : (a b : Bool) → b ≡ true → (a || b) ≡ true
-second_of true b second = refl
-second_of false b second = second
 
 -- texts that begin with the empty one go on to do so
 begins : (seen more : List (List ℕ)) → begins_empty (seen_after bytes_eq ([] ∷ seen) more) ≡ true
@@ -145,16 +137,16 @@ module _ (c : Contents) where
   index_inside text is = lt-ltb _ _ (place_below bytes_eq bytes_eq-Decides (texts c) text is)
 
   type_inside : (t : TypeText) → AllByRecursion (IsText c) (type_texts t) → type_has_texts (written c) (written_type c t) ≡ true
-  type_inside t all = both _ _ (index_inside t.kind all.0) (index_inside t.unit all.1.0)
+  type_inside t all = and_from _ _ (index_inside t.kind all.0) (index_inside t.unit all.1.0)
 
   label_inside : (l : LabelText) → AllByRecursion (IsText c) (label_texts l) → label_has_texts (written c) (written_label c l) ≡ true
-  label_inside l all = both _ _ (both _ _ (index_inside l.key all.0) (index_inside l.text all.1.0)) (index_inside l.unit all.1.1.0)
+  label_inside l all = and_from _ _ (and_from _ _ (index_inside l.key all.0) (index_inside l.text all.1.0)) (index_inside l.unit all.1.1.0)
 
   mapping_inside : (m : MappingText) → AllByRecursion (IsText c) (m.file ∷ m.build_id ∷ []) → mapping_has_texts (written c) (written_mapping c m) ≡ true
-  mapping_inside m all = both _ _ (index_inside m.file all.0) (index_inside m.build_id all.1.0)
+  mapping_inside m all = and_from _ _ (index_inside m.file all.0) (index_inside m.build_id all.1.0)
 
   function_inside : (f : FunctionText) → AllByRecursion (IsText c) (f.name ∷ f.system_name ∷ f.file ∷ []) → function_has_texts (written c) (written_function c f) ≡ true
-  function_inside f all = both _ _ (both _ _ (index_inside f.name all.0) (index_inside f.system_name all.1.0)) (index_inside f.file all.1.1.0)
+  function_inside f all = and_from _ _ (and_from _ _ (index_inside f.name all.0) (index_inside f.system_name all.1.0)) (index_inside f.file all.1.1.0)
 
   labels_inside : (s : SampleText × List _) → AllByRecursion (λ l. AllByRecursion (IsText c) (label_texts l)) s.0.labels
       → list_all (label_has_texts (written c)) (written_sample c s).label ≡ true
@@ -186,14 +178,14 @@ module _ (c : Contents) where
       → is_zero_or_in (mapping_ids (written c)) (option_map_or (mapping_id c) m 0) ≡ true
   mapping_there None seen = refl
   mapping_there (Some m) seen =
-      second_of _ _ (stands_at (mapping_ids (written c)) (place_of equal_mapping (mappings c) m) (compact_written c).mappings
+      or_right _ _ (stands_at (mapping_ids (written c)) (place_of equal_mapping (mappings c) m) (compact_written c).mappings
       (omega (arith, place_below equal_mapping mapping_decides (mappings c) m (seen m refl), length-map (map (written_mapping c) (mappings c)) (λ (x : Mapping). x.id), length-map (mappings c) (written_mapping c))))
 
   function_there : (f : Option FunctionText) → ((x : FunctionText) → f ≡ Some x → IsSeen same_function (functions c) x)
       → is_zero_or_in (function_ids (written c)) (option_map_or (function_id c) f 0) ≡ true
   function_there None seen = refl
   function_there (Some f) seen =
-      second_of _ _ (stands_at (function_ids (written c)) (place_of same_function (functions c) f) (compact_written c).functions
+      or_right _ _ (stands_at (function_ids (written c)) (place_of same_function (functions c) f) (compact_written c).functions
       (omega (arith, place_below same_function function_decides (functions c) f (seen f refl), length-map (map (written_function c) (functions c)) (λ (x : Function). x.id), length-map (functions c) (written_function c))))
 
   location_there : (l : LocationText) → IsSeen same_location (locations c) l → stands_in (location_ids (written c)) (location_id c l) ≡ true
@@ -205,7 +197,7 @@ module _ (c : Contents) where
       × AllByRecursion (λ line. (f : FunctionText) → line.function ≡ Some f → IsSeen same_function (functions c) f) l.lines
       → location_refers (written c) (written_location c l) ≡ true
   refers l seen =
-      both _ _ (mapping_there l.mapping seen.0)
+      and_from _ _ (mapping_there l.mapping seen.0)
       (all_pass (λ line. is_zero_or_in (function_ids (written c)) line.function_id) _
       (all_mapped (λ line. is_zero_or_in (function_ids (written c)) line.function_id ≡ true) (written_line c) l.lines
       (all_by _ _ (λ line there. function_there line.function there) l.lines seen.1)))
@@ -213,7 +205,7 @@ module _ (c : Contents) where
   has_types : FitsTypes c → (length (written c).sample == 0 || nat_lt 0 (length (written c).sample_type)) ≡ true
   has_types fits = elim (cases_eq (length c.header.types) 0) [
     | inl none ↦ ap (λ b. b || nat_lt 0 (length (written c).sample_type)) (eq-eqb _ _ (length-map c.samples (written_sample c) ∙ fits.typed none))
-    | inr some ↦ second_of _ _ (lt-ltb 0 (length (written c).sample_type) (omega (arith, some, length-map c.header.types (written_type c))))
+    | inr some ↦ or_right _ _ (lt-ltb 0 (length (written c).sample_type) (omega (arith, some, length-map c.header.types (written_type c))))
   ]
 
   pub valid_written : FitsTypes c → NoRuleFails (written c)

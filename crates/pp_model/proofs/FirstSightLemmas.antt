@@ -4,11 +4,8 @@ use Rattle.std.proofs.lemmas.List.{map-append}
 use Rattle.std.proofs.lemmas.List.Sums.{fold-append}
 use Rattle.std.specs.List.{list_any, AllByRecursion, IsDistinct}
 use Rattle.std.specs.Cmp.{IsEquivalence}
+use Rattle.pp_base.proofs.Lists.{all_push, all_by, map_agree}
 use Rattle.pp_model.specs.FirstSight.{seen_with, seen_after, distinct, place_of, numbers, ids}
-
-pub all_push : {A : Type 0} (P : A → Type 0) (xs : List A) (x : A) → AllByRecursion P xs → P x → AllByRecursion P (xs ++ x ∷ [])
-all_push P [] x all p = (p, tt)
-all_push P (y ∷ ys) x all p = (all.0, all_push P ys x all.1 p)
 
 -- Where a description tells apart exactly what the other equality tells apart, on the items that are spoken of.
 module _ {A B : Type 0} (one : A → A → Bool) (other : B → B → Bool) (describe : A → B) (P : A → Type 0)
@@ -49,14 +46,6 @@ module _ {A B : Type 0} (one : A → A → Bool) (other : B → B → Bool) (des
   -- the distinct descriptions are the descriptions of the distinct items
   pub distinct-map : (xs : List A) → AllByRecursion P xs → distinct other (map describe xs) ≡ map describe (distinct one xs)
   distinct-map xs all = seen_after-map [] xs tt all
-
-pub all_as : {A : Type 0} (P Q : A → Type 0) → ((x : A) → P x → Q x) → (xs : List A) → AllByRecursion P xs → AllByRecursion Q xs
-all_as P Q f [] all = tt
-all_as P Q f (x ∷ xs) all = (f x all.0, all_as P Q f xs all.1)
-
-pub map_agree : {A B : Type 0} (f g : A → B) (xs : List A) → AllByRecursion (λ x. f x ≡ g x) xs → map f xs ≡ map g xs
-map_agree f g [] all = refl
-map_agree f g (x ∷ xs) all = (λ j. all.0 j ∷ map_agree f g xs all.1 j)
 
 any-append : {A : Type 0} (p : A → Bool) (xs ys : List A) → list_any p xs ≡ true → list_any p (xs ++ ys) ≡ true
 any-append p [] ys h = absurd (true≢false (sym h))
@@ -149,7 +138,7 @@ module _ {A : Type 0} (same : A → A → Bool) where
         ap (λ d. map (place_of same d) (xs ++ x ∷ [])) (distinct_push xs x)
         ∙ map-append (place_of same (seen_with same (distinct same xs) x)) xs (x ∷ [])
         ∙ (λ j. map_agree (place_of same (seen_with same (distinct same xs) x)) (place_of same (distinct same xs)) xs
-        (all_as (IsSeen (distinct same xs)) _ (λ y. place-seen_with (distinct same xs) x y) xs (all_seen [] xs)) j
+        (all_by (IsSeen (distinct same xs)) _ (λ y. place-seen_with (distinct same xs) x y) xs (all_seen [] xs)) j
         ++ place_when_seen (distinct same xs) x j ∷ [])
 
 -- Distinct items are distinct.

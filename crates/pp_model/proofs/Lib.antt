@@ -1,6 +1,7 @@
 pub mod CompactLemmas
 pub mod ConfigLemmas
 pub mod FirstSightLemmas
+pub mod FirstText
 pub mod FrameLemmas
 pub mod LoadedLemmas
 pub mod LookupLemmas

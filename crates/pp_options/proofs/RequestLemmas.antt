@@ -7,6 +7,7 @@ use Rattle.std.specs.List.{filter_map, cons_option, last_or}
 use Rattle.std.proofs.lemmas.List.{append-nil}
 use Rattle.std.proofs.lemmas.List.Elements.{filter_map-append}
 use Rattle.std.proofs.lemmas.List.Sums.{fold-append}
+use Rattle.pp_base.proofs.Lists.{last_push}
 use Rattle.pp_model.specs.Defaults.{defaults}
 use Rattle.pp_options.specs.declared.item.Item.{Item}
 use Rattle.pp_options.specs.declared.item.Item.TheVariants.{Source, Base, Gen, Normalize, Format, Set}
@@ -32,12 +33,6 @@ first_push : {A : Type 0} (xs : List A) (o : Option A) → slice_get (xs ++ cons
 first_push [] None = refl
 first_push [] (Some x) = refl
 first_push (y ∷ ys) o = refl
-
--- the last of a list, with an item more or none
-last_push : {A : Type 0} (known : Option A) (xs : List A) (o : Option A) → last_or known (xs ++ cons_option o []) ≡ option_or o (last_or known xs)
-last_push known [] None = refl
-last_push known [] (Some x) = refl
-last_push known (y ∷ ys) o = last_push (Some y) ys o
 
 -- a value that is given, or else one that was known, or else another
 unwrap_push : {A : Type 0} (o known : Option A) (other : A) → unwrap_or (option_or o known) other ≡ unwrap_or o (unwrap_or known other)

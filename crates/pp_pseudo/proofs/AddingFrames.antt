@@ -9,6 +9,7 @@ use Rattle.std.proofs.lemmas.List.Elements.{recursion_from_All, All-from_recursi
 use Rattle.std.proofs.lemmas.List.Sums.{AllPass-from_list_all}
 use Rattle.std.proofs.lemmas.Option.{slice_get_within, slice_get-get_or, get_or_from_slice_get}
 use Rattle.pp_base.specs.Front.{IsFront}
+use Rattle.pp_base.proofs.Lists.{all_push, all_append, all_by}
 use Rattle.pp_model.specs.declared.frame.Frame.{Frame}
 use Rattle.pp_model.specs.declared.loaded.Loaded.{Loaded}
 use Rattle.pp_model.specs.declared.profile.Label.{Label}
@@ -20,12 +21,12 @@ use Rattle.pp_model.specs.Rules.{NoRuleFails, IsCompact, location_refers, label_
 use Rattle.pp_model.proofs.RuleLemmas.{passes}
 use Rattle.pp_stack.specs.Runs.{kept_if}
 use Rattle.pp_share.specs.Described.{LocationText}
-use Rattle.pp_share.proofs.NumberedLemmas.{all_by, all_pass}
+use Rattle.pp_share.proofs.NumberedLemmas.{all_pass}
 use Rattle.pp_restack.specs.Stacks.{by_place, grouped_with, cut_location, cut_text}
 use Rattle.pp_restack.specs.Places.{KeepsPlaces, TakesPlace, IsEntry, IsWithin, AppendsEntries, IsCutSample, entry_in, without_id, spread_in, line_location, located, told}
-use Rattle.pp_restack.proofs.PlacesLemmas.{all_with, group_refers}
+use Rattle.pp_restack.proofs.PlacesLemmas.{group_refers}
 use Rattle.pp_restack.proofs.CutValid.{some_type}
-use Rattle.pp_restack.proofs.Placing.{entries_still, all_within_still, samples_still, spreads_still, front_front, all_append}
+use Rattle.pp_restack.proofs.Placing.{entries_still, all_within_still, samples_still, spreads_still, front_front}
 use Rattle.pp_pseudo.specs.Grown.{grown, name_id}
 use Rattle.pp_pseudo.specs.Names.{IsNumberedName}
 use Rattle.pp_pseudo.specs.Values.{frame_name, frame_names}
@@ -196,7 +197,7 @@ module _ (l : Loaded) (roots leaves : List (List ℕ)) (valid : NoRuleFails l.pr
         places = λ final front. adds.extends.places final front (so_far.places final (back final front));
         each = λ final front.
             subst (AllByRecursion (IsCutSample (grown p final) after.locations)) (sym news)
-            (all_with (IsCutSample (grown p final) after.locations) samples made
+            (all_push (IsCutSample (grown p final) after.locations) samples made
             (samples_still before.locations after.locations adds.extends.locations (grown p final) samples (so_far.each final (back final front))) (own final front));
         told = λ final front.
             ap (λ xs. map (told (grown p final)) (map (spread_in after.locations) xs)) news

@@ -26,16 +26,15 @@ use Rattle.pp_share.specs.Alike.{first_alike}
 use Rattle.pp_model.specs.FirstSight.{distinct}
 use Rattle.pp_share.specs.Header.{type_text, header_of, first_nonempty}
 use Rattle.std.specs.Str.{bytes_eq}
+use Rattle.pp_base.proofs.Lists.{all_append, all_by, map_agree}
 use Rattle.pp_merge.specs.Merge.{all_mappings}
-use Rattle.pp_model.proofs.FirstSightLemmas.{map_agree}
-use Rattle.pp_share.proofs.NumberedLemmas.{all_by, all_pass, nowhere, nonzero, unrepeated, stands_at}
+use Rattle.pp_share.proofs.NumberedLemmas.{all_pass, nowhere, nonzero, unrepeated, stands_at}
 use Rattle.pp_merge.proofs.NegatedLemmas.{still_valid}
 use Rattle.pp_share.proofs.Prefix.{map_same}
 use Rattle.pp_restack.specs.Stacks.{made_contents, patternless}
 use Rattle.pp_restack.specs.Places.{HasTables, line_location, located}
 use Rattle.pp_model.proofs.LookupLemmas.{no_function, no_mapping}
-use Rattle.pp_restack.proofs.CutValid.{held, first_text, text_zero}
-use Rattle.pp_restack.proofs.Placing.{all_append}
+use Rattle.pp_model.proofs.FirstText.{no_fault, has_text, text_zero}
 use Rattle.pp_pseudo.specs.Grown.{name_id, name_function, name_functions, name_line, grown}
 use Rattle.pp_pseudo.specs.WithTags.{tag_function, tag_location}
 
@@ -196,7 +195,7 @@ module _ (p : Profile) (valid : NoRuleFails p) (compact : IsCompact p) (names : 
           ∙ sym (ap (option_map (function_text p)) (slice_get-get_or p.function (id - 1) no_function below))
 
   zero_text : text_of q (pos 0) ≡ []
-  zero_text = text_same (pos 0) (first_text p.text (held (begins_empty p.text) valid.text_zero)) ∙ text_zero p valid
+  zero_text = text_same (pos 0) (has_text p.text (no_fault (begins_empty p.text) valid.text_zero)) ∙ text_zero p valid
 
   -- The function of a name.
   pub name_found : (k : ℕ) (name : List ℕ) → slice_get names k ≡ Some name → function_found q (name_id p k) ≡ Some (tag_function name)
@@ -257,7 +256,7 @@ module _ (p : Profile) (valid : NoRuleFails p) (compact : IsCompact p) (names : 
   headers : AllByRecursion (λ i. is_text p i ≡ true) (header_texts p)
   headers =
       recursion_from_All (λ i. is_text p i ≡ true) (header_texts p)
-      (AllPass-from_list_all (is_text p) (header_texts p) (held (list_all (is_text p) (header_texts p)) valid.header_text))
+      (AllPass-from_list_all (is_text p) (header_texts p) (no_fault (list_all (is_text p) (header_texts p)) valid.header_text))
 
   type_same : (t : ValueType) → type_has_texts p t ≡ true → type_text q t ≡ type_text p t
   type_same t inside =
@@ -300,7 +299,7 @@ module _ (p : Profile) (valid : NoRuleFails p) (compact : IsCompact p) (names : 
   -- No table rule fails.
   pub grown_valid : NoRuleFails q
   grown_valid =
-      let begins = held (begins_empty p.text) valid.text_zero in
+      let begins = no_fault (begins_empty p.text) valid.text_zero in
       let longer : length p.text ≤ length (p.text ++ names) = omega (arith, length-append p.text names) in
       let before : NoRuleFails (record p { text = p.text ++ names }) =
       subst (λ (samples : List Sample). NoRuleFails (record p { sample = samples; text = p.text ++ names })) (map_same p.sample)

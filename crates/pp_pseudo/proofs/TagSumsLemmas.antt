@@ -9,6 +9,8 @@ use Rattle.std.proofs.lemmas.List.{reverse-append}
 use Rattle.std.proofs.lemmas.List.Elements.{recursion_from_All}
 use Rattle.std.proofs.lemmas.List.Folds.{list_any-append, list_any_at}
 use Rattle.std.proofs.lemmas.Slice.Eq.{bytes_eq-Decides}
+use Rattle.std.proofs.Math.Bool.{or-false, or_comm}
+use Rattle.pp_base.proofs.Lists.{all_by}
 use Rattle.pp_model.specs.declared.frame.Frame.{Frame}
 use Rattle.pp_model.specs.declared.loaded.Loaded.{Loaded}
 use Rattle.pp_model.specs.declared.profile.Label.{Label}
@@ -29,12 +31,12 @@ use Rattle.pp_merge.specs.Totals.{value_sum, sum_passing}
 use Rattle.pp_share.specs.Written.{Contents, written, locations, location_id, written_location, written_sample}
 use Rattle.pp_share.proofs.Deciding.{sample_decides}
 use Rattle.pp_model.proofs.FirstSightLemmas.{IsSeen}
+use Rattle.pp_model.proofs.FirstText.{text_zero}
 use Rattle.pp_merge.proofs.KeptSums.{sum_stays}
-use Rattle.pp_share.proofs.NumberedLemmas.{all_front, all_behind, all_by, all_mapped}
+use Rattle.pp_share.proofs.NumberedLemmas.{all_front, all_behind, all_mapped}
 use Rattle.pp_merge.proofs.WrittenPlaces.{location_there, lines_there}
 use Rattle.pp_merge.proofs.WrittenValid.{seen_locations, valid_written}
 use Rattle.pp_restack.specs.Stacks.{by_place, cut_location, cut_text}
-use Rattle.pp_restack.proofs.CutValid.{text_zero}
 use Rattle.pp_pseudo.specs.TagSums.{has_function, has_value, IsNoFunction, HaveNoEquals, KeepsTagSums}
 use Rattle.pp_pseudo.specs.Values.{value_text_of, tag_name, frame_name, frame_names}
 use Rattle.pp_pseudo.specs.WithTags.{tag_location, tag_locations, pruned_stack, tagged_sample, tagged_contents, with_tags}
@@ -139,16 +141,6 @@ parted (x ∷ a) (y ∷ b) v w one two same =
     let (front, behind) = parted a b v w one.1 two.1 (ap (drop 1) same) in
     ((λ i. ap (λ xs. get_or xs 0 0) same i ∷ front i), behind)
 
-or_none : (b : Bool) → (b || false) ≡ b
-or_none true = refl
-or_none false = refl
-
-or_swap : (a b : Bool) → (a || b) ≡ (b || a)
-or_swap true true = refl
-or_swap true false = refl
-or_swap false true = refl
-or_swap false false = refl
-
 either : (a b h : Bool) → ((a && h) || (b && h)) ≡ ((a || b) && h)
 either true true true = refl
 either true true false = refl
@@ -208,12 +200,12 @@ module _ (p : Profile) (labels : List Label) (key value : List ℕ) (own : AllBy
   reversed [] = refl
   reversed (n ∷ names) =
       ap (list_any is_name) (reverse-append (n ∷ []) names) ∙ list_any-append is_name (reverse names) (n ∷ [])
-      ∙ ap (λ b. list_any is_name (reverse names) || b) (or_none (is_name n)) ∙ or_swap (list_any is_name (reverse names)) (is_name n)
+      ∙ ap (λ b. list_any is_name (reverse names) || b) (or-false (is_name n)) ∙ or_comm (list_any is_name (reverse names)) (is_name n)
       ∙ ap (λ b. is_name n || b) (reversed names)
 
   names_located : (names : List (List ℕ)) → list_any (location_says (tag_name key value)) (map tag_location names) ≡ list_any is_name names
   names_located [] = refl
-  names_located (n ∷ names) = λ i. or_none (is_name n) i || names_located names i
+  names_located (n ∷ names) = λ i. or-false (is_name n) i || names_located names i
 
   pub tags_say : (keys : List (List ℕ)) → AllByRecursion (λ k. AllByRecursion (λ b. b ≢ 61) k) keys
       → list_any (location_says (tag_name key value)) (tag_locations p keys labels) ≡ (list_any (bytes_eq key) keys && has)
@@ -255,7 +247,7 @@ module _ (l : Loaded) (roots leaves : List (List ℕ)) (key value : List ℕ) (l
   listed_there : (list_any (bytes_eq key) leaves || list_any (bytes_eq key) roots) ≡ true
   listed_there =
       let (k, within, at) = listed in
-      or_swap (list_any (bytes_eq key) leaves) (list_any (bytes_eq key) roots) ∙ sym (list_any-append (bytes_eq key) roots leaves)
+      or_comm (list_any (bytes_eq key) leaves) (list_any (bytes_eq key) roots) ∙ sym (list_any-append (bytes_eq key) roots leaves)
       ∙ list_any_at (bytes_eq key) (roots ++ leaves) k key within ((bytes_eq-Decides key (get_or (roots ++ leaves) k key)).1 (sym at))
 
   -- A sample has the frame where it has the value.

@@ -7,6 +7,7 @@ use Rattle.std.proofs.lemmas.List.{append-nil, length-map}
 use Rattle.std.proofs.lemmas.List.Elements.{recursion_from_All}
 use Rattle.std.proofs.lemmas.List.Sums.{sum_by-cons}
 use Rattle.pp_base.specs.Front.{IsFront}
+use Rattle.pp_base.proofs.Lists.{all_by}
 use Rattle.pp_model.specs.declared.loaded.Loaded.{Loaded}
 use Rattle.pp_model.specs.declared.profile.Location.{Location}
 use Rattle.pp_model.specs.declared.profile.Sample.{Sample}
@@ -16,7 +17,6 @@ use Rattle.pp_model.specs.Sizes.{IsCountable, absolute_sum, value_in}
 use Rattle.pp_model.proofs.RuleLemmas.{passes}
 use Rattle.pp_merge.proofs.MergedLengths.{no_longer}
 use Rattle.pp_merge.proofs.MergedTotals.{absolutes_within}
-use Rattle.pp_share.proofs.NumberedLemmas.{all_by}
 use Rattle.pp_share.specs.Described.{SampleText}
 use Rattle.pp_merge.specs.Merge.{contents, merged}
 use Rattle.pp_share.specs.Written.{written}

@@ -14,42 +14,27 @@ use Rattle.pp_model.specs.declared.profile.Profile.{Profile}
 use Rattle.pp_model.specs.declared.profile.Sample.{Sample}
 use Rattle.pp_model.specs.declared.report.Report.{Report}
 use Rattle.pp_model.specs.declared.report.Report.TheVariants as reports
-use Rattle.pp_model.specs.declared.verdicts.Verdicts.{Verdicts}
 use Rattle.pp_model.specs.Conditions.{IsColumnOf}
 use Rattle.pp_model.specs.Finders.{Finders}
 use Rattle.pp_model.specs.Sizes.{IsCountable}
 use Rattle.pp_units.specs.Head.{Facts}
 use Rattle.pp_tables.specs.Encode.{encode}
 use Rattle.pp_pattern.specs.Report.{Finds}
-use Rattle.pp_count.specs.declared.counted.Counted.{Counted}
 use Rattle.pp_count.specs.Column.{selected}
-use Rattle.pp_count.specs.Counted.{IsCountedOf}
 use Rattle.pp_count.specs.Counts.{is_base, total_by, total_over, total_of, filtered_samples}
 use Rattle.pp_count.specs.Seeing.{absolute_all, filtered_stack}
 use Rattle.pp_count.proofs.Kept.{values_fit}
 use Rattle.pp_count.proofs.Totals.{filter_size}
-use Rattle.pp_graph.specs.declared.trimming.Trimmed.{Trimmed}
-use Rattle.pp_graph.specs.Trimmed.{IsTrimmedOf}
 use Rattle.pp_source.specs.declared.refusal.ListRefusal.{ListRefusal}
 use Rattle.pp_source.specs.Listing.{with_report, added_report}
 use Rattle.pp_samples.specs.Comments.{comments_text}
 use Rattle.pp_dump.specs.Saved.{saved}
-use Rattle.pp_tree.specs.Ends.{CanWalk}
 use Rattle.pp_report.specs.declared.prepared.Counts.{Counts}
 use Rattle.pp_report.specs.declared.refusal.ReportRefusal.{ReportRefusal}
 use Rattle.pp_report.specs.declared.refusal.ReportRefusal.TheVariants.{NoMatch}
 use Rattle.pp_report.specs.Patterns.{report_finders}
 use Rattle.pp_report.specs.Prepared.{Showing, AreCounts, HasCounts}
 use Rattle.pp_report.specs.Reports.{of_found, finish_on, finish_by, text_by}
-
--- the graph of a trimmed report can be walked
-pub can_walk : (l : Loaded) (v : Verdicts) (config : Config) (column : Option ℕ) (limit : ℕ) (c : Counted) (t : Trimmed)
-    → IsCountedOf l v config column c → IsTrimmedOf l v config column limit c t → CanWalk l.profile c.sums t.graph
-can_walk l v config column limit c t counted trimmed = record {
-  keys = counted.of_profile;
-  linked = trimmed.linked;
-  nodes = trimmed.nodes;
-}
 
 -- one of two totals
 either_small : (base all : ℕ) → base < 2 ^ 63 → all < 2 ^ 63 → total_by base all < 2 ^ 63

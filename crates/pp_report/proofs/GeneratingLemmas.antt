@@ -1,6 +1,6 @@
 -- How a report went, by the stages that prepare and finish it.
 use Rattle.std.proofs.Common.{◌≡◌, ℕ, List, [], ◌++◌, length, drop, refl, sym, ap, ◌∙◌}
-use Rattle.std.specs.Prelude.{Result, Ok, Err, OnErr}
+use Rattle.std.specs.Prelude.{Result, Ok, Err}
 use Rattle.std.proofs.Math.Seq.{drop-append_seam, drop-length}
 use Rattle.pp_base.specs.Front.{IsFront}
 use Rattle.pp_desk.specs.declared.stop.Stop.{Stop}
@@ -28,11 +28,6 @@ added_some old new more is = ap (drop (length old)) is ∙ drop-append_seam old 
 -- nothing is a front of everything
 pub none_front : (text whole : List ℕ) → IsFront (appended_text text text) whole
 none_front text whole = (whole, ap (λ front. front ++ whole) (sym (added_none text)))
-
--- what holds anyhow
-pub on_err : {T E P : Type 0} (r : Result T E) → P → OnErr r P
-on_err (Ok x) holds = tt
-on_err (Err e) holds = holds
 
 module _ (finds : Finds) (l : Loaded) (report : Report) (config : Config) (a b : World) where
   -- it was stopped before the text

@@ -14,11 +14,12 @@ use Rattle.pp_model.specs.declared.report.Report.{Report}
 use Rattle.pp_model.specs.Conditions.{IsColumnOf}
 use Rattle.pp_model.specs.Lookup.{text_of}
 use Rattle.pp_model.specs.ReportFacts.{shows_values, is_counted}
-use Rattle.pp_share.specs.Header.{HeaderText, TypeText, type_text, first_nonempty, header_of}
+use Rattle.pp_share.specs.Header.{HeaderText, TypeText, type_text, header_of}
 use Rattle.pp_share.specs.Written.{Contents, type_texts, written, written_type}
 use Rattle.pp_merge.proofs.RoundTrip.{IsText, text_again}
 use Rattle.pp_merge.proofs.WrittenValid.{last_texts, texts_of_types}
 use Rattle.pp_count.specs.Column.{column_of, first_else, last_of, type_named}
+use Rattle.pp_dump.proofs.SavedHeader.{first_alone}
 use Rattle.pp_restack.specs.Stacks.{patternless}
 use Rattle.pp_pseudo.specs.KeyList.{key_list}
 use Rattle.pp_pseudo.specs.WithTags.{tagged, tagged_contents}
@@ -104,15 +105,11 @@ types_again c [] all = refl
 types_again c (t ∷ types) all =
     λ i. record { kind = text_again c t.kind all.0.0 i; unit = text_again c t.unit all.0.1.0 i } ∷ types_again c types all.1 i
 
-first_of_one : (text : List ℕ) → first_nonempty (text ∷ []) ≡ text
-first_of_one [] = refl
-first_of_one (b ∷ bs) = refl
-
 -- a header without patterns tells the types
 pub types_by_header : (p q : Profile) → header_of q [] ≡ patternless p → HasTypesOf p q
 types_by_header p q header = record {
   types = ap (λ (h : HeaderText). h.types) header;
-  default = sym (first_of_one (text_of q q.default_sample_type)) ∙ ap (λ (h : HeaderText). h.default_sample_type) header ∙ first_of_one (text_of p p.default_sample_type);
+  default = sym (first_alone (text_of q q.default_sample_type)) ∙ ap (λ (h : HeaderText). h.default_sample_type) header ∙ first_alone (text_of p p.default_sample_type);
 }
 
 module _ (l : Loaded) where
@@ -121,7 +118,7 @@ module _ (l : Loaded) where
       let c = tagged_contents l roots leaves in
       record {
         types = types_again c c.header.types (texts_of_types c);
-        default = text_again c c.header.default_sample_type (last_texts c).0 ∙ first_of_one (text_of l.profile l.profile.default_sample_type);
+        default = text_again c c.header.default_sample_type (last_texts c).0 ∙ first_alone (text_of l.profile l.profile.default_sample_type);
       }
 
   -- frames from labels leave the sample types

@@ -1,39 +1,21 @@
 -- A profile whose locations were cut keeps the table rules.
 use Rattle.std.proofs.Common.{◌≡◌, ℕ, ◌+◌, ◌-◌, ◌<◌, Bool, true, false, ◌||◌, List, [], ◌∷◌, length, refl, sym, ap, subst, arith}
-use Rattle.std.specs.Prelude.{None, ◌==◌, nat_lt, slice_index_or}
+use Rattle.std.specs.Prelude.{None, ◌==◌, nat_lt}
 use Rattle.std.specs.List.{AllByRecursion, list_all}
-use Rattle.std.proofs.lemmas.Bool.{lt-ltb, ltb-true, eq-eqb, eqb-true, false≢true}
+use Rattle.std.proofs.lemmas.Bool.{lt-ltb, ltb-true, eq-eqb, eqb-true}
 use Rattle.std.proofs.lemmas.List.{length-map}
 use Rattle.std.proofs.lemmas.Option.{none-some}
 use Rattle.std.proofs.lemmas.List.Elements.{recursion_from_All}
 use Rattle.std.proofs.lemmas.List.Sums.{AllPass-from_list_all}
+use Rattle.pp_base.proofs.Lists.{all_by}
 use Rattle.pp_model.specs.declared.profile.Location.{Location}
 use Rattle.pp_model.specs.declared.profile.Sample.{Sample}
 use Rattle.pp_model.specs.declared.profile.Profile.{Profile}
-use Rattle.pp_model.specs.Lookup.{text_at}
 use Rattle.pp_model.specs.Rules.{NoRuleFails, IsCompact, begins_empty, zero_unless, is_text, header_texts, label_has_texts, location_refers, stands_in}
 use Rattle.pp_model.proofs.RuleLemmas.{passes}
-use Rattle.pp_share.proofs.NumberedLemmas.{all_by, all_pass, nowhere, nonzero, unrepeated, stands_at}
+use Rattle.pp_model.proofs.FirstText.{no_fault, has_text, text_zero}
+use Rattle.pp_share.proofs.NumberedLemmas.{all_pass, nowhere, nonzero, unrepeated, stands_at}
 use Rattle.pp_restack.specs.Places.{ArePlaces, IsWithin, IsCutSample, ids_of, with_cut}
-
--- a choice that gives nothing was made
-pub held : (b : Bool) → zero_unless b ≡ None → b ≡ true
-held true none = refl
-held false none = absurd (none-some 0 (sym none))
-
--- the first text is there
-pub first_text : (texts : List (List ℕ)) → begins_empty texts ≡ true → nat_lt 0 (length texts) ≡ true
-first_text [] is = absurd (false≢true is)
-first_text (text ∷ texts) is = lt-ltb 0 (length (text ∷ texts)) (omega arith)
-
--- and it is empty
-pub text_zero : (p : Profile) → NoRuleFails p → text_at p 0 ≡ []
-text_zero p valid = by p.text (held (begins_empty p.text) valid.text_zero)
-  where
-    by : (texts : List (List ℕ)) → begins_empty texts ≡ true → slice_index_or texts 0 [] ≡ []
-    by [] is = refl
-    by ([] ∷ texts) is = refl
-    by ((b ∷ bs) ∷ texts) is = absurd (false≢true is)
 
 -- the locations of a valid profile whose ids are places
 pub own_places : (p : Profile) → NoRuleFails p → IsCompact p → ArePlaces p p.location
@@ -72,8 +54,8 @@ module _ (p : Profile) (samples : List Sample) (locations : List Location) where
   cut_valid valid places each =
       let headers =
       recursion_from_All (λ i. is_text p i ≡ true) (header_texts p)
-      (AllPass-from_list_all (is_text p) (header_texts p) (held (list_all (is_text p) (header_texts p)) valid.header_text)) in
-      let zero = first_text p.text (held (begins_empty p.text) valid.text_zero) in
+      (AllPass-from_list_all (is_text p) (header_texts p) (no_fault (list_all (is_text p) (header_texts p)) valid.header_text)) in
+      let zero = has_text p.text (no_fault (begins_empty p.text) valid.text_zero) in
       record {
         text_zero = valid.text_zero;
         header_text = ap (λ b. zero_unless b) (all_pass (is_text p) (header_texts cut) (zero, (zero, headers.1.1)));

@@ -11,6 +11,7 @@ use Rattle.pp_model.specs.Conditions.{no_location}
 use Rattle.pp_model.specs.Lookup.{text_of}
 use Rattle.pp_model.specs.Rules.{NoRuleFails}
 use Rattle.pp_model.proofs.CompactLemmas.{find_numbered}
+use Rattle.pp_model.proofs.FirstText.{text_zero}
 use Rattle.pp_share.specs.Described.{MappingText, mapping_text, location_found, nowhere, label_text, sample_text}
 use Rattle.pp_share.specs.Alike.{same_sample, first_alike}
 use Rattle.pp_share.specs.Sums.{summed, counts}
@@ -19,7 +20,6 @@ use Rattle.pp_merge.specs.Merge.{all_mappings, all_samples, contents}
 use Rattle.pp_share.proofs.NumberedLemmas.{all_mapped}
 use Rattle.pp_restack.specs.Stacks.{cut_location, cut_text, made_contents}
 use Rattle.pp_restack.specs.Places.{without_id, entry_in, ArePlaces, IsWithin, IsCutSample, spread_in, with_cut, located, told}
-use Rattle.pp_restack.proofs.CutValid.{text_zero}
 
 -- the groups of a stack
 pub groups_told : (p : Profile) (groups : List (List Frame)) → map (located p) (map without_id (map (cut_location p) groups)) ≡ map (cut_text p) groups

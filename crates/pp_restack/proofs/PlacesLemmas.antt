@@ -12,6 +12,7 @@ use Rattle.std.proofs.Math.Seq.{get_or-append_seam}
 use Rattle.std.proofs.lemmas.List.Elements.{filter_map-append, recursion_from_All}
 use Rattle.std.proofs.lemmas.List.Sums.{AllPass-from_list_all}
 use Rattle.std.proofs.lemmas.Option.{none-some, slice_get_within, get_or_from_slice_get}
+use Rattle.pp_base.proofs.Lists.{all_push}
 use Rattle.pp_model.specs.declared.frame.Frame.{Frame}
 use Rattle.pp_model.specs.declared.profile.Line.{Line}
 use Rattle.pp_model.specs.declared.profile.Location.{Location}
@@ -58,11 +59,6 @@ at_end P xs x d old new k below = elim (cases_lt k (length xs)) [
 numbered_more : (ids : List ℕ) → AreNumbered ids → AreNumbered (ids ++ (length ids + 1) ∷ [])
 numbered_more ids numbered = at_end (λ k id. id ≡ k + 1) ids (length ids + 1) 0 numbered refl
 
--- what holds of each item and of one more
-pub all_with : {A : Type 0} (P : A → Type 0) (xs : List A) (x : A) → AllByRecursion P xs → P x → AllByRecursion P (xs ++ x ∷ [])
-all_with P [] x all one = (one, tt)
-all_with P (y ∷ xs) x all one = (all.0, all_with P xs x all.1 one)
-
 -- a location more, with the next id
 pub places_more : (p : Profile) (locations new : List Location) (location : Location) (lines : List Line) (id : ℕ) → ArePlaces p locations
     → location_refers p (with_lines location lines) ≡ true → id ≡ length locations + 1
@@ -71,7 +67,7 @@ places_more p locations new location lines id places refers next is = rw is (rec
   numbered =
       rw (map-append (λ (l : Location). l.id) locations (record (with_lines location lines) { id = id } ∷ []), next)
       (subst (λ (n : ℕ). AreNumbered (ids_of locations ++ (n + 1) ∷ [])) (length-map locations (λ (l : Location). l.id)) (numbered_more (ids_of locations) places.numbered));
-  refers = all_with (λ l. location_refers p l ≡ true) locations _ places.refers refers;
+  refers = all_push (λ l. location_refers p l ≡ true) locations _ places.refers refers;
 })
 
 -- it is there by its id

@@ -4,15 +4,14 @@ use Rattle.std.specs.List.{AllByRecursion}
 use Rattle.std.proofs.lemmas.List.{map-append, append-nil, length-append, get_or_append_left}
 use Rattle.std.proofs.lemmas.List.Elements.{All-drop}
 use Rattle.pp_base.specs.Front.{IsFront}
+use Rattle.pp_base.proofs.Lists.{all_push, all_by}
 use Rattle.pp_model.specs.declared.frame.Frame.{Frame}
 use Rattle.pp_model.specs.declared.profile.Location.{Location}
 use Rattle.pp_model.specs.declared.profile.Sample.{Sample}
 use Rattle.pp_model.specs.declared.profile.Profile.{Profile}
 use Rattle.pp_model.specs.Conditions.{no_location, IsFrameOf}
-use Rattle.pp_share.proofs.NumberedLemmas.{all_by}
 use Rattle.pp_restack.specs.Stacks.{by_place, cut_location}
 use Rattle.pp_restack.specs.Places.{without_id, entry_in, KeepsPlaces, IsEntry, IsWithin, AreEntries, AppendsEntries, IsCutSample, spread_in}
-use Rattle.pp_restack.proofs.PlacesLemmas.{all_with}
 
 -- locations stay as they are where others are added behind them
 module _ (old new : List Location) (front : IsFront old new) where
@@ -55,17 +54,12 @@ front_front a b c first second = (first.0 ++ second.0, second.1 ∙ ap (λ xs. x
 pub entries_more : (old new wanted : List Location) (location : Location) (ids : List ℕ) (id : ℕ) → IsFront old new → AreEntries old wanted ids
     → IsEntry new location id → AreEntries new (wanted ++ location ∷ []) (ids ++ id ∷ [])
 entries_more old new wanted location ids id front are is = record {
-  within = all_with (IsWithin new) ids id (all_within_still old new front ids are.within) (record { positive = is.positive; within = is.within });
+  within = all_push (IsWithin new) ids id (all_within_still old new front ids are.within) (record { positive = is.positive; within = is.within });
   same =
       map-append (entry_in new) ids (id ∷ [])
       ∙ (λ i. (entries_still old new front ids are.within ∙ are.same) i ++ is.same i ∷ [])
       ∙ sym (map-append without_id wanted (location ∷ []));
 }
-
--- what holds of both lists
-pub all_append : {A : Type 0} (P : A → Type 0) (xs ys : List A) → AllByRecursion P xs → AllByRecursion P ys → AllByRecursion P (xs ++ ys)
-all_append P [] ys first second = second
-all_append P (x ∷ xs) ys first second = (first.0, all_append P xs ys first.1 second)
 
 -- The groups of a stack down to this rest have their locations.
 pub record PlacedTo (p : Profile) (old : List Location) (before : List ℕ) (stack rest : List Frame) (new : List Location) (ids : List ℕ) : Type 0 where

@@ -1,5 +1,5 @@
 -- The sums that events come to are those over the samples that they are of.
-use Rattle.std.proofs.Common.{◌≡◌, ℕ, ◌+◌, ◌<◌, ◌≤◌, eqb, Bool, true, false, true≢false, cond, ◌&&◌, ◌||◌, ℤ, pos, ◌+ℤ◌, nat_abs, List, [], ◌∷◌, ◌++◌, map, fold, refl, sym, ap, ◌∙◌, arith}
+use Rattle.std.proofs.Common.{◌≡◌, ℕ, ◌+◌, ◌<◌, ◌≤◌, eqb, Bool, true, false, true≢false, cond, ◌||◌, ℤ, pos, ◌+ℤ◌, nat_abs, List, [], ◌∷◌, ◌++◌, map, fold, refl, sym, ap, ◌∙◌, arith}
 use Rattle.std.specs.List.{filter, list_any, sum_by}
 use Rattle.std.specs.Str.{bytes_eq}
 use Rattle.std.proofs.Math.IntN.{+ℤ_assoc, +ℤ_idl, +ℤ_comm}
@@ -8,6 +8,7 @@ use Rattle.std.proofs.lemmas.Bool.Decides.{Decides-eqb}
 use Rattle.std.proofs.lemmas.List.{map-append}
 use Rattle.std.proofs.lemmas.List.Elements.{filter-append}
 use Rattle.std.proofs.lemmas.List.Sums.{fold-append, sum_by-cons}
+use Rattle.std.proofs.Math.Bool.{and-true}
 use Rattle.pp_count.specs.Sums.{Seen, sum_where}
 use Rattle.pp_samples.specs.declared.tag_table.TagSum.{TagSum}
 use Rattle.pp_samples.specs.TagLines.{TagTexts, same_tag, has_label_key, all_tags, key_sum, key_size, tag_sum}
@@ -114,13 +115,8 @@ tag_of_key key tag has (e ∷ events) = by (has_label_key key e.tag) refl (tag_o
     by true is rest = ap (λ es. cond (same_tag tag e.tag) (e ∷ es) es) rest
     by false is rest = rest ∙ ap (λ (b : Bool). cond b (e ∷ events_with tag events) (events_with tag events)) (sym (other (same_tag tag e.tag) is refl))
 
--- keys alone are told apart by their bytes
-and_true : (b : Bool) → (b && true) ≡ b
-and_true true = refl
-and_true false = refl
-
 pub key_same : (a b : List ℕ) → same_tag (key_tag a) (key_tag b) ≡ bytes_eq a b
-key_same a b = and_true (bytes_eq a b)
+key_same a b = and-true (bytes_eq a b)
 
 -- the sum of a key is that of its events
 key_events : (key : List ℕ) (events : List Event) (s : TagSum)

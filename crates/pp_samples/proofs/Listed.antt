@@ -13,14 +13,16 @@ use Rattle.std.proofs.lemmas.List.Elements.{All-nil, All-cons, All-head, All-tai
 use Rattle.std.proofs.lemmas.List.Folds.{list_any-append}
 use Rattle.std.proofs.lemmas.List.Sorted.{IsPermutation-map, list_any-IsPermutation, All-permutation}
 use Rattle.std.proofs.lemmas.Map.Keys.{IsDistinct-IsPermutation}
+use Rattle.std.proofs.lemmas.Simd.{map-map}
+use Rattle.pp_base.proofs.Booleans.{same_bool}
+use Rattle.pp_base.proofs.Orders.{both_equal}
+use Rattle.pp_base.proofs.Lists.{all_of_map}
 use Rattle.pp_units.specs.Shown.{Shown}
 use Rattle.pp_stack.proofs.ToldLemmas.{filter-map}
 use Rattle.pp_model.specs.FirstSight.{seen_with, seen_after, distinct, place_of}
 use Rattle.pp_model.proofs.FirstSightLemmas.{distinct_apart, distinct-map, all-seen_after}
 use Rattle.pp_count.specs.Sums.{Seen}
-use Rattle.pp_count.proofs.Renaming.{same_bool}
 use Rattle.pp_count.proofs.EachOnce.{each_once_is}
-use Rattle.pp_grain.proofs.CallerLemmas.{both_equal}
 use Rattle.pp_samples.specs.declared.key_table.KeyTable.{KeyTable}
 use Rattle.pp_samples.specs.declared.tag_lines.TagLine.{TagLine}
 use Rattle.pp_samples.specs.TagLines.{TagTexts, bytes_cmp, shown_tag_cmp, same_tag, has_label_key, all_tags, all_keys, key_sum, key_size, tag_sum, line_cmp, key_tags, value_line}
@@ -70,24 +72,16 @@ all_mapped : {A B : Type 0} (P : B → Type 0) (f : A → B) (xs : List A) → A
 all_mapped P f [] all = All-nil P
 all_mapped P f (x ∷ xs) all = All-cons P (f x) (map f xs) (All-head (λ y. P (f y)) x xs all) (all_mapped P f xs (All-tail (λ y. P (f y)) x xs all))
 
-all_unmapped : {A B : Type 0} (P : B → Type 0) (f : A → B) (xs : List A) → All P (map f xs) → All (λ x. P (f x)) xs
-all_unmapped P f [] all = All-nil (λ x. P (f x))
-all_unmapped P f (x ∷ xs) all = All-cons (λ y. P (f y)) x xs (All-head P (f x) (map f xs) all) (all_unmapped P f xs (All-tail P (f x) (map f xs) all))
-
 -- the lines of a table in another order
 module _ (P : RankedTag → Type 0) (before lines : List TagLine) (entries : List RankedTag) (are : map line_entry before ≡ entries) (moved : IsPermutation before lines) where
   pub all_lines : All P entries → All (λ line. P (line_entry line)) lines
   all_lines all =
-      all_unmapped P line_entry lines
+      all_of_map P line_entry lines
       (All-permutation P (map line_entry before) (map line_entry lines) (IsPermutation-map line_entry before lines moved) (subst (All P) (sym are) all))
 
 -- the tag of a line
 abbrev pub line_tag : TagLine → TagTexts
 line_tag line = name_texts line.name.now
-
-map_twice : {A B C : Type 0} (f : A → B) (g : B → C) (xs : List A) → map g (map f xs) ≡ map (λ x. g (f x)) xs
-map_twice f g [] = refl
-map_twice f g (x ∷ xs) = ap (λ ys. g (f x) ∷ ys) (map_twice f g xs)
 
 map_same : {A : Type 0} (xs : List A) → map (λ x. x) xs ≡ xs
 map_same [] = refl
@@ -140,7 +134,7 @@ module _ (samples : List (Seen TagTexts)) where
       lines_sums = all_lines HasTagSum before lines _ are moved entries_sums
 
       before_tags : map line_tag before ≡ table_tags own
-      before_tags = sym (map_twice line_entry (λ e. e.tag) before) ∙ ap (map (λ e. e.tag)) are ∙ map_twice (event_entry own) (λ e. e.tag) (table_tags own) ∙ map_same (table_tags own)
+      before_tags = sym (map-map (λ e. e.tag) line_entry before) ∙ ap (map (λ e. e.tag)) are ∙ map-map (λ e. e.tag) (event_entry own) (table_tags own) ∙ map_same (table_tags own)
 
       moved_tags : IsPermutation (map line_tag before) (map line_tag lines)
       moved_tags = IsPermutation-map line_tag before lines moved
@@ -192,11 +186,11 @@ module _ (samples : List (Seen TagTexts)) where
 
   table_keys : table_tags key_events ≡ map key_tag own_keys
   table_keys =
-      ap (distinct same_tag) (map_twice key_event (λ e. e.tag) events ∙ sym (map_twice (λ e. e.tag.key) key_tag events))
+      ap (distinct same_tag) (map-map (λ e. e.tag) key_event events ∙ sym (map-map key_tag (λ e. e.tag.key) events))
       ∙ distinct-map bytes_eq same_tag key_tag (λ _. Unit {0}) (λ a b p q. key_same a b) event_keys (all_units event_keys)
 
   keys_are : event_keys ≡ map (λ tag. tag.key) (all_tags samples)
-  keys_are = sym (map_twice (λ e. e.tag) (λ tag. tag.key) events) ∙ ap (map (λ tag. tag.key)) (tags_are samples 0)
+  keys_are = sym (map-map (λ tag. tag.key) (λ e. e.tag) events) ∙ ap (map (λ tag. tag.key)) (tags_are samples 0)
 
   -- The entry has the sums of its key, and its number is the key's.
   pub record IsKeyEntry (names : List TagTexts) (e : RankedTag) : Type 0 where
@@ -248,8 +242,8 @@ module _ (samples : List (Seen TagTexts)) where
 
     before_keys : map line_key before ≡ own_keys
     before_keys =
-        sym (map_twice line_entry (λ e. e.tag.key) before) ∙ ap (map (λ e. e.tag.key)) are ∙ map_twice (event_entry key_events) (λ e. e.tag.key) (table_tags key_events)
-        ∙ ap (map (λ tag. tag.key)) table_keys ∙ map_twice key_tag (λ tag. tag.key) own_keys ∙ map_same own_keys
+        sym (map-map (λ e. e.tag.key) line_entry before) ∙ ap (map (λ e. e.tag.key)) are ∙ map-map (λ e. e.tag.key) (event_entry key_events) (table_tags key_events)
+        ∙ ap (map (λ tag. tag.key)) table_keys ∙ map-map (λ tag. tag.key) key_tag own_keys ∙ map_same own_keys
 
     moved_keys : IsPermutation (map line_key before) (map line_key lines)
     moved_keys = IsPermutation-map line_key before lines moved

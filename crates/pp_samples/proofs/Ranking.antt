@@ -14,10 +14,10 @@ use Rattle.std.proofs.lemmas.Cmp.{on_total, then_total, back_total, int_cmp_tota
 use Rattle.std.proofs.lemmas.List.{append-nil, take_more, length-map, get_or_default}
 use Rattle.std.proofs.lemmas.Grind.{flat_map-append}
 use Rattle.std.proofs.lemmas.List.Elements.{All-get_or}
-use Rattle.pp_grain.proofs.CallerLemmas.{both_equal}
+use Rattle.pp_base.proofs.Booleans.{same_bool}
+use Rattle.pp_base.proofs.Orders.{both_equal}
 use Rattle.pp_model.specs.FirstSight.{place_of}
 use Rattle.pp_model.proofs.FirstSightLemmas.{distinct_apart}
-use Rattle.pp_count.proofs.Renaming.{same_bool}
 use Rattle.pp_samples.specs.declared.tag_table.TagSum.{TagSum}
 use Rattle.pp_samples.specs.TagLines.{TagTexts, bytes_cmp, shown_tag_cmp, same_tag}
 use Rattle.pp_samples.specs.Tables.{Event, IsTable, no_tag_sum, sum_of, events_with}

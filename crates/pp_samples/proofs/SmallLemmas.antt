@@ -1,12 +1,12 @@
 -- Sums of events that fit their types.
-use Rattle.std.proofs.Common.{◌≡◌, ℕ, ◌+◌, ◌<◌, ◌≤◌, ◌^◌, ◌-◌, Bool, true, false, cond, ◌&&◌, ◌==◌, ℤ, pos, negsuc, ◌+ℤ◌, nat_abs, min, List, [], ◌∷◌, ◌++◌, map, fold, refl, sym, ap, subst, ◌∙◌, arith}
+use Rattle.std.proofs.Common.{◌≡◌, ℕ, ◌+◌, ◌<◌, ◌≤◌, ◌^◌, ◌-◌, Bool, true, false, cond, ◌&&◌, ◌==◌, ℤ, pos, negsuc, ◌+ℤ◌, nat_abs, min, List, [], ◌∷◌, ◌++◌, map, fold, refl, ap, subst, ◌∙◌, arith}
 use Rattle.std.specs.List.{filter, list_any, sum_by}
 use Rattle.std.specs.Int.{w64, saturate_signed}
 use Rattle.std.proofs.lemmas.List.{map-append}
 use Rattle.std.proofs.lemmas.List.Elements.{filter-append}
-use Rattle.std.proofs.lemmas.List.Sums.{fold-append, sum_by-cons}
+use Rattle.std.proofs.lemmas.List.Sums.{fold-append}
+use Rattle.pp_base.proofs.Sums.{triangle}
 use Rattle.pp_count.specs.Sums.{Seen}
-use Rattle.pp_count.proofs.Adding.{triangle}
 use Rattle.pp_count.proofs.Sizes.{part_within}
 use Rattle.pp_samples.specs.declared.tag_table.TagSum.{TagSum}
 use Rattle.pp_samples.specs.TagLines.{TagTexts, same_tag, has_label_key}
@@ -107,9 +107,3 @@ small_samples samples fits q =
       (comes_to q samples 0 no_tag_sum (omega arith)).size,
       part_within (λ (s : Seen TagTexts). nat_abs s.value) (λ s. list_any q s.keys) samples,
     )
-
--- a sum over items that stand for others
-pub sum_by-map : {X Y : Type 0} (f : Y → ℕ) (g : X → Y) (xs : List X) → sum_by f (map g xs) ≡ sum_by (λ x. f (g x)) xs
-sum_by-map f g [] = refl
-sum_by-map f g (x ∷ xs) =
-    sum_by-cons f (g x) (map g xs) ∙ ap (λ n. f (g x) + n) (sum_by-map f g xs) ∙ sym (sum_by-cons (λ y. f (g y)) x xs)

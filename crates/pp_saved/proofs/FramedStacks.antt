@@ -1,12 +1,12 @@
 -- The frames that a report sees of samples follow from their stacks, so a saved profile shows the frames that the
 -- filters left.
-use Rattle.std.proofs.Common.{◌≡◌, ℕ, ◌<◌, ℤ, pos, negsuc, ◌+ℤ◌, ◌≤ℤ◌, Bool, not, List, [], ◌∷◌, map, length, get_or, All, refl, sym, ap, ◌∙◌, subst, arith}
+use Rattle.std.proofs.Common.{◌≡◌, ℕ, ◌<◌, ℤ, pos, ◌+ℤ◌, ◌≤ℤ◌, Bool, not, List, [], ◌∷◌, map, length, get_or, All, refl, sym, ap, ◌∙◌, subst, arith}
 use Rattle.std.specs.Prelude.{Option, Some, None, option_map, int_div}
 use Rattle.std.specs.List.{AllByRecursion, filter_map, cons_option, list_any}
 use Rattle.std.specs.Ordering.{int_eq}
 use Rattle.std.proofs.lemmas.Bool.{eqb-true}
-use Rattle.std.proofs.lemmas.Int.{ints}
 use Rattle.std.proofs.lemmas.List.Elements.{recursion_from_All}
+use Rattle.std.proofs.lemmas.Simd.{map-map}
 use Rattle.pp_model.specs.declared.config.Config.{Config}
 use Rattle.pp_model.specs.declared.frame.Frame.{Frame}
 use Rattle.pp_model.specs.declared.profile.Sample.{Sample}
@@ -20,14 +20,13 @@ use Rattle.pp_count.specs.Seeing.{filtered_stack, framed_with, framed_samples}
 use Rattle.pp_count.specs.Sums.{Seen, weighed, sum_where}
 use Rattle.pp_merge.specs.Totals.{value_passing, sum_passing}
 use Rattle.pp_share.specs.Written.{written_sample}
-use Rattle.pp_share.proofs.Agreement.{map_map}
 use Rattle.pp_share.proofs.NumberedLemmas.{all_mapped}
 use Rattle.pp_restack.specs.Stacks.{by_place}
 use Rattle.pp_dump.specs.Saved.{cut_samples, saved_contents, saved}
 use Rattle.pp_dump.specs.Stacks.{PlaceText, StackText, left_place, left_stack, left_stacks, whole_stacks, KeepsStacks}
 use Rattle.pp_dump.proofs.CountedPlaces.{counted_places, counted_stack}
 use Rattle.pp_dump.proofs.KeptStacks.{wide}
-use Rattle.pp_dump.proofs.NaturalStacks.{summed_natural, cut_natural}
+use Rattle.pp_dump.proofs.NaturalStacks.{summed_natural, cut_natural, natural}
 use Rattle.pp_dump.proofs.SeenStacks.{quotient_one}
 use Rattle.pp_dump.proofs.SeenSums.{IsNatural, AreNatural, any_by_sum}
 
@@ -52,7 +51,7 @@ module _ (p : Profile) (f : Finders) (config : Config) (column : ℕ) (undivided
       ≡ counted_places config.noinlines (map (λ (place : PlaceText). place.frames) (map (left_place p) (by_place stack)))
   frames_are stack =
       counted_stack p config.noinlines stack
-      ∙ ap (counted_places config.noinlines) (sym (map_map (left_place p) (λ (place : PlaceText). place.frames) (by_place stack)))
+      ∙ ap (counted_places config.noinlines) (sym (map-map (λ (place : PlaceText). place.frames) (left_place p) (by_place stack)))
 
   one_framed : (s : Sample) (o : Option (List Frame))
       → option_map (framed_with p config (Some column) s) o ≡ option_map (framed_text config.noinlines column) (option_map (left_stack p f s) o)
@@ -86,11 +85,6 @@ module _ (p : Profile) (f : Finders) (config : Config) (column : ℕ) (undivided
           → AreNatural (cons_option (option_map (framed_with p config (Some column) s) o) (framed_samples p f config (Some column) xs))
       by None rest = rest
       by (Some stack) rest = (subst IsNatural (sym (value_is s)) all.0, rest)
-
--- a number that is at least 0
-natural : (v : ℤ) → pos 0 ≤ℤ v → IsNatural v
-natural (pos n) least = (n, refl)
-natural (negsuc n) least = absurd (omega (arith, ints, least))
 
 module _ (p : Profile) (column : ℕ) (valid : NoRuleFails p) (within : column < length p.sample_type) (least : All (λ s. All (λ v. pos 0 ≤ℤ v) s.value) p.sample) where
   -- The values of the profile in the column,

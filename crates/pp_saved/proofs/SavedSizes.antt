@@ -5,6 +5,7 @@ use Rattle.std.specs.List.{AllByRecursion, cons_option, filter_map}
 use Rattle.std.proofs.lemmas.Bool.{eqb-true, not-false}
 use Rattle.std.proofs.lemmas.List.Elements.{recursion_from_All}
 use Rattle.std.proofs.lemmas.Option.{none-some, same_Some}
+use Rattle.pp_base.proofs.Lists.{all_by}
 use Rattle.pp_model.specs.declared.config.Config.{Config}
 use Rattle.pp_model.specs.declared.frame.Frame.{Frame}
 use Rattle.pp_model.specs.declared.profile.Sample.{Sample}
@@ -23,7 +24,7 @@ use Rattle.pp_share.specs.Written.{written_sample}
 use Rattle.pp_share.proofs.Deciding.{sample_decides}
 use Rattle.pp_share.proofs.DistinctLemmas.{deciding_laws}
 use Rattle.pp_merge.proofs.MergedTotals.{sum_by_is, total_within, zero_at}
-use Rattle.pp_share.proofs.NumberedLemmas.{all_by, all_mapped}
+use Rattle.pp_share.proofs.NumberedLemmas.{all_mapped}
 use Rattle.pp_merge.proofs.SettledLemmas.{all_any, all_filtered, all_some, all_unmapped}
 use Rattle.pp_share.proofs.SumLemmas.{abs-total_of}
 use Rattle.pp_merge.proofs.TotalLemmas.{total, total-map, total-filter, parted, adding_ℕ}

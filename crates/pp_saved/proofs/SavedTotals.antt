@@ -6,6 +6,7 @@ use Rattle.std.proofs.lemmas.Bool.{false≢true}
 use Rattle.std.proofs.lemmas.List.Elements.{All-contains, All-weaker, All-from_recursion, recursion_from_All}
 use Rattle.std.proofs.lemmas.List.Sums.{sum_by-cons}
 use Rattle.std.proofs.lemmas.Option.{none-some, same_Some}
+use Rattle.pp_base.proofs.Lists.{all_by}
 use Rattle.pp_model.specs.declared.config.Config.{Config}
 use Rattle.pp_model.specs.declared.frame.Frame.{Frame}
 use Rattle.pp_model.specs.declared.profile.Sample.{Sample}
@@ -19,7 +20,7 @@ use Rattle.pp_count.specs.Seeing.{filtered_stack, seen_with, seen_samples}
 use Rattle.pp_count.specs.Sums.{Seen, absolute}
 use Rattle.pp_count.specs.Counts.{is_base_label, is_base, filtered_samples, total_over, total_of}
 use Rattle.pp_share.specs.Described.{LabelText, label_text}
-use Rattle.pp_share.proofs.NumberedLemmas.{all_by, all_mapped}
+use Rattle.pp_share.proofs.NumberedLemmas.{all_mapped}
 use Rattle.pp_merge.proofs.SettledLemmas.{all_some, all_unmapped}
 use Rattle.pp_dump.specs.Stacks.{StackText, whole_stack, left_stack, whole_stacks, left_stacks, without_values, KeepsStacks}
 use Rattle.pp_laws.proofs.Within.{absolute_seen, plain_total, none_among}

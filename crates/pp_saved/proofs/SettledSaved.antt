@@ -10,6 +10,7 @@ use Rattle.std.proofs.lemmas.List.Folds.{list_any_at}
 use Rattle.std.proofs.lemmas.Map.Keys.{IsDistinct-cons, IsDistinct-head, IsDistinct-tail}
 use Rattle.std.proofs.lemmas.Map.Made.{IsDistinct-keys_filter}
 use Rattle.std.proofs.lemmas.Option.{none-some, same_Some}
+use Rattle.pp_base.proofs.Lists.{all_by}
 use Rattle.pp_model.specs.declared.config.Config.{Config}
 use Rattle.pp_model.specs.declared.frame.Frame.{Frame}
 use Rattle.pp_model.specs.declared.profile.Mapping.{Mapping}
@@ -27,7 +28,7 @@ use Rattle.pp_share.proofs.Deciding.{mapping_decides, sample_decides}
 use Rattle.pp_share.proofs.DistinctLemmas.{deciding_laws}
 use Rattle.pp_model.proofs.FirstSightLemmas.{IsSeen, distinct_apart}
 use Rattle.pp_share.proofs.MergedMapping.{mapping_laws, IsFound, alike_tells}
-use Rattle.pp_share.proofs.NumberedLemmas.{all_by, all_both}
+use Rattle.pp_share.proofs.NumberedLemmas.{all_both}
 use Rattle.pp_merge.proofs.SettledLemmas.{all_any, all_distinct, all_join, all_some, all_unmapped, found_holds, less_small, no_column, self_found, settled_contents}
 use Rattle.pp_merge.proofs.WrittenAgain.{alike_self, at_seen, map_back, mappings_back}
 use Rattle.pp_merge.proofs.WrittenCompact.{mapping_walk}

@@ -1,13 +1,11 @@
 -- Two ways of telling items apart that agree give the same numbers.
-use Rattle.std.proofs.Common.{◌≡◌, ◌+◌, Bool, List, [], ◌∷◌, map, refl, sym, ap, ◌∙◌}
+use Rattle.std.proofs.Common.{◌≡◌, ◌+◌, Bool, List, [], map, refl, sym, ap, ◌∙◌}
 use Rattle.std.specs.List.{AllByRecursion}
+use Rattle.std.proofs.lemmas.Simd.{map-map}
+use Rattle.pp_base.proofs.Lists.{all_by, map_agree}
 use Rattle.pp_model.specs.FirstSight.{distinct, place_of, numbers, ids}
 use Rattle.pp_share.proofs.Prefix.{all_tt}
-use Rattle.pp_model.proofs.FirstSightLemmas.{all_as, map_agree, distinct-map, place-map, all-seen_after}
-
-pub map_map : {A B C : Type 0} (f : A → B) (g : B → C) (xs : List A) → map g (map f xs) ≡ map (λ x. g (f x)) xs
-map_map f g [] = refl
-map_map f g (x ∷ xs) = (λ j. g (f x) ∷ map_map f g xs j)
+use Rattle.pp_model.proofs.FirstSightLemmas.{distinct-map, place-map, all-seen_after}
 
 module _ {A B : Type 0} (one : A → A → Bool) (other : B → B → Bool) (describe : A → B) (P : A → Type 0)
     (agree : (a b : A) → P a → P b → other (describe a) (describe b) ≡ one a b) where
@@ -17,9 +15,9 @@ module _ {A B : Type 0} (one : A → A → Bool) (other : B → B → Bool) (des
       let few = distinct one xs in
       let few_all = all-seen_after one other describe P agree [] xs tt all in
       ap (λ d. map (place_of other d) (map describe xs)) (distinct-map one other describe P agree xs all)
-      ∙ map_map describe (place_of other (map describe few)) xs
+      ∙ map-map (place_of other (map describe few)) describe xs
       ∙ map_agree (λ x. place_of other (map describe few) (describe x)) (place_of one few) xs
-      (all_as P (λ x. place_of other (map describe few) (describe x) ≡ place_of one few x)
+      (all_by P (λ x. place_of other (map describe few) (describe x) ≡ place_of one few x)
       (λ x p. place-map one other describe P agree x p few few_all) xs all)
 
 -- Items with a key each, and with a description each. Where the keys are one exactly where the descriptions are, the numbers

@@ -5,23 +5,17 @@ use Rattle.std.specs.Cmp.{IsEquivalence}
 use Rattle.std.specs.List.{list_any, IsDistinct}
 use Rattle.std.proofs.lemmas.List.Sums.{position_or_len_is}
 use Rattle.std.proofs.lemmas.Map.Keys.{apart_from_distinct}
+use Rattle.pp_base.proofs.Booleans.{same_bool}
 use Rattle.indexmap.proofs.SetLemmas.{set_all_distinct}
 use Rattle.pp_model.specs.FirstSight.{distinct, place_of}
 use Rattle.pp_model.proofs.FirstSightLemmas.{IsSeen}
-
--- two truth values that follow from each other
-same_truth : (a b : Bool) → (a ≡ true → b ≡ true) → (b ≡ true → a ≡ true) → a ≡ b
-same_truth true true to from = refl
-same_truth true false to from = sym (to refl)
-same_truth false true to from = from refl
-same_truth false false to from = refl
 
 module _ {A : Type 0} (same : A → A → Bool) (decides : (a b : A) → Decides (same a b) (a ≡ b)) where
   -- such a test is an equivalence
   pub deciding_laws : IsEquivalence same
   deciding_laws = record {
     refl = λ x. (decides x x).1 refl;
-    symm = λ x y. same_truth (same x y) (same y x) (λ h. (decides y x).1 (sym ((decides x y).0 h))) (λ h. (decides x y).1 (sym ((decides y x).0 h)));
+    symm = λ x y. same_bool (same x y) (same y x) (λ h. (decides y x).1 (sym ((decides x y).0 h))) (λ h. (decides x y).1 (sym ((decides y x).0 h)));
     congr = λ x y z h. ap (λ w. same w z) ((decides x y).0 h);
   }
 

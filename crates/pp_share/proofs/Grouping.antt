@@ -4,9 +4,10 @@ use Rattle.std.proofs.lemmas.List.{map-append, append-nil, get_or-map}
 use Rattle.std.proofs.lemmas.List.Sums.{sum_by-cons}
 use Rattle.std.specs.List.{list_any, All, AllByRecursion, IsDistinct}
 use Rattle.std.specs.Cmp.{IsEquivalence}
+use Rattle.pp_base.proofs.Lists.{all_by, map_agree}
 use Rattle.pp_model.specs.FirstSight.{seen_with, distinct, place_of}
 use Rattle.pp_share.specs.Sums.{added, column_totals, keys_of, rows_of, sum_of, rows_with}
-use Rattle.pp_model.proofs.FirstSightLemmas.{IsSeen, all_as, map_agree, all_seen, distinct_push}
+use Rattle.pp_model.proofs.FirstSightLemmas.{IsSeen, all_seen, distinct_push}
 use Rattle.pp_share.proofs.Prefix.{IsNext, next_holds, seen_all, next_weight}
 use Rattle.pp_share.proofs.SumLemmas.{added-zeros, total_push, length-total_of, abs-total_of, weight}
 
@@ -89,7 +90,7 @@ module _ {K : Type 0} (same : K → K → Bool) (laws : IsEquivalence same) wher
         let own : sum k ≡ row = sum_own k (laws.refl k)
         ∙ ap (λ rows. added (column_totals columns rows) row) (no_rows items k (not_among k (keys_of same items) new)) ∙ added-zeros columns row wide in
         let others : map sum keys ≡ map (sum_of same columns items) keys =
-        map_agree sum (sum_of same columns items) keys (all_as (λ q. same q k ≡ false) (λ q. sum q ≡ sum_of same columns items q) sum_other keys (none_is k keys new)) in
+        map_agree sum (sum_of same columns items) keys (all_by (λ q. same q k ≡ false) (λ q. sum q ≡ sum_of same columns items q) sum_other keys (none_is k keys new)) in
         ap (map sum) (keys_push ∙ ap (λ b. if b then keys else keys ++ k ∷ []) new)
         ∙ map-append sum keys (k ∷ []) ∙ (λ j. others j ++ own j ∷ [])
 
@@ -103,7 +104,7 @@ module _ {K : Type 0} (same : K → K → Bool) (laws : IsEquivalence same) wher
       by (same k y) refl (map_at f g change k own other ys d apart.1) seen
     where
       rest_same : same k y ≡ true → map g ys ≡ map f ys
-      rest_same is = map_agree g f ys (all_as (λ z. same y z ≡ false) (λ z. g z ≡ f z) (λ z no. other z (laws.symm z k ∙ laws.congr k y z is ∙ no)) ys apart.0)
+      rest_same is = map_agree g f ys (all_by (λ z. same y z ≡ false) (λ z. g z ≡ f z) (λ z no. other z (laws.symm z k ∙ laws.congr k y z is ∙ no)) ys apart.0)
 
       by : (c : Bool) → same k y ≡ c
           → (IsSeen same ys k → map g ys ≡ set (map f ys) (place_of same ys k) (change (get_or (map f ys) (place_of same ys k) d)))

@@ -8,6 +8,7 @@ use Rattle.std.proofs.lemmas.Bool.{lt-ltb, le-ltb, eq-eqb}
 use Rattle.std.proofs.lemmas.List.{get_or_default, get_or-take, length-take}
 use Rattle.std.proofs.lemmas.List.Folds.{list_any_at}
 use Rattle.std.proofs.lemmas.List.FromFn.{get_or-range_with_len, length-range_with_len}
+use Rattle.pp_base.proofs.Lists.{all_by}
 use Rattle.pp_model.specs.Rules.{AreNumbered, stands_in, first_failing, first_repeated}
 use Rattle.pp_model.proofs.RuleLemmas.{contains_from}
 
@@ -36,11 +37,6 @@ module _ {A : Type 0} (P : A → Type 0) where
           → AllByRecursion P (cons_option o (filter_map f xs)) → AllByRecursion (λ z. (y : A) → f z ≡ Some y → P y) (x ∷ xs)
       by None is go rest = (λ y some. absurd (none-some y (sym is ∙ some)), go rest)
       by (Some z) is go rest = (λ y some. subst P (same_Some z y (sym is ∙ some)) rest.0, go rest.1)
-
--- what follows from what holds of each item
-pub all_by : {A : Type 0} (P Q : A → Type 0) → ((x : A) → P x → Q x) → (xs : List A) → AllByRecursion P xs → AllByRecursion Q xs
-all_by P Q f [] all = tt
-all_by P Q f (x ∷ xs) all = (f x all.0, all_by P Q f xs all.1)
 
 -- a test that no item passes finds nothing
 pub none_found : {A : Type 0} (test : A → Bool) (xs : List A) → AllByRecursion (λ x. test x ≡ false) xs → position test xs ≡ None

@@ -9,10 +9,11 @@ use Rattle.std.proofs.lemmas.Bool.{eq-eqb, ne_eqb, cases_eq, cases_lt, cond-true
 use Rattle.std.proofs.lemmas.List.{length-map, get_or-map}
 use Rattle.std.proofs.lemmas.List.Elements.{All-from_recursion}
 use Rattle.std.proofs.lemmas.Option.{slice_get-get_or, slice_get_past}
+use Rattle.pp_base.proofs.Lists.{all_by}
 use Rattle.pp_model.specs.Lookup.{place_read}
 use Rattle.pp_model.specs.FirstSight.{seen_after, distinct, place_of, numbers, ids}
 use Rattle.pp_share.specs.Ids.{listed_id}
-use Rattle.pp_model.proofs.FirstSightLemmas.{IsSeen, all_seen, all_as}
+use Rattle.pp_model.proofs.FirstSightLemmas.{IsSeen, all_seen}
 use Rattle.pp_share.proofs.Deciding.{place_gets}
 use Rattle.pp_share.proofs.Tables.{Names, IsRef, read_named, read_none, ids_tell}
 
@@ -201,7 +202,7 @@ pub apart_finer : {A : Type 0} (same equal : A → A → Bool) → ((a b : A) �
 unfolding IsDistinct
 apart_finer same equal finer [] apart = tt
 apart_finer same equal finer (x ∷ xs) apart =
-    (all_as (λ y. same x y ≡ false) (λ y. equal x y ≡ false) (λ y. finer x y) xs apart.0, apart_finer same equal finer xs apart.1)
+    (all_by (λ y. same x y ≡ false) (λ y. equal x y ≡ false) (λ y. finer x y) xs apart.0, apart_finer same equal finer xs apart.1)
 
 -- references to distinct entries are equal exactly where what is read there is
 pub refs_tell : {A : Type 0} (same : A → A → Bool) → IsEquivalence same → (xs : List A) (d : A) → IsDistinct same xs → (a b : ℕ) → IsRef (length xs) a → IsRef (length xs) b

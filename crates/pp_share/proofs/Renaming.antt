@@ -1,6 +1,7 @@
 -- Entries whose references are renumbered say what they said, where what is referred to does.
 use Rattle.std.proofs.Common.{◌≡◌, ℕ, ℤ, List, map, Option, ◌∙◌}
 use Rattle.std.specs.Option.{option_map}
+use Rattle.std.proofs.lemmas.Simd.{map-map}
 use Rattle.pp_model.specs.declared.profile.ValueType.{ValueType}
 use Rattle.pp_model.specs.declared.profile.Label.{Label}
 use Rattle.pp_model.specs.declared.profile.Sample.{Sample}
@@ -14,12 +15,11 @@ use Rattle.pp_share.specs.Described.{FunctionText, MappingText, LocationText, le
 use Rattle.pp_share.specs.Header.{type_text}
 use Rattle.pp_share.specs.Renumbered.{NewIds, renumbered_type, renumbered_label, renumbered_line, renumbered_function, renumbered_mapping, renumbered_location, renumbered_sample}
 use Rattle.pp_share.proofs.Prefix.{all_tt}
-use Rattle.pp_share.proofs.Agreement.{map_map}
 use Rattle.pp_share.proofs.Lists.{map_as}
 
 -- two maps of a list that say the same of each item
 pub maps_agree : {A B C : Type 0} (f : B → C) (u : A → B) (g : A → C) → ((a : A) → f (u a) ≡ g a) → (xs : List A) → map f (map u xs) ≡ map g xs
-maps_agree f u g agree xs = map_map u f xs ∙ map_as (λ x. f (u x)) g (λ _. Unit {0}) (λ x _. agree x) xs (all_tt xs)
+maps_agree f u g agree xs = map-map f u xs ∙ map_as (λ x. f (u x)) g (λ _. Unit {0}) (λ x _. agree x) xs (all_tt xs)
 
 module _ (by : NewIds) where
   module _ (p q : Profile) (words : (i : ℤ) → text_of q (by.text i) ≡ text_of p i) where

@@ -1,22 +1,17 @@
 -- The keys of samples beside their values are as wide, and add up to as much, as the samples.
-use Rattle.std.proofs.Common.{◌≡◌, ℕ, ◌+◌, Bool, ℤ, pos, nat_abs, List, [], ◌∷◌, length, map, get_or, sum_by, refl, sym, ap, subst, ◌∙◌, arith}
+use Rattle.std.proofs.Common.{◌≡◌, ℕ, ◌+◌, Bool, ℤ, pos, nat_abs, List, [], ◌∷◌, length, map, get_or, sum_by, refl, sym, ap, subst, ◌∙◌}
 use Rattle.std.specs.List.{All}
-use Rattle.std.proofs.lemmas.List.{length-map, get_or-map}
 use Rattle.std.proofs.lemmas.List.Elements.{All-map}
 use Rattle.std.proofs.lemmas.List.Sums.{sum_by-cons}
+use Rattle.std.proofs.lemmas.Simd.{map-map}
+use Rattle.pp_base.proofs.Lists.{all_of_map}
 use Rattle.pp_model.specs.declared.profile.Label.{Label}
 use Rattle.pp_model.specs.declared.profile.Sample.{Sample}
 use Rattle.pp_share.specs.declared.samples.SampleKey.{SampleKey}
 use Rattle.pp_share.specs.Sums.{summed}
 use Rattle.pp_share.specs.SampleKeys.{sample_item, item_of_key, same_stack}
 use Rattle.pp_share.proofs.Prefix.{all_tt}
-use Rattle.pp_share.proofs.Agreement.{map_map}
 use Rattle.pp_share.proofs.SummedLemmas.{summed-map}
-
--- what holds of each image holds of each item's image
-pub all_of_map : {A B : Type 0} (P : B → Type 0) (f : A → B) (xs : List A) → All P (map f xs) → All (λ x. P (f x)) xs
-all_of_map P f xs all = λ k d within.
-    subst P (get_or-map f xs k d (f d) within) (all k (f d) (omega (arith, within, length-map xs f)))
 
 pub sum_by-map : {A B : Type 0} (weight : B → ℕ) (f : A → B) (xs : List A) → sum_by weight (map f xs) ≡ sum_by (λ x. weight (f x)) xs
 sum_by-map weight f [] = refl
@@ -26,8 +21,8 @@ sum_by-map weight f (x ∷ xs) =
 module _ (columns : ℕ) (items : List (SampleKey × List ℤ)) (samples : List Sample) (are : map item_of_key items ≡ map sample_item samples) where
   rows : map (λ (item : SampleKey × List ℤ). item.1) items ≡ map (λ (s : Sample). s.value) samples
   rows =
-      sym (map_map item_of_key (λ item. item.1) items) ∙ ap (map (λ (item : (List ℕ × List Label) × List ℤ). item.1)) are
-      ∙ map_map sample_item (λ item. item.1) samples
+      sym (map-map (λ item. item.1) item_of_key items) ∙ ap (map (λ (item : (List ℕ × List Label) × List ℤ). item.1)) are
+      ∙ map-map (λ item. item.1) sample_item samples
 
   pub wide_items : All (λ (s : Sample). length s.value ≡ columns) samples → All (λ (item : SampleKey × List ℤ). length item.1 ≡ columns) items
   wide_items wide =

@@ -6,6 +6,7 @@ use Rattle.std.specs.Cmp.{nat_eq_equiv}
 use Rattle.std.specs.Cmp.Lexicographic.{lists_equiv}
 use Rattle.std.proofs.lemmas.List.{length-map}
 use Rattle.std.proofs.lemmas.List.Elements.{All-map}
+use Rattle.pp_base.proofs.Lists.{all_by, all_of_map}
 use Rattle.pp_model.specs.declared.profile.Sample.{Sample}
 use Rattle.pp_model.specs.declared.profile.Profile.{Profile}
 use Rattle.pp_model.specs.Sizes.{value_in}
@@ -21,10 +22,9 @@ use Rattle.pp_share.specs.Share.{NamesLocations, IsJoined, with_comments_once, w
 use Rattle.pp_share.specs.Walked.{walked_texts_of, walked}
 use Rattle.pp_share.proofs.Prefix.{all_tt}
 use Rattle.pp_model.proofs.FirstSightLemmas.{distinct_apart}
-use Rattle.pp_share.proofs.SampleKeyLemmas.{all_of_map, sum_by-map}
+use Rattle.pp_share.proofs.SampleKeyLemmas.{sum_by-map}
 use Rattle.pp_share.proofs.Tables.{Names}
 use Rattle.pp_share.proofs.Lists.{all_mapped}
-use Rattle.pp_share.proofs.NumberedLemmas.{all_by}
 use Rattle.pp_share.proofs.Renaming.{maps_agree}
 use Rattle.pp_share.proofs.Ready.{LabelIn, SampleIn, HeaderIn, IsReady}
 use Rattle.pp_share.proofs.SharedTexts.{HasTexts, shared_empty, shared_some, texts_gist, in_range, functions_in, mappings_in, header_in}

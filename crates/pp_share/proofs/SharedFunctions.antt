@@ -35,8 +35,8 @@ use Rattle.pp_share.proofs.Once.{read_same, ref_kept}
 use Rattle.pp_share.proofs.Ready.{InTexts, FunctionIn}
 use Rattle.pp_share.proofs.EntryLemmas.{none_text}
 
-laws_T : IsEquivalence bytes_eq
-laws_T = lists_equiv nat_eq_equiv
+pub text_laws : IsEquivalence bytes_eq
+text_laws = lists_equiv nat_eq_equiv
 
 pub int_same : (i : ℤ) → int_eq i i ≡ true
 int_same i = (Decides-int_eq i i).1 refl
@@ -50,7 +50,7 @@ int_pos a b =
 pub text_tells : (p : Profile) → IsDistinct bytes_eq p.text → (i j : ℤ) → InTexts (length p.text) i → InTexts (length p.text) j
     → bytes_eq (text_of p i) (text_of p j) ≡ int_eq i j
 text_tells p apart i j is_i is_j =
-    places_tell bytes_eq laws_T p.text (text_number i) (text_number j) [] apart is_i.1 is_j.1
+    places_tell bytes_eq text_laws p.text (text_number i) (text_number j) [] apart is_i.1 is_j.1
     ∙ int_pos (text_number i) (text_number j) ∙ (λ t. int_eq (sym is_i.0 t) (sym is_j.0 t))
 
 module _ (p : Profile) (apart : IsDistinct bytes_eq p.text) (within : AllByRecursion (FunctionIn (length p.text)) p.function) where
@@ -121,7 +121,7 @@ module _ (p : Profile) (apart : IsDistinct bytes_eq p.text) (within : AllByRecur
 
   pub comments_once : distinct bytes_eq (map (text_of p) (distinct int_eq p.comment)) ≡ map (text_of p) (distinct int_eq p.comment)
   comments_once =
-      ap (distinct bytes_eq) (sym once) ∙ distinct_same bytes_eq laws_T (distinct bytes_eq (map (text_of p) p.comment)) (distinct_apart bytes_eq laws_T (map (text_of p) p.comment))
+      ap (distinct bytes_eq) (sym once) ∙ distinct_same bytes_eq text_laws (distinct bytes_eq (map (text_of p) p.comment)) (distinct_apart bytes_eq text_laws (map (text_of p) p.comment))
       ∙ once
 
   pub comments_same : distinct bytes_eq (map (text_of p) (distinct int_eq p.comment) ++ []) ≡ distinct bytes_eq (map (text_of p) p.comment ++ [])

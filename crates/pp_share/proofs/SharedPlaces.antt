@@ -11,6 +11,7 @@ use Rattle.std.specs.Cmp.Lexicographic.{lists_equiv, pointwise}
 use Rattle.std.proofs.lemmas.List.{length-map}
 use Rattle.std.proofs.lemmas.List.Folds.{find_at}
 use Rattle.std.proofs.lemmas.Option.{slice_get-get_or}
+use Rattle.std.proofs.lemmas.Simd.{map-map}
 use Rattle.pp_model.specs.declared.profile.Mapping.{Mapping}
 use Rattle.pp_model.specs.declared.profile.Location.{Location}
 use Rattle.pp_model.specs.declared.profile.Line.{Line}
@@ -29,7 +30,7 @@ use Rattle.pp_share.specs.Renumbered.{renumbered_sample, renumbered_label}
 use Rattle.pp_share.specs.Shared.{by_locations, alike_mappings, distant_locations, with_shared_places}
 use Rattle.pp_model.proofs.LookupLemmas.{no_mapping}
 use Rattle.pp_model.proofs.FirstSightLemmas.{distinct-map, all-seen_after, distinct_apart}
-use Rattle.pp_share.proofs.Agreement.{map_map, numbers-map}
+use Rattle.pp_share.proofs.Agreement.{numbers-map}
 use Rattle.pp_share.proofs.Deciding.{function_decides, mapping_decides, location_decides}
 use Rattle.pp_share.proofs.MergedMapping.{mapping_laws}
 use Rattle.pp_share.proofs.Tables.{Names, IsRef, read-map}
@@ -266,7 +267,7 @@ module _ (p : Profile) (has : HasFunctions p) where
 
   table_L : locations_of (λ m. m) r ≡ distinct same_location (locations_of (first_alike MT) p)
   table_L =
-      map_map (near r.mapping) (location_text (λ m. m) FP (mapping_placed r)) kept
+      map-map (location_text (λ m. m) FP (mapping_placed r)) (near r.mapping) kept
       ∙ map_as (λ k. location_text (λ m. m) FP (mapping_placed r) (near r.mapping k)) key_text Key near_is kept kept_in
       ∙ sym (distinct-map same_place same_location key_text Key agree_L keys keys_in) ∙ ap (distinct same_location) described
 

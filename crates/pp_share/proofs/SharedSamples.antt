@@ -8,6 +8,7 @@ use Rattle.std.specs.Str.{bytes_eq}
 use Rattle.std.specs.Cmp.{IsEquivalence, decided}
 use Rattle.std.specs.Cmp.Lexicographic.{pointwise}
 use Rattle.std.proofs.lemmas.List.{length-map}
+use Rattle.std.proofs.lemmas.Simd.{map-map}
 use Rattle.pp_model.specs.declared.profile.Label.{Label}
 use Rattle.pp_model.specs.declared.profile.Profile.{Profile}
 use Rattle.pp_model.specs.Lookup.{text_of}
@@ -19,7 +20,6 @@ use Rattle.pp_share.specs.Placed.{function_placed, mapping_placed, locations_of,
 use Rattle.pp_share.specs.Sums.{counts, keys_of, sum_of, summed}
 use Rattle.pp_share.specs.SampleKeys.{sample_item, sample_of, equal_label, same_stack, summed_samples}
 use Rattle.pp_model.proofs.FirstSightLemmas.{all-seen_after}
-use Rattle.pp_share.proofs.Agreement.{map_map}
 use Rattle.pp_share.proofs.Deciding.{location_decides}
 use Rattle.pp_share.proofs.SummedLemmas.{summed-map}
 use Rattle.pp_share.proofs.Tables.{Names, read_named, ids_tell}
@@ -95,10 +95,10 @@ module _ (p : Profile) (texts_apart : IsDistinct bytes_eq p.text) (apart : IsDis
 
   sums_are : map (sample_text LP (text_of p)) r.sample ≡ filter counts (summed same_sample columns (map (sample_text LP (text_of p)) p.sample))
   sums_are =
-      map_map sample_of (sample_text LP (text_of p)) (filter counts (summed same_stack columns items))
+      map-map (sample_text LP (text_of p)) sample_of (filter counts (summed same_stack columns items))
       ∙ sym (filter_kept counts counts with_text (λ item. refl) (summed same_stack columns items))
       ∙ ap (filter counts) (sym (summed-map same_stack same_sample stack_text StackIn agree columns items items_in))
-      ∙ ap (λ l. filter counts (summed same_sample columns l)) (map_map sample_item with_text p.sample)
+      ∙ ap (λ l. filter counts (summed same_sample columns l)) (map-map with_text sample_item p.sample)
 
   -- The profile with its samples added up says what it said, added up.
   pub samples_plain : plain r ≡ totalled columns (plain p)

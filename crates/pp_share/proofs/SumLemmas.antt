@@ -4,12 +4,9 @@ use Rattle.std.proofs.lemmas.List.Sums.{fold-append, sum_by-cons}
 use Rattle.std.proofs.lemmas.List.{length-replicate}
 use Rattle.std.proofs.Common.{◌≡◌, subst, fold, sum_by, ℕ, zero, suc, ◌+◌, ◌<◌, ◌≤◌, ℤ, pos, ◌+ℤ◌, nat_abs, List, [], ◌∷◌, ◌++◌, length, get_or, replicate, refl, sym, ap, ◌∙◌, arith}
 use Rattle.std.proofs.Math.IntN.{+ℤ_idl}
-use Rattle.std.proofs.lemmas.Int.{ints}
 use Rattle.std.proofs.lemmas.List.{ext_get_or}
+use Rattle.pp_base.proofs.Sums.{triangle}
 use Rattle.pp_share.specs.Sums.{added, column_totals}
-
-pub triangle : (a b : ℤ) → nat_abs (a +ℤ b) ≤ nat_abs a + nat_abs b
-triangle a b = omega (arith, ints)
 
 pub length-added : (xs ys : List ℤ) → length (added xs ys) ≡ length xs
 length-added [] ys = refl

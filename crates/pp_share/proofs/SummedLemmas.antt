@@ -2,12 +2,13 @@
 use Rattle.std.proofs.Common.{◌≡◌, ℕ, Bool, true, false, ◌||◌, ℤ, List, [], ◌∷◌, length, map, filter, refl, sym, ap, ◌∙◌, if◌then◌else◌}
 use Rattle.std.specs.List.{list_any, AllByRecursion, IsDistinct}
 use Rattle.std.specs.Cmp.{IsEquivalence}
+use Rattle.std.proofs.lemmas.Simd.{map-map}
+use Rattle.pp_base.proofs.Lists.{all_by, map_agree}
 use Rattle.pp_model.specs.FirstSight.{distinct}
 use Rattle.pp_share.specs.Sums.{column_totals, keys_of, rows_of, sum_of, summed}
-use Rattle.pp_model.proofs.FirstSightLemmas.{all_as, map_agree, distinct-map, all-seen_after}
+use Rattle.pp_model.proofs.FirstSightLemmas.{distinct-map, all-seen_after}
 use Rattle.pp_share.proofs.DistinctLemmas.{distinct_same}
 use Rattle.pp_share.proofs.SumLemmas.{added-zeros}
-use Rattle.pp_share.proofs.Agreement.{map_map}
 use Rattle.pp_share.proofs.Grouping.{no_rows}
 
 module _ {A B : Type 0} (one : A → A → Bool) (other : B → B → Bool) (describe : A → B) (P : A → Type 0)
@@ -42,12 +43,12 @@ module _ {A B : Type 0} (one : A → A → Bool) (other : B → B → Bool) (des
       let few_all = all-seen_after one other describe P agree [] keys tt (keys_all items all) in
       let put : B → B × List ℤ = λ key. (key, sum_of other columns (map with_text items) key) in
       let own : A → A × List ℤ = λ key. (key, sum_of one columns items key) in
-      ap (λ l. map put (distinct other l)) (map_map with_text (λ item. item.0) items ∙ sym (map_map (λ (item : A × List ℤ). item.0) describe items))
+      ap (λ l. map put (distinct other l)) (map-map (λ item. item.0) with_text items ∙ sym (map-map describe (λ (item : A × List ℤ). item.0) items))
       ∙ ap (map put) (distinct-map one other describe P agree keys (keys_all items all))
-      ∙ map_map describe put few
+      ∙ map-map put describe few
       ∙ map_agree (λ key. put (describe key)) (λ key. with_text (own key)) few
-      (all_as P (λ key. put (describe key) ≡ with_text (own key)) (λ key p. ap (λ rows. (describe key, column_totals columns rows)) (rows-map key p items all)) few few_all)
-      ∙ sym (map_map own with_text few)
+      (all_by P (λ key. put (describe key) ≡ with_text (own key)) (λ key p. ap (λ rows. (describe key, column_totals columns rows)) (rows-map key p items all)) few few_all)
+      ∙ sym (map-map with_text own few)
 
 module _ {K : Type 0} (same : K → K → Bool) (laws : IsEquivalence same) (columns : ℕ) where
   any_none : (x : K) (ys : List K) → AllByRecursion (λ y. same x y ≡ false) ys → list_any (same x) ys ≡ false
@@ -78,7 +79,7 @@ module _ {K : Type 0} (same : K → K → Bool) (laws : IsEquivalence same) (col
       others : map (with_sum (x ∷ xs)) (keys_of same xs) ≡ map (with_sum xs) (keys_of same xs)
       others =
           map_agree (with_sum (x ∷ xs)) (with_sum xs) (keys_of same xs)
-          (all_as (λ y. same x.0 y ≡ false) (λ key. with_sum (x ∷ xs) key ≡ with_sum xs key)
+          (all_by (λ y. same x.0 y ≡ false) (λ key. with_sum (x ∷ xs) key ≡ with_sum xs key)
           (λ key apart. with_sum_is x xs key false (laws.symm key x.0 ∙ apart)) (keys_of same xs) apart.0)
 
   -- Items whose keys are distinct are their own sums.

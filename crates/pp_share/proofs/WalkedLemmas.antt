@@ -7,6 +7,7 @@ use Rattle.std.specs.Str.{bytes_eq}
 use Rattle.std.specs.Cmp.{IsEquivalence, nat_eq_equiv, decided}
 use Rattle.std.specs.Cmp.Lexicographic.{lists_equiv}
 use Rattle.std.proofs.lemmas.List.{length-map, map-append, append-nil}
+use Rattle.std.proofs.lemmas.Simd.{map-map}
 use Rattle.pp_model.specs.declared.profile.ValueType.{ValueType}
 use Rattle.pp_model.specs.declared.profile.Label.{Label}
 use Rattle.pp_model.specs.declared.profile.Sample.{Sample}
@@ -30,7 +31,6 @@ use Rattle.pp_share.specs.Placed.{functions_of, mappings_of, function_placed, ma
 use Rattle.pp_share.specs.Written.{Contents, written, locations, mappings, functions, walked_texts, texts, index_of, type_texts, label_texts, written_type, written_label, written_line, written_function, written_mapping, written_location, written_sample}
 use Rattle.pp_model.proofs.LookupLemmas.{no_function, no_mapping}
 use Rattle.pp_share.proofs.Prefix.{all_tt}
-use Rattle.pp_share.proofs.Agreement.{map_map}
 use Rattle.pp_share.proofs.Deciding.{function_decides, mapping_decides, location_decides}
 use Rattle.pp_share.proofs.IdLemmas.{place_within}
 use Rattle.pp_share.proofs.Tables.{Names, IsRef, named, read_named, walk_entries, walk_names, walk_place, walk_ref, gathered_is}
@@ -385,10 +385,10 @@ module _ (p : Profile) (ready : IsReady p) where
     same_sample_written s is = (λ j. record {
       location_id = (map_as (place_id LM) (λ id. place_of same_location (locations c) (location_placed (λ m. m) p id) + 1) (Names (length LT))
           (λ id n. location_id_written id n ∙ (λ i. place_of same_location (locations c) (sym (placed id n) i) + 1)) s.location_id is.locations
-          ∙ sym (map_map (location_placed (λ m. m) p) (λ l. place_of same_location (locations c) l + 1) s.location_id)) j;
+          ∙ sym (map-map (λ l. place_of same_location (locations c) l + 1) (location_placed (λ m. m) p) s.location_id)) j;
       value = s.value;
       label = (map_as (renumbered_label by) (λ l. written_label c (label_text (text_of p) l)) (LabelIn (length T)) same_label_written s.label is.labels
-          ∙ sym (map_map (label_text (text_of p)) (written_label c) s.label)) j;
+          ∙ sym (map-map (written_label c) (label_text (text_of p)) s.label)) j;
     })
 
     same_mapping_written : (id : ℕ) → Names (length MT) id → renumbered_mapping by (mapping_entry (M id) id) ≡ written_mapping c (named MT none_mapping id)
@@ -444,7 +444,7 @@ module _ (p : Profile) (ready : IsReady p) where
           address = (sym (plus_less l.address (option_map_or (λ m. m.start) (mapping_placed p l.mapping_id) 0) is.address)
               ∙ (λ i. plus (less l.address (option_map_or (λ m. m.start) (mapping_placed p l.mapping_id) 0)) (option_map_or (λ m. m.start) (sym own_mapping i) 0))) j;
           line = (map_as (renumbered_line by) (λ line. written_line c (line_text (function_placed p) line)) (λ line. IsRef (length FT) line.function_id) same_line_written l.line is.lines
-              ∙ sym (map_map (line_text (function_placed p)) (written_line c) l.line)) j;
+              ∙ sym (map-map (written_line c) (line_text (function_placed p)) l.line)) j;
           folded = l.folded;
         })
         ∙ ap (written_location c) (sym (text_L id n))
@@ -452,30 +452,30 @@ module _ (p : Profile) (ready : IsReady p) where
     types_written : map (renumbered_type by) p.sample_type ≡ map (written_type c) c.header.types
     types_written =
         map_as (renumbered_type by) (λ t. written_type c (type_text p t)) (TypeIn (length T)) same_type_written p.sample_type ready.header.types
-        ∙ sym (map_map (type_text p) (written_type c) p.sample_type)
+        ∙ sym (map-map (written_type c) (type_text p) p.sample_type)
 
     samples_written : map (renumbered_sample by) p.sample ≡ map (written_sample c) c.samples
     samples_written =
         map_as (renumbered_sample by) (λ s. written_sample c (sample_text (location_placed (λ m. m) p) (text_of p) s)) (SampleIn (length T) (length LT)) same_sample_written p.sample sample_refs
-        ∙ sym (map_map (sample_text (location_placed (λ m. m) p) (text_of p)) (written_sample c) p.sample)
+        ∙ sym (map-map (written_sample c) (sample_text (location_placed (λ m. m) p) (text_of p)) p.sample)
 
     mappings_written : map (renumbered_mapping by) (gathered mapping_entry p.mapping MM) ≡ map (written_mapping c) (mappings c)
     mappings_written =
-        ap (map (renumbered_mapping by)) mapped_is ∙ map_map (λ id. mapping_entry (M id) id) (renumbered_mapping by) MM
+        ap (map (renumbered_mapping by)) mapped_is ∙ map-map (renumbered_mapping by) (λ id. mapping_entry (M id) id) MM
         ∙ map_as (λ id. renumbered_mapping by (mapping_entry (M id) id)) (λ id. written_mapping c (named MT none_mapping id)) (Names (length MT)) same_mapping_written MM MM_names
-        ∙ sym (map_map (named MT none_mapping) (written_mapping c) MM) ∙ ap (map (written_mapping c)) (sym mappings_are)
+        ∙ sym (map-map (written_mapping c) (named MT none_mapping) MM) ∙ ap (map (written_mapping c)) (sym mappings_are)
 
     functions_written : map (renumbered_function by) (gathered function_entry p.function FM) ≡ map (written_function c) (functions c)
     functions_written =
-        ap (map (renumbered_function by)) named_is ∙ map_map (λ id. function_entry (F id) id) (renumbered_function by) FM
+        ap (map (renumbered_function by)) named_is ∙ map-map (renumbered_function by) (λ id. function_entry (F id) id) FM
         ∙ map_as (λ id. renumbered_function by (function_entry (F id) id)) (λ id. written_function c (named FT none_text id)) (Names (length FT)) same_function_written FM FM_names
-        ∙ sym (map_map (named FT none_text) (written_function c) FM) ∙ ap (map (written_function c)) (sym functions_are)
+        ∙ sym (map-map (written_function c) (named FT none_text) FM) ∙ ap (map (written_function c)) (sym functions_are)
 
     locations_written : map (renumbered_location by) (gathered location_entry p.location LM) ≡ map (written_location c) (locations c)
     locations_written =
-        ap (map (renumbered_location by)) located_is ∙ map_map place (renumbered_location by) LM
+        ap (map (renumbered_location by)) located_is ∙ map-map (renumbered_location by) place LM
         ∙ map_as (λ id. renumbered_location by (place id)) (λ id. written_location c (named LT nowhere id)) (Names (length LT)) same_location_written LM LM_names
-        ∙ sym (map_map (named LT nowhere) (written_location c) LM) ∙ ap (map (written_location c)) (sym locations_are)
+        ∙ sym (map-map (written_location c) (named LT nowhere) LM) ∙ ap (map (written_location c)) (sym locations_are)
 
     texts_written : gathered (λ text id. text) T TM ≡ texts c
     texts_written = gathered_is (λ text id. text) T [] TM TM_names ∙ sym texts_are
@@ -483,7 +483,7 @@ module _ (p : Profile) (ready : IsReady p) where
     comments_written : map by.text p.comment ≡ map (index_of c) c.header.comments
     comments_written =
         map_as by.text (λ i. index_of c (text_of p i)) (InTexts (length T)) same_index p.comment ready.header.comments
-        ∙ sym (map_map (text_of p) (index_of c) p.comment) ∙ ap (map (index_of c)) (sym comments_are)
+        ∙ sym (map-map (index_of c) (text_of p) p.comment) ∙ ap (map (index_of c)) (sym comments_are)
 
     -- The profile in the order of the walk is what is written of what it says.
     pub walked_is : walked p ≡ written (plain p)

@@ -1,12 +1,13 @@
 -- How the words after a command are taken, from left to right.
 use Rattle.std.proofs.Common.{◌≡◌, ℕ, ◌+◌, ◌<◌, ◌≤◌, Bool, true, false, List, [], ◌∷◌, ◌++◌, length, get_or, cond, map, drop, refl, ap, sym, subst, ◌∙◌, append_assoc, arith}
-use Rattle.std.specs.Prelude.{Option, Some, None, ◌||◌, Result, Ok, Err}
+use Rattle.std.specs.Prelude.{Option, None, ◌||◌, Result, Ok, Err}
 use Rattle.std.specs.Option.{option_or}
 use Rattle.std.specs.List.{filter_map, cons_option, last_or, list_any}
 use Rattle.std.proofs.Math.Bool.{or-false, or-true}
 use Rattle.std.proofs.lemmas.List.{append-nil, drop-drop, drop_more, length-drop}
 use Rattle.std.proofs.lemmas.List.Elements.{filter_map-append}
 use Rattle.std.proofs.lemmas.List.Folds.{list_any-append}
+use Rattle.pp_base.proofs.Lists.{last_push}
 use Rattle.pp_shell.specs.declared.fault.LineFault.{LineFault}
 use Rattle.pp_shell.specs.declared.fault.LineFault.TheVariants.{EmptyRedirect}
 use Rattle.pp_shell.specs.declared.fault.LineRefusal.{LineRefusal}
@@ -27,12 +28,6 @@ same_narrowing a b r c f g o = λ i. record {
   ignore = g i;
   output = o i;
 }
-
--- the last of a list, with an item more or none
-last_push : {A : Type 0} (known : Option A) (xs : List A) (o : Option A) → last_or known (xs ++ cons_option o []) ≡ option_or o (last_or known xs)
-last_push known [] None = refl
-last_push known [] (Some x) = refl
-last_push known (y ∷ ys) o = last_push (Some y) ys o
 
 -- patterns that are one_pattern, and one more
 joined_more : (x : List ℕ) (xs : List (List ℕ)) (p : List ℕ) → one_pattern (x ∷ xs ++ p ∷ []) ≡ one_pattern (x ∷ xs) ++ 124 ∷ p

@@ -11,6 +11,8 @@ use Rattle.std.proofs.lemmas.List.Folds.{list_any-append}
 use Rattle.std.proofs.lemmas.List.Sorted.{IsPermutation-map, list_any-IsPermutation}
 use Rattle.std.proofs.lemmas.Map.Keys.{IsDistinct-IsPermutation}
 use Rattle.std.proofs.lemmas.Map.Views.{any-filter_same}
+use Rattle.std.proofs.Math.Bool.{and_comm}
+use Rattle.pp_base.proofs.Booleans.{same_bool}
 use Rattle.pp_model.specs.declared.profile.Profile.{Profile}
 use Rattle.pp_model.specs.Finders.{Finders}
 use Rattle.pp_model.specs.FirstSight.{place_of}
@@ -26,7 +28,6 @@ use Rattle.pp_count.specs.Counted.{finds_own}
 use Rattle.pp_count.specs.Sums.{Seen, has, occurs, renamed}
 use Rattle.pp_count.specs.Table.{no_key}
 use Rattle.pp_count.proofs.EachOnce.{ranked}
-use Rattle.pp_count.proofs.Renaming.{same_bool}
 use Rattle.pp_count.proofs.Ties.{tied, tied_self}
 use Rattle.pp_source.specs.declared.ledger.Ledger.{Ledger}
 use Rattle.pp_source.specs.declared.lines.FoundLine.{FoundLine}
@@ -38,12 +39,6 @@ use Rattle.pp_source.specs.Routines.{all_lines, found_lines}
 use Rattle.pp_source.specs.Tally.{no_line_tally, tally_of}
 use Rattle.pp_source.proofs.InOrder.{distinct_apart}
 use Rattle.pp_source.proofs.Parts.{has_told, placed, same_told}
-
-and_flips : (a b : Bool) → (a && b) ≡ (b && a)
-and_flips true true = refl
-and_flips true false = refl
-and_flips false true = refl
-and_flips false false = refl
 
 -- a key of those that are found is found
 found_own : (p : Profile) (own : Option (List Bool)) (names : List Key) → AreFound p own names → (k : Key) → is_among_keys k names ≡ true → has_own_function own k ≡ true
@@ -57,10 +52,10 @@ seen_is p own t found k =
     any-filter_same (same_key k) (λ q. nat_lt 0 (tally_of_key t q).last) (nat_lt 0 (tally_of_key t k).last) (λ q same. ap (λ x. nat_lt 0 (tally_of_key t x).last) (sym ((key_decides k q).0 same))) t.names.keys
     ∙ by (is_among_keys k t.names.keys) refl where
       by : (b : Bool) → is_among_keys k t.names.keys ≡ b → (nat_lt 0 (tally_of_key t k).last && is_among_keys k t.names.keys) ≡ (has_own_function own k && nat_lt 0 (tally_of_key t k).last)
-      by true there = and_flips (nat_lt 0 (tally_of_key t k).last) (is_among_keys k t.names.keys) ∙ (λ i. (there ∙ sym (found_own p own t.names.keys found k there)) i && nat_lt 0 (tally_of_key t k).last)
+      by true there = and_comm (nat_lt 0 (tally_of_key t k).last) (is_among_keys k t.names.keys) ∙ (λ i. (there ∙ sym (found_own p own t.names.keys found k there)) i && nat_lt 0 (tally_of_key t k).last)
       by false none =
           let zero : nat_lt 0 (tally_of_key t k).last ≡ false = ap (λ b. nat_lt 0 (cond b (tally_of t.sums.items (place_of same_key t.names.keys k)) no_line_tally).last) none in
-          (λ i. zero i && is_among_keys k t.names.keys) ∙ sym (ap (λ b. has_own_function own k && b) zero ∙ and_flips (has_own_function own k) false)
+          (λ i. zero i && is_among_keys k t.names.keys) ∙ sym (ap (λ b. has_own_function own k && b) zero ∙ and_comm (has_own_function own k) false)
 
 -- keys that are left of distinct ones are distinct
 still_apart : (test : Key → Bool) (x : Key) (keys : List Key) → AllByRecursion (λ y. same_key x y ≡ false) keys → AllByRecursion (λ y. same_key x y ≡ false) (filter test keys)

@@ -2,29 +2,20 @@
 use Rattle.std.proofs.Common.{◌≡◌, ◌≢◌, ℕ, ◌+◌, ◌<◌, ◌||◌, Bool, true, false, cond, ℤ, ◌+ℤ◌, List, [], ◌∷◌, length, map, take, get_or, refl, sym, ap, ◌∙◌, subst, arith}
 use Rattle.std.specs.Prelude.{Result, Ok, Err, IfOk}
 use Rattle.std.specs.Ordering.{nat_cmp, eq_by_cmp}
-use Rattle.std.specs.Cmp.{unsigned_tied}
 use Rattle.std.proofs.lemmas.Bool.{false≢true, ne_eqb, eq-eqb}
 use Rattle.std.proofs.lemmas.List.{take_more, map-append}
 use Rattle.std.proofs.lemmas.List.Folds.{list_any-append}
+use Rattle.std.proofs.Math.Bool.{or-false}
+use Rattle.pp_base.proofs.Orders.{tied_with}
 use Rattle.pp_count.specs.Sums.{has}
-use Rattle.pp_count.proofs.Adding.{or-false}
 use Rattle.pp_count.proofs.Renaming.{tied_is}
 use Rattle.pp_source.specs.declared.tally.Tally.{Tally}
 use Rattle.pp_source.specs.Tally.{credited_once, led, cum_with, flat_with}
-
--- what is never true is false
-pub refuted : (b : Bool) → (b ≡ true → ⊥) → b ≡ false
-refuted true never = absurd (never refl)
-refuted false never = refl
 
 -- one of a result that is Ok
 pub if_one : {T E A C : Type 0} (r : Result T E) → (A → C) → IfOk r (λ _. A) → IfOk r (λ _. C)
 if_one (Ok x) then_so a = then_so a
 if_one (Err e) then_so a = tt
-
--- a number ties with itself
-pub ties : (a b : ℕ) → a ≡ b → eq_by_cmp nat_cmp a b ≡ true
-ties a b is = unsigned_tied a b ∙ eq-eqb a b is
 
 -- the cum of each number after one number more
 cum_more : (v : ℤ) (turn : ℕ) (t new : Tally) (h s : Bool) → t.last < turn
@@ -57,7 +48,7 @@ module _ (f : ℕ → ℕ) (v : ℤ) (keys : List ℕ) where
       (λ same.
       let there : k ≡ f key = tied_is k (f (get_or keys i key)) same ∙ ap f (sym is) in
       subst (λ q. new q ≡ credited_once v turn (cum_with v turn (map f (take i keys)) q (first q))) (sym there) (at ∙ ap (credited_once v turn) (each (f key))))
-      (λ other. others k (λ there. false≢true (sym other ∙ ties k (f (get_or keys i key)) (there ∙ ap f is))) ∙ each k)
+      (λ other. others k (λ there. false≢true (sym other ∙ tied_with k (f (get_or keys i key)) (there ∙ ap f is))) ∙ each k)
       ∙ ap (λ b. cond b (record { flat = (first k).flat; cum = (first k).cum +ℤ v; last = turn }) (first k)) (sym (has_more k i key within))
 
 -- the flat of each number after the first
@@ -70,5 +61,5 @@ flat_is f v (q ∷ keys) leaf old new some is at others k =
       | true ↦ λ same.
           let there : k ≡ f leaf = tied_is k (f q) same ∙ ap f (sym is) in
           subst (λ x. new x ≡ led v (old x)) (sym there) at
-      | false ↦ λ other. others k (λ there. false≢true (sym other ∙ ties k (f q) (there ∙ ap f is)))
+      | false ↦ λ other. others k (λ there. false≢true (sym other ∙ tied_with k (f q) (there ∙ ap f is)))
     ] refl

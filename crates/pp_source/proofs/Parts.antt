@@ -2,11 +2,13 @@
 use Rattle.std.proofs.Common.{◌≡◌, ℕ, zero, suc, ◌+◌, ◌<◌, ◌≤◌, ◌||◌, Bool, true, false, cond, not, pos, List, [], ◌∷◌, ◌++◌, length, map, take, get_or, All, Option, Some, None, nat_lt, position, refl, sym, ap, ◌∙◌, subst, arith}
 use Rattle.std.specs.List.{list_any, filter, slice_get}
 use Rattle.std.specs.Ordering.{nat_cmp, eq_by_cmp}
-use Rattle.std.proofs.lemmas.Bool.{false≢true}
+use Rattle.std.proofs.lemmas.Bool.{false≢true, false_from_ne_true}
 use Rattle.std.proofs.lemmas.List.{get_or-map, map-append, take_more}
 use Rattle.std.proofs.lemmas.List.Elements.{All-filter, All-map, All-nil, All-push, All-head, All-tail, filter-append, filter_passes}
 use Rattle.std.proofs.lemmas.List.Sums.{fold-append}
 use Rattle.std.proofs.lemmas.Option.{get_or_from_slice_get, slice_get_within}
+use Rattle.pp_base.proofs.Booleans.{same_bool}
+use Rattle.pp_base.proofs.Orders.{tied_with}
 use Rattle.pp_model.specs.declared.profile.Profile.{Profile}
 use Rattle.pp_model.specs.FirstSight.{distinct, place_of, seen_after, seen_with}
 use Rattle.pp_model.proofs.FirstSightLemmas.{seen-seen_after, seen_now}
@@ -19,7 +21,7 @@ use Rattle.pp_grain.specs.Sight.{same_key}
 use Rattle.pp_grain.proofs.SightLemmas.{key_decides}
 use Rattle.pp_grain.proofs.CallerLemmas.{same_keys}
 use Rattle.pp_count.specs.Table.{no_key, written_key}
-use Rattle.pp_count.proofs.Renaming.{same_bool, tied_is}
+use Rattle.pp_count.proofs.Renaming.{tied_is}
 use Rattle.pp_count.proofs.Ties.{tied, tied_self}
 use Rattle.pp_source.specs.declared.found.Found.{Found}
 use Rattle.pp_source.specs.declared.found.Part.{Part}
@@ -27,7 +29,6 @@ use Rattle.pp_source.specs.declared.found.Part.TheVariants.{Routine, Line}
 use Rattle.pp_source.specs.Found.{IsFoundOf, is_among_keys, has_own_function, part_key, part_number, part_of, found_parts}
 use Rattle.pp_source.specs.Ledgers.{AreFound}
 use Rattle.pp_source.specs.Tally.{renumbered}
-use Rattle.pp_source.proofs.Keys.{refuted, ties}
 
 pub same_self : (k : Key) → same_key k k ≡ true
 same_self k = (key_decides k k).1 refl
@@ -183,7 +184,7 @@ module _ (p : Profile) (zero_text : (text_at p 0 ≡ []) × (0 < length p.text))
         let here : IsPlaced k names (place_of same_key names k) = placed k names there in
         told_same k n compact of_k within
         ∙ same_bool _ _
-        (λ same. ties (place_of same_key names k) (renumbered found.numbers.items n) (ap (place_of same_key names) ((key_decides k q).0 same) ∙ sym (number_is n within)))
+        (λ same. tied_with (place_of same_key names k) (renumbered found.numbers.items n) (ap (place_of same_key names) ((key_decides k q).0 same) ∙ sym (number_is n within)))
         (λ tie.
         let at : place_of same_key names k ≡ place_of same_key names q = tied_is (place_of same_key names k) (renumbered found.numbers.items n) tie ∙ number_is n within in
         let other : IsPlaced q names (place_of same_key names q) = placed q names (placed_has q names (omega (arith, at, here.within))) in
@@ -196,7 +197,7 @@ module _ (p : Profile) (zero_text : (text_at p 0 ≡ []) × (0 < length p.text))
         let at : Key = get_or keys n no_key in
         let q : Key = part_key part at in
         told_same k n compact of_k within
-        ∙ refuted (same_key k q) (λ same.
+        ∙ false_from_ne_true (same_key k q) (λ same.
         let key_is : k ≡ q = (key_decides k q).0 same in
         false≢true (sym none ∙ ap (λ x. is_among_keys x found.names.keys) key_is ∙ ap (is_among_keys q) is.names
         ∙ part_seen own part [] keys n within (sym (part_own own part at) ∙ ap (has_own_function own) (sym key_is) ∙ own_k)))

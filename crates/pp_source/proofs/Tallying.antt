@@ -1,14 +1,14 @@
 -- How tallies grow with one more sample.
-use Rattle.std.proofs.Common.{◌≡◌, ℕ, ◌+◌, ◌<◌, ◌≤◌, ◌^◌, Bool, true, false, cond, not, ◌||◌, ℤ, pos, ◌+ℤ◌, nat_abs, List, [], ◌∷◌, ◌++◌, map, refl, sym, ap, ◌∙◌, subst, ⊎_elim, arith}
+use Rattle.std.proofs.Common.{◌≡◌, ℕ, ◌+◌, ◌<◌, ◌≤◌, ◌^◌, Bool, true, false, cond, not, ℤ, pos, ◌+ℤ◌, nat_abs, List, [], ◌∷◌, ◌++◌, map, refl, sym, ap, ◌∙◌, subst, ⊎_elim, arith}
 use Rattle.std.specs.Ordering.{nat_cmp, int_eq}
 use Rattle.std.proofs.Math.IntN.{+ℤ_idr}
 use Rattle.std.proofs.lemmas.Bool.{cases_Bool, lt-ltb}
 use Rattle.std.proofs.lemmas.List.{append-nil, map-append}
 use Rattle.std.proofs.lemmas.List.Elements.{filter-append}
-use Rattle.std.proofs.lemmas.List.Folds.{list_any-append}
 use Rattle.std.proofs.lemmas.List.Sums.{sum_by-cons}
+use Rattle.std.proofs.Math.Bool.{or-false}
 use Rattle.pp_count.specs.Sums.{Seen, weighed, renamed, absolute, has, leads, cum, flat, occurs, sum_where}
-use Rattle.pp_count.proofs.Adding.{sum_where_push, sum_bound, or-true, or-false}
+use Rattle.pp_count.proofs.Adding.{sum_where_push, sum_bound, or-true, occurs_push_or}
 use Rattle.pp_count.proofs.CallerLemmas.{weighed-renamed}
 use Rattle.pp_source.specs.declared.found.Found.{Found}
 use Rattle.pp_source.specs.declared.tally.Tally.{Tally}
@@ -20,10 +20,6 @@ pushed : (test : List ℕ → Bool) (ss : List (Seen ℕ)) (s : Seen ℕ) (b : B
     → sum_where test ss +ℤ cond b s.value (pos 0) ≡ sum_where test (ss ++ s ∷ [])
 pushed test ss s b is = ap (λ q. sum_where test ss +ℤ cond q s.value (pos 0)) (sym is) ∙ sym (sum_where_push test ss s)
 
-occurs_push : (ss : List (Seen ℕ)) (s : Seen ℕ) (k : ℕ) (b : Bool) → has nat_cmp k s.keys ≡ b → (occurs nat_cmp ss k || b) ≡ occurs nat_cmp (ss ++ s ∷ []) k
-occurs_push ss s k b is =
-    ap (λ q. occurs nat_cmp ss k || q) (sym is ∙ sym (or-false (has nat_cmp k s.keys))) ∙ sym (list_any-append (λ (t : Seen ℕ). has nat_cmp k t.keys) ss (s ∷ []))
-
 -- the tally after one more sample
 tally_after : (ss : List (Seen ℕ)) (s : Seen ℕ) (k turn : ℕ) (t : Tally) (h l : Bool) → has nat_cmp k s.keys ≡ h → leads nat_cmp k s.keys ≡ l
     → 0 < turn → IsTallyBy nat_cmp ss k t
@@ -32,22 +28,22 @@ tally_after : (ss : List (Seen ℕ)) (s : Seen ℕ) (k turn : ℕ) (t : Tally) (
 tally_after ss s k turn t true true has_it leads_it some is = record {
   flat = ap (λ z. z +ℤ s.value) is.flat ∙ pushed (leads nat_cmp k) ss s true leads_it;
   cum = ap (λ z. z +ℤ s.value) is.cum ∙ pushed (has nat_cmp k) ss s true has_it;
-  occurs = lt-ltb 0 turn some ∙ sym (or-true (occurs nat_cmp ss k)) ∙ occurs_push ss s k true has_it;
+  occurs = lt-ltb 0 turn some ∙ sym (or-true (occurs nat_cmp ss k)) ∙ occurs_push_or ss s k true has_it;
 }
 tally_after ss s k turn t true false has_it leads_it some is = record {
   flat = is.flat ∙ sym (+ℤ_idr (flat nat_cmp ss k)) ∙ pushed (leads nat_cmp k) ss s false leads_it;
   cum = ap (λ z. z +ℤ s.value) is.cum ∙ pushed (has nat_cmp k) ss s true has_it;
-  occurs = lt-ltb 0 turn some ∙ sym (or-true (occurs nat_cmp ss k)) ∙ occurs_push ss s k true has_it;
+  occurs = lt-ltb 0 turn some ∙ sym (or-true (occurs nat_cmp ss k)) ∙ occurs_push_or ss s k true has_it;
 }
 tally_after ss s k turn t false true has_it leads_it some is = record {
   flat = ap (λ z. z +ℤ s.value) is.flat ∙ pushed (leads nat_cmp k) ss s true leads_it;
   cum = is.cum ∙ sym (+ℤ_idr (cum nat_cmp ss k)) ∙ pushed (has nat_cmp k) ss s false has_it;
-  occurs = is.occurs ∙ sym (or-false (occurs nat_cmp ss k)) ∙ occurs_push ss s k false has_it;
+  occurs = is.occurs ∙ sym (or-false (occurs nat_cmp ss k)) ∙ occurs_push_or ss s k false has_it;
 }
 tally_after ss s k turn t false false has_it leads_it some is = record {
   flat = is.flat ∙ sym (+ℤ_idr (flat nat_cmp ss k)) ∙ pushed (leads nat_cmp k) ss s false leads_it;
   cum = is.cum ∙ sym (+ℤ_idr (cum nat_cmp ss k)) ∙ pushed (has nat_cmp k) ss s false has_it;
-  occurs = is.occurs ∙ sym (or-false (occurs nat_cmp ss k)) ∙ occurs_push ss s k false has_it;
+  occurs = is.occurs ∙ sym (or-false (occurs nat_cmp ss k)) ∙ occurs_push_or ss s k false has_it;
 }
 
 -- the last turn is this one or an earlier one

@@ -1,8 +1,9 @@
 -- The verdicts of a loaded profile are what its finders find. For crates above.
-use Rattle.std.proofs.Common.{◌≡◌, ◌≢◌, ℕ, suc, ◌<◌, Bool, true, false, cond, List, [], ◌∷◌, length, map, get_or, refl, sym, ap, ◌∙◌, arith, AllPairs}
+use Rattle.std.proofs.Common.{◌≡◌, ◌≢◌, ℕ, suc, ◌<◌, Bool, cond, List, [], ◌∷◌, length, map, get_or, refl, sym, ap, ◌∙◌, arith, AllPairs}
 use Rattle.std.specs.Prelude.{Option, Some, None, option_map, bytes_eq}
 use Rattle.std.specs.Option.{ForSome}
 use Rattle.std.proofs.lemmas.Slice.Eq.{bytes_eq-Decides}
+use Rattle.std.proofs.lemmas.Bool.{false_from_ne_true}
 use Rattle.pp_model.specs.declared.profile.Profile.{Profile}
 use Rattle.pp_model.specs.Judged.{judged}
 use Rattle.pp_model.specs.Rules.{IsCompact}
@@ -13,17 +14,13 @@ same_map : (f g : List ℕ → Bool) (ts : List (List ℕ)) → ((k : ℕ) (d : 
 same_map f g [] same = refl
 same_map f g (t ∷ ts) same = λ i. same 0 [] (omega arith) i ∷ same_map f g ts (λ k d below. same (suc k) d (omega (arith, below))) i
 
-is_false : (b : Bool) → (b ≡ true → ⊥) → b ≡ false
-is_false true wrong = absurd (wrong refl)
-is_false false wrong = refl
-
 -- the verdict on the first text, and on another one
 found_here : (t : List ℕ) (ts : List (List ℕ)) (v : Bool) (vs : List Bool) → known_verdict (t ∷ ts) (v ∷ vs) t ≡ v
 found_here t ts v vs = ap (λ b. cond b v (known_verdict ts vs t)) ((bytes_eq-Decides t t).1 refl)
 
 found_later : (t x : List ℕ) (ts : List (List ℕ)) (v : Bool) (vs : List Bool) → t ≢ x → known_verdict (t ∷ ts) (v ∷ vs) x ≡ known_verdict ts vs x
 found_later t x ts v vs apart =
-    ap (λ b. cond b v (known_verdict ts vs x)) (is_false (bytes_eq t x) (λ same. apart ((bytes_eq-Decides t x).0 same)))
+    ap (λ b. cond b v (known_verdict ts vs x)) (false_from_ne_true (bytes_eq t x) (λ same. apart ((bytes_eq-Decides t x).0 same)))
 
 -- the verdicts on distinct texts are those that were given
 same_verdicts : (ts : List (List ℕ)) (vs : List Bool) → AllPairs (λ a b. a ≢ b) ts → length vs ≡ length ts → map (known_verdict ts vs) ts ≡ vs

@@ -1,7 +1,8 @@
 -- The numbers of a profile that was read lie in their types.
-use Rattle.std.proofs.Common.{◌≡◌, ℕ, ℤ, pos, Bool, true, false, cond, eqb, List, [], ◌∷◌, ◌++◌, filter, map, Option, Some, None, Result, Ok, Err, subst, lit<}
+use Rattle.std.proofs.Common.{◌≡◌, ℕ, ℤ, pos, Bool, true, false, cond, eqb, List, [], ◌∷◌, filter, map, Option, Some, None, Result, Ok, Err, subst, lit<}
 use Rattle.std.specs.Int.{w64}
 use Rattle.std.specs.List.{flat_map, AllByRecursion}
+use Rattle.pp_base.proofs.Lists.{all_append}
 use mir.ValLaws.{to_z-Fits}
 use Rattle.pp_wire.specs.declared.fault.WireFault.{WireFault}
 use Rattle.pp_wire.specs.Fields.{Content, Varint, Eight, Four, Bytes, Item, fields}
@@ -16,13 +17,9 @@ use Rattle.pp_tables.specs.Fits.{IsUint, IsInt, ValueTypeFits, LabelFits, Sample
 
 -- ---- what the fields of one number give
 
-all_both : {A : Type 0} (P : A → Type 0) (xs ys : List A) → AllByRecursion P xs → AllByRecursion P ys → AllByRecursion P (xs ++ ys)
-all_both P [] ys h g = g
-all_both P (x ∷ xs) ys h g = (h.0, all_both P xs ys h.1 g)
-
 case_fits : {A : Type 0} (P : A → Type 0) (b : Bool) (read : Item → List A) (i : Item) (rest : List Item) → AllByRecursion P (read i) → AllByRecursion P (flat_map read rest)
     → AllByRecursion P (flat_map read (cond b (i ∷ rest) rest))
-case_fits P true read i rest one others = all_both P (read i) (flat_map read rest) one others
+case_fits P true read i rest one others = all_append P (read i) (flat_map read rest) one others
 case_fits P false read i rest one others = others
 
 -- where each field gives such ones

@@ -1,9 +1,8 @@
 -- A profile's canonical bytes are read as that profile.
 use Rattle.std.proofs.Common.{◌≡◌, ℕ, ℤ, pos, ◌<◌, ◌^◌, Bool, true, false, cond, eqb, List, [], ◌∷◌, ◌++◌, length, map, None, Ok, Err, refl, sym, ap, subst, ◌∙◌, append_assoc, arith, lit≤, lit<}
-use Rattle.std.specs.Prelude.{◌&&◌}
 use Rattle.std.specs.List.{AllByRecursion}
 use Rattle.std.proofs.lemmas.List.{append-nil, length-append}
-use Rattle.std.proofs.lemmas.Bool.{eqb-true}
+use Rattle.std.proofs.lemmas.Bool.{eqb-true, and_parts, false_from_ne_true}
 use Rattle.pp_wire.specs.Walk.{walk_in}
 use Rattle.pp_wire.specs.Fields.{fields, field, field_in, number_in, content}
 use Rattle.pp_wire.specs.Varint.{groups, varint}
@@ -61,17 +60,12 @@ period_case v false fits short =
 period_adds : (v : ValueType) → ValueTypeFits v → length (period_type_field v) < 2 ^ 64 → Adds profile_message (period_type_field v) (period_set v (is_no_type v))
 period_adds v fits short = period_case v (is_no_type v) fits short
 
-both : (a b : Bool) → (a && b) ≡ true → (a ≡ true) × (b ≡ true)
-both true true e = (refl, refl)
-both true false e = absurd cc
-both false b e = absurd cc
-
 zero_back : (z : ℤ) → IsInt z → eqb (unsigned z) 0 ≡ true → z ≡ pos 0
 zero_back z fits t = sym (int_back z fits) ∙ ap (λ b. cond b (pos 0) (signed (unsigned z))) t
 
 period_left_out : (v : ValueType) (left_out : Bool) → ValueTypeFits v → is_no_type v ≡ left_out → cond left_out no_value_type (value_type_change v no_value_type) ≡ v
 period_left_out v true fits is =
-    let zeros = both (eqb (unsigned v.kind) 0) (eqb (unsigned v.unit) 0) is in
+    let zeros = and_parts (eqb (unsigned v.kind) 0) (eqb (unsigned v.unit) 0) is in
     ap (λ (kind : ℤ). record { kind = kind; unit = pos 0 }) (sym (zero_back v.kind fits.kind zeros.0))
     ∙ ap (λ (unit : ℤ). record { kind = v.kind; unit = unit }) (sym (zero_back v.unit fits.unit zeros.1))
 period_left_out v false fits is = value_type_back v fits
@@ -168,12 +162,8 @@ gzip_fault : (bytes : List ℕ) → is_gzip bytes ≡ true → walk_fault profil
 gzip_fault [] e sound = absurd cc
 gzip_fault (a ∷ []) e sound = absurd cc
 gzip_fault (a ∷ b ∷ bytes) e sound =
-    let first : a ≡ 31 = eqb-true a 31 (both (eqb a 31) (eqb b 139) e).0 in
+    let first : a ≡ 31 = eqb-true a 31 (and_parts (eqb a 31) (eqb b 139) e).0 in
     gzip_kind b bytes (subst (λ (n : ℕ). walk_fault profile_rules (fields (n ∷ b ∷ bytes) 0) ≡ None) first sound)
-
-not_true : (b : Bool) → (b ≡ true → ⊥) → b ≡ false
-not_true true h = absurd (h refl)
-not_true false h = refl
 
 nothing_read : (p : Profile) (bytes : List ℕ) → bytes ≡ [] → profile_after no_profile (fields bytes 0).items ≡ p → zero_unless (begins_empty p.text) ≡ None → ⊥
 unfolding walk_in
@@ -184,7 +174,7 @@ nothing_read p bytes none filled sound =
 read_whole : (bytes : List ℕ) (p : Profile) → (bytes ≡ [] → ⊥) → fault_in profile_rules bytes 0 ≡ None → profile_of (fields bytes 0).items ≡ p → read bytes ≡ Ok p
 read_whole [] p some sound is = absurd (some refl)
 read_whole (b ∷ bytes) p some sound is =
-    let plain : is_gzip (b ∷ bytes) ≡ false = not_true (is_gzip (b ∷ bytes)) (λ e. gzip_fault (b ∷ bytes) e sound) in
+    let plain : is_gzip (b ∷ bytes) ≡ false = false_from_ne_true (is_gzip (b ∷ bytes)) (λ e. gzip_fault (b ∷ bytes) e sound) in
     let message : read_message (b ∷ bytes) ≡ Ok p = ap (λ f. profile_unless f (profile_of (fields (b ∷ bytes) 0).items)) sound ∙ ap (profile_unless None) is in
     ap (λ c. cond c (Err refusal.Compressed) (read_message (b ∷ bytes))) plain ∙ message
 

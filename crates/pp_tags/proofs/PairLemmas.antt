@@ -8,12 +8,13 @@ use Rattle.std.specs.FinMap.{int_cmp-IsAntisymmetric}
 use Rattle.std.specs.List.{fold, flat_map}
 use Rattle.std.specs.Cmp.{IsTotalOrder}
 use Rattle.std.proofs.lemmas.Cmp.{int_cmp_total, then_total, on_total}
-use Rattle.std.specs.Ordering.{match_ordering, ordering_reverse, ordering_then, int_cmp}
+use Rattle.std.specs.Ordering.{match_ordering, ordering_reverse, int_cmp}
 use Rattle.std.proofs.lemmas.List.{map-append}
 use Rattle.std.proofs.lemmas.List.Kept.{AllPairs-cons}
 use Rattle.std.proofs.lemmas.List.Elements.{All-contains_itself, All-nil, All-cons, All-head, All-tail}
 use Rattle.std.proofs.lemmas.Map.Views.{All-insert_key}
 use Rattle.std.proofs.lemmas.Simd.{map-map}
+use Rattle.pp_base.proofs.Orders.{both_equal}
 use Rattle.pp_model.specs.declared.profile.Label.{Label}
 use Rattle.pp_model.specs.declared.profile.Sample.{Sample}
 use Rattle.pp_model.specs.declared.profile.Profile.{Profile}
@@ -21,12 +22,6 @@ use Rattle.pp_model.specs.declared.verdicts.Tag.{Tag}
 use Rattle.pp_tags.specs.Labels.{has_text}
 use Rattle.pp_tags.specs.Pairs.{Pair, pair_cmp, pair_of, pairs_in, tag_with}
 use Rattle.pp_tags.specs.TagPairs.{AreTagPairs, AreRising, all_tags, tag_pairs, tag_cmp, tags_in}
-
--- two orders in turn tie only where each does
-both_equal : (a b : Ordering) → ordering_then a b ≡ Equal → (a ≡ Equal) × (b ≡ Equal)
-both_equal Less b tie = let never : ⊥ = cc in absurd never
-both_equal Equal b tie = (refl, tie)
-both_equal Greater b tie = let never : ⊥ = cc in absurd never
 
 -- only a pair and itself tie
 pair_ties : (a b : Pair) → pair_cmp a b ≡ Equal → a ≡ b

@@ -1,9 +1,10 @@
 -- A text that is cut at its first comma, and one that has none.
-use Rattle.std.proofs.Common.{◌≡◌, ℕ, ◌+◌, ◌<◌, Bool, true, false, not, ◌||◌, cond, List, [], ◌∷◌, ◌++◌, length, arith, refl, sym, ap, ◌∙◌, append_assoc}
+use Rattle.std.proofs.Common.{◌≡◌, ℕ, ◌+◌, ◌<◌, Bool, true, false, not, ◌||◌, cond, List, [], ◌∷◌, ◌++◌, length, arith, sym, ap, ◌∙◌, append_assoc}
 use Rattle.std.specs.Prelude.{All}
 use Rattle.std.specs.List.{list_any, before_first, after_first, position_or_len, slice_split}
 use Rattle.std.proofs.lemmas.List.Elements.{All-nil, All-cons}
 use Rattle.std.proofs.lemmas.List.Splits.{slice_split_first, slice_split_none}
+use Rattle.std.proofs.lemmas.Bool.{or_parts}
 
 -- one item more, that may pass
 inside_more : (passes any : Bool) (n m : ℕ) → (passes || any) ≡ true → (any ≡ true → n < m) → cond (not passes) (1 + n) 0 < m + 1
@@ -16,16 +17,11 @@ first_inside test [] some = let never : ⊥ = cc in absurd never
 first_inside test (x ∷ xs) some =
     let more = inside_more (test x) (list_any test xs) (position_or_len test xs) (length xs) some (first_inside test xs) in omega arith
 
--- neither is true
-neither : (a b : Bool) → (a || b) ≡ false → (a ≡ false) × (b ≡ false)
-neither true b none = let never : ⊥ = cc in absurd never
-neither false b none = (refl, none)
-
 -- no item passes
 none_passes : (test : ℕ → Bool) (xs : List ℕ) → list_any test xs ≡ false → All (λ x. test x ≡ false) xs
 none_passes test [] none = All-nil (λ x. test x ≡ false)
 none_passes test (x ∷ xs) none =
-    let parts = neither (test x) (list_any test xs) none in
+    let parts = or_parts (test x) (list_any test xs) none in
     All-cons (λ y. test y ≡ false) x xs parts.0 (none_passes test xs parts.1)
 
 -- one part more

@@ -10,6 +10,7 @@ use Rattle.std.proofs.lemmas.List.{get_or_past, length-map}
 use Rattle.std.proofs.lemmas.List.Elements.{All-nil, All-cons, All-head, All-tail}
 use Rattle.std.proofs.lemmas.List.Sorted.{IsPermutation-map, IsPermutation-trans, All-permutation, list_any-IsPermutation}
 use Rattle.std.proofs.lemmas.Map.Keys.{IsDistinct-IsPermutation}
+use Rattle.pp_base.proofs.Lists.{filter-both}
 use Rattle.pp_model.specs.declared.profile.Profile.{Profile}
 use Rattle.pp_model.specs.FrameTexts.{Written}
 use Rattle.pp_grain.specs.declared.key.Key.{Key}
@@ -25,7 +26,7 @@ use Rattle.pp_tree.specs.declared.near.Near.{Near as CodeNear}
 use Rattle.pp_tree.specs.Ends.{Pairs, ShowsPairs, callers_in, callees_in, caller_end, callee_end, edges_at, neighbour_of, near_cmp}
 use Rattle.pp_tree.proofs.Alike.{alike, times-below, passes_at, picked}
 use Rattle.pp_tree.proofs.Ordered.{HasValue, neighbour_cmp, listed_are}
-use Rattle.pp_tree.proofs.Sides.{filter-both, All-there, All-kept, OneEach, far_keys, all_made, distinct, members}
+use Rattle.pp_tree.proofs.Sides.{All-there, All-kept, OneEach, far_keys, all_made, distinct, members}
 
 -- the order of ends is an order
 pub near_cmp_total : IsTotalOrder near_cmp

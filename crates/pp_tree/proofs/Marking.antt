@@ -17,6 +17,7 @@ use Rattle.pp_model.specs.Finders.{Finder, Finders}
 use Rattle.pp_model.specs.FrameTexts.{Written, written}
 use Rattle.std.specs.Ordering.{eq_by_cmp, int_eq}
 use Rattle.std.proofs.lemmas.Bool.Decides.{Decides-int_eq}
+use Rattle.std.proofs.Math.Bool.{or-false}
 use Rattle.pp_grain.specs.declared.key.Key.{Key}
 use Rattle.pp_grain.specs.Keys.{key_cmp, key_written, frame_counts, IsKeyOf}
 use Rattle.pp_grain.specs.Sight.{same_key, with_key}
@@ -27,10 +28,6 @@ use Rattle.pp_count.specs.Seeing.{counted_frames, key_of_frame}
 use Rattle.pp_count.proofs.CountedFrames.{counts_here}
 use Rattle.pp_tree.specs.Found.{holds_key, is_own_frame, is_own_at, has_own_frame, has_own_sample, has_own_number, no_frame}
 use Rattle.pp_tree.proofs.Shown.{any-append}
-
-or-false : (a : Bool) → (a || false) ≡ a
-or-false true = refl
-or-false false = refl
 
 or-assoc : (a b c : Bool) → (a || (b || c)) ≡ ((a || b) || c)
 or-assoc true b c = refl

@@ -6,6 +6,7 @@ use Rattle.std.specs.Ordering.{eq_by_cmp, int_eq}
 use Rattle.std.proofs.lemmas.Bool.{false≢true}
 use Rattle.std.proofs.lemmas.Option.{none-some, same_Some}
 use Rattle.std.proofs.lemmas.List.Elements.{All-head, All-tail}
+use Rattle.pp_base.proofs.Booleans.{same_bool}
 use Rattle.pp_model.specs.declared.config.Config.{Config}
 use Rattle.pp_model.specs.declared.frame.Frame.{Frame}
 use Rattle.pp_model.specs.declared.profile.Profile.{Profile}
@@ -25,7 +26,6 @@ use Rattle.pp_count.specs.Counted.{report_frames, finds_own, has_own_match}
 use Rattle.pp_count.specs.Seeing.{counted_frames, framed_with, framed_samples, filtered_stack, filtered_from, passes_tags}
 use Rattle.pp_count.specs.Sums.{Seen, weighed}
 use Rattle.pp_count.proofs.Kept.{kept_samples}
-use Rattle.pp_count.proofs.Renaming.{same_bool}
 use Rattle.pp_count.proofs.Ties.{tied, tied_self}
 use Rattle.pp_tree.specs.Peek.{is_own_of, is_found_key}
 use Rattle.pp_tree.specs.Found.{holds_key, is_own_frame, has_own_frame, has_own_sample, has_own_number}

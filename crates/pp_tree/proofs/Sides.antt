@@ -6,23 +6,14 @@ use Rattle.std.specs.Ordering.{eq_by_cmp}
 use Rattle.std.proofs.lemmas.Bool.{eq-eqb, eqb-true, false≢true, cases_order}
 use Rattle.std.proofs.lemmas.List.Elements.{All-nil, All-cons, All-head, All-tail}
 use Rattle.std.proofs.lemmas.Map.Views.{any-filter_same}
+use Rattle.pp_base.proofs.Booleans.{same_bool}
 use Rattle.pp_model.specs.declared.profile.Profile.{Profile}
 use Rattle.pp_model.specs.FrameTexts.{Written}
 use Rattle.pp_grain.specs.declared.key.Key.{Key}
 use Rattle.pp_grain.specs.Keys.{key_cmp, key_written}
 use Rattle.pp_count.specs.declared.edge.Edge.{Edge}
 use Rattle.pp_count.specs.Table.{no_key, written_key}
-use Rattle.pp_count.proofs.Renaming.{same_bool}
 use Rattle.pp_count.proofs.Ties.{tied}
-
--- two filters
-pub filter-both : {X : Type 0} (p q : X → Bool) (xs : List X) → filter p (filter q xs) ≡ filter (λ x. q x && p x) xs
-filter-both p q [] = refl
-filter-both p q (x ∷ xs) =
-    elim (q x) as (λ b. filter p (cond b (x ∷ filter q xs) (filter q xs)) ≡ cond (b && p x) (x ∷ filter (λ y. q y && p y) xs) (filter (λ y. q y && p y) xs)) [
-      | true ↦ λ i. cond (p x) (x ∷ filter-both p q xs i) (filter-both p q xs i)
-      | false ↦ filter-both p q xs
-    ]
 
 -- what holds of each item that is there
 pub All-there : {X : Type 0} (P : X → Type 0) (xs : List (Option X)) → ((i : ℕ) (x : X) → slice_get xs i ≡ Some (Some x) → P x) → All P (filter_map (λ x. x) xs)

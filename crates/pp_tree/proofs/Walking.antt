@@ -1,5 +1,5 @@
 -- Texts that are put one after the other.
-use Rattle.std.proofs.Common.{◌≡◌, ℕ, ◌+◌, ◌<◌, ◌≤◌, List, [], ◌∷◌, ◌++◌, length, map, drop, get_or, Result, Ok, Err, IfOk, refl, sym, ap, ◌∙◌, append_assoc}
+use Rattle.std.proofs.Common.{◌≡◌, ℕ, ◌+◌, ◌<◌, ◌≤◌, List, [], ◌∷◌, ◌++◌, length, map, drop, get_or, refl, sym, ap, ◌∙◌, append_assoc}
 use Rattle.std.specs.List.{flat_map}
 use Rattle.std.proofs.lemmas.List.{drop_more, drop_all, append-nil}
 
@@ -25,9 +25,3 @@ module _ {A : Type 0} (text : A → List ℕ) where
 pub flat_map-mapped : {A B : Type 0} (text : B → List ℕ) (item : A → B) (items : List A) → flat_map text (map item items) ≡ flat_map (λ x. text (item x)) items
 flat_map-mapped text item [] = refl
 flat_map-mapped text item (x ∷ items) = ap (λ r. text (item x) ++ r) (flat_map-mapped text item items)
-
--- four texts, the last of which may fail
-pub joined_four : {T E : Type 0} (r : Result T E) (before first second third all a b c d : List ℕ) → first ≡ before ++ a → second ≡ first ++ b → third ≡ second ++ c
-    → IfOk r (λ _. all ≡ third ++ d) → IfOk r (λ _. all ≡ before ++ (((a ++ b) ++ c) ++ d))
-joined_four (Err e) before first second third all a b c d p q s h = tt
-joined_four (Ok x) before first second third all a b c d p q s h = rw (h, s, q, p) (simp append_assoc)

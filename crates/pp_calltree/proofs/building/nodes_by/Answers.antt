@@ -5,12 +5,12 @@ use Rattle.pp_model.specs.declared.profile.Profile.{Profile as Tables}
 use Rattle.pp_grain.specs.Keys.{key_cmp}
 use Rattle.pp_grain.specs.declared.key.Key.{Key}
 use Rattle.pp_count.specs.Sums.{Seen, weighed}
-use Rattle.pp_count.proofs.Pieces.{all_refer}
+use Rattle.pp_count.proofs.Pieces.{all_refer, all_members}
 use Rattle.pp_calltree.specs.CallTree.{TreeRow, any_row, rooted, tree_rows}
 use Rattle.pp_calltree.specs.Laid.{node_row}
 use Rattle.pp_calltree.specs.Links.{nodes_by}
 use Rattle.pp_calltree.specs.Paths.{below}
-use Rattle.pp_calltree.proofs.Built.{all_members, moved_paths, paths_have_room, paths_written, sorted_room, sorted_rows}
+use Rattle.pp_calltree.proofs.Built.{moved_paths, paths_have_room, paths_written, sorted_room, sorted_rows}
 use Rattle.pp_calltree.proofs.Sorting.{rises_sorted}
 use Rattle.pp_calltree.proofs.building.nodes_by.Goals as goal
 

@@ -1,5 +1,6 @@
 use Rattle.std.proofs.Common.{◌∙◌}
-use Rattle.pp_export.proofs.Lines.{folded_is, appended}
+use Rattle.pp_base.proofs.TextLemmas.{appended}
+use Rattle.pp_export.proofs.Lines.{folded_is}
 use Rattle.pp_export.proofs.folded.write_folded.Goals as goal
 
 pub returns-clause-ok : goal.returns-clause-ok

@@ -1,8 +1,8 @@
 use Rattle.std.proofs.Common.{Some, None, [], ◌∷◌, sym, ap, subst, ◌∙◌}
 use Rattle.std.proofs.lemmas.List.Sums.{fold-append}
+use Rattle.pp_base.proofs.Lists.{all_push}
 use Rattle.pp_model.specs.Rules.{NoRuleFails}
 use Rattle.pp_merge.specs.Joined.{joined_next}
-use Rattle.pp_model.proofs.FirstSightLemmas.{all_push}
 use Rattle.pp_merge.proofs.join.join.Goals as goal
 
 pub loop-valid-preserved : goal.loop-valid-preserved

@@ -1,6 +1,7 @@
 use Rattle.std.proofs.Common.{◌++◌, ap, ◌∙◌, subst}
 use Rattle.std.specs.Prelude.{Ok, Result}
 use Rattle.std.proofs.lemmas.Result.{err_from_is_err_and, IfOk-at_ok}
+use Rattle.pp_base.proofs.TextLemmas.{on_err}
 use Rattle.pp_desk.specs.Went.{Went}
 use Rattle.pp_report.specs.declared.refusal.ReportRefusal.{ReportRefusal}
 use Rattle.pp_report.specs.Prepared.{Settled, prepare, answered, settled_by}
@@ -8,7 +9,7 @@ use Rattle.pp_model.specs.declared.report.Report.{Report}
 use Rattle.pp_report.specs.SavedText.{IsProtoBy, IsSavedText}
 use Rattle.pp_report.specs.Tagged.{basis_of}
 use Rattle.pp_report.proofs.SavedTextLemmas.{on_text, saved_text}
-use Rattle.pp_report.proofs.GeneratingLemmas.{added_none, added_some, none_front, on_err, report_stopped, report_refused, report_wants, report_finished}
+use Rattle.pp_report.proofs.GeneratingLemmas.{added_none, added_some, none_front, report_stopped, report_refused, report_wants, report_finished}
 use Rattle.pp_report.proofs.generating.generate.Goals as goal
 
 -- it was stopped before the text

@@ -1,6 +1,7 @@
 use Rattle.std.proofs.Common.{◌≡◌, ◌++◌, ◌<◌, ◌^◌, nat_abs, List, ℕ, map, ap, sym, subst, ◌∙◌}
 use Rattle.std.specs.List.{flat_map}
 use Rattle.std.specs.Result.{OnOk}
+use Rattle.pp_base.proofs.Sums.{sum_by-map}
 use Rattle.pp_units.specs.Shown.{shown}
 use Rattle.pp_count.specs.Counts.{samples_at}
 use Rattle.pp_count.specs.Sums.{Seen}
@@ -10,7 +11,7 @@ use Rattle.pp_samples.specs.declared.scope.Scope.{Scope}
 use Rattle.pp_samples.specs.Tagged.{scope_tagged}
 use Rattle.pp_samples.specs.TagLines.{TagTexts, tagged_samples, key_lines, all_keys}
 use Rattle.pp_samples.specs.Tables.{AreKeys, AreSmall, events_from}
-use Rattle.pp_samples.proofs.SmallLemmas.{small_samples, sum_by-map}
+use Rattle.pp_samples.proofs.SmallLemmas.{small_samples}
 use Rattle.pp_samples.proofs.tag_lines.write_tags.Goals as goal
 
 -- the samples that the filters leave are counted, and their keys listed

@@ -1,13 +1,13 @@
 use Rattle.std.proofs.Common.{map, w64}
 use Rattle.std.specs.List.{flat_map}
 use Rattle.std.proofs.lemmas.Int.{to_z-of_z}
+use Rattle.pp_base.proofs.TextLemmas.{joined_four}
 use Rattle.pp_units.specs.Shown.{shown}
 use Rattle.pp_count.specs.Table.{written_key}
 use Rattle.pp_graph.specs.KeyRows.{row_at}
 use Rattle.pp_tree.specs.Nodes.{near_text, itself_text, node_separator}
 use Rattle.pp_tree.specs.Tree.{near_of}
 use Rattle.pp_tree.specs.Ends.{cum_weight, callers_in, callees_in}
-use Rattle.pp_tree.proofs.Walking.{joined_four}
 use Rattle.pp_tree.proofs.nodes.put_node.Goals as goal
 
 pub returns : goal.returns

@@ -4,10 +4,9 @@ use Rattle.pp_model.specs.declared.profile.Profile.{Profile}
 use Rattle.pp_units.specs.Head.{facts, facts_text}
 use Rattle.pp_units.specs.Rows.{showing_line}
 use Rattle.pp_units.specs.Shown.{shown}
-use Rattle.pp_base.proofs.TextLemmas.{put_is}
+use Rattle.pp_base.proofs.TextLemmas.{put_is, joined_four}
 use Rattle.pp_tree.specs.Nodes.{table_heading, tree_nodes_text}
 use Rattle.pp_tree.specs.Ends.{ShowsPairs, node_at}
-use Rattle.pp_tree.proofs.Walking.{joined_four}
 use Rattle.pp_tree.proofs.peek.put_peek.Goals as goal
 
 pub returns : goal.returns

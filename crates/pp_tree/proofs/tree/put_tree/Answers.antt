@@ -2,11 +2,10 @@ use Rattle.std.proofs.Common.{length, map, pos, subst, sym}
 use Rattle.pp_model.specs.declared.profile.Profile.{Profile}
 use Rattle.pp_units.specs.Head.{facts, facts_text}
 use Rattle.pp_units.specs.Shown.{shown}
-use Rattle.pp_base.proofs.TextLemmas.{put_is}
+use Rattle.pp_base.proofs.TextLemmas.{put_is, joined_four}
 use Rattle.pp_tree.specs.Nodes.{table_heading, tree_nodes_text}
 use Rattle.pp_tree.specs.Tree.{summary_text}
 use Rattle.pp_tree.specs.Ends.{ShowsPairs, node_at}
-use Rattle.pp_tree.proofs.Walking.{joined_four}
 use Rattle.pp_tree.proofs.tree.put_tree.Goals as goal
 
 pub returns : goal.returns

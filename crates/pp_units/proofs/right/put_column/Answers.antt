@@ -1,6 +1,7 @@
 use Rattle.std.proofs.Common.{◌≡◌, ◌++◌, ℕ, ◌+◌, take, length, replicate, List, [], ◌∷◌, Result, Ok, Err, OnOk, OnErr, arith, append_assoc, append-nil, sym, ap, ◌∙◌}
 use Rattle.std.proofs.Math.Seq.{take-append_seam}
 use Rattle.std.proofs.lemmas.List.{replicate-append-replicate}
+use Rattle.pp_base.proofs.TextLemmas.{on_err}
 use Rattle.pp_units.proofs.right.put_column.Goals as goal
 
 -- one space more
@@ -11,11 +12,6 @@ one_more old now new n e d =
 -- what stood in front is kept
 front_kept : (old now more : List ℕ) → now ≡ old ++ more → take (length old) now ≡ old
 front_kept old now more e = ap (take (length old)) e ∙ take-append_seam old more
-
--- a fact holds after an error too
-at_err : {T E P : Type 0} (r : Result T E) → P → OnErr r P
-at_err (Ok x) p = tt
-at_err (Err e) p = p
 
 -- all spaces and then the text
 all_put : {T E : Type 0} (r : Result T E) (old now new text : List ℕ) (n spaces : ℕ) → now ≡ old ++ replicate n 32 → n ≡ spaces → OnOk r (new ≡ now ++ text) → OnOk r (new ≡ old ++ (replicate spaces 32 ++ text))
@@ -32,7 +28,7 @@ pub loop-init : goal.loop-init
 loop-init c = sym (append-nil _)
 
 pub returns-in_err-extend-clause-err : goal.returns-in_err-extend-clause-err
-returns-in_err-extend-clause-err c = at_err _ (front_kept _ _ _ (c.in_err-extend.ensures.err ∙ c.loop.invariant))
+returns-in_err-extend-clause-err c = on_err _ (front_kept _ _ _ (c.in_err-extend.ensures.err ∙ c.loop.invariant))
 
 pub loop-preserved : goal.loop-preserved
 loop-preserved c = one_more _ _ _ _ c.loop.invariant c.in_ok-extend.ensures.ok
