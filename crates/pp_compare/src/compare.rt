@@ -5,7 +5,7 @@ ghost use Rattle.pp_units.specs.Head.{facts};
 ghost use Rattle.pp_units.specs.Rows.{dropped_line, dropped_nodes, limited_line};
 ghost use Rattle.pp_units.specs.Shown.{shown};
 ghost use Rattle.pp_grain.specs.Keys.{IsKeyOf};
-ghost use Rattle.pp_count.specs.Counted.{CanCount, FitSums, IsCountedOf};
+ghost use Rattle.pp_count.specs.Counted.{FitSums};
 ghost use Rattle.pp_count.specs.Seeing.{HoldsFilters};
 ghost use Rattle.pp_graph.specs.Trimmed.{IsRankedOf};
 ghost use Rattle.pp_count.specs.Base.{AreBaseSums, FitBase};
@@ -16,9 +16,8 @@ use crate::columns::{put_columns, put_end, put_heading};
 use crate::difference::difference_of;
 use crate::rows::{Table, put_rows};
 use pp_base::{Memory, Text};
-use pp_count::{BaseSums, Counted, counted_whole};
+use pp_count::{BaseSums, Survey, counted_whole};
 use pp_graph::Ranked;
-use pp_model::{Config, Loaded, Verdicts};
 use pp_units::{Head, put_dropped_nodes, put_limited, write_head};
 use std::alloc::Global;
 
@@ -27,37 +26,33 @@ use std::alloc::Global;
 /// as it was.
 pub fn write_compare(
     alloc: Global,
-    l: &Loaded,
-    v: &Verdicts,
-    c: &Counted,
+    survey: &Survey<'_>,
     base: &BaseSums,
     t: &Ranked,
-    config: &Config,
-    column: Option<u32>,
     head: &Head,
     out: &mut Text,
 ) -> Result<(), Memory>
-    requires can { CanCount l.now.profile v.now config.now column }
-    requires counted { IsCountedOf l.now v.now config.now column c.now }
-    requires fits { FitBase c.now.sums.names base.now }
-    requires below { All (λ n. n < length c.now.sums.names) t.now.order }
+    requires fits { FitBase survey.now.counted.now.sums.names base.now }
+    requires below { All (λ n. n < length survey.now.counted.now.sums.names) t.now.order }
     ensures ok { (limit : ℕ) (f : Finders) →
-        IsRankedOf l.now v.now config.now column limit c.now t.now →
-        HoldsFilters l.now v.now config.now f →
-        AreBaseSums l.now.profile f config.now column c.now.sums base.now →
-        OnOk result (out.new
-        ≡ out.old ++ compare_text l.now.profile f config.now column limit (facts head.now)) }
+        IsRankedOf survey.now.l.now survey.now.v.now survey.now.config.now survey.now.column limit
+        survey.now.counted.now t.now →
+        HoldsFilters survey.now.l.now survey.now.v.now survey.now.config.now f →
+        AreBaseSums survey.now.l.now.profile f survey.now.config.now survey.now.column
+        survey.now.counted.now.sums base.now →
+        OnOk result (out.new ≡ out.old ++ compare_text survey.now.l.now.profile f
+        survey.now.config.now survey.now.column limit (facts head.now)) }
     ensures err { OnErr result (out.new ≡ out.old) }
 {
     let mut text = Text::new(alloc);
     let table = Table {
-        l,
-        sums: &c.sums,
+        l: survey.l,
+        sums: &survey.counted.sums,
         base,
-        sort: config.sort,
+        sort: survey.config.sort,
         head,
     };
-    let change = counted_whole(l, v, c, config, column);
+    let change = counted_whole(survey);
     put_compare(alloc, &table, t, change, &mut text)?;
     out.append(text)
 }

@@ -5,23 +5,20 @@ ghost use Rattle.pp_model.specs.Finders.{Finders};
 ghost use Rattle.pp_model.specs.Values.{no_sample};
 ghost use Rattle.pp_count.specs.Base.{has_base, is_base_number, selected_all, AreBaseSums, FitBase, HasTallies};
 ghost use Rattle.pp_count.specs.Column.{selected};
-ghost use Rattle.pp_count.specs.Counted.{CanCount, IsCountedOf};
 ghost use Rattle.pp_count.specs.Counts.{filtered_samples, samples_at};
-ghost use Rattle.pp_count.specs.Filters.{AreFilters};
 ghost use Rattle.pp_count.specs.Rising.{AreRisingBetween};
 ghost use Rattle.pp_count.specs.Seeing.{HoldsFilters, absolute_all};
-ghost use Rattle.pp_count.specs.Table.{IsKeyTable};
 ghost use Rattle.pp_count.specs.Tally.{tally_at};
 
-use crate::counted::Counted;
 use crate::scope::Scope;
+use crate::survey::Survey;
 use crate::tallies::{Tallies, tally_of};
 use crate::tally::Tally;
 use crate::total::is_base;
 use crate::value::selected;
 use crate::waves::count_all;
 use pp_base::{Gate, List, Memory};
-use pp_model::{Config, Loaded, Profile, Verdicts};
+use pp_model::{Config, Loaded, Profile};
 use std::alloc::Global;
 use std::thread::Threads;
 
@@ -44,31 +41,28 @@ pub fn has_base(l: &Loaded) -> bool
     p.sample.as_slice().iter().any(|s| is_base(p, s))
 }
 
-/// The sums of the names of `counted` over the base's samples among those that the filters leave; 0 for a key that none
-/// of them has. They are counted in pieces of 1,024 on as many lanes as the configuration has workers. `Err` is want of
+/// The sums of the report's names over the base's samples among those that the filters leave; 0 for a key that none of
+/// them has. They are counted in pieces of 1,024 on as many lanes as the configuration has workers. `Err` is want of
 /// memory.
 pub fn base_sums<R: Threads + Sync, G: Gate>(
     rt: &R,
     alloc: Global,
-    l: &Loaded,
-    v: &Verdicts,
-    counted: &Counted,
-    config: &Config,
-    column: Option<u32>,
+    survey: &Survey<'_>,
     gate: &G,
 ) -> Result<BaseSums, Memory>
-    requires can { CanCount l.now.profile v.now config.now column }
-    requires counted { IsCountedOf l.now v.now config.now column counted.now }
-    ensures sums { (f : Finders) → HoldsFilters l.now v.now config.now f →
-        IfOk result (AreBaseSums l.now.profile f config.now column counted.now.sums) }
-    ensures fits { IfOk result (FitBase counted.now.sums.names) }
+    ensures sums { (f : Finders) →
+        HoldsFilters survey.now.l.now survey.now.v.now survey.now.config.now f →
+        IfOk result (AreBaseSums survey.now.l.now.profile f survey.now.config.now
+        survey.now.column survey.now.counted.now.sums) }
+    ensures fits { IfOk result (FitBase survey.now.counted.now.sums.names) }
 {
-    let compact = l.profile.get();
+    let counted = survey.counted;
+    let compact = survey.l.profile.get();
     let kept = counted.kept.as_slice();
     let list = base_numbers(alloc, compact, kept)?;
     let chosen = list.as_slice();
-    let tallies = chosen_tallies(rt, alloc, l, v, counted, config, column, chosen, gate)?;
-    let whole = selected_sum(l, config, column, chosen);
+    let tallies = chosen_tallies(rt, alloc, survey, chosen, gate)?;
+    let whole = selected_sum(survey.l, survey.config, survey.column, chosen);
     let numbers = counted.numbers.as_slice();
     let sums = sums_at(alloc, &tallies, numbers, whole)?;
     Ok(sums)
@@ -105,32 +99,26 @@ fn is_base_number(p: &Profile, number: u32) -> bool
     }
 }
 
-// The tallies of the samples with these numbers, by the key numbers of `counted`.
+// The tallies of the samples with these numbers, by the report's key numbers.
 fn chosen_tallies<'x, R: Threads + Sync, G: Gate>(
     rt: &R,
     alloc: Global,
-    l: &'x Loaded,
-    v: &'x Verdicts,
-    counted: &'x Counted,
-    config: &'x Config,
-    column: Option<u32>,
+    survey: &'x Survey<'x>,
     chosen: &'x [u32],
     gate: &G,
 ) -> Result<Tallies, Memory>
-    requires can { CanCount l.now.profile v.now config.now column }
-    requires table { IsKeyTable l.now.profile config.now counted.now.table }
-    requires filters { AreFilters l.now.profile v.now config.now counted.now.filters }
-    requires rising { AreRisingBetween 0 (length l.now.profile.sample) chosen.now }
-    ensures { IfOk result (λ tallies. HasTallies l.now v.now config.now column
-        counted.now.table.names chosen.now (tally_at tallies)) }
+    requires { AreRisingBetween 0 (length survey.now.l.now.profile.sample) chosen.now }
+    ensures { IfOk result (λ tallies. HasTallies survey.now.l.now survey.now.v.now
+        survey.now.config.now survey.now.column survey.now.counted.now.table.names chosen.now
+        (tally_at tallies)) }
 {
     let scope = Scope {
-        l,
-        v,
-        config,
-        filters: &counted.filters,
-        column,
-        table: &counted.table,
+        l: survey.l,
+        v: survey.v,
+        config: survey.config,
+        filters: &survey.counted.filters,
+        column: survey.column,
+        table: &survey.counted.table,
         over: None,
         chosen: Some(chosen),
     };
@@ -168,20 +156,15 @@ fn push_tally(flat: &mut List<i64>, cum: &mut List<i64>, tally: Tally) -> Result
 }
 
 /// The sum of the selected values of the samples that the filters leave.
-pub fn counted_whole(
-    l: &Loaded,
-    v: &Verdicts,
-    counted: &Counted,
-    config: &Config,
-    column: Option<u32>,
-) -> i64
-    requires can { CanCount l.now.profile v.now config.now column }
-    requires counted { IsCountedOf l.now v.now config.now column counted.now }
-    ensures { (f : Finders) → HoldsFilters l.now v.now config.now f → result
-        ≡ selected_all column config.now.divide_by
-        (filtered_samples l.now.profile f config.now l.now.profile.sample) }
+pub fn counted_whole(survey: &Survey<'_>) -> i64
+    ensures { (f : Finders) →
+        HoldsFilters survey.now.l.now survey.now.v.now survey.now.config.now f → result
+        ≡ selected_all survey.now.column survey.now.config.now.divide_by
+        (filtered_samples survey.now.l.now.profile f survey.now.config.now
+        survey.now.l.now.profile.sample) }
 {
-    selected_sum(l, config, column, counted.kept.as_slice())
+    let kept = survey.counted.kept.as_slice();
+    selected_sum(survey.l, survey.config, survey.column, kept)
 }
 
 // The sum of the selected values of the samples with these numbers.

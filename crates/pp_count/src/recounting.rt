@@ -11,6 +11,7 @@ use crate::edge::Edge;
 use crate::pairs::Pairing;
 use crate::part::KeySum;
 use crate::scope::Scope;
+use crate::survey::Survey;
 use crate::tallies::entries;
 use crate::waves::count_all;
 use pp_base::{Gate, List, Memory};
@@ -27,10 +28,7 @@ pub struct Ends<'k, 'm> {
     pub marked: &'m [bool],
 }
 
-/// The edges between the names of `counted` that are kept, after the other keys are left out of each stack: for each
-/// pair that occurs, the sum over the samples in which it does. `keep` has one entry per name. `Err` is want of memory.
-///
-/// Of the leaf-first stack A, B, C with B left out, the one edge goes from C to A. No edge goes from a key to itself.
+/// The edges between the names of `counted` that are kept, as `edges` has them. `Err` is want of memory.
 pub fn recount<R: Threads + Sync, G: Gate>(
     rt: &R,
     alloc: Global,
@@ -52,77 +50,103 @@ pub fn recount<R: Threads + Sync, G: Gate>(
     ensures within { IfOk result (All (λ e.
         (e.from < length counted.now.sums.names) × (e.to < length counted.now.sums.names))) }
 {
+    let survey = Survey {
+        l,
+        v,
+        config,
+        column,
+        counted,
+    };
+    edges(rt, alloc, &survey, keep, gate)
+}
+
+/// The edges between the names of the report's sums that are kept, after the other keys are left out of each stack: for
+/// each pair that occurs, the sum over the samples in which it does. `keep` has one entry per name. `Err` is want of
+/// memory.
+///
+/// Of the leaf-first stack A, B, C with B left out, the one edge goes from C to A. No edge goes from a key to itself.
+pub fn edges<R: Threads + Sync, G: Gate>(
+    rt: &R,
+    alloc: Global,
+    survey: &Survey<'_>,
+    keep: &List<bool>,
+    gate: &G,
+) -> Result<List<Edge>, Memory>
+    requires { length keep.now ≡ length survey.now.counted.now.sums.names }
+    ensures edges { (f : Finders) →
+        HoldsFilters survey.now.l.now survey.now.v.now survey.now.config.now f →
+        IfOk result (λ edges. AreEdgesOf survey.now.l.now.profile
+        (report_samples survey.now.l.now.profile f survey.now.config.now survey.now.column)
+        survey.now.counted.now.sums.names keep.now edges) }
+    ensures within { IfOk result (All (λ e.
+        (e.from < length survey.now.counted.now.sums.names)
+        × (e.to < length survey.now.counted.now.sums.names))) }
+{
     // Both ends of an edge are kept.
     let keep = keep.as_slice();
     let ends = Ends { keep, marked: keep };
-    let edges = recount_about(rt, alloc, l, v, counted, &ends, config, column, gate)?;
+    let edges = edges_about(rt, alloc, survey, &ends, gate)?;
     Ok(edges)
 }
 
-/// The edges of `recount` of which an end is marked: all of them, where each name that is kept is. No other pair is
-/// counted, so that a few names cost a few sums.
-pub fn recount_about<R: Threads + Sync, G: Gate>(
+/// Those of `edges` of which an end is marked: all of them, where each name that is kept is. No other pair is counted, so
+/// that a few names cost a few sums.
+pub fn edges_about<R: Threads + Sync, G: Gate>(
     rt: &R,
     alloc: Global,
-    l: &Loaded,
-    v: &Verdicts,
-    counted: &Counted,
+    survey: &Survey<'_>,
     ends: &Ends,
-    config: &Config,
-    column: Option<u32>,
     gate: &G,
 ) -> Result<List<Edge>, Memory>
-    requires can { CanCount l.now.profile v.now config.now column }
-    requires counted { IsCountedOf l.now v.now config.now column counted.now }
-    requires keep { length ends.now.keep.now ≡ length counted.now.sums.names }
-    ensures edges { (f : Finders) → HoldsFilters l.now v.now config.now f →
-        IfOk result (λ edges. AreEdgesAbout l.now.profile
-        (report_samples l.now.profile f config.now column)
-        counted.now.sums.names ends.now.keep.now ends.now.marked.now edges) }
-    ensures all { (f : Finders) → HoldsFilters l.now v.now config.now f →
+    requires { length ends.now.keep.now ≡ length survey.now.counted.now.sums.names }
+    ensures edges { (f : Finders) →
+        HoldsFilters survey.now.l.now survey.now.v.now survey.now.config.now f →
+        IfOk result (λ edges. AreEdgesAbout survey.now.l.now.profile
+        (report_samples survey.now.l.now.profile f survey.now.config.now survey.now.column)
+        survey.now.counted.now.sums.names ends.now.keep.now ends.now.marked.now edges) }
+    ensures all { (f : Finders) →
+        HoldsFilters survey.now.l.now survey.now.v.now survey.now.config.now f →
         ends.now.keep.now ≡ ends.now.marked.now →
-        IfOk result (λ edges. AreEdgesOf l.now.profile
-        (report_samples l.now.profile f config.now column)
-        counted.now.sums.names ends.now.keep.now edges) }
+        IfOk result (λ edges. AreEdgesOf survey.now.l.now.profile
+        (report_samples survey.now.l.now.profile f survey.now.config.now survey.now.column)
+        survey.now.counted.now.sums.names ends.now.keep.now edges) }
     ensures within { IfOk result (All (λ e.
-        (e.from < length counted.now.sums.names) × (e.to < length counted.now.sums.names))) }
+        (e.from < length survey.now.counted.now.sums.names)
+        × (e.to < length survey.now.counted.now.sums.names))) }
 {
-    let _compact = l.profile.get();
+    let counted = survey.counted;
+    let _compact = survey.l.profile.get();
     let _distinct = counted.sums.names.len();
     let kept = kept_names(alloc, ends.keep)?;
     let names = kept.as_slice();
     let over = pairing(alloc, counted, names, ends.marked)?;
-    let list = pair_sums(rt, alloc, l, v, counted, config, column, &over, gate)?;
+    let list = pair_sums(rt, alloc, survey, &over, gate)?;
     let sums = list.as_slice();
     let edges = edges_of(alloc, sums, names)?;
     Ok(edges)
 }
 
-// The sums of the pairs, by their numbers. The samples of `counted` are gone over.
+// The sums of the pairs, by their numbers. The samples that the filters leave are gone over.
 fn pair_sums<'x, R: Threads + Sync, G: Gate>(
     rt: &R,
     alloc: Global,
-    l: &'x Loaded,
-    v: &'x Verdicts,
-    counted: &'x Counted,
-    config: &'x Config,
-    column: Option<u32>,
+    survey: &'x Survey<'x>,
     over: &'x Pairing,
     gate: &G,
 ) -> Result<List<KeySum>, Memory>
-    requires can { CanCount l.now.profile v.now config.now column }
-    requires counted { IsCountedOf l.now v.now config.now column counted.now }
-    requires over { HasPairPlaces over.now }
+    requires { HasPairPlaces over.now }
     ensures { IfOk result
-        (HasPairSums l.now v.now config.now column counted.now.table.names over.now) }
+        (HasPairSums survey.now.l.now survey.now.v.now survey.now.config.now survey.now.column
+        survey.now.counted.now.table.names over.now) }
 {
+    let counted = survey.counted;
     let kept = counted.kept.as_slice();
     let scope = Scope {
-        l,
-        v,
-        config,
+        l: survey.l,
+        v: survey.v,
+        config: survey.config,
         filters: &counted.filters,
-        column,
+        column: survey.column,
         table: &counted.table,
         over: Some(over),
         chosen: Some(kept),

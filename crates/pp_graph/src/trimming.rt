@@ -9,7 +9,7 @@ ghost use Rattle.pp_graph.specs.Trimmed.{IsTrimmedOf};
 use crate::graph::Graph;
 use crate::ranking::{Ranked, rank};
 use pp_base::{Fraction, Gate, List, Memory};
-use pp_count::{Counted, Edge, is_heavy, recount};
+use pp_count::{Counted, Edge, Survey, edges, is_heavy};
 use pp_model::{Config, Loaded, Verdicts};
 use std::alloc::Global;
 use std::thread::Threads;
@@ -41,9 +41,31 @@ pub fn trim<R: Threads + Sync, G: Gate>(
     requires counted { IsCountedOf l.now v.now config.now column counted.now }
     ensures { IfOk result (IsTrimmedOf l.now v.now config.now column limit counted.now) }
 {
-    let ranked = rank(alloc, l, counted, config, limit)?;
+    let survey = Survey {
+        l,
+        v,
+        config,
+        column,
+        counted,
+    };
+    trim_of(rt, alloc, &survey, limit, gate)
+}
+
+/// What `trim` gives for the report.
+pub fn trim_of<R: Threads + Sync, G: Gate>(
+    rt: &R,
+    alloc: Global,
+    survey: &Survey<'_>,
+    limit: u32,
+    gate: &G,
+) -> Result<Trimmed, Memory>
+    ensures { IfOk result (IsTrimmedOf survey.now.l.now survey.now.v.now survey.now.config.now
+        survey.now.column limit survey.now.counted.now) }
+{
+    let (config, counted) = (survey.config, survey.counted);
+    let ranked = rank(alloc, survey.l, counted, config, limit)?;
     let keep = kept(alloc, counted.sums.names.len(), ranked.order.as_slice())?;
-    let edges = recount(rt, alloc, l, v, counted, &keep, config, column, gate)?;
+    let edges = edges(rt, alloc, survey, &keep, gate)?;
     let count = edges.len() as u64;
     let mut graph = Graph::make(alloc, &counted.sums, edges)?;
     let dropped_edges = cut_light(&mut graph, count, counted.total, config.edgefraction);

@@ -2,21 +2,18 @@
 ghost use Rattle.std.specs.Prelude.{◌≡◌, IfOk};
 ghost use Rattle.pp_model.specs.Finders.{Finders};
 ghost use Rattle.pp_units.specs.Head.{facts};
-ghost use Rattle.pp_count.specs.Counted.{CanCount, IsCountedOf};
 ghost use Rattle.pp_count.specs.Seeing.{HoldsFilters};
 ghost use Rattle.pp_graph.specs.Trim.{node_limit};
 ghost use Rattle.pp_compare.specs.Compare.{compare_text};
 ghost use Rattle.pp_report.specs.Reports.{compare_outcome};
 
 use crate::ReportRefusal;
-use crate::prepared::Counts;
+use crate::subject::Subject;
 use crate::texts::limit_of;
 use pp_base::{Gate, Memory, Text};
 use pp_compare::write_compare;
 use pp_count::{base_sums, has_base};
 use pp_graph::rank;
-use pp_model::{Config, Loaded};
-use pp_units::Head;
 use std::alloc::Global;
 use std::thread::Threads;
 
@@ -24,49 +21,39 @@ use std::thread::Threads;
 pub fn compare<R: Threads + Sync, G: Gate>(
     rt: &R,
     alloc: Global,
-    l: &Loaded,
-    config: &Config,
-    column: Option<u32>,
-    counts: &Counts,
-    head: &Head,
+    subject: &Subject<'_>,
     gate: &G,
 ) -> Result<Result<Text, ReportRefusal>, Memory>
-    requires can { CanCount l.now.profile counts.now.verdicts config.now column }
-    requires counted { IsCountedOf l.now counts.now.verdicts config.now column counts.now.counted }
-    ensures { (f : Finders) → HoldsFilters l.now counts.now.verdicts config.now f →
-        IfOk result (λ outcome. outcome
-        ≡ compare_outcome l.now.profile f config.now column (facts head.now)) }
+    ensures { (f : Finders) →
+        HoldsFilters subject.now.survey.l.now subject.now.survey.v.now subject.now.survey.config.now f →
+        IfOk result (λ outcome. outcome ≡ compare_outcome subject.now.survey.l.now.profile f
+        subject.now.survey.config.now subject.now.survey.column (facts subject.now.head.now)) }
 {
-    if !has_base(l) {
+    if !has_base(subject.survey.l) {
         return Ok(Err(ReportRefusal::NoBase));
     }
-    Ok(Ok(compared(rt, alloc, l, config, column, counts, head, gate)?))
+    Ok(Ok(compared(rt, alloc, subject, gate)?))
 }
 
 // The text of a report that has a base. Its keys have no limit of their own.
 fn compared<R: Threads + Sync, G: Gate>(
     rt: &R,
     alloc: Global,
-    l: &Loaded,
-    config: &Config,
-    column: Option<u32>,
-    counts: &Counts,
-    head: &Head,
+    subject: &Subject<'_>,
     gate: &G,
 ) -> Result<Text, Memory>
-    requires can { CanCount l.now.profile counts.now.verdicts config.now column }
-    requires counted { IsCountedOf l.now counts.now.verdicts config.now column counts.now.counted }
-    ensures { (f : Finders) → HoldsFilters l.now counts.now.verdicts config.now f →
-        IfOk result (λ text. text ≡ compare_text l.now.profile f config.now column
-        (node_limit config.now.nodecount 0) (facts head.now)) }
+    ensures { (f : Finders) →
+        HoldsFilters subject.now.survey.l.now subject.now.survey.v.now subject.now.survey.config.now f →
+        IfOk result (λ text. text ≡ compare_text subject.now.survey.l.now.profile f
+        subject.now.survey.config.now subject.now.survey.column
+        (node_limit subject.now.survey.config.now.nodecount 0) (facts subject.now.head.now)) }
 {
+    let survey = &subject.survey;
+    let config = survey.config;
     let limit = limit_of(config, 0);
-    let (v, c) = (&counts.verdicts, &counts.counted);
-    let ranked = rank(alloc, l, c, config, limit)?;
-    let base = base_sums(rt, alloc, l, v, c, config, column, gate)?;
+    let ranked = rank(alloc, survey.l, survey.counted, config, limit)?;
+    let base = base_sums(rt, alloc, survey, gate)?;
     let mut text = Text::new(alloc);
-    write_compare(
-        alloc, l, v, c, &base, &ranked, config, column, head, &mut text,
-    )?;
+    write_compare(alloc, survey, &base, &ranked, subject.head, &mut text)?;
     Ok(text)
 }

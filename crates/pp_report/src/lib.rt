@@ -2,6 +2,7 @@
 //! text, or why it is not made.
 #![tactic(auto)]
 
+mod asked;
 mod asking;
 mod comparing;
 mod exports;
@@ -15,6 +16,7 @@ mod preparing;
 mod refusal;
 mod saved;
 mod shows;
+mod subject;
 mod tagging;
 mod texts;
 mod trees;

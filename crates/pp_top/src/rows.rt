@@ -15,50 +15,53 @@ use pp_model::Loaded;
 use pp_units::Head;
 use std::alloc::Global;
 
+/// What the rows are made of.
+#[derive(Clone, Copy)]
+pub struct Table<'a> {
+    /// The profile whose keys they are.
+    pub l: &'a Loaded,
+    /// The sums, by key number.
+    pub sums: &'a Sums,
+    /// How values are printed.
+    pub head: &'a Head,
+}
+
 /// Appends a line for each of the names with these numbers, in their order.
-pub fn put_rows(
-    alloc: Global,
-    l: &Loaded,
-    sums: &Sums,
-    head: &Head,
-    order: &[u64],
-    out: &mut Text,
-) -> Result<(), Memory>
-    requires { CanShow l.now.profile sums.now order.now }
+pub fn put_rows(alloc: Global, table: &Table, order: &[u64], out: &mut Text) -> Result<(), Memory>
+    requires { CanShow table.now.l.now.profile table.now.sums.now order.now }
     ensures { IfOk result (λ _. out.new ≡ out.old
-        ++ top_rows (shown head.now.unit) head.now.total (pos 0)
-        (map (row_at l.now.profile sums.now) order.now)) }
+        ++ top_rows (shown table.now.head.now.unit) table.now.head.now.total (pos 0)
+        (map (row_at table.now.l.now.profile table.now.sums.now) order.now)) }
 {
     let mut scratch = Text::new(alloc);
     let mut sum = 0;
     for number in order {
-        sum += sums.flat.as_slice()[*number as usize];
-        put_row(l, sums, head, *number, sum, &mut scratch, out)?;
+        sum += table.sums.flat.as_slice()[*number as usize];
+        put_row(table, *number, sum, &mut scratch, out)?;
     }
     Ok(())
 }
 
 // "%10s %8s %8s %10s %8s  %s": flat, flat%, sum%, cum, cum% and the name, where the flats up to it have this sum.
 fn put_row(
-    l: &Loaded,
-    sums: &Sums,
-    head: &Head,
+    table: &Table,
     number: u64,
     sum: i64,
     scratch: &mut Text,
     out: &mut Text,
 ) -> Result<(), Memory>
-    requires keys { All (IsKeyOf l.now.profile) sums.now.names }
-    requires fits { FitSums sums.now }
-    requires below { number < length sums.now.names }
+    requires keys { All (IsKeyOf table.now.l.now.profile) table.now.sums.now.names }
+    requires fits { FitSums table.now.sums.now }
+    requires below { number < length table.now.sums.now.names }
     ensures { IfOk result (λ _. out.new ≡ out.old
-        ++ top_row (shown head.now.unit) head.now.total sum
-        (row_at l.now.profile sums.now number)) }
+        ++ top_row (shown table.now.head.now.unit) table.now.head.now.total sum
+        (row_at table.now.l.now.profile table.now.sums.now number)) }
 {
+    let sums = table.sums;
     let flat = sums.flat.as_slice()[number as usize];
     let cum = sums.cum.as_slice()[number as usize];
-    head.put_columns(flat, sum, cum, scratch, out)?;
-    put_name(l, &sums.names.key(number), out)
+    table.head.put_columns(flat, sum, cum, scratch, out)?;
+    put_name(table.l, &sums.names.key(number), out)
 }
 
 fn put_name(l: &Loaded, key: &Key, out: &mut Text) -> Result<(), Memory>

@@ -9,5 +9,5 @@ mod own;
 mod peek;
 mod tree;
 
-pub use peek::write_peek;
+pub use peek::{write_peek, write_peek_of};
 pub use tree::write_tree;

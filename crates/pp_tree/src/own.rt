@@ -2,21 +2,21 @@
 ghost use Rattle.std.specs.Prelude.{◌≡◌, ◌||◌, ◌<◌, length, map, slice_index_or, slice_get, All, IfOk, IfErr, true, false};
 ghost use Rattle.std.specs.List.{list_any};
 ghost use Rattle.std.specs.Option.{option_map_or};
-ghost use Rattle.pp_model.specs.Conditions.{HasVerdicts, IsFrameOf, IsStackOf};
+ghost use Rattle.pp_model.specs.Conditions.{IsFrameOf, IsStackOf};
 ghost use Rattle.pp_model.specs.Finders.{Finder, Finders, HoldsFinders};
 ghost use Rattle.pp_model.specs.FrameTexts.{Written, written};
 ghost use Rattle.pp_grain.specs.Keys.{key_written, IsKeyOf};
 ghost use Rattle.pp_grain.specs.Sight.{same_key};
 ghost use Rattle.pp_stack.specs.Filters.{AreVerdicts};
 ghost use Rattle.pp_stack.specs.Tables.{AreTables};
-ghost use Rattle.pp_count.specs.Counted.{IsCountedOf, has_own_match};
+ghost use Rattle.pp_count.specs.Counted.{has_own_match};
 ghost use Rattle.pp_count.specs.Seeing.{HoldsFilters};
 ghost use Rattle.pp_tree.specs.Peek.{is_found_key};
 ghost use Rattle.pp_tree.specs.Found.{holds_key, has_own_frame, has_own_number, is_own_at, no_frame, CanAsk};
 
 use indexmap::IndexSet;
 use pp_base::{List, MatchRefusal, Memory};
-use pp_count::{Counted, selected};
+use pp_count::{Survey, selected};
 use pp_grain::{Key, Names, counted, key_of};
 use pp_model::{Config, Frame, Loaded, Stack, Verdicts, function_of};
 use pp_stack::{VerdictTables, filter_into};
@@ -39,25 +39,23 @@ pub struct Asked<'a> {
 
 /// For each name whether the own pattern finds the function of a frame that counts and has the name's key. `NoMatch`
 /// says that it finds none of any frame.
-pub fn found_names(
-    alloc: Global,
-    l: &Loaded,
-    v: &Verdicts,
-    c: &Counted,
-    config: &Config,
-    column: Option<u32>,
-) -> Result<List<bool>, MatchRefusal>
-    requires verdicts { HasVerdicts l.now.profile v.now }
-    requires counted { IsCountedOf l.now v.now config.now column c.now }
-    ensures found { (f : Finders) → HoldsFilters l.now v.now config.now f →
-        IfOk result (λ found. found ≡ map (λ key. is_found_key l.now.profile f config.now column
-        (key_written l.now.profile key)) c.now.sums.names) }
-    ensures some { (f : Finders) → HoldsFilters l.now v.now config.now f →
-        IfOk result (λ _. has_own_match l.now.profile f config.now column ≡ true) }
-    ensures none { (f : Finders) → HoldsFilters l.now v.now config.now f →
+pub fn found_names(alloc: Global, survey: &Survey<'_>) -> Result<List<bool>, MatchRefusal>
+    ensures found { (f : Finders) →
+        HoldsFilters survey.now.l.now survey.now.v.now survey.now.config.now f →
+        IfOk result (λ found. found ≡ map (λ key. is_found_key survey.now.l.now.profile f
+        survey.now.config.now survey.now.column (key_written survey.now.l.now.profile key))
+        survey.now.counted.now.sums.names) }
+    ensures some { (f : Finders) →
+        HoldsFilters survey.now.l.now survey.now.v.now survey.now.config.now f →
+        IfOk result (λ _. has_own_match survey.now.l.now.profile f survey.now.config.now
+        survey.now.column ≡ true) }
+    ensures none { (f : Finders) →
+        HoldsFilters survey.now.l.now survey.now.v.now survey.now.config.now f →
         IfErr result (λ e. e ≡ MatchRefusal.NoMatch →
-        has_own_match l.now.profile f config.now column ≡ false) }
+        has_own_match survey.now.l.now.profile f survey.now.config.now
+        survey.now.column ≡ false) }
 {
+    let (l, v, counted) = (survey.l, survey.v, survey.counted);
     let _compact = l.profile.get();
     let Some(own) = &v.own else {
         return Err(MatchRefusal::NoMatch);
@@ -66,20 +64,27 @@ pub fn found_names(
         l,
         v,
         own,
-        config,
-        column,
+        config: survey.config,
+        column: survey.column,
     };
-    let keys = own_keys(alloc, &asked, c.kept.as_slice())?;
+    let tables = &survey.filters().tables;
+    let keys = own_keys(alloc, &asked, tables, counted.kept.as_slice())?;
     if keys.len() == 0 {
         return Err(MatchRefusal::NoMatch);
     }
-    let found = marks(alloc, &c.sums.names, &keys)?;
+    let found = marks(alloc, &counted.sums.names, &keys)?;
     Ok(found)
 }
 
 // The keys of the frames that count and that the pattern finds, over the samples of these numbers whose value isn't 0.
-fn own_keys(alloc: Global, asked: &Asked<'_>, kept: &[u32]) -> Result<IndexSet<Key>, Memory>
-    requires { CanAsk asked.now }
+fn own_keys(
+    alloc: Global,
+    asked: &Asked<'_>,
+    tables: &VerdictTables,
+    kept: &[u32],
+) -> Result<IndexSet<Key>, Memory>
+    requires can { CanAsk asked.now }
+    requires tables { AreTables asked.now.l.now.profile asked.now.v.now tables.now }
     ensures of_profile { IfOk result (λ keys. All (IsKeyOf asked.now.l.now.profile) keys.keys) }
     ensures found { (f : Finders) (find : Finder) → HoldsFinders asked.now.l.now asked.now.v.now f →
         AreVerdicts asked.now.l.now.profile asked.now.own.now find →
@@ -87,11 +92,10 @@ fn own_keys(alloc: Global, asked: &Asked<'_>, kept: &[u32]) -> Result<IndexSet<K
         ≡ list_any (has_own_number asked.now.l.now.profile f asked.now.config.now asked.now.column find k)
         kept.now) }
 {
-    let tables = VerdictTables::new(alloc, asked.l, asked.v)?;
     let mut stack = List::new(alloc);
     let mut keys = IndexSet::new(alloc);
     for number in kept {
-        add_sample(asked, &tables, *number, &mut stack, &mut keys)?;
+        add_sample(asked, tables, *number, &mut stack, &mut keys)?;
     }
     Ok(keys)
 }

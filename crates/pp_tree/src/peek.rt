@@ -14,23 +14,12 @@ ghost use Rattle.pp_tree.specs.Whole.{all_pairs, pairs_about};
 use crate::nodes::{Table, put_nodes, put_table_heading};
 use crate::own::found_names;
 use pp_base::{Gate, List, MatchRefusal, Memory, Text};
-use pp_count::{Counted, Ends, recount_about};
+use pp_count::{Counted, Ends, Survey, edges_about};
 use pp_graph::{Graph, rank_all};
 use pp_model::{Config, Loaded, Verdicts};
 use pp_units::{Head, write_head};
 use std::alloc::Global;
 use std::thread::Threads;
-
-// What the report is of.
-#[derive(Clone, Copy)]
-struct Subject<'a> {
-    l: &'a Loaded,
-    v: &'a Verdicts,
-    c: &'a Counted,
-    config: &'a Config,
-    // The column of values that is counted.
-    column: Option<u32>,
-}
 
 /// Appends the peek report: the lines of the head, the heading, and each node that the own pattern finds, in report
 /// order, between all its callers and all its callees, as in a tree report. Nothing is trimmed.
@@ -61,26 +50,57 @@ pub fn write_peek<R: Threads + Sync, G: Gate>(
         has_own_match l.now.profile f config.now column ≡ false) }
     ensures err { OnErr result (out.new ≡ out.old) }
 {
-    let found = found_names(alloc, l, v, c, config, column)?;
-    let ranked = rank_all(alloc, l, c, config, 0)?;
-    let subject = Subject {
+    let survey = Survey {
         l,
         v,
-        c,
         config,
         column,
+        counted: c,
     };
-    let graph = graph_about(rt, alloc, &subject, found.as_slice(), gate)?;
+    write_peek_of(rt, alloc, &survey, head, gate, out)
+}
+
+/// What `write_peek` does for the report.
+pub fn write_peek_of<R: Threads + Sync, G: Gate>(
+    rt: &R,
+    alloc: Global,
+    survey: &Survey<'_>,
+    head: &Head,
+    gate: &G,
+    out: &mut Text,
+) -> Result<(), MatchRefusal>
+    ensures ok { (f : Finders) →
+        HoldsFilters survey.now.l.now survey.now.v.now survey.now.config.now f →
+        OnOk result (out.new ≡ out.old ++ peek_text survey.now.l.now.profile f
+        survey.now.config.now survey.now.column (facts head.now)) }
+    ensures some { (f : Finders) →
+        HoldsFilters survey.now.l.now survey.now.v.now survey.now.config.now f →
+        OnOk result (has_own_match survey.now.l.now.profile f survey.now.config.now
+        survey.now.column ≡ true) }
+    ensures none { (f : Finders) →
+        HoldsFilters survey.now.l.now survey.now.v.now survey.now.config.now f →
+        IfErr result (λ e. e ≡ MatchRefusal.NoMatch →
+        has_own_match survey.now.l.now.profile f survey.now.config.now
+        survey.now.column ≡ false) }
+    ensures err { OnErr result (out.new ≡ out.old) }
+{
+    let (l, counted) = (survey.l, survey.counted);
+    let found = found_names(alloc, survey)?;
+    let ranked = rank_all(alloc, l, counted, survey.config, 0)?;
+    let graph = graph_about(rt, alloc, survey, found.as_slice(), gate)?;
     let shown = found_of(alloc, ranked.order.as_slice(), found.as_slice())?;
     let mut text = Text::new(alloc);
+    let table = Table {
+        p: l.profile.get(),
+        sums: &counted.sums,
+        graph: &graph,
+        head,
+    };
     put_peek(
         alloc,
-        l,
-        c,
-        &graph,
+        &table,
         ranked.shown_flat,
         shown.as_slice(),
-        head,
         &mut text,
     )?;
     out.append(text)?;
@@ -91,38 +111,28 @@ pub fn write_peek<R: Threads + Sync, G: Gate>(
 fn graph_about<R: Threads + Sync, G: Gate>(
     rt: &R,
     alloc: Global,
-    subject: &Subject<'_>,
+    survey: &Survey<'_>,
     marked: &[bool],
     gate: &G,
 ) -> Result<Graph, Memory>
-    requires can { CanCount subject.now.l.now.profile subject.now.v.now
-        subject.now.config.now subject.now.column }
-    requires counted { IsCountedOf subject.now.l.now subject.now.v.now
-        subject.now.config.now subject.now.column subject.now.c.now }
     ensures walk { IfOk result
-        (CanWalk subject.now.l.now.profile subject.now.c.now.sums) }
+        (CanWalk survey.now.l.now.profile survey.now.counted.now.sums) }
     ensures shows { (f : Finders) (own : Written → Bool) →
-        HoldsFilters subject.now.l.now subject.now.v.now subject.now.config.now f →
-        marked.now ≡ map (λ key. own (key_written subject.now.l.now.profile key))
-        subject.now.c.now.sums.names →
-        IfOk result (λ g. ShowsPairs subject.now.l.now.profile subject.now.c.now.sums.names g
-        (pairs_about own (all_pairs subject.now.l.now.profile f subject.now.config.now
-        subject.now.column))) }
+        HoldsFilters survey.now.l.now survey.now.v.now survey.now.config.now f →
+        marked.now ≡ map (λ key. own (key_written survey.now.l.now.profile key))
+        survey.now.counted.now.sums.names →
+        IfOk result (λ g. ShowsPairs survey.now.l.now.profile survey.now.counted.now.sums.names g
+        (pairs_about own (all_pairs survey.now.l.now.profile f survey.now.config.now
+        survey.now.column))) }
 {
-    let Subject {
-        l,
-        v,
-        c,
-        config,
-        column,
-    } = *subject;
-    let keep = all_kept(alloc, c.sums.names.len())?;
+    let sums = &survey.counted.sums;
+    let keep = all_kept(alloc, sums.names.len())?;
     let ends = Ends {
         keep: keep.as_slice(),
         marked,
     };
-    let edges = recount_about(rt, alloc, l, v, c, &ends, config, column, gate)?;
-    Graph::make(alloc, &c.sums, edges)
+    let edges = edges_about(rt, alloc, survey, &ends, gate)?;
+    Graph::make(alloc, sums, edges)
 }
 
 // So many names, all of them kept.
@@ -161,28 +171,20 @@ fn is_found(found: &[bool], number: u64) -> bool
 
 fn put_peek(
     alloc: Global,
-    l: &Loaded,
-    c: &Counted,
-    graph: &Graph,
+    table: &Table,
     sum: i64,
     shown: &[u64],
-    head: &Head,
     out: &mut Text,
 ) -> Result<(), Memory>
-    requires show { CanShow l.now.profile c.now.sums shown.now }
-    requires walk { CanWalk l.now.profile c.now.sums graph.now }
-    ensures { (pairs : Pairs) → ShowsPairs l.now.profile c.now.sums.names graph.now pairs →
-        IfOk result (λ _. out.new
-        ≡ out.old ++ peeked_text l.now.profile c.now.sums sum shown.now pairs (facts head.now)) }
+    requires show { CanShow table.now.p.now table.now.sums.now shown.now }
+    requires walk { CanWalk table.now.p.now table.now.sums.now table.now.graph.now }
+    ensures { (pairs : Pairs) →
+        ShowsPairs table.now.p.now table.now.sums.now.names table.now.graph.now pairs →
+        IfOk result (λ _. out.new ≡ out.old ++ peeked_text table.now.p.now table.now.sums.now sum
+        shown.now pairs (facts table.now.head.now)) }
 {
-    let table = Table {
-        p: l.profile.get(),
-        sums: &c.sums,
-        graph,
-        head,
-    };
-    write_head(alloc, head, out)?;
-    head.put_showing(sum, out)?;
+    write_head(alloc, table.head, out)?;
+    table.head.put_showing(sum, out)?;
     put_table_heading(out)?;
-    put_nodes(alloc, &table, shown, out)
+    put_nodes(alloc, table, shown, out)
 }

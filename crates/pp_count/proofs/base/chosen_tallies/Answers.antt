@@ -6,12 +6,12 @@ use Rattle.pp_count.proofs.base.chosen_tallies.Goals as goal
 
 pub count_all-requires-clause-sound : goal.count_all-requires-clause-sound
 count_all-requires-clause-sound g c = λ _ _.
-    record { filters = c.requires.filters; verdicts = c.requires.can.verdicts; table = c.requires.table; few_kept = tt; chosen = c.requires.rising }
+    record { filters = c.args.survey.now.counts.filters; verdicts = c.args.survey.now.can.verdicts; table = c.args.survey.now.counts.table; few_kept = tt; chosen = c.requires }
 
 pub count_all-requires-clause-countable : goal.count_all-requires-clause-countable
 count_all-requires-clause-countable g c = λ _ _. record {
-  fits = chosen_fits c.args.l.now.profile c.args.column c.args.config.now.divide_by c.args.chosen.now c.requires.can.countable c.requires.can.column c.requires.rising;
-  few = chosen_few c.args.l.now.profile c.args.chosen.now c.requires.can.countable c.requires.rising;
+  fits = chosen_fits c.args.survey.now.l.now.profile c.args.survey.now.column c.args.survey.now.config.now.divide_by c.args.chosen.now c.args.survey.now.can.countable c.args.survey.now.can.column c.requires;
+  few = chosen_few c.args.survey.now.l.now.profile c.args.chosen.now c.args.survey.now.can.countable c.requires;
 }
 
 pub returns : goal.returns

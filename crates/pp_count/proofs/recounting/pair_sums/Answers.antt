@@ -11,20 +11,20 @@ use Rattle.pp_count.proofs.recounting.pair_sums.Goals as goal
 
 pub count_all-requires-clause-sound : goal.count_all-requires-clause-sound
 count_all-requires-clause-sound g c = λ _ _. record {
-  filters = c.requires.counted.filters;
-  verdicts = c.requires.can.verdicts;
-  table = c.requires.counted.table;
-  few_kept = c.requires.over;
-  chosen = subst (AreRisingBetween 0 (length c.args.l.now.profile.sample)) (sym c.as_slice-kept.ensures) c.requires.counted.rising;
+  filters = c.args.survey.now.counts.filters;
+  verdicts = c.args.survey.now.can.verdicts;
+  table = c.args.survey.now.counts.table;
+  few_kept = c.requires;
+  chosen = subst (AreRisingBetween 0 (length c.args.survey.now.l.now.profile.sample)) (sym c.as_slice-kept.ensures) c.args.survey.now.counts.rising;
 }
 
 pub count_all-requires-clause-countable : goal.count_all-requires-clause-countable
 count_all-requires-clause-countable g c = λ _ _.
-    let rising : AreRisingBetween 0 (length c.args.l.now.profile.sample) c.as_slice-kept.result.now =
-    subst (AreRisingBetween 0 (length c.args.l.now.profile.sample)) (sym c.as_slice-kept.ensures) c.requires.counted.rising in
+    let rising : AreRisingBetween 0 (length c.args.survey.now.l.now.profile.sample) c.as_slice-kept.result.now =
+    subst (AreRisingBetween 0 (length c.args.survey.now.l.now.profile.sample)) (sym c.as_slice-kept.ensures) c.args.survey.now.counts.rising in
     record {
-      fits = chosen_fits c.args.l.now.profile c.args.column c.args.config.now.divide_by c.as_slice-kept.result.now c.requires.can.countable c.requires.can.column rising;
-      few = chosen_few c.args.l.now.profile c.as_slice-kept.result.now c.requires.can.countable rising;
+      fits = chosen_fits c.args.survey.now.l.now.profile c.args.survey.now.column c.args.survey.now.config.now.divide_by c.as_slice-kept.result.now c.args.survey.now.can.countable c.args.survey.now.can.column rising;
+      few = chosen_few c.args.survey.now.l.now.profile c.as_slice-kept.result.now c.args.survey.now.can.countable rising;
     }
 
 pub returns : goal.returns
@@ -35,7 +35,7 @@ returns g c =
       below = counted.are.below;
       are = λ f holds.
           counted.are.are f holds
-          ∙ ap (λ (ns : List ℕ). seen_samples c.args.l.now.profile f c.args.config.now c.args.column (samples_at c.args.l.now.profile ns)) c.as_slice-kept.ensures
-          ∙ kept_seen c.args.l.now.profile f c.args.config.now c.args.column c.args.counted.now.kept (c.requires.counted.kept f holds);
+          ∙ ap (λ (ns : List ℕ). seen_samples c.args.survey.now.l.now.profile f c.args.survey.now.config.now c.args.survey.now.column (samples_at c.args.survey.now.l.now.profile ns)) c.as_slice-kept.ensures
+          ∙ kept_seen c.args.survey.now.l.now.profile f c.args.survey.now.config.now c.args.survey.now.column c.args.survey.now.counted.now.kept (c.args.survey.now.counts.kept f holds);
       listed = λ k. c.in_ok-sums.ensures k ∙ listed_as (weighed (map (paired c.args.over.now) counted.seen)) k (tally_at c.in_ok-sofar.sofar.tallies k) (counted.tallies k);
     }

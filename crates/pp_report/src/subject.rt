@@ -1,0 +1,15 @@
+//! What the text of a report is made of.
+ghost use Rattle.std.specs.Prelude.{◌<◌, ◌^◌};
+
+use pp_count::Survey;
+use pp_units::Head;
+
+/// What the text of a report is made of.
+#[derive(Clone, Copy)]
+pub struct Subject<'a> {
+    /// What the report looks at.
+    pub survey: Survey<'a>,
+    /// The lines in front, and how values are printed.
+    pub head: &'a Head,
+    pub ghost small: { head.now.total < 2 ^ 63 },
+}
