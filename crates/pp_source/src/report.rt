@@ -6,7 +6,7 @@ use pp_units::Head;
 
 /// A profile with what a list report asks of it.
 #[derive(Clone, Copy)]
-pub struct Report<'a> {
+pub struct ListReport<'a> {
     pub l: &'a Loaded,
     pub v: &'a Verdicts,
     /// What `count` gives of them.

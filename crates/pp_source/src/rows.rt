@@ -32,7 +32,7 @@ pub struct Listing<'a> {
 
 /// The first and the last line of a routine that have a frame.
 #[derive(Clone, Copy)]
-pub struct Span {
+pub struct LineSpan {
     pub first: u64,
     pub last: u64,
 }
@@ -57,7 +57,7 @@ pub fn write_rows(
     let [first, ..] = numbers else {
         return Ok(());
     };
-    let span = Span {
+    let span = LineSpan {
         first: *first,
         last: numbers[numbers.len() - 1],
     };
@@ -71,7 +71,7 @@ fn write_shown(
     listing: &Listing<'_>,
     line: &FoundLine<'_>,
     bytes: &[u8],
-    span: Span,
+    span: LineSpan,
     scratch: &mut Text,
     out: &mut Text,
 ) -> Result<u64, Memory>
@@ -109,7 +109,7 @@ fn cut_line(bytes: &[u8]) -> (&[u8], &[u8])
 }
 
 // Whether the line is shown.
-fn is_shown(span: Span, number: u64) -> bool
+fn is_shown(span: LineSpan, number: u64) -> bool
     requires last { span.last < 2 ^ 63 }
     requires number { number < 2 ^ 64 - 5 }
     ensures { result ≡ is_near span.first span.last number }
