@@ -7,9 +7,9 @@ use Rattle.pp_model.specs.declared.profile.Function.{Function}
 use Rattle.pp_model.specs.declared.profile.Location.{Location}
 use Rattle.pp_model.specs.declared.profile.Profile.{Profile}
 use Rattle.pp_model.specs.FirstSight.{seen_with, place_of}
-use Rattle.pp_build.specs.declared.seen.MappingKey.{MappingKey}
-use Rattle.pp_build.specs.declared.seen.FunctionKey.{FunctionKey}
-use Rattle.pp_build.specs.declared.seen.LocationKey.{LocationKey}
+use Rattle.pp_build.specs.declared.seen.BuiltMapping.{BuiltMapping}
+use Rattle.pp_build.specs.declared.seen.BuiltFunction.{BuiltFunction}
+use Rattle.pp_build.specs.declared.seen.BuiltLocation.{BuiltLocation}
 use Rattle.pp_build.specs.Adding.{with_new_text, text_index, with_mapping, mapping_number, with_function, function_number, with_location, location_number}
 use Rattle.pp_build.specs.Same.{same_mapping_entry, same_function_entry, same_location_entry}
 use Rattle.pp_build.specs.Seen.{keyed_mapping, bare_mapping, keyed_function, bare_function, keyed_location, bare_location}
@@ -46,13 +46,13 @@ put eq same keyed bare keys_agree entries_agree k item x keys entries after_keys
 abbrev pub text_eq : Vec ℕ Global → Vec ℕ Global → Bool
 text_eq a b = bytes_eq a.items b.items
 
-abbrev pub mapping_eq : MappingKey → MappingKey → Bool
+abbrev pub mapping_eq : BuiltMapping → BuiltMapping → Bool
 mapping_eq a b = same_mapping_entry (keyed_mapping a) (keyed_mapping b)
 
-abbrev pub function_eq : FunctionKey → FunctionKey → Bool
+abbrev pub function_eq : BuiltFunction → BuiltFunction → Bool
 function_eq a b = same_function_entry (keyed_function a) (keyed_function b)
 
-abbrev pub location_eq : LocationKey → LocationKey → Bool
+abbrev pub location_eq : BuiltLocation → BuiltLocation → Bool
 location_eq a b = same_location_entry (keyed_location a) (keyed_location b)
 
 module _ (p now : Profile) (view : p ≡ now) (so_far : IsBuilt p) where
@@ -79,7 +79,7 @@ module _ (p now : Profile) (view : p ≡ now) (so_far : IsBuilt p) where
       }
 
   -- a mapping
-  pub record MappingPut (m : Mapping) (after_keys : List MappingKey) (after : List Mapping) (n : ℕ) : Type 0 where
+  pub record MappingPut (m : Mapping) (after_keys : List BuiltMapping) (after : List Mapping) (n : ℕ) : Type 0 where
     pub built : IsBuilt (record p { mapping = after })
     pub keys : map keyed_mapping after_keys ≡ map bare_mapping after
     pub new : record p { mapping = after } ≡ with_mapping now m
@@ -87,7 +87,7 @@ module _ (p now : Profile) (view : p ≡ now) (so_far : IsBuilt p) where
     pub within : IdIn (length after) n
 
   pub mapping_put :
-      (k : MappingKey) (item m : Mapping) (keys after_keys : List MappingKey) (after : List Mapping) (n : ℕ) → MappingIn (length p.text) m →
+      (k : BuiltMapping) (item m : Mapping) (keys after_keys : List BuiltMapping) (after : List Mapping) (n : ℕ) → MappingIn (length p.text) m →
       keyed_mapping k ≡ bare_mapping item → item ≡ record m { id = length p.mapping + 1 } → map keyed_mapping keys ≡ map bare_mapping p.mapping →
       after_keys ≡ seen_with mapping_eq keys k → after ≡ (if list_any (mapping_eq k) keys then p.mapping else p.mapping ++ item ∷ []) →
       n ≡ place_of mapping_eq keys k + 1 → MappingPut m after_keys after n
@@ -102,7 +102,7 @@ module _ (p now : Profile) (view : p ≡ now) (so_far : IsBuilt p) where
       }
 
   -- a function
-  pub record FunctionPut (f : Function) (after_keys : List FunctionKey) (after : List Function) (n : ℕ) : Type 0 where
+  pub record FunctionPut (f : Function) (after_keys : List BuiltFunction) (after : List Function) (n : ℕ) : Type 0 where
     pub built : IsBuilt (record p { function = after })
     pub keys : map keyed_function after_keys ≡ map bare_function after
     pub new : record p { function = after } ≡ with_function now f
@@ -110,7 +110,7 @@ module _ (p now : Profile) (view : p ≡ now) (so_far : IsBuilt p) where
     pub within : IdIn (length after) n
 
   pub function_put :
-      (k : FunctionKey) (item f : Function) (keys after_keys : List FunctionKey) (after : List Function) (n : ℕ) → FunctionIn (length p.text) f →
+      (k : BuiltFunction) (item f : Function) (keys after_keys : List BuiltFunction) (after : List Function) (n : ℕ) → FunctionIn (length p.text) f →
       keyed_function k ≡ bare_function item → item ≡ record f { id = length p.function + 1 } → map keyed_function keys ≡ map bare_function p.function →
       after_keys ≡ seen_with function_eq keys k → after ≡ (if list_any (function_eq k) keys then p.function else p.function ++ item ∷ []) →
       n ≡ place_of function_eq keys k + 1 → FunctionPut f after_keys after n
@@ -125,7 +125,7 @@ module _ (p now : Profile) (view : p ≡ now) (so_far : IsBuilt p) where
       }
 
   -- a location
-  pub record LocationPut (l : Location) (after_keys : List LocationKey) (after : List Location) (n : ℕ) : Type 0 where
+  pub record LocationPut (l : Location) (after_keys : List BuiltLocation) (after : List Location) (n : ℕ) : Type 0 where
     pub built : IsBuilt (record p { location = after })
     pub keys : map keyed_location after_keys ≡ map bare_location after
     pub new : record p { location = after } ≡ with_location now l
@@ -133,7 +133,7 @@ module _ (p now : Profile) (view : p ≡ now) (so_far : IsBuilt p) where
     pub within : IdIn (length after) n
 
   pub location_put :
-      (k : LocationKey) (item l : Location) (keys after_keys : List LocationKey) (after : List Location) (n : ℕ) →
+      (k : BuiltLocation) (item l : Location) (keys after_keys : List BuiltLocation) (after : List Location) (n : ℕ) →
       LocationIn (length p.mapping) (length p.function) l → keyed_location k ≡ bare_location item → item ≡ record l { id = length p.location + 1 } →
       map keyed_location keys ≡ map bare_location p.location → after_keys ≡ seen_with location_eq keys k →
       after ≡ (if list_any (location_eq k) keys then p.location else p.location ++ item ∷ []) → n ≡ place_of location_eq keys k + 1 →

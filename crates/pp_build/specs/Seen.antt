@@ -5,13 +5,13 @@ use Rattle.pp_model.specs.declared.profile.Mapping.{Mapping}
 use Rattle.pp_model.specs.declared.profile.Function.{Function}
 use Rattle.pp_model.specs.declared.profile.Location.{Location}
 use Rattle.pp_model.specs.declared.profile.Profile.{Profile}
-use Rattle.pp_build.specs.declared.seen.MappingKey.{MappingKey}
-use Rattle.pp_build.specs.declared.seen.FunctionKey.{FunctionKey}
-use Rattle.pp_build.specs.declared.seen.LocationKey.{LocationKey}
+use Rattle.pp_build.specs.declared.seen.BuiltMapping.{BuiltMapping}
+use Rattle.pp_build.specs.declared.seen.BuiltFunction.{BuiltFunction}
+use Rattle.pp_build.specs.declared.seen.BuiltLocation.{BuiltLocation}
 use Rattle.pp_build.specs.declared.seen.Seen.{Seen}
 
 -- the key as a mapping without an id
-abbrev pub keyed_mapping : MappingKey → Mapping
+abbrev pub keyed_mapping : BuiltMapping → Mapping
 keyed_mapping k = record {
   id = 0;
   start = k.start;
@@ -30,7 +30,7 @@ abbrev pub bare_mapping : Mapping → Mapping
 bare_mapping m = record m { id = 0 }
 
 -- the key as a function without an id
-abbrev pub keyed_function : FunctionKey → Function
+abbrev pub keyed_function : BuiltFunction → Function
 keyed_function k = record {
   id = 0;
   name = k.name;
@@ -44,7 +44,7 @@ abbrev pub bare_function : Function → Function
 bare_function f = record f { id = 0 }
 
 -- the key as a location without an id
-abbrev pub keyed_location : LocationKey → Location
+abbrev pub keyed_location : BuiltLocation → Location
 keyed_location k = record {
   id = 0;
   mapping_id = k.mapping_id;

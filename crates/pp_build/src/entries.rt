@@ -5,7 +5,7 @@ ghost use Rattle.pp_build.specs.Given.{given_mapping, function_of, given_line, l
 ghost use Rattle.pp_build.specs.Seen.{keyed_mapping, bare_mapping, keyed_function, bare_function, keyed_location, bare_location};
 
 use crate::given::{LabelValue, LocationId, NewMapping, SampleLabel, SourceLine, TextId};
-use crate::seen::{FunctionKey, LocationKey, MappingKey};
+use crate::seen::{BuiltFunction, BuiltLocation, BuiltMapping};
 use pp_base::{List, Memory};
 use pp_model::{Function, Label, Line, Location, Mapping, Profile, ValueType};
 use std::alloc::Global;
@@ -94,10 +94,10 @@ pub fn function_with(
 }
 
 /// The key of the mapping.
-pub fn mapping_key(m: &Mapping) -> MappingKey
+pub fn mapping_key(m: &Mapping) -> BuiltMapping
     ensures { keyed_mapping result ≡ bare_mapping m.now }
 {
-    MappingKey {
+    BuiltMapping {
         start: m.start,
         limit: m.limit,
         offset: m.offset,
@@ -111,10 +111,10 @@ pub fn mapping_key(m: &Mapping) -> MappingKey
 }
 
 /// The key of the function.
-pub fn function_key(f: &Function) -> FunctionKey
+pub fn function_key(f: &Function) -> BuiltFunction
     ensures { keyed_function result ≡ bare_function f.now }
 {
-    FunctionKey {
+    BuiltFunction {
         name: f.name,
         system_name: f.system_name,
         filename: f.filename,
@@ -123,11 +123,11 @@ pub fn function_key(f: &Function) -> FunctionKey
 }
 
 /// The key of the location.
-pub fn location_key(alloc: Global, l: &Location) -> Result<LocationKey, Memory>
+pub fn location_key(alloc: Global, l: &Location) -> Result<BuiltLocation, Memory>
     ensures { IfOk result (λ key. keyed_location key ≡ bare_location l.now) }
 {
     let line = l.line.as_slice().to_vec(alloc)?;
-    Ok(LocationKey {
+    Ok(BuiltLocation {
         mapping_id: l.mapping_id,
         address: l.address,
         line,

@@ -6,7 +6,7 @@ use std::alloc::Global;
 
 /// What tells a mapping apart: all but its id.
 #[derive(Clone, Copy, Debug, PartialEq, Eq, Hash)]
-pub struct MappingKey {
+pub struct BuiltMapping {
     /// Its first address in the process.
     pub start: u64,
     /// The address behind its last byte.
@@ -29,7 +29,7 @@ pub struct MappingKey {
 
 /// What tells a function apart: all but its id.
 #[derive(Clone, Copy, Debug, PartialEq, Eq, Hash)]
-pub struct FunctionKey {
+pub struct BuiltFunction {
     /// The index of the name's text.
     pub name: i64,
     /// The index of the linker's name.
@@ -42,7 +42,7 @@ pub struct FunctionKey {
 
 /// What tells a location apart: all but its id.
 #[derive(Debug, Drop, PartialEq, Eq, Hash)]
-pub struct LocationKey {
+pub struct BuiltLocation {
     /// The id of its mapping, and 0 without one.
     pub mapping_id: u64,
     /// Its address in the process, and 0 where that is unknown.
@@ -59,11 +59,11 @@ pub struct Seen {
     /// By index: the empty text is the first.
     pub texts: IndexSet<Vec<u8>>,
     /// By id less 1.
-    pub mappings: IndexSet<MappingKey>,
+    pub mappings: IndexSet<BuiltMapping>,
     /// By id less 1.
-    pub functions: IndexSet<FunctionKey>,
+    pub functions: IndexSet<BuiltFunction>,
     /// By id less 1.
-    pub locations: IndexSet<LocationKey>,
+    pub locations: IndexSet<BuiltLocation>,
 }
 
 impl Seen {

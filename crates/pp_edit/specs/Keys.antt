@@ -3,13 +3,13 @@ use Rattle.std.specs.Prelude.{◌≡◌, ℕ, Bool, List, [], map, slice_index_o
 use Rattle.std.specs.Str.{bytes_eq}
 use Rattle.pp_model.specs.declared.profile.Label.{Label}
 use Rattle.pp_model.specs.Lookup.{text_number}
-use Rattle.pp_edit.specs.declared.key.Key.{Key}
+use Rattle.pp_edit.specs.declared.key.LabelKey.{LabelKey}
 
 -- The verdicts are those of these texts on this key.
-pub record AreKeyVerdicts (all : List (List ℕ)) (key : List ℕ) (k : Key) : Type 0 where
+pub record AreKeyVerdicts (all : List (List ℕ)) (key : List ℕ) (k : LabelKey) : Type 0 where
   pub texts : k.texts ≡ map (bytes_eq key) all
   pub past : k.past ≡ bytes_eq key []
 
 -- the verdict on the text of the label's key
-abbrev pub names_key : Key → Label → Bool
+abbrev pub names_key : LabelKey → Label → Bool
 names_key k label = slice_index_or k.texts (text_number label.key) k.past

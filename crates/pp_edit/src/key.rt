@@ -8,7 +8,7 @@ use std::alloc::Global;
 
 /// Which texts of a profile are a key, so that no text is compared once a label.
 #[derive(Drop)]
-pub struct Key {
+pub struct LabelKey {
     /// For each text, whether it is the key.
     pub texts: List<bool>,
     /// Whether the empty text is the key, for which an index past the texts stands.
@@ -16,20 +16,20 @@ pub struct Key {
 }
 
 /// The key among these texts, which are compared byte by byte. `Err` is want of memory.
-pub fn key_in(alloc: Global, texts: &[Text], key: &[u8]) -> Result<Key, Memory>
+pub fn key_in(alloc: Global, texts: &[Text], key: &[u8]) -> Result<LabelKey, Memory>
     ensures { IfOk result (λ k. AreKeyVerdicts texts.now key.now k) }
 {
     let mut are = List::from_vec(Vec::with_capacity(alloc, texts.len())?);
     for text in texts {
         are.push(key == text.as_slice())?;
     }
-    Ok(Key {
+    Ok(LabelKey {
         texts: are,
         past: key.is_empty(),
     })
 }
 
-impl Key {
+impl LabelKey {
     /// Whether the label's name is the key. A negative index stands for the first text.
     pub fn is_of(&self, label: &Label) -> bool
         ensures { result ≡ names_key self.now label.now }

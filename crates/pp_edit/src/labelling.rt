@@ -9,7 +9,7 @@ ghost use Rattle.pp_build.specs.Said.{said_samples};
 ghost use Rattle.pp_edit.specs.Keys.{names_key};
 ghost use Rattle.pp_edit.specs.Labels.{has_label, has_number, label_in, number_label, relabelled, relabelled_sample, said_with, said_without, text_label, with_label, without_label};
 
-use crate::key::{Key, key_in};
+use crate::key::{LabelKey, key_in};
 use crate::texts::index_of;
 use pp_base::{List, Memory, Text};
 use pp_model::{Label, Profile, Sample, Valid};
@@ -124,7 +124,7 @@ fn relabel(alloc: Global, mut p: Profile, key: &[u8], labels: &[Label]) -> Resul
 fn relabel_each(
     alloc: Global,
     samples: &mut List<Sample>,
-    key: &Key,
+    key: &LabelKey,
     labels: &[Label],
 ) -> Result<(), Memory>
     ensures { OnOk result
@@ -139,7 +139,7 @@ fn relabel_each(
 }
 
 // Takes the labels of the key out. It takes no memory.
-fn drop_labels(alloc: Global, labels: &mut List<Label>, key: &Key)
+fn drop_labels(alloc: Global, labels: &mut List<Label>, key: &LabelKey)
     ensures { labels.new ≡ filter (λ label. not (names_key key.now label)) labels.old }
 {
     let mut kept = mem::replace(labels, List::new(alloc)).into_vec();

@@ -31,7 +31,7 @@ use Rattle.pp_count.proofs.EachOnce.{ranked}
 use Rattle.pp_count.proofs.Ties.{tied, tied_self}
 use Rattle.pp_source.specs.declared.ledger.Ledger.{Ledger}
 use Rattle.pp_source.specs.declared.lines.FoundLine.{FoundLine}
-use Rattle.pp_source.specs.declared.tallies.Tallies.{Tallies}
+use Rattle.pp_source.specs.declared.tallies.KeyTallies.{KeyTallies}
 use Rattle.pp_source.specs.Amounts.{source_line}
 use Rattle.pp_source.specs.Found.{is_among_keys, has_own_function}
 use Rattle.pp_source.specs.Ledgers.{AreFound, HasKey, IsLedgerOf, IsLineOf, keys_seen, line_texts, lines_texts, tally_of_key}
@@ -47,7 +47,7 @@ found_own p own names found k there =
     subst (λ q. has_own_function own q ≡ true) at.there (found.is_own (place_of same_key names k) no_key at.within)
 
 -- the keys that some sample had
-seen_is : (p : Profile) (own : Option (List Bool)) (t : Tallies) → AreFound p own t.names.keys → (k : Key) → is_among_keys k (keys_seen t) ≡ (has_own_function own k && nat_lt 0 (tally_of_key t k).last)
+seen_is : (p : Profile) (own : Option (List Bool)) (t : KeyTallies) → AreFound p own t.names.keys → (k : Key) → is_among_keys k (keys_seen t) ≡ (has_own_function own k && nat_lt 0 (tally_of_key t k).last)
 seen_is p own t found k =
     any-filter_same (same_key k) (λ q. nat_lt 0 (tally_of_key t q).last) (nat_lt 0 (tally_of_key t k).last) (λ q same. ap (λ x. nat_lt 0 (tally_of_key t x).last) (sym ((key_decides k q).0 same))) t.names.keys
     ∙ by (is_among_keys k t.names.keys) refl where
@@ -175,11 +175,11 @@ module _ (p : Profile) (compact : IsCompact p) (f : Finders) (own : Option (List
       (λ q. same_members q ∙ ap (list_any (eq_by_cmp key_cmp q)) (sym told) ∙ list_any-IsPermutation (eq_by_cmp key_cmp q) (lines_texts lines) (lines_texts sorted) perm))
 
 -- The keys so far: those that some sample had, each as a line.
-abbrev pub CollectedTo : Profile → Option (List Bool) → Tallies → ℕ → List FoundLine → Type 0
+abbrev pub CollectedTo : Profile → Option (List Bool) → KeyTallies → ℕ → List FoundLine → Type 0
 CollectedTo p own t i lines = (map (λ line. line.key) lines ≡ filter (λ k. nat_lt 0 (tally_of_key t k).last) (take i t.names.keys)) × All (IsLineOf p own) lines
 
 -- The next key, as it was read.
-module _ (p : Profile) (own : Option (List Bool)) (t : Tallies) (read : List Key) (i : ℕ) (d : Key) (lines : List FoundLine) (lent : read ≡ t.names.keys) (here : i < length read)
+module _ (p : Profile) (own : Option (List Bool)) (t : KeyTallies) (read : List Key) (i : ℕ) (d : Key) (lines : List FoundLine) (lent : read ≡ t.names.keys) (here : i < length read)
     (so_far : CollectedTo p own t i lines) where
   abbrev key : Key
   key = get_or read i d

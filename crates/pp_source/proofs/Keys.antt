@@ -9,7 +9,7 @@ use Rattle.std.proofs.Math.Bool.{or-false}
 use Rattle.pp_base.proofs.Orders.{tied_with}
 use Rattle.pp_count.specs.Sums.{has}
 use Rattle.pp_count.proofs.Renaming.{tied_is}
-use Rattle.pp_source.specs.declared.tally.Tally.{Tally}
+use Rattle.pp_source.specs.declared.tally.SampleTally.{SampleTally}
 use Rattle.pp_source.specs.Tally.{credited_once, led, cum_with, flat_with}
 
 -- one of a result that is Ok
@@ -18,7 +18,7 @@ if_one (Ok x) then_so a = then_so a
 if_one (Err e) then_so a = tt
 
 -- the cum of each number after one number more
-cum_more : (v : ℤ) (turn : ℕ) (t new : Tally) (h s : Bool) → t.last < turn
+cum_more : (v : ℤ) (turn : ℕ) (t new : SampleTally) (h s : Bool) → t.last < turn
     → (s ≡ true → new ≡ credited_once v turn (cond h (record { flat = t.flat; cum = t.cum +ℤ v; last = turn }) t))
     → (s ≡ false → new ≡ cond h (record { flat = t.flat; cum = t.cum +ℤ v; last = turn }) t)
     → new ≡ cond (h || s) (record { flat = t.flat; cum = t.cum +ℤ v; last = turn }) t
@@ -38,7 +38,7 @@ module _ (f : ℕ → ℕ) (v : ℤ) (keys : List ℕ) where
       ∙ list_any-append (eq_by_cmp nat_cmp k) (map f (take i keys)) (f (get_or keys i d) ∷ [])
       ∙ ap (λ b. has nat_cmp k (map f (take i keys)) || b) (or-false (eq_by_cmp nat_cmp k (f (get_or keys i d))))
 
-  pub cums_more : (turn i key : ℕ) (first old new : ℕ → Tally) → i < length keys → key ≡ get_or keys i key
+  pub cums_more : (turn i key : ℕ) (first old new : ℕ → SampleTally) → i < length keys → key ≡ get_or keys i key
       → ((k : ℕ) → (first k).last < turn)
       → ((k : ℕ) → old k ≡ cum_with v turn (map f (take i keys)) k (first k))
       → new (f key) ≡ credited_once v turn (old (f key)) → ((k : ℕ) → k ≢ f key → new k ≡ old k)
@@ -52,7 +52,7 @@ module _ (f : ℕ → ℕ) (v : ℤ) (keys : List ℕ) where
       ∙ ap (λ b. cond b (record { flat = (first k).flat; cum = (first k).cum +ℤ v; last = turn }) (first k)) (sym (has_more k i key within))
 
 -- the flat of each number after the first
-pub flat_is : (f : ℕ → ℕ) (v : ℤ) (keys : List ℕ) (leaf : ℕ) (old new : ℕ → Tally) → 0 < length keys → leaf ≡ get_or keys 0 leaf
+pub flat_is : (f : ℕ → ℕ) (v : ℤ) (keys : List ℕ) (leaf : ℕ) (old new : ℕ → SampleTally) → 0 < length keys → leaf ≡ get_or keys 0 leaf
     → new (f leaf) ≡ led v (old (f leaf)) → ((k : ℕ) → k ≢ f leaf → new k ≡ old k)
     → (k : ℕ) → new k ≡ flat_with v (map f keys) k (old k)
 flat_is f v [] leaf old new some is at others k = absurd (omega (arith, some))

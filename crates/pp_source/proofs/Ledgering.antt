@@ -23,10 +23,10 @@ use Rattle.pp_count.specs.Table.{no_key, written_key}
 use Rattle.pp_count.proofs.Based.{kept_seen}
 use Rattle.pp_count.proofs.CallerLemmas.{keyed_report, weighed-renamed}
 use Rattle.pp_count.proofs.Ties.{tied}
-use Rattle.pp_source.specs.declared.found.Found.{Found}
-use Rattle.pp_source.specs.declared.found.Part.{Part}
-use Rattle.pp_source.specs.declared.found.Part.TheVariants.{Routine, Line}
-use Rattle.pp_source.specs.declared.tallies.Tallies.{Tallies}
+use Rattle.pp_source.specs.declared.found.FoundKeys.{FoundKeys}
+use Rattle.pp_source.specs.declared.found.KeyPart.{KeyPart}
+use Rattle.pp_source.specs.declared.found.KeyPart.TheVariants.{Routine, Line}
+use Rattle.pp_source.specs.declared.tallies.KeyTallies.{KeyTallies}
 use Rattle.pp_source.specs.Found.{IsFoundOf, is_among_keys, has_own_function, part_key, part_of}
 use Rattle.pp_source.specs.Ledgers.{AreAdded, HasKey, HasKeyTallies, by_lines}
 use Rattle.pp_source.specs.Tally.{no_line_tally, renumbered, tally_of, IsTallyBy}
@@ -34,19 +34,19 @@ use Rattle.pp_source.proofs.Parts.{part_of_profile, part_told, ties_none, ties_t
 use Rattle.pp_source.proofs.Retelling.{no_tally_of, renamed_twice, tally_same}
 
 -- a part of a line is that of the frame
-part_of_line : (part : Part) (w : Written) → part_of part (key_texts Lines false w) ≡ part_of part w
+part_of_line : (part : KeyPart) (w : Written) → part_of part (key_texts Lines false w) ≡ part_of part w
 part_of_line Routine w = refl
 part_of_line Line w = refl
 
-parts_of_lines : (part : Part) (ws : List Written) → map (part_of part) (map (key_texts Lines false) ws) ≡ map (part_of part) ws
+parts_of_lines : (part : KeyPart) (ws : List Written) → map (part_of part) (map (key_texts Lines false) ws) ≡ map (part_of part) ws
 parts_of_lines part [] = refl
 parts_of_lines part (w ∷ ws) = λ i. part_of_line part w i ∷ parts_of_lines part ws i
 
-parts_of_frames : (part : Part) (ss : List (Seen Written)) → map (renamed (part_of part)) (map (renamed (key_texts Lines false)) ss) ≡ map (renamed (part_of part)) ss
+parts_of_frames : (part : KeyPart) (ss : List (Seen Written)) → map (renamed (part_of part)) (map (renamed (key_texts Lines false)) ss) ≡ map (renamed (part_of part)) ss
 parts_of_frames part [] = refl
 parts_of_frames part (s ∷ ss) = λ i. record { value = s.value; keys = parts_of_lines part s.keys i } ∷ parts_of_frames part ss i
 
-module _ (p : Profile) (config : Config) (by : config ≡ by_lines config) (column : Option ℕ) (kept : List ℕ) (names : List Key) (seen : List (Seen ℕ)) (part : Part) where
+module _ (p : Profile) (config : Config) (by : config ≡ by_lines config) (column : Option ℕ) (kept : List ℕ) (names : List Key) (seen : List (Seen ℕ)) (part : KeyPart) where
   -- what is seen by lines has the parts of the report's frames
   pub parts_seen : (f : Finders) → kept ≡ filtered_from p f config 0 p.sample → map (renamed (written_key p names)) seen ≡ seen_samples p f config column (samples_at p kept)
       → map (renamed (λ n. part_of part (written_key p names n))) (weighed seen) ≡ map (renamed (part_of part)) (report_frames p f config column)
@@ -56,8 +56,8 @@ module _ (p : Profile) (config : Config) (by : config ≡ by_lines config) (colu
       ∙ ap (λ (c : Config). map (renamed (key_texts c.grain c.showcolumns)) (report_frames p f config column)) by in
       sym (renamed_twice (part_of part) (written_key p names) (weighed seen)) ∙ ap (map (renamed (part_of part))) keyed ∙ parts_of_frames part (report_frames p f config column)
 
-module _ (p : Profile) (compact : IsCompact p) (zero_text : (text_at p 0 ≡ []) × (0 < length p.text)) (own : Option (List Bool)) (part : Part) (keys : List Key) (of_p : All (IsKeyOf p) keys)
-    (found : Found) (is : IsFoundOf own part keys found) where
+module _ (p : Profile) (compact : IsCompact p) (zero_text : (text_at p 0 ≡ []) × (0 < length p.text)) (own : Option (List Bool)) (part : KeyPart) (keys : List Key) (of_p : All (IsKeyOf p) keys)
+    (found : FoundKeys) (is : IsFoundOf own part keys found) where
   abbrev told : ℕ → Written
   told n = part_of part (written_key p keys n)
 
@@ -83,7 +83,7 @@ module _ (p : Profile) (compact : IsCompact p) (zero_text : (text_at p 0 ≡ [])
       ] refl there
 
   -- The tallies of what was found are those of these samples.
-  pub has_tallies : (turn : ℕ) (seen : List (Seen ℕ)) (t : Tallies) (samples : List (Seen Written)) → All (HasBelow (length keys)) seen → t.names.keys ≡ found.names.keys
+  pub has_tallies : (turn : ℕ) (seen : List (Seen ℕ)) (t : KeyTallies) (samples : List (Seen Written)) → All (HasBelow (length keys)) seen → t.names.keys ≡ found.names.keys
       → AreAdded found turn seen t.sums.items → map (renamed told) (weighed seen) ≡ samples → HasKeyTallies p own samples t
   has_tallies turn seen t samples below names_are added seen_is =
       let ss : List (Seen ℕ) = weighed seen in

@@ -23,9 +23,9 @@ use Rattle.pp_grain.proofs.CallerLemmas.{same_keys}
 use Rattle.pp_count.specs.Table.{no_key, written_key}
 use Rattle.pp_count.proofs.Renaming.{tied_is}
 use Rattle.pp_count.proofs.Ties.{tied, tied_self}
-use Rattle.pp_source.specs.declared.found.Found.{Found}
-use Rattle.pp_source.specs.declared.found.Part.{Part}
-use Rattle.pp_source.specs.declared.found.Part.TheVariants.{Routine, Line}
+use Rattle.pp_source.specs.declared.found.FoundKeys.{FoundKeys}
+use Rattle.pp_source.specs.declared.found.KeyPart.{KeyPart}
+use Rattle.pp_source.specs.declared.found.KeyPart.TheVariants.{Routine, Line}
 use Rattle.pp_source.specs.Found.{IsFoundOf, is_among_keys, has_own_function, part_key, part_number, part_of, found_parts}
 use Rattle.pp_source.specs.Ledgers.{AreFound}
 use Rattle.pp_source.specs.Tally.{renumbered}
@@ -92,7 +92,7 @@ seen_all P seen (k ∷ keys) before all =
       by true = before
       by false = All-push P seen k before (All-head P k keys all)
 
-module _ (own : Option (List Bool)) (part : Part) where
+module _ (own : Option (List Bool)) (part : KeyPart) where
   -- the part of a key that is found is found
   part_seen : (seen keys : List Key) (n : ℕ) → n < length keys → has_own_function own (get_or keys n no_key) ≡ true
       → is_among_keys (part_key part (get_or keys n no_key)) (seen_after same_key seen (map (part_key part) (filter (has_own_function own) keys))) ≡ true
@@ -116,7 +116,7 @@ mapped_more f keys i key so_far number at is made =
     ∙ ap (map f) (sym (take_more keys i key (slice_get_within keys i key at) ∙ ap (λ k. take i keys ++ k ∷ []) (get_or_from_slice_get keys i key key at)))
 
 -- the parts of the keys so far, with one more key
-module _ (own : Option (List Bool)) (part : Part) (keys : List Key) (i : ℕ) (key : Key) (names : List Key) (at : slice_get keys i ≡ Some key) where
+module _ (own : Option (List Bool)) (part : KeyPart) (keys : List Key) (i : ℕ) (key : Key) (names : List Key) (at : slice_get keys i ≡ Some key) where
   filter_next : (b : Bool) → has_own_function own key ≡ b → found_parts own part (take (i + 1) keys) ≡ seen_after same_key (found_parts own part (take i keys)) (map (part_key part) (cond b (key ∷ []) []))
   filter_next b is =
       ap (found_parts own part) (take_more keys i key (slice_get_within keys i key at) ∙ ap (λ k. take i keys ++ k ∷ []) (get_or_from_slice_get keys i key key at))
@@ -136,20 +136,20 @@ module _ (own : Option (List Bool)) (part : Part) (keys : List Key) (i : ℕ) (k
   parts_same other so_far = so_far ∙ sym (filter_next false other)
 
 -- a part has the function of its key
-part_own : (own : Option (List Bool)) (part : Part) (k : Key) → has_own_function own (part_key part k) ≡ has_own_function own k
+part_own : (own : Option (List Bool)) (part : KeyPart) (k : Key) → has_own_function own (part_key part k) ≡ has_own_function own k
 part_own own Routine k = refl
 part_own own Line k = refl
 
 module _ (p : Profile) (zero_text : (text_at p 0 ≡ []) × (0 < length p.text)) where
-  pub part_of_profile : (part : Part) (k : Key) → IsKeyOf p k → IsKeyOf p (part_key part k)
+  pub part_of_profile : (part : KeyPart) (k : Key) → IsKeyOf p k → IsKeyOf p (part_key part k)
   part_of_profile Routine k is = record { function = is.function; file = is.file; object = zero_text.1 }
   part_of_profile Line k is = record { function = is.function; file = is.file; object = zero_text.1 }
 
-  pub part_told : (part : Part) (k : Key) → key_written p (part_key part k) ≡ part_of part (key_written p k)
+  pub part_told : (part : KeyPart) (k : Key) → key_written p (part_key part k) ≡ part_of part (key_written p k)
   part_told Routine k = λ i. record { function = text_at p k.function; file = text_at p k.file; line = pos 0; column = pos 0; address = 0; object = zero_text.0 i }
   part_told Line k = λ i. record { function = text_at p k.function; file = text_at p k.file; line = k.line; column = pos 0; address = 0; object = zero_text.0 i }
 
-  module _ (own : Option (List Bool)) (part : Part) (keys : List Key) (of_p : All (IsKeyOf p) keys) (found : Found) (is : IsFoundOf own part keys found) where
+  module _ (own : Option (List Bool)) (part : KeyPart) (keys : List Key) (of_p : All (IsKeyOf p) keys) (found : FoundKeys) (is : IsFoundOf own part keys found) where
     -- what is found is of the profile, and the pattern finds it
     pub are_found : AreFound p own found.names.keys
     are_found = rw is.names (record {
@@ -203,6 +203,6 @@ module _ (p : Profile) (zero_text : (text_at p 0 ≡ []) × (0 < length p.text))
         ∙ part_seen own part [] keys n within (sym (part_own own part at) ∙ ap (has_own_function own) (sym key_is) ∙ own_k)))
 
 -- each number has a place
-pub numbers_within : (own : Option (List Bool)) (part : Part) (keys : List Key) (found : Found) (size : ℕ) → IsFoundOf own part keys found → size ≡ length found.names.keys + 1 → All (λ n. n < size) found.numbers.items
+pub numbers_within : (own : Option (List Bool)) (part : KeyPart) (keys : List Key) (found : FoundKeys) (size : ℕ) → IsFoundOf own part keys found → size ≡ length found.names.keys + 1 → All (λ n. n < size) found.numbers.items
 numbers_within own part keys found size is is_size =
     rw is.numbers (All-map (λ n. n < size) (part_number part found.names.keys) keys (λ n d within. omega (arith, is_size, place_le (part_key part (get_or keys n d)) found.names.keys)))

@@ -10,8 +10,8 @@ use Rattle.std.proofs.Math.Bool.{or-false}
 use Rattle.pp_count.specs.Sums.{Seen, weighed, renamed, absolute, has, leads, cum, flat, occurs, sum_where}
 use Rattle.pp_count.proofs.Adding.{sum_where_push, sum_bound, or-true, occurs_push_or}
 use Rattle.pp_count.proofs.CallerLemmas.{weighed-renamed}
-use Rattle.pp_source.specs.declared.found.Found.{Found}
-use Rattle.pp_source.specs.declared.tally.Tally.{Tally}
+use Rattle.pp_source.specs.declared.found.FoundKeys.{FoundKeys}
+use Rattle.pp_source.specs.declared.tally.SampleTally.{SampleTally}
 use Rattle.pp_source.specs.Ledgers.{AreAdded}
 use Rattle.pp_source.specs.Tally.{AddsKeys, IsReadyFor, IsTallyBy, led, renumbered, tally_of, cum_with, tally_with}
 
@@ -21,7 +21,7 @@ pushed : (test : List ℕ → Bool) (ss : List (Seen ℕ)) (s : Seen ℕ) (b : B
 pushed test ss s b is = ap (λ q. sum_where test ss +ℤ cond q s.value (pos 0)) (sym is) ∙ sym (sum_where_push test ss s)
 
 -- the tally after one more sample
-tally_after : (ss : List (Seen ℕ)) (s : Seen ℕ) (k turn : ℕ) (t : Tally) (h l : Bool) → has nat_cmp k s.keys ≡ h → leads nat_cmp k s.keys ≡ l
+tally_after : (ss : List (Seen ℕ)) (s : Seen ℕ) (k turn : ℕ) (t : SampleTally) (h l : Bool) → has nat_cmp k s.keys ≡ h → leads nat_cmp k s.keys ≡ l
     → 0 < turn → IsTallyBy nat_cmp ss k t
     → IsTallyBy nat_cmp (ss ++ s ∷ []) k
     (cond l (led s.value (cond h (record { flat = t.flat; cum = t.cum +ℤ s.value; last = turn }) t)) (cond h (record { flat = t.flat; cum = t.cum +ℤ s.value; last = turn }) t))
@@ -47,11 +47,11 @@ tally_after ss s k turn t false false has_it leads_it some is = record {
 }
 
 -- the last turn is this one or an earlier one
-cum_last : (v : ℤ) (turn : ℕ) (ns : List ℕ) (k : ℕ) (t : Tally) → t.last ≤ turn → (cum_with v turn ns k t).last ≤ turn
+cum_last : (v : ℤ) (turn : ℕ) (ns : List ℕ) (k : ℕ) (t : SampleTally) → t.last ≤ turn → (cum_with v turn ns k t).last ≤ turn
 cum_last v turn ns k t below =
     elim (has nat_cmp k ns) as (λ (h : Bool). (cond h (record { flat = t.flat; cum = t.cum +ℤ v; last = turn }) t).last ≤ turn) [ true ↦ omega arith | false ↦ below ]
 
-sample_last : (v : ℤ) (turn : ℕ) (ns : List ℕ) (k : ℕ) (t : Tally) → t.last ≤ turn → (tally_with v turn ns k t).last ≤ turn
+sample_last : (v : ℤ) (turn : ℕ) (ns : List ℕ) (k : ℕ) (t : SampleTally) → t.last ≤ turn → (tally_with v turn ns k t).last ≤ turn
 sample_last v turn ns k t below =
     elim (leads nat_cmp k ns) as (λ (l : Bool). (cond l (led v (cum_with v turn ns k t)) (cum_with v turn ns k t)).last ≤ turn) [
       | true ↦ cum_last v turn ns k t below
@@ -64,7 +64,7 @@ absolute_renamed f (s ∷ ss) =
     let size : Seen ℕ → ℕ = λ t. nat_abs t.value in
     sum_by-cons size (renamed f s) (map (renamed f) ss) ∙ ap (λ n. nat_abs s.value + n) (absolute_renamed f ss) ∙ sym (sum_by-cons size s ss)
 
-module _ (found : Found) (turn : ℕ) (seen : List (Seen ℕ)) (old : List Tally) (added : AreAdded found turn seen old) where
+module _ (found : FoundKeys) (turn : ℕ) (seen : List (Seen ℕ)) (old : List SampleTally) (added : AreAdded found turn seen old) where
   abbrev number : ℕ → ℕ
   number = renumbered found.numbers.items
 
@@ -85,7 +85,7 @@ module _ (found : Found) (turn : ℕ) (seen : List (Seen ℕ)) (old : List Tally
       }
 
   -- a turn at which a sample is added
-  pub added_more : (s : Seen ℕ) (new : List Tally) → AddsKeys found.numbers.items s.value (turn + 1) s.keys old new → AreAdded found (turn + 1) (seen ++ s ∷ []) new
+  pub added_more : (s : Seen ℕ) (new : List SampleTally) → AddsKeys found.numbers.items s.value (turn + 1) s.keys old new → AreAdded found (turn + 1) (seen ++ s ∷ []) new
   added_more s new adds =
       let ss : List (Seen ℕ) = map (renamed number) (weighed seen) in
       let one : Seen ℕ = renamed number s in
@@ -97,7 +97,7 @@ module _ (found : Found) (turn : ℕ) (seen : List (Seen ℕ)) (old : List Tally
       let kept : (k : ℕ) → tally_of new k ≡ tally_of old k = λ k. adds.added k ∙ ap (λ b. cond b (tally_of old k) (tally_with s.value (turn + 1) one.keys k (tally_of old k))) zero in
       record {
         count = adds.count ∙ added.count;
-        each = λ k. subst (λ (r : List (Seen ℕ)). IsTallyBy nat_cmp r k (tally_of new k)) (sym same) (subst (λ (t : Tally). IsTallyBy nat_cmp ss k t) (sym (kept k)) (added.each k));
+        each = λ k. subst (λ (r : List (Seen ℕ)). IsTallyBy nat_cmp r k (tally_of new k)) (sym same) (subst (λ (t : SampleTally). IsTallyBy nat_cmp ss k t) (sym (kept k)) (added.each k));
         earlier = λ k. rw (kept k) (omega (arith, added.earlier k));
       })
       (λ some.
@@ -106,7 +106,7 @@ module _ (found : Found) (turn : ℕ) (seen : List (Seen ℕ)) (old : List Tally
       λ k. adds.added k ∙ ap (λ b. cond b (tally_of old k) (tally_with s.value (turn + 1) one.keys k (tally_of old k))) some in
       record {
         count = adds.count ∙ added.count;
-        each = λ k. subst (λ (r : List (Seen ℕ)). IsTallyBy nat_cmp r k (tally_of new k)) (sym same) (subst (λ (t : Tally). IsTallyBy nat_cmp (ss ++ one ∷ []) k t) (sym (grown k))
+        each = λ k. subst (λ (r : List (Seen ℕ)). IsTallyBy nat_cmp r k (tally_of new k)) (sym same) (subst (λ (t : SampleTally). IsTallyBy nat_cmp (ss ++ one ∷ []) k t) (sym (grown k))
             (tally_after ss one k (turn + 1) (tally_of old k) (has nat_cmp k one.keys) (leads nat_cmp k one.keys) refl refl (omega arith) (added.each k)));
         earlier = λ k. rw (grown k) (sample_last s.value (turn + 1) one.keys k (tally_of old k) (omega (arith, added.earlier k)));
       })

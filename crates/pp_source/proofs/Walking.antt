@@ -7,9 +7,9 @@ use Rattle.pp_model.specs.declared.profile.Sample.{Sample}
 use Rattle.pp_count.specs.Column.{selected}
 use Rattle.pp_count.specs.Scope.{samples_in_scope, size_of}
 use Rattle.pp_count.proofs.Ranges.{IsSeen, by_numbers, seen_more, seen_same}
-use Rattle.pp_source.specs.declared.found.Found.{Found}
-use Rattle.pp_source.specs.declared.tally.Tally.{Tally}
-use Rattle.pp_source.specs.declared.walk.Sums.{Sums}
+use Rattle.pp_source.specs.declared.found.FoundKeys.{FoundKeys}
+use Rattle.pp_source.specs.declared.tally.SampleTally.{SampleTally}
+use Rattle.pp_source.specs.declared.walk.WalkSums.{WalkSums}
 use Rattle.pp_source.specs.declared.walk.Walk.{Walk}
 use Rattle.pp_source.specs.Ledgers.{AreAdded, HasWalkedTo}
 use Rattle.pp_source.specs.Tally.{AddsKeys, IsReadyFor, IsTallyBy, no_line_tally, tally_of}
@@ -21,14 +21,14 @@ use Rattle.pp_source.proofs.Tallying.{added_later, added_more, added_ready}
 none_of : (n k : ℕ) → tally_of (replicate n no_line_tally) k ≡ no_line_tally
 none_of n k = ⊎_elim (λ here. get_or-replicate n k no_line_tally no_line_tally here) (λ past. get_or_past (replicate n no_line_tally) k no_line_tally (omega (arith, past, length-replicate n no_line_tally))) (cases_lt k n)
 
-pub none_added : (found : Found) (tallies : List Tally) → tallies ≡ replicate (length found.names.keys + 1) no_line_tally → AreAdded found 0 [] tallies
+pub none_added : (found : FoundKeys) (tallies : List SampleTally) → tallies ≡ replicate (length found.names.keys + 1) no_line_tally → AreAdded found 0 [] tallies
 none_added found tallies is = subst (AreAdded found 0 []) (sym is) (record {
   count = length-replicate (length found.names.keys + 1) no_line_tally;
   each = λ k. subst (λ t. IsTallyBy nat_cmp [] k t) (sym (none_of _ k)) (record { flat = refl; cum = refl; occurs = refl });
   earlier = λ k. rw (none_of (length found.names.keys + 1) k) (omega arith);
 })
 
-module _ (walk : Walk) (i : ℕ) (s : Sample) (keys : List ℕ) (old : Sums) (here : i < length (samples_in_scope walk.scope)) (is : s ≡ get_or (samples_in_scope walk.scope) i s)
+module _ (walk : Walk) (i : ℕ) (s : Sample) (keys : List ℕ) (old : WalkSums) (here : i < length (samples_in_scope walk.scope)) (is : s ≡ get_or (samples_in_scope walk.scope) i s)
     (so_far : HasWalkedTo walk i (take i (samples_in_scope walk.scope)) old) where
   one_more : take i (samples_in_scope walk.scope) ++ s ∷ [] ≡ take (i + 1) (samples_in_scope walk.scope)
   one_more = ap (λ x. take i (samples_in_scope walk.scope) ++ x ∷ []) is ∙ sym (take_more (samples_in_scope walk.scope) i s here)
@@ -43,7 +43,7 @@ module _ (walk : Walk) (i : ℕ) (s : Sample) (keys : List ℕ) (old : Sums) (he
   })
 
   -- a sample that is kept
-  pub walked_more : (new : Sums) → IsSeen walk.scope s true keys → All (λ k. k < length walk.scope.table.now.names) keys
+  pub walked_more : (new : WalkSums) → IsSeen walk.scope s true keys → All (λ k. k < length walk.scope.table.now.names) keys
       → AddsKeys walk.lines.now.numbers.items (selected walk.scope.column walk.scope.config.now.divide_by s) (i + 1) keys old.lines.items new.lines.items
       → AddsKeys walk.routines.now.numbers.items (selected walk.scope.column walk.scope.config.now.divide_by s) (i + 1) keys old.routines.items new.routines.items
       → HasWalkedTo walk (i + 1) (take (i + 1) (samples_in_scope walk.scope)) new

@@ -6,9 +6,9 @@ use Rattle.pp_model.specs.FirstSight.{distinct, place_of}
 use Rattle.pp_model.specs.FrameTexts.{Written}
 use Rattle.pp_grain.specs.declared.key.Key.{Key}
 use Rattle.pp_grain.specs.Sight.{same_key}
-use Rattle.pp_source.specs.declared.found.Found.{Found}
-use Rattle.pp_source.specs.declared.found.Part.{Part}
-use Rattle.pp_source.specs.declared.found.Part.TheVariants.{Routine, Line}
+use Rattle.pp_source.specs.declared.found.FoundKeys.{FoundKeys}
+use Rattle.pp_source.specs.declared.found.KeyPart.{KeyPart}
+use Rattle.pp_source.specs.declared.found.KeyPart.TheVariants.{Routine, Line}
 use Rattle.pp_source.specs.Amounts.{source_line, routine_of}
 
 -- the function and the file of a key, with this line
@@ -23,12 +23,12 @@ key_at k line = record {
 }
 
 -- the routine or the line of a key
-abbrev pub part_key : Part → Key → Key
+abbrev pub part_key : KeyPart → Key → Key
 part_key Routine k = key_at k (pos 0)
 part_key Line k = key_at k k.line
 
 -- the same of what a key stands for
-abbrev pub part_of : Part → Written → Written
+abbrev pub part_of : KeyPart → Written → Written
 part_of Routine w = routine_of w
 part_of Line w = source_line w
 
@@ -41,15 +41,15 @@ abbrev pub is_among_keys : Key → List Key → Bool
 is_among_keys k keys = list_any (same_key k) keys
 
 -- the parts of those of the keys whose function the own pattern finds, each once
-abbrev pub found_parts : Option (List Bool) → Part → List Key → List Key
+abbrev pub found_parts : Option (List Bool) → KeyPart → List Key → List Key
 found_parts own part keys = distinct same_key (map (part_key part) (filter (has_own_function own) keys))
 
 -- the number of a key's part among these, which is their count where it isn't there
-abbrev pub part_number : Part → List Key → Key → ℕ
+abbrev pub part_number : KeyPart → List Key → Key → ℕ
 part_number part names k = place_of same_key names (part_key part k)
 
 -- The parts of these keys that the own pattern finds, and which key has which.
-pub record IsFoundOf (own : Option (List Bool)) (part : Part) (keys : List Key) (found : Found)
+pub record IsFoundOf (own : Option (List Bool)) (part : KeyPart) (keys : List Key) (found : FoundKeys)
     : Type 0 where
   pub names : found.names.keys ≡ found_parts own part keys
   pub numbers : found.numbers.items ≡ map (part_number part found.names.keys) keys

@@ -14,14 +14,14 @@ use Rattle.pp_grain.specs.Sight.{same_key}
 use Rattle.pp_grain.specs.Told.{written_texts}
 use Rattle.pp_count.specs.Scope.{AreCountable, AreSeen, IsSoundScope, samples_in_scope}
 use Rattle.pp_count.specs.Sums.{Seen, weighed, renamed, occurs}
-use Rattle.pp_source.specs.declared.found.Found.{Found}
-use Rattle.pp_source.specs.declared.found.Part.TheVariants.{Routine, Line}
+use Rattle.pp_source.specs.declared.found.FoundKeys.{FoundKeys}
+use Rattle.pp_source.specs.declared.found.KeyPart.TheVariants.{Routine, Line}
 use Rattle.pp_source.specs.declared.ledger.Ledger.{Ledger}
 use Rattle.pp_source.specs.declared.lines.FoundLine.{FoundLine}
 use Rattle.pp_source.specs.declared.rows.Listing.{Listing}
-use Rattle.pp_source.specs.declared.tallies.Tallies.{Tallies}
-use Rattle.pp_source.specs.declared.tally.Tally.{Tally}
-use Rattle.pp_source.specs.declared.walk.Sums.{Sums}
+use Rattle.pp_source.specs.declared.tallies.KeyTallies.{KeyTallies}
+use Rattle.pp_source.specs.declared.tally.SampleTally.{SampleTally}
+use Rattle.pp_source.specs.declared.walk.WalkSums.{WalkSums}
 use Rattle.pp_source.specs.declared.walk.Walk.{Walk}
 use Rattle.pp_source.specs.Amounts.{source_line, routine_of}
 use Rattle.pp_source.specs.Found.{IsFoundOf, is_among_keys, has_own_function}
@@ -39,11 +39,11 @@ pub record IsSoundWalk (walk : Walk) : Type 0 where
   pub routines : IsFoundOf walk.scope.v.now.own Routine walk.scope.table.now.names walk.routines.now
 
 -- there is a tally for each part, and one for all else
-abbrev pub HasPartTallies : Found → List Tally → Type 0
+abbrev pub HasPartTallies : FoundKeys → List SampleTally → Type 0
 HasPartTallies found tallies = length tallies ≡ length found.names.keys + 1
 
 -- The samples are added to the tallies of what was found, none of them at a turn after this one.
-pub record AreAdded (found : Found) (turn : ℕ) (seen : List (Seen ℕ)) (tallies : List Tally)
+pub record AreAdded (found : FoundKeys) (turn : ℕ) (seen : List (Seen ℕ)) (tallies : List SampleTally)
     : Type 0 where
   pub count : HasPartTallies found tallies
   pub each : (k : ℕ)
@@ -51,14 +51,14 @@ pub record AreAdded (found : Found) (turn : ℕ) (seen : List (Seen ℕ)) (talli
   pub earlier : (k : ℕ) → (tally_of tallies k).last ≤ turn
 
 -- These samples are added to the sums.
-pub record HasWalkedTo (walk : Walk) (turn : ℕ) (samples : List Sample) (sums : Sums) : Type 0 where
+pub record HasWalkedTo (walk : Walk) (turn : ℕ) (samples : List Sample) (sums : WalkSums) : Type 0 where
   pub seen : List (Seen ℕ)
   pub are : AreSeen walk.scope samples seen
   pub lines : AreAdded walk.lines.now turn seen sums.lines.items
   pub routines : AreAdded walk.routines.now turn seen sums.routines.items
 
 -- what is kept of a key
-abbrev pub tally_of_key : Tallies → Key → Tally
+abbrev pub tally_of_key : KeyTallies → Key → SampleTally
 tally_of_key t k =
     if is_among_keys k t.names.keys then tally_of t.sums.items (place_of same_key t.names.keys k)
     else no_line_tally
@@ -70,7 +70,7 @@ pub record HasKey (p : Profile) (w : Written) : Type 0 where
   pub told : key_written p key ≡ w
 
 -- Each key that the own pattern finds has its sums over these samples.
-pub record HasKeyTallies (p : Profile) (own : Option (List Bool)) (samples : List (Seen Written)) (t : Tallies)
+pub record HasKeyTallies (p : Profile) (own : Option (List Bool)) (samples : List (Seen Written)) (t : KeyTallies)
     : Type 0 where
   pub tallies : (k : Key) → IsKeyOf p k → has_own_function own k ≡ true
       → IsTallyBy key_cmp samples (key_written p k) (tally_of_key t k)
@@ -88,7 +88,7 @@ pub record IsLedgerOf (p : Profile) (own : Option (List Bool)) (samples : List (
   pub routines : HasKeyTallies p own (map (renamed routine_of) samples) ledger.routines
 
 -- the keys that some sample had
-abbrev pub keys_seen : Tallies → List Key
+abbrev pub keys_seen : KeyTallies → List Key
 keys_seen t = filter (λ k. nat_lt 0 (tally_of_key t k).last) t.names.keys
 
 -- what a line that was found stands for

@@ -14,7 +14,7 @@ use std::alloc::Global;
 
 /// What of a key a report has sums for.
 #[derive(Clone, Copy, Debug, PartialEq, Eq)]
-pub enum Part {
+pub enum KeyPart {
     /// The function and the file.
     Routine,
     /// The function, the file and the line.
@@ -23,7 +23,7 @@ pub enum Part {
 
 /// The parts of keys that the own pattern finds.
 #[derive(Debug, Drop)]
-pub struct Found {
+pub struct FoundKeys {
     /// The parts, by number.
     pub names: IndexSet<Key>,
     /// For each key, by its number, the number of its part; the count of the parts where the pattern does not find it.
@@ -35,16 +35,16 @@ pub fn found_parts(
     alloc: Global,
     l: &Loaded,
     v: &Verdicts,
-    part: Part,
+    part: KeyPart,
     keys: &Names,
-) -> Result<Found, Memory>
+) -> Result<FoundKeys, Memory>
     requires verdicts { HasOnePerText l.now.profile v.now.own }
     requires keys { All (IsKeyOf l.now.profile) keys.now }
     ensures { IfOk result (IsFoundOf v.now.own part keys.now) }
 {
     let names = names_found(alloc, l, v, part, keys)?;
     let numbers = numbers_of(alloc, part, &names, keys)?;
-    Ok(Found { names, numbers })
+    Ok(FoundKeys { names, numbers })
 }
 
 // The parts, in the order of first sight.
@@ -52,7 +52,7 @@ fn names_found(
     alloc: Global,
     l: &Loaded,
     v: &Verdicts,
-    part: Part,
+    part: KeyPart,
     keys: &Names,
 ) -> Result<IndexSet<Key>, Memory>
     requires verdicts { HasOnePerText l.now.profile v.now.own }
@@ -72,7 +72,7 @@ fn names_found(
 // For each of the keys the number of its part.
 fn numbers_of(
     alloc: Global,
-    part: Part,
+    part: KeyPart,
     names: &IndexSet<Key>,
     keys: &Names,
 ) -> Result<Vec<u64>, Memory>
@@ -99,7 +99,7 @@ fn is_own(l: &Loaded, v: &Verdicts, key: &Key) -> bool
 }
 
 // The number of the key's part.
-fn part_number(part: Part, names: &IndexSet<Key>, key: &Key) -> u64
+fn part_number(part: KeyPart, names: &IndexSet<Key>, key: &Key) -> u64
     ensures { result ≡ part_number part names.now.keys key.now }
 {
     match names.get_index_of(&part_key(part, key)) {
@@ -109,12 +109,12 @@ fn part_number(part: Part, names: &IndexSet<Key>, key: &Key) -> u64
 }
 
 /// The part of the key.
-pub fn part_key(part: Part, key: &Key) -> Key
+pub fn part_key(part: KeyPart, key: &Key) -> Key
     ensures { result ≡ part_key part key.now }
 {
     match part {
-        Part::Routine => key_at(key, 0),
-        Part::Line => key_at(key, key.line),
+        KeyPart::Routine => key_at(key, 0),
+        KeyPart::Line => key_at(key, key.line),
     }
 }
 

@@ -9,9 +9,9 @@ ghost use Rattle.pp_count.specs.Seeing.{HoldsFilters, filtered_from};
 ghost use Rattle.pp_count.specs.Table.{IsKeyTable};
 ghost use Rattle.pp_source.specs.Ledgers.{AreFound, IsLedgerOf, by_lines};
 
-use crate::found::{Part, found_parts};
-use crate::report::Report;
-use crate::tallies::Tallies;
+use crate::found::{KeyPart, found_parts};
+use crate::report::ListReport;
+use crate::tallies::KeyTallies;
 use crate::walk::{Walk, add_samples};
 use pp_base::Memory;
 use pp_count::{Filters, KeyTable, Scope, key_table};
@@ -22,13 +22,13 @@ use std::alloc::Global;
 #[derive(Debug, Drop)]
 pub struct Ledger {
     /// By function, file and line.
-    pub lines: Tallies,
+    pub lines: KeyTallies,
     /// By function and file.
-    pub routines: Tallies,
+    pub routines: KeyTallies,
 }
 
 /// The sums over the samples that the filters leave, in one pass. `Err` is want of memory.
-pub fn ledger_of(alloc: Global, report: &Report<'_>) -> Result<Ledger, Memory>
+pub fn ledger_of(alloc: Global, report: &ListReport<'_>) -> Result<Ledger, Memory>
     requires can { CanCount report.now.l.now.profile report.now.v.now report.now.config.now
         report.now.column }
     requires counted { IsCountedOf report.now.l.now report.now.v.now report.now.config.now
@@ -60,7 +60,7 @@ fn by_lines(alloc: Global, config: &Config) -> Result<Config, Memory>
 // The same under this configuration, by its filters and its table.
 fn ledger_in<'x>(
     alloc: Global,
-    report: &'x Report<'x>,
+    report: &'x ListReport<'x>,
     config: &'x Config,
     filters: &'x Filters,
     table: &'x KeyTable,
@@ -111,8 +111,8 @@ fn ledger_by(alloc: Global, scope: &Scope<'_>, kept: &[u32]) -> Result<Ledger, M
 {
     let _valid = scope.l.profile.get();
     let keys = &scope.table.names;
-    let lines = found_parts(alloc, scope.l, scope.v, Part::Line, keys)?;
-    let routines = found_parts(alloc, scope.l, scope.v, Part::Routine, keys)?;
+    let lines = found_parts(alloc, scope.l, scope.v, KeyPart::Line, keys)?;
+    let routines = found_parts(alloc, scope.l, scope.v, KeyPart::Routine, keys)?;
     let walk = Walk {
         scope: *scope,
         lines: &lines,
@@ -120,11 +120,11 @@ fn ledger_by(alloc: Global, scope: &Scope<'_>, kept: &[u32]) -> Result<Ledger, M
     };
     let sums = add_samples(alloc, &walk, kept)?;
     Ok(Ledger {
-        lines: Tallies {
+        lines: KeyTallies {
             names: lines.names,
             sums: sums.lines,
         },
-        routines: Tallies {
+        routines: KeyTallies {
             names: routines.names,
             sums: sums.routines,
         },

@@ -10,8 +10,8 @@ ghost use Rattle.pp_source.specs.Ledgers.{AreFound, IsLedgerOf, IsLineOf, keys_s
 ghost use Rattle.pp_source.specs.Routines.{found_lines};
 
 use crate::ledger::Ledger;
-use crate::report::Report;
-use crate::tallies::{Tallies, tally_at};
+use crate::report::ListReport;
+use crate::tallies::{KeyTallies, tally_at};
 use pp_base::Memory;
 use pp_grain::{Key, KeyTexts, texts_of, texts_order};
 use std::alloc::Global;
@@ -28,7 +28,7 @@ pub struct FoundLine<'a> {
 /// The lines that the own pattern finds, by function, file and number. `Err` is want of memory.
 pub fn found_lines<'a>(
     alloc: Global,
-    report: &Report<'a>,
+    report: &ListReport<'a>,
     ledger: &Ledger,
 ) -> Result<Vec<FoundLine<'a>>, Memory>
     requires { AreFound report.now.l.now.profile report.now.v.now.own ledger.now.lines.names.keys }
@@ -48,8 +48,8 @@ pub fn found_lines<'a>(
 // Those of the lines that some sample had.
 fn collect<'a>(
     alloc: Global,
-    report: &Report<'a>,
-    lines: &Tallies,
+    report: &ListReport<'a>,
+    lines: &KeyTallies,
 ) -> Result<Vec<FoundLine<'a>>, Memory>
     requires { AreFound report.now.l.now.profile report.now.v.now.own lines.now.names.keys }
     ensures keys { IfOk result (λ found. map (λ line. line.key) found.items ≡ keys_seen lines.now) }

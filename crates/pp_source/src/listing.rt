@@ -16,7 +16,7 @@ use crate::files::{Sources, files_of, read_sources};
 use crate::ledger::ledger_of;
 use crate::lines::{FoundLine, found_lines};
 use crate::refusal::ListRefusal;
-use crate::report::Report;
+use crate::report::ListReport;
 use crate::routine::write_routines;
 use crate::rows::Listing;
 use pp_base::{Memory, Text};
@@ -53,7 +53,7 @@ pub fn write_list<D: Desk>(
         (beside out.new result) }
     ensures stopped { OnErr result (out.new ≡ out.old) }
 {
-    let report = Report {
+    let report = ListReport {
         l,
         v,
         counted: c,
@@ -72,7 +72,7 @@ pub fn write_list<D: Desk>(
 #[tactic(auto, using(pp_desk::proofs::Going::going))]
 fn list_report<D: Desk>(
     alloc: Global,
-    report: &Report<'_>,
+    report: &ListReport<'_>,
     desk: &mut D,
 ) -> Result<Option<Text>, Stop>
     requires can { CanCount report.now.l.now.profile report.now.v.now report.now.config.now

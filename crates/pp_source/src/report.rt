@@ -6,7 +6,7 @@ use pp_units::Head;
 
 /// A profile with what a list report asks of it.
 #[derive(Clone, Copy)]
-pub struct Report<'a> {
+pub struct ListReport<'a> {
     /// The profile.
     pub l: &'a Loaded,
     /// What the patterns of the report find of its texts, with its own pattern among them.

@@ -12,7 +12,7 @@ ghost use Rattle.pp_source.specs.SourceText.{both_text, error_line, file_of, num
 
 use crate::amounts::Amounts;
 use crate::files::Sources;
-use crate::found::{Part, part_key};
+use crate::found::{KeyPart, part_key};
 use crate::lines::FoundLine;
 use crate::rows::{Listing, write_rows};
 use crate::runs::cut_routine;
@@ -121,7 +121,7 @@ fn write_sums(
         (routine_amounts samples (line_texts line.now))) }
 {
     let _valid = listing.l.profile.get();
-    let key = part_key(Part::Routine, &line.key);
+    let key = part_key(KeyPart::Routine, &line.key);
     let sums = amounts_at(&listing.ledger.routines, &key);
     put_routine(alloc, listing.head, sums, out)
 }

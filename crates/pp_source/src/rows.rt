@@ -36,7 +36,7 @@ pub struct Listing<'a> {
 
 /// The first and the last line of a routine that have a frame.
 #[derive(Clone, Copy)]
-pub struct Span {
+pub struct LineSpan {
     /// The number of the first such line, as the profile has it.
     pub first: u64,
     /// The number of the last such line, which isn't below the first.
@@ -63,7 +63,7 @@ pub fn write_rows(
     let [first, ..] = numbers else {
         return Ok(());
     };
-    let span = Span {
+    let span = LineSpan {
         first: *first,
         last: numbers[numbers.len() - 1],
     };
@@ -77,7 +77,7 @@ fn write_shown(
     listing: &Listing<'_>,
     line: &FoundLine<'_>,
     bytes: &[u8],
-    span: Span,
+    span: LineSpan,
     scratch: &mut Text,
     out: &mut Text,
 ) -> Result<u64, Memory>
@@ -115,7 +115,7 @@ fn cut_line(bytes: &[u8]) -> (&[u8], &[u8])
 }
 
 // Whether the line is shown.
-fn is_shown(span: Span, number: u64) -> bool
+fn is_shown(span: LineSpan, number: u64) -> bool
     requires last { span.last < 2 ^ 63 }
     requires number { number < 2 ^ 64 - 5 }
     ensures { result ≡ is_near span.first span.last number }

@@ -4,48 +4,54 @@ ghost use Rattle.pp_source.specs.Ledgers.{tally_of_key};
 ghost use Rattle.pp_source.specs.Tally.{amounts_of_tally, credited_once, led, renumbered, tally_of, tally_with, IsReadyFor};
 
 use crate::amounts::Amounts;
-use crate::tally::Tally;
+use crate::tally::SampleTally;
 use indexmap::IndexSet;
 use pp_grain::Key;
 
 /// Keys, and what samples come to in each.
 #[derive(Debug, Drop)]
-pub struct Tallies {
+pub struct KeyTallies {
     /// The keys, by number.
     pub names: IndexSet<Key>,
     /// What each has, by number. One more has what is none of them.
-    pub sums: Vec<Tally>,
+    pub sums: Vec<SampleTally>,
 }
 
 /// What the key comes to.
-pub fn amounts_at(tallies: &Tallies, key: &Key) -> Amounts
+pub fn amounts_at(tallies: &KeyTallies, key: &Key) -> Amounts
     ensures { result ≡ amounts_of_tally (tally_of_key tallies.now key.now) }
 {
     tally_at(tallies, key).amounts()
 }
 
 /// What is kept of the key.
-pub fn tally_at(tallies: &Tallies, key: &Key) -> Tally
+pub fn tally_at(tallies: &KeyTallies, key: &Key) -> SampleTally
     ensures { result ≡ tally_of_key tallies.now key.now }
 {
     match tallies.names.get_index_of(key) {
-        None => Tally::NONE,
+        None => SampleTally::NONE,
         Some(number) => tally_of(&tallies.sums, number),
     }
 }
 
-fn tally_of(sums: &[Tally], number: usize) -> Tally
+fn tally_of(sums: &[SampleTally], number: usize) -> SampleTally
     ensures { result ≡ tally_of sums.now number }
 {
     match sums.get(number) {
-        None => Tally::NONE,
+        None => SampleTally::NONE,
         Some(tally) => *tally,
     }
 }
 
 /// Adds one sample with these keys, leaf first, to the tallies of their numbers. Its turn is after those of the samples
 /// before it.
-pub fn add_keys(tallies: &mut Vec<Tally>, numbers: &[u64], value: i64, keys: &[u64], turn: u64)
+pub fn add_keys(
+    tallies: &mut Vec<SampleTally>,
+    numbers: &[u64],
+    value: i64,
+    keys: &[u64],
+    turn: u64,
+)
     requires keys { All (λ k. k < length numbers.now) keys.now }
     requires numbers { All (λ n. n < length tallies.old.items) numbers.now }
     requires ready { IsReadyFor value turn tallies.old.items }
@@ -63,7 +69,7 @@ pub fn add_keys(tallies: &mut Vec<Tally>, numbers: &[u64], value: i64, keys: &[u
 }
 
 // Adds the value to the cum of the number, where the sample of that turn was not yet added.
-fn credit_at(tallies: &mut Vec<Tally>, number: u64, value: i64, turn: u64)
+fn credit_at(tallies: &mut Vec<SampleTally>, number: u64, value: i64, turn: u64)
     requires within { number < length tallies.old.items }
     requires fits { (tally_of tallies.old.items number).last ≢ turn →
         nat_abs (tally_of tallies.old.items number).cum + nat_abs value < 2 ^ 63 }
@@ -75,7 +81,7 @@ fn credit_at(tallies: &mut Vec<Tally>, number: u64, value: i64, turn: u64)
 }
 
 // Adds the value to the flat of the number.
-fn lead_at(tallies: &mut Vec<Tally>, number: u64, value: i64)
+fn lead_at(tallies: &mut Vec<SampleTally>, number: u64, value: i64)
     requires within { number < length tallies.old.items }
     requires fits { nat_abs (tally_of tallies.old.items number).flat + nat_abs value < 2 ^ 63 }
     ensures count { length tallies.new.items ≡ length tallies.old.items }

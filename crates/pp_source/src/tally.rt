@@ -6,7 +6,7 @@ use crate::amounts::Amounts;
 
 /// What one key has so far.
 #[derive(Clone, Copy, Debug, PartialEq, Eq)]
-pub struct Tally {
+pub struct SampleTally {
     /// The sum over the samples whose leaf has the key.
     pub flat: i64,
     /// The sum over the samples that have the key, each sample once.
@@ -15,9 +15,9 @@ pub struct Tally {
     pub last: u64,
 }
 
-impl Tally {
+impl SampleTally {
     /// What a key has before any sample: both sums are 0.
-    pub const NONE: Tally = Tally {
+    pub const NONE: SampleTally = SampleTally {
         flat: 0,
         cum: 0,
         last: 0,

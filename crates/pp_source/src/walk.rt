@@ -7,9 +7,9 @@ ghost use Rattle.pp_count.specs.Scope.{chosen_of, profile_in_scope, samples_in_s
 ghost use Rattle.pp_source.specs.Ledgers.{HasPartTallies, IsSoundWalk, HasWalkedTo};
 ghost use Rattle.pp_source.specs.Tally.{AddsKeys, IsReadyFor};
 
-use crate::found::Found;
+use crate::found::FoundKeys;
 use crate::tallies::add_keys;
-use crate::tally::Tally;
+use crate::tally::SampleTally;
 use pp_base::{List, Memory};
 use pp_count::{Scope, see, selected};
 use pp_model::Sample;
@@ -21,22 +21,22 @@ pub struct Walk<'a> {
     /// How samples are seen, and which of them are walked over.
     pub scope: Scope<'a>,
     /// The lines that are found.
-    pub lines: &'a Found,
+    pub lines: &'a FoundKeys,
     /// The routines that are found.
-    pub routines: &'a Found,
+    pub routines: &'a FoundKeys,
 }
 
 /// What samples come to, by the numbers of what was found. One tally more than those has all else.
 #[derive(Debug, Drop)]
-pub struct Sums {
+pub struct WalkSums {
     /// The tally of each line that was found, and last that of all else.
-    pub lines: Vec<Tally>,
+    pub lines: Vec<SampleTally>,
     /// The tally of each routine that was found, and last that of all else.
-    pub routines: Vec<Tally>,
+    pub routines: Vec<SampleTally>,
 }
 
 /// The sums over the samples with these numbers, which are those that the scope chooses. `Err` is want of memory.
-pub fn add_samples(alloc: Global, walk: &Walk<'_>, kept: &[u32]) -> Result<Sums, Memory>
+pub fn add_samples(alloc: Global, walk: &Walk<'_>, kept: &[u32]) -> Result<WalkSums, Memory>
     requires sound { IsSoundWalk walk.now }
     requires chosen { chosen_of walk.now.scope ≡ Some kept.now }
     ensures { IfOk result (HasWalkedTo walk.now (length kept.now) (samples_in_scope walk.now.scope)) }
@@ -53,12 +53,12 @@ pub fn add_samples(alloc: Global, walk: &Walk<'_>, kept: &[u32]) -> Result<Sums,
     Ok(sums)
 }
 
-fn no_sums(alloc: Global, walk: &Walk<'_>) -> Result<Sums, Memory>
+fn no_sums(alloc: Global, walk: &Walk<'_>) -> Result<WalkSums, Memory>
     ensures { IfOk result (HasWalkedTo walk.now 0 []) }
 {
-    let lines = vec![in alloc; Tally::NONE; walk.lines.names.len() + 1]?;
-    let routines = vec![in alloc; Tally::NONE; walk.routines.names.len() + 1]?;
-    Ok(Sums { lines, routines })
+    let lines = vec![in alloc; SampleTally::NONE; walk.lines.names.len() + 1]?;
+    let routines = vec![in alloc; SampleTally::NONE; walk.routines.names.len() + 1]?;
+    Ok(WalkSums { lines, routines })
 }
 
 // The sample whose number stands at the place.
@@ -75,7 +75,7 @@ fn sample_at<'a>(walk: &Walk<'a>, kept: &[u32], place: usize) -> &'a Sample
 }
 
 // Adds a sample whose frames have these keys, leaf first.
-fn add_seen(walk: &Walk<'_>, sample: &Sample, keys: &[u64], turn: u64, sums: &mut Sums)
+fn add_seen(walk: &Walk<'_>, sample: &Sample, keys: &[u64], turn: u64, sums: &mut WalkSums)
     requires sound { IsSoundWalk walk.now }
     requires keys { All (λ k. k < length walk.now.scope.table.now.names) keys.now }
     requires lines { HasPartTallies walk.now.lines.now sums.old.lines.items }

@@ -9,7 +9,7 @@ use Rattle.pp_count.specs.Scope.{samples_in_scope}
 use Rattle.pp_count.specs.Seeing.{seen_samples}
 use Rattle.pp_count.specs.Sums.{renamed}
 use Rattle.pp_count.specs.Table.{written_key}
-use Rattle.pp_source.specs.declared.found.Part.TheVariants.{Routine, Line}
+use Rattle.pp_source.specs.declared.found.KeyPart.TheVariants.{Routine, Line}
 use Rattle.pp_source.proofs.Ledgering.{has_tallies, parts_seen}
 use Rattle.pp_source.proofs.Parts.{are_found}
 use Rattle.pp_source.proofs.Zero.{zero_text}
