@@ -36,7 +36,8 @@ const TREE_NODES: u32 = 80;
 /// The top report, whose nodes have no limit of their own.
 pub fn top(alloc: Global, subject: &Subject<'_>) -> Result<Text, Memory>
     ensures { (f : Finders) →
-        HoldsFilters subject.now.survey.l.now subject.now.survey.v.now subject.now.survey.config.now f →
+        HoldsFilters subject.now.survey.l.now subject.now.survey.v.now
+        subject.now.survey.config.now f →
         IfOk result (λ text. text ≡ top_text subject.now.survey.l.now.profile f
         subject.now.survey.config.now subject.now.survey.column
         (node_limit subject.now.survey.config.now.nodecount 0) (facts subject.now.head.now)) }
@@ -57,7 +58,8 @@ pub fn tree<R: Threads + Sync, G: Gate>(
     gate: &G,
 ) -> Result<Text, Memory>
     ensures { (f : Finders) →
-        HoldsFilters subject.now.survey.l.now subject.now.survey.v.now subject.now.survey.config.now f →
+        HoldsFilters subject.now.survey.l.now subject.now.survey.v.now
+        subject.now.survey.config.now f →
         IfOk result (λ text. text ≡ tree_text subject.now.survey.l.now.profile f
         subject.now.survey.config.now subject.now.survey.column
         (node_limit subject.now.survey.config.now.nodecount 80) (facts subject.now.head.now)) }
@@ -66,7 +68,14 @@ pub fn tree<R: Threads + Sync, G: Gate>(
     let limit = limit_of(survey.config, TREE_NODES);
     let trimmed = trim_of(rt, alloc, survey, limit, gate)?;
     let mut text = Text::new(alloc);
-    write_tree(alloc, survey.l, survey.counted, &trimmed, subject.head, &mut text)?;
+    write_tree(
+        alloc,
+        survey.l,
+        survey.counted,
+        &trimmed,
+        subject.head,
+        &mut text,
+    )?;
     Ok(text)
 }
 
@@ -85,7 +94,8 @@ pub fn peek<R: Threads + Sync, G: Gate>(
     gate: &G,
 ) -> Result<Result<Text, ReportRefusal>, Memory>
     ensures { (f : Finders) →
-        HoldsFilters subject.now.survey.l.now subject.now.survey.v.now subject.now.survey.config.now f →
+        HoldsFilters subject.now.survey.l.now subject.now.survey.v.now
+        subject.now.survey.config.now f →
         IfOk result (λ outcome. outcome ≡ peek_outcome subject.now.survey.l.now.profile f
         subject.now.survey.config.now subject.now.survey.column (facts subject.now.head.now)) }
 {
@@ -100,14 +110,22 @@ pub fn peek<R: Threads + Sync, G: Gate>(
 /// The traces report.
 pub fn traces(alloc: Global, subject: &Subject<'_>) -> Result<Text, Memory>
     ensures { (f : Finders) →
-        HoldsFilters subject.now.survey.l.now subject.now.survey.v.now subject.now.survey.config.now f →
+        HoldsFilters subject.now.survey.l.now subject.now.survey.v.now
+        subject.now.survey.config.now f →
         IfOk result (λ text. text ≡ traces_text subject.now.survey.l.now.profile f
         subject.now.survey.config.now subject.now.survey.column (facts subject.now.head.now)) }
 {
     let mut text = Text::new(alloc);
     let s = &subject.survey;
     write_traces(
-        alloc, s.l, s.v, s.counted, s.config, s.column, subject.head, &mut text,
+        alloc,
+        s.l,
+        s.v,
+        s.counted,
+        s.config,
+        s.column,
+        subject.head,
+        &mut text,
     )?;
     Ok(text)
 }
@@ -115,14 +133,22 @@ pub fn traces(alloc: Global, subject: &Subject<'_>) -> Result<Text, Memory>
 /// The tags report.
 pub fn tags(alloc: Global, subject: &Subject<'_>) -> Result<Text, Memory>
     ensures { (f : Finders) →
-        HoldsFilters subject.now.survey.l.now subject.now.survey.v.now subject.now.survey.config.now f →
+        HoldsFilters subject.now.survey.l.now subject.now.survey.v.now
+        subject.now.survey.config.now f →
         IfOk result (λ text. text ≡ tags_text subject.now.survey.l.now.profile f
         subject.now.survey.config.now subject.now.survey.column (facts subject.now.head.now)) }
 {
     let mut text = Text::new(alloc);
     let s = &subject.survey;
     write_tags(
-        alloc, s.l, s.v, s.counted, s.config, s.column, subject.head, &mut text,
+        alloc,
+        s.l,
+        s.v,
+        s.counted,
+        s.config,
+        s.column,
+        subject.head,
+        &mut text,
     )?;
     Ok(text)
 }
