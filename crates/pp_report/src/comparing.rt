@@ -25,7 +25,8 @@ pub fn compare<R: Threads + Sync, G: Gate>(
     gate: &G,
 ) -> Result<Result<Text, ReportRefusal>, Memory>
     ensures { (f : Finders) →
-        HoldsFilters subject.now.survey.l.now subject.now.survey.v.now subject.now.survey.config.now f →
+        HoldsFilters subject.now.survey.l.now subject.now.survey.v.now
+        subject.now.survey.config.now f →
         IfOk result (λ outcome. outcome ≡ compare_outcome subject.now.survey.l.now.profile f
         subject.now.survey.config.now subject.now.survey.column (facts subject.now.head.now)) }
 {
@@ -43,7 +44,8 @@ fn compared<R: Threads + Sync, G: Gate>(
     gate: &G,
 ) -> Result<Text, Memory>
     ensures { (f : Finders) →
-        HoldsFilters subject.now.survey.l.now subject.now.survey.v.now subject.now.survey.config.now f →
+        HoldsFilters subject.now.survey.l.now subject.now.survey.v.now
+        subject.now.survey.config.now f →
         IfOk result (λ text. text ≡ compare_text subject.now.survey.l.now.profile f
         subject.now.survey.config.now subject.now.survey.column
         (node_limit subject.now.survey.config.now.nodecount 0) (facts subject.now.head.now)) }

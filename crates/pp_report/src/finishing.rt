@@ -86,12 +86,14 @@ fn text_by<R: Threads + Sync, D: Desk, G: Gate>(
 ) -> Result<Result<Text, ReportRefusal>, Stop>
     requires { AreKept subject.now.survey.l.now.profile subject.now.survey.counted.now.kept }
     ensures went { (f : Finders) →
-        HoldsFilters subject.now.survey.l.now subject.now.survey.v.now subject.now.survey.config.now f →
+        HoldsFilters subject.now.survey.l.now subject.now.survey.v.now
+        subject.now.survey.config.now f →
         Went (D.world desk.old) (D.world desk.new)
         (text_by subject.now.survey.l.now.profile f subject.now.survey.config.now
         subject.now.survey.column (facts subject.now.head.now) report.now) result }
     ensures saved { (f : Finders) →
-        HoldsFilters subject.now.survey.l.now subject.now.survey.v.now subject.now.survey.config.now f →
+        HoldsFilters subject.now.survey.l.now subject.now.survey.v.now
+        subject.now.survey.config.now f →
         report.now ≡ Proto →
         OnText result (IsProtoOf subject.now.survey.l.now.profile f subject.now.survey.config.now) }
 {
@@ -119,7 +121,8 @@ fn list<D: Desk>(
     desk: &mut D,
 ) -> Result<Result<Text, ReportRefusal>, Stop>
     ensures { (f : Finders) →
-        HoldsFilters subject.now.survey.l.now subject.now.survey.v.now subject.now.survey.config.now f →
+        HoldsFilters subject.now.survey.l.now subject.now.survey.v.now
+        subject.now.survey.config.now f →
         Went (D.world desk.old) (D.world desk.new)
         (list_text subject.now.survey.l.now.profile f subject.now.survey.config.now
         subject.now.survey.column (facts subject.now.head.now)) result }

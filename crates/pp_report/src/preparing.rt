@@ -64,10 +64,13 @@ fn prepare_over<R: Threads + Sync, D: Desk, G: Gate>(
     requires countable { IsCountable asked.now.l.now.profile }
     requires column { IsColumnOf asked.now.l.now.profile shows.column }
     ensures went { Went (D.world desk.old) (D.world desk.new)
-        (prepare_showing D.finds (basis_of asked.now.report.now asked.now.l.now asked.now.config.now) asked.now.report.now asked.now.config.now
-        (showing shows)) (answered result) }
+        (prepare_showing D.finds
+        (basis_of asked.now.report.now asked.now.l.now asked.now.config.now)
+        asked.now.report.now asked.now.config.now (showing shows)) (answered result) }
     ensures counted { IfOk result (λ answer. IfOk answer
-        (IsCountedOver D.finds asked.now.l.now (basis_of asked.now.report.now asked.now.l.now asked.now.config.now) asked.now.report.now asked.now.config.now shows)) }
+        (IsCountedOver D.finds asked.now.l.now
+        (basis_of asked.now.report.now asked.now.l.now asked.now.config.now)
+        asked.now.report.now asked.now.config.now shows)) }
 {
     let tagged = tagged_of(alloc, asked.report, asked.l, asked.config)?;
     let over = Asked {
@@ -111,9 +114,10 @@ fn prepare_showing<R: Threads + Sync, D: Desk, G: Gate>(
     requires countable { IsCountable asked.now.l.now.profile }
     requires column { IsColumnOf asked.now.l.now.profile shows.column }
     ensures went { Went (D.world desk.old) (D.world desk.new)
-        (prepare_showing D.finds asked.now.l.now asked.now.report.now asked.now.config.now (showing shows)) (answered result) }
-    ensures counted { IfOk result
-        (λ answer. IfOk answer (IsCounted D.finds asked.now.l.now asked.now.report.now asked.now.config.now shows)) }
+        (prepare_showing D.finds asked.now.l.now asked.now.report.now asked.now.config.now
+        (showing shows)) (answered result) }
+    ensures counted { IfOk result (λ answer. IfOk answer (IsCounted D.finds asked.now.l.now
+        asked.now.report.now asked.now.config.now shows)) }
 {
     match asked.report {
         Report::Comments => Ok(Ok(uncounted(alloc, shows))),
@@ -144,9 +148,10 @@ fn prepare_counts<R: Threads + Sync, D: Desk, G: Gate>(
     requires countable { IsCountable asked.now.l.now.profile }
     requires column { IsColumnOf asked.now.l.now.profile shows.column }
     ensures went { Went (D.world desk.old) (D.world desk.new)
-        (prepare_counts D.finds asked.now.l.now asked.now.report.now asked.now.config.now (showing shows)) (answered result) }
-    ensures counted { IfOk result
-        (λ answer. IfOk answer (IsCounted D.finds asked.now.l.now asked.now.report.now asked.now.config.now shows)) }
+        (prepare_counts D.finds asked.now.l.now asked.now.report.now asked.now.config.now
+        (showing shows)) (answered result) }
+    ensures counted { IfOk result (λ answer. IfOk answer (IsCounted D.finds asked.now.l.now
+        asked.now.report.now asked.now.config.now shows)) }
 {
     // A profile's texts are distinct, so that verdicts on them tell what is found.
     let _profile = asked.l.profile.get();

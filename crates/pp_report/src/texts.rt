@@ -36,7 +36,8 @@ const TREE_NODES: u32 = 80;
 /// The top report, whose nodes have no limit of their own.
 pub fn top(alloc: Global, subject: &Subject<'_>) -> Result<Text, Memory>
     ensures { (f : Finders) →
-        HoldsFilters subject.now.survey.l.now subject.now.survey.v.now subject.now.survey.config.now f →
+        HoldsFilters subject.now.survey.l.now subject.now.survey.v.now
+        subject.now.survey.config.now f →
         IfOk result (λ text. text ≡ top_text subject.now.survey.l.now.profile f
         subject.now.survey.config.now subject.now.survey.column
         (node_limit subject.now.survey.config.now.nodecount 0) (facts subject.now.head.now)) }
@@ -57,7 +58,8 @@ pub fn tree<R: Threads + Sync, G: Gate>(
     gate: &G,
 ) -> Result<Text, Memory>
     ensures { (f : Finders) →
-        HoldsFilters subject.now.survey.l.now subject.now.survey.v.now subject.now.survey.config.now f →
+        HoldsFilters subject.now.survey.l.now subject.now.survey.v.now
+        subject.now.survey.config.now f →
         IfOk result (λ text. text ≡ tree_text subject.now.survey.l.now.profile f
         subject.now.survey.config.now subject.now.survey.column
         (node_limit subject.now.survey.config.now.nodecount 80) (facts subject.now.head.now)) }
@@ -92,7 +94,8 @@ pub fn peek<R: Threads + Sync, G: Gate>(
     gate: &G,
 ) -> Result<Result<Text, ReportRefusal>, Memory>
     ensures { (f : Finders) →
-        HoldsFilters subject.now.survey.l.now subject.now.survey.v.now subject.now.survey.config.now f →
+        HoldsFilters subject.now.survey.l.now subject.now.survey.v.now
+        subject.now.survey.config.now f →
         IfOk result (λ outcome. outcome ≡ peek_outcome subject.now.survey.l.now.profile f
         subject.now.survey.config.now subject.now.survey.column (facts subject.now.head.now)) }
 {
@@ -107,7 +110,8 @@ pub fn peek<R: Threads + Sync, G: Gate>(
 /// The traces report.
 pub fn traces(alloc: Global, subject: &Subject<'_>) -> Result<Text, Memory>
     ensures { (f : Finders) →
-        HoldsFilters subject.now.survey.l.now subject.now.survey.v.now subject.now.survey.config.now f →
+        HoldsFilters subject.now.survey.l.now subject.now.survey.v.now
+        subject.now.survey.config.now f →
         IfOk result (λ text. text ≡ traces_text subject.now.survey.l.now.profile f
         subject.now.survey.config.now subject.now.survey.column (facts subject.now.head.now)) }
 {
@@ -129,7 +133,8 @@ pub fn traces(alloc: Global, subject: &Subject<'_>) -> Result<Text, Memory>
 /// The tags report.
 pub fn tags(alloc: Global, subject: &Subject<'_>) -> Result<Text, Memory>
     ensures { (f : Finders) →
-        HoldsFilters subject.now.survey.l.now subject.now.survey.v.now subject.now.survey.config.now f →
+        HoldsFilters subject.now.survey.l.now subject.now.survey.v.now
+        subject.now.survey.config.now f →
         IfOk result (λ text. text ≡ tags_text subject.now.survey.l.now.profile f
         subject.now.survey.config.now subject.now.survey.column (facts subject.now.head.now)) }
 {

@@ -22,7 +22,8 @@ pub fn tree_report<R: Threads + Sync, G: Gate>(
     gate: &G,
 ) -> Result<Text, Memory>
     ensures { (f : Finders) →
-        HoldsFilters subject.now.survey.l.now subject.now.survey.v.now subject.now.survey.config.now f →
+        HoldsFilters subject.now.survey.l.now subject.now.survey.v.now
+        subject.now.survey.config.now f →
         IfOk result (λ text. text ≡ tree_report_text subject.now.survey.l.now.profile f
         subject.now.survey.config.now subject.now.survey.column (facts subject.now.head.now)) }
 {
@@ -36,7 +37,8 @@ pub fn tree_report<R: Threads + Sync, G: Gate>(
 // The nodes by their paths from the root.
 fn call_tree(alloc: Global, subject: &Subject<'_>) -> Result<Text, Memory>
     ensures { (f : Finders) →
-        HoldsFilters subject.now.survey.l.now subject.now.survey.v.now subject.now.survey.config.now f →
+        HoldsFilters subject.now.survey.l.now subject.now.survey.v.now
+        subject.now.survey.config.now f →
         IfOk result (λ text. text ≡ calltree_text subject.now.survey.l.now.profile f
         subject.now.survey.config.now subject.now.survey.column (facts subject.now.head.now)) }
 {
