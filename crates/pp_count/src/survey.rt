@@ -16,6 +16,7 @@ pub struct Survey<'a> {
     pub l: &'a Loaded,
     /// What the report's patterns find in it.
     pub v: &'a Verdicts,
+    /// The options.
     pub config: &'a Config,
     /// The column of values that is counted.
     pub column: Option<u32>,

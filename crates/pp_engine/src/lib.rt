@@ -6,6 +6,7 @@ mod ending;
 mod laws;
 mod message;
 mod reporting;
+mod resources;
 mod running;
 mod session;
 mod shell;

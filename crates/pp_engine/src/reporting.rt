@@ -16,6 +16,7 @@ ghost use Rattle.pp_pattern.specs.Report.{Finds};
 
 use crate::ending::Outcome;
 use crate::message::locked_line;
+use crate::resources::Resources;
 use pp_base::{Gate, Text};
 use pp_desk::{Desk, Stop};
 use pp_model::{Config, Loaded, Report};
@@ -26,60 +27,54 @@ use std::thread::Threads;
 /// The report that the words ask for. Its text is whole before its first byte goes out.
 #[tactic(auto, using(pp_desk::proofs::Going::going), unfolding(crate::specs::Reporting::report_once))]
 pub fn report_once<R: Threads + Sync, D: Desk, G: Gate>(
-    rt: &R,
-    alloc: Global,
+    with: &Resources<'_, R, G>,
     l: &Loaded,
     report: &Report,
     config: &Config,
     desk: &mut D,
-    gate: &G,
 ) -> Result<Outcome, Stop>
     requires { IsCountable l.now.profile }
     ensures { Went (D.world desk.old) (D.world desk.new)
         (report_once D.finds l.now report.now config.now) result }
 {
-    let made = noted_report(rt, alloc, l, report, config, desk, gate)?;
-    end_report(alloc, report, &made, desk)
+    let made = noted_report(with, l, report, config, desk)?;
+    end_report(with.alloc, report, &made, desk)
 }
 
 /// A report of the shell, to standard output or to the file that is named. A refusal is told.
 #[tactic(auto, using(pp_desk::proofs::Going::going), unfolding(crate::specs::Reporting::report_on))]
 pub fn report_on<R: Threads + Sync, D: Desk, G: Gate>(
-    rt: &R,
-    alloc: Global,
+    with: &Resources<'_, R, G>,
     l: &Loaded,
     report: &Report,
     config: &Config,
     to: Option<&Text>,
     desk: &mut D,
-    gate: &G,
 ) -> Result<(), Stop>
     requires { IsCountable l.now.profile }
     ensures { Went (D.world desk.old) (D.world desk.new)
         (report_on D.finds l.now report.now config.now (option_map (λ t. t.now) to.entry)) result }
 {
-    let made = noted_report(rt, alloc, l, report, config, desk, gate)?;
-    hand_out_made(alloc, report, to, &made, desk)
+    let made = noted_report(with, l, report, config, desk)?;
+    hand_out_made(with.alloc, report, to, &made, desk)
 }
 
 // A report with its notes told: what it is, or why it is refused.
 #[tactic(auto, using(pp_desk::proofs::Going::going), unfolding(crate::specs::Reporting::noted_report))]
 fn noted_report<R: Threads + Sync, D: Desk, G: Gate>(
-    rt: &R,
-    alloc: Global,
+    with: &Resources<'_, R, G>,
     l: &Loaded,
     report: &Report,
     config: &Config,
     desk: &mut D,
-    gate: &G,
 ) -> Result<Result<Text, ReportRefusal>, Stop>
     requires { IsCountable l.now.profile }
     ensures { Went (D.world desk.old) (D.world desk.new)
         (noted_report D.finds l.now report.now config.now) result }
 {
-    match prepare(rt, alloc, l, report, config, desk, gate)? {
+    match prepare(with.rt, with.alloc, l, report, config, desk, with.gate)? {
         Err(refusal) => Ok(Err(refusal)),
-        Ok(prepared) => note_and_finish(rt, alloc, l, report, config, prepared, desk, gate),
+        Ok(prepared) => note_and_finish(with, l, report, config, prepared, desk),
     }
 }
 
@@ -94,21 +89,20 @@ pub fn reports_are_told()
 // The notes, and then the text: a list report reads files for it, and notes are told also where one of them fails.
 #[tactic(auto, using(pp_desk::proofs::Going::going), unfolding(crate::specs::Reporting::note_and_finish))]
 fn note_and_finish<R: Threads + Sync, D: Desk, G: Gate>(
-    rt: &R,
-    alloc: Global,
+    with: &Resources<'_, R, G>,
     l: &Loaded,
     report: &Report,
     config: &Config,
     prepared: Prepared,
     desk: &mut D,
-    gate: &G,
 ) -> Result<Result<Text, ReportRefusal>, Stop>
     requires { IsPrepared D.finds l.now report.now config.now prepared }
     ensures { Went (D.world desk.old) (D.world desk.new)
         (note_and_finish D.finds l.now report.now config.now (Ok (settled_by prepared))) result }
 {
+    let Resources { rt, alloc, gate } = with;
     desk.write_err(prepared.notes.as_slice())?;
-    finish(rt, alloc, l, report, config, prepared, desk, gate)
+    finish(*rt, *alloc, l, report, config, prepared, desk, *gate)
 }
 
 #[tactic(auto, using(pp_desk::proofs::Going::going), unfolding(crate::specs::Reporting::end_report))]

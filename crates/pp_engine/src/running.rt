@@ -13,6 +13,7 @@ ghost use Rattle.pp_engine.specs.Validity.{is_valid};
 ghost use Rattle.pp_engine.specs.Words.{Ends, starts_shell};
 
 use crate::ending::{Cause, Ending, cause_of_outcome, cause_of_stop};
+use crate::resources::Resources;
 use crate::session::session;
 use pp_base::{Files, Gate, Matcher, Sink, Source, Text};
 use pp_desk::{Desk, Objects, Stop};
@@ -95,20 +96,19 @@ pub fn run<R: Threads + Sync, F: Files, I: Source, O: Sink, E: Sink, M: Matcher,
     // Input is taken from its front, and at most 16,777,216 bytes of it.
     ensures taken { TakesFront INPUT_LIMIT (I.left input.old) (I.left input.new) }
 {
-    run_objects(rt, alloc, words, files, input, out, err, matcher, gate)
+    let with = Resources { rt, alloc, gate };
+    run_objects(&with, words, files, input, out, err, matcher)
 }
 
 // The same over the objects, by the two clauses of which all else follows.
 fn run_objects<R: Threads + Sync, F: Files, I: Source, O: Sink, E: Sink, M: Matcher, G: Gate>(
-    rt: &R,
-    alloc: Global,
+    with: &Resources<'_, R, G>,
     words: &[Text],
     files: &mut F,
     input: &mut I,
     out: &mut O,
     err: &mut E,
     matcher: &mut M,
-    gate: &G,
 ) -> Ending
     ensures status { result.status ≡ status_of result.cause }
     ensures ending { Ran (session M.finds words.now)
@@ -124,7 +124,7 @@ fn run_objects<R: Threads + Sync, F: Files, I: Source, O: Sink, E: Sink, M: Matc
 {
     let mut reader = None;
     let mut objects = Objects {
-        alloc,
+        alloc: with.alloc,
         files: &mut *files,
         input: &mut *input,
         out: &mut *out,
@@ -132,17 +132,15 @@ fn run_objects<R: Threads + Sync, F: Files, I: Source, O: Sink, E: Sink, M: Matc
         matcher: &mut *matcher,
         reader: &mut reader,
     };
-    run_session(rt, alloc, words, &mut objects, gate)
+    run_session(with, words, &mut objects)
 }
 
 // The session, and the line of its stop.
 #[tactic(auto, using(crate::proofs::Runs::running))]
 fn run_session<R: Threads + Sync, D: Desk, G: Gate>(
-    rt: &R,
-    alloc: Global,
+    with: &Resources<'_, R, G>,
     words: &[Text],
     desk: &mut D,
-    gate: &G,
 ) -> Ending
     ensures status { result.status ≡ status_of result.cause }
     ensures ending { Ran (session D.finds words.now) (D.world desk.old).told
@@ -156,7 +154,7 @@ fn run_session<R: Threads + Sync, D: Desk, G: Gate>(
     ensures taken { HasTaken (D.world desk.old).intake (D.world desk.new).intake }
     ensures same { (D.world desk.new).names ≡ (D.world desk.old).names }
 {
-    match session(rt, alloc, words, desk, gate) {
+    match session(with, words, desk) {
         Ok(outcome) => Ending::of(cause_of_outcome(outcome)),
         Err(stop) => {
             tell_stop(stop, desk);

@@ -12,6 +12,7 @@ ghost use Rattle.pp_engine.specs.declared.ending.Outcome.TheVariants as outcomes
 use crate::ending::Outcome;
 use crate::message::usage_line;
 use crate::reporting::{end_with, report_once};
+use crate::resources::Resources;
 use crate::shell::shell;
 use pp_base::{Gate, Text};
 use pp_desk::{Desk, Stop};
@@ -24,17 +25,15 @@ use std::thread::Threads;
 /// The session of these words.
 #[tactic(auto, using(pp_desk::proofs::Going::going), unfolding(crate::specs::Session::session, crate::specs::Session::begin))]
 pub fn session<R: Threads + Sync, D: Desk, G: Gate>(
-    rt: &R,
-    alloc: Global,
+    with: &Resources<'_, R, G>,
     words: &[Text],
     desk: &mut D,
-    gate: &G,
 ) -> Result<Outcome, Stop>
     ensures { Went (D.world desk.old) (D.world desk.new) (session D.finds words.now) result }
 {
     match topic_asked(words) {
-        Some(topic) => tell_topic(alloc, topic, desk),
-        None => perform_words(rt, alloc, words, desk, gate),
+        Some(topic) => tell_topic(with.alloc, topic, desk),
+        None => perform_words(with, words, desk),
     }
 }
 
@@ -52,18 +51,16 @@ fn tell_topic<D: Desk>(alloc: Global, topic: Topic, desk: &mut D) -> Result<Outc
 // All that the words ask for.
 #[tactic(auto, using(pp_desk::proofs::Going::going))]
 fn perform_words<R: Threads + Sync, D: Desk, G: Gate>(
-    rt: &R,
-    alloc: Global,
+    with: &Resources<'_, R, G>,
     words: &[Text],
     desk: &mut D,
-    gate: &G,
 ) -> Result<Outcome, Stop>
     ensures { Went (D.world desk.old) (D.world desk.new)
         (perform_words D.finds (options.words words.now)) result }
 {
-    match read_words(alloc, words) {
-        Ok(plan) => perform(rt, alloc, &plan, desk, gate),
-        Err(UsageRefusal::Fault(fault)) => refuse_words(alloc, fault, desk),
+    match read_words(with.alloc, words) {
+        Ok(plan) => perform(with, &plan, desk),
+        Err(UsageRefusal::Fault(fault)) => refuse_words(with.alloc, fault, desk),
         Err(UsageRefusal::Memory) => Err(Stop::Memory),
     }
 }
@@ -81,34 +78,30 @@ fn refuse_words<D: Desk>(alloc: Global, fault: UsageFault, desk: &mut D) -> Resu
 // What a plan asks for: its profile is loaded, and then the report is made or the shell begins.
 #[tactic(auto, using(pp_desk::proofs::Going::going), unfolding(crate::specs::Session::perform))]
 fn perform<R: Threads + Sync, D: Desk, G: Gate>(
-    rt: &R,
-    alloc: Global,
+    with: &Resources<'_, R, G>,
     plan: &Plan,
     desk: &mut D,
-    gate: &G,
 ) -> Result<Outcome, Stop>
     ensures { Went (D.world desk.old) (D.world desk.new) (perform D.finds plan.now) result }
 {
-    let loaded = load(alloc, plan, desk)?;
-    serve_loaded(rt, alloc, plan, &loaded, desk, gate)
+    let loaded = load(with.alloc, plan, desk)?;
+    serve_loaded(with, plan, &loaded, desk)
 }
 
 #[tactic(auto, using(pp_desk::proofs::Going::going), unfolding(crate::specs::Session::serve_loaded))]
 fn serve_loaded<R: Threads + Sync, D: Desk, G: Gate>(
-    rt: &R,
-    alloc: Global,
+    with: &Resources<'_, R, G>,
     plan: &Plan,
     loaded: &Result<Loaded, LoadRefusal>,
     desk: &mut D,
-    gate: &G,
 ) -> Result<Outcome, Stop>
     requires { IfOk loaded.now (λ l. IsCountable l.profile) }
     ensures { Went (D.world desk.old) (D.world desk.new)
         (serve_loaded D.finds plan.now loaded.now) result }
 {
     match loaded {
-        Ok(l) => serve(rt, alloc, &plan.config, &plan.report, l, desk, gate),
-        Err(refusal) => refuse_profile(alloc, plan, *refusal, desk),
+        Ok(l) => serve(with, &plan.config, &plan.report, l, desk),
+        Err(refusal) => refuse_profile(with.alloc, plan, *refusal, desk),
     }
 }
 
@@ -130,20 +123,18 @@ fn refuse_profile<D: Desk>(
 // The report that the words name, and the shell where they name none.
 #[tactic(auto, using(pp_desk::proofs::Going::going), unfolding(crate::specs::Session::serve))]
 fn serve<R: Threads + Sync, D: Desk, G: Gate>(
-    rt: &R,
-    alloc: Global,
+    with: &Resources<'_, R, G>,
     config: &Config,
     report: &Option<Report>,
     l: &Loaded,
     desk: &mut D,
-    gate: &G,
 ) -> Result<Outcome, Stop>
     requires { IsCountable l.now.profile }
     ensures { Went (D.world desk.old) (D.world desk.new)
         (serve D.finds config.now report.now l.now) result }
 {
     match report {
-        Some(report) => report_once(rt, alloc, l, report, config, desk, gate),
-        None => shell(rt, alloc, l, config, desk, gate),
+        Some(report) => report_once(with, l, report, config, desk),
+        None => shell(with, l, config, desk),
     }
 }

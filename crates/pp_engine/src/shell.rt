@@ -18,6 +18,7 @@ ghost use Rattle.pp_engine.specs.declared.ending.Outcome.TheVariants as outcomes
 use crate::ending::Outcome;
 use crate::message::{input_too_long_line, line_fault_line};
 use crate::reporting::report_on;
+use crate::resources::Resources;
 use pp_base::{Gate, Memory, Text};
 use pp_desk::{Desk, InputLine, Stop};
 use pp_model::{Config, Loaded};
@@ -32,35 +33,31 @@ pub const MOST_LINES: u32 = 16_777_217;
 /// The shell over a profile, from this configuration on: each line of standard input is obeyed before the next is read.
 #[tactic(auto, using(pp_desk::proofs::Going::going), unfolding(crate::specs::Shell::shell))]
 pub fn shell<R: Threads + Sync, D: Desk, G: Gate>(
-    rt: &R,
-    alloc: Global,
+    with: &Resources<'_, R, G>,
     l: &Loaded,
     config: &Config,
     desk: &mut D,
-    gate: &G,
 ) -> Result<Outcome, Stop>
     requires { IsCountable l.now.profile }
     ensures { Went (D.world desk.old) (D.world desk.new) (shell D.finds l.now config.now) result }
 {
-    let mut config = config.copy(alloc)?;
-    take_turns(rt, alloc, l, &mut config, desk, gate)
+    let mut config = config.copy(with.alloc)?;
+    take_turns(with, l, &mut config, desk)
 }
 
 #[tactic(auto, using(crate::proofs::Turning::turning))]
 fn take_turns<R: Threads + Sync, D: Desk, G: Gate>(
-    rt: &R,
-    alloc: Global,
+    with: &Resources<'_, R, G>,
     l: &Loaded,
     config: &mut Config,
     desk: &mut D,
-    gate: &G,
 ) -> Result<Outcome, Stop>
     requires { IsCountable l.now.profile }
     ensures { Went (D.world desk.old) (D.world desk.new)
         (turns (turn D.finds l.now) outcomes.Done MOST_LINES config.old) result }
 {
     'turns: for _turn in 0..MOST_LINES {
-        if let Some(outcome) = turn(rt, alloc, l, config, desk, gate)? {
+        if let Some(outcome) = turn(with, l, config, desk)? {
             return Ok(outcome);
         }
     }
@@ -70,12 +67,10 @@ fn take_turns<R: Threads + Sync, D: Desk, G: Gate>(
 // One turn: the prompt, the line, and what it asks for. It gives how the session ends, where it does.
 #[tactic(auto, using(pp_desk::proofs::Going::going), unfolding(crate::specs::Shell::turn))]
 fn turn<R: Threads + Sync, D: Desk, G: Gate>(
-    rt: &R,
-    alloc: Global,
+    with: &Resources<'_, R, G>,
     l: &Loaded,
     config: &mut Config,
     desk: &mut D,
-    gate: &G,
 ) -> Result<Option<Outcome>, Stop>
     requires { IsCountable l.now.profile }
     ensures { Went (D.world desk.old) (D.world desk.new) (turn D.finds l.now config.old)
@@ -83,7 +78,7 @@ fn turn<R: Threads + Sync, D: Desk, G: Gate>(
 {
     desk.write_out(prompt())?;
     let line = desk.next_line()?;
-    follow(rt, alloc, l, &line, config, desk, gate)
+    follow(with, l, &line, config, desk)
 }
 
 #[tactic(auto, unfolding(crate::specs::Shell::prompt))]
@@ -95,13 +90,11 @@ fn prompt() -> &'static [u8]
 
 #[tactic(auto, using(pp_desk::proofs::Going::going), unfolding(crate::specs::Shell::follow))]
 fn follow<R: Threads + Sync, D: Desk, G: Gate>(
-    rt: &R,
-    alloc: Global,
+    with: &Resources<'_, R, G>,
     l: &Loaded,
     line: &InputLine,
     config: &mut Config,
     desk: &mut D,
-    gate: &G,
 ) -> Result<Option<Outcome>, Stop>
     requires { IsCountable l.now.profile }
     ensures { Went (D.world desk.old) (D.world desk.new)
@@ -109,11 +102,11 @@ fn follow<R: Threads + Sync, D: Desk, G: Gate>(
 {
     match line {
         InputLine::Line(bytes) => {
-            let said = command_of(alloc, without_return(bytes.as_slice()), config)?;
-            obey_or_complain(rt, alloc, l, &said, config, desk, gate)
+            let said = command_of(with.alloc, without_return(bytes.as_slice()), config)?;
+            obey_or_complain(with, l, &said, config, desk)
         }
         InputLine::TooLong => {
-            complain(alloc, &LineFault::LineTooLong, desk)?;
+            complain(with.alloc, &LineFault::LineTooLong, desk)?;
             Ok(None)
         }
         InputLine::End => {
@@ -162,22 +155,20 @@ fn command_of(
 
 #[tactic(auto, using(pp_desk::proofs::Going::going), unfolding(crate::specs::Shell::obey_or_complain))]
 fn obey_or_complain<R: Threads + Sync, D: Desk, G: Gate>(
-    rt: &R,
-    alloc: Global,
+    with: &Resources<'_, R, G>,
     l: &Loaded,
     said: &Result<Command, LineFault>,
     config: &mut Config,
     desk: &mut D,
-    gate: &G,
 ) -> Result<Option<Outcome>, Stop>
     requires { IsCountable l.now.profile }
     ensures { Went (D.world desk.old) (D.world desk.new)
         (obey_or_complain D.finds l.now config.old said.now) (beside config.new result) }
 {
     match said {
-        Ok(command) => obey(rt, alloc, l, command, config, desk, gate),
+        Ok(command) => obey(with, l, command, config, desk),
         Err(fault) => {
-            complain(alloc, fault, desk)?;
+            complain(with.alloc, fault, desk)?;
             Ok(None)
         }
     }
@@ -186,13 +177,11 @@ fn obey_or_complain<R: Threads + Sync, D: Desk, G: Gate>(
 // What a line asks for. An assignment alone changes the configuration of the next line.
 #[tactic(auto, using(pp_desk::proofs::Going::going), unfolding(crate::specs::Shell::obey))]
 fn obey<R: Threads + Sync, D: Desk, G: Gate>(
-    rt: &R,
-    alloc: Global,
+    with: &Resources<'_, R, G>,
     l: &Loaded,
     command: &Command,
     config: &mut Config,
     desk: &mut D,
-    gate: &G,
 ) -> Result<Option<Outcome>, Stop>
     requires { IsCountable l.now.profile }
     ensures { Went (D.world desk.old) (D.world desk.new)
@@ -202,7 +191,7 @@ fn obey<R: Threads + Sync, D: Desk, G: Gate>(
         Command::Nothing => Ok(None),
         Command::Quit => Ok(Some(Outcome::Done)),
         Command::Options => {
-            list_options(alloc, config, desk)?;
+            list_options(with.alloc, config, desk)?;
             Ok(None)
         }
         Command::Help => {
@@ -210,7 +199,7 @@ fn obey<R: Threads + Sync, D: Desk, G: Gate>(
             Ok(None)
         }
         Command::Set(changed) => {
-            *config = changed.copy(alloc)?;
+            *config = changed.copy(with.alloc)?;
             Ok(None)
         }
         Command::Run {
@@ -218,7 +207,7 @@ fn obey<R: Threads + Sync, D: Desk, G: Gate>(
             config: own,
             to,
         } => {
-            report_on(rt, alloc, l, report, own, to.as_ref(), desk, gate)?;
+            report_on(with, l, report, own, to.as_ref(), desk)?;
             Ok(None)
         }
     }

@@ -9,5 +9,6 @@ pub struct Asked<'a> {
     pub l: &'a Loaded,
     /// Which report.
     pub report: &'a Report,
+    /// The options.
     pub config: &'a Config,
 }

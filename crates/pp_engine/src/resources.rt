@@ -1,0 +1,13 @@
+//! What a session computes with.
+
+use std::alloc::Global;
+
+/// What a session computes with, apart from the outside.
+pub struct Resources<'a, R, G> {
+    /// The threads of the lanes.
+    pub rt: &'a R,
+    /// Where all is allocated.
+    pub alloc: Global,
+    /// What each lane passes before and after a piece.
+    pub gate: &'a G,
+}
