@@ -1,6 +1,5 @@
 -- The tests on descriptions decide equality.
-use Rattle.std.proofs.Common.{◌≡◌, ℕ, suc, ◌+◌, Bool, true, false, true≢false, cond, not, ◌||◌, List, [], ◌∷◌, get_or, Option, None, Some, refl, sym, ap, ◌∙◌, arith}
-use Rattle.std.specs.Prelude.{◌==◌}
+use Rattle.std.proofs.Common.{◌≡◌, suc, ◌+◌, Bool, true, false, true≢false, cond, not, ◌||◌, List, [], ◌∷◌, get_or, Option, None, Some, refl, sym, ap, ◌∙◌, arith}
 use Rattle.std.specs.Bool.{Decides}
 use Rattle.std.specs.List.{list_any}
 use Rattle.std.specs.Option.{option_eq}
@@ -9,9 +8,7 @@ use Rattle.std.specs.Cmp.{booleans_Decides}
 use Rattle.std.proofs.lemmas.Option.{none-some, same_Some}
 use Rattle.std.proofs.lemmas.Bool.Decides.{Decides-and, Decides-like, Decides-eqb, Decides-int_eq}
 use Rattle.std.proofs.lemmas.Slice.Eq.{bytes_eq-Decides, slice_eq-Decides}
-use Rattle.pp_model.specs.declared.profile.Label.{Label}
 use Rattle.pp_model.specs.FirstSight.{place_of}
-use Rattle.pp_share.specs.SampleKeys.{equal_label, same_stack}
 use Rattle.pp_share.specs.Described.{FunctionText, MappingText, LineText, LocationText, LabelText, SampleText}
 use Rattle.pp_share.specs.Alike.{same_function, equal_mapping, same_line, same_location, same_label, same_sample}
 use Rattle.pp_model.proofs.FirstSightLemmas.{IsSeen}
@@ -116,18 +113,3 @@ sample_decides a b =
     (λ p i. record { locations = p.0 i; labels = p.1 i })
     (λ e. (ap (λ s. s.locations) e, ap (λ s. s.labels) e))
     (Decides-and _ _ (list_decides same_location location_decides a.locations b.locations) (list_decides same_label label_decides a.labels b.labels))
-
-equal_label_decides : (a b : Label) → Decides (equal_label a b) (a ≡ b)
-equal_label_decides a b =
-    Decides-like (equal_label a b)
-    (λ p i. record { key = p.0 i; text = p.1.0 i; num = p.1.1.0 i; num_unit = p.1.1.1 i })
-    (λ e. (ap (λ l. l.key) e, (ap (λ l. l.text) e, (ap (λ l. l.num) e, ap (λ l. l.num_unit) e))))
-    (Decides-and _ _ (Decides-int_eq a.key b.key) (Decides-and _ _ (Decides-int_eq a.text b.text)
-    (Decides-and _ _ (Decides-int_eq a.num b.num) (Decides-int_eq a.num_unit b.num_unit))))
-
-pub stack_decides : (a b : List ℕ × List Label) → Decides (same_stack a b) (a ≡ b)
-stack_decides a b =
-    Decides-like (same_stack a b)
-    (λ p i. (p.0 i, p.1 i))
-    (λ e. (ap (λ s. s.0) e, ap (λ s. s.1) e))
-    (Decides-and _ _ (list_decides (λ i j. i == j) (λ i j. Decides-eqb i j) a.0 b.0) (list_decides equal_label equal_label_decides a.1 b.1))

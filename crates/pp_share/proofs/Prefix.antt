@@ -1,7 +1,6 @@
 -- The items that a loop has taken, and the one that it takes next.
 use Rattle.std.proofs.Common.{◌≡◌, ℕ, suc, ◌+◌, ◌<◌, ◌≤◌, List, [], ◌∷◌, length, map, get_or, take, sum_by, refl, sym, ap, subst, ◌∙◌, arith}
 use Rattle.std.specs.List.{All, AllByRecursion}
-use Rattle.std.proofs.lemmas.List.{length-map, get_or-map, take-map}
 use Rattle.std.proofs.lemmas.List.Elements.{All-take}
 use Rattle.std.proofs.lemmas.List.Sums.{sum_by_more_le}
 
@@ -42,17 +41,3 @@ module _ {X : Type 0} (all seen : List X) (x : X) (next : IsNext all seen x) whe
   -- and of the next one
   pub next_holds : (P : X → Type 0) → All P all → P x
   next_holds P holds = subst P (sym next.here) (holds (length seen) x next.within)
-
-  -- what comes next comes next where each item is described
-  pub next_described : {Y : Type 0} (f : X → Y) → IsNext (map f all) (map f seen) (f x)
-  next_described f =
-      let long = length-map seen f in
-      record {
-        front =
-            map_same (map f seen) ∙ ap (map f) seen_is ∙ sym (take-map f (length seen) all)
-            ∙ ap (λ n. take n (map f all)) (sym long);
-        within = omega (arith, next.within, long, length-map all f);
-        here =
-            ap f next.here ∙ sym (get_or-map f all (length seen) x (f x) next.within)
-            ∙ ap (λ n. get_or (map f all) n (f x)) (sym long);
-      }

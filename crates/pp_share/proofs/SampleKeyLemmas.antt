@@ -1,26 +1,66 @@
 -- The sums of samples per key, where a loop takes one sample after another.
-use Rattle.std.proofs.Common.{◌≡◌, ℕ, ◌+◌, ◌<◌, ◌≤◌, Bool, not, ℤ, pos, nat_abs, List, [], ◌∷◌, ◌++◌, length, map, get_or, sum_by, refl, sym, ap, subst, ◌∙◌, arith}
+use Rattle.std.proofs.Common.{◌≡◌, ℕ, ◌+◌, ◌<◌, ◌≤◌, Bool, not, ℤ, pos, nat_abs, List, [], ◌∷◌, ◌++◌, length, map, get_or, take, sum_by, refl, sym, ap, subst, ◌∙◌, arith}
+use Rattle.std.specs.Prelude.{◌==◌}
+use Rattle.std.specs.Bool.{Decides}
 use Rattle.std.specs.List.{All, list_any, zip}
 use Rattle.std.specs.Cmp.{IsEquivalence, decided}
-use Rattle.std.proofs.lemmas.List.{length-map, map-append}
+use Rattle.std.specs.Cmp.Lexicographic.{pointwise}
+use Rattle.std.proofs.lemmas.Bool.Decides.{Decides-and, Decides-like, Decides-eqb, Decides-int_eq}
+use Rattle.std.proofs.lemmas.List.{length-map, map-append, get_or-map, take-map}
 use Rattle.std.proofs.lemmas.List.Elements.{All-map}
 use Rattle.std.proofs.lemmas.List.Sums.{sum_by-cons}
+use Rattle.std.proofs.lemmas.Slice.Eq.{slice_eq-Decides}
 use Rattle.pp_model.specs.declared.profile.Label.{Label}
 use Rattle.pp_model.specs.declared.profile.Sample.{Sample}
 use Rattle.pp_model.specs.FirstSight.{seen_with, distinct, place_of}
 use Rattle.pp_model.proofs.FirstSightLemmas.{any-map, place-map, seen_with-map, distinct_apart}
 use Rattle.pp_share.specs.declared.samples.SampleKey.{SampleKey}
 use Rattle.pp_share.specs.Sums.{keys_of, sum_of, summed, rows_with}
-use Rattle.pp_share.specs.SampleKeys.{sample_item, stack_of, item_of_key, same_stack, AreSums}
-use Rattle.pp_share.proofs.Prefix.{all_tt, IsNext, next_holds, next_described}
-use Rattle.pp_share.proofs.Pairs.{zip-map, zip-described}
-use Rattle.pp_share.proofs.Deciding.{stack_decides}
+use Rattle.pp_share.specs.SampleKeys.{sample_item, stack_of, item_of_key, equal_label, same_stack, AreSums}
+use Rattle.pp_share.proofs.Prefix.{map_same, all_tt, IsNext, next_holds}
+use Rattle.pp_share.proofs.Pairs.{zip-map}
 use Rattle.pp_share.proofs.Grouping.{keys_push, sums_push, put_wide, put_fits}
 
 pub sum_by-map : {A B : Type 0} (weight : B → ℕ) (f : A → B) (xs : List A) → sum_by weight (map f xs) ≡ sum_by (λ x. weight (f x)) xs
 sum_by-map weight f [] = refl
 sum_by-map weight f (x ∷ xs) =
     sum_by-cons weight (f x) (map f xs) ∙ ap (λ n. weight (f x) + n) (sum_by-map weight f xs) ∙ sym (sum_by-cons (λ y. weight (f y)) x xs)
+
+-- what comes next comes next where each item is described
+next_described : {X Y : Type 0} (f : X → Y) (all seen : List X) (x : X) → IsNext all seen x → IsNext (map f all) (map f seen) (f x)
+next_described f all seen x next =
+    let long = length-map seen f in
+    record {
+      front =
+          map_same (map f seen) ∙ ap (map f) (sym (map_same seen) ∙ next.front) ∙ sym (take-map f (length seen) all)
+          ∙ ap (λ n. take n (map f all)) (sym long);
+      within = omega (arith, next.within, long, length-map all f);
+      here =
+          ap f next.here ∙ sym (get_or-map f all (length seen) x (f x) next.within)
+          ∙ ap (λ n. get_or (map f all) n (f x)) (sym long);
+    }
+
+-- keys that are described beside their values
+zip-described : {K D X : Type 0} (f : K → D) (keys : List K) (xs : List X) → map (λ pair. (f pair.0, pair.1)) (zip keys xs) ≡ zip (map f keys) xs
+zip-described f [] xs = refl
+zip-described f (k ∷ ks) [] = refl
+zip-described f (k ∷ ks) (x ∷ xs) = ap (λ l. (f k, x) ∷ l) (zip-described f ks xs)
+
+label_decides : (a b : Label) → Decides (equal_label a b) (a ≡ b)
+label_decides a b =
+    Decides-like (equal_label a b)
+    (λ p i. record { key = p.0 i; text = p.1.0 i; num = p.1.1.0 i; num_unit = p.1.1.1 i })
+    (λ e. (ap (λ l. l.key) e, (ap (λ l. l.text) e, (ap (λ l. l.num) e, ap (λ l. l.num_unit) e))))
+    (Decides-and _ _ (Decides-int_eq a.key b.key) (Decides-and _ _ (Decides-int_eq a.text b.text)
+    (Decides-and _ _ (Decides-int_eq a.num b.num) (Decides-int_eq a.num_unit b.num_unit))))
+
+stack_decides : (a b : List ℕ × List Label) → Decides (same_stack a b) (a ≡ b)
+stack_decides a b =
+    Decides-like (same_stack a b)
+    (λ p i. (p.0 i, p.1 i))
+    (λ e. (ap (λ s. s.0) e, ap (λ s. s.1) e))
+    (Decides-and _ _ (slice_eq-Decides (λ i j. Decides-eqb i j) a.0 b.0 (pointwise (λ i j. i == j) a.0 b.0) refl)
+    (slice_eq-Decides label_decides a.1 b.1 (pointwise equal_label a.1 b.1) refl))
 
 -- keys are one where the locations and the labels are
 abbrev pub same_key : SampleKey → SampleKey → Bool
@@ -50,7 +90,7 @@ module _ (columns : ℕ) (samples seen : List Sample) (s : Sample) (next : IsNex
   stack = (s.location_id, s.label)
 
   next_item : IsNext all_items items (stack, s.value)
-  next_item = next_described samples seen s next sample_item
+  next_item = next_described sample_item samples seen s next
 
   wide_items : All (λ (item : (List ℕ × List Label) × List ℤ). length item.1 ≡ columns) all_items
   wide_items = All-map (λ (item : (List ℕ × List Label) × List ℤ). length item.1 ≡ columns) sample_item samples wide

@@ -1,4 +1,4 @@
-use Rattle.std.proofs.Common.{ℕ, ◌∙◌, ◌<◌, length, map, sym, ap, subst, if◌then◌else◌, arith}
+use Rattle.std.proofs.Common.{ℕ, ◌∙◌, length, map, sym, ap, subst, if◌then◌else◌, arith}
 use Rattle.std.proofs.lemmas.Iterator.Adapters.{YieldsList-from_vec}
 use Rattle.std.proofs.lemmas.Iterator.Consumers.{YieldsList-so_far, YieldsList-turn, YieldsList-end}
 use Rattle.pp_share.specs.SampleKeys.{sample_item, stack_of, AreSums}
