@@ -1,13 +1,14 @@
 //! Samples that stand once, with their values added up.
 ghost use Rattle.std.specs.Prelude.{◌≡◌, ℕ, ◌-◌, ◌^◌, ◌<◌, ◌≤◌, ◌++◌, [], ◌∷◌, pos, nat_abs, length, map, filter, slice_index_or, All, IfOk, OnOk};
-ghost use Rattle.std.specs.List.{sum_by, list_all};
+ghost use Rattle.std.specs.List.{sum_by, list_all, zip};
 ghost use Rattle.std.specs.Ordering.{int_eq};
 ghost use Rattle.pp_model.specs.Sizes.{value_in};
 ghost use Rattle.pp_share.specs.Sums.{counts};
-ghost use Rattle.pp_share.specs.SampleKeys.{sample_item, item_of_key, sample_of, summed_samples};
+ghost use Rattle.pp_share.specs.SampleKeys.{sample_item, stack_of, item_of_key, sample_of, AreSums, summed_samples};
 
 use crate::stack::Stack;
-use crate::sums::sum_each;
+use crate::sums::put;
+use indexmap::IndexSet;
 use pp_base::{List, Memory};
 use pp_model::{Label, Sample};
 use std::alloc::Global;
@@ -33,35 +34,55 @@ pub fn sum_samples(
         → sum_by (λ s. nat_abs (value_in s column)) samples ≤ 2 ^ 63 - 1 }
     ensures { IfOk result (λ r. r ≡ summed_samples columns samples) }
 {
-    let items = sample_items(alloc, samples)?;
-    let sums = sum_each(alloc, columns, items)?;
-    kept_samples(alloc, sums)
+    let (keys, sums) = sum_each(alloc, columns, samples)?;
+    kept_samples(alloc, keys, sums)
 }
 
-// The key and the values of each sample.
-fn sample_items(alloc: Global, samples: List<Sample>) -> Result<Vec<(SampleKey, List<i64>)>, Memory>
-    ensures { IfOk result (λ items. map item_of_key items.items ≡ map sample_item samples) }
+// The keys of the samples without repeats, in the order of first sight, and for each the sum of its values in each
+// column. The first row of a key is kept and added to in place.
+fn sum_each(
+    alloc: Global,
+    columns: usize,
+    samples: List<Sample>,
+) -> Result<(IndexSet<SampleKey>, List<List<i64>>), Memory>
+    requires wide { All (λ s. length s.value ≡ columns) samples }
+    requires fits { (column : ℕ) → column < columns
+        → sum_by (λ s. nat_abs (value_in s column)) samples ≤ 2 ^ 63 - 1 }
+    ensures { IfOk result (λ r. AreSums columns (map sample_item samples) r.0.keys r.1) }
 {
-    let mut items = Vec::with_capacity(alloc, samples.len())?;
+    let mut keys = IndexSet::with_capacity(alloc, samples.len())?;
+    let mut sums = List::from_vec(Vec::with_capacity(alloc, samples.len())?);
     for sample in samples.into_vec() {
-        let key = SampleKey {
-            locations: Stack {
-                ids: sample.location_id.into_vec(),
-            },
-            labels: sample.label.into_vec(),
-        };
-        items.push((key, sample.value))?;
+        let key = key_of(sample.location_id, sample.label);
+        let (place, is_new) = keys.insert_full(key)?;
+        put(&mut sums, place, is_new, sample.value)?;
     }
-    Ok(items)
+    Ok((keys, sums))
+}
+
+// The key of these locations and labels.
+fn key_of(locations: List<u64>, labels: List<Label>) -> SampleKey
+    ensures { stack_of result ≡ (locations, labels) }
+{
+    SampleKey {
+        locations: Stack {
+            ids: locations.into_vec(),
+        },
+        labels: labels.into_vec(),
+    }
 }
 
 // The samples of the keys with these values, but for those whose values are all 0.
-fn kept_samples(alloc: Global, sums: Vec<(SampleKey, List<i64>)>) -> Result<List<Sample>, Memory>
+fn kept_samples(
+    alloc: Global,
+    keys: IndexSet<SampleKey>,
+    sums: List<List<i64>>,
+) -> Result<List<Sample>, Memory>
     ensures { IfOk result (λ samples. samples
-        ≡ map sample_of (filter counts (map item_of_key sums.items))) }
+        ≡ map sample_of (filter counts (map item_of_key (zip keys.keys sums)))) }
 {
     let mut samples = List::from_vec(Vec::with_capacity(alloc, sums.len())?);
-    for (key, value) in sums {
+    for (key, value) in keys.into_iter().zip(sums.into_vec()) {
         push_counting(&mut samples, key, value)?;
     }
     Ok(samples)
