@@ -36,7 +36,8 @@ class Tree:
         self.source = self.root / "crates" / "pprof" / "src" / "main.rt"
         self.source.parent.mkdir(parents=True)
         self.source.write_text("fn main() {}\n")
-        for file in ("pprof", "HANDLES", "scripts/proof_seconds.txt", "crates/pp_options/src/help.rt"):
+        sources = ("crates/pp_options/src/help.rt", "crates/pp_sessions/data/help.txt")
+        for file in ("pprof", "HANDLES", "scripts/proof_seconds.txt", *sources):
             (self.root / file).parent.mkdir(parents=True, exist_ok=True)
             shutil.copy(ROOT / file, self.root / file)
         (self.root / "crates.txt").write_text("pprof:\n")
