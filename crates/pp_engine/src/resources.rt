@@ -3,6 +3,7 @@
 use std::alloc::Global;
 
 /// What a session computes with, apart from the outside.
+#[derive(Drop)]
 pub struct Resources<'a, R, G> {
     /// The threads of the lanes.
     pub rt: &'a R,
