@@ -2,7 +2,7 @@
 ghost use Rattle.std.specs.Prelude.{◌≡◌, ◌<◌, Some, None, length, slice_get, slice_index_or};
 ghost use Rattle.pp_count.specs.Table.{no_key};
 ghost use Rattle.pp_calltree.specs.Tree.{first_root, first_child, next_sibling, parent};
-ghost use Rattle.pp_calltree.specs.Links.{node_by};
+ghost use Rattle.pp_calltree.specs.Links.{node_by, nodes_by};
 
 use crate::linking::child_at;
 use pp_base::List;
@@ -33,6 +33,24 @@ pub struct NumberedNode {
     pub flat: i64,
     /// The sum over the samples whose path goes through here.
     pub cum: i64,
+}
+
+/// The nodes of a call tree by the numbers of their keys, for what is done once for a key.
+#[derive(Clone, Copy)]
+pub struct NumberedTree<'a> {
+    /// The keys, by number.
+    pub names: &'a Names,
+    /// Parents before children.
+    pub nodes: &'a [NumberedNode],
+}
+
+impl NumberedTree<'_> {
+    /// The node with its key.
+    pub fn named(&self, node: &NumberedNode) -> PathNode
+        ensures { result ≡ node_by self.now.names.now node.now }
+    {
+        named(self.names, node)
+    }
 }
 
 /// The call tree of a report. Contracts see the list of its nodes, parents before children.
@@ -108,6 +126,16 @@ impl CallTree {
         ensures { slice_get self.now n ≡ Some result }
     {
         named(&self.names, &self.nodes.as_slice()[n as usize])
+    }
+
+    /// The same nodes by the numbers of their keys.
+    pub fn numbered(&self) -> NumberedTree<'_>
+        ensures { nodes_by result.names.now result.nodes.now ≡ self.now }
+    {
+        NumberedTree {
+            names: &self.names,
+            nodes: self.nodes.as_slice(),
+        }
     }
 }
 

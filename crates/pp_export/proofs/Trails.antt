@@ -81,11 +81,11 @@ pub uncut : (names : List (List ℕ)) (t : Trail) (depth : ℕ) → length t.end
 uncut names t depth past trail =
     subst (λ ns. IsTrail ns t) (sym (take_all depth names (omega (arith, past, ap length trail.ends, length-ends 0 names)))) trail
 
-pub pushed_is : (names : List (List ℕ)) (name : List ℕ) (old new : Trail) (end : ℕ) → new.text.items ≡ (old.text.items ++ name) ++ semicolon ∷ []
+pub pushed_is : (names : List (List ℕ)) (name part : List ℕ) (old new : Trail) (end : ℕ) → part ≡ name_and_separator name → new.text.items ≡ old.text.items ++ part
     → new.ends.items ≡ old.ends.items ++ end ∷ [] → end ≡ length new.text.items → IsTrail names old → IsTrail (names ++ name ∷ []) new
-pushed_is names name old new end text ends end_is trail =
+pushed_is names name part old new end is text ends end_is trail =
     let whole : new.text.items ≡ names_text (names ++ name ∷ []) =
-    text ∙ append_assoc old.text.items name (semicolon ∷ []) ∙ ap (λ t. t ++ name_and_separator name) trail.text
+    text ∙ (λ i. trail.text i ++ is i)
     ∙ ap (λ t. names_text names ++ t) (sym (flat_map-cons name_and_separator name [] ∙ append-nil (name_and_separator name)))
     ∙ sym (flat_map-append name_and_separator names (name ∷ [])) in
     let last : end ≡ 0 + length (names_text (names ++ name ∷ [])) = omega (arith, end_is, ap length whole) in

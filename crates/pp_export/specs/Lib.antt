@@ -1,5 +1,6 @@
 pub mod Escaped
 pub mod Trail
+pub mod PathNames
 pub mod Folded
 pub mod Walked
 pub mod Table

@@ -4,13 +4,15 @@ use Rattle.std.specs.Fmt.{signed_decimal}
 use Rattle.std.specs.Ordering.{int_eq}
 use Rattle.pp_model.specs.declared.profile.Profile.{Profile}
 use Rattle.pp_model.specs.FrameTexts.{Written}
-use Rattle.pp_grain.specs.Naming.{name_text}
-use Rattle.pp_calltree.specs.declared.tree.PathNode.{PathNode}
+use Rattle.pp_grain.specs.declared.key.Key.{Key}
+use Rattle.pp_calltree.specs.declared.tree.NumberedNode.{NumberedNode}
 use Rattle.pp_calltree.specs.CallTree.{TreeRow}
 use Rattle.pp_calltree.specs.Laid.{node_row}
+use Rattle.pp_calltree.specs.Links.{nodes_by}
+use Rattle.pp_export.specs.declared.path_names.PathNames.{PathNames}
 use Rattle.pp_export.specs.declared.trail.Trail.{Trail}
-use Rattle.pp_export.specs.Escaped.{escaped_name}
 use Rattle.pp_export.specs.Folded.{Path, path_lines}
+use Rattle.pp_export.specs.PathNames.{path_name, numbered_name, ArePathNames}
 use Rattle.pp_export.specs.Trail.{IsTrail}
 
 -- the keys of the node's path, where those of the node before it are these
@@ -36,18 +38,15 @@ abbrev pub line_unless_zero : List ℕ → ℤ → List ℕ
 line_unless_zero names sum =
     if int_eq sum (pos 0) then [] else names ++ codes " " ++ signed_decimal sum ++ codes "\n"
 
--- a key's name in a path
-abbrev pub step_name : Written → List ℕ
-step_name k = escaped_name (name_text k)
-
 -- The trail has the names of these keys.
 abbrev pub LeadsTo : List Written → Trail → Type 0
-LeadsTo keys trail = IsTrail (map step_name keys) trail
+LeadsTo keys trail = IsTrail (map path_name keys) trail
 
 -- The lines of the first nodes are written, and the trail has the path of the last of them.
-pub record WalkedTo (p : Profile) (nodes : List PathNode) (before : List ℕ) (i : ℕ) (trail : Trail) (out : List ℕ)
-    : Type 0 where
+pub record WalkedTo (p : Profile) (names : List Key) (nodes : List NumberedNode) (before : List ℕ) (i : ℕ)
+    (path_names : PathNames) (trail : Trail) (out : List ℕ) : Type 0 where
+  pub are_names : ArePathNames (numbered_name p names) path_names
   pub keys : List Written
   pub leads : LeadsTo keys trail
-  pub whole : out ++ path_lines (paths_along keys (map (node_row p) (drop i nodes)))
-      ≡ before ++ path_lines (paths_along [] (map (node_row p) nodes))
+  pub whole : out ++ path_lines (paths_along keys (map (node_row p) (nodes_by names (drop i nodes))))
+      ≡ before ++ path_lines (paths_along [] (map (node_row p) (nodes_by names nodes)))

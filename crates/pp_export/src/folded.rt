@@ -7,15 +7,17 @@ ghost use Rattle.pp_model.specs.FrameTexts.{Written};
 ghost use Rattle.pp_grain.specs.Keys.{IsKeyOf};
 ghost use Rattle.pp_count.specs.Seeing.{HoldsFilters};
 ghost use Rattle.pp_calltree.specs.Laid.{node_row};
+ghost use Rattle.pp_calltree.specs.Links.{node_by, nodes_by};
 ghost use Rattle.pp_calltree.specs.Tree.{IsTreeOf};
 ghost use Rattle.pp_export.specs.Folded.{folded_text, path_lines};
+ghost use Rattle.pp_export.specs.PathNames.{numbered_name, ArePathNames};
 ghost use Rattle.pp_export.specs.Walked.{keys_to, path_to, paths_along, line_unless_zero, LeadsTo};
 
+use crate::path_names::PathNames;
 use crate::trail::Trail;
 use itoa::Buffer;
 use pp_base::{Memory, Text};
-use pp_calltree::{CallTree, PathNode};
-use pp_grain::write_name;
+use pp_calltree::{CallTree, NumberedNode, NumberedTree};
 use pp_model::Loaded;
 use std::alloc::Global;
 
@@ -31,20 +33,20 @@ pub fn write_folded(alloc: Global, l: &Loaded, t: &CallTree, out: &mut Text) -> 
     ensures err { OnErr result (out.new ≡ out.old) }
 {
     let mut text = Text::new(alloc);
-    put_paths(alloc, l, t, &mut text)?;
+    put_paths(alloc, l, &t.numbered(), &mut text)?;
     out.append(text)
 }
 
 // The lines of all nodes.
-fn put_paths(alloc: Global, l: &Loaded, t: &CallTree, out: &mut Text) -> Result<(), Memory>
-    requires { All (λ n. IsKeyOf l.now.profile n.key) t.now }
-    ensures { IfOk result (λ _. out.new
-        ≡ out.old ++ path_lines (paths_along [] (map (node_row l.now.profile) t.now))) }
+fn put_paths(alloc: Global, l: &Loaded, t: &NumberedTree, out: &mut Text) -> Result<(), Memory>
+    requires { All (λ n. IsKeyOf l.now.profile n.key) (nodes_by t.now.names.now t.now.nodes.now) }
+    ensures { IfOk result (λ _. out.new ≡ out.old ++ path_lines (paths_along []
+        (map (node_row l.now.profile) (nodes_by t.now.names.now t.now.nodes.now)))) }
 {
-    let mut name = Text::new(alloc);
+    let mut path_names = PathNames::new(alloc);
     let mut trail = Trail::new(alloc);
-    for n in 0..t.nodes() {
-        put_node(l, &t.node(n), &mut name, &mut trail, out)?;
+    for node in t.nodes {
+        put_node(l, t, node, &mut path_names, &mut trail, out)?;
     }
     Ok(())
 }
@@ -52,32 +54,46 @@ fn put_paths(alloc: Global, l: &Loaded, t: &CallTree, out: &mut Text) -> Result<
 // The line of the node, if its sum isn't 0. The trail has the path of the node before, and then that of this one.
 fn put_node(
     l: &Loaded,
-    node: &PathNode,
-    name: &mut Text,
+    t: &NumberedTree,
+    node: &NumberedNode,
+    path_names: &mut PathNames,
     trail: &mut Trail,
     out: &mut Text,
 ) -> Result<(), Memory>
-    requires { IsKeyOf l.now.profile node.now.key }
+    requires key { IsKeyOf l.now.profile (node_by t.now.names.now node.now).key }
+    requires names { ArePathNames (numbered_name l.now.profile t.now.names.now) path_names.old }
+    ensures names { IfOk result (λ _.
+        ArePathNames (numbered_name l.now.profile t.now.names.now) path_names.new) }
     ensures leads { (keys : Seq Written) → LeadsTo keys trail.old →
-        IfOk result (λ _. LeadsTo (keys_to keys (node_row l.now.profile node.now)) trail.new) }
+        IfOk result (λ _. LeadsTo
+        (keys_to keys (node_row l.now.profile (node_by t.now.names.now node.now))) trail.new) }
     ensures line { (keys : Seq Written) → LeadsTo keys trail.old →
-        IfOk result (λ _. out.new
-        ≡ out.old ++ path_lines (path_to keys (node_row l.now.profile node.now) ∷ [])) }
+        IfOk result (λ _. out.new ≡ out.old ++ path_lines
+        (path_to keys (node_row l.now.profile (node_by t.now.names.now node.now)) ∷ [])) }
 {
-    step_to(l, node, name, trail)?;
+    step_to(l, t, node, path_names, trail)?;
     put_line(trail.path(), node.flat, out)
 }
 
-// Goes on from the path of the node before to that of this one. The scratch text is written over.
-fn step_to(l: &Loaded, node: &PathNode, name: &mut Text, trail: &mut Trail) -> Result<(), Memory>
-    requires { IsKeyOf l.now.profile node.now.key }
-    ensures { (keys : Seq Written) → LeadsTo keys trail.old →
-        IfOk result (λ _. LeadsTo (keys_to keys (node_row l.now.profile node.now)) trail.new) }
+// Goes on from the path of the node before to that of this one.
+fn step_to(
+    l: &Loaded,
+    t: &NumberedTree,
+    node: &NumberedNode,
+    path_names: &mut PathNames,
+    trail: &mut Trail,
+) -> Result<(), Memory>
+    requires key { IsKeyOf l.now.profile (node_by t.now.names.now node.now).key }
+    requires names { ArePathNames (numbered_name l.now.profile t.now.names.now) path_names.old }
+    ensures names { IfOk result (λ _.
+        ArePathNames (numbered_name l.now.profile t.now.names.now) path_names.new) }
+    ensures leads { (keys : Seq Written) → LeadsTo keys trail.old →
+        IfOk result (λ _. LeadsTo
+        (keys_to keys (node_row l.now.profile (node_by t.now.names.now node.now))) trail.new) }
 {
-    name.clear();
-    write_name(l, &node.key, name)?;
+    path_names.make(l, t, node)?;
     trail.cut(node.depth as usize);
-    trail.push(name.as_slice())
+    trail.push(path_names.name(node.key))
 }
 
 // The line of the path, if its sum isn't 0.

@@ -4,6 +4,7 @@
 mod escaped;
 mod folded;
 mod laws;
+mod path_names;
 mod table;
 mod trail;
 

@@ -1,9 +1,7 @@
 //! The names of the path that a walk has come to.
 ghost use Rattle.std.specs.Prelude.{◌≡◌, ◌++◌, ◌<◌, ℕ, [], ◌∷◌, List as Seq, length, take, map, IfOk};
-ghost use Rattle.pp_export.specs.Escaped.{escaped_name, frame_byte};
-ghost use Rattle.pp_export.specs.Trail.{joined_names, names_text, ends_from, IsTrail};
+ghost use Rattle.pp_export.specs.Trail.{joined_names, name_and_separator, names_text, ends_from, IsTrail};
 
-use crate::escaped::frame_byte;
 use pp_base::Memory;
 use std::alloc::Global;
 
@@ -48,13 +46,13 @@ impl Trail {
         if depth == 0 { 0 } else { self.ends[depth - 1] }
     }
 
-    /// Adds a name, with what stands for its bytes in a path.
-    pub fn push(&mut self, name: &[u8]) -> Result<(), Memory>
-        ensures { (names : Seq (Seq ℕ)) → IsTrail names self.old →
-            IfOk result (λ _. IsTrail (names ++ escaped_name name.now ∷ []) self.new) }
+    /// Adds a name, which has a `;` behind it.
+    pub fn push(&mut self, part: &[u8]) -> Result<(), Memory>
+        ensures { (names : Seq (Seq ℕ)) (name : Seq ℕ) → IsTrail names self.old →
+            part.now ≡ name_and_separator name →
+            IfOk result (λ _. IsTrail (names ++ name ∷ []) self.new) }
     {
-        put_frame_name(name, &mut self.text)?;
-        self.text.push(b';')?;
+        self.text.extend_from_slice(part)?;
         self.ends.push(self.text.len())?;
         Ok(())
     }
@@ -65,23 +63,5 @@ impl Trail {
     {
         let len = self.text.len().saturating_sub(1);
         &self.text[..len]
-    }
-}
-
-fn put_frame_name(name: &[u8], text: &mut Vec<u8>) -> Result<(), Memory>
-    ensures { IfOk result (λ _. text.new.items ≡ text.old.items ++ escaped_name name.now) }
-{
-    let start = text.len();
-    text.extend_from_slice(name)?;
-    write_frame_bytes(&mut text[start..]);
-    Ok(())
-}
-
-// Writes over each byte what stands for it in a path.
-fn write_frame_bytes(name: &mut [u8])
-    ensures { name.new ≡ escaped_name name.old }
-{
-    for byte in name.iter_mut() {
-        *byte = frame_byte(*byte);
     }
 }

@@ -2,7 +2,7 @@ use Rattle.std.proofs.Common.{◌++◌, get_or, map, set, ap, ◌∙◌, arith}
 use Rattle.std.proofs.lemmas.List.{append-nil, drop_all, get_or_default, take_all}
 use Rattle.std.proofs.lemmas.List.Edits.{map_over_more}
 use Rattle.pp_export.specs.Escaped.{frame_byte}
-use Rattle.pp_export.proofs.trail.write_frame_bytes.Goals as goal
+use Rattle.pp_export.proofs.escaped.write_frame_bytes.Goals as goal
 
 pub loop-byte-preserved : goal.loop-byte-preserved
 loop-byte-preserved c =

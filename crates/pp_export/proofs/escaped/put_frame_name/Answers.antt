@@ -2,7 +2,7 @@ use Rattle.std.proofs.Common.{◌≡◌, ℕ, ◌+◌, ◌-◌, List, [], ◌++�
 use Rattle.std.proofs.lemmas.List.{append-nil, drop_all, length-append, length-drop, length-map, take_all}
 use Rattle.std.proofs.Math.Seq.{drop-append_seam, take-append_seam}
 use Rattle.pp_export.specs.Escaped.{frame_byte}
-use Rattle.pp_export.proofs.trail.put_frame_name.Goals as goal
+use Rattle.pp_export.proofs.escaped.put_frame_name.Goals as goal
 
 -- a text whose last bytes are written over
 written_over : (old name before items new : List ℕ) (start len : ℕ) → start ≡ length old → items ≡ old ++ name → before ≡ items → len ≡ length items
