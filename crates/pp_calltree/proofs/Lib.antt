@@ -3,6 +3,7 @@ pub mod Gathering
 pub mod Kept
 pub mod Sorting
 pub mod Runs
+pub mod FoundRuns
 pub mod RunSums
 pub mod Permuted
 pub mod Naming

@@ -1,7 +1,7 @@
 use Rattle.std.proofs.Common.{◌≡◌, ℕ, ◌-◌, ◌<◌, List, length, take, drop, refl, sym, ap, subst, ◌∙◌, arith}
 use Rattle.std.proofs.lemmas.List.{drop-drop, length-drop, take_all}
 use Rattle.pp_calltree.specs.declared.path.Path.{Path}
-use Rattle.pp_calltree.proofs.Runs.{FoundTo, found_none, found_step, run_fits}
+use Rattle.pp_calltree.proofs.FoundRuns.{FoundTo, found_none, found_step, run_fits}
 use Rattle.pp_calltree.proofs.branching.find_branches.Goals as goal
 
 -- a slice from a place on is what is left of the whole

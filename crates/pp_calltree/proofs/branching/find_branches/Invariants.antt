@@ -1,5 +1,5 @@
 use Rattle.std.proofs.Common.{◌-◌, ◌≤◌, length, drop}
-use Rattle.pp_calltree.proofs.Runs.{FoundTo}
+use Rattle.pp_calltree.proofs.FoundRuns.{FoundTo}
 use Rattle.pp_calltree.proofs.branching.find_branches.Given as goal
 
 -- the branches so far
