@@ -1,5 +1,5 @@
 # Completion of pprof's words in bash.
-# Made by scripts/make_completions.py from the tables of options in crates/pp_options.
+# Made by scripts/make_completions.py from the help and the tables of names in crates/pp_options.
 _pprof() {
     local word=${COMP_WORDS[COMP_CWORD]} before=${COMP_WORDS[COMP_CWORD - 1]} dash=- values
     # bash takes = for a word of its own

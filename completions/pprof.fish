@@ -1,5 +1,5 @@
 # Completion of pprof's words in fish.
-# Made by scripts/make_completions.py from the tables of options in crates/pp_options.
+# Made by scripts/make_completions.py from the help and the tables of names in crates/pp_options.
 complete -c pprof -n 'test (count (commandline -opc)) -eq 1' -l help -d 'print all options'
 complete -c pprof -n 'test (count (commandline -opc)) -eq 1' -l version -d 'print the version'
 complete -c pprof -o top -l top -d 'the functions with the largest own values'

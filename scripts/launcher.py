@@ -36,8 +36,7 @@ class Tree:
         self.source = self.root / "crates" / "pprof" / "src" / "main.rt"
         self.source.parent.mkdir(parents=True)
         self.source.write_text("fn main() {}\n")
-        sources = ("crates/pp_options/src/help.rt", "crates/pp_sessions/data/help.txt")
-        for file in ("pprof", "HANDLES", "scripts/proof_seconds.txt", *sources):
+        for file in ("pprof", "HANDLES", "scripts/proof_seconds.txt", "crates/pp_options/src/help.rt"):
             (self.root / file).parent.mkdir(parents=True, exist_ok=True)
             shutil.copy(ROOT / file, self.root / file)
         (self.root / "crates.txt").write_text("pprof:\n")

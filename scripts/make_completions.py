@@ -1,8 +1,8 @@
 #!/usr/bin/env python3
 """Writes completions/: the words of pprof for bash, zsh and fish, and those of its shell for rlwrap.
 
-The words come from the tables of crates/pp_options, which name each option with its value and what it is for. With --check
-nothing is written: status 1 says that completions/ is not current."""
+The words come from the sources. The help of crates/pp_options names each option with its value and what it is for. The tables
+of names beside it must have the same names. With --check nothing is written: status 1 says that completions/ is not current."""
 import argparse
 import pathlib
 import re
@@ -11,9 +11,7 @@ from dataclasses import dataclass
 
 ROOT = pathlib.Path(__file__).resolve().parent.parent
 SOURCES = ROOT / "crates/pp_options/src"
-MADE = "Made by scripts/make_completions.py from the tables of options in crates/pp_options."
-# The tables of options, in the order of the help.
-OPTIONS = [("format.rt", "FORMATS"), ("name.rt", "OTHERS"), ("variable.rt", "VARIABLES")]
+MADE = "Made by scripts/make_completions.py from the help and the tables of names in crates/pp_options."
 TOPICS = {"help": "print all options", "version": "print the version"}
 
 
@@ -41,21 +39,17 @@ def constant(name):
     return found[1].replace("\\\n", "").replace("\\n", "\n")
 
 
-def table_text(file, table):
-    return re.search(r"(?:static|const) " + table + r":.*?= &?\[(.*?)\n\];", (SOURCES / file).read_text(), re.S)[1]
-
-
 def names_in(file, table):
-    """The names of a table of Named or Entry entries."""
-    return re.findall(r'name: b"([^"]*)"', table_text(file, table))
+    """The names of a table of Named entries."""
+    found = re.search(r"static " + table + r":.*?= \[(.*?)\n\];", (SOURCES / file).read_text(), re.S)
+    return re.findall(r'name: b"([^"]*)"', found[1])
 
 
-def entries(file, table):
-    """The options of a table of Entry entries. One that is told of beside another has that one's text."""
-    entry = r'name: b"([^"]*)",\n.*\n *shape: b"([^"]*)",\n *about: b"([^"]*)"'
-    for name, shape, about in re.findall(entry, table_text(file, table)):
-        for word in f"{name}{shape}".split(", ") if about else []:
-            yield option_of(word, " ".join(about.split()))
+def described():
+    """Pairs of the words of an option and what it is for, from the help's lines."""
+    for entry in re.findall(r"^  (-.*(?:\n {8,}.*)*)", constant("OPTIONS_HELP"), re.M):
+        words, about = re.split(r"  +", " ".join(entry.split("\n")).strip(), maxsplit=1)
+        yield words, " ".join(about.split())
 
 
 def option_of(word, about):
@@ -65,14 +59,19 @@ def option_of(word, about):
 
 
 def options():
-    """The options in the order of the help, and the choice words behind those that they set."""
-    found = [it for place in OPTIONS for it in entries(*place)]
-    named = {name for place in OPTIONS for name in names_in(*place)}
-    if untold := named - {it.name for it in found}:
-        sys.exit(f"make_completions: the help does not tell of {' '.join(sorted(untold))}")
+    """The options as the help has them, and the choice words behind those that they set."""
+    found = [option_of(word, about) for words, about in described() for word in words.split(", ")]
     for file, table, what in (("value.rt", "SORTS", "the order"), ("value.rt", "GRAINS", "a row stands for"), ("sample_type.rt", "SAMPLE_TYPES", "the sample type")):
         found += [Option(name, "", f"{what}: {name}") for name in names_in(file, table)]
+    stop_unless_named({it.name for it in found})
     return found
+
+
+def stop_unless_named(found):
+    tables = [("variable.rt", "VARIABLES"), ("format.rt", "FORMATS"), ("name.rt", "OTHERS"), ("value.rt", "SORTS"), ("value.rt", "GRAINS"), ("sample_type.rt", "SAMPLE_TYPES")]
+    named = {name for file, table in tables for name in names_in(file, table)}
+    if found != named:
+        sys.exit(f"make_completions: in the help or in a table alone: {' '.join(sorted(found ^ named))}")
 
 
 def commands():

@@ -5,41 +5,29 @@ use Rattle.pp_model.specs.declared.report.Report.TheVariants as reports
 use Rattle.pp_options.specs.declared.format.Format.{Format}
 use Rattle.pp_options.specs.declared.format.Format.TheVariants.{Top, Tree, Peek, Traces, Tags, Raw, Comments, Proto, Folded, Table, Compare}
 use Rattle.pp_options.specs.declared.format.Format.TheVariants as formats
-use Rattle.pp_options.specs.Tables.{OptionRow, option_row, entry_named}
+use Rattle.pp_options.specs.Tables.{Row, row, value_named}
 
 -- the formats by name
-abbrev pub formats_by_name : List (OptionRow Format)
+abbrev pub formats_by_name : List (Row Format)
 formats_by_name =
-    option_row (codes "top") Top (codes ", -text")
-    (codes "the functions with the largest own values")
-    ∷ option_row (codes "text") Top [] []
-    ∷ option_row (codes "tree") Tree []
-    (codes "each function between its callers and callees")
-    ∷ option_row (codes "peek") Peek (codes "=PATTERN")
-    (codes "the same for the functions that the pattern finds")
-    ∷ option_row (codes "list") formats.List (codes "=PATTERN")
-    (codes "values by source line, for the functions that the\n                               pattern finds")
-    ∷ option_row (codes "traces") Traces []
-    (codes "each sample with its stack")
-    ∷ option_row (codes "tags") Tags []
-    (codes "values by label")
-    ∷ option_row (codes "raw") Raw []
-    (codes "the profile as text")
-    ∷ option_row (codes "comments") Comments []
-    (codes "the comments of the profile")
-    ∷ option_row (codes "proto") Proto []
-    (codes "the profile as it was filtered, as protobuf")
-    ∷ option_row (codes "folded") Folded []
-    (codes "the value of each path, for flame graph programs")
-    ∷ option_row (codes "table") Table []
-    (codes "the values of each function, divided by tabs")
-    ∷ option_row (codes "compare") Compare []
-    (codes "each function before and after the change, of a\n                               profile with -diff_base")
+    row (codes "text") Top
+    ∷ row (codes "top") Top
+    ∷ row (codes "tree") Tree
+    ∷ row (codes "traces") Traces
+    ∷ row (codes "tags") Tags
+    ∷ row (codes "raw") Raw
+    ∷ row (codes "comments") Comments
+    ∷ row (codes "proto") Proto
+    ∷ row (codes "peek") Peek
+    ∷ row (codes "list") formats.List
+    ∷ row (codes "folded") Folded
+    ∷ row (codes "table") Table
+    ∷ row (codes "compare") Compare
     ∷ []
 
 -- the format of the name
 unfoldable pub format_named : List ℕ → Option Format
-format_named name = entry_named formats_by_name name
+format_named name = value_named formats_by_name name
 
 -- a pattern belongs to the format
 abbrev pub takes_pattern : Format → Bool

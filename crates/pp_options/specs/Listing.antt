@@ -17,7 +17,7 @@ use Rattle.pp_options.specs.declared.variable.TextVariable.TheVariants as texts
 use Rattle.pp_options.specs.declared.variable.Variable.{Variable}
 use Rattle.pp_options.specs.declared.variable.Variable.TheVariants.{Sort, Granularity, Flag, Nodecount, Fraction, Text, DivideBy, Workers}
 use Rattle.pp_options.specs.Ends.{without_end}
-use Rattle.pp_options.specs.Tables.{OptionRow}
+use Rattle.pp_options.specs.Tables.{Row}
 use Rattle.pp_options.specs.Variables.{variables}
 
 -- how an order is spelled
@@ -101,7 +101,7 @@ variable_text c DivideBy = decimal c.divide_by
 variable_text c Workers = decimal c.workers
 
 -- a line `NAME=VALUE`
-abbrev pub option_line : Config → OptionRow Variable → List ℕ
+abbrev pub option_line : Config → Row Variable → List ℕ
 option_line c row = row.name ++ codes "=" ++ variable_text c row.value ++ codes "\n"
 
 -- a line for each variable, in their order

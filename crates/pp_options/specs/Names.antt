@@ -7,7 +7,7 @@ use Rattle.pp_options.specs.declared.name.Choice.{Choice as ChoiceName}
 use Rattle.pp_options.specs.declared.name.Choice.TheVariants as choices
 use Rattle.pp_options.specs.declared.name.OptionName.{OptionName}
 use Rattle.pp_options.specs.declared.name.OptionName.TheVariants.{Variable, Choice, SampleType, Format, Base, Gen, Normalize}
-use Rattle.pp_options.specs.Tables.{OptionRow, option_row, entry_named}
+use Rattle.pp_options.specs.Tables.{Row, row, value_named}
 use Rattle.pp_options.specs.Values.{sort_named, grain_named}
 use Rattle.pp_options.specs.Variables.{variable_named}
 use Rattle.pp_options.specs.Formats.{takes_pattern, format_named}
@@ -20,16 +20,12 @@ choice_named name =
     (option_map choices.Granularity (grain_named name))
 
 -- the names of what is neither a variable nor a choice nor a sample type nor a format
-abbrev pub others : List (OptionRow OptionName)
+abbrev pub others : List (Row OptionName)
 others =
-    option_row (codes "gen") Gen (codes "=N")
-    (codes "a source that is made, of 1 to 1000000 samples")
-    ∷ option_row (codes "base") (Base bases.Base) (codes "=PATH")
-    (codes "a profile that is subtracted")
-    ∷ option_row (codes "diff_base") (Base bases.DiffBase) (codes "=PATH")
-    (codes "the same, and percentages are of the base")
-    ∷ option_row (codes "normalize") Normalize []
-    (codes "scale the sources to the sums of the bases first")
+    row (codes "base") (Base bases.Base)
+    ∷ row (codes "diff_base") (Base bases.DiffBase)
+    ∷ row (codes "gen") Gen
+    ∷ row (codes "normalize") Normalize
     ∷ []
 
 -- what the name of an option stands for
@@ -38,7 +34,7 @@ option_named name =
     option_or (option_map Variable (variable_named name))
     (option_or (option_map Choice (choice_named name))
     (option_or (option_map SampleType (sample_type_named name))
-    (option_or (option_map Format (format_named name)) (entry_named others name))))
+    (option_or (option_map Format (format_named name)) (value_named others name))))
 
 -- the option has a value even where none stands after `=`; the others are flags
 abbrev pub needs_value : OptionName → Bool

@@ -2,7 +2,7 @@
 ghost use Rattle.std.specs.Prelude.{◌≡◌};
 ghost use Rattle.pp_options.specs.Formats.{format_named, takes_pattern, report_of};
 
-use crate::table::{Entry, entry_named};
+use crate::table::{Named, value_named};
 use pp_base::Text;
 use pp_model::Report;
 
@@ -23,87 +23,59 @@ pub enum Format {
     Compare,
 }
 
-/// The formats by name, in the order of the help. `text` and `top` are one.
-pub const FORMATS: &[Entry<Format>] = &[
-    Entry {
-        name: b"top",
-        value: Format::Top,
-        shape: b", -text",
-        about: b"the functions with the largest own values",
-    },
-    Entry {
+/// The formats by name. `text` and `top` are one.
+pub static FORMATS: [Named<Format>; 13] = [
+    Named {
         name: b"text",
         value: Format::Top,
-        shape: b"",
-        about: b"",
     },
-    Entry {
+    Named {
+        name: b"top",
+        value: Format::Top,
+    },
+    Named {
         name: b"tree",
         value: Format::Tree,
-        shape: b"",
-        about: b"each function between its callers and callees",
     },
-    Entry {
-        name: b"peek",
-        value: Format::Peek,
-        shape: b"=PATTERN",
-        about: b"the same for the functions that the pattern finds",
-    },
-    Entry {
-        name: b"list",
-        value: Format::List,
-        shape: b"=PATTERN",
-        about: b"values by source line, for the functions that the
-                               pattern finds",
-    },
-    Entry {
+    Named {
         name: b"traces",
         value: Format::Traces,
-        shape: b"",
-        about: b"each sample with its stack",
     },
-    Entry {
+    Named {
         name: b"tags",
         value: Format::Tags,
-        shape: b"",
-        about: b"values by label",
     },
-    Entry {
+    Named {
         name: b"raw",
         value: Format::Raw,
-        shape: b"",
-        about: b"the profile as text",
     },
-    Entry {
+    Named {
         name: b"comments",
         value: Format::Comments,
-        shape: b"",
-        about: b"the comments of the profile",
     },
-    Entry {
+    Named {
         name: b"proto",
         value: Format::Proto,
-        shape: b"",
-        about: b"the profile as it was filtered, as protobuf",
     },
-    Entry {
+    Named {
+        name: b"peek",
+        value: Format::Peek,
+    },
+    Named {
+        name: b"list",
+        value: Format::List,
+    },
+    Named {
         name: b"folded",
         value: Format::Folded,
-        shape: b"",
-        about: b"the value of each path, for flame graph programs",
     },
-    Entry {
+    Named {
         name: b"table",
         value: Format::Table,
-        shape: b"",
-        about: b"the values of each function, divided by tabs",
     },
-    Entry {
+    Named {
         name: b"compare",
         value: Format::Compare,
-        shape: b"",
-        about: b"each function before and after the change, of a
-                               profile with -diff_base",
     },
 ];
 
@@ -112,7 +84,7 @@ pub const FORMATS: &[Entry<Format>] = &[
 pub fn format_named(name: &[u8]) -> Option<Format>
     ensures { result ≡ format_named name.now }
 {
-    entry_named(FORMATS, name)
+    value_named(&FORMATS, name)
 }
 
 impl Format {

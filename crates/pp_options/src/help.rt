@@ -1,16 +1,11 @@
 //! What the program tells of itself.
-ghost use Rattle.std.specs.Prelude.{◌≡◌, ◌++◌, map, OnOk, OnErr};
+ghost use Rattle.std.specs.Prelude.{◌≡◌, ◌++◌, OnOk, OnErr};
 ghost use Rattle.pp_base.specs.Grew.{Grew};
-ghost use Rattle.pp_options.specs.Tables.{row_of_entry};
-ghost use Rattle.pp_options.specs.Help.{topic_asked, topic_text, options_told, option_told, words_told, heading_above};
+ghost use Rattle.pp_options.specs.Help.{topic_asked, topic_text};
 ghost use Rattle.pp_options.specs.declared.help.Topic.TheVariants as topics;
 
-use crate::name::OTHERS;
-use crate::table::{Entry, Named, value_named};
-use crate::text::is;
-use crate::{FORMATS, VARIABLES};
+use crate::table::{Named, value_named};
 use pp_base::{Memory, Text, whole_or_nothing};
-use pp_units::put_right;
 
 /// What can be asked for in place of a report.
 #[derive(Clone, Copy, Debug, PartialEq, Eq)]
@@ -46,8 +41,8 @@ pub static TOPICS: [Named<Topic>; 5] = [
 /// The line that tells the version.
 pub const VERSION: &[u8] = b"pprof 0.1.0\n";
 
-/// How words are written. The options follow.
-pub const USAGE: &[u8] = b"Usage: pprof [options] SOURCE ...
+/// How words are written, then the options by subject. Each subject ends with an example.
+pub const OPTIONS_HELP: &[u8] = b"Usage: pprof [options] SOURCE ...
        pprof --help | -h | --version
 
 A SOURCE is the path of a profile. Options may stand anywhere, with one or two
@@ -55,62 +50,94 @@ dashes. A value follows =, or is the next word. A flag alone is true; after = it
 takes true, t, yes, y, 1, false, f, no, n or 0. After -- all words are sources.
 The last of a repeated option counts.
 
-";
-
-// What stands above the first option of each subject: the example of the subject before it, and the heading of its own.
-pub const FORMATS_HEADING: &[u8] = b"Formats, one at most; without one the shell starts:
-";
-
-pub const SOURCES_HEADING: &[u8] = b"Example: pprof -top cpu.pb
+Formats, one at most; without one the shell starts:
+  -top, -text                  the functions with the largest own values
+  -tree                        each function between its callers and callees
+  -peek=PATTERN                the same for the functions that the pattern finds
+  -list=PATTERN                values by source line, for the functions that the
+                               pattern finds
+  -traces                      each sample with its stack
+  -tags                        values by label
+  -raw                         the profile as text
+  -comments                    the comments of the profile
+  -proto                       the profile as it was filtered, as protobuf
+  -folded                      the value of each path, for flame graph programs
+  -table                       the values of each function, divided by tabs
+  -compare                     each function before and after the change, of a
+                               profile with -diff_base
+Example: pprof -top cpu.pb
 
 Sources and bases, 256 at most; each may be repeated:
-";
-
-pub const ROWS_HEADING: &[u8] = b"Example: pprof -top -diff_base=before.pb after.pb
+  -gen=N                       a source that is made, of 1 to 1000000 samples
+  -base=PATH                   a profile that is subtracted
+  -diff_base=PATH              the same, and percentages are of the base
+  -normalize                   scale the sources to the sums of the bases first
+Example: pprof -top -diff_base=before.pb after.pb
 
 The variables follow with their defaults. Where a word in capitals stands for
 the value, the default is empty.
 
 Rows:
-";
-
-pub const STACKS_HEADING: &[u8] = b"Example: pprof -top -cum -lines -nodecount=20 cpu.pb
+  -sort=flat                   the order: flat or cum; also -flat and -cum
+  -granularity=functions       what a row stands for: functions, filefunctions,
+                               files, lines or addresses; also -functions and
+                               so on
+  -noinlines=false             count inlined functions to their callers
+  -showcolumns=false           tell columns of a line apart, with lines and
+                               addresses
+  -path_tree=false             show the tree by paths from the root
+  -nodecount=-1                the most rows, 0 for all; -1 is all, and 80 for
+                               tree
+  -nodefraction=0.005          leave out rows with less than this part of the
+                               total
+  -edgefraction=0.001          leave out edges with less than this part of the
+                               total
+Example: pprof -top -cum -lines -nodecount=20 cpu.pb
 
 Stacks; a PATTERN is a regular expression that may match anywhere:
-";
-
-pub const LABELS_HEADING: &[u8] = b"Example: pprof -tree -focus=Handler -hide=^runtime cpu.pb
+  -focus=PATTERN               keep samples with a frame that is found
+  -ignore=PATTERN              drop samples with a frame that is found
+  -show=PATTERN                keep the frames that are found
+  -hide=PATTERN                drop the frames that are found
+  -show_from=PATTERN           drop the frames above the first that is found,
+                               from the root
+  -prune_from=PATTERN          drop the frames below the first that is found,
+                               from the leaf
+Example: pprof -tree -focus=Handler -hide=^runtime cpu.pb
 
 Labels; a FILTER is a pattern, NAME=PATTERN, or a range like 4kb:1mb or
 size=4kb:, and KEYS are joined by commas:
-";
-
-pub const VALUES_HEADING: &[u8] = b"Example: pprof -top -tagfocus=bytes=4kb: -tagleaf=bytes heap.pb
+  -tagfocus=FILTER             keep samples with labels that the filter selects
+  -tagignore=FILTER            drop samples with labels that the filter selects
+  -tagshow=PATTERN             keep the labels whose key is found
+  -taghide=PATTERN             drop the labels whose key is found
+  -tagroot=KEYS                add frames at the root from these labels
+  -tagleaf=KEYS                add frames at the leaf from these labels
+Example: pprof -top -tagfocus=bytes=4kb: -tagleaf=bytes heap.pb
 
 Values:
-";
-
-pub const SOURCE_FILES_HEADING: &[u8] =
-    b"Example: pprof -top -sample_index=alloc_space -unit=mb heap.pb
+  -sample_index=NAME           the sample type, by its name or its number from
+                               0; also -inuse_space, -inuse_objects,
+                               -alloc_space, -alloc_objects, -contentions, and
+                               -total_delay for delay
+  -unit=UNIT                   the unit of all values; without one it is picked
+                               from the total, and with each for every value
+  -relative_percentages=false  percentages of the samples that are kept
+  -divide_by=1                 divide all values, by 1 to 9223372036854775807
+Example: pprof -top -sample_index=alloc_space -unit=mb heap.pb
 
 Source files; PATHS are joined by colons:
-";
-
-pub const THREADS_HEADING: &[u8] =
-    b"Example: pprof -list=ServeHTTP -trim_path=/build -source_path=src cpu.pb
+  -source_path=PATHS           where list looks for source files
+  -trim_path=PATHS             what list takes off the front of their names
+Example: pprof -list=ServeHTTP -trim_path=/build -source_path=src cpu.pb
 
 Threads:
-";
-
-/// What stands between the options and the lines on the shell.
-pub const OPTIONS_END: &[u8] = b"Example: pprof -top -workers=16 cpu.pb
+  -workers=4                   the number of threads, 1 to 64
+Example: pprof -top -workers=16 cpu.pb
 
 The shell; its commands and variables have no dash. It has folded, table and
 compare too:
 ";
-
-/// How many bytes an option has with what stands for its value, and the spaces after them.
-const WIDTH: usize = 28;
 
 /// The two lines that tell what the shell takes.
 pub const SHELL_HELP: &[u8] =
@@ -158,80 +185,7 @@ fn put_help(out: &mut Text) -> Result<(), Memory>
     ensures ok { OnOk result (out.new ≡ out.old ++ topic_text topics.Help) }
     ensures err { OnErr result (Grew out.old out.new) }
 {
-    out.extend(USAGE)?;
-    put_options(FORMATS, out)?;
-    put_options(OTHERS, out)?;
-    put_options(VARIABLES, out)?;
-    out.extend(OPTIONS_END)?;
+    out.extend(OPTIONS_HELP)?;
     out.extend(SHELL_HELP)?;
     out.extend(SHELL_EXAMPLE)
-}
-
-// Without memory the text has gained some of it.
-#[tactic(auto, unfolding(crate::specs::Help::options_told))]
-fn put_options<T>(options: &[Entry<T>], out: &mut Text) -> Result<(), Memory>
-    ensures ok { OnOk result (out.new ≡ out.old ++ options_told (map row_of_entry options.now)) }
-    ensures err { OnErr result (Grew out.old out.new) }
-{
-    for option in options {
-        put_option(option.name, option.shape, option.about, out)?;
-    }
-    Ok(())
-}
-
-// Without memory the text has gained some of it.
-#[tactic(auto, unfolding(crate::specs::Help::option_told))]
-fn put_option(name: &[u8], shape: &[u8], about: &[u8], out: &mut Text) -> Result<(), Memory>
-    ensures ok { OnOk result (out.new ≡ out.old ++ option_told name.now shape.now about.now) }
-    ensures err { OnErr result (Grew out.old out.new) }
-{
-    if about.len() == 0 {
-        return Ok(());
-    }
-    out.extend(heading_above(name))?;
-    put_words(name, shape, out)?;
-    out.extend(about)?;
-    out.extend(b"\n")
-}
-
-// The option as it is written, up to the column of what it is for. Without memory the text has gained some of it.
-#[tactic(auto, unfolding(crate::specs::Help::words_told))]
-fn put_words(name: &[u8], shape: &[u8], out: &mut Text) -> Result<(), Memory>
-    ensures ok { OnOk result (out.new ≡ out.old ++ words_told name.now shape.now) }
-    ensures err { OnErr result (Grew out.old out.new) }
-{
-    out.extend(b"  -")?;
-    out.extend(name)?;
-    out.extend(shape)?;
-    put_right(
-        WIDTH.saturating_sub(name.len()).saturating_sub(shape.len()),
-        b"",
-        out,
-    )
-}
-
-// What stands above the option of this name.
-#[tactic(auto, unfolding(crate::specs::Help::heading_above))]
-fn heading_above(name: &[u8]) -> &'static [u8]
-    ensures { result.now ≡ heading_above name.now }
-{
-    if is(name, b"top") {
-        FORMATS_HEADING
-    } else if is(name, b"gen") {
-        SOURCES_HEADING
-    } else if is(name, b"sort") {
-        ROWS_HEADING
-    } else if is(name, b"focus") {
-        STACKS_HEADING
-    } else if is(name, b"tagfocus") {
-        LABELS_HEADING
-    } else if is(name, b"sample_index") {
-        VALUES_HEADING
-    } else if is(name, b"source_path") {
-        SOURCE_FILES_HEADING
-    } else if is(name, b"workers") {
-        THREADS_HEADING
-    } else {
-        b""
-    }
 }

@@ -33,7 +33,7 @@ pub use origin::Origin;
 pub use plan::Plan;
 pub use sample_type::{SAMPLE_TYPES, SampleType, sample_type_named};
 pub use setting::{Setting, setting_of};
-pub use table::{Entry, Named, value_named};
+pub use table::{Named, value_named};
 pub use text::is;
 pub use usage::{UsageFault, UsageKind, UsageRefusal};
 pub use value::whole_number;

@@ -3,10 +3,10 @@ ghost use Rattle.std.specs.Prelude.{◌≡◌, ◌++◌, ◌<◌, map, OnOk, OnE
 ghost use Rattle.std.specs.Fmt.{signed_decimal};
 ghost use Rattle.std.specs.List.{flat_map};
 ghost use Rattle.pp_base.specs.Grew.{Grew};
-ghost use Rattle.pp_options.specs.Tables.{row_of_entry};
+ghost use Rattle.pp_options.specs.Tables.{row_of};
 ghost use Rattle.pp_options.specs.Listing.{options_text, option_line, variable_text, sort_text, grain_text, truth_text, flag_in, fraction_in, text_in, fraction_text, decimals_text, without_zeros};
 
-use crate::table::Entry;
+use crate::table::Named;
 use crate::{FlagVariable, FractionVariable, TextVariable, VARIABLES, Variable};
 use itoa::Buffer;
 use pp_base::{Fraction, Memory, Text, whole_or_nothing};
@@ -19,14 +19,14 @@ pub fn write_options(config: &Config, out: &mut Text) -> Result<(), Memory>
     ensures err { OnErr result (out.new ≡ out.old) }
 {
     let start = out.len();
-    let put = put_lines(config, VARIABLES, out);
+    let put = put_lines(config, &VARIABLES, out);
     whole_or_nothing(out, start, put)
 }
 
 // Without memory the text has gained some of it.
-fn put_lines(config: &Config, variables: &[Entry<Variable>], out: &mut Text) -> Result<(), Memory>
+fn put_lines(config: &Config, variables: &[Named<Variable>], out: &mut Text) -> Result<(), Memory>
     ensures ok { OnOk result
-        (out.new ≡ out.old ++ flat_map (option_line config.now) (map row_of_entry variables.now)) }
+        (out.new ≡ out.old ++ flat_map (option_line config.now) (map row_of variables.now)) }
     ensures err { OnErr result (Grew out.old out.new) }
 {
     for variable in variables {
@@ -36,8 +36,8 @@ fn put_lines(config: &Config, variables: &[Entry<Variable>], out: &mut Text) -> 
 }
 
 // Without memory the text has gained some of it.
-fn put_line(config: &Config, variable: &Entry<Variable>, out: &mut Text) -> Result<(), Memory>
-    ensures ok { OnOk result (out.new ≡ out.old ++ option_line config.now (row_of_entry variable.now)) }
+fn put_line(config: &Config, variable: &Named<Variable>, out: &mut Text) -> Result<(), Memory>
+    ensures ok { OnOk result (out.new ≡ out.old ++ option_line config.now (row_of variable.now)) }
     ensures err { OnErr result (Grew out.old out.new) }
 {
     out.extend(variable.name)?;

@@ -2,7 +2,7 @@
 ghost use Rattle.std.specs.Prelude.{◌≡◌};
 ghost use Rattle.pp_options.specs.Names.{choice_named, option_named, needs_value};
 
-use crate::table::{Entry, entry_named};
+use crate::table::{Named, value_named};
 use crate::value::{grain_named, sort_named};
 use crate::{Format, SampleType, Variable, format_named, sample_type_named, variable_named};
 use pp_model::{BaseKind, Grain, Sort};
@@ -26,31 +26,23 @@ pub enum OptionName {
     Normalize,
 }
 
-/// The options that are neither a variable nor a choice nor a sample type nor a format.
-pub const OTHERS: &[Entry<OptionName>] = &[
-    Entry {
-        name: b"gen",
-        value: OptionName::Gen,
-        shape: b"=N",
-        about: b"a source that is made, of 1 to 1000000 samples",
-    },
-    Entry {
+// The names of what is neither a variable nor a choice nor a sample type nor a format.
+static OTHERS: [Named<OptionName>; 4] = [
+    Named {
         name: b"base",
         value: OptionName::Base(BaseKind::Base),
-        shape: b"=PATH",
-        about: b"a profile that is subtracted",
     },
-    Entry {
+    Named {
         name: b"diff_base",
         value: OptionName::Base(BaseKind::DiffBase),
-        shape: b"=PATH",
-        about: b"the same, and percentages are of the base",
     },
-    Entry {
+    Named {
+        name: b"gen",
+        value: OptionName::Gen,
+    },
+    Named {
         name: b"normalize",
         value: OptionName::Normalize,
-        shape: b"",
-        about: b"scale the sources to the sums of the bases first",
     },
 ];
 
@@ -82,7 +74,7 @@ pub fn option_named(name: &[u8]) -> Option<OptionName>
     if let Some(format) = format_named(name) {
         return Some(OptionName::Format(format));
     }
-    entry_named(OTHERS, name)
+    value_named(&OTHERS, name)
 }
 
 impl OptionName {
