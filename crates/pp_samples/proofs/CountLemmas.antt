@@ -1,7 +1,6 @@
 -- Events of labels and of samples, one after the other.
-use Rattle.std.proofs.Common.{◌≡◌, ℕ, ◌+◌, ◌<◌, Bool, true, false, cond, ℤ, Option, Some, List, [], ◌∷◌, ◌++◌, All, map, length, take, get_or, set, refl, sym, ap, subst, ◌∙◌, append_assoc, arith}
+use Rattle.std.proofs.Common.{◌≡◌, ℕ, ◌+◌, ◌<◌, Bool, true, false, cond, ℤ, Option, Some, List, [], ◌∷◌, ◌++◌, map, length, take, get_or, refl, sym, ap, subst, ◌∙◌, append_assoc, arith}
 use Rattle.std.proofs.lemmas.List.{map-append, take_more, length-map}
-use Rattle.std.proofs.lemmas.List.Elements.{All-set}
 use Rattle.std.specs.Option.{unwrap_or}
 use Rattle.std.proofs.lemmas.Bool.{and_parts}
 use Rattle.std.proofs.lemmas.Bool.Decides.{Decides-int_eq}
@@ -12,9 +11,7 @@ use Rattle.pp_samples.specs.declared.key_table.KeyTable.{KeyTable}
 use Rattle.pp_samples.specs.declared.key_table.TagPlace.{TagPlace}
 use Rattle.pp_samples.specs.TagLines.{TagTexts, tag_texts}
 use Rattle.pp_samples.specs.Places.{HasTagPlace, KeepsTagPlaces}
-use Rattle.pp_samples.specs.declared.tag_counts.SeenLabel.{SeenLabel}
-use Rattle.pp_samples.specs.Counting.{same_label_parts, HasSlotPlace}
-use Rattle.pp_samples.specs.Traces.{trace_label_line}
+use Rattle.pp_samples.specs.Counting.{same_label_parts}
 use Rattle.pp_samples.specs.Tables.{Event, label_event, sample_events, events_from}
 
 -- one label more
@@ -48,8 +45,8 @@ samples_counted tagged before more all turn is at =
     ap (λ xs. events_from 0 (map tagged xs)) is ∙ ap (events_from 0) (map-append tagged before more) ∙ events_more 0 (map tagged before) (map tagged more)
     ∙ ap (λ (n : ℕ). events_from 0 (map tagged before) ++ events_from n (map tagged more)) (let e : 0 + length (map tagged before) ≡ turn = omega (arith, at, length-map before tagged) in e)
 
--- labels of the same parts are one
-pub known_label : (a b : Label) → same_label_parts a b ≡ true → a ≡ b
+-- one place more is known
+known_label : (a b : Label) → same_label_parts a b ≡ true → a ≡ b
 known_label a b same =
     let text = and_parts _ _ (and_parts _ _ same).1 in
     let num = and_parts _ _ text.1 in
@@ -60,7 +57,6 @@ known_label a b same =
       num_unit = (Decides-int_eq a.num_unit b.num_unit).0 num.1 i;
     }
 
--- one place more is known
 pub known_more : (p : Profile) (old new : KeyTable) (before after : Label → Option TagPlace) (label : Label) (place : TagPlace)
     → ((l : Label) (w : TagPlace) → before l ≡ Some w → HasTagPlace old (tag_texts p l) w) → KeepsTagPlaces old new → HasTagPlace new (tag_texts p label) place
     → ((q : Label) → after q ≡ cond (same_label_parts label q) (Some place) (before q)) → (q : Label) (w : TagPlace) → after q ≡ Some w → HasTagPlace new (tag_texts p q) w
@@ -71,31 +67,3 @@ known_more p old new before after label place known keeps own updated q w found 
         subst (λ (l : Label). HasTagPlace new (tag_texts p l) w) (known_label label q same)
         (subst (HasTagPlace new (tag_texts p label)) (ap (λ (o : Option TagPlace). unwrap_or o place) is) own)
     by false other is = keeps (tag_texts p q) w (known q w is)
-
--- the labels of the slots keep their places
-pub slots_kept : (p : Profile) (old new : KeyTable) (slots : List (Option SeenLabel)) → All (HasSlotPlace p old) slots → KeepsTagPlaces old new
-    → All (HasSlotPlace p new) slots
-slots_kept p old new slots all keeps k d within seen is = keeps (tag_texts p seen.label) seen.place (all k d within seen is)
-
--- a label takes a slot
-pub slots_taken : (p : Profile) (keys : KeyTable) (slots : List (Option SeenLabel)) (i : ℕ) (seen : SeenLabel) → All (HasSlotPlace p keys) slots
-    → HasTagPlace keys (tag_texts p seen.label) seen.place → All (HasSlotPlace p keys) (set slots i (Some seen))
-slots_taken p keys slots i seen all has =
-    All-set (HasSlotPlace p keys) slots i (Some seen)
-    (λ other is. subst (λ (s : SeenLabel). HasTagPlace keys (tag_texts p s.label) s.place) (ap (λ (o : Option SeenLabel). unwrap_or o seen) is) has) all
-
--- a label that its slot has, has its place
-pub slot_place : (p : Profile) (keys : KeyTable) (slots : List (Option SeenLabel)) (i : ℕ) (slot : Option SeenLabel) (label : Label) (place : TagPlace)
-    → All (HasSlotPlace p keys) slots → i < length slots → slot ≡ get_or slots i slot → slot ≡ Some (record { label = label; place = place })
-    → HasTagPlace keys (tag_texts p label) place
-slot_place p keys slots i slot label place all within here is = all i slot within (record { label = label; place = place }) (sym here ∙ is)
-
--- one line more
-pub line_more : (p : Profile) (before after : Label → Option (List ℕ)) (label : Label) (line : List ℕ)
-    → ((l : Label) (w : List ℕ) → before l ≡ Some w → w ≡ trace_label_line p l) → line ≡ trace_label_line p label
-    → ((q : Label) → after q ≡ cond (same_label_parts label q) (Some line) (before q)) → (q : Label) (w : List ℕ) → after q ≡ Some w → w ≡ trace_label_line p q
-line_more p before after label line known own updated q w found = by (same_label_parts label q) refl (sym (updated q) ∙ found)
-  where
-    by : (b : Bool) → same_label_parts label q ≡ b → cond b (Some line) (before q) ≡ Some w → w ≡ trace_label_line p q
-    by true same is = sym (ap (λ (o : Option (List ℕ)). unwrap_or o line) is) ∙ own ∙ ap (trace_label_line p) (known_label label q same)
-    by false other is = known q w is

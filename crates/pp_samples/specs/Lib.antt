@@ -1,7 +1,6 @@
 pub mod Comments
 pub mod Traces
 pub mod FrameLines
-pub mod LabelLines
 pub mod Scope
 pub mod TagLines
 pub mod Names

@@ -13,7 +13,6 @@ use Rattle.pp_stack.specs.Tables.{AreTables}
 use Rattle.pp_samples.specs.declared.scope.Scope.{Scope}
 use Rattle.pp_samples.specs.declared.traces.Traces.{Traces}
 use Rattle.pp_samples.specs.FrameLines.{AreFrameLines}
-use Rattle.pp_samples.specs.LabelLines.{AreLabelLines}
 use Rattle.pp_samples.specs.Traces.{trace_of_stack}
 
 -- the profile of the scope
@@ -28,12 +27,11 @@ HasItsVerdicts scope = HasVerdicts (scope_profile scope) scope.v.now
 abbrev pub FindsInScope : Scope → Finders → Type 0
 FindsInScope scope f = HoldsFinders scope.l.now scope.v.now f
 
--- The verdicts and their tables are those of the profile, and the lines those of its frames and labels.
+-- The verdicts and their tables are those of the profile, and the lines those of its frames.
 pub record AreTracesReady (t : Traces) : Type 0 where
   pub verdicts : HasItsVerdicts t.scope
   pub tables : AreTables (scope_profile t.scope) t.scope.v.now t.tables.now
   pub lines : AreFrameLines (scope_profile t.scope) t.scope.config.now t.lines.now
-  pub labels : AreLabelLines (scope_profile t.scope) t.labels.now
 
 -- how the values are printed
 abbrev pub shown_unit : Scope → Shown

@@ -4,7 +4,6 @@
 mod comments;
 mod frame_lines;
 mod key_table;
-mod label_lines;
 mod scope;
 mod tag_counts;
 mod tag_lines;

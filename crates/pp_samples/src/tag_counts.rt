@@ -1,6 +1,5 @@
 //! The tags of a report's samples, with their sums.
 ghost use Rattle.std.specs.Prelude.{◌≡◌, ◌+◌, ◌-◌, ◌<◌, ◌≤◌, ◌^◌, [], ◌∷◌, ◌++◌, length, map, List as Seq, Some, IfOk, OnOk};
-ghost use Rattle.std.specs.Option.{ForSome};
 ghost use Rattle.indexmap.specs.IndexMap.{get};
 ghost use Rattle.pp_model.specs.Conditions.{IsSampleOf};
 ghost use Rattle.pp_model.specs.Finders.{Finders};
@@ -21,18 +20,6 @@ use pp_model::{Label, Profile, Sample};
 use pp_tags::show_tags_into;
 use std::alloc::Global;
 
-/// How many slots there are for labels.
-const SLOTS: usize = 1024;
-
-/// A label with the place of its tag.
-#[derive(Clone, Copy, Debug)]
-pub struct SeenLabel {
-    /// The label.
-    pub label: Label,
-    /// Where its tag stands.
-    pub place: TagPlace,
-}
-
 /// The tags that were counted so far, and where each label that was seen has its tag: so a label's texts are read once.
 #[derive(Drop)]
 pub struct TagCounts {
@@ -40,8 +27,6 @@ pub struct TagCounts {
     pub keys: KeyTable,
     /// Where the tag of a label stands that was seen before.
     pub places: IndexMap<Label, TagPlace>,
-    /// In a label's slot, the label of the slot that was met last: a look-up that hashes nothing.
-    pub slots: Vec<Option<SeenLabel>>,
 }
 
 /// The sums of the tags that are shown of the samples with these numbers, and of their keys.
@@ -70,7 +55,6 @@ fn no_counts(alloc: Global, _p: &Profile) -> Result<TagCounts, Memory>
     Ok(TagCounts {
         keys: no_keys(alloc)?,
         places: IndexMap::new(alloc),
-        slots: vec![in alloc; None; SLOTS]?,
     })
 }
 
@@ -156,95 +140,6 @@ fn count_labels(
 }
 
 fn count_label(
-    alloc: Global,
-    p: &Profile,
-    label: &Label,
-    value: i64,
-    turn: u64,
-    counts: &mut TagCounts,
-) -> Result<(), Memory>
-    requires { AreSound p.now counts.old }
-    ensures sound { OnOk result (AreSound p.now counts.new) }
-    ensures keys { (events : Seq Event) → AreKeys events counts.old.keys →
-        AreSmall (events ++ label_event p.now value turn label.now ∷ []) →
-        OnOk result (AreKeys (events ++ label_event p.now value turn label.now ∷ []) counts.new.keys) }
-{
-    let slot = counts.slots[slot_of(label)];
-    let Some(place) = place_in(&slot, label) else {
-        return count_other(alloc, p, label, value, turn, counts);
-    };
-    add_known_label(&mut counts.keys, place, value, turn);
-    Ok(())
-}
-
-// The slot of the label. Labels that differ in their units alone share it.
-fn slot_of(label: &Label) -> usize
-    ensures { result < 1024 }
-{
-    let said = label.text.unsigned_abs() ^ label.num.unsigned_abs();
-    let mixed = label.key.unsigned_abs().wrapping_mul(31) ^ said;
-    let spread = mixed.wrapping_mul(11_400_714_819_323_198_485);
-    ((spread >> 32) % 1024) as usize
-}
-
-// The place in the slot, where it is the label's.
-fn place_in(slot: &Option<SeenLabel>, label: &Label) -> Option<TagPlace>
-    ensures { ForSome result (λ place.
-        slot.now ≡ Some (record { label = label.now; place = place })) }
-{
-    let Some(seen) = slot else {
-        return None;
-    };
-    if is_same(&seen.label, label) {
-        Some(seen.place)
-    } else {
-        None
-    }
-}
-
-fn is_same(a: &Label, b: &Label) -> bool
-    ensures { result ≡ same_label_parts a.now b.now }
-{
-    a == b
-}
-
-// A label that its slot does not have, and that takes the slot.
-fn count_other(
-    alloc: Global,
-    p: &Profile,
-    label: &Label,
-    value: i64,
-    turn: u64,
-    counts: &mut TagCounts,
-) -> Result<(), Memory>
-    requires { AreSound p.now counts.old }
-    ensures sound { OnOk result (AreSound p.now counts.new) }
-    ensures keys { (events : Seq Event) → AreKeys events counts.old.keys →
-        AreSmall (events ++ label_event p.now value turn label.now ∷ []) →
-        OnOk result (AreKeys (events ++ label_event p.now value turn label.now ∷ []) counts.new.keys) }
-{
-    count_seen(alloc, p, label, value, turn, counts)?;
-    take_slot(p, label, counts);
-    Ok(())
-}
-
-// Puts the place of the label's tag into its slot.
-fn take_slot(_p: &Profile, label: &Label, counts: &mut TagCounts)
-    requires { AreSound _p.now counts.old }
-    ensures sound { AreSound _p.now counts.new }
-    ensures keys { counts.new.keys ≡ counts.old.keys }
-{
-    let Some(place) = place_of(&counts.places, label) else {
-        return;
-    };
-    counts.slots[slot_of(label)] = Some(SeenLabel {
-        label: *label,
-        place,
-    });
-}
-
-// A label whose tag stands where the map says, if it was seen.
-fn count_seen(
     alloc: Global,
     p: &Profile,
     label: &Label,

@@ -10,20 +10,18 @@ ghost use Rattle.pp_count.specs.Counts.{samples_at};
 ghost use Rattle.pp_count.specs.Counted.{IsCountedOf};
 ghost use Rattle.pp_count.specs.Seeing.{HoldsFilters, counted_frames, key_of_frame};
 ghost use Rattle.pp_count.specs.Table.{written_key};
-ghost use Rattle.pp_samples.specs.Traces.{traces_text, trace_separator, trace_label_line, frame_line, trace_text};
-ghost use Rattle.pp_samples.specs.LabelLines.{AreLabelLines};
+ghost use Rattle.pp_samples.specs.Traces.{traces_text, trace_separator, trace_label_line, trace_label_value, own_value, frame_line, trace_text};
 ghost use Rattle.pp_samples.specs.Scope.{scope_profile, HasItsVerdicts, FindsInScope, shown_unit, AreTracesReady, stack_trace, sample_trace};
 
 use crate::frame_lines::{FrameLines, frame_lines};
-use crate::label_lines::{LabelLines, label_lines, put_label};
 use crate::scope::Scope;
 use pp_base::{List, Memory, Text};
 use pp_count::{Counted, selected};
-use pp_grain::counted;
-use pp_model::{Config, Frame, Label, Loaded, Profile, Sample, Stack, Verdicts};
+use pp_grain::{counted, key_of, write_name};
+use pp_model::{Config, Frame, Label, Loaded, Profile, Sample, Stack, Verdicts, text_of};
 use pp_stack::{VerdictTables, filter_into};
-use pp_tags::show_tags_into;
-use pp_units::{Head, put_right, put_value, write_head};
+use pp_tags::{has_text, number_unit, show_tags_into};
+use pp_units::{Head, pick_unit, put_right, put_value, write_head};
 use std::alloc::Global;
 
 // The line between two samples: 11 dashes, a plus, 55 dashes.
@@ -38,8 +36,6 @@ pub struct Traces<'a> {
     pub tables: &'a VerdictTables,
     /// The lines of frames, by key number.
     pub lines: &'a FrameLines,
-    /// The lines of labels.
-    pub labels: &'a LabelLines,
 }
 
 /// What is written of one sample, in room that is used again.
@@ -95,12 +91,10 @@ fn put_report(alloc: Global, scope: &Scope, kept: &[u32], lines: &mut Text) -> R
 {
     let tables = VerdictTables::new(alloc, scope.l, scope.v)?;
     let made = frame_lines(alloc, scope.l, scope.config)?;
-    let labels = label_lines(alloc, scope.l.profile.get())?;
     let traces = Traces {
         scope: *scope,
         tables: &tables,
         lines: &made,
-        labels: &labels,
     };
     put_traces(alloc, &traces, kept, lines)
 }
@@ -245,28 +239,60 @@ fn put_frames(
     put_each_label(
         alloc,
         t.scope.l.profile.get(),
-        t.labels,
         room.labels.as_slice(),
         lines,
     )?;
-    put_frame(t, room.value.as_slice(), first, lines)?;
+    put_frame(&t.scope, room.value.as_slice(), first, lines)?;
     put_others(t, others, lines)
 }
 
 fn put_each_label(
     alloc: Global,
     p: &Profile,
-    made: &LabelLines,
     labels: &[Label],
     lines: &mut Text,
 ) -> Result<(), Memory>
-    requires { AreLabelLines p.now made.now }
     ensures { IfOk result (λ _. lines.new ≡ lines.old ++ flat_map (trace_label_line p.now) labels.now) }
 {
     for label in labels {
-        put_label(alloc, p, made, label, lines)?;
+        put_label(alloc, p, label, lines)?;
     }
     Ok(())
+}
+
+#[tactic(auto, unfolding(crate::specs::Traces::trace_label_line))]
+fn put_label(alloc: Global, p: &Profile, label: &Label, lines: &mut Text) -> Result<(), Memory>
+    ensures { IfOk result (λ _. lines.new ≡ lines.old ++ trace_label_line p.now label.now) }
+{
+    put_right(10, text_of(p, label.key), lines)?;
+    lines.extend(b":  ")?;
+    put_label_value(alloc, p, label, lines)?;
+    lines.extend(b"\n")
+}
+
+// The value of a label: its text, or its number.
+#[tactic(auto, unfolding(crate::specs::Traces::trace_label_value))]
+fn put_label_value(
+    alloc: Global,
+    p: &Profile,
+    label: &Label,
+    lines: &mut Text,
+) -> Result<(), Memory>
+    ensures { IfOk result (λ _. lines.new ≡ lines.old ++ trace_label_value p.now label.now) }
+{
+    if has_text(label) {
+        return lines.extend(text_of(p, label.text));
+    }
+    put_own_value(alloc, label.num, number_unit(p, label), lines)
+}
+
+/// Appends the number in the unit that is picked for its own absolute value.
+#[tactic(auto, unfolding(crate::specs::Traces::own_value))]
+pub fn put_own_value(alloc: Global, num: i64, unit: &[u8], lines: &mut Text) -> Result<(), Memory>
+    ensures { IfOk result (λ _. lines.new ≡ lines.old ++ own_value num unit.now) }
+{
+    let unit = pick_unit(alloc, num.unsigned_abs(), unit)?;
+    put_value(num, &unit, lines)
 }
 
 // The frames above the first one.
@@ -312,15 +338,16 @@ fn item(row: &List<u64>, place: u64) -> u64
     row.as_slice()[place as usize]
 }
 
-// A frame by the line of its key, whose first ten places are for what stands in front of it.
+// A frame by the name of its key, below what stands in front of it.
 #[tactic(auto, unfolding(crate::specs::Traces::frame_line))]
-fn put_frame(t: &Traces, front: &[u8], frame: &Frame, lines: &mut Text) -> Result<(), Memory>
-    requires ready { AreTracesReady t.now }
-    requires frame { IsFrameOf (scope_profile t.now.scope) frame.now }
+fn put_frame(scope: &Scope, front: &[u8], frame: &Frame, lines: &mut Text) -> Result<(), Memory>
+    requires { IsFrameOf (scope_profile scope.now) frame.now }
     ensures { IfOk result (λ _. lines.new ≡ lines.old ++ frame_line front.now
-        (key_of_frame (scope_profile t.now.scope) t.now.scope.config.now frame.now)) }
+        (key_of_frame (scope_profile scope.now) scope.now.config.now frame.now)) }
 {
+    let key = key_of(scope.l, frame, scope.config.grain, scope.config.showcolumns);
     put_right(10, front, lines)?;
-    let (_, name) = bare_line(t, frame).split_at(10);
-    lines.extend(name)
+    lines.extend(b"   ")?;
+    write_name(scope.l, &key, lines)?;
+    lines.extend(b"\n")
 }

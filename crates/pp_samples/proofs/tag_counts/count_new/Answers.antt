@@ -3,7 +3,7 @@ use Rattle.indexmap.specs.IndexMap.{get}
 use Rattle.pp_samples.specs.TagLines.{TagTexts}
 use Rattle.pp_samples.specs.Places.{HasTagPlace}
 use Rattle.pp_samples.specs.Counting.{same_label_parts}
-use Rattle.pp_samples.proofs.CountLemmas.{known_more, slots_kept}
+use Rattle.pp_samples.proofs.CountLemmas.{known_more}
 use Rattle.pp_samples.proofs.tag_counts.count_new.Goals as goal
 
 -- the label has its place, and the others keep theirs
@@ -18,6 +18,4 @@ returns-clause-sound c =
           c.requires.known c.in_ok-place.ensures.kept
           (subst (λ (tag : TagTexts). HasTagPlace new tag place) c.in_ok-tag.ensures c.in_ok-place.ensures.place)
           c.in_ok-insert.ensures.updates.0;
-      slots = slots_kept c.args.p.now c.args.counts.now.keys new c.args.counts.now.slots.items c.requires.slots c.in_ok-place.ensures.kept;
-      count = c.requires.count;
     }

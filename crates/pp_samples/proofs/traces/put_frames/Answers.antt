@@ -1,16 +1,10 @@
-use Rattle.std.proofs.Common.{◌≡◌, ◌++◌, [], List, ℕ, map, ap, sym, subst, ◌∙◌}
+use Rattle.std.proofs.Common.{◌≡◌, ◌++◌, [], List, ℕ, map, ap, ◌∙◌}
 use Rattle.std.specs.List.{flat_map}
 use Rattle.pp_base.proofs.TextLemmas.{then_more, and_two}
-use Rattle.pp_model.specs.declared.profile.Profile.{Profile}
 use Rattle.pp_count.specs.Seeing.{key_of_frame}
-use Rattle.pp_samples.specs.LabelLines.{AreLabelLines}
 use Rattle.pp_samples.specs.Scope.{scope_profile}
 use Rattle.pp_samples.specs.Traces.{trace_separator, trace_label_line, frame_line}
 use Rattle.pp_samples.proofs.traces.put_frames.Goals as goal
-
--- the lines of labels are the profile's
-pub put_each_label-requires : goal.put_each_label-requires
-put_each_label-requires c = subst (λ (p : Profile). AreLabelLines p c.args.t.now.labels.now) (sym c.get.ensures.same) c.requires.ready.labels
 
 -- the separator and the labels, then the first frame, and then the others
 pub returns : goal.returns
