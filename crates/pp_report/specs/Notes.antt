@@ -2,6 +2,8 @@
 use Rattle.std.specs.Prelude.{ℕ, ◌==◌, Bool, true, ◌||◌, List, [], ◌++◌, length, codes, slice_index_or, if◌then◌else◌}
 use Rattle.pp_model.specs.declared.config.Config.{Config}
 use Rattle.pp_model.specs.declared.profile.Profile.{Profile}
+use Rattle.pp_model.specs.declared.verdicts.Slot.{Slot}
+use Rattle.pp_model.specs.declared.verdicts.Slot.TheVariants as slots
 use Rattle.pp_model.specs.Finders.{Finders}
 use Rattle.pp_count.specs.Matches.{matches_of}
 
@@ -13,22 +15,40 @@ note option = codes "pprof: " ++ option ++ codes " matched no samples\n"
 unfoldable pub note_unless : Bool → List ℕ → List ℕ → List ℕ
 note_unless matched option value = if length value == 0 || matched then [] else note option
 
+-- the place of a slot in their order
+abbrev pub place_of : Slot → ℕ
+place_of slots.Focus = 0
+place_of slots.Ignore = 1
+place_of slots.Hide = 2
+place_of slots.Show = 3
+place_of slots.ShowFrom = 4
+place_of slots.TagFocus = 5
+place_of slots.TagIgnore = 6
+place_of slots.PruneFrom = 7
+place_of slots.TagShow = 8
+place_of slots.TagHide = 9
+place_of slots.Own = 10
+
+-- the option of the slot has a match
+abbrev pub has_match : List Bool → Slot → Bool
+has_match matched slot = slice_index_or matched (place_of slot) true
+
 -- the notes on the patterns of frames, by which options match
 abbrev pub frame_notes : Config → List Bool → List ℕ
 frame_notes config matched =
-    note_unless (slice_index_or matched 0 true) (codes "focus") config.focus
-    ++ note_unless (slice_index_or matched 1 true) (codes "ignore") config.ignore
-    ++ note_unless (slice_index_or matched 2 true) (codes "hide") config.hide
-    ++ note_unless (slice_index_or matched 3 true) (codes "show") config.show
-    ++ note_unless (slice_index_or matched 4 true) (codes "show_from") config.show_from
+    note_unless (has_match matched slots.Focus) (codes "focus") config.focus
+    ++ note_unless (has_match matched slots.Ignore) (codes "ignore") config.ignore
+    ++ note_unless (has_match matched slots.Hide) (codes "hide") config.hide
+    ++ note_unless (has_match matched slots.Show) (codes "show") config.show
+    ++ note_unless (has_match matched slots.ShowFrom) (codes "show_from") config.show_from
 
 -- the notes on the patterns of labels, likewise
 abbrev pub tag_notes : Config → List Bool → List ℕ
 tag_notes config matched =
-    note_unless (slice_index_or matched 5 true) (codes "tagfocus") config.tagfocus
-    ++ note_unless (slice_index_or matched 6 true) (codes "tagignore") config.tagignore
-    ++ note_unless (slice_index_or matched 8 true) (codes "tagshow") config.tagshow
-    ++ note_unless (slice_index_or matched 9 true) (codes "taghide") config.taghide
+    note_unless (has_match matched slots.TagFocus) (codes "tagfocus") config.tagfocus
+    ++ note_unless (has_match matched slots.TagIgnore) (codes "tagignore") config.tagignore
+    ++ note_unless (has_match matched slots.TagShow) (codes "tagshow") config.tagshow
+    ++ note_unless (has_match matched slots.TagHide) (codes "taghide") config.taghide
 
 -- The notes by which options match: focus, ignore, hide, show, show_from, tagfocus,
 -- tagignore, prune_from (which is never noted), tagshow and taghide.
