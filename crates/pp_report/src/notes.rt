@@ -24,14 +24,32 @@ fn put_frame_notes(config: &Config, matched: &[bool], notes: &mut Text) -> Resul
     put_note(matched, Slot::Ignore, b"ignore", &config.ignore, notes)?;
     put_note(matched, Slot::Hide, b"hide", &config.hide, notes)?;
     put_note(matched, Slot::Show, b"show", &config.show, notes)?;
-    put_note(matched, Slot::ShowFrom, b"show_from", &config.show_from, notes)
+    put_note(
+        matched,
+        Slot::ShowFrom,
+        b"show_from",
+        &config.show_from,
+        notes,
+    )
 }
 
 fn put_tag_notes(config: &Config, matched: &[bool], notes: &mut Text) -> Result<(), Memory>
     ensures { IfOk result (λ _. notes.new ≡ notes.old ++ tag_notes config.now matched.now) }
 {
-    put_note(matched, Slot::TagFocus, b"tagfocus", &config.tagfocus, notes)?;
-    put_note(matched, Slot::TagIgnore, b"tagignore", &config.tagignore, notes)?;
+    put_note(
+        matched,
+        Slot::TagFocus,
+        b"tagfocus",
+        &config.tagfocus,
+        notes,
+    )?;
+    put_note(
+        matched,
+        Slot::TagIgnore,
+        b"tagignore",
+        &config.tagignore,
+        notes,
+    )?;
     put_note(matched, Slot::TagShow, b"tagshow", &config.tagshow, notes)?;
     put_note(matched, Slot::TagHide, b"taghide", &config.taghide, notes)
 }
