@@ -2,14 +2,14 @@
 //! that key.
 #![tactic(auto)]
 
-mod basis;
 mod frame_name;
 mod frames;
+mod framing;
 mod growing;
 mod keys;
 mod names;
 mod tagging;
 
-pub use basis::{basis, framed_for};
+pub use framing::{basis, framed_for};
 pub use keys::key_list;
 pub use tagging::with_tags;

@@ -2,7 +2,7 @@ use Rattle.std.proofs.Common.{ap, ◌∙◌}
 use Rattle.std.proofs.lemmas.Result.{IfOk-weaker}
 use Rattle.pp_pseudo.specs.KeyList.{key_list}
 use Rattle.pp_pseudo.specs.Basis.{framed_by}
-use Rattle.pp_pseudo.proofs.basis.framed_for.Goals as goal
+use Rattle.pp_pseudo.proofs.framing.framed_for.Goals as goal
 
 -- the keys are those of the configuration
 pub returns-clause-framed : goal.returns-clause-framed
