@@ -1,0 +1,14 @@
+use Rattle.std.proofs.Common.{◌++◌, ap, ◌∙◌}
+use Rattle.pp_grain.specs.Keys.{key_written}
+use Rattle.pp_grain.specs.Naming.{name_text}
+use Rattle.pp_export.specs.Escaped.{escaped_name}
+use Rattle.pp_export.specs.PathNames.{numbered_name}
+use Rattle.pp_export.proofs.path_names.PathNames.make.Goals as goal
+
+-- the name is written to the room, and the others stay
+pub returns-clause-names : goal.returns-clause-names
+returns-clause-names c =
+    c.add.ensures.names (numbered_name c.args.l.now.profile c.args.t.now.names.now)
+    (record { within = c.requires.names.within; made = c.requires.names.made })
+    (ap escaped_name (c.in_ok-write_name.ensures.ok
+    ∙ (λ i. c.clear.ensures i ++ name_text (key_written c.args.l.now.profile (c.named.ensures i).key))))
