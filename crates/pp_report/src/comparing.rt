@@ -21,7 +21,7 @@ use std::thread::Threads;
 pub fn compare<R: Threads + Sync, G: Gate>(
     rt: &R,
     alloc: Global,
-    subject: &Subject<'_>,
+    subject: &Subject<'_, '_>,
     gate: &G,
 ) -> Result<Result<Text, ReportRefusal>, Memory>
     ensures { (f : Finders) →
@@ -40,7 +40,7 @@ pub fn compare<R: Threads + Sync, G: Gate>(
 fn compared<R: Threads + Sync, G: Gate>(
     rt: &R,
     alloc: Global,
-    subject: &Subject<'_>,
+    subject: &Subject<'_, '_>,
     gate: &G,
 ) -> Result<Text, Memory>
     ensures { (f : Finders) →

@@ -31,12 +31,12 @@ use std::thread::Threads;
 /// The text of a report that was prepared, `NoMatch` where the pattern of a peek or list report finds nothing, or
 /// `NoBase` where a compare report has no base. Only a list report reads files.
 #[tactic(auto, using(pp_desk::proofs::Going::going), unfolding(crate::specs::Reports::finish_on))]
-pub fn finish<R: Threads + Sync, D: Desk, G: Gate>(
+pub fn finish<'x, R: Threads + Sync, D: Desk, G: Gate>(
     rt: &R,
     alloc: Global,
-    l: &Loaded,
+    l: &'x Loaded,
     report: &Report,
-    config: &Config,
+    config: &'x Config,
     prepared: Prepared,
     desk: &mut D,
     gate: &G,
@@ -80,7 +80,7 @@ fn text_by<R: Threads + Sync, D: Desk, G: Gate>(
     rt: &R,
     alloc: Global,
     report: &Report,
-    subject: &Subject<'_>,
+    subject: &Subject<'_, '_>,
     desk: &mut D,
     gate: &G,
 ) -> Result<Result<Text, ReportRefusal>, Stop>
@@ -117,7 +117,7 @@ fn text_by<R: Threads + Sync, D: Desk, G: Gate>(
 #[tactic(auto, using(pp_desk::proofs::Going::going), unfolding(crate::specs::Reports::list_text))]
 fn list<D: Desk>(
     alloc: Global,
-    subject: &Subject<'_>,
+    subject: &Subject<'_, '_>,
     desk: &mut D,
 ) -> Result<Result<Text, ReportRefusal>, Stop>
     ensures { (f : Finders) →

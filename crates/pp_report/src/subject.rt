@@ -6,10 +6,10 @@ use pp_units::Head;
 
 /// What the text of a report is made of.
 #[derive(Clone, Copy)]
-pub struct Subject<'a> {
+pub struct Subject<'s, 'h> {
     /// What the report looks at.
-    pub survey: Survey<'a>,
+    pub survey: Survey<'s>,
     /// The lines in front, and how values are printed.
-    pub head: &'a Head,
+    pub head: &'h Head,
     pub ghost small: { head.now.total < 2 ^ 63 },
 }

@@ -34,7 +34,7 @@ use std::thread::Threads;
 const TREE_NODES: u32 = 80;
 
 /// The top report, whose nodes have no limit of their own.
-pub fn top(alloc: Global, subject: &Subject<'_>) -> Result<Text, Memory>
+pub fn top(alloc: Global, subject: &Subject<'_, '_>) -> Result<Text, Memory>
     ensures { (f : Finders) →
         HoldsFilters subject.now.survey.l.now subject.now.survey.v.now
         subject.now.survey.config.now f →
@@ -54,7 +54,7 @@ pub fn top(alloc: Global, subject: &Subject<'_>) -> Result<Text, Memory>
 pub fn tree<R: Threads + Sync, G: Gate>(
     rt: &R,
     alloc: Global,
-    subject: &Subject<'_>,
+    subject: &Subject<'_, '_>,
     gate: &G,
 ) -> Result<Text, Memory>
     ensures { (f : Finders) →
@@ -90,7 +90,7 @@ pub fn limit_of(config: &Config, own: u32) -> u32
 pub fn peek<R: Threads + Sync, G: Gate>(
     rt: &R,
     alloc: Global,
-    subject: &Subject<'_>,
+    subject: &Subject<'_, '_>,
     gate: &G,
 ) -> Result<Result<Text, ReportRefusal>, Memory>
     ensures { (f : Finders) →
@@ -108,7 +108,7 @@ pub fn peek<R: Threads + Sync, G: Gate>(
 }
 
 /// The traces report.
-pub fn traces(alloc: Global, subject: &Subject<'_>) -> Result<Text, Memory>
+pub fn traces(alloc: Global, subject: &Subject<'_, '_>) -> Result<Text, Memory>
     ensures { (f : Finders) →
         HoldsFilters subject.now.survey.l.now subject.now.survey.v.now
         subject.now.survey.config.now f →
@@ -131,7 +131,7 @@ pub fn traces(alloc: Global, subject: &Subject<'_>) -> Result<Text, Memory>
 }
 
 /// The tags report.
-pub fn tags(alloc: Global, subject: &Subject<'_>) -> Result<Text, Memory>
+pub fn tags(alloc: Global, subject: &Subject<'_, '_>) -> Result<Text, Memory>
     ensures { (f : Finders) →
         HoldsFilters subject.now.survey.l.now subject.now.survey.v.now
         subject.now.survey.config.now f →

@@ -18,7 +18,7 @@ use std::thread::Threads;
 pub fn tree_report<R: Threads + Sync, G: Gate>(
     rt: &R,
     alloc: Global,
-    subject: &Subject<'_>,
+    subject: &Subject<'_, '_>,
     gate: &G,
 ) -> Result<Text, Memory>
     ensures { (f : Finders) →
@@ -35,7 +35,7 @@ pub fn tree_report<R: Threads + Sync, G: Gate>(
 }
 
 // The nodes by their paths from the root.
-fn call_tree(alloc: Global, subject: &Subject<'_>) -> Result<Text, Memory>
+fn call_tree(alloc: Global, subject: &Subject<'_, '_>) -> Result<Text, Memory>
     ensures { (f : Finders) →
         HoldsFilters subject.now.survey.l.now subject.now.survey.v.now
         subject.now.survey.config.now f →
