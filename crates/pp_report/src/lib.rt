@@ -2,7 +2,6 @@
 //! text, or why it is not made.
 #![tactic(auto)]
 
-mod asked;
 mod asking;
 mod comparing;
 mod exports;
@@ -16,7 +15,6 @@ mod preparing;
 mod refusal;
 mod saved;
 mod shows;
-mod subject;
 mod tagging;
 mod texts;
 mod trees;

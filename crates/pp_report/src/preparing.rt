@@ -8,7 +8,6 @@ ghost use Rattle.pp_report.specs.Prepared.{prepare, prepare_showing, prepare_cou
 ghost use Rattle.pp_report.specs.Tagged.{basis_of};
 
 use crate::ReportRefusal;
-use crate::asked::Asked;
 use crate::asking::ask_patterns;
 use crate::notes::notes_by;
 use crate::prepared::{Counts, Prepared};
@@ -44,10 +43,7 @@ pub fn prepare<R: Threads + Sync, D: Desk, G: Gate>(
         (λ answer. IfOk answer (IsPrepared D.finds l.now report.now config.now)) }
 {
     match shows_for(alloc, l, report, config)? {
-        Ok(shows) => {
-            let asked = Asked { l, report, config };
-            prepare_over(rt, alloc, &asked, shows, desk, gate)
-        }
+        Ok(shows) => prepare_over(rt, alloc, l, report, config, shows, desk, gate),
         Err(refusal) => Ok(Err(refusal)),
     }
 }
@@ -56,29 +52,24 @@ pub fn prepare<R: Threads + Sync, D: Desk, G: Gate>(
 fn prepare_over<R: Threads + Sync, D: Desk, G: Gate>(
     rt: &R,
     alloc: Global,
-    asked: &Asked<'_>,
+    l: &Loaded,
+    report: &Report,
+    config: &Config,
     shows: Shows,
     desk: &mut D,
     gate: &G,
 ) -> Result<Result<Prepared, ReportRefusal>, Stop>
-    requires countable { IsCountable asked.now.l.now.profile }
-    requires column { IsColumnOf asked.now.l.now.profile shows.column }
+    requires countable { IsCountable l.now.profile }
+    requires column { IsColumnOf l.now.profile shows.column }
     ensures went { Went (D.world desk.old) (D.world desk.new)
-        (prepare_showing D.finds
-        (basis_of asked.now.report.now asked.now.l.now asked.now.config.now)
-        asked.now.report.now asked.now.config.now (showing shows)) (answered result) }
+        (prepare_showing D.finds (basis_of report.now l.now config.now) report.now config.now
+        (showing shows)) (answered result) }
     ensures counted { IfOk result (λ answer. IfOk answer
-        (IsCountedOver D.finds asked.now.l.now
-        (basis_of asked.now.report.now asked.now.l.now asked.now.config.now)
-        asked.now.report.now asked.now.config.now shows)) }
+        (IsCountedOver D.finds l.now (basis_of report.now l.now config.now) report.now config.now shows)) }
 {
-    let tagged = tagged_of(alloc, asked.report, asked.l, asked.config)?;
-    let over = Asked {
-        l: basis(&tagged, asked.l),
-        report: asked.report,
-        config: asked.config,
-    };
-    match prepare_showing(rt, alloc, &over, shows, desk, gate)? {
+    let tagged = tagged_of(alloc, report, l, config)?;
+    let over = basis(&tagged, l);
+    match prepare_showing(rt, alloc, over, report, config, shows, desk, gate)? {
         Ok(prepared) => Ok(Ok(made_of(prepared, tagged))),
         Err(refusal) => Ok(Err(refusal)),
     }
@@ -106,22 +97,23 @@ fn made_of(prepared: Prepared, tagged: Option<Loaded>) -> Prepared
 fn prepare_showing<R: Threads + Sync, D: Desk, G: Gate>(
     rt: &R,
     alloc: Global,
-    asked: &Asked<'_>,
+    l: &Loaded,
+    report: &Report,
+    config: &Config,
     shows: Shows,
     desk: &mut D,
     gate: &G,
 ) -> Result<Result<Prepared, ReportRefusal>, Stop>
-    requires countable { IsCountable asked.now.l.now.profile }
-    requires column { IsColumnOf asked.now.l.now.profile shows.column }
+    requires countable { IsCountable l.now.profile }
+    requires column { IsColumnOf l.now.profile shows.column }
     ensures went { Went (D.world desk.old) (D.world desk.new)
-        (prepare_showing D.finds asked.now.l.now asked.now.report.now asked.now.config.now
-        (showing shows)) (answered result) }
-    ensures counted { IfOk result (λ answer. IfOk answer (IsCounted D.finds asked.now.l.now
-        asked.now.report.now asked.now.config.now shows)) }
+        (prepare_showing D.finds l.now report.now config.now (showing shows)) (answered result) }
+    ensures counted { IfOk result
+        (λ answer. IfOk answer (IsCounted D.finds l.now report.now config.now shows)) }
 {
-    match asked.report {
+    match report {
         Report::Comments => Ok(Ok(uncounted(alloc, shows))),
-        _ => prepare_counts(rt, alloc, asked, shows, desk, gate),
+        _ => prepare_counts(rt, alloc, l, report, config, shows, desk, gate),
     }
 }
 
@@ -140,23 +132,24 @@ fn uncounted(alloc: Global, shows: Shows) -> Prepared
 fn prepare_counts<R: Threads + Sync, D: Desk, G: Gate>(
     rt: &R,
     alloc: Global,
-    asked: &Asked<'_>,
+    l: &Loaded,
+    report: &Report,
+    config: &Config,
     shows: Shows,
     desk: &mut D,
     gate: &G,
 ) -> Result<Result<Prepared, ReportRefusal>, Stop>
-    requires countable { IsCountable asked.now.l.now.profile }
-    requires column { IsColumnOf asked.now.l.now.profile shows.column }
+    requires countable { IsCountable l.now.profile }
+    requires column { IsColumnOf l.now.profile shows.column }
     ensures went { Went (D.world desk.old) (D.world desk.new)
-        (prepare_counts D.finds asked.now.l.now asked.now.report.now asked.now.config.now
-        (showing shows)) (answered result) }
-    ensures counted { IfOk result (λ answer. IfOk answer (IsCounted D.finds asked.now.l.now
-        asked.now.report.now asked.now.config.now shows)) }
+        (prepare_counts D.finds l.now report.now config.now (showing shows)) (answered result) }
+    ensures counted { IfOk result
+        (λ answer. IfOk answer (IsCounted D.finds l.now report.now config.now shows)) }
 {
     // A profile's texts are distinct, so that verdicts on them tell what is found.
-    let _profile = asked.l.profile.get();
-    match ask_patterns(alloc, asked.l, asked.report, asked.config, desk)? {
-        Ok(verdicts) => Ok(Ok(counted(rt, alloc, asked, shows, verdicts, gate)?)),
+    let _profile = l.profile.get();
+    match ask_patterns(alloc, l, report, config, desk)? {
+        Ok(verdicts) => Ok(Ok(counted(rt, alloc, l, config, shows, verdicts, gate)?)),
         Err(refusal) => Ok(Err(refusal)),
     }
 }
@@ -165,15 +158,15 @@ fn prepare_counts<R: Threads + Sync, D: Desk, G: Gate>(
 fn counted<R: Threads + Sync, G: Gate>(
     rt: &R,
     alloc: Global,
-    asked: &Asked<'_>,
+    l: &Loaded,
+    config: &Config,
     shows: Shows,
     verdicts: Verdicts,
     gate: &G,
 ) -> Result<Prepared, Memory>
-    requires { CanCount asked.now.l.now.profile verdicts asked.now.config.now shows.column }
-    ensures { IfOk result (IsCountedBy asked.now.l.now asked.now.config.now shows verdicts) }
+    requires { CanCount l.now.profile verdicts config.now shows.column }
+    ensures { IfOk result (IsCountedBy l.now config.now shows verdicts) }
 {
-    let (l, config) = (asked.l, asked.config);
     let counted = count(rt, alloc, l, &verdicts, config, shows.column, gate)?;
     let notes = notes_by(alloc, config, counted.matched.slots.as_slice())?;
     Ok(Prepared {

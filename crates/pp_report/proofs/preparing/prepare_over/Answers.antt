@@ -17,39 +17,39 @@ returns-in_err-tagged-clause-went g c =
 
 -- what can be counted can be counted with frames
 pub prepare_showing-requires-clause-countable : goal.prepare_showing-requires-clause-countable
-prepare_showing-requires-clause-countable g c = λ _ _. rw c.basis.ensures c.in_ok-tagged.ensures.countable
+prepare_showing-requires-clause-countable g c = λ _ _. rw c.basis-over.ensures c.in_ok-tagged.ensures.countable
 
 -- frames leave the sample types
 pub prepare_showing-requires-clause-column : goal.prepare_showing-requires-clause-column
 prepare_showing-requires-clause-column g c = λ _ _.
-    subst (λ (q : Loaded). IsColumnOf q.profile c.args.shows.column) (sym (c.basis.ensures ∙ c.in_ok-tagged.ensures.basis))
-    (same_bound c.args.asked.now.l.now.profile (basis_of c.args.asked.now.report.now c.args.asked.now.l.now c.args.asked.now.config.now).profile
-    (basis_types c.args.asked.now.l.now c.args.asked.now.report.now c.args.asked.now.config.now) c.args.shows.column c.requires.column)
+    subst (λ (q : Loaded). IsColumnOf q.profile c.args.shows.column) (sym (c.basis-over.ensures ∙ c.in_ok-tagged.ensures.basis))
+    (same_bound c.args.l.now.profile (basis_of c.args.report.now c.args.l.now c.args.config.now).profile
+    (basis_types c.args.l.now c.args.report.now c.args.config.now) c.args.shows.column c.requires.column)
 
 -- it was stopped over the profile with the frames
 pub returns-in_err-prepared-clause-went : goal.returns-in_err-prepared-clause-went
 returns-in_err-prepared-clause-went g c =
     let p = err_from_is_err_and c.from_residual-in_err-prepared.result c.from_residual-in_err-prepared.ensures.1 in
-    rw (p.1, p.2) (over_went g.D.Desk.finds _ _ (c.basis.ensures ∙ c.in_ok-tagged.ensures.basis) c.args.asked.now.report.now c.args.asked.now.config.now
+    rw (p.1, p.2) (over_went g.D.Desk.finds _ _ (c.basis-over.ensures ∙ c.in_ok-tagged.ensures.basis) c.args.report.now c.args.config.now
     (showing c.args.shows) _ _ _ c.in_err-prepared.ensures.went)
 
 -- it was prepared
 pub returns-in-Ok-clause-went : goal.returns-in-Ok-clause-went
 returns-in-Ok-clause-went g c =
-    over_prepared g.D.Desk.finds _ _ (c.basis.ensures ∙ c.in_ok-tagged.ensures.basis) c.args.asked.now.report.now c.args.asked.now.config.now
+    over_prepared g.D.Desk.finds _ _ (c.basis-over.ensures ∙ c.in_ok-tagged.ensures.basis) c.args.report.now c.args.config.now
     (showing c.args.shows) _ _ _ c.in-Ok.prepared c.made_of.result c.in_ok-tagged.tagged c.in-Ok.is c.made_of.ensures c.in_ok-prepared.ensures.went
 
 pub returns-in-Ok-clause-counted : goal.returns-in-Ok-clause-counted
 returns-in-Ok-clause-counted g c =
-    let basis = basis_of c.args.asked.now.report.now c.args.asked.now.l.now c.args.asked.now.config.now in
-    subst (λ (w : Prepared). IsCountedOver g.D.Desk.finds c.args.asked.now.l.now basis c.args.asked.now.report.now c.args.asked.now.config.now c.args.shows w) (sym c.made_of.ensures)
-    (counted_over g.D.Desk.finds c.args.asked.now.l.now basis c.args.asked.now.report.now c.args.asked.now.config.now c.args.shows c.in-Ok.prepared c.in_ok-tagged.tagged
+    let basis = basis_of c.args.report.now c.args.l.now c.args.config.now in
+    subst (λ (w : Prepared). IsCountedOver g.D.Desk.finds c.args.l.now basis c.args.report.now c.args.config.now c.args.shows w) (sym c.made_of.ensures)
+    (counted_over g.D.Desk.finds c.args.l.now basis c.args.report.now c.args.config.now c.args.shows c.in-Ok.prepared c.in_ok-tagged.tagged
     c.in_ok-tagged.ensures.basis
-    (subst (λ (q : Loaded). IsCounted g.D.Desk.finds q c.args.asked.now.report.now c.args.asked.now.config.now c.args.shows c.in-Ok.prepared)
-    (c.basis.ensures ∙ c.in_ok-tagged.ensures.basis) (IfOk-at_ok _ c.in-Ok.is c.in_ok-prepared.ensures.counted)))
+    (subst (λ (q : Loaded). IsCounted g.D.Desk.finds q c.args.report.now c.args.config.now c.args.shows c.in-Ok.prepared)
+    (c.basis-over.ensures ∙ c.in_ok-tagged.ensures.basis) (IfOk-at_ok _ c.in-Ok.is c.in_ok-prepared.ensures.counted)))
 
 -- it was refused
 pub returns-in-Err-clause-went : goal.returns-in-Err-clause-went
 returns-in-Err-clause-went g c =
-    over_refused g.D.Desk.finds _ _ (c.basis.ensures ∙ c.in_ok-tagged.ensures.basis) c.args.asked.now.report.now c.args.asked.now.config.now
+    over_refused g.D.Desk.finds _ _ (c.basis-over.ensures ∙ c.in_ok-tagged.ensures.basis) c.args.report.now c.args.config.now
     (showing c.args.shows) _ _ _ c.in-Err.refusal c.in-Err.is c.in_ok-prepared.ensures.went
