@@ -1,5 +1,5 @@
--- For crates above: the keys of a report's samples are those of their frames, and the parts of consecutive ranges can be
--- joined.
+-- For crates above: the keys of a report's samples are those of their frames, and the parts of consecutive ranges can
+-- be joined.
 use Rattle.std.proofs.Common.{◌≡◌, ◌+◌, ◌==◌, ◌<◌, ◌^◌, true, false, cond, not, pos, nat_abs, ℕ, List, [], ◌∷◌, ◌++◌, length, map, Option, Some, None, option_map, refl, sym, ap, ◌∙◌, arith}
 use Rattle.std.specs.List.{cons_option, sum_by}
 use Rattle.std.specs.Ordering.{int_eq}

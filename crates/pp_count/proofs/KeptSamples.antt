@@ -58,7 +58,8 @@ module _ {A : Type 0} (p : Profile) (f : Finders) (config : Config) (make : Samp
   made_from [] = refl
   made_from (s ∷ xs) = one_left s (passes_tags p f config s) (frames_of_sample p f s) (filtered_samples p f config xs) _ (made_from xs) refl
 
-  -- What is made of all samples by what the filters leave is made of those with these numbers by what the stack filters leave.
+  -- What is made of all samples by what the filters leave is made of those with these numbers by what the stack filters
+  -- leave.
   pub made_of_kept : (kept : List ℕ) → kept ≡ filtered_from p f config 0 p.sample
       → flat_map (λ s. option_map_or (make s) (filtered_stack p f config s) []) p.sample
       ≡ flat_map (λ s. option_map_or (make s) (frames_of_sample p f s) []) (samples_at p kept)

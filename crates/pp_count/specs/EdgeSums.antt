@@ -76,8 +76,8 @@ pub record AreEdgesOf (p : Profile) (samples : List (Seen Written)) (names : Lis
       } ∷ []
       else [])
 
--- The edges are those of these samples over the names that are kept, of which an end is marked: each pair that occurs has
--- one, and no other has any.
+-- The edges are those of these samples over the names that are kept, of which an end is marked: each pair that occurs
+-- has one, and no other has any.
 pub record AreEdgesAbout (p : Profile) (samples : List (Seen Written)) (names : List Key)
     (keep marked : List Bool) (edges : List Edge) : Type 0 where
   pub within : All (λ e. (e.from < length names) × (e.to < length names)) edges

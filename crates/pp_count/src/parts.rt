@@ -15,8 +15,8 @@ use pp_base::{List, Memory};
 use pp_model::{Config, Loaded, Verdicts};
 use std::alloc::Global;
 
-/// Counts the samples from number `1024 * piece` up to the next piece, or to the last sample. `table` is the key table of
-/// `l` and `config`. `Err` is want of memory.
+/// Counts the samples from number `1024 * piece` up to the next piece, or to the last sample. `table` is the key table
+/// of `l` and `config`. `Err` is want of memory.
 pub fn count_piece(
     alloc: Global,
     l: &Loaded,
@@ -39,8 +39,8 @@ pub fn count_piece(
     Ok(part)
 }
 
-/// Joins the parts of consecutive ranges of samples, in order. They are spent, also where memory is wanting. `Err` is want
-/// of memory.
+/// Joins the parts of consecutive ranges of samples, in order. They are spent, also where memory is wanting. `Err` is
+/// want of memory.
 pub fn join_parts(alloc: Global, parts: List<Part>) -> Result<Part, Memory>
     requires { CanJoin parts }
     ensures { IfOk result (IsJoinedPart parts) }

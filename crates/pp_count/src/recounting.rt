@@ -89,8 +89,8 @@ pub fn edges<R: Threads + Sync, G: Gate>(
     Ok(edges)
 }
 
-/// Those of `edges` of which an end is marked: all of them, where each name that is kept is. No other pair is counted, so
-/// that a few names cost a few sums.
+/// Those of `edges` of which an end is marked: all of them, where each name that is kept is. No other pair is counted,
+/// so that a few names cost a few sums.
 pub fn edges_about<R: Threads + Sync, G: Gate>(
     rt: &R,
     alloc: Global,

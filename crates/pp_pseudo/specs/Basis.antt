@@ -1,4 +1,4 @@
--- The profile that a report is made of, as it asks for frames: the loaded one, or that one with frames made from labels.
+-- The profile that a report is made of: the loaded one, or the same with the frames from labels that are asked for.
 use Rattle.std.specs.Prelude.{ℕ, ◌==◌, ◌&&◌, List, length, if◌then◌else◌}
 use Rattle.pp_model.specs.declared.config.Config.{Config}
 use Rattle.pp_model.specs.declared.loaded.Loaded.{Loaded}

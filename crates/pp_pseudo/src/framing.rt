@@ -1,4 +1,4 @@
-//! The profile that a report is made of, as it asks for frames: the loaded one, or that one with frames made from labels.
+//! The profile that a report is made of: the loaded one, or the same with the frames from labels that are asked for.
 ghost use Rattle.std.specs.Prelude.{◌≡◌, IfOk, unwrap_or};
 ghost use Rattle.pp_model.specs.Sizes.{IsCountable};
 ghost use Rattle.pp_pseudo.specs.Basis.{framed_by, framed_for};
@@ -9,7 +9,8 @@ use pp_base::{List, Memory, Text};
 use pp_model::{Config, Loaded};
 use std::alloc::Global;
 
-/// The profile with the frames that `tagroot` and `tagleaf` ask for, None where these name no key. `Err` is want of memory.
+/// The profile with the frames that `tagroot` and `tagleaf` ask for, None where these name no key. `Err` is want of
+/// memory.
 pub fn framed_for(alloc: Global, l: &Loaded, config: &Config) -> Result<Option<Loaded>, Memory>
     requires { IsCountable l.now.profile }
     ensures framed { IfOk result (λ framed. unwrap_or framed l.now ≡ framed_for l.now config.now) }
