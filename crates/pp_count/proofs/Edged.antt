@@ -27,7 +27,7 @@ use Rattle.pp_count.specs.Table.{written_key, key_numbered, no_key}
 use Rattle.pp_count.specs.Sums.{Seen, weighed, renamed, occurs, cum}
 use Rattle.pp_count.specs.Seeing.{HoldsFilters, seen_samples}
 use Rattle.pp_count.specs.Parts.{sums_of, key_sum, HasBelow}
-use Rattle.pp_count.specs.Edges.{is_kept_key, is_marked, place_of, paired, edge_of_sum, AreOnce, ArePairPlaces}
+use Rattle.pp_count.specs.Edges.{is_kept_key, is_marked, pair_place, paired, edge_of_sum, AreOnce, ArePairPlaces}
 use Rattle.pp_count.specs.EdgeSums.{edge_occurs, edge_sum, kept_numbers, is_kept_name, edges_between, AreEdgesOf, AreEdgesAbout, HasPairSums}
 use Rattle.pp_count.specs.Rising.{AreRisingBetween}
 use Rattle.pp_count.proofs.CallerLemmas.{weighed-renamed}
@@ -235,7 +235,7 @@ module _ (l : Loaded) (v : Verdicts) (config : Config) (column : Option ℕ) (na
   S_below : All (HasBelow (length names)) S
   S_below = All-filter (λ (s : Seen ℕ). not (int_eq s.value (pos 0))) (HasBelow (length names)) h.sums_are.seen h.sums_are.below
 
-  below : (k q : ℕ) → place_of over k ≡ Some q → q < length over.marked
+  below : (k q : ℕ) → pair_place over k ≡ Some q → q < length over.marked
   below k q is = omega (arith, fit, (h.places.only k q is).0)
 
   -- the numbers of the pairs are below the square of the number of names that are kept
@@ -257,7 +257,7 @@ module _ (l : Loaded) (v : Verdicts) (config : Config) (column : Option ℕ) (na
       (in_names ((get_or sums i none).key / n) ((div-lt_iff_lt-mul some).1 under), in_names ((get_or sums i none).key % n) (mod-lt (get_or sums i none).key some))
 
   -- a name whose key has a place is kept there
-  kept_at : (a q : ℕ) → a < length old → place_of over (number a) ≡ Some q → (q < length kept) × (get_or kept q 0 ≡ a)
+  kept_at : (a q : ℕ) → a < length old → pair_place over (number a) ≡ Some q → (q < length kept) × (get_or kept q 0 ≡ a)
   kept_at a q in_a is =
       let in_kept : q < length kept = omega (arith, (h.places.only (number a) q is).0, length-map kept number) in (
         in_kept,
@@ -266,9 +266,9 @@ module _ (l : Loaded) (v : Verdicts) (config : Config) (column : Option ℕ) (na
       )
 
   -- one without a place is none of them
-  other_name : (a : ℕ) → a < length old → place_of over (number a) ≡ None → (q : ℕ) → q < length kept → (get_or kept q 0 == a) ≡ false
+  other_name : (a : ℕ) → a < length old → pair_place over (number a) ≡ None → (q : ℕ) → q < length kept → (get_or kept q 0 == a) ≡ false
   other_name a in_a none q here = ne_eqb (get_or kept q 0) a (λ is.
-      none_some (sym none ∙ ap (place_of over) (sym (get_or-map number kept q 0 0 here ∙ ap number is)) ∙ h.places.found q (omega (arith, here, length-map kept number)))) where
+      none_some (sym none ∙ ap (pair_place over) (sym (get_or-map number kept q 0 0 here ∙ ap number is)) ∙ h.places.found q (omega (arith, here, length-map kept number)))) where
         none_some : None ≡ Some q → ⊥
         none_some e = false≢true (ap is_some e)
 
@@ -304,11 +304,11 @@ module _ (l : Loaded) (v : Verdicts) (config : Config) (column : Option ℕ) (na
         ≡ edge_sum key_cmp kept_name T (written_key l.profile old a) (written_key l.profile old b)
     sum_is a b in_a in_b = λ i. edge_sum key_cmp (λ w. kept_same w i) (T_is i) (same a in_a i) (same b in_b i)
 
-    pub none_met_from : (a b : ℕ) → a < length old → b < length old → place_of over (number a) ≡ None → met a b ≡ false
+    pub none_met_from : (a b : ℕ) → a < length old → b < length old → pair_place over (number a) ≡ None → met a b ≡ false
     none_met_from a b in_a in_b none =
         sym (met_is a b in_a in_b) ∙ none_from key_cmp name (length names) far keys_of inside over h.places fit (number a) (name (number b)) S (in_table a in_a) none S_below
 
-    pub none_met_to : (a b : ℕ) → a < length old → b < length old → place_of over (number b) ≡ None → met a b ≡ false
+    pub none_met_to : (a b : ℕ) → a < length old → b < length old → pair_place over (number b) ≡ None → met a b ≡ false
     none_met_to a b in_a in_b none =
         sym (met_is a b in_a in_b) ∙ none_to key_cmp name (length names) far keys_of inside over h.places fit (number b) (name (number a)) S (in_table b in_b) none S_below
 
@@ -317,7 +317,7 @@ module _ (l : Loaded) (v : Verdicts) (config : Config) (column : Option ℕ) (na
     edge_none false x a b none = refl
 
     -- both names are kept
-    kept_between : (a b p q : ℕ) → a < length old → b < length old → place_of over (number a) ≡ Some p → place_of over (number b) ≡ Some q
+    kept_between : (a b p q : ℕ) → a < length old → b < length old → pair_place over (number a) ≡ Some p → pair_place over (number b) ≡ Some q
         → edges_between a b edges ≡ edge_if ((is_marked marked a || is_marked marked b) && met a b) a b
     kept_between a b p q in_a in_b at_p at_q =
         let n : ℕ = length kept in
@@ -355,10 +355,10 @@ module _ (l : Loaded) (v : Verdicts) (config : Config) (column : Option ℕ) (na
     edges_are = record {
       within = ends_within edges is;
       each = λ a b in_a in_b.
-          elim (place_of over (number a)) as (λ o. place_of over (number a) ≡ o → edges_between a b edges ≡ edge_if ((is_marked marked a || is_marked marked b) && met a b) a b) [
+          elim (pair_place over (number a)) as (λ o. pair_place over (number a) ≡ o → edges_between a b edges ≡ edge_if ((is_marked marked a || is_marked marked b) && met a b) a b) [
             | None ↦ λ none. ap (edges_between a b) is ∙ none_between kept kept_once a b (other_name a in_a none) sums pair_numbers
                 ∙ edge_none (is_marked marked a || is_marked marked b) (met a b) a b (none_met_from a b in_a in_b none)
-            | Some p ↦ λ at_p. elim (place_of over (number b)) as (λ o. place_of over (number b) ≡ o → edges_between a b edges ≡ edge_if ((is_marked marked a || is_marked marked b) && met a b) a b) [
+            | Some p ↦ λ at_p. elim (pair_place over (number b)) as (λ o. pair_place over (number b) ≡ o → edges_between a b edges ≡ edge_if ((is_marked marked a || is_marked marked b) && met a b) a b) [
               | None ↦ λ none. ap (edges_between a b) is ∙ none_between_to kept kept_once a b (other_name b in_b none) sums pair_numbers
                   ∙ edge_none (is_marked marked a || is_marked marked b) (met a b) a b (none_met_to a b in_a in_b none)
               | Some q ↦ λ at_q. kept_between a b p q in_a in_b at_p at_q
@@ -373,7 +373,7 @@ module _ (l : Loaded) (v : Verdicts) (config : Config) (column : Option ℕ) (na
       each = λ a b in_a in_b.
           edges_are.each a b in_a in_b
           ∙ ap (λ w. edge_if w a b)
-          (elim (place_of over (number a)) as (λ o. place_of over (number a) ≡ o → ((is_marked marked a || is_marked marked b) && met a b) ≡ met a b) [
+          (elim (pair_place over (number a)) as (λ o. pair_place over (number a) ≡ o → ((is_marked marked a || is_marked marked b) && met a b) ≡ met a b) [
             | None ↦ λ none. unmet (is_marked marked a || is_marked marked b) (met a b) (none_met_from a b in_a in_b none)
             | Some p ↦ λ at_p. ap (λ w. (w || is_marked marked b) && met a b) (mark_kept a p in_a at_p)
           ] refl);
@@ -382,7 +382,7 @@ module _ (l : Loaded) (v : Verdicts) (config : Config) (column : Option ℕ) (na
       unmet true x none = refl
       unmet false x none = sym none
 
-      mark_kept : (a p : ℕ) → a < length old → place_of over (number a) ≡ Some p → is_marked marked a ≡ true
+      mark_kept : (a p : ℕ) → a < length old → pair_place over (number a) ≡ Some p → is_marked marked a ≡ true
       mark_kept a p in_a at_p =
           let here = kept_at a p in_a at_p in
           sym (ap (λ ms. is_marked ms a) same_marks) ∙ ap (is_kept_key keep) (sym here.1)

@@ -11,7 +11,7 @@ use Rattle.std.specs.List.{slice_get}
 use Rattle.std.specs.Ordering.{nat_cmp}
 use Rattle.pp_count.specs.Sums.{Seen, occurs}
 use Rattle.pp_count.specs.Tally.{IsTallyOf, tally_entry}
-use Rattle.pp_count.specs.Parts.{AreSums, key_sum}
+use Rattle.pp_count.specs.Parts.{AreKeySums, key_sum}
 use Rattle.pp_count.proofs.Renaming.{occurs_below}
 use Rattle.std.proofs.lemmas.List.Elements.{All-nil, All-cons, All-head, All-tail, All-take}
 use Rattle.std.proofs.lemmas.List.Sums.{sum_by-cons}
@@ -110,7 +110,7 @@ names_more names i same new key distinct here so_far found seen =
     ∙ sym (take_more names i key here)
 
 -- the entries' keys are below what the samples' keys are
-pub sums_below : (m : ℕ) (P : List (Seen ℕ)) (es : List KeySum) → All (λ s. All (λ k. k < m) s.keys) P → AreSums P es → All (λ e. e.key < m) es
+pub sums_below : (m : ℕ) (P : List (Seen ℕ)) (es : List KeySum) → All (λ s. All (λ k. k < m) s.keys) P → AreKeySums P es → All (λ e. e.key < m) es
 sums_below m P es below are i d here =
     let e : KeySum = get_or es i d in
     let k : ℕ = e.key in

@@ -23,7 +23,7 @@ use Rattle.pp_count.specs.declared.tally.Tally.{Tally}
 use Rattle.pp_count.specs.Column.{selected}
 use Rattle.pp_count.specs.Joined.{IsRangePart, AreConsecutive, CanJoin, samples_of_ranges, all_kept, all_sums}
 use Rattle.pp_count.specs.Matches.{matches_among, no_matches, either}
-use Rattle.pp_count.specs.Parts.{sums_of, key_sum, AreSums, flat_size, cum_size, HasBelow}
+use Rattle.pp_count.specs.Parts.{sums_of, key_sum, AreKeySums, flat_size, cum_size, HasBelow}
 use Rattle.pp_count.specs.Scope.{profile_in_scope, config_of, IsPartOf}
 use Rattle.pp_count.specs.Seeing.{HoldsFilters, seen, seen_samples, filtered_stack, filtered_from, absolute_all}
 use Rattle.pp_count.specs.Sums.{Seen, flat, cum, occurs, has, leads, weighed, renamed}
@@ -47,7 +47,7 @@ range_part scope number m samples part none all compact table same is =
     let name : ℕ → Written = name_of scope in
     let S : List (Seen ℕ) = weighed is.seen in
     let S_below : All (HasBelow n) S = All-filter (λ (s : Seen ℕ). not (int_eq s.value (pos 0))) (HasBelow n) is.seen is.are.below in
-    let sums_are : AreSums S part.sums = subst (λ (r : List (Seen ℕ)). AreSums (weighed r) part.sums) (plain scope none is.seen) is.sums in
+    let sums_are : AreKeySums S part.sums = subst (λ (r : List (Seen ℕ)). AreKeySums (weighed r) part.sums) (plain scope none is.seen) is.sums in
     let far = apart (profile_in_scope scope) compact scope.table.now.names table.keys table.distinct in
     record {
       kept = λ f holds. is.kept f holds ∙ ap (λ j. filtered_from (profile_in_scope scope) f (config_of scope) j samples) same;

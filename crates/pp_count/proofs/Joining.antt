@@ -14,7 +14,7 @@ use Rattle.pp_count.specs.declared.tally.Tally.{Tally}
 use Rattle.pp_count.specs.declared.part.KeySum.{KeySum}
 use Rattle.pp_count.specs.Sums.{Seen, sum_where, has, leads, cum, flat, occurs}
 use Rattle.pp_count.specs.Tally.{tally_plus, tally_added, IsTallyOf}
-use Rattle.pp_count.specs.Parts.{sums_of, AreSums, flat_size, cum_size}
+use Rattle.pp_count.specs.Parts.{sums_of, AreKeySums, flat_size, cum_size}
 use Rattle.pp_count.proofs.Adding.{or-true}
 
 -- the entries of two ranges, one after the other
@@ -128,7 +128,7 @@ module _ {K : Type 0} (order : K → K → Ordering) where
   }
 
 -- the tallies over two ranges
-pub tallies_joined : (a b : List (Seen ℕ)) (at new : ℕ → Tally) (sums : List KeySum) → ((k : ℕ) → IsTallyOf a k (at k)) → AreSums b sums
+pub tallies_joined : (a b : List (Seen ℕ)) (at new : ℕ → Tally) (sums : List KeySum) → ((k : ℕ) → IsTallyOf a k (at k)) → AreKeySums b sums
     → ((k : ℕ) → new k ≡ tally_added (at k) (sums_of k sums))
     → (k : ℕ) → IsTallyOf (a ++ b) k (new k)
 tallies_joined a b at new sums before part each k =

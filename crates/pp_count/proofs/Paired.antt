@@ -19,7 +19,7 @@ use Rattle.pp_base.proofs.Orders.{tied_with}
 use Rattle.pp_count.specs.declared.pairs.Pairing.{Pairing}
 use Rattle.pp_count.specs.Sums.{Seen, has, occurs, cum, weighed, renamed}
 use Rattle.pp_count.specs.Column.{first_else}
-use Rattle.pp_count.specs.Edges.{place_of, is_marked, has_mark, pair_if, pair_between, pairs_over, pairs_of, paired, ArePairPlaces}
+use Rattle.pp_count.specs.Edges.{pair_place, is_marked, has_mark, pair_if, pair_between, pairs_over, pairs_of, paired, ArePairPlaces}
 use Rattle.pp_count.specs.EdgeSums.{stands_over, has_pair, has_edge, edge_occurs, edge_sum}
 use Rattle.pp_count.proofs.Renaming.{tied_is}
 
@@ -119,55 +119,55 @@ module _ {K : Type 0} (order : K → K → Ordering) (f : ℕ → K) (n : ℕ) (
   kept_by w = list_any (λ k. eq_by_cmp order w (f k)) keys
 
   abbrev places : List ℕ → List ℕ
-  places ks = filter_map (place_of over) ks
+  places ks = filter_map (pair_place over) ks
 
   at_inside : (q : ℕ) → q < m → at q < n
   at_inside q here = inside q 0 (omega (arith, here, fits))
 
-  found : (q : ℕ) → q < m → place_of over (at q) ≡ Some q
+  found : (q : ℕ) → q < m → pair_place over (at q) ≡ Some q
   found q here = are.found q (omega (arith, here, fits))
 
   at_apart : (a b : ℕ) → a < m → b < m → eq_by_cmp nat_cmp (at a) (at b) ≡ eq_by_cmp nat_cmp a b
   at_apart a b in_a in_b = same_bool _ _
-      (λ tied. tied_with a b (ap (λ o. unwrap_or o 0) (sym (found a in_a) ∙ ap (place_of over) (tied_is (at a) (at b) tied) ∙ found b in_b)))
+      (λ tied. tied_with a b (ap (λ o. unwrap_or o 0) (sym (found a in_a) ∙ ap (pair_place over) (tied_is (at a) (at b) tied) ∙ found b in_b)))
       (λ tied. tied_with (at a) (at b) (ap at (tied_is a b tied)))
 
   g_apart : (a b : ℕ) → a < m → b < m → eq_by_cmp order (g a) (g b) ≡ eq_by_cmp nat_cmp a b
   g_apart a b in_a in_b = apart (at a) (at b) (at_inside a in_a) (at_inside b in_b) ∙ at_apart a b in_a in_b
 
-  below : (k q : ℕ) → place_of over k ≡ Some q → q < m
+  below : (k q : ℕ) → pair_place over k ≡ Some q → q < m
   below k q is = omega (arith, fits, (are.only k q is).0)
 
   places_all : (ks : List ℕ) → All (λ q. q < m) (places ks)
   places_all [] = All-nil (λ q. q < m)
   places_all (k ∷ ks) =
-      elim (place_of over k) as (λ o. place_of over k ≡ o → All (λ q. q < m) (cons_option o (places ks))) [
+      elim (pair_place over k) as (λ o. pair_place over k ≡ o → All (λ q. q < m) (cons_option o (places ks))) [
         | None ↦ λ is. places_all ks
         | Some q ↦ λ is. All-cons (λ j. j < m) q (places ks) (below k q is) (places_all ks)
       ] refl
 
   -- a key without a place is none of them
-  other_key : (k q : ℕ) → place_of over k ≡ None → q < m → eq_by_cmp nat_cmp k (at q) ≡ false
-  other_key k q none here = unsigned_tied k (at q) ∙ ne_eqb k (at q) (λ same. none_some (sym none ∙ ap (place_of over) same ∙ found q here)) where
+  other_key : (k q : ℕ) → pair_place over k ≡ None → q < m → eq_by_cmp nat_cmp k (at q) ≡ false
+  other_key k q none here = unsigned_tied k (at q) ∙ ne_eqb k (at q) (λ same. none_some (sym none ∙ ap (pair_place over) same ∙ found q here)) where
     none_some : None ≡ Some q → ⊥
     none_some is = false≢true (ap is_some is)
 
-  placed : (k : ℕ) → list_any (eq_by_cmp nat_cmp k) keys ≡ is_some (place_of over k)
+  placed : (k : ℕ) → list_any (eq_by_cmp nat_cmp k) keys ≡ is_some (pair_place over k)
   placed k =
-      elim (place_of over k) as (λ o. place_of over k ≡ o → list_any (eq_by_cmp nat_cmp k) keys ≡ is_some o) [
+      elim (pair_place over k) as (λ o. pair_place over k ≡ o → list_any (eq_by_cmp nat_cmp k) keys ≡ is_some o) [
         | None ↦ λ is. list_any_none (eq_by_cmp nat_cmp k) keys (λ i d here. ap (eq_by_cmp nat_cmp k) (get_or_default keys i d 0 here) ∙ other_key k i is (omega (arith, here, fits)))
         | Some q ↦ λ is. list_any-from_Contains (eq_by_cmp_equiv nat_cmp_total) k keys
             (q, (are.only k q is).0, get_or_default keys q k 0 (are.only k q is).0 ∙ (are.only k q is).1)
       ] refl
 
-  kept_is : (k : ℕ) → k < n → kept_by (f k) ≡ is_some (place_of over k)
+  kept_is : (k : ℕ) → k < n → kept_by (f k) ≡ is_some (pair_place over k)
   kept_is k in_k = same_any order f n apart k keys in_k inside ∙ placed k
 
   filtered : (ks : List ℕ) → All (λ k. k < n) ks → filter kept_by (map f ks) ≡ map g (places ks)
   filtered [] in_ks = refl
   filtered (k ∷ ks) in_ks =
       ap (λ b. cond b (f k ∷ filter kept_by (map f ks)) (filter kept_by (map f ks))) (kept_is k (All-head (λ j. j < n) k ks in_ks))
-      ∙ elim (place_of over k) as (λ o. place_of over k ≡ o → cond (is_some o) (f k ∷ filter kept_by (map f ks)) (filter kept_by (map f ks)) ≡ map g (cons_option o (places ks))) [
+      ∙ elim (pair_place over k) as (λ o. pair_place over k ≡ o → cond (is_some o) (f k ∷ filter kept_by (map f ks)) (filter kept_by (map f ks)) ≡ map g (cons_option o (places ks))) [
         | None ↦ λ is. filtered ks (All-tail (λ j. j < n) k ks in_ks)
         | Some q ↦ λ is i. f (sym (are.only k q is).1 i) ∷ filtered ks (All-tail (λ j. j < n) k ks in_ks) i
       ] refl
@@ -210,15 +210,15 @@ module _ {K : Type 0} (order : K → K → Ordering) (f : ℕ → K) (n : ℕ) (
       +ℤ sum-paired a b S in_a in_b marked (All-tail (λ (t : Seen ℕ). All (λ k. k < n) t.keys) s S in_S) i
 
   -- no pair has a key without a place
-  apart_from : (k q : ℕ) → k < n → place_of over k ≡ None → q < m → eq_by_cmp order (f k) (g q) ≡ false
+  apart_from : (k q : ℕ) → k < n → pair_place over k ≡ None → q < m → eq_by_cmp order (f k) (g q) ≡ false
   apart_from k q in_k none here = apart k (at q) in_k (at_inside q here) ∙ other_key k q none here
 
-  no_caller : (k : ℕ) (w u : K) (qs : List ℕ) → k < n → place_of over k ≡ None → All (λ q. q < m) qs → stands_over order (f k) w u (map g qs) ≡ false
+  no_caller : (k : ℕ) (w u : K) (qs : List ℕ) → k < n → pair_place over k ≡ None → All (λ q. q < m) qs → stands_over order (f k) w u (map g qs) ≡ false
   no_caller k w u [] in_k none in_qs = refl
   no_caller k w u (q ∷ qs) in_k none in_qs = λ i.
       (apart_from k q in_k none (All-head (λ j. j < m) q qs in_qs) i && eq_by_cmp order w u) || no_caller k w (g q) qs in_k none (All-tail (λ j. j < m) q qs in_qs) i
 
-  no_callee : (k : ℕ) (w : K) (u : ℕ) (qs : List ℕ) → k < n → place_of over k ≡ None → u < m → All (λ q. q < m) qs → stands_over order w (f k) (g u) (map g qs) ≡ false
+  no_callee : (k : ℕ) (w : K) (u : ℕ) (qs : List ℕ) → k < n → pair_place over k ≡ None → u < m → All (λ q. q < m) qs → stands_over order w (f k) (g u) (map g qs) ≡ false
   no_callee k w u [] in_k none in_u in_qs = refl
   no_callee k w u (q ∷ qs) in_k none in_u in_qs =
       (λ i. (eq_by_cmp order w (g q) && apart_from k u in_k none in_u i) || no_callee k w q qs in_k none (All-head (λ j. j < m) q qs in_qs) (All-tail (λ j. j < m) q qs in_qs) i)
@@ -228,15 +228,15 @@ module _ {K : Type 0} (order : K → K → Ordering) (f : ℕ → K) (n : ℕ) (
   no_edge b true none = refl
   no_edge b false none = none
 
-  no_pair_from : (k : ℕ) (w : K) (qs : List ℕ) → k < n → place_of over k ≡ None → All (λ q. q < m) qs → has_pair order (f k) w (map g qs) ≡ false
+  no_pair_from : (k : ℕ) (w : K) (qs : List ℕ) → k < n → pair_place over k ≡ None → All (λ q. q < m) qs → has_pair order (f k) w (map g qs) ≡ false
   no_pair_from k w [] in_k none in_qs = refl
   no_pair_from k w (q ∷ qs) in_k none in_qs = no_caller k w (g q) qs in_k none (All-tail (λ j. j < m) q qs in_qs)
 
-  no_pair_to : (k : ℕ) (w : K) (qs : List ℕ) → k < n → place_of over k ≡ None → All (λ q. q < m) qs → has_pair order w (f k) (map g qs) ≡ false
+  no_pair_to : (k : ℕ) (w : K) (qs : List ℕ) → k < n → pair_place over k ≡ None → All (λ q. q < m) qs → has_pair order w (f k) (map g qs) ≡ false
   no_pair_to k w [] in_k none in_qs = refl
   no_pair_to k w (q ∷ qs) in_k none in_qs = no_callee k w q qs in_k none (All-head (λ j. j < m) q qs in_qs) (All-tail (λ j. j < m) q qs in_qs)
 
-  pub none_from : (k : ℕ) (w : K) (S : List (Seen ℕ)) → k < n → place_of over k ≡ None → All (λ s. All (λ k. k < n) s.keys) S
+  pub none_from : (k : ℕ) (w : K) (S : List (Seen ℕ)) → k < n → pair_place over k ≡ None → All (λ s. All (λ k. k < n) s.keys) S
       → edge_occurs order kept_by (map (renamed f) S) (f k) w ≡ false
   none_from k w [] in_k none in_S = refl
   none_from k w (s ∷ S) in_k none in_S = λ i.
@@ -244,7 +244,7 @@ module _ {K : Type 0} (order : K → K → Ordering) (f : ℕ → K) (n : ℕ) (
       (ap (has_pair order (f k) w) (filtered s.keys (All-head (λ (t : Seen ℕ). All (λ k. k < n) t.keys) s S in_S)) ∙ no_pair_from k w (places s.keys) in_k none (places_all s.keys)) i
       || none_from k w S in_k none (All-tail (λ (t : Seen ℕ). All (λ k. k < n) t.keys) s S in_S) i
 
-  pub none_to : (k : ℕ) (w : K) (S : List (Seen ℕ)) → k < n → place_of over k ≡ None → All (λ s. All (λ k. k < n) s.keys) S
+  pub none_to : (k : ℕ) (w : K) (S : List (Seen ℕ)) → k < n → pair_place over k ≡ None → All (λ s. All (λ k. k < n) s.keys) S
       → edge_occurs order kept_by (map (renamed f) S) w (f k) ≡ false
   none_to k w [] in_k none in_S = refl
   none_to k w (s ∷ S) in_k none in_S = λ i.
@@ -278,20 +278,20 @@ pairs_below_none n [] below = All-nil (λ m. m < n * n)
 pairs_below_none n (k ∷ ks) below = pairs_below_over n k ks (All-head (λ j. j < n) k ks below) (All-tail (λ j. j < n) k ks below)
 
 -- the numbers of a sample's pairs are below the square of the number of places
-pub pairs_below : (over : Pairing) → ((k q : ℕ) → place_of over k ≡ Some q → q < length over.marked) → (S : List (Seen ℕ))
+pub pairs_below : (over : Pairing) → ((k q : ℕ) → pair_place over k ≡ Some q → q < length over.marked) → (S : List (Seen ℕ))
     → All (λ s. All (λ m. m < length over.marked * length over.marked) s.keys) (map (paired over) S)
 pairs_below over below [] = All-nil _
 pairs_below over below (s ∷ S) =
     let n : ℕ = length over.marked in
     All-cons (λ (t : Seen ℕ). All (λ m. m < n * n) t.keys) (paired over s) (map (paired over) S)
-    (All-filter (has_mark over.marked) (λ m. m < n * n) (pairs_over n None (filter_map (place_of over) s.keys))
-    (pairs_below_none n (filter_map (place_of over) s.keys) (all_below s.keys))) (pairs_below over below S) where
-      all_below : (ks : List ℕ) → All (λ q. q < length over.marked) (filter_map (place_of over) ks)
+    (All-filter (has_mark over.marked) (λ m. m < n * n) (pairs_over n None (filter_map (pair_place over) s.keys))
+    (pairs_below_none n (filter_map (pair_place over) s.keys) (all_below s.keys))) (pairs_below over below S) where
+      all_below : (ks : List ℕ) → All (λ q. q < length over.marked) (filter_map (pair_place over) ks)
       all_below [] = All-nil (λ q. q < length over.marked)
       all_below (k ∷ ks) =
-          elim (place_of over k) as (λ o. place_of over k ≡ o → All (λ q. q < length over.marked) (cons_option o (filter_map (place_of over) ks))) [
+          elim (pair_place over k) as (λ o. pair_place over k ≡ o → All (λ q. q < length over.marked) (cons_option o (filter_map (pair_place over) ks))) [
             | None ↦ λ is. all_below ks
-            | Some q ↦ λ is. All-cons (λ j. j < length over.marked) q (filter_map (place_of over) ks) (below k q is) (all_below ks)
+            | Some q ↦ λ is. All-cons (λ j. j < length over.marked) q (filter_map (pair_place over) ks) (below k q is) (all_below ks)
           ] refl
 
 -- the samples of a value other than 0, with their pairs
@@ -314,16 +314,16 @@ pair_listed marked a b in_b =
 
 module _ (over : Pairing) (keys : List ℕ) (i d : ℕ) (under : Option ℕ) (here : i < length keys) where
   abbrev rest : List ℕ
-  rest = filter_map (place_of over) (drop (i + 1) keys)
+  rest = filter_map (pair_place over) (drop (i + 1) keys)
 
   abbrev listed : List ℕ → List ℕ
   listed xs = filter (has_mark over.marked) xs
 
   abbrev pairs_left : Option ℕ → ℕ → List ℕ
-  pairs_left b j = listed (pairs_over (length over.marked) b (filter_map (place_of over) (drop j keys)))
+  pairs_left b j = listed (pairs_over (length over.marked) b (filter_map (pair_place over) (drop j keys)))
 
-  next_key : (o : Option ℕ) → place_of over (get_or keys i d) ≡ o → pairs_left under i ≡ listed (pairs_over (length over.marked) under (cons_option o rest))
-  next_key o is = ap (λ ks. listed (pairs_over (length over.marked) under (filter_map (place_of over) ks))) (drop_more keys i d here)
+  next_key : (o : Option ℕ) → pair_place over (get_or keys i d) ≡ o → pairs_left under i ≡ listed (pairs_over (length over.marked) under (cons_option o rest))
+  next_key o is = ap (λ ks. listed (pairs_over (length over.marked) under (filter_map (pair_place over) ks))) (drop_more keys i d here)
       ∙ ap (λ x. listed (pairs_over (length over.marked) under (cons_option x rest))) is
 
   over_next : (o : Option ℕ) (q : ℕ) → listed (pairs_over (length over.marked) o (q ∷ rest)) ≡ listed (option_map_or (pair_if (length over.marked) q) o []) ++ pairs_left (Some q) (i + 1)
@@ -331,6 +331,6 @@ module _ (over : Pairing) (keys : List ℕ) (i d : ℕ) (under : Option ℕ) (he
   over_next (Some b) q = filter-append (has_mark over.marked) (pair_if (length over.marked) q b) (pairs_over (length over.marked) (Some q) rest)
 
   -- the pairs that are left, with those of the next key apart
-  pub key_paired : (o : Option ℕ) → place_of over (get_or keys i d) ≡ o → pairs_left under i ≡ listed (pair_between (length over.marked) o under) ++ pairs_left (first_else o under) (i + 1)
+  pub key_paired : (o : Option ℕ) → pair_place over (get_or keys i d) ≡ o → pairs_left under i ≡ listed (pair_between (length over.marked) o under) ++ pairs_left (first_else o under) (i + 1)
   key_paired None is = next_key None is
   key_paired (Some q) is = next_key (Some q) is ∙ over_next under q

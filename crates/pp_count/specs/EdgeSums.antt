@@ -16,7 +16,7 @@ use Rattle.pp_model.specs.Finders.{Finders}
 use Rattle.pp_count.specs.declared.pairs.Pairing.{Pairing}
 use Rattle.pp_count.specs.declared.part.KeySum.{KeySum}
 use Rattle.pp_count.specs.Seeing.{HoldsFilters, seen_samples}
-use Rattle.pp_count.specs.Parts.{AreSums, HasBelow}
+use Rattle.pp_count.specs.Parts.{AreKeySums, HasBelow}
 use Rattle.pp_count.specs.Edges.{is_kept_key, is_marked, paired}
 use Rattle.pp_count.specs.declared.edge.Edge.{Edge}
 
@@ -101,4 +101,4 @@ pub record HasPairSums (l : Loaded) (v : Verdicts) (config : Config) (column : O
   pub are : (f : Finders) → HoldsFilters l v config f
       → map (renamed (written_key l.profile names)) seen
       ≡ seen_samples l.profile f config column l.profile.sample
-  pub listed : AreSums (weighed (map (paired over) seen)) sums
+  pub listed : AreKeySums (weighed (map (paired over) seen)) sums

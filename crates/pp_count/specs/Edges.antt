@@ -32,8 +32,8 @@ pairs_over names None (a ∷ keys) = pairs_over names (Some a) keys
 pairs_over names (Some b) (a ∷ keys) = pair_if names a b ++ pairs_over names (Some a) keys
 
 -- the key's place among those that pairs are counted over, none where it isn't one of them
-abbrev pub place_of : Pairing → ℕ → Option ℕ
-place_of over k = slice_index_or over.place k None
+abbrev pub pair_place : Pairing → ℕ → Option ℕ
+pair_place over k = slice_index_or over.place k None
 
 -- the place, or the name, is marked
 abbrev pub is_marked : List Bool → ℕ → Bool
@@ -48,7 +48,7 @@ has_mark marked pair =
 abbrev pub pairs_of : Pairing → List ℕ → List ℕ
 pairs_of over keys =
     filter (has_mark over.marked)
-    (pairs_over (length over.marked) None (filter_map (place_of over) keys))
+    (pairs_over (length over.marked) None (filter_map (pair_place over) keys))
 
 -- what is counted of a sample's keys: the keys, or their pairs
 abbrev pub counted_keys : Option Pairing → List ℕ → List ℕ
@@ -74,7 +74,7 @@ pub record ArePairPlaces (keys : List ℕ) (place : List (Option ℕ)) : Type 0 
 -- The numbers of pairs are few, and each place has its mark.
 pub record HasPairPlaces (over : Pairing) : Type 0 where
   pub few : length over.marked < 2 ^ 32
-  pub below : (k q : ℕ) → place_of over k ≡ Some q → q < length over.marked
+  pub below : (k q : ℕ) → pair_place over k ≡ Some q → q < length over.marked
 
 -- The edge of a pair's sum, where the places are those of names with these numbers.
 abbrev pub edge_of_sum : List ℕ → KeySum → Edge

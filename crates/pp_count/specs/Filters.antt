@@ -12,7 +12,7 @@ use Rattle.pp_stack.specs.Filters.{AreVerdicts, finds_frame}
 use Rattle.pp_stack.specs.Tables.{AreTables}
 use Rattle.pp_tags.specs.TagFilters.{HasItsTags, filter_in_force}
 use Rattle.pp_count.specs.declared.filters.Filters.{Filters}
-use Rattle.pp_count.specs.declared.filters.Reach.{Reach}
+use Rattle.pp_count.specs.declared.filters.PatternReach.{PatternReach}
 
 -- a pattern with these verdicts on texts finds no frame of the profile
 abbrev pub FindsNoFrame : Profile → List Bool → Type 0
@@ -24,7 +24,7 @@ abbrev pub IsReach : Profile → Option (List Bool) → Bool → Type 0
 IsReach p texts reaches = reaches ≡ false → ForSome texts (FindsNoFrame p)
 
 -- Each pattern that is said to reach no frame finds none.
-pub record AreReached (p : Profile) (v : Verdicts) (reach : Reach) : Type 0 where
+pub record AreReached (p : Profile) (v : Verdicts) (reach : PatternReach) : Type 0 where
   pub focus : IsReach p v.focus reach.focus
   pub ignore : IsReach p v.ignore reach.ignore
   pub hide : IsReach p v.hide reach.hide

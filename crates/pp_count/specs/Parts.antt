@@ -26,8 +26,8 @@ key_sum samples k =
     record { key = k; flat = flat nat_cmp samples k; cum = cum nat_cmp samples k }
 
 -- The entries are the sums over these samples: each key number that occurs has one, and no other has any.
-abbrev pub AreSums : List (Seen ℕ) → List KeySum → Type 0
-AreSums samples sums =
+abbrev pub AreKeySums : List (Seen ℕ) → List KeySum → Type 0
+AreKeySums samples sums =
     (k : ℕ) → sums_of k sums
     ≡ (if occurs nat_cmp samples k then key_sum samples k ∷ [] else [])
 

@@ -16,7 +16,7 @@ use Rattle.pp_count.specs.Tally.{IsTallyOf, tally_at}
 use Rattle.pp_count.specs.Table.{written_key, IsKeyTable}
 use Rattle.pp_count.specs.Sums.{Seen, weighed, absolute, renamed}
 use Rattle.pp_count.specs.Seeing.{HoldsFilters, seen_samples, filtered_from, absolute_all}
-use Rattle.pp_count.specs.Parts.{AreSums, HasBelow}
+use Rattle.pp_count.specs.Parts.{AreKeySums, HasBelow}
 use Rattle.pp_count.specs.Edges.{counted_keys, HasPairPlaces}
 use Rattle.pp_count.specs.Counts.{samples_at}
 use Rattle.pp_count.specs.Matches.{matches_among}
@@ -83,7 +83,7 @@ pub record IsPartOf (scope : Scope) (number : ℕ) (samples : List Sample) (part
     : Type 0 where
   pub seen : List (Seen ℕ)
   pub are : AreSeen scope samples seen
-  pub sums : AreSums (weighed (map (counted_as scope) seen)) part.sums
+  pub sums : AreKeySums (weighed (map (counted_as scope) seen)) part.sums
   pub kept : (f : Finders) → HoldsFilters scope.l.now scope.v.now (config_of scope) f
       → part.kept ≡ filtered_from (profile_in_scope scope) f (config_of scope) number samples
   pub rising : AreRisingBetween number (number + length samples) part.kept

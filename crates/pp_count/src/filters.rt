@@ -24,13 +24,13 @@ pub struct Filters {
     /// What the patterns on frames find of each line.
     pub tables: VerdictTables,
     /// Which of those patterns may find a line.
-    pub reach: Reach,
+    pub reach: PatternReach,
 }
 
 /// For each pattern on frames, whether it may find a line of the profile. One that finds none has no match, and isn't
 /// searched for.
 #[derive(Clone, Copy, Debug, PartialEq, Eq)]
-pub struct Reach {
+pub struct PatternReach {
     /// Whether `focus` may; true where it isn't in force or has no table.
     pub focus: bool,
     /// Whether `ignore` may; true where it isn't in force or has no table.
@@ -92,10 +92,10 @@ fn with_tables(alloc: Global, config: &Config, tables: VerdictTables) -> Result<
 }
 
 // Which of the patterns may find a line, by these tables.
-fn reach_of(tables: &VerdictTables) -> Reach
+fn reach_of(tables: &VerdictTables) -> PatternReach
     ensures { (p : Profile) → (v : Verdicts) → AreTables p v tables.now → AreReached p v result }
 {
-    Reach {
+    PatternReach {
         focus: reaches(&tables.focus),
         ignore: reaches(&tables.ignore),
         hide: reaches(&tables.hide),

@@ -3,7 +3,7 @@ ghost use Rattle.std.specs.Prelude.{◌≡◌, ◌++◌, ◌<◌, ◌^◌, [], n
 ghost use Rattle.std.specs.List.{filter};
 ghost use Rattle.std.specs.Option.{ForSome};
 ghost use Rattle.pp_count.specs.Column.{first_else};
-ghost use Rattle.pp_count.specs.Edges.{place_of, is_marked, has_mark, pair_between, pairs_of, HasPairPlaces};
+ghost use Rattle.pp_count.specs.Edges.{pair_place, is_marked, has_mark, pair_between, pairs_of, HasPairPlaces};
 
 use pp_base::{List, Memory};
 
@@ -26,7 +26,7 @@ pub fn gather_pairs(pairs: &mut Vec<u64>, keys: &[u64], over: &Pairing) -> Resul
     let marked = over.marked.as_slice();
     let mut under = None;
     for key in keys {
-        let place = place_of(over, *key);
+        let place = pair_place(over, *key);
         push_between(pairs, place, under, marked)?;
         under = first_else(place, under);
     }
@@ -34,8 +34,8 @@ pub fn gather_pairs(pairs: &mut Vec<u64>, keys: &[u64], over: &Pairing) -> Resul
 }
 
 // The key's place.
-fn place_of(over: &Pairing, key: u64) -> Option<u32>
-    ensures { result ≡ place_of over.now key }
+fn pair_place(over: &Pairing, key: u64) -> Option<u32>
+    ensures { result ≡ pair_place over.now key }
 {
     match over.place.as_slice().get(key as usize) {
         None => None,
