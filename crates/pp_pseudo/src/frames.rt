@@ -10,7 +10,7 @@ ghost use Rattle.pp_pseudo.specs.Framed.{placing, AddsFrames};
 
 use crate::frame_name::put_frame_name;
 use crate::growing::name_id;
-use crate::names::Names;
+use crate::names::FrameNames;
 use pp_base::{List, Memory, Text};
 use pp_model::{Label, Line, Loaded, Profile, Sample, Stack, frames_into};
 use pp_restack::{Places, place_line, place_stack};
@@ -21,7 +21,7 @@ use std::alloc::Global;
 #[derive(Drop)]
 pub struct Frames {
     /// The names of the frames that were made, without repeats, in the order of first sight.
-    pub names: Names,
+    pub names: FrameNames,
     /// The locations of the profile, and behind them those that load pruning left a part of and those of names.
     pub places: Places,
     /// The name that is being put together.

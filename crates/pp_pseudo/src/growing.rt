@@ -2,14 +2,14 @@
 ghost use Rattle.std.specs.Prelude.{◌≡◌, ◌++◌, ◌+◌, ◌<◌, ◌^◌, length, pos, IfOk, OnOk};
 ghost use Rattle.pp_pseudo.specs.Grown.{grown, name_id, name_function, name_functions};
 
-use crate::names::Names;
+use crate::names::FrameNames;
 use pp_base::{List, Memory, Text};
 use pp_model::{Function, Profile};
 use pp_restack::no_items;
 use std::alloc::Global;
 
 /// The profile with the names as texts behind its own, and with a function of each.
-pub fn grow(alloc: Global, mut p: Profile, names: Names) -> Result<Profile, Memory>
+pub fn grow(alloc: Global, mut p: Profile, names: FrameNames) -> Result<Profile, Memory>
     ensures { IfOk result (λ q. q ≡ grown p names) }
 {
     let functions = named_functions(alloc, &p, names.len())?;

@@ -8,11 +8,11 @@ use std::marker::Model;
 
 /// The names seen so far, without repeats. A name's number is its place in the order of first sight.
 #[derive(Drop)]
-pub struct Names {
+pub struct FrameNames {
     seen: IndexSet<Vec<u8>>,
 }
 
-impl Model for Names {
+impl Model for FrameNames {
     ghost use Rattle.std.specs.Prelude.{ℕ, List as Seq, map};
 
     ghost Value = { Seq (Seq ℕ) };
@@ -20,15 +20,15 @@ impl Model for Names {
     ghost view = { λ n. map (λ name. name.items) n.seen.keys };
 }
 
-impl Names {
+impl FrameNames {
     ghost use Rattle.std.specs.Prelude.{◌≡◌, ◌<◌, ◌^◌, [], length, Contains, IfOk, IsOk};
     ghost use Rattle.pp_pseudo.specs.Names.{IsNumberedName};
 
     /// No names.
-    pub fn new(alloc: Global) -> Names
+    pub fn new(alloc: Global) -> FrameNames
         ensures { result ≡ [] }
     {
-        Names {
+        FrameNames {
             seen: IndexSet::new(alloc),
         }
     }

@@ -10,7 +10,7 @@ ghost use Rattle.pp_restack.specs.Places.{with_cut};
 
 use crate::frames::{Frames, put_frames};
 use crate::growing::grow;
-use crate::names::Names;
+use crate::names::FrameNames;
 use pp_base::{List, Memory, Text};
 use pp_model::{Loaded, Profile, Sample, Valid};
 use pp_restack::{merge_alone, no_items, places_of, same_items, with_cut};
@@ -50,7 +50,7 @@ fn tagged_alone(alloc: Global, l: &Loaded, roots: &[Text], leaves: &[Text]) -> R
     let mut samples = no_items(alloc, p.sample.len())?;
     let places = places_of(alloc, p)?;
     let mut frames = Frames {
-        names: Names::new(alloc),
+        names: FrameNames::new(alloc),
         places,
         name: Text::new(alloc),
         stack: List::new(alloc),

@@ -2,7 +2,7 @@ use Rattle.std.proofs.Common.{ap, sym, ◌∙◌}
 use Rattle.std.proofs.lemmas.Bool.{false≢true}
 use Rattle.std.specs.Option.{is_some}
 use Rattle.pp_pseudo.proofs.NamesLemmas.{known, met, added}
-use Rattle.pp_pseudo.proofs.names.Names.number.Goals as goal
+use Rattle.pp_pseudo.proofs.names.FrameNames.number.Goals as goal
 
 -- the name was met before
 pub returns-in-Some-clause-numbered : goal.returns-in-Some-clause-numbered
