@@ -13,16 +13,17 @@ use Rattle.std.proofs.Math.Nat.{mod-lt, div-lt_iff_lt-mul}
 use Rattle.pp_base.proofs.Booleans.{same_bool}
 use Rattle.pp_model.specs.declared.config.Config.{Config}
 use Rattle.pp_model.specs.declared.loaded.Loaded.{Loaded}
-use Rattle.pp_model.specs.declared.verdicts.Verdicts.{Verdicts}
 use Rattle.pp_model.specs.Finders.{Finders}
 use Rattle.pp_model.specs.FrameTexts.{Written}
 use Rattle.pp_model.specs.Rules.{IsCompact}
 use Rattle.pp_grain.specs.declared.key.Key.{Key}
-use Rattle.pp_grain.specs.Keys.{key_cmp, key_written, IsKeyOf}
+use Rattle.pp_grain.specs.Keys.{key_cmp, key_written}
 use Rattle.pp_tags.proofs.AlikeLemmas.{list_any_alike}
 use Rattle.pp_count.specs.declared.part.KeySum.{KeySum}
 use Rattle.pp_count.specs.declared.edge.Edge.{Edge}
 use Rattle.pp_count.specs.declared.pairs.Pairing.{Pairing}
+use Rattle.pp_count.specs.declared.recounting.Ends.{Ends}
+use Rattle.pp_count.specs.declared.survey.Survey.{Survey}
 use Rattle.pp_count.specs.Table.{written_key, key_numbered, no_key}
 use Rattle.pp_count.specs.Sums.{Seen, weighed, renamed, occurs, cum}
 use Rattle.pp_count.specs.Seeing.{HoldsFilters, seen_samples}
@@ -74,10 +75,16 @@ kept_more keep i kept new so_far is =
     ∙ sym (ap (filter (is_kept_key keep)) (range_more i) ∙ filter-append (is_kept_key keep) (range_with_len 0 i) (i ∷ []))
 
 -- the names that are kept have numbers
-pub names_within : (names old : List Key) (numbers : List ℕ) (keep : List Bool) → old ≡ map (key_numbered names) numbers → length keep ≡ length old
-    → All (λ n. n < length numbers) (kept_numbers keep (length keep))
-names_within names old numbers keep named fits = λ i d here.
-    omega (arith, (kept_rise keep (length keep)).below i d here, fits, ap length named, length-map numbers (key_numbered names))
+pub names_within : (survey : Survey) (keep : List Bool) → length keep ≡ length survey.counted.now.sums.names
+    → All (λ n. n < length survey.counted.now.numbers) (kept_numbers keep (length keep))
+names_within survey keep fits = λ i d here.
+    omega (
+      arith,
+      (kept_rise keep (length keep)).below i d here,
+      fits,
+      ap length survey.counts.names,
+      length-map survey.counted.now.numbers (key_numbered survey.counted.now.table.names),
+    )
 
 -- the numbers of names are as small as all are
 pub keys_below : (numbers kept : List ℕ) (n : ℕ) → All (λ k. k < n) numbers → All (λ a. a < length numbers) kept → All (λ k. k < n) (map (λ a. get_or numbers a 0) kept)
@@ -141,7 +148,7 @@ one_or_none kept true x = refl
 one_or_none kept false x = refl
 
 -- the names' numbers are different where the names are
-pub numbers_once : (names old : List Key) (numbers : List ℕ) → old ≡ map (key_numbered names) numbers → AllPairs (λ a b. a ≢ b) old → AreOnce numbers
+numbers_once : (names old : List Key) (numbers : List ℕ) → old ≡ map (key_numbered names) numbers → AllPairs (λ a b. a ≢ b) old → AreOnce numbers
 numbers_once names old numbers named distinct i j in_i in_j same = elim (cases_order i j) [
   | inl equal ↦ equal
   | inr (inl before) ↦ absurd (distinct i j no_key before (inside j in_j) (at i in_i ∙ ap (key_numbered names) same ∙ sym (at j in_j)))
@@ -153,8 +160,7 @@ numbers_once names old numbers named distinct i j in_i in_j same = elim (cases_o
   at : (k : ℕ) → k < length numbers → get_or old k no_key ≡ key_numbered names (get_or numbers k 0)
   at k here = ap (λ xs. get_or xs k no_key) named ∙ get_or-map (key_numbered names) numbers k 0 no_key here
 
--- so are those of the names that are kept
-pub keys_once : (numbers kept : List ℕ) → AreOnce numbers → AreOnce kept → All (λ n. n < length numbers) kept → AreOnce (map (λ n. get_or numbers n 0) kept)
+keys_once : (numbers kept : List ℕ) → AreOnce numbers → AreOnce kept → All (λ n. n < length numbers) kept → AreOnce (map (λ n. get_or numbers n 0) kept)
 keys_once numbers kept apart_numbers apart_kept inside i j in_i in_j same =
     let number : ℕ → ℕ = λ n. get_or numbers n 0 in
     let here : i < length kept = omega (arith, in_i, length-map kept number) in
@@ -163,24 +169,54 @@ keys_once numbers kept apart_numbers apart_kept inside i j in_i in_j same =
     (apart_numbers (get_or kept i 0) (get_or kept j 0) (inside i 0 here) (inside j 0 there)
     (sym (get_or-map number kept i 0 0 here) ∙ same ∙ get_or-map number kept j 0 0 there))
 
--- What edges are made of: the table's names, the names of the report with their numbers, those that are kept, and the
--- sums of the pairs over their places.
-pub record HasEdges (l : Loaded) (v : Verdicts) (config : Config) (column : Option ℕ) (names old : List Key) (numbers : List ℕ)
-    (keep marked : List Bool) (kept : List ℕ) (over : Pairing) (sums : List KeySum) : Type 0 where
-  pub compact : IsCompact l.profile
-  pub keys : All (IsKeyOf l.profile) names
-  pub distinct : AllPairs (λ a b. a ≢ b) names
-  pub named : old ≡ map (key_numbered names) numbers
-  pub once : AllPairs (λ a b. a ≢ b) old
-  pub numbered : All (λ n. n < length names) numbers
-  pub fits : length keep ≡ length old
-  pub kept_are : kept ≡ kept_numbers keep (length keep)
-  pub places : ArePairPlaces (map (λ n. get_or numbers n 0) kept) over.place
-  pub marks : over.marked ≡ map (is_marked marked) kept
-  pub sums_are : HasPairSums l v config column names over sums
+-- so are those of the names that are kept
+pub kept_apart : (survey : Survey) (keep : List Bool) → AllPairs (λ a b. a ≢ b) survey.counted.now.sums.names → length keep ≡ length survey.counted.now.sums.names
+    → AreOnce (map (λ n. get_or survey.counted.now.numbers n 0) (kept_numbers keep (length keep)))
+kept_apart survey keep once fits =
+    let counted = survey.counted.now in
+    let kept : List ℕ = kept_numbers keep (length keep) in
+    keys_once counted.numbers kept (numbers_once counted.table.names counted.sums.names counted.numbers survey.counts.names once)
+    (once_rising 0 (length keep) kept (kept_rise keep (length keep))) (names_within survey keep fits)
 
-module _ (l : Loaded) (v : Verdicts) (config : Config) (column : Option ℕ) (names old : List Key) (numbers : List ℕ)
-    (keep marked : List Bool) (kept : List ℕ) (over : Pairing) (sums : List KeySum) (h : HasEdges l v config column names old numbers keep marked kept over sums) where
+-- What edges are made of: the names that are kept, and the sums of the pairs over their places.
+pub record HasEdges (survey : Survey) (ends : Ends) (kept : List ℕ) (over : Pairing) (sums : List KeySum) : Type 0 where
+  pub compact : IsCompact survey.l.now.profile
+  pub once : AllPairs (λ a b. a ≢ b) survey.counted.now.sums.names
+  pub fits : length ends.keep.now ≡ length survey.counted.now.sums.names
+  pub kept_are : kept ≡ kept_numbers ends.keep.now (length ends.keep.now)
+  pub places : ArePairPlaces (map (λ n. get_or survey.counted.now.numbers n 0) kept) over.place
+  pub marks : over.marked ≡ map (is_marked ends.marked.now) kept
+  pub sums_are : HasPairSums survey.l.now survey.v.now survey.config.now survey.column survey.counted.now.table.names over sums
+
+module _ (survey : Survey) (ends : Ends) (kept : List ℕ) (over : Pairing) (sums : List KeySum) (h : HasEdges survey ends kept over sums) where
+  abbrev l : Loaded
+  l = survey.l.now
+
+  abbrev config : Config
+  config = survey.config.now
+
+  abbrev column : Option ℕ
+  column = survey.column
+
+  -- the names of the table, and those of the report, with their numbers
+  abbrev names : List Key
+  names = survey.counted.now.table.names
+
+  abbrev old : List Key
+  old = survey.counted.now.sums.names
+
+  abbrev numbers : List ℕ
+  numbers = survey.counted.now.numbers
+
+  abbrev keep : List Bool
+  keep = ends.keep.now
+
+  abbrev marked : List Bool
+  marked = ends.marked.now
+
+  named : old ≡ map (key_numbered names) numbers
+  named = survey.counts.names
+
   abbrev name : ℕ → Written
   name = written_key l.profile names
 
@@ -191,7 +227,7 @@ module _ (l : Loaded) (v : Verdicts) (config : Config) (column : Option ℕ) (na
   keys_of = map number kept
 
   many : length numbers ≡ length old
-  many = sym (ap length h.named ∙ length-map numbers (key_numbered names))
+  many = sym (ap length named ∙ length-map numbers (key_numbered names))
 
   size : length over.marked ≡ length kept
   size = ap length h.marks ∙ length-map kept (is_marked marked)
@@ -206,7 +242,7 @@ module _ (l : Loaded) (v : Verdicts) (config : Config) (column : Option ℕ) (na
   kept_once = once_rising 0 (length old) kept rising
 
   in_table : (a : ℕ) → a < length old → number a < length names
-  in_table a here = h.numbered a 0 (omega (arith, here, many))
+  in_table a here = survey.counts.numbered a 0 (omega (arith, here, many))
 
   in_names : (q : ℕ) → q < length kept → get_or kept q 0 < length old
   in_names q here = rising.below q 0 here
@@ -217,7 +253,7 @@ module _ (l : Loaded) (v : Verdicts) (config : Config) (column : Option ℕ) (na
       subst (λ (k : ℕ). k < length names) (sym (get_or-map number kept i 0 d in_kept)) (in_table (get_or kept i 0) (in_names i in_kept))
 
   same : (a : ℕ) → a < length old → name (number a) ≡ written_key l.profile old a
-  same a in_a = ap (key_written l.profile) (sym (ap (λ ks. get_or ks a no_key) h.named ∙ get_or-map (key_numbered names) numbers a 0 no_key (omega (arith, in_a, many))))
+  same a in_a = ap (key_written l.profile) (sym (ap (λ ks. get_or ks a no_key) named ∙ get_or-map (key_numbered names) numbers a 0 no_key (omega (arith, in_a, many))))
 
   kept_same : (w : Written) → list_any (λ k. eq_by_cmp key_cmp w (name k)) keys_of ≡ is_kept_name l.profile old keep w
   kept_same w =
@@ -261,7 +297,7 @@ module _ (l : Loaded) (v : Verdicts) (config : Config) (column : Option ℕ) (na
   kept_at a q in_a is =
       let in_kept : q < length kept = omega (arith, (h.places.only (number a) q is).0, length-map kept number) in (
         in_kept,
-        numbers_once names old numbers h.named h.once (get_or kept q 0) a (omega (arith, in_names q in_kept, many)) (omega (arith, in_a, many))
+        numbers_once names old numbers named h.once (get_or kept q 0) a (omega (arith, in_names q in_kept, many)) (omega (arith, in_a, many))
             (sym (get_or-map number kept q 0 0 in_kept) ∙ (h.places.only (number a) q is).1),
       )
 
@@ -275,7 +311,7 @@ module _ (l : Loaded) (v : Verdicts) (config : Config) (column : Option ℕ) (na
   mark_is : (q : ℕ) → q < length kept → is_marked over.marked q ≡ is_marked marked (get_or kept q 0)
   mark_is q here = ap (λ ms. get_or ms q false) h.marks ∙ get_or-map (is_marked marked) kept q 0 false here
 
-  module _ (f : Finders) (holds : HoldsFilters l v config f) (edges : List Edge) (is : edges ≡ map (edge_of_sum kept) sums) where
+  module _ (f : Finders) (holds : HoldsFilters l survey.v.now config f) (edges : List Edge) (is : edges ≡ map (edge_of_sum kept) sums) where
     abbrev T : List (Seen Written)
     T = weighed (seen_samples l.profile f config column l.profile.sample)
 
@@ -286,7 +322,7 @@ module _ (l : Loaded) (v : Verdicts) (config : Config) (column : Option ℕ) (na
     kept_name = is_kept_name l.profile old keep
 
     far : (a b : ℕ) → a < length names → b < length names → eq_by_cmp key_cmp (name a) (name b) ≡ eq_by_cmp nat_cmp a b
-    far = apart l.profile h.compact names h.keys h.distinct
+    far = apart l.profile h.compact names survey.counts.table.keys survey.counts.table.distinct
 
     -- the edge between two names, where there is one
     abbrev edge_if : Bool → ℕ → ℕ → List Edge
