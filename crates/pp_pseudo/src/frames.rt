@@ -30,13 +30,21 @@ pub struct Frames {
     pub stack: Stack,
 }
 
+/// The keys whose labels become frames, each list root first.
+#[derive(Clone, Copy)]
+pub struct FrameKeys<'a> {
+    /// Those whose frames stand at the root of a stack.
+    pub roots: &'a [Text],
+    /// Those whose frames stand at its leaf.
+    pub leaves: &'a [Text],
+}
+
 /// Appends the ids of the sample's frames, leaf first: those of the leaves, those that load pruning leaves, those of
 /// the roots.
 pub fn put_frames(
     alloc: Global,
     l: &Loaded,
-    roots: &[Text],
-    leaves: &[Text],
+    keys: &FrameKeys,
     s: &Sample,
     ids: &mut List<u64>,
     frames: &mut Frames,
@@ -44,13 +52,13 @@ pub fn put_frames(
     requires { RefersTo l.now.profile s.now }
     ensures { OnOk result (AddsFrames l.now.profile
         (placing frames.old ids.old) (placing frames.new ids.new)
-        (tagged_sample l.now roots.now leaves.now s.now).0.locations) }
+        (tagged_sample l.now keys.now.roots.now keys.now.leaves.now s.now).0.locations) }
 {
     let p = l.profile.get();
     let labels = s.label.as_slice();
-    put_keys(alloc, p, leaves, labels, ids, frames)?;
+    put_keys(alloc, p, keys.leaves, labels, ids, frames)?;
     put_stack(alloc, l, s, ids, frames)?;
-    put_keys(alloc, p, roots, labels, ids, frames)
+    put_keys(alloc, p, keys.roots, labels, ids, frames)
 }
 
 // Appends the ids of the frames of the keys, the last one's first.

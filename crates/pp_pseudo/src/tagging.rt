@@ -8,7 +8,7 @@ ghost use Rattle.pp_pseudo.specs.WithTags.{tagged};
 ghost use Rattle.pp_pseudo.specs.Framed.{AreTagged, IsTagged};
 ghost use Rattle.pp_restack.specs.Places.{with_cut};
 
-use crate::frames::{Frames, put_frames};
+use crate::frames::{FrameKeys, Frames, put_frames};
 use crate::growing::grow;
 use crate::names::FrameNames;
 use pp_base::{List, Memory, Text};
@@ -55,7 +55,8 @@ fn tagged_alone(alloc: Global, l: &Loaded, roots: &[Text], leaves: &[Text]) -> R
         name: Text::new(alloc),
         stack: List::new(alloc),
     };
-    tag_samples(alloc, l, roots, leaves, &mut samples, &mut frames)?;
+    let keys = FrameKeys { roots, leaves };
+    tag_samples(alloc, l, &keys, &mut samples, &mut frames)?;
     let q = grown_with(alloc, p, samples, frames)?;
     Ok(Valid::claim(q))
 }
@@ -64,21 +65,20 @@ fn tagged_alone(alloc: Global, l: &Loaded, roots: &[Text], leaves: &[Text]) -> R
 fn tag_samples(
     alloc: Global,
     l: &Loaded,
-    roots: &[Text],
-    leaves: &[Text],
+    keys: &FrameKeys,
     samples: &mut List<Sample>,
     frames: &mut Frames,
 ) -> Result<(), Memory>
-    requires none { AreTagged l.now roots.now leaves.now [] frames.old.names
+    requires none { AreTagged l.now keys.now.roots.now keys.now.leaves.now [] frames.old.names
         frames.old.places.locations samples.old }
-    ensures { OnOk result (AreTagged l.now roots.now leaves.now l.now.profile.sample
-        frames.new.names frames.new.places.locations samples.new) }
+    ensures { OnOk result (AreTagged l.now keys.now.roots.now keys.now.leaves.now
+        l.now.profile.sample frames.new.names frames.new.places.locations samples.new) }
 {
     let p = l.profile.get();
     let mut ids = List::new(alloc);
     for s in p.sample.as_slice() {
         ids.truncate(0);
-        put_frames(alloc, l, roots, leaves, s, &mut ids, frames)?;
+        put_frames(alloc, l, keys, s, &mut ids, frames)?;
         let sample = sample_with(alloc, s, ids.as_slice())?;
         samples.push(sample)?;
     }

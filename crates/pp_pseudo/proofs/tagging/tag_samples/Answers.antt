@@ -19,8 +19,8 @@ put_frames-requires c =
 pub loop-s-preserved : goal.loop-s-preserved
 loop-s-preserved c =
     let l = c.args.l.now in
-    let roots = c.args.roots.now in
-    let leaves = c.args.leaves.now in
+    let roots = c.args.keys.now.roots.now in
+    let leaves = c.args.keys.now.leaves.now in
     let same = c.get-p.ensures.same in
     let items = c.as_slice-s-items.result.now in
     let i = c.loop-s.s-index in
