@@ -7,6 +7,7 @@ use Rattle.pp_count.specs.Sums.{Seen, flat, cum, occurs}
 use Rattle.pp_grain.specs.declared.key.Key.{Key}
 use Rattle.pp_count.specs.Table.{no_key}
 use Rattle.pp_count.specs.declared.part.KeySum.{KeySum}
+use Rattle.pp_count.specs.declared.counting.TheConstants.{PIECE}
 
 -- the entries of the key number
 abbrev pub sums_of : ℕ → List KeySum → List KeySum
@@ -33,7 +34,7 @@ AreKeySums samples sums =
 
 -- the samples of the piece
 abbrev pub piece_samples : List Sample → ℕ → List Sample
-piece_samples samples piece = take 1024 (drop (1024 * piece) samples)
+piece_samples samples piece = take PIECE (drop (PIECE * piece) samples)
 
 -- the sample's key numbers are below n
 abbrev pub HasBelow : ℕ → Seen ℕ → Type 0

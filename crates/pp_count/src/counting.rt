@@ -1,6 +1,7 @@
 //! Counting as a job in pieces.
 ghost use Rattle.std.specs.Prelude.{◌≡◌, ◌+◌, ◌*◌, ◌<◌, ◌^◌, length, IfOk};
 ghost use Rattle.std.proofs.Props.{props};
+ghost use Rattle.pp_count.specs.declared.counting.TheConstants.{PIECE};
 ghost use Rattle.pp_count.specs.Parts.{piece_samples};
 ghost use Rattle.pp_count.specs.Scope.{samples_in_scope, IsSoundScope, AreCountable, IsPartOf};
 
@@ -26,19 +27,20 @@ pub struct Counting<'a> {
     pub pieces: u32,
     pub ghost sound: { IsSoundScope scope } by { Prim.hlevel props },
     pub ghost countable: { AreCountable scope (samples_in_scope scope) },
-    pub ghost within: { 1024 * (first + pieces) < length (samples_in_scope scope) + 1024 },
+    pub ghost within: { PIECE * (first + pieces) < length (samples_in_scope scope) + PIECE },
 }
 
 impl Job for Counting<'_> {
     type Out = Part;
 
     ghost use Rattle.std.specs.Prelude.{◌+◌, ◌*◌};
+    ghost use Rattle.pp_count.specs.declared.counting.TheConstants.{PIECE};
     ghost use Rattle.pp_count.specs.Parts.{piece_samples};
     ghost use Rattle.pp_count.specs.Scope.{samples_in_scope, IsPartOf};
 
     ghost pieces = { λ job. job.pieces };
 
-    ghost right = { λ job piece part. IsPartOf job.scope ((job.first + piece) * 1024)
+    ghost right = { λ job piece part. IsPartOf job.scope ((job.first + piece) * PIECE)
         (piece_samples (samples_in_scope job.scope) (job.first + piece)) part };
 
     fn run(&self, piece: u32) -> Result<Part, Memory> {
@@ -50,8 +52,8 @@ impl Job for Counting<'_> {
 pub fn count_piece_of(alloc: Global, scope: &Scope, piece: u32) -> Result<Part, Memory>
     requires sound { IsSoundScope scope.now }
     requires countable { AreCountable scope.now (samples_in_scope scope.now) }
-    requires starts { 1024 * piece < length (samples_in_scope scope.now) }
-    ensures { IfOk result (IsPartOf scope.now (piece * 1024)
+    requires starts { PIECE * piece < length (samples_in_scope scope.now) }
+    ensures { IfOk result (IsPartOf scope.now (piece * PIECE)
         (piece_samples (samples_in_scope scope.now) piece)) }
 {
     let start = piece as usize * PIECE;

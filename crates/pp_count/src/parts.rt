@@ -1,5 +1,6 @@
 //! The part of one piece, and the part of pieces joined, for callers that run the pieces themselves.
 ghost use Rattle.std.specs.Prelude.{◌≡◌, ◌*◌, ◌<◌, length, IfOk};
+ghost use Rattle.pp_count.specs.declared.counting.TheConstants.{PIECE};
 ghost use Rattle.pp_count.specs.Counted.{CanCount};
 ghost use Rattle.pp_count.specs.Joined.{IsRangePart, CanJoin, IsJoinedPart};
 ghost use Rattle.pp_count.specs.Parts.{piece_samples};
@@ -28,9 +29,9 @@ pub fn count_piece(
 ) -> Result<Part, Memory>
     requires can { CanCount l.now.profile v.now config.now column }
     requires table { IsKeyTable l.now.profile config.now table.now }
-    requires starts { 1024 * piece < length l.now.profile.sample }
+    requires starts { PIECE * piece < length l.now.profile.sample }
     ensures { IfOk result (IsRangePart l.now v.now config.now column table.now.names
-        (1024 * piece) (piece_samples l.now.profile.sample piece)) }
+        (PIECE * piece) (piece_samples l.now.profile.sample piece)) }
 {
     let _compact = l.profile.get();
     let filters = Filters::without_tables(alloc, l, v, config)?;

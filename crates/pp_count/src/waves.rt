@@ -1,5 +1,6 @@
 //! All samples, or chosen ones, counted in waves of pieces on the lanes.
 ghost use Rattle.std.specs.Prelude.{◌≡◌, ◌+◌, ◌*◌, ◌<◌, take, IfOk};
+ghost use Rattle.pp_count.specs.declared.counting.TheConstants.{PIECE};
 ghost use Rattle.pp_count.specs.Scope.{samples_in_scope, IsSoundScope, AreCountable, AreCounted};
 
 use crate::counting::{Counting, PIECE};
@@ -47,9 +48,9 @@ fn count_wave<R: Threads + Sync, G: Gate>(
     sofar: &mut Sofar,
 ) -> Result<(), Memory>
     requires { AreCounted job.now.scope
-        (take (1024 * job.now.first) (samples_in_scope job.now.scope)) sofar.old }
+        (take (PIECE * job.now.first) (samples_in_scope job.now.scope)) sofar.old }
     ensures { IfOk result (λ _. AreCounted job.now.scope
-        (take (1024 * (job.now.first + job.now.pieces)) (samples_in_scope job.now.scope)) sofar.new) }
+        (take (PIECE * (job.now.first + job.now.pieces)) (samples_in_scope job.now.scope)) sofar.new) }
 {
     let workers = job.scope.config.workers;
     let parts = run_pieces(rt, job.alloc, job, job.pieces, workers, Deal::Round, gate)?;

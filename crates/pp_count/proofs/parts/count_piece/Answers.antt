@@ -1,5 +1,6 @@
 use Rattle.std.proofs.Common.{◌*◌, refl, subst, sym, arith}
 use Rattle.pp_model.specs.Rules.{IsCompact}
+use Rattle.pp_count.specs.declared.counting.TheConstants.{PIECE}
 use Rattle.pp_count.specs.Parts.{piece_samples}
 use Rattle.pp_count.specs.Scope.{IsSoundScope, AreCountable, IsPartOf, samples_in_scope}
 use Rattle.pp_count.proofs.Joined.{range_part}
@@ -19,5 +20,5 @@ count_piece_of-requires-clause-countable c = subst (λ scope. AreCountable scope
 
 pub returns : goal.returns
 returns c =
-    range_part _ (c.args.piece * 1024) (1024 * c.args.piece) _ c.in_ok-part.part refl refl (subst IsCompact c.get-compact.ensures.same c.get-compact.ensures.compact) c.requires.table (omega arith)
-    (subst (λ scope. IsPartOf scope (c.args.piece * 1024) (piece_samples (samples_in_scope scope) c.args.piece) c.in_ok-part.part) c.whole-scope.ensures c.in_ok-part.ensures)
+    range_part _ (c.args.piece * PIECE) (PIECE * c.args.piece) _ c.in_ok-part.part refl refl (subst IsCompact c.get-compact.ensures.same c.get-compact.ensures.compact) c.requires.table (omega arith)
+    (subst (λ scope. IsPartOf scope (c.args.piece * PIECE) (piece_samples (samples_in_scope scope) c.args.piece) c.in_ok-part.part) c.whole-scope.ensures c.in_ok-part.ensures)
