@@ -15,7 +15,7 @@ use pp_tags::TagFilter;
 use std::alloc::Global;
 
 /// What is read once of the options and the verdicts, and asked of each sample.
-#[derive(Debug, Drop)]
+#[derive(Drop)]
 pub struct Filters {
     /// The filter of `tagfocus`, where it is in force.
     pub tagfocus: Option<TagFilter>,
@@ -29,7 +29,7 @@ pub struct Filters {
 
 /// For each pattern on frames, whether it may find a line of the profile. One that finds none has no match, and isn't
 /// searched for.
-#[derive(Clone, Copy, Debug, PartialEq, Eq)]
+#[derive(Clone, Copy)]
 pub struct PatternReach {
     /// Whether `focus` may; true where it isn't in force or has no table.
     pub focus: bool,

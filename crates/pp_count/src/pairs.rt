@@ -8,7 +8,7 @@ ghost use Rattle.pp_count.specs.Edges.{pair_place, is_marked, has_mark, pair_bet
 use pp_base::{List, Memory};
 
 /// The keys that pairs are counted over.
-#[derive(Debug, Drop)]
+#[derive(Drop)]
 pub struct Pairing {
     /// For each key number, the key's place among these keys. None where it isn't one of them.
     pub place: List<Option<u32>>,

@@ -5,7 +5,7 @@ ghost use Rattle.pp_count.specs.Tally.{credited, tally_plus};
 use crate::part::KeySum;
 
 /// What one key number has so far.
-#[derive(Clone, Copy, Debug, PartialEq, Eq)]
+#[derive(Clone, Copy)]
 pub struct Tally {
     /// The sum over the samples whose leaf has the key.
     pub flat: i64,
