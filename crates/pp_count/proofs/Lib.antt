@@ -25,3 +25,4 @@ pub mod EachOnce
 pub mod Ties
 pub mod Joined
 pub mod KeptSamples
+pub mod Columns
