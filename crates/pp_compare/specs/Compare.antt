@@ -24,7 +24,8 @@ use Rattle.pp_graph.specs.Trim.{candidate_keys, report_keys, light_nodes}
 use Rattle.pp_count.specs.Base.{base_samples, base_report_samples, selected_all}
 use Rattle.pp_compare.specs.declared.difference.Difference.{Difference}
 
--- The figures of a base and of a source, where the base's negated values have this sum, and the values of both this one.
+-- The figures of a base and of a source, where the base's negated values have the first sum, and the values of both the
+-- second.
 abbrev pub difference_of : ℤ → ℤ → Difference
 difference_of base change =
     record { before = neg_ℤ base; after = neg_ℤ base +ℤ change; change = change }

@@ -14,7 +14,7 @@ ghost use Rattle.pp_compare.specs.Rows.{compared_ranking, whole_at};
 
 use crate::columns::{put_columns, put_end, put_heading};
 use crate::difference::difference_of;
-use crate::rows::{Table, put_rows};
+use crate::rows::{CompareTable, put_rows};
 use pp_base::{Memory, Text};
 use pp_count::{BaseSums, Survey, counted_whole};
 use pp_graph::Ranked;
@@ -22,8 +22,8 @@ use pp_units::{Head, put_dropped_nodes, put_limited, write_head};
 use std::alloc::Global;
 
 /// Appends the compare report: the lines of the head, the heading, the row of all samples, and a row for each key of
-/// the ranking, in its order. Percentages are of the base's absolute figures. `Err` is want of memory, and `out` is then
-/// as it was.
+/// the ranking, in its order. Percentages are of the base's absolute figures. `Err` is want of memory, and `out` is
+/// then as it was.
 pub fn write_compare(
     alloc: Global,
     survey: &Survey<'_>,
@@ -45,7 +45,7 @@ pub fn write_compare(
     ensures err { OnErr result (out.new ≡ out.old) }
 {
     let mut text = Text::new(alloc);
-    let table = Table {
+    let table = CompareTable {
         l: survey.l,
         sums: &survey.counted.sums,
         base,
@@ -60,7 +60,7 @@ pub fn write_compare(
 // The whole text, where the values of all samples have this sum.
 fn put_compare(
     alloc: Global,
-    table: &Table,
+    table: &CompareTable,
     t: &Ranked,
     change: i64,
     out: &mut Text,
@@ -91,7 +91,7 @@ fn put_counts(t: &Ranked, out: &mut Text) -> Result<(), Memory>
 }
 
 // The row of all samples.
-fn put_whole(alloc: Global, table: &Table, change: i64, out: &mut Text) -> Result<(), Memory>
+fn put_whole(alloc: Global, table: &CompareTable, change: i64, out: &mut Text) -> Result<(), Memory>
     ensures { IfOk result (λ _. out.new ≡ out.old
         ++ difference_line (shown table.now.head.now.unit) (whole_at table.now.base.now change)) }
 {

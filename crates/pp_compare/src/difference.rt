@@ -3,7 +3,7 @@ ghost use Rattle.std.specs.Prelude.{◌≡◌};
 ghost use Rattle.pp_compare.specs.Rows.{wrapped};
 
 /// A figure of the base, of the source, and how far the source's is above the base's.
-#[derive(Clone, Copy, Debug)]
+#[derive(Clone, Copy)]
 pub struct Difference {
     /// The figure over the base's samples, as the base alone has it.
     pub before: i64,

@@ -22,7 +22,7 @@ use std::alloc::Global;
 
 /// What the rows of keys are made of.
 #[derive(Clone, Copy)]
-pub struct Table<'a> {
+pub struct CompareTable<'a> {
     /// The profile whose keys they are.
     pub l: &'a Loaded,
     /// The sums over all samples, by key number.
@@ -36,7 +36,12 @@ pub struct Table<'a> {
 }
 
 /// Appends a line for each of the names with these numbers, in their order.
-pub fn put_rows(alloc: Global, table: &Table, order: &[u64], out: &mut Text) -> Result<(), Memory>
+pub fn put_rows(
+    alloc: Global,
+    table: &CompareTable,
+    order: &[u64],
+    out: &mut Text,
+) -> Result<(), Memory>
     requires keys { All (IsKeyOf table.now.l.now.profile) table.now.sums.now.names }
     requires fits { FitSums table.now.sums.now }
     requires base { FitBase table.now.sums.now.names table.now.base.now }
@@ -53,7 +58,12 @@ pub fn put_rows(alloc: Global, table: &Table, order: &[u64], out: &mut Text) -> 
     Ok(())
 }
 
-fn put_row(table: &Table, number: u64, scratch: &mut Text, out: &mut Text) -> Result<(), Memory>
+fn put_row(
+    table: &CompareTable,
+    number: u64,
+    scratch: &mut Text,
+    out: &mut Text,
+) -> Result<(), Memory>
     requires keys { All (IsKeyOf table.now.l.now.profile) table.now.sums.now.names }
     requires fits { FitSums table.now.sums.now }
     requires base { FitBase table.now.sums.now.names table.now.base.now }
@@ -67,7 +77,7 @@ fn put_row(table: &Table, number: u64, scratch: &mut Text, out: &mut Text) -> Re
 }
 
 // What is compared of the name with this number.
-fn figures(table: &Table, number: u64) -> Difference
+fn figures(table: &CompareTable, number: u64) -> Difference
     requires fits { FitSums table.now.sums.now }
     requires base { FitBase table.now.sums.now.names table.now.base.now }
     requires below { number < length table.now.sums.now.names }

@@ -8,7 +8,7 @@ use Rattle.std.proofs.lemmas.List.{get_or-map, length-map, length-set, same_list
 use Rattle.pp_count.specs.declared.edge.Edge.{Edge}
 use Rattle.pp_graph.specs.declared.node.Node.{Node}
 use Rattle.pp_graph.specs.declared.slot.Hooks.{Hooks}
-use Rattle.pp_graph.specs.declared.slot.Slot.{Slot}
+use Rattle.pp_graph.specs.declared.slot.EdgeSlot.{EdgeSlot}
 use Rattle.pp_graph.specs.declared.slot.Spot.{Spot}
 use Rattle.pp_graph.specs.declared.slot.Side.{Side}
 use Rattle.pp_graph.specs.declared.slot.Side.TheVariants.{Out, In}
@@ -28,7 +28,7 @@ read_push g xs x d k = elim (cases_order k (length xs)) [
   | inr (inr above) ↦ ap g (get_or_past (xs ++ x ∷ []) k d (omega (arith, above, length_push xs x)) ∙ sym (get_or_past xs k d (omega (arith, above)))) ∙ ap (λ b. cond b (g x) (g (get_or xs k d))) (sym (eqb-not k (length xs) (λ is. omega (arith, above, is))))
 ]
 
-module _ (side : Side) (spots : List Spot) (slots : List Slot) (e : ℕ) (has : HasLinks side spots slots e) where
+module _ (side : Side) (spots : List Spot) (slots : List EdgeSlot) (e : ℕ) (has : HasLinks side spots slots e) where
   linked_next : (k : ℕ) → next_at side (linked_slots side e slots) k ≡ next_at side slots k
   linked_next k = kept-prev_set side (Some e) slots (λ x. (hooks side x).next) (next-with_prev side (Some e)) (next_at side slots e) k has.next
 
@@ -47,22 +47,22 @@ module _ (side : Side) (spots : List Spot) (slots : List Slot) (e : ℕ) (has : 
   linked_firsts : (m : ℕ) → first_at (other side) (linked_spots side e slots spots) m ≡ first_at (other side) spots m
   linked_firsts m = read_kept (first_of_side (other side)) no_spot spots (end_at side slots e) m (with_first side (Some e) (spot_at spots (end_at side slots e))) has.spot (other-with_first side (Some e) (spot_at spots (end_at side slots e)))
 
-module _ (spots : List Spot) (slots : List Slot) (s : AreSoundSlots spots slots) (edge : Edge) (from : edge.from < length spots) (to : edge.to < length spots) where
+module _ (spots : List Spot) (slots : List EdgeSlot) (s : AreSoundSlots spots slots) (edge : Edge) (from : edge.from < length spots) (to : edge.to < length spots) where
   -- the number of the new edge
   abbrev e : ℕ
   e = length slots
 
   -- the slots and nodes after each step
-  abbrev slots0 : List Slot
+  abbrev slots0 : List EdgeSlot
   slots0 = slots ++ new_slot spots edge ∷ []
 
-  abbrev slots1 : List Slot
+  abbrev slots1 : List EdgeSlot
   slots1 = linked_slots Out e slots0
 
   abbrev spots1 : List Spot
   spots1 = linked_spots Out e slots0 spots
 
-  abbrev pub slots2 : List Slot
+  abbrev pub slots2 : List EdgeSlot
   slots2 = linked_slots In e slots1
 
   abbrev pub spots2 : List Spot
@@ -92,22 +92,22 @@ module _ (spots : List Spot) (slots : List Slot) (s : AreSoundSlots spots slots)
   pub out_place : HasLinks Out spots slots0 e
   out_place = record {
     slot = omega (arith, length_push slots (new_slot spots edge));
-    spot = omega (arith, from, ap (λ (x : Slot). x.edge.from) newest);
-    next = λ k is. omega (arith, first_slot Out edge.from k from (sym (ap (λ (x : Slot). x.out.next) newest) ∙ is), length_push slots (new_slot spots edge));
-    prev = λ k is. absurd (none-some k (sym (ap (λ (x : Slot). x.out.prev) newest) ∙ is));
+    spot = omega (arith, from, ap (λ (x : EdgeSlot). x.edge.from) newest);
+    next = λ k is. omega (arith, first_slot Out edge.from k from (sym (ap (λ (x : EdgeSlot). x.out.next) newest) ∙ is), length_push slots (new_slot spots edge));
+    prev = λ k is. absurd (none-some k (sym (ap (λ (x : EdgeSlot). x.out.prev) newest) ∙ is));
   }
 
   in_hooks1 : (k : ℕ) → hooks_at In slots1 k ≡ hooks_at In slots0 k
   in_hooks1 k = linked_hooks Out spots slots0 e out_place k
 
   end1 : end_at In slots1 e ≡ edge.to
-  end1 = ap (λ (x : Edge). x.to) (linked_edge Out spots slots0 e out_place e ∙ ap (λ (x : Slot). x.edge) newest)
+  end1 = ap (λ (x : Edge). x.to) (linked_edge Out spots slots0 e out_place e ∙ ap (λ (x : EdgeSlot). x.edge) newest)
 
   in_next1 : next_at In slots1 e ≡ first_at In spots edge.to
-  in_next1 = ap (λ (h : Hooks). h.next) (in_hooks1 e ∙ ap (λ (x : Slot). x.into) newest)
+  in_next1 = ap (λ (h : Hooks). h.next) (in_hooks1 e ∙ ap (λ (x : EdgeSlot). x.into) newest)
 
   in_prev1 : prev_at In slots1 e ≡ None
-  in_prev1 = ap (λ (h : Hooks). h.prev) (in_hooks1 e ∙ ap (λ (x : Slot). x.into) newest)
+  in_prev1 = ap (λ (h : Hooks). h.prev) (in_hooks1 e ∙ ap (λ (x : EdgeSlot). x.into) newest)
 
   pub in_place : HasLinks In spots1 slots1 e
   in_place = record {
@@ -144,13 +144,13 @@ module _ (spots : List Spot) (slots : List Slot) (s : AreSoundSlots spots slots)
   all_prev : (side : Side) (k : ℕ) → prev_at side slots2 k ≡ cond (holds_number (first_at side spots (side_end side edge)) k) (Some e) (cond (eqb k e) None (prev_at side slots k))
   all_prev Out k =
       ap (λ (h : Hooks). h.prev) (linked_hooks In spots1 slots1 e in_place k) ∙ linked_prev Out spots slots0 e out_place k
-      ∙ (λ i. cond (holds_number (ap (λ (x : Slot). x.out.next) newest i) k) (Some e) (old_prev Out k i))
+      ∙ (λ i. cond (holds_number (ap (λ (x : EdgeSlot). x.out.next) newest i) k) (Some e) (old_prev Out k i))
   all_prev In k =
       linked_prev In spots1 slots1 e in_place k
       ∙ (λ i. cond (holds_number (in_next1 i) k) (Some e) ((ap (λ (h : Hooks). h.prev) (in_hooks1 k) ∙ old_prev In k) i))
 
   all_first : (side : Side) (m : ℕ) → first_at side spots2 m ≡ cond (eqb (side_end side edge) m) (Some e) (first_at side spots m)
-  all_first Out m = linked_firsts In spots1 slots1 e in_place m ∙ linked_first Out spots slots0 e out_place m ∙ ap (λ n. cond (eqb n m) (Some e) (first_at Out spots m)) (ap (λ (x : Slot). x.edge.from) newest)
+  all_first Out m = linked_firsts In spots1 slots1 e in_place m ∙ linked_first Out spots slots0 e out_place m ∙ ap (λ n. cond (eqb n m) (Some e) (first_at Out spots m)) (ap (λ (x : EdgeSlot). x.edge.from) newest)
   all_first In m = linked_first In spots1 slots1 e in_place m ∙ (λ i. cond (eqb (end1 i) m) (Some e) (linked_firsts Out spots slots0 e out_place m i))
 
   abbrev list : Side → ℕ → List ℕ

@@ -8,7 +8,7 @@ use Rattle.std.proofs.lemmas.List.{get_or-map, length-map, length-set, map-set, 
 use Rattle.pp_count.specs.declared.edge.Edge.{Edge}
 use Rattle.pp_graph.specs.declared.node.Node.{Node}
 use Rattle.pp_graph.specs.declared.slot.Hooks.{Hooks}
-use Rattle.pp_graph.specs.declared.slot.Slot.{Slot}
+use Rattle.pp_graph.specs.declared.slot.EdgeSlot.{EdgeSlot}
 use Rattle.pp_graph.specs.declared.slot.Spot.{Spot}
 use Rattle.pp_graph.specs.declared.slot.Side.{Side}
 use Rattle.pp_graph.specs.declared.slot.Side.TheVariants.{Out, In}
@@ -21,7 +21,7 @@ use Rattle.pp_graph.proofs.Setting.{Passed, read_set, read_kept, unlinked_passed
 use Rattle.pp_graph.proofs.Seeing.{at_end, has_end_is, get_or-map_default, once_true, once_most, list_seen, edge_seen, live_within, counts, apart_at, listed_end, same_end, length-list, its_end, end_spot, its_list, next_listed, prev_listed, has_place}
 
 -- the slot after its edge is cut
-abbrev pub cut_slot : Slot → Slot
+abbrev pub cut_slot : EdgeSlot → EdgeSlot
 cut_slot slot = record slot { live = false }
 
 -- a graph without one of its edges is linked where it was
@@ -67,21 +67,21 @@ module _ (g : EdgeLinks) (e : ℕ) where
           | inr apart ↦ sym (get_or-set_other g.edges e k None None apart) ∙ read
         ])
 
-module _ (spots : List Spot) (slots : List Slot) (s : AreSoundSlots spots slots) (e : ℕ) (live : IsUncut (held_links spots slots) e) where
+module _ (spots : List Spot) (slots : List EdgeSlot) (s : AreSoundSlots spots slots) (e : ℕ) (live : IsUncut (held_links spots slots) e) where
   -- the slots and nodes after each step
-  abbrev slots1 : List Slot
+  abbrev slots1 : List EdgeSlot
   slots1 = unlinked_slots Out e slots
 
   abbrev spots1 : List Spot
   spots1 = unlinked_spots Out e slots spots
 
-  abbrev slots2 : List Slot
+  abbrev slots2 : List EdgeSlot
   slots2 = unlinked_slots In e slots1
 
   abbrev pub spots2 : List Spot
   spots2 = unlinked_spots In e slots1 spots1
 
-  abbrev pub slots3 : List Slot
+  abbrev pub slots3 : List EdgeSlot
   slots3 = set slots2 e (cut_slot (slot_at slots2 e))
 
   pub length-slots3 : length slots3 ≡ length slots

@@ -6,7 +6,7 @@ use Rattle.std.proofs.lemmas.Bool.{cases_eq, eq-eqb, eqb-true, false≢true, cas
 use Rattle.std.proofs.lemmas.Option.{none-some, same_Some, slice_get-get_or}
 use Rattle.std.proofs.lemmas.List.{get_or-map, length-map, get_or_past}
 use Rattle.pp_count.specs.declared.edge.Edge.{Edge}
-use Rattle.pp_graph.specs.declared.slot.Slot.{Slot}
+use Rattle.pp_graph.specs.declared.slot.EdgeSlot.{EdgeSlot}
 use Rattle.pp_graph.specs.declared.slot.Spot.{Spot}
 use Rattle.pp_graph.specs.declared.slot.Side.{Side}
 use Rattle.pp_graph.specs.declared.slot.Side.TheVariants.{Out, In}
@@ -45,7 +45,7 @@ pub one_end : (side : Side) (edge : Option Edge) (n m : ℕ) → at_end side edg
 one_end side None n m a b = absurd (false≢true a)
 one_end side (Some x) n m a b = sym (eqb-true (side_end side x) n a) ∙ eqb-true (side_end side x) m b
 
-module _ (spots : List Spot) (slots : List Slot) where
+module _ (spots : List Spot) (slots : List EdgeSlot) where
   pub list_seen : (side : Side) (n : ℕ) → n < length spots → list_at side (held_links spots slots) n ≡ walk (next_at side slots) (length slots) (first_at side spots n)
   list_seen Out n within = get_or-map (list_of Out slots) spots n no_spot [] within
   list_seen In n within = get_or-map (list_of In slots) spots n no_spot [] within
@@ -53,7 +53,7 @@ module _ (spots : List Spot) (slots : List Slot) where
   pub edge_seen : (e : ℕ) → numbered_edge (held_links spots slots) e ≡ slot_edge (slot_at slots e)
   edge_seen e = get_or-map_default slot_edge slots e no_slot
 
-  some_edge : (x : Slot) → IsSome (slot_edge x) → slot_edge x ≡ Some x.edge
+  some_edge : (x : EdgeSlot) → IsSome (slot_edge x) → slot_edge x ≡ Some x.edge
   some_edge x some = elim x.live as (λ b. IsSome (cond b (Some x.edge) None) → cond b (Some x.edge) None ≡ Some x.edge) [ true ↦ λ _. refl | false ↦ λ h. absurd (grind (arith, h)) ] some
 
   pub live_edge : (e : ℕ) → IsUncut (held_links spots slots) e → slot_edge (slot_at slots e) ≡ Some (slot_at slots e).edge

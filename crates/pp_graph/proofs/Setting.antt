@@ -5,7 +5,7 @@ use Rattle.std.proofs.Math.Seq.{map-set_same}
 use Rattle.std.proofs.lemmas.Bool.{cases_eq, eq-eqb}
 use Rattle.std.proofs.lemmas.Option.{none-some}
 use Rattle.std.proofs.lemmas.List.{get_or-set_same, get_or-set_other, length-set}
-use Rattle.pp_graph.specs.declared.slot.Slot.{Slot}
+use Rattle.pp_graph.specs.declared.slot.EdgeSlot.{EdgeSlot}
 use Rattle.pp_graph.specs.declared.slot.Spot.{Spot}
 use Rattle.pp_graph.specs.declared.slot.Side.{Side}
 use Rattle.pp_graph.specs.declared.slot.Side.TheVariants.{Out, In}
@@ -32,38 +32,38 @@ module _ {X A : Type 0} (g : X → A) (d : X) where
   ]
 
 -- the place is none, or one of the slots
-abbrev pub IsWithin : Option ℕ → List Slot → Type 0
+abbrev pub IsWithin : Option ℕ → List EdgeSlot → Type 0
 IsWithin place slots = (k : ℕ) → place ≡ Some k → k < length slots
 
-next-with_next : (side : Side) (n : Option ℕ) (x : Slot) → (hooks side (with_next side n x)).next ≡ n
+next-with_next : (side : Side) (n : Option ℕ) (x : EdgeSlot) → (hooks side (with_next side n x)).next ≡ n
 next-with_next Out n x = refl
 next-with_next In n x = refl
 
-prev-with_next : (side : Side) (n : Option ℕ) (x : Slot) → (hooks side (with_next side n x)).prev ≡ (hooks side x).prev
+prev-with_next : (side : Side) (n : Option ℕ) (x : EdgeSlot) → (hooks side (with_next side n x)).prev ≡ (hooks side x).prev
 prev-with_next Out n x = refl
 prev-with_next In n x = refl
 
-other-with_next : (side : Side) (n : Option ℕ) (x : Slot) → hooks (other side) (with_next side n x) ≡ hooks (other side) x
+other-with_next : (side : Side) (n : Option ℕ) (x : EdgeSlot) → hooks (other side) (with_next side n x) ≡ hooks (other side) x
 other-with_next Out n x = refl
 other-with_next In n x = refl
 
-prev-with_prev : (side : Side) (n : Option ℕ) (x : Slot) → (hooks side (with_prev side n x)).prev ≡ n
+prev-with_prev : (side : Side) (n : Option ℕ) (x : EdgeSlot) → (hooks side (with_prev side n x)).prev ≡ n
 prev-with_prev Out n x = refl
 prev-with_prev In n x = refl
 
-pub next-with_prev : (side : Side) (n : Option ℕ) (x : Slot) → (hooks side (with_prev side n x)).next ≡ (hooks side x).next
+pub next-with_prev : (side : Side) (n : Option ℕ) (x : EdgeSlot) → (hooks side (with_prev side n x)).next ≡ (hooks side x).next
 next-with_prev Out n x = refl
 next-with_prev In n x = refl
 
-pub other-with_prev : (side : Side) (n : Option ℕ) (x : Slot) → hooks (other side) (with_prev side n x) ≡ hooks (other side) x
+pub other-with_prev : (side : Side) (n : Option ℕ) (x : EdgeSlot) → hooks (other side) (with_prev side n x) ≡ hooks (other side) x
 other-with_prev Out n x = refl
 other-with_prev In n x = refl
 
-edge-with_next : (side : Side) (n : Option ℕ) (x : Slot) → ((with_next side n x).edge ≡ x.edge) × ((with_next side n x).live ≡ x.live)
+edge-with_next : (side : Side) (n : Option ℕ) (x : EdgeSlot) → ((with_next side n x).edge ≡ x.edge) × ((with_next side n x).live ≡ x.live)
 edge-with_next Out n x = (refl, refl)
 edge-with_next In n x = (refl, refl)
 
-pub edge-with_prev : (side : Side) (n : Option ℕ) (x : Slot) → ((with_prev side n x).edge ≡ x.edge) × ((with_prev side n x).live ≡ x.live)
+pub edge-with_prev : (side : Side) (n : Option ℕ) (x : EdgeSlot) → ((with_prev side n x).edge ≡ x.edge) × ((with_prev side n x).live ≡ x.live)
 edge-with_prev Out n x = (refl, refl)
 edge-with_prev In n x = (refl, refl)
 
@@ -79,10 +79,10 @@ node-with_first : (side : Side) (n : Option ℕ) (x : Spot) → (with_first side
 node-with_first Out n x = refl
 node-with_first In n x = refl
 
-slot_edge-same : (x y : Slot) → (x.edge ≡ y.edge) × (x.live ≡ y.live) → slot_edge x ≡ slot_edge y
+slot_edge-same : (x y : EdgeSlot) → (x.edge ≡ y.edge) × (x.live ≡ y.live) → slot_edge x ≡ slot_edge y
 slot_edge-same x y same = λ i. cond (same.1 i) (Some (same.0 i)) None
 
-module _ (side : Side) (n : Option ℕ) (slots : List Slot) where
+module _ (side : Side) (n : Option ℕ) (slots : List EdgeSlot) where
   pub length-next_set : (place : Option ℕ) → length (next_set side place n slots) ≡ length slots
   length-next_set None = refl
   length-next_set (Some e) = length-set slots e (with_next side n (slot_at slots e))
@@ -100,12 +100,12 @@ module _ (side : Side) (n : Option ℕ) (slots : List Slot) where
   edges-prev_set (Some e) = map-set_same slot_edge slots e (with_prev side n (slot_at slots e)) _ (slot_edge-same (with_prev side n (slot_at slots e)) (slot_at slots e) (edge-with_prev side n (slot_at slots e)))
 
   -- what a change of this kind leaves of a slot
-  pub kept-next_set : {A : Type 0} (g : Slot → A) → ((x : Slot) → g (with_next side n x) ≡ g x) → (place : Option ℕ) (k : ℕ) → IsWithin place slots
+  pub kept-next_set : {A : Type 0} (g : EdgeSlot → A) → ((x : EdgeSlot) → g (with_next side n x) ≡ g x) → (place : Option ℕ) (k : ℕ) → IsWithin place slots
       → g (slot_at (next_set side place n slots) k) ≡ g (slot_at slots k)
   kept-next_set g same None k within = refl
   kept-next_set g same (Some e) k within = read_kept g _ slots e k (with_next side n (slot_at slots e)) (within e refl) (same (slot_at slots e))
 
-  pub kept-prev_set : {A : Type 0} (g : Slot → A) → ((x : Slot) → g (with_prev side n x) ≡ g x) → (place : Option ℕ) (k : ℕ) → IsWithin place slots
+  pub kept-prev_set : {A : Type 0} (g : EdgeSlot → A) → ((x : EdgeSlot) → g (with_prev side n x) ≡ g x) → (place : Option ℕ) (k : ℕ) → IsWithin place slots
       → g (slot_at (prev_set side place n slots) k) ≡ g (slot_at slots k)
   kept-prev_set g same None k within = refl
   kept-prev_set g same (Some e) k within = read_kept g _ slots e k (with_prev side n (slot_at slots e)) (within e refl) (same (slot_at slots e))
@@ -134,14 +134,14 @@ first-first_set side n m place spots within =
     read_set (first_of_side side) _ spots n m (with_first side place (spot_at spots n)) within
     ∙ ap (λ p. cond (eqb n m) p (first_at side spots m)) (first-with_first side place (spot_at spots n))
 
-module _ (side : Side) (spots : List Spot) (slots : List Slot) (e : ℕ) (has : HasLinks side spots slots e) where
+module _ (side : Side) (spots : List Spot) (slots : List EdgeSlot) (e : ℕ) (has : HasLinks side spots slots e) where
   before : Option ℕ
   before = prev_at side slots e
 
   after : Option ℕ
   after = next_at side slots e
 
-  between : List Slot
+  between : List EdgeSlot
   between = next_set side (prev_at side slots e) (next_at side slots e) slots
 
   in_between : IsWithin (next_at side slots e) (next_set side (prev_at side slots e) (next_at side slots e) slots)
@@ -206,12 +206,12 @@ module _ (side : Side) (spots : List Spot) (slots : List Slot) (e : ℕ) (has : 
   ]
 
 -- what holds of any slots
-pub unlinked_edges : (side : Side) (slots : List Slot) (e : ℕ) → map slot_edge (unlinked_slots side e slots) ≡ map slot_edge slots
+pub unlinked_edges : (side : Side) (slots : List EdgeSlot) (e : ℕ) → map slot_edge (unlinked_slots side e slots) ≡ map slot_edge slots
 unlinked_edges side slots e =
     edges-prev_set side (prev_at side slots e) (next_set side (prev_at side slots e) (next_at side slots e) slots) (next_at side slots e)
     ∙ edges-next_set side (next_at side slots e) slots (prev_at side slots e)
 
-pub length-unlinked : (side : Side) (slots : List Slot) (e : ℕ) → length (unlinked_slots side e slots) ≡ length slots
+pub length-unlinked : (side : Side) (slots : List EdgeSlot) (e : ℕ) → length (unlinked_slots side e slots) ≡ length slots
 length-unlinked side slots e =
     length-prev_set side (prev_at side slots e) (next_set side (prev_at side slots e) (next_at side slots e) slots) (next_at side slots e)
     ∙ length-next_set side (next_at side slots e) slots (prev_at side slots e)
@@ -219,13 +219,13 @@ length-unlinked side slots e =
 pub nodes-first_set : (side : Side) (n : ℕ) (place : Option ℕ) (spots : List Spot) → map (λ (x : Spot). x.node) (first_set side n place spots) ≡ map (λ (x : Spot). x.node) spots
 nodes-first_set side n place spots = map-set_same (λ (x : Spot). x.node) spots n (with_first side place (spot_at spots n)) _ (node-with_first side place (spot_at spots n))
 
-pub unlinked_nodes : (side : Side) (slots : List Slot) (spots : List Spot) (e : ℕ) → map (λ (x : Spot). x.node) (unlinked_spots side e slots spots) ≡ map (λ (x : Spot). x.node) spots
+pub unlinked_nodes : (side : Side) (slots : List EdgeSlot) (spots : List Spot) (e : ℕ) → map (λ (x : Spot). x.node) (unlinked_spots side e slots spots) ≡ map (λ (x : Spot). x.node) spots
 unlinked_nodes side slots spots e = elim (is_none (prev_at side slots e)) as (λ b. map (λ (x : Spot). x.node) (cond b (first_set side (end_at side slots e) (next_at side slots e) spots) spots) ≡ map (λ (x : Spot). x.node) spots) [
   | true ↦ nodes-first_set side (end_at side slots e) (next_at side slots e) spots
   | false ↦ refl
 ]
 
-pub length_unlinked_spots : (side : Side) (slots : List Slot) (spots : List Spot) (e : ℕ) → length (unlinked_spots side e slots spots) ≡ length spots
+pub length_unlinked_spots : (side : Side) (slots : List EdgeSlot) (spots : List Spot) (e : ℕ) → length (unlinked_spots side e slots spots) ≡ length spots
 length_unlinked_spots side slots spots e = elim (is_none (prev_at side slots e)) as (λ b. length (cond b (first_set side (end_at side slots e) (next_at side slots e) spots) spots) ≡ length spots) [
   | true ↦ length-set spots (end_at side slots e) (with_first side (next_at side slots e) (spot_at spots (end_at side slots e)))
   | false ↦ refl

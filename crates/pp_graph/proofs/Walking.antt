@@ -4,7 +4,7 @@ use Rattle.std.specs.List.{slice_get}
 use Rattle.std.proofs.lemmas.Bool.{cases_lt}
 use Rattle.std.proofs.lemmas.Option.{none-some}
 use Rattle.std.proofs.lemmas.List.{length-map, get_or_past, get_or_default}
-use Rattle.pp_graph.specs.declared.slot.Slot.{Slot}
+use Rattle.pp_graph.specs.declared.slot.EdgeSlot.{EdgeSlot}
 use Rattle.pp_graph.specs.declared.slot.Spot.{Spot}
 use Rattle.pp_graph.specs.declared.slot.Side.{Side}
 use Rattle.pp_graph.specs.declared.slot.Side.TheVariants.{Out, In}
@@ -13,7 +13,7 @@ use Rattle.pp_graph.specs.Slots.{hooks, first_of_side, no_slot, no_spot, next_at
 use Rattle.pp_graph.proofs.Chaining.{first_is, next_is}
 use Rattle.pp_graph.proofs.Seeing.{live_within}
 
-module _ (spots : List Spot) (slots : List Slot) (s : AreSoundSlots spots slots) where
+module _ (spots : List Spot) (slots : List EdgeSlot) (s : AreSoundSlots spots slots) where
   pub first_seen : (side : Side) (n : ℕ) → n < length spots → first_at side spots n ≡ slice_get (list_at side (held_links spots slots) n) 0
   first_seen side n within = first_is (next_at side slots) (prev_at side slots) None (first_at side spots n) (list_at side (held_links spots slots) n) (s.chains side n within)
 
@@ -37,7 +37,7 @@ module _ (spots : List Spot) (slots : List Slot) (s : AreSoundSlots spots slots)
       let inside : n < length spots = omega (arith, within, ap (λ (h : EdgeLinks). length h.nodes) is, length-map spots (λ (y : Spot). y.node)) in
       ap (first_of_side side) (at ∙ get_or_default spots n x no_spot inside) ∙ first_seen side n inside ∙ ap (λ h. slice_get (list_at side h n) 0) is
 
-  pub next_read : (g : EdgeLinks) → held_links spots slots ≡ g → (side : Side) (e : ℕ) (x : Slot) → IsUncut g e → x ≡ get_or slots e x
+  pub next_read : (g : EdgeLinks) → held_links spots slots ≡ g → (side : Side) (e : ℕ) (x : EdgeSlot) → IsUncut g e → x ≡ get_or slots e x
       → (n i : ℕ) → slice_get (list_at side g n) i ≡ Some e → (hooks side x).next ≡ slice_get (list_at side g n) (i + 1)
   next_read g is side e x live at n i here =
       ap (λ y. (hooks side y).next) (at ∙ get_or_default slots e x no_slot (live_within spots slots e (subst (λ h. IsUncut h e) (sym is) live)))

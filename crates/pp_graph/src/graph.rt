@@ -4,7 +4,7 @@ ghost use Rattle.pp_graph.specs.Slots.{bare_spot, bare_spots};
 
 use crate::links::{cut, hang};
 use crate::node::Node;
-use crate::slot::{Hooks, Slot, Spot};
+use crate::slot::{EdgeSlot, Hooks, Spot};
 use pp_base::{List, Memory};
 use pp_count::{Edge, Sums};
 use std::alloc::Global;
@@ -15,7 +15,7 @@ use std::marker::Model;
 #[derive(Drop)]
 pub struct Graph {
     spots: Vec<Spot>,
-    slots: Vec<Slot>,
+    slots: Vec<EdgeSlot>,
 }
 
 impl Model for Graph {
@@ -78,7 +78,7 @@ impl Graph {
         let e = self.slots.len() as u64;
         let caller = self.spots[edge.from as usize];
         let callee = self.spots[edge.to as usize];
-        self.slots.push(Slot {
+        self.slots.push(EdgeSlot {
             edge,
             out: Hooks {
                 next: caller.first_out,

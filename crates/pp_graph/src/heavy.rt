@@ -11,7 +11,7 @@ use std::alloc::Global;
 use std::cmp::Ordering;
 
 /// A key with what it is ranked by.
-#[derive(Clone, Copy, Debug)]
+#[derive(Clone, Copy)]
 pub struct Row<'a> {
     /// The number of its name.
     pub number: u64,

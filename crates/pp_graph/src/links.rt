@@ -3,11 +3,11 @@ ghost use Rattle.std.specs.Prelude.{◌≡◌, ℕ, ◌<◌, length, map};
 ghost use Rattle.pp_graph.specs.Slots.{hooks, side_end, no_slot, next_set, prev_set, first_set, HasLinks, linked_slots, linked_spots, unlinked_slots, unlinked_spots, held_links, slot_edge, AreSoundSlots, IsNewest};
 ghost use Rattle.pp_graph.specs.Links.{IsUncut, without};
 
-use crate::slot::{Hooks, Side, Slot, Spot};
+use crate::slot::{EdgeSlot, Hooks, Side, Spot};
 use pp_count::Edge;
 
 // The edges beside this one in the list of the side.
-fn hooks(slot: &Slot, side: Side) -> Hooks
+fn hooks(slot: &EdgeSlot, side: Side) -> Hooks
     ensures { result ≡ hooks side slot.now }
 {
     match side {
@@ -38,7 +38,7 @@ fn set_first(spots: &mut [Spot], n: u64, side: Side, first: Option<u64>)
 }
 
 // Puts another edge after this one, where there is one.
-fn set_next(slots: &mut [Slot], place: Option<u64>, side: Side, next: Option<u64>)
+fn set_next(slots: &mut [EdgeSlot], place: Option<u64>, side: Side, next: Option<u64>)
     requires { (k : ℕ) → place ≡ Some k → k < length slots.old }
     ensures { slots.new ≡ next_set side place next slots.old }
 {
@@ -51,7 +51,7 @@ fn set_next(slots: &mut [Slot], place: Option<u64>, side: Side, next: Option<u64
 }
 
 // Puts another edge before this one, where there is one.
-fn set_prev(slots: &mut [Slot], place: Option<u64>, side: Side, prev: Option<u64>)
+fn set_prev(slots: &mut [EdgeSlot], place: Option<u64>, side: Side, prev: Option<u64>)
     requires { (k : ℕ) → place ≡ Some k → k < length slots.old }
     ensures { slots.new ≡ prev_set side place prev slots.old }
 {
@@ -64,7 +64,7 @@ fn set_prev(slots: &mut [Slot], place: Option<u64>, side: Side, prev: Option<u64
 }
 
 /// Cuts the edge: takes it out of both its lists, and marks it.
-pub fn cut(spots: &mut [Spot], slots: &mut [Slot], e: u64)
+pub fn cut(spots: &mut [Spot], slots: &mut [EdgeSlot], e: u64)
     requires sound { AreSoundSlots spots.old slots.old }
     requires live { IsUncut (held_links spots.old slots.old) e }
     ensures sound { AreSoundSlots spots.new slots.new }
@@ -76,7 +76,7 @@ pub fn cut(spots: &mut [Spot], slots: &mut [Slot], e: u64)
 }
 
 /// Links the edge of the last slot into both its lists.
-pub fn hang(spots: &mut [Spot], slots: &mut [Slot], e: u64)
+pub fn hang(spots: &mut [Spot], slots: &mut [EdgeSlot], e: u64)
     requires { IsNewest spots.old slots.old e }
     ensures sound { AreSoundSlots spots.new slots.new }
     ensures nodes { map (λ x. x.node) spots.new ≡ map (λ x. x.node) spots.old }
@@ -87,7 +87,7 @@ pub fn hang(spots: &mut [Spot], slots: &mut [Slot], e: u64)
 }
 
 // Makes the edge the first of its list of the side, where it names the first so far as the one after it.
-fn link(spots: &mut [Spot], slots: &mut [Slot], side: Side, e: u64)
+fn link(spots: &mut [Spot], slots: &mut [EdgeSlot], side: Side, e: u64)
     requires { HasLinks side spots.old slots.old e }
     ensures spots { spots.new ≡ linked_spots side e slots.old spots.old }
     ensures slots { slots.new ≡ linked_slots side e slots.old }
@@ -98,7 +98,7 @@ fn link(spots: &mut [Spot], slots: &mut [Slot], side: Side, e: u64)
 }
 
 // Takes the edge out of its list of the side.
-fn unlink(spots: &mut [Spot], slots: &mut [Slot], side: Side, e: u64)
+fn unlink(spots: &mut [Spot], slots: &mut [EdgeSlot], side: Side, e: u64)
     requires { HasLinks side spots.old slots.old e }
     ensures spots { spots.new ≡ unlinked_spots side e slots.old spots.old }
     ensures slots { slots.new ≡ unlinked_slots side e slots.old }

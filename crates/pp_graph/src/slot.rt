@@ -4,7 +4,7 @@ use crate::node::Node;
 use pp_count::Edge;
 
 /// The two edges beside an edge in a list.
-#[derive(Clone, Copy, Debug, PartialEq, Eq)]
+#[derive(Clone, Copy)]
 pub struct Hooks {
     /// The edge after it, none at the end.
     pub next: Option<u64>,
@@ -13,8 +13,8 @@ pub struct Hooks {
 }
 
 /// An edge, linked into the list of its caller and into that of its callee.
-#[derive(Clone, Copy, Debug, PartialEq, Eq)]
-pub struct Slot {
+#[derive(Clone, Copy)]
+pub struct EdgeSlot {
     /// The edge with its weight.
     pub edge: Edge,
     /// Beside it in the list of the edges that leave its caller.
@@ -26,7 +26,7 @@ pub struct Slot {
 }
 
 /// A node, with the first edge of its two lists.
-#[derive(Clone, Copy, Debug, PartialEq, Eq)]
+#[derive(Clone, Copy)]
 pub struct Spot {
     /// The node with its sums.
     pub node: Node,
@@ -37,7 +37,7 @@ pub struct Spot {
 }
 
 /// Which of its two lists an edge is looked at in.
-#[derive(Clone, Copy, Debug, PartialEq, Eq)]
+#[derive(Clone, Copy)]
 pub enum Side {
     /// The edges that leave a node.
     Out,

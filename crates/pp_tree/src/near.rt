@@ -20,7 +20,7 @@ use std::cmp::Ordering;
 const EDGE_INDENT: &[u8] = b"                                                 ";
 
 /// The other end of a node's edge.
-#[derive(Clone, Copy, Debug)]
+#[derive(Clone, Copy)]
 pub struct Near<'a> {
     /// What the key there stands for.
     pub texts: KeyTexts<'a>,

@@ -31,7 +31,7 @@ const NODE_GAP: &[u8] = b"                     | ";
 
 /// What the lines of all nodes are made of.
 #[derive(Clone, Copy)]
-pub struct Table<'a> {
+pub struct NodeTable<'a> {
     /// The profile whose keys the nodes are.
     pub p: &'a Profile,
     /// The sums of each key, by key number.
@@ -66,7 +66,12 @@ fn put_columns_line(out: &mut Text) -> Result<(), Memory>
 }
 
 /// Appends the lines of the names with these numbers, in their order.
-pub fn put_nodes(alloc: Global, table: &Table, order: &[u64], out: &mut Text) -> Result<(), Memory>
+pub fn put_nodes(
+    alloc: Global,
+    table: &NodeTable,
+    order: &[u64],
+    out: &mut Text,
+) -> Result<(), Memory>
     requires show { CanShow table.now.p.now table.now.sums.now order.now }
     requires walk { CanWalk table.now.p.now table.now.sums.now table.now.graph.now }
     ensures { (pairs : Pairs) →
@@ -87,7 +92,7 @@ pub fn put_nodes(alloc: Global, table: &Table, order: &[u64], out: &mut Text) ->
 // The lines of a node, where the flats up to it have this sum.
 fn put_node(
     alloc: Global,
-    table: &Table,
+    table: &NodeTable,
     number: u64,
     sum: i64,
     scratch: &mut Text,
@@ -111,7 +116,7 @@ fn put_node(
 // The lines of the edges from the node's callers.
 fn put_callers(
     alloc: Global,
-    table: &Table,
+    table: &NodeTable,
     number: u64,
     scratch: &mut Text,
     out: &mut Text,
@@ -134,7 +139,7 @@ fn put_callers(
 // The lines of the edges to its callees.
 fn put_callees(
     alloc: Global,
-    table: &Table,
+    table: &NodeTable,
     number: u64,
     scratch: &mut Text,
     out: &mut Text,
@@ -165,7 +170,7 @@ fn cum_size(sums: &Sums, number: u64) -> u64
 
 // "%10s %8s %8s %10s %8s%20s | %s": flat, flat%, sum%, cum, cum% and the name.
 fn put_itself(
-    table: &Table,
+    table: &NodeTable,
     number: u64,
     sum: i64,
     scratch: &mut Text,

@@ -11,7 +11,7 @@ ghost use Rattle.pp_tree.specs.Peek.{peek_text};
 ghost use Rattle.pp_tree.specs.Ends.{Pairs, ShowsPairs, CanWalk, peeked_text};
 ghost use Rattle.pp_tree.specs.Whole.{all_pairs, pairs_about};
 
-use crate::nodes::{Table, put_nodes, put_table_heading};
+use crate::nodes::{NodeTable, put_nodes, put_table_heading};
 use crate::own::found_names;
 use pp_base::{Gate, List, MatchRefusal, Memory, Text};
 use pp_count::{Counted, Ends, Survey, edges_about};
@@ -90,7 +90,7 @@ pub fn write_peek_of<R: Threads + Sync, G: Gate>(
     let graph = graph_about(rt, alloc, survey, found.as_slice(), gate)?;
     let shown = found_of(alloc, ranked.order.as_slice(), found.as_slice())?;
     let mut text = Text::new(alloc);
-    let table = Table {
+    let table = NodeTable {
         p: l.profile.get(),
         sums: &counted.sums,
         graph: &graph,
@@ -171,7 +171,7 @@ fn is_found(found: &[bool], number: u64) -> bool
 
 fn put_peek(
     alloc: Global,
-    table: &Table,
+    table: &NodeTable,
     sum: i64,
     shown: &[u64],
     out: &mut Text,

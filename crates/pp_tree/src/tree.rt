@@ -11,7 +11,7 @@ ghost use Rattle.pp_graph.specs.KeyRows.{CanShow};
 ghost use Rattle.pp_tree.specs.Tree.{summary_text, tree_text};
 ghost use Rattle.pp_tree.specs.Ends.{Pairs, ShowsPairs, CanWalk, trimmed_text};
 
-use crate::nodes::{Table, put_nodes, put_table_heading};
+use crate::nodes::{NodeTable, put_nodes, put_table_heading};
 use pp_base::{Memory, Text};
 use pp_count::Counted;
 use pp_graph::Trimmed;
@@ -59,7 +59,7 @@ fn put_tree(
         IfOk result (λ _. out.new
         ≡ out.old ++ trimmed_text l.now.profile c.now.sums t.now pairs (facts head.now)) }
 {
-    let table = Table {
+    let table = NodeTable {
         p: l.profile.get(),
         sums: &c.sums,
         graph: &t.graph,
