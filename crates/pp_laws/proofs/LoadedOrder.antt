@@ -1,14 +1,11 @@
 -- The order of a file's samples does not matter once the file is loaded.
-use Rattle.std.proofs.Common.{◌≡◌, ℕ, ◌+◌, ◌<◌, ◌^◌, Bool, true, cond, ℤ, nat_abs, List, [], ◌∷◌, length, map, ◌==◌, Option, Some, None, option_map, refl, sym, ap, ◌∙◌}
-use Rattle.std.specs.Prelude.{nat_lt, position, is_some, if◌then◌else◌}
-use Rattle.std.specs.Char.{is_ascii_digit}
-use Rattle.std.specs.List.{AllByRecursion, filter_map, cons_option, list_all, sum_by}
+use Rattle.std.proofs.Common.{◌≡◌, ℕ, ◌+◌, ◌<◌, ◌^◌, Bool, true, cond, ℤ, nat_abs, List, [], ◌∷◌, length, map, Option, refl, sym, ap, ◌∙◌}
+use Rattle.std.specs.Prelude.{is_some}
+use Rattle.std.specs.List.{AllByRecursion, filter_map, cons_option, sum_by}
 use Rattle.std.specs.List.Sorted.{IsPermutation}
-use Rattle.std.specs.Str.{bytes_eq}
-use Rattle.std.specs.Str.Parse.{digits_value}
-use Rattle.std.proofs.lemmas.List.{length-map}
 use Rattle.std.proofs.lemmas.List.Sorted.{IsPermutation-append_left, IsPermutation-map}
 use Rattle.std.proofs.lemmas.List.Sums.{sum_by-cons}
+use Rattle.std.proofs.lemmas.Simd.{map-map}
 use Rattle.pp_base.proofs.Lists.{all_by}
 use Rattle.pp_model.specs.declared.config.Config.{Config}
 use Rattle.pp_model.specs.declared.profile.Profile.{Profile}
@@ -16,7 +13,6 @@ use Rattle.pp_model.specs.declared.profile.Sample.{Sample}
 use Rattle.pp_model.specs.Finders.{Finders}
 use Rattle.pp_model.specs.FrameTexts.{Written}
 use Rattle.pp_model.specs.Lookup.{text_of}
-use Rattle.pp_stack.proofs.ToldLemmas.{position-map}
 use Rattle.pp_share.specs.Described.{MappingText, SampleText, location_found, mapping_text, sample_text}
 use Rattle.pp_share.specs.Alike.{same_sample, first_alike}
 use Rattle.pp_share.specs.Header.{HeaderText, TypeText, type_text, header_of}
@@ -28,39 +24,24 @@ use Rattle.pp_merge.specs.Merge.{all_mappings, all_samples, contents, merged}
 use Rattle.pp_merge.specs.Settled.{IsSettled}
 use Rattle.pp_merge.proofs.SettledLemmas.{all_flat, settled_contents}
 use Rattle.pp_merge.proofs.WrittenAgain.{contents_again, samples_back}
-use Rattle.pp_count.specs.Column.{selected, last_of, first_else, type_named, column_of}
+use Rattle.pp_count.specs.Column.{selected, column_of}
 use Rattle.pp_count.specs.Counts.{is_base, total_by}
 use Rattle.pp_count.specs.Seeing.{seen}
 use Rattle.pp_count.specs.Sums.{Seen, weighed}
+use Rattle.pp_count.proofs.Columns.{columns_alike}
 use Rattle.pp_laws.specs.Order.{with_samples, LoadedOrderIsFree}
 use Rattle.pp_laws.proofs.Comparing.{tell_base, base_told}
 use Rattle.pp_laws.proofs.Reordering.{IsToldFrom, own_told, same_figures}
 use Rattle.pp_laws.proofs.SeenAs.{value_told, value_same, sees, telling, Fine, each_fine, seen_as}
 use Rattle.pp_laws.proofs.SumsMoved.{sums_moved}
 
--- the first of these types that has the name
-abbrev named : List TypeText → List ℕ → Option ℕ
-named types name = if length name == 0 then None else position (λ t. bytes_eq t.kind name) types
-
--- the column that a text asks for, by the header
-abbrev column_by : HeaderText → List ℕ → Option (Option ℕ)
-column_by h [] = Some (first_else (named h.types h.default_sample_type) (last_of (length h.types)))
-column_by h (b ∷ text) =
-    option_map Some (if list_all is_ascii_digit (b ∷ text)
-    then (if nat_lt (digits_value 10 (b ∷ text)) (length h.types) then Some (digits_value 10 (b ∷ text)) else None)
-    else named h.types (b ∷ text))
-
-module _ (p : Profile) where
-  named_is : (name : List ℕ) → named (map (type_text p) p.sample_type) name ≡ type_named p name
-  named_is name = ap (λ (o : Option ℕ). if length name == 0 then None else o) (position-map (type_text p) (λ (t : TypeText). bytes_eq t.kind name) p.sample_type)
-
-  column_is : (text : List ℕ) → column_by (header_of p []) text ≡ column_of p text
-  column_is [] =
-      let default : List ℕ = text_of p p.default_sample_type in
-      λ i. Some (first_else ((ap (named (map (type_text p) p.sample_type)) (nonempty_same default) ∙ named_is default) i) (last_of (length-map p.sample_type (type_text p) i)))
-  column_is (b ∷ text) = λ i. option_map Some (if list_all is_ascii_digit (b ∷ text)
-      then (if nat_lt (digits_value 10 (b ∷ text)) (length-map p.sample_type (type_text p) i) then Some (digits_value 10 (b ∷ text)) else None)
-      else named_is (b ∷ text) i)
+-- profiles with one header have the same columns
+same_columns : (p q : Profile) → header_of q [] ≡ header_of p [] → (text : List ℕ) → column_of q text ≡ column_of p text
+same_columns p q header =
+    columns_alike p q
+    (sym (map-map (λ (t : TypeText). t.kind) (type_text q) q.sample_type) ∙ ap (λ (h : HeaderText). map (λ t. t.kind) h.types) header
+    ∙ map-map (λ (t : TypeText). t.kind) (type_text p) p.sample_type)
+    (sym (nonempty_same (text_of q q.default_sample_type)) ∙ ap (λ (h : HeaderText). h.default_sample_type) header ∙ nonempty_same (text_of p p.default_sample_type))
 
 -- what is taken of items is taken of what they say
 module _ {X Y : Type 0} (say : X → Y) where
@@ -122,7 +103,5 @@ loaded_order_is_free p samples f config column values own_starts moved =
     same_figures (sees_item f config column) (value_item f config column) (is_base_item f config column) (contents p []).samples (contents q []).samples
     (sums_moved same_sample sample_decides (length p.sample_type) (all_samples (p ∷ [])) (all_samples (q ∷ [])) items_moved wide)
     (merged p []) (merged q []) f config column (contents_told f config column (contents p []) first) (contents_told f config column (contents q []) second)
-    (λ text. sym (column_is (merged p []) text)
-    ∙ ap (λ (c : Contents). column_by c.header text) (contents_again (contents p []) first)
-    ∙ ap (λ (c : Contents). column_by c.header text) (sym (contents_again (contents q []) second))
-    ∙ column_is (merged q []) text)
+    (same_columns (merged q []) (merged p [])
+    (ap (λ (c : Contents). c.header) (contents_again (contents p []) first) ∙ ap (λ (c : Contents). c.header) (sym (contents_again (contents q []) second))))
