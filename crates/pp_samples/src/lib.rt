@@ -4,6 +4,7 @@
 mod comments;
 mod frame_lines;
 mod key_table;
+mod label_lines;
 mod tag_counts;
 mod tag_lines;
 mod tag_name;

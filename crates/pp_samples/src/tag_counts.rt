@@ -6,7 +6,8 @@ ghost use Rattle.pp_model.specs.Finders.{Finders};
 ghost use Rattle.pp_count.specs.Counts.{samples_at};
 ghost use Rattle.pp_samples.specs.Tables.{Event, AreKeys, AreSmall, label_event, sample_events, events_from};
 ghost use Rattle.pp_samples.specs.Places.{AreEven};
-ghost use Rattle.pp_samples.specs.Counting.{AreSound, same_label_parts};
+ghost use Rattle.pp_samples.specs.Labels.{same_label_parts};
+ghost use Rattle.pp_samples.specs.Counting.{AreSound};
 ghost use Rattle.pp_samples.specs.Surveyed.{survey_profile, FindsInSurvey, survey_tagged};
 
 use crate::key_table::{KeyTable, TagPlace, add_known_label, add_label, no_keys};

@@ -16,10 +16,10 @@ ghost use Rattle.pp_samples.specs.Places.{IsEven, EachEven, AreEven};
 ghost use Rattle.pp_samples.specs.Ranked.{line_entry, line_key, event_entry, table_tags, no_tag, entry_cmp, line_key_cmp, IsKeyLine, entry_line};
 
 use crate::key_table::KeyTable;
+use crate::label_lines::put_own_value;
 use crate::tag_counts::count_tags;
 use crate::tag_name::{TagName, tag_order};
 use crate::tag_table::{TagSum, TagTable};
-use crate::traces::put_own_value;
 use pp_base::{List, Memory, Text};
 use pp_count::{Counted, Survey};
 use pp_model::{Config, Loaded, Verdicts};

@@ -1,5 +1,5 @@
 //! The traces report.
-ghost use Rattle.std.specs.Prelude.{◌≡◌, ◌++◌, ◌<◌, [], ◌∷◌, length, map, All, IfOk, OnOk, OnErr};
+ghost use Rattle.std.specs.Prelude.{◌≡◌, ◌++◌, [], ◌∷◌, map, All, IfOk, OnOk, OnErr};
 ghost use Rattle.std.specs.List.{flat_map};
 ghost use Rattle.pp_model.specs.Conditions.{IsSampleOf, RefersTo};
 ghost use Rattle.pp_model.specs.Finders.{Finders};
@@ -10,15 +10,16 @@ ghost use Rattle.pp_count.specs.Column.{selected};
 ghost use Rattle.pp_count.specs.Counts.{samples_at};
 ghost use Rattle.pp_count.specs.Counted.{CanCount, IsCountedOf};
 ghost use Rattle.pp_count.specs.Seeing.{HoldsFilters};
-ghost use Rattle.pp_samples.specs.Traces.{traces_text, trace_of, trace_separator, trace_label_line, trace_label_value, own_value, frame_line, trace_text};
+ghost use Rattle.pp_samples.specs.Traces.{traces_text, trace_of, trace_separator, frame_line, trace_text};
+ghost use Rattle.pp_samples.specs.LabelLines.{AreLabelLines};
 ghost use Rattle.pp_samples.specs.Tracing.{trace_profile, trace_key, FindsInTraces, AreTracesReady, IsKeyNumber, sample_trace};
 
 use crate::frame_lines::lines_of;
+use crate::label_lines::{LabelLines, no_lines, write_labels};
 use pp_base::{List, Memory, Text};
 use pp_count::{Counted, Scope, Survey, see, selected};
-use pp_model::{Config, Label, Loaded, Profile, Sample, Stack, Verdicts, text_of};
-use pp_tags::{has_text, number_unit, show_tags_into};
-use pp_units::{Head, Unit, pick_unit, put_right, put_value, write_head};
+use pp_model::{Config, Label, Loaded, Sample, Stack, Verdicts};
+use pp_units::{Head, Unit, put_right, put_value, write_head};
 use std::alloc::Global;
 
 // The line between two samples: 11 dashes, a plus, 55 dashes.
@@ -43,7 +44,11 @@ pub struct Room {
     /// The key numbers of its frames that count, leaf first.
     pub keys: Vec<u64>,
     /// Its labels that are shown.
-    pub labels: List<Label>,
+    pub shown: List<Label>,
+    /// The lines of all labels so far.
+    pub made: LabelLines,
+    /// The lines of its labels.
+    pub labels: Text,
     /// The text of its value.
     pub value: Text,
 }
@@ -140,7 +145,9 @@ fn put_traces(alloc: Global, t: &Traces, kept: &[u32], lines: &mut Text) -> Resu
     let mut room = Room {
         stack: List::new(alloc),
         keys: Vec::new(alloc),
-        labels: List::new(alloc),
+        shown: List::new(alloc),
+        made: no_lines(alloc, t.scope.l.profile.get()),
+        labels: Text::new(alloc),
         value: Text::new(alloc),
     };
     for number in kept {
@@ -157,8 +164,10 @@ fn put_numbered(
     room: &mut Room,
     lines: &mut Text,
 ) -> Result<(), Memory>
-    requires { AreTracesReady t.now }
-    ensures { (f : Finders) → FindsInTraces t.now f → IfOk result (λ _. lines.new ≡ lines.old
+    requires ready { AreTracesReady t.now }
+    requires made { AreLabelLines (trace_profile t.now) room.old.made }
+    ensures made { OnOk result (AreLabelLines (trace_profile t.now) room.new.made) }
+    ensures lines { (f : Finders) → FindsInTraces t.now f → IfOk result (λ _. lines.new ≡ lines.old
         ++ flat_map (sample_trace t.now f) (samples_at (trace_profile t.now) (number ∷ []))) }
 {
     let samples = t.scope.l.profile.get().sample.as_slice();
@@ -180,15 +189,24 @@ fn put_sample(
     requires ready { AreTracesReady t.now }
     requires member { IsSampleOf (trace_profile t.now) s.now }
     requires refers { RefersTo (trace_profile t.now) s.now }
-    ensures { (f : Finders) → FindsInTraces t.now f →
+    requires made { AreLabelLines (trace_profile t.now) room.old.made }
+    ensures made { OnOk result (AreLabelLines (trace_profile t.now) room.new.made) }
+    ensures lines { (f : Finders) → FindsInTraces t.now f →
         IfOk result (λ _. lines.new ≡ lines.old ++ sample_trace t.now f s.now) }
 {
     if !see(&t.scope, s, &mut room.stack, &mut room.keys)? {
         return Ok(());
     }
-    show_tags_into(t.scope.l, t.scope.v, s, &mut room.labels)?;
+    write_labels(
+        alloc,
+        &t.scope,
+        s,
+        &mut room.shown,
+        &mut room.made,
+        &mut room.labels,
+    )?;
     write_own_value(t, s, &mut room.value)?;
-    put_room(alloc, t, room, lines)
+    put_room(t, room, lines)
 }
 
 // The text of the sample's value, in the place of what was there.
@@ -203,22 +221,20 @@ fn write_own_value(t: &Traces, s: &Sample, text: &mut Text) -> Result<(), Memory
 }
 
 // The sample that the room holds.
-fn put_room(alloc: Global, t: &Traces, room: &Room, lines: &mut Text) -> Result<(), Memory>
+fn put_room(t: &Traces, room: &Room, lines: &mut Text) -> Result<(), Memory>
     requires ready { AreTracesReady t.now }
     requires keys { All (IsKeyNumber t.now) room.now.keys.items }
-    ensures { IfOk result (λ _. lines.new ≡ lines.old
-        ++ trace_text (flat_map (trace_label_line (trace_profile t.now)) room.now.labels) room.now.value
+    ensures { IfOk result (λ _. lines.new ≡ lines.old ++ trace_text room.now.labels room.now.value
         (map (trace_key t.now) room.now.keys.items)) }
 {
     let [first, others @ ..] = room.keys.as_slice() else {
         return Ok(());
     };
-    put_frames(alloc, t, room, *first, others, lines)
+    put_frames(t, room, *first, others, lines)
 }
 
 // A sample with the labels and the value of the room, and with frames of these keys.
 fn put_frames(
-    alloc: Global,
     t: &Traces,
     room: &Room,
     first: u64,
@@ -228,68 +244,13 @@ fn put_frames(
     requires ready { AreTracesReady t.now }
     requires first { IsKeyNumber t.now first }
     requires others { All (IsKeyNumber t.now) others.now }
-    ensures { IfOk result (λ _. lines.new ≡ lines.old
-        ++ trace_text (flat_map (trace_label_line (trace_profile t.now)) room.now.labels) room.now.value
+    ensures { IfOk result (λ _. lines.new ≡ lines.old ++ trace_text room.now.labels room.now.value
         (map (trace_key t.now) (first ∷ others.now))) }
 {
     lines.extend(SEPARATOR)?;
-    put_each_label(
-        alloc,
-        t.scope.l.profile.get(),
-        room.labels.as_slice(),
-        lines,
-    )?;
+    lines.extend(room.labels.as_slice())?;
     put_frame(t, room.value.as_slice(), first, lines)?;
     put_others(t, others, lines)
-}
-
-fn put_each_label(
-    alloc: Global,
-    p: &Profile,
-    labels: &[Label],
-    lines: &mut Text,
-) -> Result<(), Memory>
-    ensures { IfOk result (λ _. lines.new ≡ lines.old ++ flat_map (trace_label_line p.now) labels.now) }
-{
-    for label in labels {
-        put_label(alloc, p, label, lines)?;
-    }
-    Ok(())
-}
-
-#[tactic(auto, unfolding(crate::specs::Traces::trace_label_line))]
-fn put_label(alloc: Global, p: &Profile, label: &Label, lines: &mut Text) -> Result<(), Memory>
-    ensures { IfOk result (λ _. lines.new ≡ lines.old ++ trace_label_line p.now label.now) }
-{
-    put_right(10, text_of(p, label.key), lines)?;
-    lines.extend(b":  ")?;
-    put_label_value(alloc, p, label, lines)?;
-    lines.extend(b"\n")
-}
-
-// The value of a label: its text, or its number.
-#[tactic(auto, unfolding(crate::specs::Traces::trace_label_value))]
-fn put_label_value(
-    alloc: Global,
-    p: &Profile,
-    label: &Label,
-    lines: &mut Text,
-) -> Result<(), Memory>
-    ensures { IfOk result (λ _. lines.new ≡ lines.old ++ trace_label_value p.now label.now) }
-{
-    if has_text(label) {
-        return lines.extend(text_of(p, label.text));
-    }
-    put_own_value(alloc, label.num, number_unit(p, label), lines)
-}
-
-/// Appends the number in the unit that is picked for its own absolute value.
-#[tactic(auto, unfolding(crate::specs::Traces::own_value))]
-pub fn put_own_value(alloc: Global, num: i64, unit: &[u8], lines: &mut Text) -> Result<(), Memory>
-    ensures { IfOk result (λ _. lines.new ≡ lines.old ++ own_value num unit.now) }
-{
-    let unit = pick_unit(alloc, num.unsigned_abs(), unit)?;
-    put_value(num, &unit, lines)
 }
 
 // The frames above the first one.

@@ -30,7 +30,7 @@ then_behind : {T E : Type 0} (r : Result T E) (before first all front name : Lis
     → OnOk r (all ≡ first ++ name) → IfOk r (λ _. all ≡ before ++ line)
 then_behind (Err e) before first all front name line is put h = tt
 then_behind (Ok x) before first all front name line is put h =
-    h ∙ ap (λ text. text ++ name) put ∙ append_assoc before front name ∙ ap (λ text. before ++ text) is
+    h ∙ ap (λ (text : List ℕ). text ++ name) put ∙ append_assoc before front name ∙ ap (λ (text : List ℕ). before ++ text) is
 
 pub split_at-requires : goal.split_at-requires
 split_at-requires c = let most = ten_places (trace_key c.args.t.now c.args.key) in omega (arith, most, ap length c.bare_line.ensures)

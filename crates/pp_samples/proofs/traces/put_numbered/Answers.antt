@@ -11,8 +11,8 @@ use Rattle.pp_count.proofs.KeptSamples.{none_at, one_at}
 use Rattle.pp_samples.proofs.traces.put_numbered.Goals as goal
 
 -- there is no such sample
-pub returns-then-place-samples : goal.returns-then-place-samples
-returns-then-place-samples c f finds =
+pub returns-then-place-samples-clause-lines : goal.returns-then-place-samples-clause-lines
+returns-then-place-samples-clause-lines c f finds =
     let p = trace_profile c.args.t.now in
     let past : length p.sample ≤ c.args.number =
     omega (arith, c.if-place-samples.true, ap length c.as_slice-samples.ensures, ap (λ (q : Profile). length q.sample) c.get.ensures.same) in
@@ -30,8 +30,8 @@ put_sample-requires-clause-refers c =
     (all_refer p q c.get.ensures.same c.get.ensures.valid c.args.number s within))
 
 -- there is this one
-pub returns : goal.returns
-returns c f finds =
+pub returns-clause-lines : goal.returns-clause-lines
+returns-clause-lines c f finds =
     let p = trace_profile c.args.t.now in
     let s = c.index-samples-place.result in
     let trace = sample_trace c.args.t.now f in
@@ -41,4 +41,4 @@ returns c f finds =
     one_at p c.args.number s within (c.index-samples-place.is ∙ ap (λ (samples : List Sample). get_or samples c.args.number s) same) in
     subst (λ (text : List ℕ). IfOk c.put_sample.result (λ _. c.put_sample.new.lines ≡ c.args.lines.now ++ text))
     (sym (append-nil (trace s)) ∙ ap (flat_map trace) (sym one))
-    (c.put_sample.ensures f finds)
+    (c.put_sample.ensures.lines f finds)
