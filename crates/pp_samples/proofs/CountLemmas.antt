@@ -11,7 +11,7 @@ use Rattle.pp_samples.specs.declared.key_table.KeyTable.{KeyTable}
 use Rattle.pp_samples.specs.declared.key_table.TagPlace.{TagPlace}
 use Rattle.pp_samples.specs.TagLines.{TagTexts, tag_texts}
 use Rattle.pp_samples.specs.Places.{HasTagPlace, KeepsTagPlaces}
-use Rattle.pp_samples.specs.Counting.{same_label_parts}
+use Rattle.pp_samples.specs.Labels.{same_label_parts}
 use Rattle.pp_samples.specs.Tables.{Event, label_event, sample_events, events_from}
 
 -- one label more
@@ -45,8 +45,8 @@ samples_counted tagged before more all turn is at =
     ap (λ xs. events_from 0 (map tagged xs)) is ∙ ap (events_from 0) (map-append tagged before more) ∙ events_more 0 (map tagged before) (map tagged more)
     ∙ ap (λ (n : ℕ). events_from 0 (map tagged before) ++ events_from n (map tagged more)) (let e : 0 + length (map tagged before) ≡ turn = omega (arith, at, length-map before tagged) in e)
 
--- one place more is known
-known_label : (a b : Label) → same_label_parts a b ≡ true → a ≡ b
+-- labels of the same parts are one
+pub known_label : (a b : Label) → same_label_parts a b ≡ true → a ≡ b
 known_label a b same =
     let text = and_parts _ _ (and_parts _ _ same).1 in
     let num = and_parts _ _ text.1 in
@@ -57,6 +57,7 @@ known_label a b same =
       num_unit = (Decides-int_eq a.num_unit b.num_unit).0 num.1 i;
     }
 
+-- one place more is known
 pub known_more : (p : Profile) (old new : KeyTable) (before after : Label → Option TagPlace) (label : Label) (place : TagPlace)
     → ((l : Label) (w : TagPlace) → before l ≡ Some w → HasTagPlace old (tag_texts p l) w) → KeepsTagPlaces old new → HasTagPlace new (tag_texts p label) place
     → ((q : Label) → after q ≡ cond (same_label_parts label q) (Some place) (before q)) → (q : Label) (w : TagPlace) → after q ≡ Some w → HasTagPlace new (tag_texts p q) w

@@ -1,4 +1,4 @@
-pub mod Counting
+pub mod TraceLemmas
 pub mod TagNamesLemmas
 pub mod Slots
 pub mod TablesLemmas

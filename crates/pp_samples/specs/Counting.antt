@@ -1,18 +1,13 @@
 -- What is known of the tags that were counted so far. No public clause cites it.
-use Rattle.std.specs.Prelude.{◌≡◌, Bool, ◌&&◌, Some}
-use Rattle.std.specs.Ordering.{int_eq}
+use Rattle.std.specs.Prelude.{◌≡◌, Some}
 use Rattle.indexmap.specs.IndexMap.{get}
 use Rattle.pp_model.specs.declared.profile.Label.{Label}
 use Rattle.pp_model.specs.declared.profile.Profile.{Profile}
 use Rattle.pp_samples.specs.declared.key_table.TagPlace.{TagPlace}
 use Rattle.pp_samples.specs.declared.tag_counts.TagCounts.{TagCounts}
+use Rattle.pp_samples.specs.Labels.{same_label_parts}
 use Rattle.pp_samples.specs.TagLines.{tag_texts}
 use Rattle.pp_samples.specs.Places.{AreEven, HasTagPlace}
-
--- the labels have the same parts
-abbrev pub same_label_parts : Label → Label → Bool
-same_label_parts a b =
-    int_eq a.key b.key && (int_eq a.text b.text && (int_eq a.num b.num && int_eq a.num_unit b.num_unit))
 
 -- The tables have all their parts, and each label that was seen has the place of its tag.
 pub record AreSound (p : Profile) (counts : TagCounts) : Type 0 where

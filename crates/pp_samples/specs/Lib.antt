@@ -1,11 +1,13 @@
 pub mod Comments
 pub mod Traces
 pub mod FrameLines
-pub mod Scope
+pub mod Labels
+pub mod LabelLines
+pub mod Tracing
 pub mod TagLines
+pub mod Surveyed
 pub mod Names
 pub mod Tables
 pub mod Places
 pub mod Counting
-pub mod Tagged
 pub mod Ranked

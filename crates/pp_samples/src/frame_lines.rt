@@ -1,34 +1,16 @@
-//! The lines of frames, each made once.
+//! The lines of frames, each made once for a report.
 ghost use Rattle.std.specs.Prelude.{◌≡◌, map, All, IfOk};
 ghost use Rattle.pp_grain.specs.Keys.{IsKeyOf};
 ghost use Rattle.pp_samples.specs.Traces.{frame_line};
-ghost use Rattle.pp_samples.specs.FrameLines.{bare_line, AreFrameLines};
+ghost use Rattle.pp_samples.specs.FrameLines.{bare_line};
 
 use pp_base::{Memory, Text};
-use pp_count::{KeyTable, key_table};
 use pp_grain::{Key, Names, write_name};
-use pp_model::{Config, Loaded};
+use pp_model::Loaded;
 use std::alloc::Global;
 
-/// The lines of a profile's frames, for where nothing stands in front of them.
-#[derive(Drop)]
-pub struct FrameLines {
-    /// The keys of the frames.
-    pub table: KeyTable,
-    /// By the number of a key, its line.
-    pub lines: Vec<Text>,
-}
-
-/// The line of each key of the profile's frames, by the configuration's grain.
-pub fn frame_lines(alloc: Global, l: &Loaded, config: &Config) -> Result<FrameLines, Memory>
-    ensures { IfOk result (AreFrameLines l.now.profile config.now) }
-{
-    let table = key_table(alloc, l, config)?;
-    let lines = lines_of(alloc, l, &table.names)?;
-    Ok(FrameLines { table, lines })
-}
-
-fn lines_of(alloc: Global, l: &Loaded, names: &Names) -> Result<Vec<Text>, Memory>
+/// By the number of a key, the line of a frame that nothing stands in front of.
+pub fn lines_of(alloc: Global, l: &Loaded, names: &Names) -> Result<Vec<Text>, Memory>
     requires { All (IsKeyOf l.now.profile) names.now }
     ensures { IfOk result (λ lines. lines.items ≡ map (bare_line l.now.profile) names.now) }
 {

@@ -4,7 +4,7 @@
 mod comments;
 mod frame_lines;
 mod key_table;
-mod scope;
+mod label_lines;
 mod tag_counts;
 mod tag_lines;
 mod tag_name;
@@ -13,5 +13,5 @@ mod tag_table;
 mod traces;
 
 pub use comments::write_comments;
-pub use tag_lines::write_tags;
-pub use traces::write_traces;
+pub use tag_lines::{write_tags, write_tags_of};
+pub use traces::{write_traces, write_traces_of};

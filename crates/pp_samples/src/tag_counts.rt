@@ -4,18 +4,17 @@ ghost use Rattle.indexmap.specs.IndexMap.{get};
 ghost use Rattle.pp_model.specs.Conditions.{IsSampleOf};
 ghost use Rattle.pp_model.specs.Finders.{Finders};
 ghost use Rattle.pp_count.specs.Counts.{samples_at};
-ghost use Rattle.pp_samples.specs.Scope.{scope_profile, FindsInScope};
 ghost use Rattle.pp_samples.specs.Tables.{Event, AreKeys, AreSmall, label_event, sample_events, events_from};
 ghost use Rattle.pp_samples.specs.Places.{AreEven};
-ghost use Rattle.pp_samples.specs.Counting.{AreSound, same_label_parts};
-ghost use Rattle.pp_samples.specs.Tagged.{scope_tagged};
+ghost use Rattle.pp_samples.specs.Labels.{same_label_parts};
+ghost use Rattle.pp_samples.specs.Counting.{AreSound};
+ghost use Rattle.pp_samples.specs.Surveyed.{survey_profile, FindsInSurvey, survey_tagged};
 
 use crate::key_table::{KeyTable, TagPlace, add_known_label, add_label, no_keys};
-use crate::scope::Scope;
 use crate::tag_name::{key_name, tag_name};
 use indexmap::IndexMap;
 use pp_base::{List, Memory};
-use pp_count::selected;
+use pp_count::{Survey, selected};
 use pp_model::{Label, Profile, Sample};
 use pp_tags::show_tags_into;
 use std::alloc::Global;
@@ -30,19 +29,19 @@ pub struct TagCounts {
 }
 
 /// The sums of the tags that are shown of the samples with these numbers, and of their keys.
-pub fn count_tags(alloc: Global, scope: &Scope, kept: &[u32]) -> Result<KeyTable, Memory>
+pub fn count_tags(alloc: Global, survey: &Survey<'_>, kept: &[u32]) -> Result<KeyTable, Memory>
     ensures even { IfOk result AreEven }
-    ensures keys { (f : Finders) → FindsInScope scope.now f →
+    ensures keys { (f : Finders) → FindsInSurvey survey.now f →
         AreSmall (events_from 0
-        (map (scope_tagged scope.now f) (samples_at (scope_profile scope.now) kept.now))) →
+        (map (survey_tagged survey.now f) (samples_at (survey_profile survey.now) kept.now))) →
         IfOk result (AreKeys (events_from 0
-        (map (scope_tagged scope.now f) (samples_at (scope_profile scope.now) kept.now)))) }
+        (map (survey_tagged survey.now f) (samples_at (survey_profile survey.now) kept.now)))) }
 {
-    let mut counts = no_counts(alloc, scope.l.profile.get())?;
+    let mut counts = no_counts(alloc, survey.l.profile.get())?;
     let mut shown = List::new(alloc);
     let mut turn: u64 = 0;
     for number in kept {
-        turn = count_numbered(alloc, scope, *number, turn, &mut shown, &mut counts)?;
+        turn = count_numbered(alloc, survey, *number, turn, &mut shown, &mut counts)?;
     }
     Ok(counts.keys)
 }
@@ -61,57 +60,57 @@ fn no_counts(alloc: Global, _p: &Profile) -> Result<TagCounts, Memory>
 // The sample with the number, if there is one, after so many samples. `shown` is room for its labels.
 fn count_numbered(
     alloc: Global,
-    scope: &Scope,
+    survey: &Survey<'_>,
     number: u32,
     turn: u64,
     shown: &mut List<Label>,
     counts: &mut TagCounts,
 ) -> Result<u64, Memory>
     requires few { turn < 2 ^ 64 - 1 }
-    requires sound { AreSound (scope_profile scope.now) counts.old }
-    ensures sound { OnOk result (AreSound (scope_profile scope.now) counts.new) }
+    requires sound { AreSound (survey_profile survey.now) counts.old }
+    ensures sound { OnOk result (AreSound (survey_profile survey.now) counts.new) }
     ensures turn { IfOk result (λ next.
-        next ≡ turn + length (samples_at (scope_profile scope.now) (number ∷ []))) }
+        next ≡ turn + length (samples_at (survey_profile survey.now) (number ∷ []))) }
     ensures next { IfOk result (λ next. next ≤ turn + 1) }
-    ensures keys { (f : Finders) → FindsInScope scope.now f → (events : Seq Event) →
+    ensures keys { (f : Finders) → FindsInSurvey survey.now f → (events : Seq Event) →
         AreKeys events counts.old.keys → AreSmall (events ++ events_from turn
-        (map (scope_tagged scope.now f) (samples_at (scope_profile scope.now) (number ∷ [])))) →
+        (map (survey_tagged survey.now f) (samples_at (survey_profile survey.now) (number ∷ [])))) →
         OnOk result (AreKeys (events ++ events_from turn
-        (map (scope_tagged scope.now f) (samples_at (scope_profile scope.now) (number ∷ []))))
+        (map (survey_tagged survey.now f) (samples_at (survey_profile survey.now) (number ∷ []))))
         counts.new.keys) }
 {
-    let samples = scope.l.profile.get().sample.as_slice();
+    let samples = survey.l.profile.get().sample.as_slice();
     let place = number as usize;
     if place >= samples.len() {
         return Ok(turn);
     }
-    count_sample(alloc, scope, &samples[place], turn + 1, shown, counts)?;
+    count_sample(alloc, survey, &samples[place], turn + 1, shown, counts)?;
     Ok(turn + 1)
 }
 
 // The tags that are shown of the sample, which has this turn.
 fn count_sample(
     alloc: Global,
-    scope: &Scope,
+    survey: &Survey<'_>,
     s: &Sample,
     turn: u64,
     shown: &mut List<Label>,
     counts: &mut TagCounts,
 ) -> Result<(), Memory>
-    requires sample { IsSampleOf (scope_profile scope.now) s.now }
-    requires sound { AreSound (scope_profile scope.now) counts.old }
-    ensures sound { OnOk result (AreSound (scope_profile scope.now) counts.new) }
-    ensures keys { (f : Finders) → FindsInScope scope.now f → (events : Seq Event) →
+    requires sample { IsSampleOf (survey_profile survey.now) s.now }
+    requires sound { AreSound (survey_profile survey.now) counts.old }
+    ensures sound { OnOk result (AreSound (survey_profile survey.now) counts.new) }
+    ensures keys { (f : Finders) → FindsInSurvey survey.now f → (events : Seq Event) →
         AreKeys events counts.old.keys →
-        AreSmall (events ++ sample_events turn (scope_tagged scope.now f s.now)) →
-        OnOk result (AreKeys (events ++ sample_events turn (scope_tagged scope.now f s.now))
+        AreSmall (events ++ sample_events turn (survey_tagged survey.now f s.now)) →
+        OnOk result (AreKeys (events ++ sample_events turn (survey_tagged survey.now f s.now))
         counts.new.keys) }
 {
-    show_tags_into(scope.l, scope.v, s, shown)?;
-    let value = selected(scope.l, s, scope.column, scope.config.divide_by);
+    show_tags_into(survey.l, survey.v, s, shown)?;
+    let value = selected(survey.l, s, survey.column, survey.config.divide_by);
     count_labels(
         alloc,
-        scope.l.profile.get(),
+        survey.l.profile.get(),
         shown.as_slice(),
         value,
         turn,

@@ -16,13 +16,12 @@ ghost use Rattle.pp_samples.specs.Places.{IsEven, EachEven, AreEven};
 ghost use Rattle.pp_samples.specs.Ranked.{line_entry, line_key, event_entry, table_tags, no_tag, entry_cmp, line_key_cmp, IsKeyLine, entry_line};
 
 use crate::key_table::KeyTable;
-use crate::scope::Scope;
+use crate::label_lines::put_own_value;
 use crate::tag_counts::count_tags;
 use crate::tag_name::{TagName, tag_order};
 use crate::tag_table::{TagSum, TagTable};
-use crate::traces::put_own_value;
 use pp_base::{List, Memory, Text};
-use pp_count::Counted;
+use pp_count::{Counted, Survey};
 use pp_model::{Config, Loaded, Verdicts};
 use pp_units::{Head, Small, Unit, put_right, put_value, write_percent};
 use std::alloc::Global;
@@ -59,14 +58,30 @@ pub fn write_tags(
         ++ tags_text l.now.profile f config.now column (facts head.now)) }
     ensures err { OnErr result (out.new ≡ out.old) }
 {
-    let scope = Scope {
+    let survey = Survey {
         l,
         v,
         config,
         column,
-        head,
+        counted: c,
     };
-    let keys = count_tags(alloc, &scope, c.kept.as_slice())?;
+    write_tags_of(alloc, &survey, head, out)
+}
+
+/// What `write_tags` does for the report.
+pub fn write_tags_of(
+    alloc: Global,
+    survey: &Survey<'_>,
+    head: &Head,
+    out: &mut Text,
+) -> Result<(), Memory>
+    ensures ok { (f : Finders) →
+        HoldsFilters survey.now.l.now survey.now.v.now survey.now.config.now f →
+        OnOk result (out.new ≡ out.old ++ tags_text survey.now.l.now.profile f
+        survey.now.config.now survey.now.column (facts head.now)) }
+    ensures err { OnErr result (out.new ≡ out.old) }
+{
+    let keys = count_tags(alloc, survey, survey.counted.kept.as_slice())?;
     let mut lines = Text::new(alloc);
     put_keys(alloc, &head.unit, &keys, &mut lines)?;
     out.append(lines)

@@ -1,27 +1,25 @@
 //! The traces report.
-ghost use Rattle.std.specs.Prelude.{◌≡◌, ◌++◌, ◌<◌, [], ◌∷◌, length, map, slice_index_or, IfOk, OnOk, OnErr};
+ghost use Rattle.std.specs.Prelude.{◌≡◌, ◌++◌, [], ◌∷◌, map, All, IfOk, OnOk, OnErr};
 ghost use Rattle.std.specs.List.{flat_map};
-ghost use Rattle.pp_model.specs.Conditions.{HasVerdicts, IsSampleOf, RefersTo, IsFrameOf, IsStackOf};
+ghost use Rattle.pp_model.specs.Conditions.{IsSampleOf, RefersTo};
 ghost use Rattle.pp_model.specs.Finders.{Finders};
+ghost use Rattle.pp_units.specs.Shown.{shown};
 ghost use Rattle.pp_units.specs.Head.{facts};
 ghost use Rattle.pp_units.specs.Numbers.{value_text};
 ghost use Rattle.pp_count.specs.Column.{selected};
 ghost use Rattle.pp_count.specs.Counts.{samples_at};
-ghost use Rattle.pp_count.specs.Counted.{IsCountedOf};
-ghost use Rattle.pp_count.specs.Seeing.{HoldsFilters, counted_frames, key_of_frame};
-ghost use Rattle.pp_count.specs.Table.{written_key};
-ghost use Rattle.pp_samples.specs.Traces.{traces_text, trace_separator, trace_label_line, trace_label_value, own_value, frame_line, trace_text};
-ghost use Rattle.pp_samples.specs.Scope.{scope_profile, HasItsVerdicts, FindsInScope, shown_unit, AreTracesReady, stack_trace, sample_trace};
+ghost use Rattle.pp_count.specs.Counted.{CanCount, IsCountedOf};
+ghost use Rattle.pp_count.specs.Seeing.{HoldsFilters};
+ghost use Rattle.pp_samples.specs.Traces.{traces_text, trace_of, trace_separator, frame_line, trace_text};
+ghost use Rattle.pp_samples.specs.LabelLines.{AreLabelLines};
+ghost use Rattle.pp_samples.specs.Tracing.{trace_profile, trace_key, FindsInTraces, AreTracesReady, IsKeyNumber, sample_trace};
 
-use crate::frame_lines::{FrameLines, frame_lines};
-use crate::scope::Scope;
+use crate::frame_lines::lines_of;
+use crate::label_lines::{LabelLines, no_lines, write_labels};
 use pp_base::{List, Memory, Text};
-use pp_count::{Counted, selected};
-use pp_grain::{counted, key_of, write_name};
-use pp_model::{Config, Frame, Label, Loaded, Profile, Sample, Stack, Verdicts, text_of};
-use pp_stack::{VerdictTables, filter_into};
-use pp_tags::{has_text, number_unit, show_tags_into};
-use pp_units::{Head, pick_unit, put_right, put_value, write_head};
+use pp_count::{Counted, Scope, Survey, see, selected};
+use pp_model::{Config, Label, Loaded, Sample, Stack, Verdicts};
+use pp_units::{Head, Unit, put_right, put_value, write_head};
 use std::alloc::Global;
 
 // The line between two samples: 11 dashes, a plus, 55 dashes.
@@ -30,21 +28,27 @@ const SEPARATOR: &[u8] = b"-----------+-----------------------------------------
 /// What all samples of a report are written by.
 #[derive(Clone, Copy)]
 pub struct Traces<'a> {
-    /// The profile, and what the report asks of it.
+    /// How they are seen.
     pub scope: Scope<'a>,
-    /// What the patterns on frames find.
-    pub tables: &'a VerdictTables,
-    /// The lines of frames, by key number.
-    pub lines: &'a FrameLines,
+    /// How their values are printed.
+    pub unit: &'a Unit,
+    /// By the number of a key, the line of a frame that nothing stands in front of.
+    pub lines: &'a [Text],
 }
 
 /// What is written of one sample, in room that is used again.
 #[derive(Drop)]
 pub struct Room {
-    /// Its frames that count.
-    pub frames: Vec<Frame>,
+    /// Its frames, as far as they are needed.
+    pub stack: Stack,
+    /// The key numbers of its frames that count, leaf first.
+    pub keys: Vec<u64>,
     /// Its labels that are shown.
-    pub labels: List<Label>,
+    pub shown: List<Label>,
+    /// The lines of all labels so far.
+    pub made: LabelLines,
+    /// The lines of its labels.
+    pub labels: Text,
     /// The text of its value.
     pub value: Text,
 }
@@ -62,56 +66,92 @@ pub fn write_traces(
     head: &Head,
     out: &mut Text,
 ) -> Result<(), Memory>
-    requires verdicts { HasVerdicts l.now.profile v.now }
+    requires can { CanCount l.now.profile v.now config.now column }
     requires counted { IsCountedOf l.now v.now config.now column c.now }
     ensures ok { (f : Finders) → HoldsFilters l.now v.now config.now f →
         OnOk result (out.new ≡ out.old
         ++ traces_text l.now.profile f config.now column (facts head.now)) }
     ensures err { OnErr result (out.new ≡ out.old) }
 {
-    let scope = Scope {
+    let survey = Survey {
         l,
         v,
         config,
         column,
-        head,
+        counted: c,
     };
+    write_traces_of(alloc, &survey, head, out)
+}
+
+/// What `write_traces` does for the report.
+pub fn write_traces_of(
+    alloc: Global,
+    survey: &Survey<'_>,
+    head: &Head,
+    out: &mut Text,
+) -> Result<(), Memory>
+    ensures ok { (f : Finders) →
+        HoldsFilters survey.now.l.now survey.now.v.now survey.now.config.now f →
+        OnOk result (out.new ≡ out.old ++ traces_text survey.now.l.now.profile f
+        survey.now.config.now survey.now.column (facts head.now)) }
+    ensures err { OnErr result (out.new ≡ out.old) }
+{
     let mut lines = Text::new(alloc);
     write_head(alloc, head, &mut lines)?;
-    put_report(alloc, &scope, c.kept.as_slice(), &mut lines)?;
+    put_samples(alloc, survey, &head.unit, &mut lines)?;
     lines.extend(SEPARATOR)?;
     out.append(lines)
 }
 
-// The samples with these numbers, by tables that are made once.
-fn put_report(alloc: Global, scope: &Scope, kept: &[u32], lines: &mut Text) -> Result<(), Memory>
-    requires { HasItsVerdicts scope.now }
-    ensures { (f : Finders) → FindsInScope scope.now f → IfOk result (λ _. lines.new ≡ lines.old
-        ++ flat_map (sample_trace scope.now f) (samples_at (scope_profile scope.now) kept.now)) }
+// The samples that the filters leave.
+fn put_samples(
+    alloc: Global,
+    survey: &Survey<'_>,
+    unit: &Unit,
+    lines: &mut Text,
+) -> Result<(), Memory>
+    ensures { (f : Finders) →
+        HoldsFilters survey.now.l.now survey.now.v.now survey.now.config.now f →
+        IfOk result (λ _. lines.new ≡ lines.old
+        ++ flat_map (trace_of survey.now.l.now.profile f survey.now.config.now survey.now.column
+        (shown unit.now)) survey.now.l.now.profile.sample) }
 {
-    let tables = VerdictTables::new(alloc, scope.l, scope.v)?;
-    let made = frame_lines(alloc, scope.l, scope.config)?;
+    let table = survey.table();
+    let made = lines_of(alloc, survey.l, &table.names)?;
+    let kept = survey.counted.kept.as_slice();
     let traces = Traces {
-        scope: *scope,
-        tables: &tables,
-        lines: &made,
+        scope: Scope {
+            l: survey.l,
+            v: survey.v,
+            config: survey.config,
+            filters: survey.filters(),
+            column: survey.column,
+            table,
+            over: None,
+            chosen: None,
+        },
+        unit,
+        lines: made.as_slice(),
     };
     put_traces(alloc, &traces, kept, lines)
 }
 
+// The samples with these numbers.
 fn put_traces(alloc: Global, t: &Traces, kept: &[u32], lines: &mut Text) -> Result<(), Memory>
     requires { AreTracesReady t.now }
-    ensures { (f : Finders) → FindsInScope t.now.scope f → IfOk result (λ _. lines.new ≡ lines.old
-        ++ flat_map (sample_trace t.now.scope f) (samples_at (scope_profile t.now.scope) kept.now)) }
+    ensures { (f : Finders) → FindsInTraces t.now f → IfOk result (λ _. lines.new ≡ lines.old
+        ++ flat_map (sample_trace t.now f) (samples_at (trace_profile t.now) kept.now)) }
 {
-    let mut stack = List::new(alloc);
     let mut room = Room {
-        frames: Vec::new(alloc),
-        labels: List::new(alloc),
+        stack: List::new(alloc),
+        keys: Vec::new(alloc),
+        shown: List::new(alloc),
+        made: no_lines(alloc, t.scope.l.profile.get()),
+        labels: Text::new(alloc),
         value: Text::new(alloc),
     };
     for number in kept {
-        put_numbered(alloc, t, *number, &mut stack, &mut room, lines)?;
+        put_numbered(alloc, t, *number, &mut room, lines)?;
     }
     Ok(())
 }
@@ -121,233 +161,127 @@ fn put_numbered(
     alloc: Global,
     t: &Traces,
     number: u32,
-    stack: &mut Stack,
     room: &mut Room,
     lines: &mut Text,
 ) -> Result<(), Memory>
-    requires { AreTracesReady t.now }
-    ensures { (f : Finders) → FindsInScope t.now.scope f → IfOk result (λ _. lines.new ≡ lines.old
-        ++ flat_map (sample_trace t.now.scope f) (samples_at (scope_profile t.now.scope) (number ∷ []))) }
+    requires ready { AreTracesReady t.now }
+    requires made { AreLabelLines (trace_profile t.now) room.old.made }
+    ensures made { OnOk result (AreLabelLines (trace_profile t.now) room.new.made) }
+    ensures lines { (f : Finders) → FindsInTraces t.now f → IfOk result (λ _. lines.new ≡ lines.old
+        ++ flat_map (sample_trace t.now f) (samples_at (trace_profile t.now) (number ∷ []))) }
 {
     let samples = t.scope.l.profile.get().sample.as_slice();
     let place = number as usize;
     if place >= samples.len() {
         return Ok(());
     }
-    put_sample(alloc, t, &samples[place], stack, room, lines)
+    put_sample(alloc, t, &samples[place], room, lines)
 }
 
-// What the stack filters leave of the sample.
+// What the filters leave of the sample.
 fn put_sample(
     alloc: Global,
     t: &Traces,
     s: &Sample,
-    stack: &mut Stack,
     room: &mut Room,
     lines: &mut Text,
 ) -> Result<(), Memory>
     requires ready { AreTracesReady t.now }
-    requires member { IsSampleOf (scope_profile t.now.scope) s.now }
-    requires refers { RefersTo (scope_profile t.now.scope) s.now }
-    ensures { (f : Finders) → FindsInScope t.now.scope f →
-        IfOk result (λ _. lines.new ≡ lines.old ++ sample_trace t.now.scope f s.now) }
+    requires member { IsSampleOf (trace_profile t.now) s.now }
+    requires refers { RefersTo (trace_profile t.now) s.now }
+    requires made { AreLabelLines (trace_profile t.now) room.old.made }
+    ensures made { OnOk result (AreLabelLines (trace_profile t.now) room.new.made) }
+    ensures lines { (f : Finders) → FindsInTraces t.now f →
+        IfOk result (λ _. lines.new ≡ lines.old ++ sample_trace t.now f s.now) }
 {
-    if !filter_into(t.scope.l, t.scope.v, t.tables, s, stack)? {
+    if !see(&t.scope, s, &mut room.stack, &mut room.keys)? {
         return Ok(());
     }
-    put_stack(alloc, t, s, stack, room, lines)
-}
-
-// A sample of which this stack is left.
-fn put_stack(
-    alloc: Global,
-    t: &Traces,
-    s: &Sample,
-    stack: &Stack,
-    room: &mut Room,
-    lines: &mut Text,
-) -> Result<(), Memory>
-    requires ready { AreTracesReady t.now }
-    requires member { IsSampleOf (scope_profile t.now.scope) s.now }
-    requires frames { IsStackOf (scope_profile t.now.scope) stack.now }
-    ensures { (f : Finders) → FindsInScope t.now.scope f →
-        IfOk result (λ _. lines.new ≡ lines.old ++ stack_trace t.now.scope f s.now stack.now) }
-{
-    gather_counted(&t.scope, stack, &mut room.frames)?;
-    show_tags_into(t.scope.l, t.scope.v, s, &mut room.labels)?;
-    write_own_value(&t.scope, s, &mut room.value)?;
-    put_room(alloc, t, room, lines)
-}
-
-// The frames that count, in the place of what was there.
-fn gather_counted(scope: &Scope, stack: &Stack, frames: &mut Vec<Frame>) -> Result<(), Memory>
-    requires { IsStackOf (scope_profile scope.now) stack.now }
-    ensures frames { IfOk result (λ _.
-        frames.new.items ≡ counted_frames scope.now.config.now.noinlines stack.now) }
-    ensures of_profile { IfOk result (λ _. IsStackOf (scope_profile scope.now) frames.new.items) }
-{
-    frames.clear();
-    for (place, frame) in stack.as_slice().iter().enumerate() {
-        if counted(stack, place, scope.config.noinlines) {
-            frames.push(*frame)?;
-        }
-    }
-    Ok(())
+    write_labels(
+        alloc,
+        &t.scope,
+        s,
+        &mut room.shown,
+        &mut room.made,
+        &mut room.labels,
+    )?;
+    write_own_value(t, s, &mut room.value)?;
+    put_room(t, room, lines)
 }
 
 // The text of the sample's value, in the place of what was there.
-fn write_own_value(scope: &Scope, s: &Sample, text: &mut Text) -> Result<(), Memory>
+fn write_own_value(t: &Traces, s: &Sample, text: &mut Text) -> Result<(), Memory>
     ensures { IfOk result (λ _. text.new ≡ value_text
-        (selected scope.now.column scope.now.config.now.divide_by s.now) (shown_unit scope.now)) }
+        (selected t.now.scope.column t.now.scope.config.now.divide_by s.now) (shown t.now.unit.now)) }
 {
     text.clear();
+    let scope = &t.scope;
     let value = selected(scope.l, s, scope.column, scope.config.divide_by);
-    put_value(value, &scope.head.unit, text)
+    put_value(value, t.unit, text)
 }
 
 // The sample that the room holds.
-fn put_room(alloc: Global, t: &Traces, room: &Room, lines: &mut Text) -> Result<(), Memory>
+fn put_room(t: &Traces, room: &Room, lines: &mut Text) -> Result<(), Memory>
     requires ready { AreTracesReady t.now }
-    requires frames { IsStackOf (scope_profile t.now.scope) room.now.frames.items }
-    ensures { IfOk result (λ _. lines.new ≡ lines.old
-        ++ trace_text (flat_map (trace_label_line (scope_profile t.now.scope)) room.now.labels) room.now.value
-        (map (key_of_frame (scope_profile t.now.scope) t.now.scope.config.now) room.now.frames.items)) }
+    requires keys { All (IsKeyNumber t.now) room.now.keys.items }
+    ensures { IfOk result (λ _. lines.new ≡ lines.old ++ trace_text room.now.labels room.now.value
+        (map (trace_key t.now) room.now.keys.items)) }
 {
-    let [first, others @ ..] = room.frames.as_slice() else {
+    let [first, others @ ..] = room.keys.as_slice() else {
         return Ok(());
     };
-    put_frames(alloc, t, room, first, others, lines)
+    put_frames(t, room, *first, others, lines)
 }
 
-// A sample with the labels and the value of the room, and these frames that count.
+// A sample with the labels and the value of the room, and with frames of these keys.
 fn put_frames(
-    alloc: Global,
     t: &Traces,
     room: &Room,
-    first: &Frame,
-    others: &[Frame],
+    first: u64,
+    others: &[u64],
     lines: &mut Text,
 ) -> Result<(), Memory>
     requires ready { AreTracesReady t.now }
-    requires first { IsFrameOf (scope_profile t.now.scope) first.now }
-    requires others { IsStackOf (scope_profile t.now.scope) others.now }
-    ensures { IfOk result (λ _. lines.new ≡ lines.old
-        ++ trace_text (flat_map (trace_label_line (scope_profile t.now.scope)) room.now.labels) room.now.value
-        (map (key_of_frame (scope_profile t.now.scope) t.now.scope.config.now) (first.now ∷ others.now))) }
+    requires first { IsKeyNumber t.now first }
+    requires others { All (IsKeyNumber t.now) others.now }
+    ensures { IfOk result (λ _. lines.new ≡ lines.old ++ trace_text room.now.labels room.now.value
+        (map (trace_key t.now) (first ∷ others.now))) }
 {
     lines.extend(SEPARATOR)?;
-    put_each_label(
-        alloc,
-        t.scope.l.profile.get(),
-        room.labels.as_slice(),
-        lines,
-    )?;
-    put_frame(&t.scope, room.value.as_slice(), first, lines)?;
+    lines.extend(room.labels.as_slice())?;
+    put_frame(t, room.value.as_slice(), first, lines)?;
     put_others(t, others, lines)
 }
 
-fn put_each_label(
-    alloc: Global,
-    p: &Profile,
-    labels: &[Label],
-    lines: &mut Text,
-) -> Result<(), Memory>
-    ensures { IfOk result (λ _. lines.new ≡ lines.old ++ flat_map (trace_label_line p.now) labels.now) }
-{
-    for label in labels {
-        put_label(alloc, p, label, lines)?;
-    }
-    Ok(())
-}
-
-#[tactic(auto, unfolding(crate::specs::Traces::trace_label_line))]
-fn put_label(alloc: Global, p: &Profile, label: &Label, lines: &mut Text) -> Result<(), Memory>
-    ensures { IfOk result (λ _. lines.new ≡ lines.old ++ trace_label_line p.now label.now) }
-{
-    put_right(10, text_of(p, label.key), lines)?;
-    lines.extend(b":  ")?;
-    put_label_value(alloc, p, label, lines)?;
-    lines.extend(b"\n")
-}
-
-// The value of a label: its text, or its number.
-#[tactic(auto, unfolding(crate::specs::Traces::trace_label_value))]
-fn put_label_value(
-    alloc: Global,
-    p: &Profile,
-    label: &Label,
-    lines: &mut Text,
-) -> Result<(), Memory>
-    ensures { IfOk result (λ _. lines.new ≡ lines.old ++ trace_label_value p.now label.now) }
-{
-    if has_text(label) {
-        return lines.extend(text_of(p, label.text));
-    }
-    put_own_value(alloc, label.num, number_unit(p, label), lines)
-}
-
-/// Appends the number in the unit that is picked for its own absolute value.
-#[tactic(auto, unfolding(crate::specs::Traces::own_value))]
-pub fn put_own_value(alloc: Global, num: i64, unit: &[u8], lines: &mut Text) -> Result<(), Memory>
-    ensures { IfOk result (λ _. lines.new ≡ lines.old ++ own_value num unit.now) }
-{
-    let unit = pick_unit(alloc, num.unsigned_abs(), unit)?;
-    put_value(num, &unit, lines)
-}
-
 // The frames above the first one.
-fn put_others(t: &Traces, frames: &[Frame], lines: &mut Text) -> Result<(), Memory>
+fn put_others(t: &Traces, keys: &[u64], lines: &mut Text) -> Result<(), Memory>
     requires ready { AreTracesReady t.now }
-    requires frames { IsStackOf (scope_profile t.now.scope) frames.now }
-    ensures { IfOk result (λ _. lines.new ≡ lines.old ++ flat_map (frame_line [])
-        (map (key_of_frame (scope_profile t.now.scope) t.now.scope.config.now) frames.now)) }
+    requires keys { All (IsKeyNumber t.now) keys.now }
+    ensures { IfOk result (λ _. lines.new ≡ lines.old
+        ++ flat_map (frame_line []) (map (trace_key t.now) keys.now)) }
 {
-    for frame in frames {
-        lines.extend(bare_line(t, frame))?;
+    for key in keys {
+        lines.extend(bare_line(t, *key))?;
     }
     Ok(())
 }
 
 // The line of a frame that nothing stands in front of.
-fn bare_line<'a>(t: &Traces<'a>, frame: &Frame) -> &'a [u8]
+fn bare_line<'a>(t: &Traces<'a>, key: u64) -> &'a [u8]
     requires ready { AreTracesReady t.now }
-    requires frame { IsFrameOf (scope_profile t.now.scope) frame.now }
-    ensures { result.now ≡ frame_line []
-        (key_of_frame (scope_profile t.now.scope) t.now.scope.config.now frame.now) }
+    requires key { IsKeyNumber t.now key }
+    ensures { result.now ≡ frame_line [] (trace_key t.now key) }
 {
-    let number = number_of(t, frame);
-    t.lines.lines[number as usize].as_slice()
+    t.lines[key as usize].as_slice()
 }
 
-// The number of the frame's key.
-fn number_of(t: &Traces, frame: &Frame) -> u64
+// A frame below what stands in front of it, in the first ten places of its line.
+fn put_frame(t: &Traces, front: &[u8], key: u64, lines: &mut Text) -> Result<(), Memory>
     requires ready { AreTracesReady t.now }
-    requires frame { IsFrameOf (scope_profile t.now.scope) frame.now }
-    ensures below { result < length t.now.lines.now.table.names }
-    ensures named { written_key (scope_profile t.now.scope) t.now.lines.now.table.names result
-        ≡ key_of_frame (scope_profile t.now.scope) t.now.scope.config.now frame.now }
+    requires key { IsKeyNumber t.now key }
+    ensures { IfOk result (λ _. lines.new ≡ lines.old ++ frame_line front.now (trace_key t.now key)) }
 {
-    let row = &t.lines.table.location.as_slice()[frame.location as usize];
-    item(row, frame.row.unwrap_or(0))
-}
-
-fn item(row: &List<u64>, place: u64) -> u64
-    requires { place < length row.now }
-    ensures { result ≡ slice_index_or row.now place 0 }
-{
-    row.as_slice()[place as usize]
-}
-
-// A frame by the name of its key, below what stands in front of it.
-#[tactic(auto, unfolding(crate::specs::Traces::frame_line))]
-fn put_frame(scope: &Scope, front: &[u8], frame: &Frame, lines: &mut Text) -> Result<(), Memory>
-    requires { IsFrameOf (scope_profile scope.now) frame.now }
-    ensures { IfOk result (λ _. lines.new ≡ lines.old ++ frame_line front.now
-        (key_of_frame (scope_profile scope.now) scope.now.config.now frame.now)) }
-{
-    let key = key_of(scope.l, frame, scope.config.grain, scope.config.showcolumns);
     put_right(10, front, lines)?;
-    lines.extend(b"   ")?;
-    write_name(scope.l, &key, lines)?;
-    lines.extend(b"\n")
+    let (_, name) = bare_line(t, key).split_at(10);
+    lines.extend(name)
 }

@@ -2,7 +2,7 @@ use Rattle.std.proofs.Common.{subst}
 use Rattle.indexmap.specs.IndexMap.{get}
 use Rattle.pp_samples.specs.TagLines.{TagTexts}
 use Rattle.pp_samples.specs.Places.{HasTagPlace}
-use Rattle.pp_samples.specs.Counting.{same_label_parts}
+use Rattle.pp_samples.specs.Labels.{same_label_parts}
 use Rattle.pp_samples.proofs.CountLemmas.{known_more}
 use Rattle.pp_samples.proofs.tag_counts.count_new.Goals as goal
 

@@ -1,20 +1,45 @@
-use Rattle.std.proofs.Common.{codes, ◌++◌, ap, ◌∙◌}
-use Rattle.pp_base.proofs.TextLemmas.{joined_on}
+use Rattle.std.proofs.Common.{◌≡◌, ◌++◌, ◌+◌, ◌≤◌, List, ℕ, [], Result, Ok, Err, length, drop, codes, refl, ap, sym, ◌∙◌, append_assoc, arith, OnOk, IfOk}
+use Rattle.std.proofs.lemmas.List.{drop_at, length-append}
+use Rattle.pp_model.specs.FrameTexts.{Written}
 use Rattle.pp_units.specs.Numbers.{right_text}
 use Rattle.pp_grain.specs.Naming.{name_text}
-use Rattle.pp_count.specs.Seeing.{key_of_frame}
+use Rattle.pp_samples.specs.Tracing.{trace_key}
 use Rattle.pp_samples.specs.Traces.{frame_line}
-use Rattle.pp_base.proofs.TextLemmas.{then_more}
 use Rattle.pp_samples.proofs.traces.put_frame.Goals as goal
 
--- the four parts in turn
-pub returns : goal.returns
+-- what stands behind the first ten places
+abbrev behind : Written → List ℕ
+behind key = codes "   " ++ (name_text key ++ codes "\n")
+
+line_is : (front : List ℕ) (key : Written) → frame_line front key ≡ right_text 10 front ++ behind key
 unfolding frame_line
+line_is front key =
+    append_assoc (right_text 10 front ++ codes "   ") (name_text key) (codes "\n") ∙ append_assoc (right_text 10 front) (codes "   ") (name_text key ++ codes "\n")
+
+-- it is the same, whatever stands in front
+behind_is : (key : Written) → drop 10 (frame_line [] key) ≡ behind key
+behind_is key = ap (drop 10) (line_is [] key) ∙ drop_at (right_text 10 []) (behind key) 10 refl
+
+ten_places : (key : Written) → 10 ≤ length (frame_line [] key)
+ten_places key =
+    let long : length (frame_line [] key) ≡ 10 + length (behind key) = ap length (line_is [] key) ∙ length-append (right_text 10 []) (behind key) in
+    omega (arith, long)
+
+-- two texts, the second of which may fail
+then_behind : {T E : Type 0} (r : Result T E) (before first all front name : List ℕ) (line : List ℕ) → front ++ name ≡ line → first ≡ before ++ front
+    → OnOk r (all ≡ first ++ name) → IfOk r (λ _. all ≡ before ++ line)
+then_behind (Err e) before first all front name line is put h = tt
+then_behind (Ok x) before first all front name line is put h =
+    h ∙ ap (λ (text : List ℕ). text ++ name) put ∙ append_assoc before front name ∙ ap (λ (text : List ℕ). before ++ text) is
+
+pub split_at-requires : goal.split_at-requires
+split_at-requires c = let most = ten_places (trace_key c.args.t.now c.args.key) in omega (arith, most, ap length c.bare_line.ensures)
+
+-- what stands in front, and then what stands behind it
+pub returns : goal.returns
 returns c =
-    let old = c.args.lines.now in
-    let front = right_text 10 c.args.front.now in
-    let name = name_text (key_of_frame c.args.scope.now.l.now.profile c.args.scope.now.config.now c.args.frame.now) in
-    joined_on c.extend-2.result old _ _ _ (front ++ codes "   ") name (codes "\n")
-    (then_more old _ _ front (codes "   ") c.in_ok-put_right.ensures.ok c.in_ok-extend.ensures.ok)
-    (c.in_ok-write_name.ensures.ok ∙ ap (λ key. c.extend.new.self ++ name_text key) c.key_of-key.ensures.texts)
-    c.extend-2.ensures.ok
+    let key = trace_key c.args.t.now c.args.key in
+    let front = c.args.front.now in
+    then_behind c.extend.result c.args.lines.now c.put_right.new.out c.extend.new.self (right_text 10 front) _ (frame_line front key)
+    (ap (λ (text : List ℕ). right_text 10 front ++ text) (c.split_at.ensures.back ∙ ap (drop 10) c.bare_line.ensures ∙ behind_is key) ∙ sym (line_is front key))
+    c.in_ok-put_right.ensures.ok c.extend.ensures.ok

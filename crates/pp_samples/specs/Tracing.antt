@@ -1,0 +1,38 @@
+-- What the samples of a traces report are written by. No public clause cites it.
+use Rattle.std.specs.Prelude.{◌≡◌, ℕ, ◌<◌, List, length, map}
+use Rattle.pp_model.specs.declared.profile.Sample.{Sample}
+use Rattle.pp_model.specs.declared.profile.Profile.{Profile}
+use Rattle.pp_model.specs.Finders.{Finders}
+use Rattle.pp_model.specs.FrameTexts.{Written}
+use Rattle.pp_units.specs.Shown.{shown}
+use Rattle.pp_count.specs.Scope.{IsSoundScope}
+use Rattle.pp_count.specs.Seeing.{HoldsFilters}
+use Rattle.pp_count.specs.Table.{written_key}
+use Rattle.pp_samples.specs.declared.traces.Traces.{Traces}
+use Rattle.pp_samples.specs.FrameLines.{bare_line}
+use Rattle.pp_samples.specs.Traces.{trace_of}
+
+-- the profile of the samples
+abbrev pub trace_profile : Traces → Profile
+trace_profile t = t.scope.l.now.profile
+
+-- what the key of the number stands for
+abbrev pub trace_key : Traces → ℕ → Written
+trace_key t = written_key (trace_profile t) t.scope.table.now.names
+
+-- it is the number of a key
+abbrev pub IsKeyNumber : Traces → ℕ → Type 0
+IsKeyNumber t number = number < length t.scope.table.now.names
+
+-- the verdicts are what these patterns find
+abbrev pub FindsInTraces : Traces → Finders → Type 0
+FindsInTraces t f = HoldsFilters t.scope.l.now t.scope.v.now t.scope.config.now f
+
+-- The samples can be seen, and each key has its line.
+pub record AreTracesReady (t : Traces) : Type 0 where
+  pub sound : IsSoundScope t.scope
+  pub lines : t.lines.now ≡ map (bare_line (trace_profile t)) t.scope.table.now.names
+
+-- the lines of a sample
+abbrev pub sample_trace : Traces → Finders → Sample → List ℕ
+sample_trace t f s = trace_of (trace_profile t) f t.scope.config.now t.scope.column (shown t.unit.now) s
