@@ -4,3 +4,4 @@ pub mod Stages
 pub mod Repeats
 pub mod KnownLemmas
 pub mod Scans
+pub mod WholeLemmas

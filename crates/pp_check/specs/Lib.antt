@@ -1,4 +1,5 @@
 pub mod Finds
 pub mod FirstFault
 pub mod Known
+pub mod Whole
 pub mod Checks

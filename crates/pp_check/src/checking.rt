@@ -9,7 +9,7 @@ ghost use Rattle.pp_model.specs.Rules.{mapping_ids, function_ids, location_ids};
 use crate::fault::{CheckRefusal, Table, TableFault, refuse};
 use crate::ids::known_ids;
 use crate::known::Known;
-use crate::references::{location_fault, sample_fault, value_fault};
+use crate::references::{are_whole, location_fault, sample_fault, value_fault};
 use crate::texts::{
     comment_text_fault, function_text_fault, header_text_fault, mapping_text_fault,
     sample_text_fault, text_zero_fault, type_text_fault, untyped_fault,
@@ -110,6 +110,9 @@ fn keep_references(
     ensures { FindsFault (first_fault_of (reference_faults p.now)) result }
 {
     refuse(10, Table::Locations, location_fault(p, mappings, functions))?;
+    if are_whole(p, locations) {
+        return Ok(());
+    }
     refuse(11, Table::Samples, sample_fault(p, locations))?;
     refuse(12, Table::Samples, value_fault(p))
 }

@@ -3,6 +3,7 @@ ghost use Rattle.std.specs.Prelude.{◌≡◌, ◌<◌, ◌==◌, ◌||◌, leng
 ghost use Rattle.std.specs.List.{list_all};
 ghost use Rattle.pp_model.specs.Rules as rules;
 ghost use Rattle.pp_check.specs.Known.{Knows};
+ghost use Rattle.pp_check.specs.Whole.{is_whole};
 
 use crate::known::Known;
 use pp_model::{Line, Location, Profile, Sample};
@@ -77,6 +78,25 @@ fn sample_refers(p: &Profile, locations: &Known, sample: &Sample) -> bool
         .as_slice()
         .iter()
         .all(|id| is_location(p, locations, *id))
+}
+
+// Whether the sample's locations are there, and it has one value per sample type.
+fn is_whole(p: &Profile, locations: &Known, sample: &Sample) -> bool
+    requires { Knows locations.now (rules.location_ids p.now) }
+    ensures { result ≡ is_whole p.now sample.now }
+{
+    sample_refers(p, locations, sample) && sample.value.len() == p.sample_type.len()
+}
+
+/// Whether no sample breaks rule 11 or rule 12. Samples are many, so they are gone through once for both.
+pub fn are_whole(p: &Profile, locations: &Known) -> bool
+    requires { Knows locations.now (rules.location_ids p.now) }
+    ensures { result ≡ list_all (is_whole p.now) p.now.sample }
+{
+    p.sample
+        .as_slice()
+        .iter()
+        .all(|sample| is_whole(p, locations, sample))
 }
 
 /// Rule 11: the least index of a sample with a location that isn't there.
