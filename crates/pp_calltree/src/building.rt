@@ -21,17 +21,41 @@ use crate::laying::lay_out;
 use crate::linking::{nexts_of, parents_of};
 use crate::path::{cut_paths, sort_paths};
 use crate::paths::gather_paths;
-use crate::tree::{CallTree, NumberedNode};
+use crate::tree::{CallTree, NumberedNode, NumberedTree};
 use pp_base::{List, Memory};
 use pp_count::{Counted, Filters, KeyTable, Scope, key_table};
 use pp_model::{Config, Loaded, Verdicts};
 use std::alloc::Global;
 
-impl CallTree {
-    /// Builds the tree of the counted samples that put keys into the report, of which `c` has the numbers. `Err` is want
-    /// of memory.
+impl NumberedTree {
+    /// Makes the nodes of the counted samples that put keys into the report, of which `c` has the numbers. `Err` is
+    /// want of memory.
     ///
     /// Siblings, and roots, stand by absolute cum falling, then by absolute flat falling, then by the order of keys.
+    pub fn build(
+        alloc: Global,
+        l: &Loaded,
+        v: &Verdicts,
+        c: &Counted,
+        config: &Config,
+        column: Option<u32>,
+    ) -> Result<NumberedTree, Memory>
+        requires can { CanCount l.now.profile v.now config.now column }
+        requires counted { IsCountedOf l.now v.now config.now column c.now }
+        ensures { IfOk result (λ t.
+            IsTreeOf l.now v.now config.now column (nodes_by t.names t.nodes)) }
+    {
+        let table = key_table(alloc, l, config)?;
+        let filters = Filters::new(alloc, l, v, config)?;
+        let scope = scope_of(l, v, config, &filters, column, &table);
+        let nodes = nodes_by(alloc, &scope, c.kept.as_slice())?;
+        let KeyTable { names, location: _ } = table;
+        Ok(NumberedTree { names, nodes })
+    }
+}
+
+impl CallTree {
+    /// Builds the tree of the same nodes, with their links. `Err` is want of memory.
     pub fn build(
         alloc: Global,
         l: &Loaded,
@@ -53,13 +77,10 @@ impl CallTree {
             IfOk result (λ t. map (flats_at l.now.profile t) (written_names l.now.profile c.now.sums)
             ≡ c.now.sums.flat) }
     {
-        let table = key_table(alloc, l, config)?;
-        let filters = Filters::new(alloc, l, v, config)?;
-        let scope = scope_of(l, v, config, &filters, column, &table);
-        let nodes = nodes_by(alloc, &scope, c.kept.as_slice())?;
-        let parents = parents_of(alloc, nodes.as_slice())?;
-        let nexts = nexts_of(alloc, nodes.as_slice())?;
-        let KeyTable { names, location: _ } = table;
+        let tree = NumberedTree::build(alloc, l, v, c, config, column)?;
+        let parents = parents_of(alloc, tree.nodes.as_slice())?;
+        let nexts = nexts_of(alloc, tree.nodes.as_slice())?;
+        let NumberedTree { names, nodes } = tree;
         Ok(CallTree {
             names,
             nodes,

@@ -2,7 +2,7 @@
 ghost use Rattle.std.specs.Prelude.{◌≡◌, ◌<◌, Some, None, length, slice_get, slice_index_or};
 ghost use Rattle.pp_count.specs.Table.{no_key};
 ghost use Rattle.pp_calltree.specs.Tree.{first_root, first_child, next_sibling, parent};
-ghost use Rattle.pp_calltree.specs.Links.{node_by, nodes_by};
+ghost use Rattle.pp_calltree.specs.Links.{node_by};
 
 use crate::linking::child_at;
 use pp_base::List;
@@ -35,22 +35,13 @@ pub struct NumberedNode {
     pub cum: i64,
 }
 
-/// The nodes of a call tree by the numbers of their keys, for what is done once for a key.
-#[derive(Clone, Copy)]
-pub struct NumberedTree<'a> {
+/// The nodes of a call tree by the numbers of their keys, without links: for what goes over all of them in their order.
+#[derive(Drop)]
+pub struct NumberedTree {
     /// The keys, by number.
-    pub names: &'a Names,
+    pub names: Names,
     /// Parents before children.
-    pub nodes: &'a [NumberedNode],
-}
-
-impl NumberedTree<'_> {
-    /// The node with its key.
-    pub fn named(&self, node: &NumberedNode) -> PathNode
-        ensures { result ≡ node_by self.now.names.now node.now }
-    {
-        named(self.names, node)
-    }
+    pub nodes: List<NumberedNode>,
 }
 
 /// The call tree of a report. Contracts see the list of its nodes, parents before children.
@@ -127,16 +118,6 @@ impl CallTree {
     {
         named(&self.names, &self.nodes.as_slice()[n as usize])
     }
-
-    /// The same nodes by the numbers of their keys.
-    pub fn numbered(&self) -> NumberedTree<'_>
-        ensures { nodes_by result.names.now result.nodes.now ≡ self.now }
-    {
-        NumberedTree {
-            names: &self.names,
-            nodes: self.nodes.as_slice(),
-        }
-    }
 }
 
 // The place that stands at the number, none past the end.
@@ -161,7 +142,8 @@ fn named(names: &Names, node: &NumberedNode) -> PathNode
     }
 }
 
-fn key_at(names: &Names, n: u64) -> Key
+/// The key with the number. One without texts, where no key has it.
+pub fn key_at(names: &Names, n: u64) -> Key
     ensures { result ≡ slice_index_or names.now n no_key }
 {
     if n < names.len() {
