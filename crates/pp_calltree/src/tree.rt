@@ -37,18 +37,18 @@ pub struct NumberedNode {
 
 /// The nodes of a call tree by the numbers of their keys, without links: for what goes over all of them in their order.
 #[derive(Drop)]
-pub struct NumberedTree {
+pub struct NumberedTree<'a> {
     /// The keys, by number.
-    pub names: Names,
+    pub names: &'a Names,
     /// Parents before children.
     pub nodes: List<NumberedNode>,
 }
 
 /// The call tree of a report. Contracts see the list of its nodes, parents before children.
 #[derive(Drop)]
-pub struct CallTree {
+pub struct CallTree<'a> {
     /// The keys, by number.
-    pub(crate) names: Names,
+    pub(crate) names: &'a Names,
     pub(crate) nodes: List<NumberedNode>,
     /// For each node, the place of its parent, none for a root.
     pub(crate) parents: Vec<Option<u32>>,
@@ -56,7 +56,7 @@ pub struct CallTree {
     pub(crate) nexts: Vec<Option<u32>>,
 }
 
-impl Model for CallTree {
+impl<'a> Model for CallTree<'a> {
     ghost use Rattle.std.specs.Prelude.{List as Seq};
     ghost use Rattle.pp_calltree.specs.declared.tree.PathNode.{PathNode};
 
@@ -64,12 +64,12 @@ impl Model for CallTree {
 
     ghost use Rattle.pp_calltree.specs.Links.{nodes_by, AreLinked};
 
-    ghost view = { λ t. nodes_by t.names t.nodes };
+    ghost view = { λ t. nodes_by t.names.now t.nodes };
 
-    ghost invariant = { λ t. AreLinked (nodes_by t.names t.nodes) t.parents.items t.nexts.items };
+    ghost invariant = { λ t. AreLinked (nodes_by t.names.now t.nodes) t.parents.items t.nexts.items };
 }
 
-impl CallTree {
+impl CallTree<'_> {
     /// The number of nodes.
     pub fn nodes(&self) -> u64
         ensures { result ≡ length self.now }
@@ -116,7 +116,7 @@ impl CallTree {
         requires { n < length self.now }
         ensures { slice_get self.now n ≡ Some result }
     {
-        named(&self.names, &self.nodes.as_slice()[n as usize])
+        named(self.names, &self.nodes.as_slice()[n as usize])
     }
 }
 

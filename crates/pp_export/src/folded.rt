@@ -28,17 +28,17 @@ use std::alloc::Global;
 pub fn write_folded(
     alloc: Global,
     l: &Loaded,
-    t: &NumberedTree,
+    t: &NumberedTree<'_>,
     out: &mut Text,
 ) -> Result<(), Memory>
-    requires { All (λ n. IsKeyOf l.now.profile n.key) (nodes_by t.now.names t.now.nodes) }
+    requires { All (λ n. IsKeyOf l.now.profile n.key) (nodes_by t.now.names.now t.now.nodes) }
     ensures ok { (v : Verdicts) (config : Config) (column : Option ℕ) (f : Finders) →
-        IsTreeOf l.now v config column (nodes_by t.now.names t.now.nodes) → HoldsFilters l.now v config f →
+        IsTreeOf l.now v config column (nodes_by t.now.names.now t.now.nodes) → HoldsFilters l.now v config f →
         OnOk result (out.new ≡ out.old ++ folded_text l.now.profile f config column) }
     ensures err { OnErr result (out.new ≡ out.old) }
 {
     let mut text = Text::new(alloc);
-    put_paths(alloc, l, &t.names, t.nodes.as_slice(), &mut text)?;
+    put_paths(alloc, l, t.names, t.nodes.as_slice(), &mut text)?;
     out.append(text)
 }
 

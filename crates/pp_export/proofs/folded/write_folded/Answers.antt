@@ -11,4 +11,4 @@ pub returns-clause-ok : goal.returns-clause-ok
 returns-clause-ok c = λ v config column f tree holds.
     appended c.append.result c.append.new.self c.args.out.now c.put_paths.new.out _
     ((rw (c.new-text.ensures, c.as_slice.ensures) at c.in_ok-put_paths.ensures)
-    ∙ folded_is c.args.l.now v config column f (nodes_by c.args.t.now.names c.args.t.now.nodes) tree holds) c.append.ensures.ok
+    ∙ folded_is c.args.l.now v config column f (nodes_by c.args.t.now.names.now c.args.t.now.nodes) tree holds) c.append.ensures.ok
