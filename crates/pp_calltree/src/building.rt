@@ -85,7 +85,7 @@ impl<'a> CallTree<'a> {
 }
 
 // How all samples are seen, each key by its number in the report's table.
-fn scope_of<'x>(survey: &'x Survey<'x>) -> Scope<'x>
+fn scope_of<'a>(survey: &Survey<'a>) -> Scope<'a>
     ensures sound { IsSoundScope result }
     ensures same { IsScopeOf survey.now.l.now survey.now.v.now survey.now.config.now
         survey.now.column result }

@@ -28,7 +28,7 @@ use std::alloc::Global;
 pub fn write_folded(
     alloc: Global,
     l: &Loaded,
-    t: &NumberedTree<'_>,
+    t: &NumberedTree,
     out: &mut Text,
 ) -> Result<(), Memory>
     requires { All (λ n. IsKeyOf l.now.profile n.key) (nodes_by t.now.names.now t.now.nodes) }
