@@ -57,7 +57,7 @@ node_is_key p names nodes i d all here =
 
 pub walk_starts : (p : Profile) (names : List Key) (nodes : List NumberedNode) (before : List ℕ) (path_names : PathNames) (path : List Place)
     → ArePathNames (numbered_name p names) path_names → path ≡ [] → WalkedTo p names nodes before 0 path_names path before
-walk_starts p names nodes before path_names path are none = record { are_names = are; keys = []; leads = subst (LeadsTo [] path_names.text.items) (sym none) tt; whole = refl }
+walk_starts p names nodes before path_names path are none = record { are_names = are; keys = []; leads = subst (λ ps. LeadsTo [] path_names.text.items ps) (sym none) tt; whole = refl }
 
 pub walk_more : (p : Profile) (names : List Key) (nodes : List NumberedNode) (before : List ℕ) (i : ℕ) (d : NumberedNode) (path_names made : PathNames) (path next : List Place)
     (out new : List ℕ) → i < length nodes → WalkedTo p names nodes before i path_names path out → ArePathNames (numbered_name p names) made

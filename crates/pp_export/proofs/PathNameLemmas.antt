@@ -19,19 +19,19 @@ added text more place start len =
     (λ i. take (len i) (drop (start i) (text ++ more))) ∙ ap (take (length more)) (drop-append_seam text more) ∙ take_all (length more) more (omega arith)
 
 -- a name that is made already
-pub given : (name : ℕ → List ℕ) (number : ℕ) (path_names : PathNames) (place : Place) → place ≡ place_in path_names number → 0 < place.len → ArePathNames name path_names
+pub gives_old : (name : ℕ → List ℕ) (number : ℕ) (path_names : PathNames) (place : Place) → place ≡ place_in path_names number → 0 < place.len → ArePathNames name path_names
     → GivesName name number path_names.text.items path_names place
-given name number path_names place is some are = record {
+gives_old name number path_names place is some are = record {
   names = are;
   own = subst (λ (q : Place). StandsAt path_names.text.items q (name_and_separator (name number))) (sym is) (are.made number (subst (λ (q : Place). 0 < q.len) is some));
   kept = λ other bytes stands. stands;
 }
 
 -- one more name is made
-pub given_more : (name : ℕ → List ℕ) (old new : PathNames) (number : ℕ) (place : Place) (part : List ℕ) → new.text.items ≡ old.text.items ++ part
+pub gives_new : (name : ℕ → List ℕ) (old new : PathNames) (number : ℕ) (place : Place) (part : List ℕ) → new.text.items ≡ old.text.items ++ part
     → place.start ≡ length old.text.items → place.len ≡ length part → part ≡ name_and_separator (name number) → ArePathNames name old → place_in new number ≡ place
     → ((other : ℕ) → other ≢ number → place_in new other ≡ place_in old other) → GivesName name number old.text.items new place
-given_more name old new number place part text start len is so_far own others = record { names = record { made = made }; own = here; kept = still } where
+gives_new name old new number place part text start len is so_far own others = record { names = record { made = made }; own = here; kept = still } where
   still : (other : Place) (bytes : List ℕ) → StandsAt old.text.items other bytes → StandsAt new.text.items other bytes
   still other bytes stands = record {
     within = omega (arith, stands.within, ap length text, length-append old.text.items part);

@@ -47,7 +47,7 @@ pub leads_on : (p : Profile) (names : List Key) (node : NumberedNode) (keys : Li
     → GivesName (numbered_name p names) node.key old path_names place → cut ≡ take node.depth path → new ≡ cut ++ place ∷ [] → LeadsTo keys old path
     → LeadsTo (keys_to keys (node_row p (node_by names node))) path_names.text.items new
 leads_on p names node keys old path_names place path cut new gives cut_is new_is leads =
-    subst (LeadsTo (take node.depth keys ++ written_key p names node.key ∷ []) path_names.text.items) (sym (new_is ∙ ap (λ c. c ++ place ∷ []) cut_is))
+    subst (λ ps. LeadsTo (take node.depth keys ++ written_key p names node.key ∷ []) path_names.text.items ps) (sym (new_is ∙ ap (λ c. c ++ place ∷ []) cut_is))
     (leads_push (take node.depth keys) (written_key p names node.key) path_names.text.items (take node.depth path) place
     (leads_first node.depth keys path_names.text.items path (leads_kept keys old path_names.text.items path gives.kept leads)) gives.own)
 
