@@ -1,5 +1,5 @@
 //! The nodes that are shown.
-ghost use Rattle.std.specs.Prelude.{◌≡◌, ◌<◌, ◌^◌, IfOk};
+ghost use Rattle.std.specs.Prelude.{◌≡◌, ◌<◌, IfOk};
 ghost use Rattle.pp_calltree.specs.Shown.{is_cut, AreShown};
 
 use crate::tree::{CallTree, PathNode};

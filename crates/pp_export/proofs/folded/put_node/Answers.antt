@@ -1,4 +1,4 @@
-use Rattle.std.proofs.Common.{List, take, w64, FitsSigned, rules}
+use Rattle.std.proofs.Common.{take, w64, FitsSigned, rules}
 use Rattle.std.proofs.lemmas.Int.{to_z-of_z}
 use Rattle.pp_calltree.specs.CallTree.{TreeRow}
 use Rattle.pp_calltree.specs.Laid.{node_row}
