@@ -97,24 +97,24 @@ impl PathNames {
         ensures { IfOk result (λ _. out.new ≡ out.old ++ joined_at self.now.text.items path.now) }
     {
         let start = out.len();
-        self.put_parts(path, out)?;
+        put_parts(&self.text, path, out)?;
         let end = out.len().saturating_sub(1).max(start);
         out.truncate(end);
-        Ok(())
-    }
-
-    fn put_parts(&self, path: &[Place], out: &mut Text) -> Result<(), Memory>
-        ensures { IfOk result (λ _.
-            out.new ≡ out.old ++ flat_map (at_place self.now.text.items) path.now) }
-    {
-        for place in path {
-            out.extend(part(&self.text, *place))?;
-        }
         Ok(())
     }
 }
 
 const NOWHERE: Place = Place { start: 0, len: 0 };
+
+// Appends what stands at the places.
+fn put_parts(text: &[u8], places: &[Place], out: &mut Text) -> Result<(), Memory>
+    ensures { IfOk result (λ _. out.new ≡ out.old ++ flat_map (at_place text.now) places.now) }
+{
+    for place in places {
+        out.extend(part(text, *place))?;
+    }
+    Ok(())
+}
 
 // The bytes at the place.
 fn part(text: &[u8], place: Place) -> &[u8]
