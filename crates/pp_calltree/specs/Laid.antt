@@ -71,7 +71,8 @@ pub record WaitBelow (p : Profile) (names : List Key) (most depth left : ℕ)
   pub lighter : sum_by weight branches ≤ all_lengths samples
 
 -- The nodes so far, and those of the branches that wait, are those of the samples.
-pub record Laying (p : Profile) (names : List Key) (most : ℕ) (samples : List (Seen ℕ)) (nodes : List PathNode) (waiting : List Branch) : Type 0 where
+pub record Laying (p : Profile) (names : List Key) (most : ℕ) (samples : List (Seen ℕ))
+    (nodes : List PathNode) (waiting : List Branch) : Type 0 where
   pub rows : map (node_row p) nodes ++ flat_map (whole_branch p names most) (reverse waiting)
       ≡ rows_below key_cmp any_row most 0 (written_out p names samples)
   pub layable : All (IsLayable names most) waiting

@@ -1,4 +1,5 @@
--- The nodes of a call tree with their links, as the code holds them. Of it, a public clause cites `node_by` and `nodes_by`.
+-- The nodes of a call tree with their links, as the code holds them. Of it, public clauses cite `node_by` and
+-- `nodes_by`.
 use Rattle.std.specs.Prelude.{◌≡◌, ℕ, ◌<◌, List, length, map, None, Option, slice_index_or}
 use Rattle.pp_grain.specs.declared.key.Key.{Key}
 use Rattle.pp_count.specs.Table.{no_key}

@@ -10,7 +10,6 @@ use Rattle.pp_model.specs.declared.loaded.Loaded.{Loaded}
 use Rattle.pp_model.specs.declared.profile.Sample.{Sample}
 use Rattle.pp_model.specs.declared.verdicts.Verdicts.{Verdicts}
 use Rattle.pp_count.specs.declared.scope.Scope.{Scope}
-use Rattle.pp_count.specs.declared.table.KeyTable.{KeyTable}
 use Rattle.pp_count.specs.Sums.{Seen, weighed}
 use Rattle.pp_count.specs.Scope.{AreSeen}
 use Rattle.pp_calltree.specs.declared.path.Part.{Part}
@@ -34,14 +33,13 @@ pub record AreKeptAs (paths : Paths) (samples : List (Seen ℕ)) : Type 0 where
   pub are : parts_of paths.keys.items paths.parts.items ≡ samples
   pub whole : sum_by (λ (s : Part). s.len) paths.parts.items ≡ length paths.keys.items
 
--- The scope is of this profile with its verdicts, of this column, and keys have these numbers.
+-- The scope is of this profile with its verdicts, and of this column.
 pub record IsScopeOf (l : Loaded) (v : Verdicts) (config : Config) (column : Option ℕ)
-    (table : KeyTable) (scope : Scope) : Type 0 where
+    (scope : Scope) : Type 0 where
   pub l_is : scope.l.now ≡ l
   pub v_is : scope.v.now ≡ v
   pub config_is : scope.config.now ≡ config
   pub column_is : scope.column ≡ column
-  pub table_is : scope.table.now ≡ table
 
 -- The paths are those of what the report sees of the samples, by key numbers.
 pub record HasPaths (scope : Scope) (samples : List Sample) (paths : Paths) : Type 0 where

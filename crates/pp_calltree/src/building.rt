@@ -4,8 +4,6 @@ ghost use Rattle.std.specs.List.{sum_by};
 ghost use Rattle.pp_model.specs.Finders.{Finders};
 ghost use Rattle.pp_grain.specs.Keys.{IsKeyOf};
 ghost use Rattle.pp_count.specs.Seeing.{HoldsFilters, filtered_from};
-ghost use Rattle.pp_count.specs.Filters.{AreFilters};
-ghost use Rattle.pp_count.specs.Table.{IsKeyTable};
 ghost use Rattle.pp_count.specs.Scope.{IsSoundScope, size_of};
 ghost use Rattle.pp_calltree.specs.Paths.{IsScopeOf};
 ghost use Rattle.pp_count.specs.Rising.{AreRisingBetween};
@@ -21,25 +19,38 @@ use crate::laying::lay_out;
 use crate::linking::{nexts_of, parents_of};
 use crate::path::{cut_paths, sort_paths};
 use crate::paths::gather_paths;
-use crate::tree::{CallTree, NumberedNode};
+use crate::tree::{CallTree, NumberedNode, NumberedTree};
 use pp_base::{List, Memory};
-use pp_count::{Counted, Filters, KeyTable, Scope, key_table};
+use pp_count::{Counted, Scope, Survey};
 use pp_model::{Config, Loaded, Verdicts};
 use std::alloc::Global;
 
-impl CallTree {
-    /// Builds the tree of the counted samples that put keys into the report, of which `c` has the numbers. `Err` is want
-    /// of memory.
+impl<'a> NumberedTree<'a> {
+    /// Makes the nodes of the counted samples that put keys into the report. `Err` is want of memory.
     ///
     /// Siblings, and roots, stand by absolute cum falling, then by absolute flat falling, then by the order of keys.
+    pub fn build(alloc: Global, survey: &Survey<'a>) -> Result<NumberedTree<'a>, Memory>
+        ensures { IfOk result (λ t.
+            IsTreeOf survey.now.l.now survey.now.v.now survey.now.config.now survey.now.column
+            (nodes_by t.names.now t.nodes)) }
+    {
+        let scope = scope_of(survey);
+        let nodes = nodes_by(alloc, &scope, survey.counted.kept.as_slice())?;
+        let names = &scope.table.names;
+        Ok(NumberedTree { names, nodes })
+    }
+}
+
+impl<'a> CallTree<'a> {
+    /// Builds the tree of the same nodes, with their links. `Err` is want of memory.
     pub fn build(
         alloc: Global,
-        l: &Loaded,
-        v: &Verdicts,
-        c: &Counted,
-        config: &Config,
+        l: &'a Loaded,
+        v: &'a Verdicts,
+        c: &'a Counted,
+        config: &'a Config,
         column: Option<u32>,
-    ) -> Result<CallTree, Memory>
+    ) -> Result<CallTree<'a>, Memory>
         requires can { CanCount l.now.profile v.now config.now column }
         requires counted { IsCountedOf l.now v.now config.now column c.now }
         ensures tree { IfOk result (IsTreeOf l.now v.now config.now column) }
@@ -53,13 +64,17 @@ impl CallTree {
             IfOk result (λ t. map (flats_at l.now.profile t) (written_names l.now.profile c.now.sums)
             ≡ c.now.sums.flat) }
     {
-        let table = key_table(alloc, l, config)?;
-        let filters = Filters::new(alloc, l, v, config)?;
-        let scope = scope_of(l, v, config, &filters, column, &table);
-        let nodes = nodes_by(alloc, &scope, c.kept.as_slice())?;
-        let parents = parents_of(alloc, nodes.as_slice())?;
-        let nexts = nexts_of(alloc, nodes.as_slice())?;
-        let KeyTable { names, location: _ } = table;
+        let survey = Survey {
+            l,
+            v,
+            config,
+            column,
+            counted: c,
+        };
+        let tree = NumberedTree::build(alloc, &survey)?;
+        let parents = parents_of(alloc, tree.nodes.as_slice())?;
+        let nexts = nexts_of(alloc, tree.nodes.as_slice())?;
+        let NumberedTree { names, nodes } = tree;
         Ok(CallTree {
             names,
             nodes,
@@ -69,28 +84,19 @@ impl CallTree {
     }
 }
 
-// How all samples are seen, each key by its number in the table.
-fn scope_of<'x>(
-    l: &'x Loaded,
-    v: &'x Verdicts,
-    config: &'x Config,
-    filters: &'x Filters,
-    column: Option<u32>,
-    table: &'x KeyTable,
-) -> Scope<'x>
-    requires can { CanCount l.now.profile v.now config.now column }
-    requires filters { AreFilters l.now.profile v.now config.now filters.now }
-    requires table { IsKeyTable l.now.profile config.now table.now }
+// How all samples are seen, each key by its number in the report's table.
+fn scope_of<'a>(survey: &Survey<'a>) -> Scope<'a>
     ensures sound { IsSoundScope result }
-    ensures same { IsScopeOf l.now v.now config.now column table.now result }
+    ensures same { IsScopeOf survey.now.l.now survey.now.v.now survey.now.config.now
+        survey.now.column result }
 {
     Scope {
-        l,
-        v,
-        config,
-        filters,
-        column,
-        table,
+        l: survey.l,
+        v: survey.v,
+        config: survey.config,
+        filters: survey.filters(),
+        column: survey.column,
+        table: survey.table(),
         over: None,
         chosen: None,
     }

@@ -14,5 +14,5 @@ mod texts;
 mod tree;
 mod writing;
 
-pub use tree::{CallTree, NumberedNode, NumberedTree, PathNode};
+pub use tree::{CallTree, NumberedNode, NumberedTree, PathNode, key_at};
 pub use writing::write_calltree;

@@ -1,5 +1,5 @@
 //! The nodes that are shown.
-ghost use Rattle.std.specs.Prelude.{◌≡◌, ◌<◌, ◌^◌, IfOk};
+ghost use Rattle.std.specs.Prelude.{◌≡◌, ◌<◌, IfOk};
 ghost use Rattle.pp_calltree.specs.Shown.{is_cut, AreShown};
 
 use crate::tree::{CallTree, PathNode};
@@ -7,7 +7,8 @@ use pp_base::{Fraction, List, Memory};
 use pp_count::is_heavy;
 use std::alloc::Global;
 
-/// The nodes of the tree whose cum is at least this fraction of the total, but for those below one whose cum isn't, in their order.
+/// The nodes of the tree whose cum is at least this fraction of the total, but for those below one whose cum isn't, in
+/// their order.
 pub fn shown_nodes(
     alloc: Global,
     t: &CallTree,

@@ -2,7 +2,7 @@
 ghost use Rattle.std.specs.Prelude.{◌≡◌, ◌<◌, Some, None, length, slice_get, slice_index_or};
 ghost use Rattle.pp_count.specs.Table.{no_key};
 ghost use Rattle.pp_calltree.specs.Tree.{first_root, first_child, next_sibling, parent};
-ghost use Rattle.pp_calltree.specs.Links.{node_by, nodes_by};
+ghost use Rattle.pp_calltree.specs.Links.{node_by};
 
 use crate::linking::child_at;
 use pp_base::List;
@@ -35,29 +35,20 @@ pub struct NumberedNode {
     pub cum: i64,
 }
 
-/// The nodes of a call tree by the numbers of their keys, for what is done once for a key.
-#[derive(Clone, Copy)]
+/// The nodes of a call tree by the numbers of their keys, without links: for what goes over all of them in their order.
+#[derive(Drop)]
 pub struct NumberedTree<'a> {
     /// The keys, by number.
     pub names: &'a Names,
     /// Parents before children.
-    pub nodes: &'a [NumberedNode],
-}
-
-impl NumberedTree<'_> {
-    /// The node with its key.
-    pub fn named(&self, node: &NumberedNode) -> PathNode
-        ensures { result ≡ node_by self.now.names.now node.now }
-    {
-        named(self.names, node)
-    }
+    pub nodes: List<NumberedNode>,
 }
 
 /// The call tree of a report. Contracts see the list of its nodes, parents before children.
 #[derive(Drop)]
-pub struct CallTree {
+pub struct CallTree<'a> {
     /// The keys, by number.
-    pub(crate) names: Names,
+    pub(crate) names: &'a Names,
     pub(crate) nodes: List<NumberedNode>,
     /// For each node, the place of its parent, none for a root.
     pub(crate) parents: Vec<Option<u32>>,
@@ -65,7 +56,7 @@ pub struct CallTree {
     pub(crate) nexts: Vec<Option<u32>>,
 }
 
-impl Model for CallTree {
+impl<'a> Model for CallTree<'a> {
     ghost use Rattle.std.specs.Prelude.{List as Seq};
     ghost use Rattle.pp_calltree.specs.declared.tree.PathNode.{PathNode};
 
@@ -73,12 +64,12 @@ impl Model for CallTree {
 
     ghost use Rattle.pp_calltree.specs.Links.{nodes_by, AreLinked};
 
-    ghost view = { λ t. nodes_by t.names t.nodes };
+    ghost view = { λ t. nodes_by t.names.now t.nodes };
 
-    ghost invariant = { λ t. AreLinked (nodes_by t.names t.nodes) t.parents.items t.nexts.items };
+    ghost invariant = { λ t. AreLinked (nodes_by t.names.now t.nodes) t.parents.items t.nexts.items };
 }
 
-impl CallTree {
+impl CallTree<'_> {
     /// The number of nodes.
     pub fn nodes(&self) -> u64
         ensures { result ≡ length self.now }
@@ -125,17 +116,7 @@ impl CallTree {
         requires { n < length self.now }
         ensures { slice_get self.now n ≡ Some result }
     {
-        named(&self.names, &self.nodes.as_slice()[n as usize])
-    }
-
-    /// The same nodes by the numbers of their keys.
-    pub fn numbered(&self) -> NumberedTree<'_>
-        ensures { nodes_by result.names.now result.nodes.now ≡ self.now }
-    {
-        NumberedTree {
-            names: &self.names,
-            nodes: self.nodes.as_slice(),
-        }
+        named(self.names, &self.nodes.as_slice()[n as usize])
     }
 }
 
@@ -161,7 +142,8 @@ fn named(names: &Names, node: &NumberedNode) -> PathNode
     }
 }
 
-fn key_at(names: &Names, n: u64) -> Key
+/// The key with the number. One without texts, where no key has it.
+pub fn key_at(names: &Names, n: u64) -> Key
     ensures { result ≡ slice_index_or names.now n no_key }
 {
     if n < names.len() {

@@ -1,5 +1,5 @@
-pub mod Trails
 pub mod PathNameLemmas
+pub mod Places
 pub mod Paths
 pub mod Lines
 pub mod Rows

@@ -1,9 +1,9 @@
 -- The lines of a walk over the nodes of a call tree.
-use Rattle.std.proofs.Common.{◌≡◌, ℕ, ◌+◌, ◌<◌, ◌≤◌, Bool, true, false, cond, not, ℤ, pos, List, [], ◌∷◌, ◌++◌, length, take, drop, map, get_or, All, Option, Result, Ok, Err, IfOk, refl, sym, ap, subst, ◌∙◌, append_assoc, arith}
+use Rattle.std.proofs.Common.{◌≡◌, ℕ, ◌+◌, ◌<◌, ◌≤◌, true, false, cond, not, pos, List, [], ◌∷◌, ◌++◌, length, drop, map, get_or, All, Option, Result, Ok, Err, IfOk, refl, sym, ap, subst, ◌∙◌, append_assoc, arith}
 use Rattle.std.specs.List.{filter, flat_map}
 use Rattle.std.specs.Ordering.{int_eq}
 use Rattle.std.proofs.lemmas.Grind.{flat_map-append}
-use Rattle.std.proofs.lemmas.List.{drop_more, drop_all, append-nil, get_or-map, length-map, map-append, take-map}
+use Rattle.std.proofs.lemmas.List.{drop_more, drop_all, append-nil, get_or-map, length-map}
 use Rattle.std.proofs.lemmas.List.Concat.{flat_map-cons}
 use Rattle.std.proofs.lemmas.List.Elements.{filter-append, All-get_or}
 use Rattle.pp_model.specs.declared.config.Config.{Config}
@@ -15,7 +15,6 @@ use Rattle.pp_model.specs.FrameTexts.{Written}
 use Rattle.pp_grain.specs.declared.key.Key.{Key}
 use Rattle.pp_grain.specs.Keys.{key_cmp, IsKeyOf}
 use Rattle.pp_count.specs.Seeing.{HoldsFilters}
-use Rattle.pp_count.specs.Table.{written_key}
 use Rattle.pp_calltree.specs.declared.tree.NumberedNode.{NumberedNode}
 use Rattle.pp_calltree.specs.declared.tree.PathNode.{PathNode}
 use Rattle.pp_calltree.specs.CallTree.{TreeRow, path_samples}
@@ -23,10 +22,9 @@ use Rattle.pp_calltree.specs.Laid.{node_row}
 use Rattle.pp_calltree.specs.Links.{node_by, nodes_by}
 use Rattle.pp_calltree.specs.Tree.{IsTreeOf}
 use Rattle.pp_export.specs.declared.path_names.PathNames.{PathNames}
-use Rattle.pp_export.specs.declared.trail.Trail.{Trail}
+use Rattle.pp_export.specs.declared.path_names.Place.{Place}
 use Rattle.pp_export.specs.Folded.{Path, has_sum, names_joined, path_line, path_lines, folded_text}
-use Rattle.pp_export.specs.PathNames.{path_name, numbered_name, ArePathNames}
-use Rattle.pp_export.specs.Trail.{IsTrail}
+use Rattle.pp_export.specs.PathNames.{numbered_name, ArePathNames}
 use Rattle.pp_export.specs.Walked.{keys_to, path_to, paths_along, line_unless_zero, LeadsTo, WalkedTo}
 use Rattle.pp_export.proofs.Paths.{paths_are}
 
@@ -49,16 +47,6 @@ pub line_is : {E : Type 0} (r : Result (Unit {0}) E) (old new : List ℕ) (path 
 line_is (Err e) old new path names is h = tt
 line_is (Ok x) old new path names is h = h ∙ ap (λ t. old ++ t) (own_line path names is)
 
--- the names on the trail after the next node
-pub led_if : {E : Type 0} (r : Result (Unit {0}) E) (p : Profile) (names : List Key) (node : NumberedNode) (keys : List Written) (t : Trail)
-    → IfOk r (λ _. IsTrail (take node.depth (map path_name keys) ++ numbered_name p names node.key ∷ []) t)
-    → IfOk r (λ _. LeadsTo (keys_to keys (node_row p (node_by names node))) t)
-led_if (Err e) p names node keys t h = tt
-led_if (Ok x) p names node keys t h =
-    subst (λ ns. IsTrail ns t)
-    (ap (λ ns. ns ++ numbered_name p names node.key ∷ []) (take-map path_name node.depth keys)
-    ∙ sym (map-append path_name (take node.depth keys) (written_key p names node.key ∷ []))) h
-
 -- a node has a key of the profile
 pub node_is_key : (p : Profile) (names : List Key) (nodes : List NumberedNode) (i : ℕ) (d : NumberedNode) → All (λ n. IsKeyOf p n.key) (nodes_by names nodes)
     → i < length nodes → IsKeyOf p (node_by names (get_or nodes i d)).key
@@ -66,16 +54,16 @@ node_is_key p names nodes i d all here =
     subst (λ (m : PathNode). IsKeyOf p m.key) (get_or-map (node_by names) nodes i d (node_by names d) here)
     (All-get_or (λ (m : PathNode). IsKeyOf p m.key) (nodes_by names nodes) i (node_by names d) (omega (arith, here, length-map nodes (node_by names))) all)
 
-pub walk_starts : (p : Profile) (names : List Key) (nodes : List NumberedNode) (before : List ℕ) (path_names : PathNames) (trail : Trail)
-    → ArePathNames (numbered_name p names) path_names → IsTrail [] trail → WalkedTo p names nodes before 0 path_names trail before
-walk_starts p names nodes before path_names trail are none = record { are_names = are; keys = []; leads = none; whole = refl }
+pub walk_starts : (p : Profile) (names : List Key) (nodes : List NumberedNode) (before : List ℕ) (path_names : PathNames) (path : List Place)
+    → ArePathNames (numbered_name p names) path_names → path ≡ [] → WalkedTo p names nodes before 0 path_names path before
+walk_starts p names nodes before path_names path are none = record { are_names = are; keys = []; leads = subst (λ ps. LeadsTo [] path_names.text.items ps) (sym none) tt; whole = refl }
 
-pub walk_more : (p : Profile) (names : List Key) (nodes : List NumberedNode) (before : List ℕ) (i : ℕ) (d : NumberedNode) (path_names made : PathNames) (trail next : Trail)
-    (out new : List ℕ) → i < length nodes → WalkedTo p names nodes before i path_names trail out → ArePathNames (numbered_name p names) made
-    → ((keys : List Written) → LeadsTo keys trail → LeadsTo (keys_to keys (node_row p (node_by names (get_or nodes i d)))) next)
-    → ((keys : List Written) → LeadsTo keys trail → new ≡ out ++ path_lines (path_to keys (node_row p (node_by names (get_or nodes i d))) ∷ []))
+pub walk_more : (p : Profile) (names : List Key) (nodes : List NumberedNode) (before : List ℕ) (i : ℕ) (d : NumberedNode) (path_names made : PathNames) (path next : List Place)
+    (out new : List ℕ) → i < length nodes → WalkedTo p names nodes before i path_names path out → ArePathNames (numbered_name p names) made
+    → ((keys : List Written) → LeadsTo keys path_names.text.items path → LeadsTo (keys_to keys (node_row p (node_by names (get_or nodes i d)))) made.text.items next)
+    → ((keys : List Written) → LeadsTo keys path_names.text.items path → new ≡ out ++ path_lines (path_to keys (node_row p (node_by names (get_or nodes i d))) ∷ []))
     → WalkedTo p names nodes before (i + 1) made next new
-walk_more p names nodes before i d path_names made trail next out new here so_far are leads line =
+walk_more p names nodes before i d path_names made path next out new here so_far are leads line =
     let row : TreeRow Written = node_row p (node_by names (get_or nodes i d)) in
     let rest : List (TreeRow Written) = map (node_row p) (nodes_by names (drop (i + 1) nodes)) in
     record {
@@ -90,10 +78,10 @@ walk_more p names nodes before i d path_names made trail next out new here so_fa
           ∙ so_far.whole;
     }
 
-pub walk_ends : (p : Profile) (names : List Key) (nodes : List NumberedNode) (before : List ℕ) (i : ℕ) (path_names : PathNames) (trail : Trail) (out : List ℕ)
-    → length nodes ≤ i → WalkedTo p names nodes before i path_names trail out
+pub walk_ends : (p : Profile) (names : List Key) (nodes : List NumberedNode) (before : List ℕ) (i : ℕ) (path_names : PathNames) (path : List Place) (out : List ℕ)
+    → length nodes ≤ i → WalkedTo p names nodes before i path_names path out
     → out ≡ before ++ path_lines (paths_along [] (map (node_row p) (nodes_by names nodes)))
-walk_ends p names nodes before i path_names trail out past so_far =
+walk_ends p names nodes before i path_names path out past so_far =
     sym (append-nil out) ∙ sym (ap (λ ns. out ++ path_lines (paths_along so_far.keys (map (node_row p) (nodes_by names ns)))) (drop_all i nodes past)) ∙ so_far.whole
 
 -- what is written of the nodes is the report

@@ -1,5 +1,4 @@
 pub mod Escaped
-pub mod Trail
 pub mod PathNames
 pub mod Folded
 pub mod Walked

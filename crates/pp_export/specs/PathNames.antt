@@ -1,5 +1,6 @@
--- The names of keys as they stand in paths, by key number, as the code holds them. No public clause cites it.
-use Rattle.std.specs.Prelude.{◌≡◌, ℕ, ◌+◌, ◌<◌, ◌≤◌, List, length, take, drop, slice_index_or}
+-- The names of keys as they stand in paths, all in one text, as the code holds them. No public clause cites it.
+use Rattle.std.specs.Prelude.{◌≡◌, ℕ, ◌+◌, ◌-◌, ◌<◌, ◌≤◌, List, [], ◌∷◌, ◌++◌, length, take, drop, slice_index_or}
+use Rattle.std.specs.List.{flat_map}
 use Rattle.pp_model.specs.declared.profile.Profile.{Profile}
 use Rattle.pp_model.specs.FrameTexts.{Written}
 use Rattle.pp_grain.specs.declared.key.Key.{Key}
@@ -7,8 +8,7 @@ use Rattle.pp_grain.specs.Naming.{name_text}
 use Rattle.pp_count.specs.Table.{written_key}
 use Rattle.pp_export.specs.declared.path_names.Place.{Place}
 use Rattle.pp_export.specs.declared.path_names.PathNames.{PathNames}
-use Rattle.pp_export.specs.Escaped.{escaped_name}
-use Rattle.pp_export.specs.Trail.{name_and_separator}
+use Rattle.pp_export.specs.Escaped.{semicolon, escaped_name}
 
 -- no name stands there
 abbrev pub nowhere : Place
@@ -17,6 +17,16 @@ nowhere = record { start = 0; len = 0 }
 -- the bytes at the place
 abbrev pub at_place : List ℕ → Place → List ℕ
 at_place text place = take place.len (drop place.start text)
+
+-- These bytes stand at the place.
+pub record StandsAt (text : List ℕ) (place : Place) (bytes : List ℕ) : Type 0 where
+  pub within : place.start + place.len ≤ length text
+  pub are : at_place text place ≡ bytes
+
+-- what stands at the places, one behind the other, but for the last byte
+abbrev pub joined_at : List ℕ → List Place → List ℕ
+joined_at text places =
+    take (length (flat_map (at_place text) places) - 1) (flat_map (at_place text) places)
 
 -- where the name of the number stands
 abbrev pub place_in : PathNames → ℕ → Place
@@ -30,8 +40,19 @@ path_name k = escaped_name (name_text k)
 abbrev pub numbered_name : Profile → List Key → ℕ → List ℕ
 numbered_name p names number = path_name (written_key p names number)
 
--- Each place is one of the text, and what is made are the names of the numbers.
+-- the name with a `;` behind it
+abbrev pub name_and_separator : List ℕ → List ℕ
+name_and_separator name = name ++ semicolon ∷ []
+
+-- What is made are the names of the numbers.
 pub record ArePathNames (name : ℕ → List ℕ) (path_names : PathNames) : Type 0 where
-  pub within : (number : ℕ) → (place_in path_names number).start + (place_in path_names number).len ≤ length path_names.text.items
   pub made : (number : ℕ) → 0 < (place_in path_names number).len
-      → at_place path_names.text.items (place_in path_names number) ≡ name_and_separator (name number)
+      → StandsAt path_names.text.items (place_in path_names number) (name_and_separator (name number))
+
+-- The name of the number stands at the place, and what stood in the old text stands where it did.
+pub record GivesName (name : ℕ → List ℕ) (number : ℕ) (old : List ℕ) (path_names : PathNames) (place : Place)
+    : Type 0 where
+  pub names : ArePathNames name path_names
+  pub own : StandsAt path_names.text.items place (name_and_separator (name number))
+  pub kept : (other : Place) (bytes : List ℕ) → StandsAt old other bytes
+      → StandsAt path_names.text.items other bytes

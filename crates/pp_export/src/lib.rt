@@ -6,7 +6,6 @@ mod folded;
 mod laws;
 mod path_names;
 mod table;
-mod trail;
 
 pub use folded::write_folded;
 pub use laws::{folded_lines_add_up, table_limits_only_cut};

@@ -1,27 +1,28 @@
 //! The names of keys as they stand in paths, by key number.
 ghost use Rattle.std.specs.Prelude.{◌≡◌, ◌≢◌, ◌++◌, ◌<◌, ℕ, List as Seq, length, slice_index_or, IfOk};
+ghost use Rattle.std.specs.List.{flat_map};
 ghost use Rattle.pp_grain.specs.Keys.{IsKeyOf};
-ghost use Rattle.pp_calltree.specs.Links.{node_by};
+ghost use Rattle.pp_count.specs.Table.{key_numbered};
 ghost use Rattle.pp_export.specs.Escaped.{escaped_name};
-ghost use Rattle.pp_export.specs.PathNames.{nowhere, at_place, place_in, numbered_name, ArePathNames};
-ghost use Rattle.pp_export.specs.Trail.{name_and_separator};
+ghost use Rattle.pp_export.specs.PathNames.{nowhere, at_place, joined_at, place_in, name_and_separator, numbered_name, ArePathNames, GivesName};
 
 use crate::escaped::put_frame_name;
 use pp_base::{Memory, Text};
-use pp_calltree::{NumberedNode, NumberedTree};
-use pp_grain::write_name;
+use pp_calltree::key_at;
+use pp_grain::{Names, write_name};
 use pp_model::Loaded;
 use std::alloc::Global;
 
 /// Where a name stands in the text of many.
 #[derive(Clone, Copy, Debug)]
 pub struct Place {
+    /// How many bytes stand before it.
     pub start: usize,
     /// How many bytes it has. 0 where there is no name.
     pub len: usize,
 }
 
-/// The names of keys as they stand in paths, by key number. Each is made once, for the first node that asks for it.
+/// The names of keys as they stand in paths, by key number. Each is made once, when it is first asked for.
 #[derive(Drop)]
 pub struct PathNames {
     /// The names that are made, each with a `;` behind it.
@@ -44,30 +45,41 @@ impl PathNames {
         }
     }
 
-    /// Makes the name of the node's key, if no node before had the key.
-    pub fn make(&mut self, l: &Loaded, t: &NumberedTree, node: &NumberedNode) -> Result<(), Memory>
-        requires key { IsKeyOf l.now.profile (node_by t.now.names.now node.now).key }
-        requires names { ArePathNames (numbered_name l.now.profile t.now.names.now) self.old }
-        ensures names { IfOk result (λ _.
-            ArePathNames (numbered_name l.now.profile t.now.names.now) self.new) }
-        ensures made { IfOk result (λ _. 0 < (place_in self.new node.now.key).len) }
+    /// The place of the name of the key with the number. The name is made where none was asked for before.
+    pub fn place_of(&mut self, l: &Loaded, names: &Names, number: u32) -> Result<Place, Memory>
+        requires key { IsKeyOf l.now.profile (key_numbered names.now number) }
+        requires names { ArePathNames (numbered_name l.now.profile names.now) self.old }
+        ensures { IfOk result (λ place. GivesName (numbered_name l.now.profile names.now) number
+            self.old.text.items self.new place) }
     {
-        if self.place(node.key).len > 0 {
-            return Ok(());
+        let place = self.place(number);
+        if place.len > 0 {
+            return Ok(place);
         }
-        self.scratch.clear();
-        write_name(l, &t.named(node).key, &mut self.scratch)?;
-        self.add(node.key)
+        self.make(l, names, number)
     }
 
-    // Puts the name that was written to the number.
-    fn add(&mut self, number: u32) -> Result<(), Memory>
-        ensures names { (name : ℕ → Seq ℕ) → ArePathNames name self.old →
-            escaped_name self.old.scratch ≡ name number → IfOk result (λ _. ArePathNames name self.new) }
-        ensures made { IfOk result (λ _. 0 < (place_in self.new number).len) }
+    // Makes the name of the key with the number, and gives its place.
+    fn make(&mut self, l: &Loaded, names: &Names, number: u32) -> Result<Place, Memory>
+        requires key { IsKeyOf l.now.profile (key_numbered names.now number) }
+        requires names { ArePathNames (numbered_name l.now.profile names.now) self.old }
+        ensures { IfOk result (λ place. GivesName (numbered_name l.now.profile names.now) number
+            self.old.text.items self.new place) }
+    {
+        self.scratch.clear();
+        write_name(l, &key_at(names, number as u64), &mut self.scratch)?;
+        self.add(number)
+    }
+
+    // Puts the name that was written to the number, and gives its place.
+    fn add(&mut self, number: u32) -> Result<Place, Memory>
+        ensures { (name : ℕ → Seq ℕ) → ArePathNames name self.old →
+            escaped_name self.old.scratch ≡ name number →
+            IfOk result (λ place. GivesName name number self.old.text.items self.new place) }
     {
         let place = put_path_name(self.scratch.as_slice(), &mut self.text)?;
-        put_place(number, place, &mut self.places)
+        put_place(number, place, &mut self.places)?;
+        Ok(place)
     }
 
     // Where the name of the number stands.
@@ -80,15 +92,29 @@ impl PathNames {
         }
     }
 
-    /// The name of the number with a `;` behind it, no bytes where it isn't made.
-    pub fn name(&self, number: u32) -> &[u8]
-        ensures { result.now ≡ at_place self.now.text.items (place_in self.now number) }
+    /// Appends what stands at the places, but for the `;` behind the last name.
+    pub fn put_path(&self, path: &[Place], out: &mut Text) -> Result<(), Memory>
+        ensures { IfOk result (λ _. out.new ≡ out.old ++ joined_at self.now.text.items path.now) }
     {
-        part(&self.text, self.place(number))
+        let start = out.len();
+        put_parts(&self.text, path, out)?;
+        let end = out.len().saturating_sub(1).max(start);
+        out.truncate(end);
+        Ok(())
     }
 }
 
 const NOWHERE: Place = Place { start: 0, len: 0 };
+
+// Appends what stands at the places.
+fn put_parts(text: &[u8], places: &[Place], out: &mut Text) -> Result<(), Memory>
+    ensures { IfOk result (λ _. out.new ≡ out.old ++ flat_map (at_place text.now) places.now) }
+{
+    for place in places {
+        out.extend(part(text, *place))?;
+    }
+    Ok(())
+}
 
 // The bytes at the place.
 fn part(text: &[u8], place: Place) -> &[u8]

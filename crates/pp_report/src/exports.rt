@@ -12,7 +12,8 @@ use crate::prepared::Counts;
 use crate::shows::unit_text;
 use crate::texts::limit_of;
 use pp_base::{Memory, Text};
-use pp_calltree::CallTree;
+use pp_calltree::NumberedTree;
+use pp_count::Survey;
 use pp_export::{write_folded, write_table};
 use pp_graph::rank_all;
 use pp_model::{Config, Loaded};
@@ -31,7 +32,14 @@ pub fn folded(
     ensures { (f : Finders) → HoldsFilters l.now counts.now.verdicts config.now f →
         IfOk result (λ text. text ≡ folded_text l.now.profile f config.now column) }
 {
-    let tree = CallTree::build(alloc, l, &counts.verdicts, &counts.counted, config, column)?;
+    let survey = Survey {
+        l,
+        v: &counts.verdicts,
+        config,
+        column,
+        counted: &counts.counted,
+    };
+    let tree = NumberedTree::build(alloc, &survey)?;
     let mut text = Text::new(alloc);
     write_folded(alloc, l, &tree, &mut text)?;
     Ok(text)

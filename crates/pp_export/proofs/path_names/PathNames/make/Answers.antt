@@ -6,9 +6,8 @@ use Rattle.pp_export.specs.PathNames.{numbered_name}
 use Rattle.pp_export.proofs.path_names.PathNames.make.Goals as goal
 
 -- the name is written to the room, and the others stay
-pub returns-clause-names : goal.returns-clause-names
-returns-clause-names c =
-    c.add.ensures.names (numbered_name c.args.l.now.profile c.args.t.now.names.now)
-    (record { within = c.requires.names.within; made = c.requires.names.made })
+pub returns : goal.returns
+returns c =
+    c.add.ensures (numbered_name c.args.l.now.profile c.args.names.now) (record { made = c.requires.names.made })
     (ap escaped_name (c.in_ok-write_name.ensures.ok
-    ∙ (λ i. c.clear.ensures i ++ name_text (key_written c.args.l.now.profile (c.named.ensures i).key))))
+    ∙ (λ i. c.clear.ensures i ++ name_text (key_written c.args.l.now.profile (c.key_at.ensures i)))))
