@@ -17,8 +17,9 @@ ghost use Rattle.pp_dump.specs.Places.{IsCutOf};
 use crate::cutting::{cut_samples, none_cut};
 use pp_base::Memory;
 use pp_count::Counted;
+use pp_merge::merge_alone;
 use pp_model::{Compact, Loaded, Valid, Verdicts};
-use pp_restack::{merge_alone, with_cut};
+use pp_restack::with_cut;
 use pp_stack::VerdictTables;
 use std::alloc::Global;
 

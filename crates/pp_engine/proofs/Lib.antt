@@ -6,7 +6,6 @@ pub mod Performing
 pub mod Refused
 pub mod Gives
 pub mod Outcomes
-pub mod AskQuiet
 pub mod LoadQuiet
 pub mod ReportQuiet
 pub mod Telling

@@ -15,7 +15,7 @@ use Rattle.pp_options.specs.declared.origin.Origin.TheVariants.{Path, Gen}
 use Rattle.pp_options.specs.declared.plan.Plan.{Plan}
 use Rattle.pp_pattern.specs.Load.{judge_load}
 use Rattle.pp_pattern.specs.Report.{Finds}
-use Rattle.pp_engine.proofs.AskQuiet.{only_asking, only_load}
+use Rattle.pp_pattern.proofs.AskQuiet.{only_asking, only_load}
 use Rattle.pp_engine.proofs.Courses.{only_looks}
 
 module _ (test : Step → Bool) (reads : (path : List ℕ) (limit : ℕ) → test (ReadFile path limit) ≡ true) where

@@ -25,7 +25,7 @@ use Rattle.pp_source.specs.Files.{files_of_lines}
 use Rattle.pp_source.specs.declared.source.Source.{Source}
 use Rattle.pp_source.specs.declared.source.TheConstants.{SOURCE_LIMIT}
 use Rattle.pp_source.specs.Listing.{or_next, first_present, source_found, source_of, read_sources, list_lines, list_found, list_report}
-use Rattle.pp_engine.proofs.AskQuiet.{only_asking, only_judge}
+use Rattle.pp_pattern.proofs.AskQuiet.{only_asking, only_judge}
 use Rattle.pp_engine.proofs.Courses.{only_looks, writes_nothing}
 
 module _ (test : Step → Bool) where

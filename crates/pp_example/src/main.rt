@@ -3,7 +3,7 @@
 #![tactic(auto)]
 
 ghost use Rattle.std.specs.Prelude.{◌≡◌, ◌<◌, ◌≤◌, ◌^◌, IfOk, length};
-ghost use Rattle.std.specs.List.{sum_by};
+ghost use Rattle.std.specs.List.{AllByRecursion, sum_by};
 
 mod recording;
 mod showing;
@@ -46,6 +46,7 @@ fn show_countable<R: Threads + Sync>(rt: &R, alloc: Global, profile: Compact) ->
 // Two hours, each through a file of its own, and labelled.
 fn hours<F: Files>(alloc: Global, files: &mut F) -> Result<List<Valid>>
     ensures some { IfOk result (λ hours. length hours ≡ 2) }
+    ensures columns { IfOk result (AllByRecursion (λ p. length p.sample_type < 2 ^ 32)) }
     ensures samples { IfOk result (λ hours. sum_by (λ p. length p.sample) hours < 2 ^ 32) }
 {
     let first = through_file(alloc, files, b"hour-1.pb", &record_hour(alloc, 300)?)?;
@@ -58,7 +59,8 @@ fn hours<F: Files>(alloc: Global, files: &mut F) -> Result<List<Valid>>
 
 // The profile, written to the file and read back.
 fn through_file<F: Files>(alloc: Global, files: &mut F, name: &[u8], hour: &Valid) -> Result<Valid>
-    ensures { IfOk result (λ read. length read.sample ≤ LIMIT) }
+    ensures columns { IfOk result (λ read. length read.sample_type ≤ LIMIT) }
+    ensures samples { IfOk result (λ read. length read.sample ≤ LIMIT) }
 {
     let path = Text::from_slice(alloc, name)?;
     write_hour(alloc, files, &path, hour)?;
@@ -73,7 +75,8 @@ fn write_hour<F: Files>(alloc: Global, files: &mut F, path: &Text, hour: &Valid)
 }
 
 fn read_hour<F: Files>(alloc: Global, files: &mut F, path: &Text) -> Result<Valid>
-    ensures { IfOk result (λ read. length read.sample ≤ LIMIT) }
+    ensures columns { IfOk result (λ read. length read.sample_type ≤ LIMIT) }
+    ensures samples { IfOk result (λ read. length read.sample ≤ LIMIT) }
 {
     let mut bytes = Text::new(alloc);
     let answer = files.read(path, &mut bytes, LIMIT);

@@ -1,1 +1,2 @@
 mod FilterLemmas
+mod StopLemmas

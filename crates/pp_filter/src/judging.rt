@@ -5,7 +5,7 @@ ghost use Rattle.pp_pattern.specs.Report.{AreVerdictsOf};
 
 use crate::FilterRefusal;
 use pp_base::List;
-use pp_desk::Desk;
+use pp_desk::{Desk, Stop};
 use pp_model::{Compact, Config, Loaded, Verdicts};
 use pp_pattern::{FramesRefused, PatternRefused, judge, judge_load};
 use std::alloc::Global;
@@ -17,8 +17,19 @@ pub fn load<D: Desk>(alloc: Global, profile: Compact, desk: &mut D) -> Result<Lo
 {
     match judge_load(alloc, desk, &profile) {
         Ok(answer) => loaded::<D>(profile, answer),
-        // Nothing but the matcher is asked, and it stops for want of memory alone.
-        Err(_) => Err(FilterRefusal::Memory),
+        Err(stop) => Err(refusal_of(stop)),
+    }
+}
+
+// The refusal where the asking of patterns is stopped: it asks nothing but the matcher, and so is stopped for want of
+// memory alone.
+fn refusal_of(stop: Stop) -> FilterRefusal
+    requires { stop ≡ Stop.Memory }
+    ensures { result ≡ FilterRefusal.Memory }
+{
+    match stop {
+        Stop::Memory => FilterRefusal::Memory,
+        Stop::File | Stop::Input | Stop::Out | Stop::Err => unreachable!(),
     }
 }
 
@@ -54,7 +65,6 @@ pub fn verdicts<D: Desk>(
     match judge(alloc, desk, config, None, l) {
         Ok(Ok(verdicts)) => Ok(verdicts),
         Ok(Err(PatternRefused { option })) => Err(FilterRefusal::Pattern { option }),
-        // As above.
-        Err(_) => Err(FilterRefusal::Memory),
+        Err(stop) => Err(refusal_of(stop)),
     }
 }

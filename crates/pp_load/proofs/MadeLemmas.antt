@@ -1,17 +1,17 @@
--- The profile that is made keeps the table rules.
-use Rattle.std.proofs.Common.{◌≡◌, ℕ, zero, suc, ◌+◌, ◌-◌, ◌^◌, ◌<◌, ◌≤◌, ◌%◌, Bool, true, false, ◌||◌, List, [], ◌∷◌, ◌++◌, map, length, refl, sym, ap, ◌∙◌, subst, arith}
-use Rattle.std.specs.Prelude.{None, Ok, ◌==◌}
+-- The profile that is made keeps the table rules, and can be counted.
+use Rattle.std.proofs.Common.{◌≡◌, ℕ, zero, suc, ◌+◌, ◌-◌, ◌<◌, ◌≤◌, ◌%◌, nat_abs, Bool, true, false, ◌||◌, List, [], ◌∷◌, ◌++◌, map, length, refl, sym, ap, ◌∙◌, arith}
+use Rattle.std.specs.Prelude.{None, ◌==◌}
 use Rattle.std.specs.List.{AllByRecursion, list_all, range_with_len}
 use Rattle.std.proofs.Math.Nat.{mod-lt}
 use Rattle.std.proofs.lemmas.List.{append_assoc}
+use Rattle.std.proofs.lemmas.List.Elements.{All-from_recursion}
 use Rattle.std.proofs.lemmas.List.FromFn.{map-range_with_len_more, length-map-range_with_len}
+use Rattle.std.proofs.lemmas.List.Sums.{sum_by-le}
 use Rattle.pp_model.specs.declared.profile.Sample.{Sample}
-use Rattle.pp_model.specs.declared.profile.Profile.{Profile}
 use Rattle.pp_model.specs.Rules.{NoRuleFails, label_has_texts, stands_in, zero_unless}
-use Rattle.pp_merge.specs.Merge.{merged, Merges}
+use Rattle.pp_model.specs.Sizes.{IsCountable, value_in}
 use Rattle.pp_share.proofs.NumberedLemmas.{nowhere}
 use Rattle.pp_load.specs.Generator.{made, made_sample, made_location, ids_down}
-use Rattle.pp_load.specs.Joining.{samples_of}
 
 -- what holds of each sample that can be made
 all_made : (P : Sample → Type 0) → ((number : ℕ) → P (made_sample number)) → (numbers : List ℕ) → AllByRecursion P (map made_sample numbers)
@@ -61,13 +61,23 @@ made_valid samples = record {
   values = nowhere (λ (s : Sample). length s.value == 2) _ (all_made (λ s. (length s.value == 2) ≡ true) (λ number. refl) (range_with_len 0 samples));
 }
 
--- it has so many samples
-pub made_few : (samples : ℕ) → samples ≤ 1000000 → samples_of (made samples ∷ []) < 2 ^ 32
-made_few samples few = omega (arith, few, length-map-range_with_len made_sample 0 samples)
+-- no value of a sample is above 8000
+small_value : (number column : ℕ) → nat_abs (value_in (made_sample number) column) ≤ 8000
+small_value number zero = omega arith
+small_value number (suc zero) = let below : number % 8 < 8 = mod-lt number (omega arith) in omega (arith, below)
+small_value number (suc (suc column)) = omega arith
 
--- what it is merged to, alone
-pub made_merged : (samples : ℕ) (list : List Profile) (r : Profile) → list ≡ made samples ∷ [] → Merges list (Ok r) → r ≡ merged (made samples) []
-made_merged samples list r only is = (subst (λ l. Merges l (Ok r)) only is).1.1
+-- it can be counted
+pub made_countable : (samples : ℕ) → samples ≤ 1000000 → IsCountable (made samples)
+made_countable samples few = record {
+  samples = omega (arith, few, length-map-range_with_len made_sample 0 samples);
+  columns = omega arith;
+  sums = λ column within.
+      let size : Sample → ℕ = λ s. nat_abs (value_in s column) in
+      let list = map made_sample (range_with_len 0 samples) in
+      let each = All-from_recursion (λ s. size s ≤ 8000) list (all_made (λ s. size s ≤ 8000) (λ number. small_value number column) (range_with_len 0 samples)) in
+      omega (arith, few, length-map-range_with_len made_sample 0 samples, sum_by-le size 8000 list each);
+}
 
 -- one number more
 pub one_more : {A : Type 0} (f : ℕ → A) (before : List A) (n : ℕ) → before ≡ map f (range_with_len 0 n) → before ++ f n ∷ [] ≡ map f (range_with_len 0 (n + 1))

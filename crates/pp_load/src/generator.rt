@@ -4,7 +4,7 @@ ghost use Rattle.std.specs.List.{range_with_len};
 ghost use Rattle.pp_load.specs.Generator.{made, made_sample, made_function, made_location, made_texts, generator_texts, ids_down, generated};
 
 use pp_base::{List, Memory, Text};
-use pp_merge::merge;
+use pp_merge::merge_alone;
 use pp_model::{Function, Label, Line, Location, Profile, Sample, Valid, ValueType};
 use pp_tables::write_profile;
 use std::alloc::Global;
@@ -17,13 +17,9 @@ pub fn gen_profile(alloc: Global, samples: u32) -> Result<Text, Memory>
     requires few { samples ≤ 1000000 }
     ensures { IfOk result (λ bytes. bytes ≡ generated samples) }
 {
-    let mut list = List::new(alloc);
-    list.push(Valid::claim(made(alloc, samples)?))?;
-    match merge(alloc, list) {
-        Ok(merged) => write_profile(alloc, merged.valid()),
-        // One profile agrees with itself, and its sums are small: only memory can have been wanting.
-        Err(_) => Err(Memory),
-    }
+    let profile = made(alloc, samples)?;
+    let merged = merge_alone(alloc, Valid::claim(profile))?;
+    write_profile(alloc, merged.valid())
 }
 
 // The profile of so many samples, as it is before it is merged alone.

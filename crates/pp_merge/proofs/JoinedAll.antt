@@ -24,8 +24,7 @@ use Rattle.pp_merge.specs.Merge.{all_mappings, all_samples}
 use Rattle.pp_share.specs.Written.{Contents}
 use Rattle.pp_share.specs.Placed.{mappings_of, location_placed, samples_placed, gist}
 use Rattle.pp_share.specs.Renumbered.{renumbered_sample, renumbered_type}
-use Rattle.pp_merge.specs.Joined.{behind_ids, moved_behind, sizes_of, no_sizes, first_text, chained, joined_next}
-use Rattle.pp_merge.specs.Merging.{join_from}
+use Rattle.pp_merge.specs.Joined.{behind_ids, moved_behind, sizes_of, no_sizes, first_text, chained, join_from}
 use Rattle.pp_share.proofs.Renaming.{maps_agree, same_type_text}
 use Rattle.pp_share.proofs.JoinLemmas.{get_or-front, behind_in, behind_past}
 use Rattle.pp_merge.proofs.JoinedTables.{HasIds, Holds, words, own_samples, own_mappings}
@@ -33,9 +32,11 @@ use Rattle.pp_share.proofs.EntryLemmas.{index_next}
 use Rattle.pp_share.proofs.ShareLemmas.{rows}
 use Rattle.pp_share.proofs.SharedFunctions.{text_laws}
 
-pub joined_is : (a : Profile) (qs : List Profile) → fold (λ j p. Some (joined_next j p)) (Some a) qs ≡ Some (join_from a qs)
-joined_is a [] = refl
-joined_is a (q ∷ qs) = joined_is (chained a (moved_behind (sizes_of a) q)) qs
+-- one profile more behind the others
+pub join_from-append : (a : Profile) (qs : List Profile) (q : Profile)
+    → join_from a (qs ++ q ∷ []) ≡ chained (join_from a qs) (moved_behind (sizes_of (join_from a qs)) q)
+join_from-append a [] q = refl
+join_from-append a (r ∷ qs) q = join_from-append (chained a (moved_behind (sizes_of a) r)) qs q
 
 -- The tables of the first profile stand in front in the second one.
 pub record Extends (a b : Profile) : Type 0 where

@@ -20,3 +20,4 @@ pub mod NegatedLemmas
 pub mod SmallLemmas
 pub mod KeptSums
 pub mod WrittenPlaces
+pub mod AloneLemmas

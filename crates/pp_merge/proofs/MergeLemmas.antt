@@ -9,7 +9,7 @@ use Rattle.std.proofs.lemmas.List.{length-map}
 use Rattle.std.proofs.lemmas.List.Elements.{All-from_recursion}
 use Rattle.std.proofs.lemmas.List.FromFn.{get_or-range_with_len, length-range_with_len}
 use Rattle.std.proofs.lemmas.List.Sums.{sum_by-append, sum_by-cons, fails_before_first}
-use Rattle.std.proofs.lemmas.Option.{none-some, same_Some}
+use Rattle.std.proofs.lemmas.Option.{none-some}
 use Rattle.pp_base.proofs.Lists.{all_of_map}
 use Rattle.pp_model.specs.declared.profile.Mapping.{Mapping}
 use Rattle.pp_model.specs.declared.profile.Location.{Location}
@@ -36,8 +36,8 @@ use Rattle.pp_share.specs.Written.{FitsTypes, written}
 use Rattle.pp_share.specs.Placed.{gist, totalled}
 use Rattle.pp_share.specs.Renumbered.{renumbered_sample, renumbered_location}
 use Rattle.pp_share.specs.Share.{NamesLocations, IsJoined}
-use Rattle.pp_merge.specs.Joined.{behind_ids, moved_behind, sizes_of, no_sizes, chained, joined, HasFewTexts}
-use Rattle.pp_merge.specs.Merging.{CanMerge, Admits, join_from, IsWhole, IsMerged}
+use Rattle.pp_merge.specs.Joined.{behind_ids, moved_behind, sizes_of, no_sizes, chained, join_from, joined}
+use Rattle.pp_merge.specs.Merging.{CanMerge, Admits, IsWhole}
 use Rattle.pp_share.proofs.Prefix.{by_recursion, all_tt}
 use Rattle.pp_share.proofs.IdLemmas.{place_missed}
 use Rattle.pp_share.proofs.Lists.{all_mapped, all_both, all_filter}
@@ -45,7 +45,7 @@ use Rattle.pp_share.proofs.SumLemmas.{length-total_of}
 use Rattle.pp_share.proofs.SampleKeyLemmas.{sum_by-map}
 use Rattle.pp_share.proofs.JoinLemmas.{behind_in}
 use Rattle.pp_merge.proofs.JoinedTables.{HasIds, Holds}
-use Rattle.pp_merge.proofs.JoinedAll.{joined_is, AllHaveIds, holds_next, holds_first, whole, whole_some, whole_empty, whole_gist, whole_duration, whole_rows, whole_types}
+use Rattle.pp_merge.proofs.JoinedAll.{AllHaveIds, holds_next, holds_first, whole, whole_some, whole_empty, whole_gist, whole_duration, whole_rows, whole_types}
 use Rattle.pp_share.proofs.ShareLemmas.{rows}
 use Rattle.pp_merge.proofs.SettledLemmas.{no_column}
 use Rattle.pp_merge.proofs.WrittenValid.{valid_written}
@@ -301,14 +301,13 @@ pub record IsShareable (whole : Profile) : Type 0 where
   pub fits : (column : ℕ) → column < length whole.sample_type → sum_by (λ (s : Sample). nat_abs (value_in s column)) whole.sample ≤ 9223372036854775807
 
 -- what is left of the profiles is what merging gives of them, in order
-pub record IsLeft (list : List Profile) (r : Profile) : Type 0 where
-  pub merged_is : IsMerged list r
+pub record IsLeft (p : Profile) (ps : List Profile) (r : Profile) : Type 0 where
+  pub merged_is : r ≡ merged p ps
   pub valid : NoRuleFails r
   pub compact : IsCompact r
 
-pub whole_shareable : (list : List Profile) (duration : ℤ) (r : Profile) → CanMerge list duration → IsWhole list r → IsShareable r
-whole_shareable [] duration r can is = absurd is
-whole_shareable (p ∷ ps) duration r can is =
+pub whole_shareable : (p : Profile) (ps : List Profile) (duration : ℤ) (r : Profile) → CanMerge p ps duration → IsWhole p ps r → IsShareable r
+whole_shareable p ps duration r can is =
     let few = subst (λ (q : Profile). length q.text < 4611686018427387904) is.0 is.1.0 in
     subst IsShareable (sym is.0)
     (record {
@@ -317,10 +316,9 @@ whole_shareable (p ∷ ps) duration r can is =
       fits = one_fits p ps is.1.1 can.0 can.1.0 few;
     })
 
-pub whole_left : (list : List Profile) (duration : ℤ) (r m : Profile) → CanMerge list duration → IsWhole list r
-    → m ≡ written (totalled (length r.sample_type) (gist r)) → IsLeft list m
-whole_left [] duration r m can is done = absurd is
-whole_left (p ∷ ps) duration r m can is done =
+pub whole_left : (p : Profile) (ps : List Profile) (duration : ℤ) (r m : Profile) → CanMerge p ps duration → IsWhole p ps r
+    → m ≡ written (totalled (length r.sample_type) (gist r)) → IsLeft p ps m
+whole_left p ps duration r m can is done =
     let few = subst (λ (q : Profile). length q.text < 4611686018427387904) is.0 is.1.0 in
     let same : m ≡ merged p ps =
     done ∙ ap (λ (q : Profile). written (totalled (length q.sample_type) (gist q))) is.0 ∙ one_merged p ps is.1.1 can.0 can.1.0 few in
@@ -331,24 +329,23 @@ whole_left (p ∷ ps) duration r m can is done =
     }
 
 -- the joined profile with the duration of all
-pub whole_is : (list : List Profile) (duration : ℤ) (o : Option Profile) (found r : Profile) → CanMerge list duration → o ≡ Some found → o ≡ joined list → HasFewTexts o
-    → AllByRecursion NoRuleFails list → r ≡ record found { duration_nanos = duration } → IsWhole list r
-whole_is [] duration o found r can some is few valid done = absurd can
-whole_is (p ∷ ps) duration o found r can some is few valid done =
-    let same : found ≡ join_from (moved_behind no_sizes p) ps = same_Some _ _ (sym some ∙ is ∙ joined_is (moved_behind no_sizes p) ps) in
-    let short = subst HasFewTexts some few in
-    (done ∙ (λ j. record (same j) { duration_nanos = can.1.1 j }), (subst (λ (q : Profile). length q.text < 4611686018427387904) (sym done) short, valid))
+pub whole_is : (p : Profile) (ps : List Profile) (duration : ℤ) (found r : Profile) → CanMerge p ps duration → found ≡ joined p ps → length found.text < 4611686018427387904
+    → AllByRecursion NoRuleFails (p ∷ ps) → r ≡ record found { duration_nanos = duration } → IsWhole p ps r
+whole_is p ps duration found r can is few valid done =
+    (done ∙ (λ j. record (is j) { duration_nanos = can.1.1 j }), (subst (λ (q : Profile). length q.text < 4611686018427387904) (sym done) few, valid))
 
 -- What the stages answer is what merging answers.
-pub merges_merged : (list : List Profile) (duration : ℤ) (r : Profile) → CanMerge list duration → IsMerged list r → Merges list (Ok r)
-merges_merged [] duration r can is = tt
-merges_merged (p ∷ ps) duration r can is = (can.0, (can.1.0, is))
+pub merges_merged : (list : List Profile) (p : Profile) (ps : List Profile) (duration : ℤ) (r : Profile) → list ≡ p ∷ ps → CanMerge p ps duration → r ≡ merged p ps
+    → Merges list (Ok r)
+merges_merged list p ps duration r same can is = subst (λ l. Merges l (Ok r)) (sym same) (can.0, (can.1.0, is))
 
-pub merges_refused : (list : List Profile) (e : MergeRefusal) → Admits list (Err e) → Merges list (Err e)
-merges_refused [] e is = tt
-merges_refused (p ∷ ps) (Incompatible source what) is = is
-merges_refused (p ∷ ps) (TotalTooLarge column) is = is
-merges_refused (p ∷ ps) Memory is = tt
+pub merges_refused : (list : List Profile) (p : Profile) (ps : List Profile) (e : MergeRefusal) → list ≡ p ∷ ps → Admits p ps (Err e) → Merges list (Err e)
+merges_refused list p ps e same is = subst (λ l. Merges l (Err e)) (sym same) (by e is)
+  where
+    by : (e : MergeRefusal) → Admits p ps (Err e) → Merges (p ∷ ps) (Err e)
+    by (Incompatible source what) is = is
+    by (TotalTooLarge column) is = is
+    by Memory is = absurd is
 
 pub merges_memory : (list : List Profile) → Merges list (Err Memory)
 merges_memory [] = tt

@@ -128,6 +128,11 @@ pub negated_length : (kind : BaseKind) (p : Profile) → length (negated kind p)
 negated_length Base p = length-map p.sample negated_sample
 negated_length DiffBase p = length-map p.sample (λ s. labelled_sample (base_label (length p.text) ∷ []) (negated_sample s))
 
+-- and as many columns
+pub negated_columns : (kind : BaseKind) (p : Profile) → length (negated kind p).sample_type ≡ length p.sample_type
+negated_columns Base p = refl
+negated_columns DiffBase p = refl
+
 -- the value's negative fits the type, but for the least value
 pub nearest_is : (value : ℤ) → nat_abs value ≤ 2 ^ 63 - 1 → nearest_negative value ≡ neg_ℤ value
 nearest_is value within = ap (saturate_to_bits 63) (+ℤ_idl (neg_ℤ value)) ∙ nearest value within

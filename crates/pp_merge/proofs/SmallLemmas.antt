@@ -28,16 +28,16 @@ small_from n m some = by (nat_lt (2 ^ 63 - 1) n) (ltb-false (2 ^ 63 - 1) n) some
     by true holds some = absurd (none-some m some)
     by false holds some = (sym (same_Some n m some), holds refl)
 
-module _ {A : Type 0} (f : A → ℕ) (xs : List A) (k total : ℕ) (d : A) (within : k < length xs) (so_far : total + sum_by f (drop k xs) ≡ sum_by f xs) where
-  one_more : total + (f (get_or xs k d) + sum_by f (drop (k + 1) xs)) ≡ sum_by f xs
+module _ {A : Type 0} (f : A → ℕ) (xs : List A) (k total whole : ℕ) (d : A) (within : k < length xs) (so_far : total + sum_by f (drop k xs) ≡ whole) where
+  one_more : total + (f (get_or xs k d) + sum_by f (drop (k + 1) xs)) ≡ whole
   one_more = ap (λ n. total + n) (sym (sum_by-cons f (get_or xs k d) (drop (k + 1) xs)) ∙ ap (sum_by f) (sym (drop_more xs k d within))) ∙ so_far
 
   -- the next item makes the sum too large
-  pub too_large_with : if_small (total + f (get_or xs k d)) ≡ None → None ≡ if_small (sum_by f xs)
-  too_large_with none = sym (none_kept (sum_by f xs) (omega (arith, one_more, large_from _ none)))
+  pub too_large_with : if_small (total + f (get_or xs k d)) ≡ None → None ≡ if_small whole
+  too_large_with none = sym (none_kept whole (omega (arith, one_more, large_from _ none)))
 
   -- the next item fits
-  pub fits_with : (next : ℕ) → if_small (total + f (get_or xs k d)) ≡ Some next → (next ≤ 2 ^ 63 - 1) × (next + sum_by f (drop (k + 1) xs) ≡ sum_by f xs)
+  pub fits_with : (next : ℕ) → if_small (total + f (get_or xs k d)) ≡ Some next → (next ≤ 2 ^ 63 - 1) × (next + sum_by f (drop (k + 1) xs) ≡ whole)
   fits_with next some =
       let (is, small) = small_from (total + f (get_or xs k d)) next some in
       (omega (arith, is, small), omega (arith, is, one_more))

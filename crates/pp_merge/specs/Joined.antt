@@ -1,5 +1,5 @@
 -- Profiles one behind the other, as one whose references are by place.
-use Rattle.std.specs.Prelude.{◌+◌, ◌<◌, ◌^◌, ⊤, ℤ, List, [], ◌++◌, fold, length, Option, Some, None, if◌then◌else◌}
+use Rattle.std.specs.Prelude.{◌+◌, ◌<◌, ◌^◌, ℤ, List, [], ◌∷◌, ◌++◌, length, if◌then◌else◌}
 use Rattle.std.specs.Str.{bytes_eq}
 use Rattle.pp_model.specs.declared.profile.Profile.{Profile}
 use Rattle.pp_model.specs.Lookup.{text_of, text_number}
@@ -71,16 +71,11 @@ chained a b =
       comment = a.comment ++ b.comment;
     }
 
--- the profile behind those that are joined
-abbrev pub joined_next : Option Profile → Profile → Profile
-joined_next None p = moved_behind no_sizes p
-joined_next (Some joined) p = chained joined (moved_behind (sizes_of joined) p)
+-- the profiles behind the first ones, which are joined
+abbrev pub join_from : Profile → List Profile → Profile
+join_from a [] = a
+join_from a (q ∷ qs) = join_from (chained a (moved_behind (sizes_of a) q)) qs
 
--- The profiles as one, each behind those before it.
-abbrev pub joined : List Profile → Option Profile
-joined list = fold (λ joined p. Some (joined_next joined p)) None list
-
--- the texts of the joined profile can be counted
-abbrev pub HasFewTexts : Option Profile → Type 0
-HasFewTexts None = ⊤
-HasFewTexts (Some joined) = length joined.text < 2 ^ 62
+-- The profiles p and ps as one, each behind those before it.
+abbrev pub joined : Profile → List Profile → Profile
+joined p ps = join_from (moved_behind no_sizes p) ps

@@ -1,5 +1,5 @@
 //! Whether profiles can be merged.
-ghost use Rattle.std.specs.Prelude.{◌≡◌, length};
+ghost use Rattle.std.specs.Prelude.{◌≡◌, ◌+◌, ◌<◌, ◌^◌, length};
 ghost use Rattle.std.specs.Cmp.Lexicographic.{pointwise};
 ghost use Rattle.pp_share.specs.Header.{type_text};
 ghost use Rattle.pp_merge.specs.Merge.{same_type, has_types_of, difference, disagreeing};
@@ -51,12 +51,13 @@ fn is_same_type(p: &Profile, kind: &ValueType, q: &Profile, other: &ValueType) -
 
 /// The first of the others that does not agree with the first profile, by its place from 1, and what it does not agree
 /// in.
-pub fn first_disagreeing(first: &Valid, others: &[Valid]) -> Option<(usize, What)>
+pub fn first_disagreeing(first: &Valid, others: &[Valid]) -> Option<(u32, What)>
+    requires { length others.now + 1 < 2 ^ 32 }
     ensures { result ≡ disagreeing first.now 1 others.now }
 {
     for (place, p) in others.iter().enumerate() {
         if let Some(what) = agree(first, p) {
-            return Some((place + 1, what));
+            return Some((place as u32 + 1, what));
         }
     }
     None

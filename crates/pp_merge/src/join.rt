@@ -6,7 +6,7 @@ ghost use Rattle.pp_model.specs.Rules.{NoRuleFails, first_repeated, mapping_ids,
 ghost use Rattle.pp_share.specs.Behind.{behind_id};
 ghost use Rattle.pp_share.specs.Ids.{place_id, new_id};
 ghost use Rattle.pp_share.specs.Renumbered.{new_ids};
-ghost use Rattle.pp_merge.specs.Joined.{behind_ids, moved_behind, chained, with_header_of, first_text, no_sizes, sizes_of, joined_next, joined, HasFewTexts, IsInPlace};
+ghost use Rattle.pp_merge.specs.Joined.{behind_ids, moved_behind, chained, with_header_of, first_text, no_sizes, sizes_of, joined, IsInPlace};
 ghost use Rattle.pp_share.specs.Header.{greater, earlier};
 
 use pp_base::{List, Memory};
@@ -16,32 +16,21 @@ use std::alloc::Global;
 use std::mem;
 
 /// The profiles as one, each behind those before it: their tables and comments one after the other, and the header by
-/// the rules of merging, but for the duration, which stays the first one's. References are by place. `None` for no
-/// profiles.
-pub fn join(alloc: Global, list: List<Valid>) -> Result<Option<Profile>, Memory>
-    ensures same { IfOk result (λ r. r ≡ joined list) }
-    ensures few { IfOk result HasFewTexts }
-    ensures valid { IfOk result (λ r. AllByRecursion NoRuleFails list) }
+/// the rules of merging, but for the duration, which stays the first one's. References are by place.
+pub fn join(alloc: Global, first: Valid, others: Vec<Valid>) -> Result<Profile, Memory>
+    ensures same { IfOk result (λ r. r ≡ joined first others.items) }
+    ensures few { IfOk result (λ r. length r.text < 2 ^ 62) }
+    ensures first { IfOk result (λ r. NoRuleFails first) }
+    ensures others { IfOk result (λ r. AllByRecursion NoRuleFails others.items) }
 {
-    let mut joined = None;
-    for valid in list.into_vec() {
+    let start = first.into_profile();
+    let mut joined = first_joined(alloc, start)?;
+    for valid in others {
         let p = valid.into_profile();
-        let next = join_next(alloc, joined, p)?;
-        joined = Some(next);
+        let next = joined_behind(alloc, joined, p)?;
+        joined = next;
     }
     Ok(joined)
-}
-
-// The profile behind those that are joined.
-fn join_next(alloc: Global, joined: Option<Profile>, p: Profile) -> Result<Profile, Memory>
-    requires { NoRuleFails p }
-    ensures same { IfOk result (λ r. r ≡ joined_next joined p) }
-    ensures few { IfOk result (λ r. length r.text < 2 ^ 62) }
-{
-    match joined {
-        None => first_joined(alloc, p),
-        Some(joined) => joined_behind(alloc, joined, p),
-    }
 }
 
 // The profile as the first one. Samples name many locations, so they are not gone through where all references are by

@@ -1,6 +1,7 @@
 //! Profiles merged, scaled, and subtracted from one another.
 #![tactic(auto)]
 
+mod alone;
 mod compatible;
 mod durations;
 mod join;
@@ -12,6 +13,7 @@ mod scaling;
 mod subtracting;
 mod totals;
 
+pub use alone::merge_alone;
 pub use compatible::agree;
 pub use laws::{
     absolute_sums_are_within, merged_is_again, merged_is_settled, sums_are_kept,

@@ -1,13 +1,13 @@
 //! Several profiles become one.
-ghost use Rattle.std.specs.Prelude.{◌≡◌, ◌<◌, ◌^◌, length, IfOk};
-ghost use Rattle.std.specs.List.{sum_by};
-ghost use Rattle.pp_merge.specs.Merge.{Merges};
-ghost use Rattle.pp_merge.specs.Merging.{Admits, CanMerge, IsWhole, IsMerged, RefusesSource, RefusesColumn};
+ghost use Rattle.std.specs.Prelude.{◌≡◌, ◌+◌, ◌<◌, ◌^◌, ◌∷◌, length, IfOk};
+ghost use Rattle.std.specs.List.{AllByRecursion, sum_by};
+ghost use Rattle.pp_merge.specs.Merge.{Merges, merged};
+ghost use Rattle.pp_merge.specs.Merging.{Admits, CanMerge, IsWhole};
 
 use crate::compatible::first_disagreeing;
 use crate::durations::total_duration;
 use crate::join::{join, set};
-use crate::refusal::{MergeRefusal, What};
+use crate::refusal::MergeRefusal;
 use crate::totals::too_large_column;
 use pp_base::{List, Memory};
 use pp_model::{Compact, Profile, Valid};
@@ -21,74 +21,73 @@ use std::alloc::Global;
 pub fn merge(alloc: Global, list: List<Valid>) -> Result<Compact, MergeRefusal>
     requires some { 0 < length list }
     requires few { length list < 2 ^ 32 }
+
+    // The refusal of a column has 32 bits for its place.
+    requires columns { AllByRecursion (λ p. length p.sample_type < 2 ^ 32) list }
     requires samples { sum_by (λ p. length p.sample) list < 2 ^ 32 }
     ensures { Merges list result }
 {
-    let duration = admit(list.as_slice())?;
-    let merged = merge_admitted(alloc, list, duration)?;
+    let (first, others) = split(list);
+    let duration = admit(&first, others.as_slice())?;
+    let merged = merge_admitted(alloc, first, others, duration)?;
     Ok(merged)
 }
 
-// The duration of profiles that can be merged.
-fn admit(list: &[Valid]) -> Result<i64, MergeRefusal>
-    requires { length list.now < 2 ^ 32 }
-    ensures { Admits list.now result }
+// The first of the profiles, and those behind it.
+fn split(list: List<Valid>) -> (Valid, Vec<Valid>)
+    requires { 0 < length list }
+    ensures { list ≡ result.0 ∷ result.1.items }
 {
-    match list {
-        [] => Err(MergeRefusal::Memory),
-        [first, others @ ..] => {
-            if let Some((source, what)) = first_disagreeing(first, others) {
-                return Err(incompatible(source, what));
-            }
-            let columns = first.get().sample_type.len();
-            if let Some(column) = too_large_column(columns, list) {
-                return Err(too_large(column));
-            }
-            Ok(total_duration(first, others))
-        }
-    }
+    let mut others = list.into_vec();
+    let first = others.remove(0);
+    (first, others)
 }
 
-// The refusal of a profile. No memory holds 2^32 of them.
-fn incompatible(source: usize, what: What) -> MergeRefusal
-    ensures { RefusesSource source what result }
+// The duration of profiles that can be merged. No memory is needed to find out whether they can.
+fn admit(first: &Valid, others: &[Valid]) -> Result<i64, MergeRefusal>
+    requires few { length others.now + 1 < 2 ^ 32 }
+    requires columns { length first.now.sample_type < 2 ^ 32 }
+    ensures { Admits first.now others.now result }
 {
-    match u32::try_from(source) {
-        Ok(source) => MergeRefusal::Incompatible { source, what },
-        Err(_) => MergeRefusal::Memory,
+    if let Some((source, what)) = first_disagreeing(first, others) {
+        return Err(MergeRefusal::Incompatible { source, what });
     }
-}
-
-// The refusal of a column. No memory holds samples of 2^32 values.
-fn too_large(column: usize) -> MergeRefusal
-    ensures { RefusesColumn column result }
-{
-    match u32::try_from(column) {
-        Ok(column) => MergeRefusal::TotalTooLarge { column },
-        Err(_) => MergeRefusal::Memory,
+    let columns = first.get().sample_type.len();
+    if let Some(column) = too_large_column(columns, first, others) {
+        return Err(MergeRefusal::TotalTooLarge {
+            column: column as u32,
+        });
     }
+    Ok(total_duration(first, others))
 }
 
 // The profiles as one, where they can be merged and have this duration together.
-fn merge_admitted(alloc: Global, list: List<Valid>, duration: i64) -> Result<Compact, Memory>
-    requires { CanMerge list duration }
-    ensures { IfOk result (λ r. IsMerged list r) }
+fn merge_admitted(
+    alloc: Global,
+    first: Valid,
+    others: Vec<Valid>,
+    duration: i64,
+) -> Result<Compact, Memory>
+    requires { CanMerge first others.items duration }
+    ensures { IfOk result (λ r. r ≡ merged first others.items) }
 {
-    let whole = join_whole(alloc, list, duration)?;
+    let whole = join_whole(alloc, first, others, duration)?;
     let merged = share(alloc, whole)?;
     Ok(Compact::claim(Valid::claim(merged)))
 }
 
 // The profiles one behind the other, with the duration of all.
-fn join_whole(alloc: Global, list: List<Valid>, duration: i64) -> Result<Profile, Memory>
-    requires { CanMerge list duration }
-    ensures { IfOk result (λ r. IsWhole list r) }
+fn join_whole(
+    alloc: Global,
+    first: Valid,
+    others: Vec<Valid>,
+    duration: i64,
+) -> Result<Profile, Memory>
+    requires { CanMerge first others.items duration }
+    ensures { IfOk result (λ r. IsWhole first others.items r) }
 {
-    let joined = join(alloc, list)?;
-    match joined {
-        None => Err(Memory),
-        Some(whole) => Ok(with_duration(whole, duration)),
-    }
+    let joined = join(alloc, first, others)?;
+    Ok(with_duration(joined, duration))
 }
 
 // The profile with this duration.

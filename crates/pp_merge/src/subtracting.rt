@@ -30,10 +30,18 @@ pub fn subtract(
     // In a valid base the types name texts, so that more texts change nothing of what it has to agree in.
     let _valid = base.get();
     let base = negate(alloc, base, kind)?;
-    let mut list = List::new(alloc);
-    list.push(source.into_valid())?;
-    list.push(base)?;
+    let list = pair(alloc, source.into_valid(), base)?;
     merge(alloc, list)
+}
+
+// The two profiles as a list.
+fn pair(alloc: Global, first: Valid, second: Valid) -> Result<List<Valid>, Memory>
+    ensures { IfOk result (λ list. list ≡ first ∷ second ∷ []) }
+{
+    let mut list = List::new(alloc);
+    list.push(first)?;
+    list.push(second)?;
+    Ok(list)
 }
 
 // The base as it is merged into a source.
@@ -91,18 +99,23 @@ fn add_base_texts(alloc: Global, texts: &mut List<Text>) -> Result<Label, Memory
     ensures label { IfOk result (λ label. label ≡ base_label (length texts.old)) }
     ensures texts { OnOk result (texts.new ≡ texts.old ++ base_texts) }
 {
-    let first = texts.len();
-    if first >= i64::MAX as usize {
-        return Err(Memory);
-    }
+    let label = base_label(texts.as_slice());
     texts.push(Text::from_slice(alloc, b"pprof::base")?)?;
     texts.push(Text::from_slice(alloc, b"true")?)?;
-    Ok(Label {
-        key: first as i64,
-        text: first as i64 + 1,
+    Ok(label)
+}
+
+// The label whose texts stand behind these.
+fn base_label(texts: &[Text]) -> Label
+    ensures { result ≡ base_label (length texts.now) }
+{
+    let first = texts.len() as i64;
+    Label {
+        key: first,
+        text: first + 1,
         num: 0,
         num_unit: 0,
-    })
+    }
 }
 
 // Appends the label to those of each sample.

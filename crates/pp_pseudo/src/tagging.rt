@@ -12,8 +12,9 @@ use crate::frames::{FrameKeys, Frames, put_frames};
 use crate::growing::grow;
 use crate::names::FrameNames;
 use pp_base::{List, Memory, Text};
+use pp_merge::merge_alone;
 use pp_model::{Loaded, Profile, Sample, Valid};
-use pp_restack::{merge_alone, no_items, places_of, same_items, with_cut};
+use pp_restack::{no_items, places_of, same_items, with_cut};
 use std::alloc::Global;
 
 /// The profile with a frame for each listed key of which a sample has a label, at the root for the keys of `roots` and

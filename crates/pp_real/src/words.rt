@@ -22,7 +22,7 @@ pub fn read_words<E: Env>(env: &E, alloc: Global) -> Result<Vec<Text>, Memory> {
 // The word of a number, the program's name being 0, or `None` past the last.
 fn read_word<E: Env>(env: &E, alloc: Global, number: usize) -> Result<Option<Text>, Memory> {
     let mut room = ROOM;
-    for _ in 0..usize::BITS {
+    'growing: loop {
         let mut bytes = vec![in alloc; 0u8; room]?;
         match env.arg(number, &mut bytes) {
             Ok(len) => {
@@ -30,8 +30,8 @@ fn read_word<E: Env>(env: &E, alloc: Global, number: usize) -> Result<Option<Tex
                 return Ok(Some(Text::from_vec(bytes)));
             }
             Err(FillError::NotPresent) => return Ok(None),
-            Err(FillError::TooLong) => room = room.saturating_mul(2),
+            // No memory has room that can't be counted.
+            Err(FillError::TooLong) => room = room.checked_mul(2).ok_or(Memory)?,
         }
     }
-    Err(Memory)
 }

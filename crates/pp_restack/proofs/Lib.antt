@@ -3,4 +3,3 @@ pub mod Grouping
 pub mod Placing
 pub mod CutValid
 pub mod MadeContents
-pub mod AloneLemmas

@@ -4,9 +4,9 @@ use Rattle.pp_model.specs.declared.profile.Profile.{Profile}
 use Rattle.pp_merge.proofs.MergeLemmas.{whole_is}
 use Rattle.pp_merge.proofs.merging.join_whole.Goals as goal
 
-pub returns-in-Some : goal.returns-in-Some
-returns-in-Some c =
-    whole_is c.args.list c.args.duration c.in_ok-joined.joined c.in-Some.whole c.with_duration.result c.requires c.in-Some.is
-    c.in_ok-joined.ensures.same c.in_ok-joined.ensures.few c.in_ok-joined.ensures.valid
+pub returns : goal.returns
+returns c =
+    whole_is c.args.first c.args.others.items c.args.duration c.in_ok-joined.joined c.with_duration.result c.requires
+    c.in_ok-joined.ensures.same c.in_ok-joined.ensures.few (c.in_ok-joined.ensures.first, c.in_ok-joined.ensures.others)
     (c.with_duration.ensures
-    ∙ ap {B = Profile} (λ d. record c.in-Some.whole { duration_nanos = d }) (to_z-of_z w64 c.args.duration (record { sfits = c.ranges.duration.sfits })))
+    ∙ ap {B = Profile} (λ d. record c.in_ok-joined.joined { duration_nanos = d }) (to_z-of_z w64 c.args.duration (record { sfits = c.ranges.duration.sfits })))

@@ -1,4 +1,4 @@
-use Rattle.std.proofs.Common.{◌≡◌, ◌+◌, ◌≤◌, ◌^◌, ◌-◌, drop}
+use Rattle.std.proofs.Common.{◌≡◌, ◌+◌, ◌≤◌, ◌^◌, ◌-◌, ◌∷◌, drop}
 use Rattle.std.specs.List.{sum_by}
 use Rattle.pp_model.specs.Sizes.{absolute_sum}
 use Rattle.pp_merge.proofs.totals.column_total.Given as goal
@@ -7,5 +7,5 @@ use Rattle.pp_merge.proofs.totals.column_total.Given as goal
 abbrev pub invariant-loop-p : goal.invariant-loop-p
 invariant-loop-p l = record {
   small : l.total ≤ 2 ^ 63 - 1;
-  whole : l.total + sum_by (λ p. absolute_sum p l.column) (drop l.p-index l.list) ≡ sum_by (λ p. absolute_sum p l.column) l.list;
+  whole : l.total + sum_by (λ p. absolute_sum p l.column) (drop l.p-index l.others) ≡ sum_by (λ p. absolute_sum p l.column) (l.first ∷ l.others);
 }

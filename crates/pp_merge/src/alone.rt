@@ -1,10 +1,11 @@
 //! A profile that is merged alone.
 ghost use Rattle.std.specs.Prelude.{◌≡◌, [], IfOk};
-ghost use Rattle.pp_merge.specs.Merge.{merged};
 ghost use Rattle.pp_model.specs.Sizes.{IsCountable};
+ghost use Rattle.pp_merge.specs.Merge.{merged};
 
+use crate::merging::merge;
+use crate::refusal::MergeRefusal;
 use pp_base::{List, Memory};
-use pp_merge::{MergeRefusal, merge};
 use pp_model::{Compact, Valid};
 use std::alloc::Global;
 

@@ -1,11 +1,19 @@
-use Rattle.std.proofs.Common.{◌≡◌, [], ◌∷◌, ◌++◌, List, Err, sym, ap, subst, ◌∙◌}
+use Rattle.std.proofs.Common.{◌≡◌, ◌<◌, ◌^◌, length, [], ◌∷◌, ◌++◌, List, Err, sym, ap, subst, ◌∙◌}
+use Rattle.std.specs.List.{AllByRecursion}
 use Rattle.std.proofs.lemmas.Option.{none-some}
 use Rattle.pp_model.specs.declared.profile.Profile.{Profile}
 use Rattle.pp_merge.specs.declared.refusal.MergeRefusal.{MergeRefusal}
 use Rattle.pp_merge.specs.declared.refusal.MergeRefusal.TheVariants.{TotalTooLarge}
 use Rattle.pp_merge.specs.Merge.{Merges}
-use Rattle.pp_restack.proofs.AloneLemmas.{none_too_large}
-use Rattle.pp_restack.proofs.alone.merge_alone.Goals as goal
+use Rattle.pp_merge.proofs.AloneLemmas.{none_too_large}
+use Rattle.pp_merge.proofs.alone.merge_alone.Goals as goal
+
+-- its columns can be counted
+pub merge-requires-clause-columns : goal.merge-requires-clause-columns
+merge-requires-clause-columns c =
+    let p : Profile = c.args.p in
+    let alone : c.push.new.self ≡ p ∷ [] = c.in_ok-push.ensures.ok ∙ ap (λ (list : List Profile). list ++ p ∷ []) c.new-list.ensures in
+    subst (AllByRecursion (λ (q : Profile). length q.sample_type < 2 ^ 32)) (sym alone) (c.requires.columns, tt)
 
 -- each column can be added up
 pub unreachable-requires-in-Err-TotalTooLarge : goal.unreachable-requires-in-Err-TotalTooLarge
