@@ -1,7 +1,6 @@
 pub mod Turning
 pub mod Returns
 pub mod PlanLemmas
-pub mod WordLemmas
 pub mod Performing
 pub mod Refused
 pub mod Gives

@@ -15,8 +15,6 @@ use Rattle.pp_options.specs.declared.help.Topic.{Topic}
 use Rattle.pp_options.specs.declared.plan.Plan.{Plan}
 use Rattle.pp_options.specs.declared.usage.UsageFault.{UsageFault}
 use Rattle.pp_options.specs.Help.{topic_asked}
-use Rattle.pp_options.specs.Words.{Request}
-use Rattle.pp_options.specs.Words as options
 use Rattle.pp_report.specs.declared.refusal.ReportRefusal.{ReportRefusal}
 use Rattle.pp_shell.specs.declared.command.Command.{Command}
 use Rattle.pp_shell.specs.declared.command.Command.TheVariants as commands
@@ -25,13 +23,11 @@ use Rattle.pp_engine.specs.declared.ending.Outcome.{Outcome}
 use Rattle.pp_engine.specs.declared.ending.Outcome.TheVariants as outcomes
 use Rattle.pp_engine.specs.declared.shell.TheConstants.{MOST_LINES}
 use Rattle.pp_engine.specs.Endings.{cause_of_outcome}
-use Rattle.pp_engine.specs.Plans.{plan_of}
 use Rattle.pp_engine.specs.Reporting.{noted_report, end_with, end_report, report_once, report_on}
 use Rattle.pp_engine.specs.Shell.{Turn, complain, obey, obey_or_complain, follow, turn, shell}
-use Rattle.pp_engine.specs.Session.{serve, serve_loaded, perform, perform_some, perform_words, tell_topic, begin, session}
-use Rattle.pp_engine.specs.Words.{can_end, EndsBy, Ends}
+use Rattle.pp_engine.specs.Session.{serve, serve_loaded, perform, perform_words, tell_topic, begin, session}
+use Rattle.pp_engine.specs.Words.{planned, can_end, EndsBy, Ends}
 use Rattle.pp_engine.proofs.Gives.{Gives, gives_then, gives_more, turns_give}
-use Rattle.pp_engine.proofs.PlanLemmas.{plan_report}
 use Rattle.pp_pattern.specs.Report.{Finds}
 
 -- an outcome is how a session of this report can end
@@ -120,25 +116,19 @@ unfolding serve_loaded
 loaded_gives finds plan (Ok l) = serve_gives finds plan.config plan.report l
 loaded_gives finds plan (Err refusal) = end_gives (CanBe plan.report) _ (outcomes.Refused refusal) refl
 
-some_gives : (finds : Finds) (report : Option Report) (plan : Option Plan) → ((p : Plan) → plan ≡ Some p → p.report ≡ report) → Gives (CanBe report) (perform_some finds plan)
-unfolding perform_some perform
-some_gives finds report (Some plan) same =
-    subst (λ named. Gives (CanBe named) (load finds plan >>= serve_loaded finds plan)) (same plan refl) (gives_then (CanBe plan.report) (load finds plan) (serve_loaded finds plan) (loaded_gives finds plan))
-some_gives finds report None same = refl
-
-words_gives : (finds : Finds) (said : Result Request UsageFault) → Gives (λ x. EndsBy None said (cause_of_outcome x)) (perform_words finds said)
-unfolding perform_words
-words_gives finds (Ok request) = some_gives finds request.report (plan_of request) (plan_report request)
+words_gives : (finds : Finds) (said : Result Plan UsageFault) → Gives (λ x. EndsBy None said (cause_of_outcome x)) (perform_words finds said)
+unfolding perform_words perform
+words_gives finds (Ok plan) = gives_then (CanBe plan.report) (load finds plan) (serve_loaded finds plan) (loaded_gives finds plan)
 words_gives finds (Err fault) = end_gives (λ x. EndsBy None (Err fault) (cause_of_outcome x)) _ (outcomes.Usage fault) refl
 
-topic_gives : (topic : Topic) (said : Result Request UsageFault) → Gives (λ x. EndsBy (Some topic) said (cause_of_outcome x)) (tell_topic topic)
+topic_gives : (topic : Topic) (said : Result Plan UsageFault) → Gives (λ x. EndsBy (Some topic) said (cause_of_outcome x)) (tell_topic topic)
 unfolding tell_topic ◌>>=◌
 topic_gives topic said = λ _. refl
 
-begin_gives : (finds : Finds) (words : List (List ℕ)) (topic : Option Topic) → Gives (λ x. EndsBy topic (options.words words) (cause_of_outcome x)) (begin finds words topic)
+begin_gives : (finds : Finds) (words : List (List ℕ)) (topic : Option Topic) → Gives (λ x. EndsBy topic (planned words) (cause_of_outcome x)) (begin finds words topic)
 unfolding begin
-begin_gives finds words (Some topic) = topic_gives topic (options.words words)
-begin_gives finds words None = words_gives finds (options.words words)
+begin_gives finds words (Some topic) = topic_gives topic (planned words)
+begin_gives finds words None = words_gives finds (planned words)
 
 -- A session ends as its words let it.
 pub session_gives : (finds : Finds) (words : List (List ℕ)) → Gives (λ x. Ends words (cause_of_outcome x)) (session finds words)

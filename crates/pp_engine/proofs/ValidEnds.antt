@@ -17,18 +17,15 @@ use Rattle.pp_options.specs.declared.help.Topic.{Topic}
 use Rattle.pp_options.specs.declared.plan.Plan.{Plan}
 use Rattle.pp_options.specs.declared.usage.UsageFault.{UsageFault}
 use Rattle.pp_options.specs.Help.{topic_asked}
-use Rattle.pp_options.specs.Words.{Request}
-use Rattle.pp_options.specs.Words as options
 use Rattle.pp_report.specs.declared.refusal.ReportRefusal.{ReportRefusal}
 use Rattle.pp_report.specs.Prepared.{Settled, prepare}
 use Rattle.pp_report.specs.Reports.{report_script}
 use Rattle.pp_engine.specs.declared.ending.Outcome.{Outcome}
 use Rattle.pp_engine.specs.declared.ending.Outcome.TheVariants as outcomes
-use Rattle.pp_engine.specs.Plans.{plan_of}
 use Rattle.pp_engine.specs.Reporting.{noted_report, note_and_finish, end_report, report_once}
 use Rattle.pp_engine.specs.Shell.{shell}
-use Rattle.pp_engine.specs.Session.{serve, serve_loaded, perform, perform_some, perform_words, begin, session}
-use Rattle.pp_engine.specs.Words.{plan_in}
+use Rattle.pp_engine.specs.Session.{serve, serve_loaded, perform, perform_words, begin, session}
+use Rattle.pp_engine.specs.Words.{planned, plan_in, performed}
 use Rattle.pp_engine.specs.Validity.{is_too_long, is_served, is_loaded, is_valid_plan}
 use Rattle.pp_engine.proofs.Courses.{only_looks, course_then}
 use Rattle.pp_engine.proofs.Gives.{course_gives}
@@ -83,24 +80,19 @@ module _ (finds : Finds) (files : FileMap) (locked : List (List ℕ)) (lines : L
   loaded_done plan (Ok l) answers ok = serve_done plan.config plan.report l answers ok
   loaded_done plan (Err refusal) answers ok = absurd (false≢true ok)
 
-  plan_done : (plan : Option Plan) (answers : List Answer) → is_valid_plan finds plan files locked lines answers ≡ true → (course (perform_some finds plan) files locked lines answers).value ≡ outcomes.Done
-  unfolding perform_some perform
-  plan_done None answers ok = absurd (false≢true ok)
-  plan_done (Some plan) answers ok = course_then (load finds plan) (serve_loaded finds plan) files locked lines answers (load_looks finds plan) ∙ loaded_done plan _ _ ok
-
-  words_done : (said : Result Request UsageFault) (answers : List Answer) → is_valid_plan finds (plan_in None said) files locked lines answers ≡ true → (course (perform_words finds said) files locked lines answers).value ≡ outcomes.Done
-  unfolding perform_words
-  words_done (Ok request) answers ok = plan_done (plan_of request) answers ok
+  words_done : (said : Result Plan UsageFault) (answers : List Answer) → is_valid_plan finds (plan_in None said) files locked lines answers ≡ true → (course (perform_words finds said) files locked lines answers).value ≡ outcomes.Done
+  unfolding perform_words perform
+  words_done (Ok plan) answers ok = course_then (load finds plan) (serve_loaded finds plan) files locked lines answers (load_looks finds plan) ∙ loaded_done plan _ _ ok
   words_done (Err fault) answers ok = absurd (false≢true ok)
 
-  begin_done : (words : List (List ℕ)) (topic : Option Topic) (answers : List Answer) → is_valid_plan finds (plan_in topic (options.words words)) files locked lines answers ≡ true
+  begin_done : (words : List (List ℕ)) (topic : Option Topic) (answers : List Answer) → is_valid_plan finds (plan_in topic (planned words)) files locked lines answers ≡ true
       → (course (begin finds words topic) files locked lines answers).value ≡ outcomes.Done
   unfolding begin
-  begin_done words None answers ok = words_done (options.words words) answers ok
+  begin_done words None answers ok = words_done (planned words) answers ok
   begin_done words (Some topic) answers ok = absurd (false≢true ok)
 
   -- A valid session ends done.
-  pub valid_done : (words : List (List ℕ)) (answers : List Answer) → is_valid_plan finds (plan_in (topic_asked words) (options.words words)) files locked lines answers ≡ true
+  pub valid_done : (words : List (List ℕ)) (answers : List Answer) → is_valid_plan finds (performed words) files locked lines answers ≡ true
       → (course (session finds words) files locked lines answers).value ≡ outcomes.Done
   unfolding session
   valid_done words answers ok = begin_done words (topic_asked words) answers ok

@@ -1,6 +1,7 @@
 pub mod Endings
 pub mod Messages
 pub mod Plans
+pub mod WordFacts
 pub mod Turns
 pub mod Reporting
 pub mod Shell

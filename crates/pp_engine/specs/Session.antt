@@ -17,16 +17,14 @@ use Rattle.pp_options.specs.declared.help.Topic.{Topic}
 use Rattle.pp_options.specs.declared.plan.Plan.{Plan}
 use Rattle.pp_options.specs.declared.usage.UsageFault.{UsageFault}
 use Rattle.pp_options.specs.Help.{topic_asked, topic_text}
-use Rattle.pp_options.specs.Words.{Request}
-use Rattle.pp_options.specs.Words as options
 use Rattle.pp_engine.specs.declared.ending.Cause.{Cause}
 use Rattle.pp_engine.specs.declared.ending.Outcome.{Outcome}
 use Rattle.pp_engine.specs.declared.ending.Outcome.TheVariants as outcomes
 use Rattle.pp_engine.specs.Endings.{cause_of_outcome}
 use Rattle.pp_engine.specs.Messages.{usage_line}
-use Rattle.pp_engine.specs.Plans.{plan_of}
 use Rattle.pp_engine.specs.Reporting.{end_with, report_once}
 use Rattle.pp_engine.specs.Shell.{shell}
+use Rattle.pp_engine.specs.Words.{planned}
 use Rattle.pp_pattern.specs.Report.{Finds}
 
 -- the report that the words name, and the shell where they name none
@@ -46,14 +44,9 @@ perform finds plan = do
   loaded ← load finds plan
   serve_loaded finds plan loaded
 
--- the same, where there is one
-unfoldable pub perform_some : Finds → Option Plan → Script Outcome
-perform_some finds (Some plan) = perform finds plan
-perform_some finds None = Give outcomes.Done
-
 -- what the words ask for, or their first fault
-unfoldable pub perform_words : Finds → Result Request UsageFault → Script Outcome
-perform_words finds (Ok request) = perform_some finds (plan_of request)
+unfoldable pub perform_words : Finds → Result Plan UsageFault → Script Outcome
+perform_words finds (Ok plan) = perform finds plan
 perform_words finds (Err fault) = end_with (usage_line fault) (outcomes.Usage fault)
 
 -- what the program tells of itself, and the end
@@ -65,7 +58,7 @@ tell_topic topic = do
 -- what the program tells of itself, where the words ask for that, and else all that they ask for
 unfoldable pub begin : Finds → List (List ℕ) → Option Topic → Script Outcome
 begin finds words (Some topic) = tell_topic topic
-begin finds words None = perform_words finds (options.words words)
+begin finds words None = perform_words finds (planned words)
 
 -- The session of these words.
 unfoldable pub session : Finds → List (List ℕ) → Script Outcome

@@ -16,7 +16,7 @@ use Rattle.pp_engine.specs.declared.ending.Outcome.{Outcome}
 use Rattle.pp_engine.specs.declared.ending.Outcome.TheVariants as outcomes
 use Rattle.pp_pattern.specs.Report.{Finds}
 use Rattle.pp_engine.specs.Shell.{shell}
-use Rattle.pp_engine.specs.Words.{planned}
+use Rattle.pp_engine.specs.Words.{performed}
 
 -- the session came to the limit of its input
 abbrev pub is_too_long : Outcome → Bool
@@ -42,7 +42,7 @@ is_loaded finds plan (Err refusal) files locked lines answers = false
 abbrev pub answers_left : {T : Type 0} → Course T → List Answer → List Answer
 answers_left c answers = drop (length c.asked) answers
 
--- so it is of a plan
+-- so it is of a plan; no other words are valid
 abbrev pub is_valid_plan : Finds → Option Plan → FileMap → List (List ℕ) → List InputLine
     → List Answer → Bool
 is_valid_plan finds None files locked lines answers = false
@@ -55,5 +55,5 @@ is_valid_plan finds (Some plan) files locked lines answers =
 abbrev pub is_valid : Finds → List (List ℕ) → Option FileMap → Option (List (List ℕ))
     → Option (List ℕ) → Option (List Answer) → Option (List Answer) → Bool
 is_valid finds words (Some files) (Some locked) (Some input) (Some old) (Some new) =
-    is_valid_plan finds (planned words) files locked (lines_of input) (given old new)
+    is_valid_plan finds (performed words) files locked (lines_of input) (given old new)
 is_valid finds words files locked input old new = false

@@ -1,11 +1,9 @@
 //! What holds of any words. This function does nothing: its clause is the law.
-ghost use Rattle.std.specs.Prelude.{◌≡◌, ℕ, true, List, Ok, is_some};
+ghost use Rattle.std.specs.Prelude.{◌≡◌, ℕ, List};
 ghost use Rattle.pp_options.specs.Words as options;
-ghost use Rattle.pp_options.specs.Words.{Request};
-ghost use Rattle.pp_engine.specs.Plans.{plan_of};
+ghost use Rattle.pp_engine.specs.Words.{planned, said_by};
 
-/// What words without a fault ask for is a plan, so the session of words never ends for want of one.
+/// The plan of a session asks for what its words do, and the fault that it tells is their first one.
 pub fn words_ask_for_a_plan()
-    ensures { (words : List (List ℕ)) (request : Request) → options.words words ≡ Ok request
-        → is_some (plan_of request) ≡ true }
+    ensures { (words : List (List ℕ)) → said_by (planned words) ≡ options.words words }
 {}

@@ -3,10 +3,10 @@ ghost use Rattle.std.specs.Prelude.{◌≡◌, IfOk};
 ghost use Rattle.pp_desk.specs.Went.{Went};
 ghost use Rattle.pp_load.specs.Messages.{refusal_line};
 ghost use Rattle.pp_model.specs.Sizes.{IsCountable};
-ghost use Rattle.pp_options.specs.Words as options;
 ghost use Rattle.pp_engine.specs.Messages.{usage_line};
 ghost use Rattle.pp_engine.specs.Reporting.{end_with};
 ghost use Rattle.pp_engine.specs.Session.{session, begin, perform_words, perform, serve_loaded, serve, tell_topic};
+ghost use Rattle.pp_engine.specs.Words.{planned};
 ghost use Rattle.pp_engine.specs.declared.ending.Outcome.TheVariants as outcomes;
 
 use crate::ending::Outcome;
@@ -56,7 +56,7 @@ fn perform_words<R: Threads + Sync, D: Desk, G: Gate>(
     desk: &mut D,
 ) -> Result<Outcome, Stop>
     ensures { Went (D.world desk.old) (D.world desk.new)
-        (perform_words D.finds (options.words words.now)) result }
+        (perform_words D.finds (planned words.now)) result }
 {
     match read_words(with.alloc, words) {
         Ok(plan) => perform(with, &plan, desk),
