@@ -15,3 +15,4 @@ pub mod LineLemmas
 pub mod Lasting
 pub mod ValidEnds
 pub mod Runs
+pub mod AlikeLemmas

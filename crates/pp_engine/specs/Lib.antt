@@ -8,4 +8,5 @@ pub mod Shell
 pub mod Words
 pub mod Session
 pub mod Validity
+pub mod Alike
 pub mod Run
