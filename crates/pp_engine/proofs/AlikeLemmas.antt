@@ -38,7 +38,7 @@ use Rattle.pp_options.specs.declared.origin.Origin.TheVariants.{Path, Gen}
 use Rattle.pp_options.specs.declared.plan.Plan.{Plan}
 use Rattle.pp_pattern.specs.Load.{judge_load}
 use Rattle.pp_pattern.specs.Report.{Finds}
-use Rattle.pp_engine.specs.declared.ending.Outcome.{Outcome}
+use Rattle.pp_engine.specs.declared.ending.Cause.{Cause}
 use Rattle.pp_engine.specs.Alike.{DifferAt, is_within_limits, after_loading, RunAlike}
 use Rattle.pp_engine.specs.Session.{serve_loaded, perform}
 use Rattle.pp_engine.proofs.AskQuiet.{only_asking, only_load}
@@ -351,6 +351,6 @@ module _ (files other : FileMap) (locked : List (List ℕ)) (lines : List InputL
 pub runs_alike : (path : List ℕ) (files other : FileMap) (bytes those : List ℕ) → DifferAt path files other bytes those → ((source : ℕ) → decoded source bytes ≡ decoded source those) → RunAlike path files other
 runs_alike path files other bytes those differ is finds words plan locked lines answers planned within within_there unread =
     let performs = plan_performed finds words plan planned in
-    ap (λ (script : Script Outcome). course script files locked lines answers) performs
+    ap (λ (script : Script Cause). course script files locked lines answers) performs
     ∙ performs_alike files other locked lines path bytes those differ is finds plan answers within within_there unread
-    ∙ sym (ap (λ (script : Script Outcome). course script other locked lines answers) performs)
+    ∙ sym (ap (λ (script : Script Cause). course script other locked lines answers) performs)

@@ -4,7 +4,7 @@ pub mod PlanLemmas
 pub mod Performing
 pub mod Refused
 pub mod Gives
-pub mod Outcomes
+pub mod SessionEnds
 pub mod AskQuiet
 pub mod LoadQuiet
 pub mod ReportQuiet

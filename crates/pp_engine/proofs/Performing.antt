@@ -8,7 +8,7 @@ use Rattle.pp_options.specs.declared.usage.UsageFault.{UsageFault}
 use Rattle.pp_options.specs.Help.{topic_asked}
 use Rattle.pp_options.specs.Plans.{request_of}
 use Rattle.pp_options.specs.Words as options
-use Rattle.pp_engine.specs.declared.ending.Outcome.TheVariants as outcomes
+use Rattle.pp_engine.specs.declared.ending.Cause.TheVariants as causes
 use Rattle.pp_engine.specs.Messages.{usage_line}
 use Rattle.pp_engine.specs.Reporting.{end_with}
 use Rattle.pp_engine.specs.Session.{perform, perform_words, begin, session}
@@ -23,7 +23,7 @@ perform_plan finds words plan is = ap (perform_words finds) (planned_is words (O
 
 -- words of which one is wrong
 pub perform_fault : (finds : Finds) (words : List (List ℕ)) (fault : UsageFault) → options.words words ≡ Err fault
-    → perform_words finds (planned words) ≡ end_with (usage_line fault) (outcomes.Usage fault)
+    → perform_words finds (planned words) ≡ end_with (usage_line fault) (causes.Usage fault)
 unfolding perform_words
 perform_fault finds words fault is = ap (perform_words finds) (planned_is words (Err fault) is)
 

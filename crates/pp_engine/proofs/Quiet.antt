@@ -15,7 +15,7 @@ use Rattle.pp_options.specs.declared.usage.UsageFault.{UsageFault}
 use Rattle.pp_options.specs.Help.{topic_asked}
 use Rattle.pp_report.specs.declared.refusal.ReportRefusal.{ReportRefusal}
 use Rattle.pp_report.specs.Prepared.{Settled, prepare}
-use Rattle.pp_engine.specs.declared.ending.Outcome.{Outcome}
+use Rattle.pp_engine.specs.declared.ending.Cause.{Cause}
 use Rattle.pp_engine.specs.Reporting.{noted_report, note_and_finish, end_with, end_report, report_once}
 use Rattle.pp_engine.specs.Session.{serve, serve_loaded, perform, perform_words, tell_topic, begin, session}
 use Rattle.pp_engine.specs.Words.{planned, asks_shell, starts_shell}
@@ -23,9 +23,9 @@ use Rattle.pp_engine.proofs.LoadQuiet.{load_reads_no_line}
 use Rattle.pp_engine.proofs.ReportQuiet.{prepare_reads_no_line, finish_reads_no_line}
 use Rattle.pp_pattern.specs.Report.{Finds}
 
-quiet_end : (line : List ℕ) (outcome : Outcome) → Only reads_no_line (end_with line outcome)
+quiet_end : (line : List ℕ) (cause : Cause) → Only reads_no_line (end_with line cause)
 unfolding end_with ◌>>=◌
-quiet_end line outcome = (refl, λ _. tt)
+quiet_end line cause = (refl, λ _. tt)
 
 quiet_settled : (finds : Finds) (l : Loaded) (report : Report) (config : Config) (settled : Result Settled ReportRefusal) → Only reads_no_line (note_and_finish finds l report config settled)
 unfolding note_and_finish ◌>>=◌

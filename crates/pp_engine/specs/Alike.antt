@@ -9,7 +9,7 @@ use Rattle.pp_load.specs.declared.refusal.LoadRefusal.{LoadRefusal}
 use Rattle.pp_load.specs.declared.refusal.LoadRefusal.TheVariants as refusals
 use Rattle.pp_load.specs.Load.{load}
 use Rattle.pp_options.specs.declared.plan.Plan.{Plan}
-use Rattle.pp_engine.specs.declared.ending.Outcome.{Outcome}
+use Rattle.pp_engine.specs.declared.ending.Cause.{Cause}
 use Rattle.pp_engine.specs.Session.{serve_loaded, session}
 use Rattle.pp_engine.specs.Validity.{answers_left}
 use Rattle.pp_engine.specs.Words.{performed}
@@ -34,7 +34,7 @@ is_within_limits (Err refusal) = is_not_of_limits refusal
 
 -- what a session does from the end of loading on
 abbrev pub after_loading : Finds → Plan → FileMap → List (List ℕ) → List InputLine → List Answer
-    → Course Outcome
+    → Course Cause
 after_loading finds plan files locked lines answers =
     let loading = course (load finds plan) files locked lines answers in
     course (serve_loaded finds plan loading.value) files locked lines (answers_left loading answers)

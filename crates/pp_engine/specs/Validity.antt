@@ -12,16 +12,16 @@ use Rattle.pp_load.specs.declared.refusal.LoadRefusal.{LoadRefusal}
 use Rattle.pp_load.specs.Load.{load}
 use Rattle.pp_options.specs.declared.plan.Plan.{Plan}
 use Rattle.pp_report.specs.Reports.{report_script}
-use Rattle.pp_engine.specs.declared.ending.Outcome.{Outcome}
-use Rattle.pp_engine.specs.declared.ending.Outcome.TheVariants as outcomes
+use Rattle.pp_engine.specs.declared.ending.Cause.{Cause}
+use Rattle.pp_engine.specs.declared.ending.Cause.TheVariants as causes
 use Rattle.pp_pattern.specs.Report.{Finds}
 use Rattle.pp_engine.specs.Shell.{shell}
 use Rattle.pp_engine.specs.Words.{performed}
 
 -- the session came to the limit of its input
-abbrev pub is_too_long : Outcome → Bool
-is_too_long outcomes.InputTooLong = true
-is_too_long outcome = false
+abbrev pub is_too_long : Cause → Bool
+is_too_long causes.InputTooLong = true
+is_too_long cause = false
 
 -- the report that is named has a text, or the shell never comes to the limit of its input
 abbrev pub is_served : Finds → Config → Option Report → Loaded → FileMap → List (List ℕ)
