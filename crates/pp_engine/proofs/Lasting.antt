@@ -18,8 +18,8 @@ use Rattle.pp_report.specs.declared.refusal.ReportRefusal.{ReportRefusal}
 use Rattle.pp_shell.specs.declared.command.Command.{Command}
 use Rattle.pp_shell.specs.declared.command.Command.TheVariants as commands
 use Rattle.pp_shell.specs.declared.fault.LineFault.{LineFault}
-use Rattle.pp_engine.specs.declared.ending.Outcome.{Outcome}
-use Rattle.pp_engine.specs.declared.ending.Outcome.TheVariants as outcomes
+use Rattle.pp_engine.specs.declared.ending.Cause.{Cause}
+use Rattle.pp_engine.specs.declared.ending.Cause.TheVariants as causes
 use Rattle.pp_engine.specs.declared.shell.TheConstants.{MOST_LINES}
 use Rattle.pp_engine.specs.Reporting.{noted_report, tell_locked, save, hand_out, hand_out_made, report_on}
 use Rattle.pp_engine.specs.Shell.{Turn, complain, obey, obey_or_complain, follow, turn, shell}
@@ -100,12 +100,12 @@ module _ (finds : Finds) (l : Loaded) where
       )
 
   -- what is done after a turn that ended nothing
-  goes_rest : (answer : Option Outcome) (p q : Script Outcome) (a b : Told) (x : Outcome) → (answer ≡ None → Goes a b p x → Goes a b q x) → Goes a b (given_or p answer) x → Goes a b (given_or q answer) x
+  goes_rest : (answer : Option Cause) (p q : Script Cause) (a b : Told) (x : Cause) → (answer ≡ None → Goes a b p x → Goes a b q x) → Goes a b (given_or p answer) x → Goes a b (given_or q answer) x
   goes_rest None p q a b x h g = h refl g
-  goes_rest (Some outcome) p q a b x h g = g
+  goes_rest (Some cause) p q a b x h g = g
 
   -- however many turns there are, if they are as many as the lines
-  lasts : (most more : ℕ) (spent other : Outcome) (config : Config) (a b : Told) (ls : List InputLine) (x : Outcome) → a.lines ≡ Some ls → AreEnded ls → length ls ≤ most → length ls ≤ more
+  lasts : (most more : ℕ) (spent other : Cause) (config : Config) (a b : Told) (ls : List InputLine) (x : Cause) → a.lines ≡ Some ls → AreEnded ls → length ls ≤ most → length ls ≤ more
       → Goes a b (turns (turn finds l) spent most config) x → Goes a b (turns (turn finds l) other more config) x
   unfolding turns
   lasts most more spent other config a b [] x e ended few also g = absurd ended
@@ -121,10 +121,10 @@ module _ (finds : Finds) (l : Loaded) where
       goes_on a r.0 b (turn finds l config) _ r.1 x r.2 (goes_rest r.1.1 _ _ r.0 b x (λ none. lasts most more spent other r.1.0 r.0 b (next ∷ ls) x t.0 ended (omega arith) (omega arith)) r.3)
 
 -- The shell over an input is done in the same way with more turns, whatever it were to give once they had run out.
-pub shell_lasts : (finds : Finds) (l : Loaded) (config : Config) (a b : Told) (input : List ℕ) (x other : Outcome) (more : ℕ) → a.lines ≡ Some (lines_of input) → Goes a b (shell finds l config) x
+pub shell_lasts : (finds : Finds) (l : Loaded) (config : Config) (a b : Told) (input : List ℕ) (x other : Cause) (more : ℕ) → a.lines ≡ Some (lines_of input) → Goes a b (shell finds l config) x
     → Goes a b (turns (turn finds l) other (MOST_LINES + more) config) x
 unfolding shell
 shell_lasts finds l config a b input x other more e g =
     let few : length (lines_of input) ≤ MOST_LINES = lines_few input in
     let also : length (lines_of input) ≤ MOST_LINES + more = omega arith in
-    lasts finds l MOST_LINES (MOST_LINES + more) outcomes.Done other config a b (lines_of input) x e (lines_ended input) few also g
+    lasts finds l MOST_LINES (MOST_LINES + more) causes.Done other config a b (lines_of input) x e (lines_ended input) few also g

@@ -1,11 +1,10 @@
 pub mod Turning
 pub mod Returns
 pub mod PlanLemmas
-pub mod WordLemmas
 pub mod Performing
 pub mod Refused
 pub mod Gives
-pub mod Outcomes
+pub mod SessionEnds
 pub mod LoadQuiet
 pub mod ReportQuiet
 pub mod Telling
@@ -15,3 +14,4 @@ pub mod LineLemmas
 pub mod Lasting
 pub mod ValidEnds
 pub mod Runs
+pub mod AlikeLemmas

@@ -28,21 +28,21 @@ module _ (test : Step → Bool) (reads : (path : List ℕ) (limit : ℕ) → tes
   only_bytes source (Path path) = only_path source path
   only_bytes source (Gen samples) = tt
 
-  only_next : (read : Read) (origin : Origin) → Only test (read_next read origin)
+  pub only_next : (read : Read) (origin : Origin) → Only test (read_next read origin)
   unfolding read_next
   only_next read origin =
       only_asking test (read_bytes (length read.profiles) origin) _ (only_bytes (length read.profiles) origin) (λ bytes. tt)
 
-  only_base : (read : Read) (path : List ℕ) → Only test (read_base read path)
+  pub only_base : (read : Read) (path : List ℕ) → Only test (read_base read path)
   unfolding read_base
   only_base read path = only_next read (Path path)
 
-  only_all : {A : Type 0} (next : Read → A → Asking LoadRefusal Read) (read : Read) (xs : List A) → ((read : Read) (x : A) → Only test (next read x)) → Only test (read_all next read xs)
+  pub only_all : {A : Type 0} (next : Read → A → Asking LoadRefusal Read) (read : Read) (xs : List A) → ((read : Read) (x : A) → Only test (next read x)) → Only test (read_all next read xs)
   unfolding read_all
   only_all next read [] each = tt
   only_all next read (x ∷ xs) each = only_asking test (next read x) _ (each read x) (λ more. only_all next more xs each)
 
-  only_plan : (plan : Plan) → Only test (read_plan plan)
+  pub only_plan : (plan : Plan) → Only test (read_plan plan)
   unfolding read_plan
   only_plan plan = only_asking test (read_all read_next nothing_read plan.origins) _ (only_all read_next nothing_read plan.origins only_next) (λ sources. only_all read_base sources plan.bases only_base)
 

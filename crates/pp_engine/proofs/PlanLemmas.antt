@@ -1,41 +1,16 @@
--- What a plan asks for makes that plan again.
-use Rattle.std.proofs.Common.{◌≡◌, ◌≤◌, ◌<◌, ◌+◌, ℕ, length, Bool, true, false, refl, sym, ap}
-use Rattle.std.specs.Prelude.{Option, Some, None, is_some, nat_lt, IsTrue}
+-- The plan of words is the one that asks for the same.
+use Rattle.std.proofs.Common.{◌≡◌, ◌≤◌, ◌<◌, ◌+◌, ℕ, List, length, Bool, true, refl, ap, ◌∙◌}
+use Rattle.std.specs.Prelude.{is_some, nat_lt, IsTrue, Result, Ok, Err}
 use Rattle.std.specs.List.{list_all}
 use Rattle.std.proofs.Props.{props}
-use Rattle.std.proofs.lemmas.Bool.{lt-ltb, le-leb, and_from}
-use Rattle.std.proofs.lemmas.Option.{same_Some}
 use mathlib.Core.HLevel.{is_prop→PathP}
-use Rattle.pp_model.specs.Changes.{where_true}
+use Rattle.pp_load.proofs.StartLemmas.{same_Ok}
 use Rattle.pp_options.specs.declared.plan.Plan.{Plan}
+use Rattle.pp_options.specs.declared.usage.UsageFault.{UsageFault}
 use Rattle.pp_options.specs.Conditions.{is_fair, has_pattern}
-use Rattle.pp_options.specs.Words.{Request}
+use Rattle.pp_options.specs.Words.{Request, words}
 use Rattle.pp_options.specs.Plans.{request_of}
-use Rattle.pp_engine.specs.Plans.{is_same, is_within, is_plan, plan_of}
-
--- a value that a test lets through
-through : {A : Type 0} (b : Bool) (value : b ≡ true → A) (other : A) (wanted : A) → ((e : b ≡ true) → value e ≡ wanted) → b ≡ true → where_true b value other ≡ wanted
-through true value other wanted same e = same refl
-through false value other wanted same e = absurd (cc)
-
--- equal truth values are the same
-pub same_from : (a b : Bool) → a ≡ b → is_same a b ≡ true
-same_from true b e = cc
-same_from false true e = absurd (cc)
-same_from false false e = refl
-
-within_from : (a b : Bool) → (IsTrue a → IsTrue b) → is_within a b ≡ true
-within_from true b h = h refl
-within_from false b h = refl
-
--- a plan keeps what each plan keeps
-fits : (plan : Plan) → is_plan (request_of plan) ≡ true
-fits plan =
-    and_from _ _ (lt-ltb _ _ plan.some_origin)
-    (and_from _ _ (le-leb _ _ plan.few)
-    (and_from _ _ plan.fair
-    (and_from _ _ (same_from _ _ plan.kind_with_bases)
-    (and_from _ _ (within_from _ _ plan.normalized_by_bases) plan.patterned))))
+use Rattle.pp_engine.specs.Words.{plan_said, planned, said_by}
 
 -- the facts of a plan have one proof each
 lt_prop : (a b : ℕ) → IsProp (a < b)
@@ -67,19 +42,23 @@ same_plan a b e = λ i. record {
   patterned = is_prop→PathP (λ j. IsTrue (has_pattern (e j).report)) (λ j. same_prop (has_pattern (e j).report) true) a.patterned b.patterned i;
 }
 
--- What a plan asks for makes that plan.
-pub plan_again : (plan : Plan) → plan_of (request_of plan) ≡ Some plan
-unfolding plan_of
-plan_again plan = through (is_plan (request_of plan)) _ _ (Some plan) (λ e. ap Some (same_plan _ plan refl)) (fits plan)
+same_said : (a b : Result Plan UsageFault) → said_by a ≡ said_by b → a ≡ b
+same_said (Ok a) (Ok b) same = ap Ok (same_plan a b (same_Ok (request_of a) (request_of b) same))
+same_said (Ok a) (Err b) same = absurd (cc)
+same_said (Err a) (Ok b) same = absurd (cc)
+same_said (Err a) (Err b) same =
+    let fault : a ≡ b = cc in
+    ap Err fault
 
--- a value that was let through
-let_through : {A : Type 0} (b : Bool) (value : b ≡ true → A) (x : A) → where_true b (λ e. Some (value e)) None ≡ Some x → (e : b ≡ true) × (value e ≡ x)
-let_through true value x is = (refl, same_Some _ _ is)
-let_through false value x is = absurd (cc)
+said_again : (ws : List (List ℕ)) (said : Result Request UsageFault) (is : words ws ≡ said) → said_by (plan_said ws said is) ≡ said
+said_again ws (Ok r) is = refl
+said_again ws (Err fault) is = refl
 
--- The report of what is asked for is that of its plan.
-pub plan_report : (request : Request) (plan : Plan) → plan_of request ≡ Some plan → plan.report ≡ request.report
-unfolding plan_of
-plan_report request plan is =
-    let q = let_through (is_plan request) _ plan is in
-    ap (λ (p : Plan). p.report) (sym q.1)
+-- The plan of words asks for what they do.
+pub planned_again : (ws : List (List ℕ)) → said_by (planned ws) ≡ words ws
+unfolding planned
+planned_again ws = said_again ws (words ws) refl
+
+-- What asks for that is their plan.
+pub planned_is : (ws : List (List ℕ)) (said : Result Plan UsageFault) → words ws ≡ said_by said → planned ws ≡ said
+planned_is ws said is = same_said (planned ws) said (planned_again ws ∙ is)

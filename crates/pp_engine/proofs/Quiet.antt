@@ -1,5 +1,5 @@
 -- What a session leaves alone: where its words do not ask for the shell, it reads no line.
-use Rattle.std.proofs.Common.{◌≡◌, ℕ, Bool, true, false, not, List, Option, Some, None, refl, ap, ◌∙◌}
+use Rattle.std.proofs.Common.{◌≡◌, ℕ, Bool, true, false, not, List, Option, Some, None, refl}
 use Rattle.std.specs.Prelude.{Result, Ok, Err, is_some}
 use Rattle.std.proofs.lemmas.Bool.{true≢false}
 use Rattle.pp_desk.specs.Script.{Script, ◌>>=◌}
@@ -13,23 +13,19 @@ use Rattle.pp_options.specs.declared.help.Topic.{Topic}
 use Rattle.pp_options.specs.declared.plan.Plan.{Plan}
 use Rattle.pp_options.specs.declared.usage.UsageFault.{UsageFault}
 use Rattle.pp_options.specs.Help.{topic_asked}
-use Rattle.pp_options.specs.Words.{Request}
-use Rattle.pp_options.specs.Words as options
 use Rattle.pp_report.specs.declared.refusal.ReportRefusal.{ReportRefusal}
 use Rattle.pp_report.specs.Prepared.{Settled, prepare}
-use Rattle.pp_engine.specs.declared.ending.Outcome.{Outcome}
-use Rattle.pp_engine.specs.Plans.{plan_of}
+use Rattle.pp_engine.specs.declared.ending.Cause.{Cause}
 use Rattle.pp_engine.specs.Reporting.{noted_report, note_and_finish, end_with, end_report, report_once}
-use Rattle.pp_engine.specs.Session.{serve, serve_loaded, perform, perform_some, perform_words, tell_topic, begin, session}
-use Rattle.pp_engine.specs.Words.{asks_shell, starts_shell}
+use Rattle.pp_engine.specs.Session.{serve, serve_loaded, perform, perform_words, tell_topic, begin, session}
+use Rattle.pp_engine.specs.Words.{planned, asks_shell, starts_shell}
 use Rattle.pp_engine.proofs.LoadQuiet.{load_reads_no_line}
-use Rattle.pp_engine.proofs.PlanLemmas.{plan_report}
 use Rattle.pp_engine.proofs.ReportQuiet.{prepare_reads_no_line, finish_reads_no_line}
 use Rattle.pp_pattern.specs.Report.{Finds}
 
-quiet_end : (line : List ℕ) (outcome : Outcome) → Only reads_no_line (end_with line outcome)
+quiet_end : (line : List ℕ) (cause : Cause) → Only reads_no_line (end_with line cause)
 unfolding end_with ◌>>=◌
-quiet_end line outcome = (refl, λ _. tt)
+quiet_end line cause = (refl, λ _. tt)
 
 quiet_settled : (finds : Finds) (l : Loaded) (report : Report) (config : Config) (settled : Result Settled ReportRefusal) → Only reads_no_line (note_and_finish finds l report config settled)
 unfolding note_and_finish ◌>>=◌
@@ -60,14 +56,10 @@ unfolding serve_loaded
 quiet_loaded finds plan (Ok l) some = quiet_serve finds plan.config plan.report l some
 quiet_loaded finds plan (Err refusal) some = quiet_end _ _
 
-quiet_some : (finds : Finds) (plan : Option Plan) → ((p : Plan) → plan ≡ Some p → is_some p.report ≡ true) → Only reads_no_line (perform_some finds plan)
-unfolding perform_some perform
-quiet_some finds (Some plan) some = only_then reads_no_line (load finds plan) (serve_loaded finds plan) (load_reads_no_line finds plan) (λ loaded. quiet_loaded finds plan loaded (some plan refl))
-quiet_some finds None some = tt
-
-quiet_words : (finds : Finds) (said : Result Request UsageFault) → asks_shell None said ≡ false → Only reads_no_line (perform_words finds said)
-unfolding perform_words
-quiet_words finds (Ok request) named = quiet_some finds (plan_of request) (λ plan is. ap is_some (plan_report request plan is) ∙ is_named (is_some request.report) named)
+quiet_words : (finds : Finds) (said : Result Plan UsageFault) → asks_shell None said ≡ false → Only reads_no_line (perform_words finds said)
+unfolding perform_words perform
+quiet_words finds (Ok plan) named =
+    only_then reads_no_line (load finds plan) (serve_loaded finds plan) (load_reads_no_line finds plan) (λ loaded. quiet_loaded finds plan loaded (is_named (is_some plan.report) named))
   where
     is_named : (b : Bool) → not b ≡ false → b ≡ true
     is_named true e = refl
@@ -78,10 +70,10 @@ quiet_topic : (topic : Topic) → Only reads_no_line (tell_topic topic)
 unfolding tell_topic ◌>>=◌
 quiet_topic topic = (refl, λ _. tt)
 
-quiet_begin : (finds : Finds) (words : List (List ℕ)) (topic : Option Topic) → asks_shell topic (options.words words) ≡ false → Only reads_no_line (begin finds words topic)
+quiet_begin : (finds : Finds) (words : List (List ℕ)) (topic : Option Topic) → asks_shell topic (planned words) ≡ false → Only reads_no_line (begin finds words topic)
 unfolding begin
 quiet_begin finds words (Some topic) none = quiet_topic topic
-quiet_begin finds words None none = quiet_words finds (options.words words) none
+quiet_begin finds words None none = quiet_words finds (planned words) none
 
 -- A session whose words do not ask for the shell reads no line.
 pub session_reads_no_line : (finds : Finds) (words : List (List ℕ)) → starts_shell words ≡ false → Only reads_no_line (session finds words)

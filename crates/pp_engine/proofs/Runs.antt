@@ -1,6 +1,6 @@
 -- From how the session went to how the run did.
 use Rattle.std.proofs.Common.{◌≡◌, ◌⊎◌, inl, inr, ℕ, true, false, List, [], ◌∷◌, Option, Some, None, refl, sym, ap, subst, ◌∙◌, arith}
-use Rattle.std.specs.Prelude.{Result, Ok, Err, IfErr, IfSome, IfNone, IsNone, option_map}
+use Rattle.std.specs.Prelude.{Result, Ok, Err, IfOk, IfErr, IfSome, IfNone, IsNone, option_map}
 use Rattle.std.proofs.lemmas.Bool.{false≢true}
 use Rattle.std.proofs.lemmas.List.{append-nil}
 use Rattle.std.proofs.lemmas.Option.{MatchOption-at_none}
@@ -24,21 +24,19 @@ use Rattle.pp_desk.proofs.Going.{later_same, taken_taken}
 use Rattle.pp_desk.proofs.Quiet.{input_of, input_alone}
 use Rattle.pp_engine.specs.declared.ending.Cause.{Cause}
 use Rattle.pp_engine.specs.declared.ending.Cause.TheVariants as causes
-use Rattle.pp_engine.specs.declared.ending.Outcome.{Outcome}
-use Rattle.pp_engine.specs.declared.ending.Outcome.TheVariants as outcomes
-use Rattle.pp_engine.specs.Endings.{cause_of, cause_of_outcome, cause_of_stop, fault_line, stop_line, end_line}
+use Rattle.pp_engine.specs.Endings.{cause_of, cause_of_stop, fault_line, stop_line, end_line}
 use Rattle.pp_engine.specs.Run.{Ran, TakesFront, told_at}
 use Rattle.pp_pattern.specs.Report.{Finds}
 use Rattle.pp_engine.specs.Session.{session, told_run, RanWhole, RanFront}
 use Rattle.pp_engine.specs.Validity.{is_valid}
 use Rattle.pp_engine.specs.Words.{Ends, starts_shell}
 use Rattle.pp_engine.proofs.Gives.{goes_gives}
-use Rattle.pp_engine.proofs.Outcomes.{session_gives}
+use Rattle.pp_engine.proofs.SessionEnds.{session_gives, no_fault_ends}
 use Rattle.pp_engine.proofs.Quiet.{session_reads_no_line}
 use Rattle.pp_engine.proofs.ValidEnds.{valid_done}
 
 -- The run of a session that came to its end.
-pub ran_whole : (finds : Finds) (words : List (List ℕ)) (a b : World) (x : Outcome) → Went a b (session finds words) (Ok x) → Ran (session finds words) a.told (outside_of b.told) b.told.answers a.intake.left b.intake.left a.faults b.faults (cause_of_outcome x)
+pub ran_whole : (finds : Finds) (words : List (List ℕ)) (a b : World) (x : Cause) → Went a b (session finds words) (Ok x) → Ran (session finds words) a.told (outside_of b.told) b.told.answers a.intake.left b.intake.left a.faults b.faults x
 unfolding IsTakenOn
 ran_whole finds words a b x w =
     let w = parts w in
@@ -80,13 +78,13 @@ ran_front finds words a b c s w t =
     }
 
 -- the input of a session is left alone, where the words do not ask for the shell
-input_left : (finds : Finds) (words : List (List ℕ)) (a b : World) (r : Result Outcome Stop) → starts_shell words ≡ false → Went a b (session finds words) r → input_of b.told ≡ input_of a.told
+input_left : (finds : Finds) (words : List (List ℕ)) (a b : World) (r : Result Cause Stop) → starts_shell words ≡ false → Went a b (session finds words) r → input_of b.told ≡ input_of a.told
 input_left finds words a b r none w = input_alone (session finds words) a.told b.told r (session_reads_no_line finds words none) (parts w).ways
 
-pub lines_whole : (finds : Finds) (words : List (List ℕ)) (a b : World) (x : Outcome) → Went a b (session finds words) (Ok x) → starts_shell words ≡ false → b.told.lines ≡ a.told.lines
+pub lines_whole : (finds : Finds) (words : List (List ℕ)) (a b : World) (x : Cause) → Went a b (session finds words) (Ok x) → starts_shell words ≡ false → b.told.lines ≡ a.told.lines
 lines_whole finds words a b x w none = ap (λ i. i.lines) (input_left finds words a b (Ok x) none w)
 
-pub unread_whole : (finds : Finds) (words : List (List ℕ)) (a b : World) (x : Outcome) → Went a b (session finds words) (Ok x) → starts_shell words ≡ false → b.told.unread ≡ a.told.unread
+pub unread_whole : (finds : Finds) (words : List (List ℕ)) (a b : World) (x : Cause) → Went a b (session finds words) (Ok x) → starts_shell words ≡ false → b.told.unread ≡ a.told.unread
 unread_whole finds words a b x w none = ap (λ i. i.unread) (input_left finds words a b (Ok x) none w)
 
 pub lines_front : (finds : Finds) (words : List (List ℕ)) (a b c : World) (line : List ℕ) (s : Stop) → Went a b (session finds words) (Err s) → Closes b c line → starts_shell words ≡ false → c.told.lines ≡ a.told.lines
@@ -96,7 +94,7 @@ pub unread_front : (finds : Finds) (words : List (List ℕ)) (a b c : World) (li
 unread_front finds words a b c line s w t none = ap (λ (t : Told). t.unread) t.tells ∙ ap (λ i. i.unread) (input_left finds words a b (Err s) none w)
 
 -- what was taken of the input
-pub taken_whole : (finds : Finds) (words : List (List ℕ)) (a b : World) (x : Outcome) → Went a b (session finds words) (Ok x) → HasTaken a.intake b.intake
+pub taken_whole : (finds : Finds) (words : List (List ℕ)) (a b : World) (x : Cause) → Went a b (session finds words) (Ok x) → HasTaken a.intake b.intake
 unfolding IsTakenOn
 taken_whole finds words a b x w = (parts w).input.0
 
@@ -109,7 +107,7 @@ pub takes_few : (old new : Option (List ℕ)) (most left : ℕ) → HasTaken (in
 takes_few old new most left t = record { taken = t.taken; few = omega (arith, t.room); front = t.front }
 
 -- the objects are the same ones at the end
-pub same_whole : (finds : Finds) (words : List (List ℕ)) (a b : World) (x : Outcome) → Went a b (session finds words) (Ok x) → b.names ≡ a.names
+pub same_whole : (finds : Finds) (words : List (List ℕ)) (a b : World) (x : Cause) → Went a b (session finds words) (Ok x) → b.names ≡ a.names
 same_whole finds words a b x w = (parts w).same
 
 pub same_front : (finds : Finds) (words : List (List ℕ)) (a b c : World) (line : List ℕ) (s : Stop) → Went a b (session finds words) (Err s) → Closes b c line → c.names ≡ a.names
@@ -126,18 +124,21 @@ Blames causes.OutFault old new = Rose old.out new.out
 Blames causes.ErrFault old new = Rose old.err new.err
 Blames cause old new = Unit {0}
 
-blamed_of : (r : Result Outcome Stop) (a b c : Faults) → IfErr r (HasFailed a b) → Later b c → Blames (cause_of r) a c
+blames_none : (cause : Cause) (a b : Faults) → fault_line cause ≡ None → Blames cause a b
+blames_none causes.FileFault a b none = absurd (cc)
+blames_none causes.InputFault a b none = absurd (cc)
+blames_none causes.OutFault a b none = absurd (cc)
+blames_none causes.ErrFault a b none = absurd (cc)
+blames_none cause a b none = tt
+
+blamed_of : (r : Result Cause Stop) (a b c : Faults) → IfOk r (λ x. fault_line x ≡ None) → IfErr r (HasFailed a b) → Later b c → Blames (cause_of r) a c
 unfolding HasFailed
-blamed_of (Ok outcomes.Done) a b c f l = tt
-blamed_of (Ok (outcomes.Usage fault)) a b c f l = tt
-blamed_of (Ok (outcomes.Refused refusal)) a b c f l = tt
-blamed_of (Ok (outcomes.Report refusal)) a b c f l = tt
-blamed_of (Ok outcomes.InputTooLong) a b c f l = tt
-blamed_of (Err stops.File) a b c f l = omega arith
-blamed_of (Err stops.Input) a b c f l = omega arith
-blamed_of (Err stops.Out) a b c f l = omega arith
-blamed_of (Err stops.Err) a b c f l = omega arith
-blamed_of (Err stops.Memory) a b c f l = tt
+blamed_of (Ok x) a b c none f l = blames_none x a c none
+blamed_of (Err stops.File) a b c none f l = omega arith
+blamed_of (Err stops.Input) a b c none f l = omega arith
+blamed_of (Err stops.Out) a b c none f l = omega arith
+blamed_of (Err stops.Err) a b c none f l = omega arith
+blamed_of (Err stops.Memory) a b c none f l = tt
 
 -- only a fault, or want of memory, ends a run early
 no_blame : (cause : Cause) (a b : Faults) → Blames cause a b → ¬ (Rose a.file b.file) → ¬ (Rose a.input b.input) → ¬ (Rose a.out b.out) → ¬ (Rose a.err b.err)
@@ -153,20 +154,13 @@ no_blame causes.OutFault a b w f i o e = absurd (o w)
 no_blame causes.ErrFault a b w f i o e = absurd (e w)
 no_blame causes.Memory a b w f i o e = inr refl
 
--- a stop has a line, and an outcome has none
+-- a stop has a line
 stop_has_line : (s : Stop) → fault_line (cause_of_stop s) ≡ Some (stop_line s)
 stop_has_line stops.File = refl
 stop_has_line stops.Input = refl
 stop_has_line stops.Out = refl
 stop_has_line stops.Err = refl
 stop_has_line stops.Memory = refl
-
-outcome_has_none : (x : Outcome) → fault_line (cause_of_outcome x) ≡ None
-outcome_has_none outcomes.Done = refl
-outcome_has_none (outcomes.Usage fault) = refl
-outcome_has_none (outcomes.Refused refusal) = refl
-outcome_has_none (outcomes.Report refusal) = refl
-outcome_has_none outcomes.InputTooLong = refl
 
 is_none : {A : Type 0} (x : Option A) → IsNone x → x ≡ None
 is_none None n = refl
@@ -181,15 +175,24 @@ module _ (finds : Finds) (words : List (List ℕ)) (o : Outside) (locked : Optio
   abbrev start : Told
   start = told_at o locked input old
 
+  -- a session gives no cause that has a line
+  ends_so : (mid : Told) (x : Cause) → Goes start mid (session finds words) x → Ends words x
+  ends_so mid x w = goes_gives (Ends words) (session finds words) start mid x (session_gives finds words) w
+
+  given_none : (mid : Told) (r : Result Cause Stop) → Ways start mid (session finds words) r → IfOk r (λ x. fault_line x ≡ None)
+  unfolding Ways
+  given_none mid (Ok x) w = no_fault_ends words x (ends_so mid x w)
+  given_none mid (Err s) w = tt
+
   module _ (new : Outside) (mid : Told) (kept : now ≡ mid.answers) where
     -- a session that was done as a whole
-    whole_told : (x : Outcome) (cause : Cause) (f : Option FileMap) (l : Option (List (List ℕ))) (i : Option (List ℕ)) (a b : Option (List Answer))
-        → o.files ≡ f → locked ≡ l → input ≡ i → old ≡ a → now ≡ b → Goes start mid (session finds words) x → new ≡ outside_of mid → cause ≡ cause_of_outcome x
+    whole_told : (x cause : Cause) (f : Option FileMap) (l : Option (List (List ℕ))) (i : Option (List ℕ)) (a b : Option (List Answer))
+        → o.files ≡ f → locked ≡ l → input ≡ i → old ≡ a → now ≡ b → Goes start mid (session finds words) x → new ≡ outside_of mid → cause ≡ x
         → IfSome (told_run finds words f l i a b) (λ told. RanWhole told o new cause)
     whole_told x cause (Some m) (Some ps) (Some i) (Some a) (Some b) ef el ei ea eb g n e =
         let w = whole_course (session finds words) start mid m ps (lines_of i) x ef el (ap (option_map lines_of) ei) g in
         let same = given_is a b w.given old ea (sym eb ∙ kept ∙ w.kept) in
-        rw (same, n) (record { ending = e ∙ ap cause_of_outcome w.gave; did = w.did; asked = w.asked })
+        rw (same, n) (record { ending = e ∙ w.gave; did = w.did; asked = w.asked })
     whole_told x cause f l i a b ef el ei ea eb g n e = tt
 
     -- a session that was stopped
@@ -215,22 +218,22 @@ module _ (finds : Finds) (words : List (List ℕ)) (o : Outside) (locked : Optio
         })
     front_told s part f l i a b ef el ei ea eb h front n = tt
 
-    whole_of : (r : Result Outcome Stop) (part : List ℕ) (cause : Cause) → Ways start mid (session finds words) r → cause ≡ cause_of r → IsFront part (end_line r) → new ≡ outside mid.out (extended mid.err part) mid.files mid.reads
+    whole_of : (r : Result Cause Stop) (part : List ℕ) (cause : Cause) → Ways start mid (session finds words) r → cause ≡ cause_of r → IsFront part (end_line r) → new ≡ outside mid.out (extended mid.err part) mid.files mid.reads
         → IfNone (fault_line cause) (IfSome (told_run finds words o.files locked input old now) (λ told. RanWhole told o new cause))
     unfolding Ways
     whole_of (Ok x) part cause w e front t =
-        rw (e, outcome_has_none x) (whole_told x (cause_of_outcome x) o.files locked input old now refl refl refl refl refl w (no_part mid new part front t) refl)
+        rw (e, no_fault_ends words x (ends_so mid x w)) (whole_told x x o.files locked input old now refl refl refl refl refl w (no_part mid new part front t) refl)
     whole_of (Err s) part cause w e front t = rw (e, stop_has_line s) tt
 
-    front_of : (r : Result Outcome Stop) (part : List ℕ) (cause : Cause) → Ways start mid (session finds words) r → cause ≡ cause_of r → IsFront part (end_line r) → new ≡ outside mid.out (extended mid.err part) mid.files mid.reads
+    front_of : (r : Result Cause Stop) (part : List ℕ) (cause : Cause) → Ways start mid (session finds words) r → cause ≡ cause_of r → IsFront part (end_line r) → new ≡ outside mid.out (extended mid.err part) mid.files mid.reads
         → IfSome (fault_line cause) (λ line. IfSome (told_run finds words o.files locked input old now) (λ told. RanFront told o new line))
     unfolding Ways
-    front_of (Ok x) part cause w e front t = rw (e, outcome_has_none x) tt
+    front_of (Ok x) part cause w e front t = rw (e, no_fault_ends words x (ends_so mid x w)) tt
     front_of (Err s) part cause w e front t = rw (e, stop_has_line s) (front_told s part o.files locked input old now refl refl refl refl refl w front t)
 
-    ends_of : (r : Result Outcome Stop) (cause : Cause) → Ways start mid (session finds words) r → cause ≡ cause_of r → IsNone (fault_line cause) → Ends words cause
+    ends_of : (r : Result Cause Stop) (cause : Cause) → Ways start mid (session finds words) r → cause ≡ cause_of r → IsNone (fault_line cause) → Ends words cause
     unfolding Ways
-    ends_of (Ok x) cause w e n = rw e (goes_gives (λ x. Ends words (cause_of_outcome x)) (session finds words) start mid x (session_gives finds words) w)
+    ends_of (Ok x) cause w e n = rw e (ends_so mid x w)
     ends_of (Err s) cause w e n = absurd (false≢true (sym (rw (e, stop_has_line s) at n)))
 
   module _ {new : Outside} {left left_now : Option (List ℕ)} {before after : Faults} {cause : Cause} (r : Ran (session finds words) start new now left left_now before after cause) where
@@ -241,7 +244,7 @@ module _ (finds : Finds) (words : List (List ℕ)) (o : Outside) (locked : Optio
     went_front = front_of new r.mid r.kept r.result r.part cause r.ways r.ending r.line r.tells
 
     blamed : Blames cause before after
-    blamed = rw r.ending (blamed_of r.result before r.at_stop after r.failed r.later)
+    blamed = rw r.ending (blamed_of r.result before r.at_stop after (given_none r.mid r.result r.ways) r.failed r.later)
 
     pub blames_file : cause ≡ causes.FileFault → Rose before.file after.file
     blames_file e = rw e at blamed
@@ -264,7 +267,7 @@ module _ (finds : Finds) (words : List (List ℕ)) (o : Outside) (locked : Optio
         → IfNone (fault_line cause) (IfSome (told_run finds words f l i a b) (λ told. RanWhole told o new cause)) → is_valid finds words f l i a b ≡ true → cause ≡ causes.Done
     ended (Some m) (Some ps) (Some i) (Some a) (Some b) none whole valid =
         let whole : RanWhole _ o new cause = MatchOption-at_none _ _ (is_none _ none) whole in
-        whole.ending ∙ ap cause_of_outcome (valid_done finds m ps (lines_of i) words (given a b) valid)
+        whole.ending ∙ valid_done finds m ps (lines_of i) words (given a b) valid
     ended f l i a b none whole valid = absurd (false≢true valid)
 
     pub goes_valid : is_valid finds words o.files locked input old now ≡ true

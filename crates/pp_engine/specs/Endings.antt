@@ -1,9 +1,7 @@
 -- Causes, statuses, and the lines that are told of faults.
-use Rattle.std.specs.Prelude.{ℕ, List, [], Option, Some, None, Result, Ok, Err, codes}
+use Rattle.std.specs.Prelude.{ℕ, List, [], Option, Some, None, Result, Ok, Err, unwrap_or, codes}
 use Rattle.pp_engine.specs.declared.ending.Cause.{Cause}
 use Rattle.pp_engine.specs.declared.ending.Cause.TheVariants as causes
-use Rattle.pp_engine.specs.declared.ending.Outcome.{Outcome}
-use Rattle.pp_engine.specs.declared.ending.Outcome.TheVariants as outcomes
 use Rattle.pp_desk.specs.declared.stop.Stop.{Stop}
 use Rattle.pp_desk.specs.declared.stop.Stop.TheVariants as stops
 
@@ -34,22 +32,6 @@ fault_line causes.OutFault = Some (codes "pprof: output fault\n")
 fault_line causes.ErrFault = Some []
 fault_line causes.Memory = Some (codes "pprof: out of memory\n")
 
--- the line that is told of a stop
-abbrev pub stop_line : Stop → List ℕ
-stop_line stops.File = codes "pprof: file fault\n"
-stop_line stops.Input = codes "pprof: input fault\n"
-stop_line stops.Out = codes "pprof: output fault\n"
-stop_line stops.Err = []
-stop_line stops.Memory = codes "pprof: out of memory\n"
-
--- the cause that an outcome is
-abbrev pub cause_of_outcome : Outcome → Cause
-cause_of_outcome outcomes.Done = causes.Done
-cause_of_outcome (outcomes.Usage fault) = causes.Usage fault
-cause_of_outcome (outcomes.Refused refusal) = causes.Refused refusal
-cause_of_outcome (outcomes.Report refusal) = causes.Report refusal
-cause_of_outcome outcomes.InputTooLong = causes.InputTooLong
-
 -- the cause that a stop becomes
 abbrev pub cause_of_stop : Stop → Cause
 cause_of_stop stops.File = causes.FileFault
@@ -58,12 +40,16 @@ cause_of_stop stops.Out = causes.OutFault
 cause_of_stop stops.Err = causes.ErrFault
 cause_of_stop stops.Memory = causes.Memory
 
--- the cause of a session's end
-abbrev pub cause_of : Result Outcome Stop → Cause
-cause_of (Ok outcome) = cause_of_outcome outcome
+-- the line that is told of a stop
+abbrev pub stop_line : Stop → List ℕ
+stop_line stop = unwrap_or (fault_line (cause_of_stop stop)) []
+
+-- the cause of a session's end: what it gives, or its stop
+abbrev pub cause_of : Result Cause Stop → Cause
+cause_of (Ok cause) = cause
 cause_of (Err stop) = cause_of_stop stop
 
 -- the line that is told after a session: none but of a stop
-abbrev pub end_line : Result Outcome Stop → List ℕ
-end_line (Ok outcome) = []
+abbrev pub end_line : Result Cause Stop → List ℕ
+end_line (Ok cause) = []
 end_line (Err stop) = stop_line stop

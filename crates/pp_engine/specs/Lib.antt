@@ -1,10 +1,12 @@
 pub mod Endings
 pub mod Messages
 pub mod Plans
+pub mod WordFacts
 pub mod Turns
 pub mod Reporting
 pub mod Shell
 pub mod Words
 pub mod Session
 pub mod Validity
+pub mod Alike
 pub mod Run

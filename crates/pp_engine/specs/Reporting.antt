@@ -11,8 +11,8 @@ use Rattle.pp_report.specs.declared.refusal.ReportRefusal.{ReportRefusal}
 use Rattle.pp_report.specs.Prepared.{Settled, prepare}
 use Rattle.pp_report.specs.Reports.{Reported, finish}
 use Rattle.pp_report.specs.Messages.{report_refusal_line}
-use Rattle.pp_engine.specs.declared.ending.Outcome.{Outcome}
-use Rattle.pp_engine.specs.declared.ending.Outcome.TheVariants as outcomes
+use Rattle.pp_engine.specs.declared.ending.Cause.{Cause}
+use Rattle.pp_engine.specs.declared.ending.Cause.TheVariants as causes
 use Rattle.pp_engine.specs.Messages.{locked_line}
 use Rattle.pp_pattern.specs.Report.{Finds}
 
@@ -42,20 +42,20 @@ pub record Tells (told : Course (Result (List ℕ) ReportRefusal)) (made : Cours
   pub asked : told.asked ≡ made.asked
 
 -- one line on standard error, and the end
-unfoldable pub end_with : List ℕ → Outcome → Script Outcome
-end_with line outcome = do
+unfoldable pub end_with : List ℕ → Cause → Script Cause
+end_with line cause = do
   _ ← write_err line
-  Give outcome
+  Give cause
 
 -- the text of the report that the words ask for, and the end
-unfoldable pub end_report : Report → Result (List ℕ) ReportRefusal → Script Outcome
+unfoldable pub end_report : Report → Result (List ℕ) ReportRefusal → Script Cause
 end_report report (Ok text) = do
   _ ← write_out text
-  Give outcomes.Done
-end_report report (Err refusal) = end_with (report_refusal_line report refusal) (outcomes.Report refusal)
+  Give causes.Done
+end_report report (Err refusal) = end_with (report_refusal_line report refusal) (causes.Report refusal)
 
 -- The report that the words ask for.
-unfoldable pub report_once : Finds → Loaded → Report → Config → Script Outcome
+unfoldable pub report_once : Finds → Loaded → Report → Config → Script Cause
 report_once finds l report config = do
   made ← noted_report finds l report config
   end_report report made

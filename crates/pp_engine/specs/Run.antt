@@ -11,7 +11,6 @@ use Rattle.pp_desk.specs.Script.{Script}
 use Rattle.pp_desk.specs.Went.{Ways, HasFailed}
 use Rattle.pp_desk.specs.World.{Told, Faults, Later}
 use Rattle.pp_engine.specs.declared.ending.Cause.{Cause}
-use Rattle.pp_engine.specs.declared.ending.Outcome.{Outcome}
 use Rattle.pp_engine.specs.Endings.{cause_of, end_line}
 
 -- what objects tell of which no line was read yet
@@ -42,10 +41,10 @@ fault_counts file input out err = record { file = file; input = input; out = out
 -- the run ended. After that moment at most a front of the line of its stop was told, whatever
 -- standard error answered then, and the ending stayed what it was. Of the input nothing is taken
 -- behind the lines that the session reads, but for the bytes that a reader holds.
-pub record Ran (script : Script Outcome) (old : Told) (new : Outside)
+pub record Ran (script : Script Cause) (old : Told) (new : Outside)
     (answers : Option (List Answer)) (left left_now : Option (List ℕ)) (before now : Faults)
     (cause : Cause) : Type 0 where
-  pub result : Result Outcome Stop
+  pub result : Result Cause Stop
   pub mid : Told
   pub at_stop : Faults
   pub ways : Ways old mid script result

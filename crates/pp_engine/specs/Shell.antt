@@ -12,8 +12,8 @@ use Rattle.pp_shell.specs.declared.command.Command.TheVariants.{Nothing, Quit, O
 use Rattle.pp_shell.specs.declared.fault.LineFault.{LineFault}
 use Rattle.pp_shell.specs.declared.fault.LineFault.TheVariants.{LineTooLong}
 use Rattle.pp_shell.specs.Lines.{line_command}
-use Rattle.pp_engine.specs.declared.ending.Outcome.{Outcome}
-use Rattle.pp_engine.specs.declared.ending.Outcome.TheVariants as outcomes
+use Rattle.pp_engine.specs.declared.ending.Cause.{Cause}
+use Rattle.pp_engine.specs.declared.ending.Cause.TheVariants as causes
 use Rattle.pp_engine.specs.declared.shell.TheConstants.{MOST_LINES}
 use Rattle.pp_engine.specs.Messages.{line_fault_line, input_too_long_line}
 use Rattle.pp_engine.specs.Reporting.{report_on}
@@ -34,15 +34,15 @@ help = SHELL_HELP.now
 
 -- What a turn gives: the configuration of the next line, and how the session ends where it does.
 abbrev pub Turn : Type 0
-Turn = Config × Option Outcome
+Turn = Config × Option Cause
 
 -- the session goes on with the configuration
 abbrev pub going_on : Config → Turn
 going_on config = (config, None)
 
 -- the session ends
-abbrev pub ending : Config → Outcome → Turn
-ending config outcome = (config, Some outcome)
+abbrev pub ending : Config → Cause → Turn
+ending config cause = (config, Some cause)
 
 -- what is wrong with a line
 unfoldable pub complain : LineFault → Script (Unit {0})
@@ -51,7 +51,7 @@ complain fault = write_err (line_fault_line fault)
 -- What a line asks for. An assignment alone changes the configuration of the next line.
 unfoldable pub obey : Finds → Loaded → Config → Command → Script Turn
 obey finds l config Nothing = Give (going_on config)
-obey finds l config Quit = Give (ending config outcomes.Done)
+obey finds l config Quit = Give (ending config causes.Done)
 obey finds l config Options = do
   _ ← write_out (options_text config)
   Give (going_on config)
@@ -85,10 +85,10 @@ follow finds l config TooLong = do
   Give (going_on config)
 follow finds l config End = do
   _ ← write_out prompt_end
-  Give (ending config outcomes.Done)
+  Give (ending config causes.Done)
 follow finds l config InputTooLong = do
   _ ← write_err input_too_long_line
-  Give (ending config outcomes.InputTooLong)
+  Give (ending config causes.InputTooLong)
 
 -- one turn: the prompt, the line, and what it asks for
 unfoldable pub turn : Finds → Loaded → Config → Script Turn
@@ -98,5 +98,5 @@ turn finds l config = do
   follow finds l config line
 
 -- The shell over a profile, from this configuration on. No input has more lines than `MOST_LINES`.
-unfoldable pub shell : Finds → Loaded → Config → Script Outcome
-shell finds l config = turns (turn finds l) outcomes.Done MOST_LINES config
+unfoldable pub shell : Finds → Loaded → Config → Script Cause
+shell finds l config = turns (turn finds l) causes.Done MOST_LINES config

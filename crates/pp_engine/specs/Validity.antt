@@ -12,16 +12,16 @@ use Rattle.pp_load.specs.declared.refusal.LoadRefusal.{LoadRefusal}
 use Rattle.pp_load.specs.Load.{load}
 use Rattle.pp_options.specs.declared.plan.Plan.{Plan}
 use Rattle.pp_report.specs.Reports.{report_script}
-use Rattle.pp_engine.specs.declared.ending.Outcome.{Outcome}
-use Rattle.pp_engine.specs.declared.ending.Outcome.TheVariants as outcomes
+use Rattle.pp_engine.specs.declared.ending.Cause.{Cause}
+use Rattle.pp_engine.specs.declared.ending.Cause.TheVariants as causes
 use Rattle.pp_pattern.specs.Report.{Finds}
 use Rattle.pp_engine.specs.Shell.{shell}
-use Rattle.pp_engine.specs.Words.{planned}
+use Rattle.pp_engine.specs.Words.{performed}
 
 -- the session came to the limit of its input
-abbrev pub is_too_long : Outcome → Bool
-is_too_long outcomes.InputTooLong = true
-is_too_long outcome = false
+abbrev pub is_too_long : Cause → Bool
+is_too_long causes.InputTooLong = true
+is_too_long cause = false
 
 -- the report that is named has a text, or the shell never comes to the limit of its input
 abbrev pub is_served : Finds → Config → Option Report → Loaded → FileMap → List (List ℕ)
@@ -42,7 +42,7 @@ is_loaded finds plan (Err refusal) files locked lines answers = false
 abbrev pub answers_left : {T : Type 0} → Course T → List Answer → List Answer
 answers_left c answers = drop (length c.asked) answers
 
--- so it is of a plan
+-- so it is of a plan; no other words are valid
 abbrev pub is_valid_plan : Finds → Option Plan → FileMap → List (List ℕ) → List InputLine
     → List Answer → Bool
 is_valid_plan finds None files locked lines answers = false
@@ -55,5 +55,5 @@ is_valid_plan finds (Some plan) files locked lines answers =
 abbrev pub is_valid : Finds → List (List ℕ) → Option FileMap → Option (List (List ℕ))
     → Option (List ℕ) → Option (List Answer) → Option (List Answer) → Bool
 is_valid finds words (Some files) (Some locked) (Some input) (Some old) (Some new) =
-    is_valid_plan finds (planned words) files locked (lines_of input) (given old new)
+    is_valid_plan finds (performed words) files locked (lines_of input) (given old new)
 is_valid finds words files locked input old new = false

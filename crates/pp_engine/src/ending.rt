@@ -1,6 +1,6 @@
 // How a run ends.
 ghost use Rattle.std.specs.Prelude.{◌≡◌};
-ghost use Rattle.pp_engine.specs.Endings.{cause_of_outcome, cause_of_stop, status_of};
+ghost use Rattle.pp_engine.specs.Endings.{cause_of_stop, status_of};
 
 use pp_desk::Stop;
 use pp_load::LoadRefusal;
@@ -55,34 +55,6 @@ impl Ending {
             Cause::Memory => 4,
         };
         Ending { status, cause }
-    }
-}
-
-/// How a session ends where nothing stops it.
-#[derive(Clone, Copy, Debug, PartialEq, Eq)]
-pub enum Outcome {
-    /// All was done.
-    Done,
-    /// A word is wrong.
-    Usage(UsageFault),
-    /// The profile could not be loaded.
-    Refused(LoadRefusal),
-    /// The report that the words ask for could not be made.
-    Report(ReportRefusal),
-    /// In the shell: standard input is longer than its limit.
-    InputTooLong,
-}
-
-/// The cause that an outcome is.
-pub fn cause_of_outcome(outcome: Outcome) -> Cause
-    ensures { result ≡ cause_of_outcome outcome }
-{
-    match outcome {
-        Outcome::Done => Cause::Done,
-        Outcome::Usage(fault) => Cause::Usage(fault),
-        Outcome::Refused(refusal) => Cause::Refused(refusal),
-        Outcome::Report(refusal) => Cause::Report(refusal),
-        Outcome::InputTooLong => Cause::InputTooLong,
     }
 }
 

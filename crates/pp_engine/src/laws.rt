@@ -1,11 +1,27 @@
-//! What holds of any words. This function does nothing: its clause is the law.
-ghost use Rattle.std.specs.Prelude.{◌≡◌, ℕ, true, List, Ok, is_some};
+//! What holds of any words and files. These functions do nothing: their clauses are the laws.
+ghost use Rattle.std.specs.Prelude.{◌≡◌, ◌<◌, ◌^◌, ℕ, true, List, length, Ok};
+ghost use Rattle.pp_base.specs.FileMap.{FileMap};
+ghost use Rattle.pp_legacy.specs.Legacy.{is_legacy, legacy};
+ghost use Rattle.pp_load.specs.Decode.{decoded};
+ghost use Rattle.pp_model.specs.declared.profile.Profile.{Profile};
 ghost use Rattle.pp_options.specs.Words as options;
-ghost use Rattle.pp_options.specs.Words.{Request};
-ghost use Rattle.pp_engine.specs.Plans.{plan_of};
+ghost use Rattle.pp_tables.specs.Encode.{encode};
+ghost use Rattle.pp_tables.specs.Fits.{ProfileFits};
+ghost use Rattle.pp_engine.specs.Alike.{DifferAt, RunAlike};
+ghost use Rattle.pp_engine.specs.Words.{planned, said_by};
 
-/// What words without a fault ask for is a plan, so the session of words never ends for want of one.
+/// The plan of a session asks for what its words do, and the fault that it tells is their first one.
 pub fn words_ask_for_a_plan()
-    ensures { (words : List (List ℕ)) (request : Request) → options.words words ≡ Ok request
-        → is_some (plan_of request) ≡ true }
+    ensures { (words : List (List ℕ)) → said_by (planned words) ≡ options.words words }
+{}
+
+/// A session is the same over any bytes of a profile that are decoded alike. So it is the same over a CPU profile of
+/// gperftools and over the canonical bytes of its profile, whose numbers lie in their types.
+pub fn bytes_decoded_alike_run_alike()
+    ensures alike { (path : List ℕ) (files other : FileMap) (bytes those : List ℕ)
+        → DifferAt path files other bytes those
+        → ((source : ℕ) → decoded source bytes ≡ decoded source those) → RunAlike path files other }
+    ensures gperftools { (path : List ℕ) (files other : FileMap) (bytes : List ℕ) (p : Profile)
+        → DifferAt path files other bytes (encode p) → is_legacy bytes ≡ true → legacy bytes ≡ Ok p
+        → ProfileFits p → length (encode p) < 2 ^ 64 → RunAlike path files other }
 {}

@@ -12,7 +12,7 @@ mod session;
 mod shell;
 
 pub use ending::{Cause, Ending};
-pub use laws::words_ask_for_a_plan;
+pub use laws::{bytes_decoded_alike_run_alike, words_ask_for_a_plan};
 pub use pp_load::{LoadRefusal, gen_profile, load};
 pub use pp_report::{ReportRefusal, generate};
 pub use reporting::reports_are_told;

@@ -14,7 +14,7 @@ ghost use Rattle.pp_report.specs.Reports.{report_script};
 ghost use Rattle.pp_engine.specs.Reporting.{Tells, noted_report, note_and_finish, report_once, report_on, end_report, end_with, hand_out_made, hand_out, save, tell_locked};
 ghost use Rattle.pp_pattern.specs.Report.{Finds};
 
-use crate::ending::Outcome;
+use crate::ending::Cause;
 use crate::message::locked_line;
 use crate::resources::Resources;
 use pp_base::{Gate, Text};
@@ -32,7 +32,7 @@ pub fn report_once<R: Threads + Sync, D: Desk, G: Gate>(
     report: &Report,
     config: &Config,
     desk: &mut D,
-) -> Result<Outcome, Stop>
+) -> Result<Cause, Stop>
     requires { IsCountable l.now.profile }
     ensures { Went (D.world desk.old) (D.world desk.new)
         (report_once D.finds l.now report.now config.now) result }
@@ -111,28 +111,28 @@ fn end_report<D: Desk>(
     report: &Report,
     made: &Result<Text, ReportRefusal>,
     desk: &mut D,
-) -> Result<Outcome, Stop>
+) -> Result<Cause, Stop>
     ensures { Went (D.world desk.old) (D.world desk.new) (end_report report.now made.now) result }
 {
     match made {
         Ok(text) => {
             desk.write_out(text.as_slice())?;
-            Ok(Outcome::Done)
+            Ok(Cause::Done)
         }
         Err(refusal) => {
             let line = refusal_line(alloc, report, *refusal)?;
-            end_with(line.as_slice(), Outcome::Report(*refusal), desk)
+            end_with(line.as_slice(), Cause::Report(*refusal), desk)
         }
     }
 }
 
 /// One line on standard error, and the end.
 #[tactic(auto, using(pp_desk::proofs::Going::going), unfolding(crate::specs::Reporting::end_with))]
-pub fn end_with<D: Desk>(line: &[u8], outcome: Outcome, desk: &mut D) -> Result<Outcome, Stop>
-    ensures { Went (D.world desk.old) (D.world desk.new) (end_with line.now outcome) result }
+pub fn end_with<D: Desk>(line: &[u8], cause: Cause, desk: &mut D) -> Result<Cause, Stop>
+    ensures { Went (D.world desk.old) (D.world desk.new) (end_with line.now cause) result }
 {
     desk.write_err(line)?;
-    Ok(outcome)
+    Ok(cause)
 }
 
 #[tactic(auto, using(pp_desk::proofs::Going::going), unfolding(crate::specs::Reporting::hand_out_made))]

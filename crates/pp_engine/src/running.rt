@@ -12,7 +12,7 @@ ghost use Rattle.pp_engine.specs.Session.{session, told_run, RanWhole, RanFront}
 ghost use Rattle.pp_engine.specs.Validity.{is_valid};
 ghost use Rattle.pp_engine.specs.Words.{Ends, starts_shell};
 
-use crate::ending::{Cause, Ending, cause_of_outcome, cause_of_stop};
+use crate::ending::{Cause, Ending, cause_of_stop};
 use crate::resources::Resources;
 use crate::session::session;
 use pp_base::{Files, Gate, Matcher, Sink, Source, Text};
@@ -155,7 +155,7 @@ fn run_session<R: Threads + Sync, D: Desk, G: Gate>(
     ensures same { (D.world desk.new).names ≡ (D.world desk.old).names }
 {
     match session(with, words, desk) {
-        Ok(outcome) => Ending::of(cause_of_outcome(outcome)),
+        Ok(cause) => Ending::of(cause),
         Err(stop) => {
             tell_stop(stop, desk);
             Ending::of(cause_of_stop(stop))

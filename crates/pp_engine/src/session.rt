@@ -3,13 +3,13 @@ ghost use Rattle.std.specs.Prelude.{◌≡◌, IfOk};
 ghost use Rattle.pp_desk.specs.Went.{Went};
 ghost use Rattle.pp_load.specs.Messages.{refusal_line};
 ghost use Rattle.pp_model.specs.Sizes.{IsCountable};
-ghost use Rattle.pp_options.specs.Words as options;
 ghost use Rattle.pp_engine.specs.Messages.{usage_line};
 ghost use Rattle.pp_engine.specs.Reporting.{end_with};
 ghost use Rattle.pp_engine.specs.Session.{session, begin, perform_words, perform, serve_loaded, serve, tell_topic};
-ghost use Rattle.pp_engine.specs.declared.ending.Outcome.TheVariants as outcomes;
+ghost use Rattle.pp_engine.specs.Words.{planned};
+ghost use Rattle.pp_engine.specs.declared.ending.Cause.TheVariants as causes;
 
-use crate::ending::Outcome;
+use crate::ending::Cause;
 use crate::message::usage_line;
 use crate::reporting::{end_with, report_once};
 use crate::resources::Resources;
@@ -28,7 +28,7 @@ pub fn session<R: Threads + Sync, D: Desk, G: Gate>(
     with: &Resources<'_, R, G>,
     words: &[Text],
     desk: &mut D,
-) -> Result<Outcome, Stop>
+) -> Result<Cause, Stop>
     ensures { Went (D.world desk.old) (D.world desk.new) (session D.finds words.now) result }
 {
     match topic_asked(words) {
@@ -39,13 +39,13 @@ pub fn session<R: Threads + Sync, D: Desk, G: Gate>(
 
 // What the program tells of itself, and the end.
 #[tactic(auto, using(pp_desk::proofs::Going::going), unfolding(crate::specs::Session::tell_topic))]
-fn tell_topic<D: Desk>(alloc: Global, topic: Topic, desk: &mut D) -> Result<Outcome, Stop>
+fn tell_topic<D: Desk>(alloc: Global, topic: Topic, desk: &mut D) -> Result<Cause, Stop>
     ensures { Went (D.world desk.old) (D.world desk.new) (tell_topic topic) result }
 {
     let mut text = Text::new(alloc);
     write_topic(topic, &mut text)?;
     desk.write_out(text.as_slice())?;
-    Ok(Outcome::Done)
+    Ok(Cause::Done)
 }
 
 // All that the words ask for.
@@ -54,9 +54,9 @@ fn perform_words<R: Threads + Sync, D: Desk, G: Gate>(
     with: &Resources<'_, R, G>,
     words: &[Text],
     desk: &mut D,
-) -> Result<Outcome, Stop>
+) -> Result<Cause, Stop>
     ensures { Went (D.world desk.old) (D.world desk.new)
-        (perform_words D.finds (options.words words.now)) result }
+        (perform_words D.finds (planned words.now)) result }
 {
     match read_words(with.alloc, words) {
         Ok(plan) => perform(with, &plan, desk),
@@ -67,12 +67,12 @@ fn perform_words<R: Threads + Sync, D: Desk, G: Gate>(
 
 // What is wrong with the words, and the end.
 #[tactic(auto, using(pp_desk::proofs::Going::going))]
-fn refuse_words<D: Desk>(alloc: Global, fault: UsageFault, desk: &mut D) -> Result<Outcome, Stop>
+fn refuse_words<D: Desk>(alloc: Global, fault: UsageFault, desk: &mut D) -> Result<Cause, Stop>
     ensures { Went (D.world desk.old) (D.world desk.new)
-        (end_with (usage_line fault) (outcomes.Usage fault)) result }
+        (end_with (usage_line fault) (causes.Usage fault)) result }
 {
     let line = usage_line(alloc, fault)?;
-    end_with(line.as_slice(), Outcome::Usage(fault), desk)
+    end_with(line.as_slice(), Cause::Usage(fault), desk)
 }
 
 // What a plan asks for: its profile is loaded, and then the report is made or the shell begins.
@@ -81,7 +81,7 @@ fn perform<R: Threads + Sync, D: Desk, G: Gate>(
     with: &Resources<'_, R, G>,
     plan: &Plan,
     desk: &mut D,
-) -> Result<Outcome, Stop>
+) -> Result<Cause, Stop>
     ensures { Went (D.world desk.old) (D.world desk.new) (perform D.finds plan.now) result }
 {
     let loaded = load(with.alloc, plan, desk)?;
@@ -94,7 +94,7 @@ fn serve_loaded<R: Threads + Sync, D: Desk, G: Gate>(
     plan: &Plan,
     loaded: &Result<Loaded, LoadRefusal>,
     desk: &mut D,
-) -> Result<Outcome, Stop>
+) -> Result<Cause, Stop>
     requires { IfOk loaded.now (λ l. IsCountable l.profile) }
     ensures { Went (D.world desk.old) (D.world desk.new)
         (serve_loaded D.finds plan.now loaded.now) result }
@@ -112,12 +112,12 @@ fn refuse_profile<D: Desk>(
     plan: &Plan,
     refusal: LoadRefusal,
     desk: &mut D,
-) -> Result<Outcome, Stop>
+) -> Result<Cause, Stop>
     ensures { Went (D.world desk.old) (D.world desk.new)
-        (end_with (refusal_line plan.now refusal) (outcomes.Refused refusal)) result }
+        (end_with (refusal_line plan.now refusal) (causes.Refused refusal)) result }
 {
     let line = refusal_line(alloc, plan, refusal)?;
-    end_with(line.as_slice(), Outcome::Refused(refusal), desk)
+    end_with(line.as_slice(), Cause::Refused(refusal), desk)
 }
 
 // The report that the words name, and the shell where they name none.
@@ -128,7 +128,7 @@ fn serve<R: Threads + Sync, D: Desk, G: Gate>(
     report: &Option<Report>,
     l: &Loaded,
     desk: &mut D,
-) -> Result<Outcome, Stop>
+) -> Result<Cause, Stop>
     requires { IsCountable l.now.profile }
     ensures { Went (D.world desk.old) (D.world desk.new)
         (serve D.finds config.now report.now l.now) result }

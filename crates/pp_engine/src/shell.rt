@@ -10,12 +10,12 @@ ghost use Rattle.pp_model.specs.Sizes.{IsCountable};
 ghost use Rattle.pp_options.specs.Listing.{options_text};
 ghost use Rattle.pp_shell.specs.Lines.{line_command};
 ghost use Rattle.pp_pattern.specs.Report.{Finds};
-ghost use Rattle.pp_engine.specs.declared.ending.Outcome.{Outcome};
+ghost use Rattle.pp_engine.specs.declared.ending.Cause.{Cause};
 ghost use Rattle.pp_engine.specs.Shell.{shell, turn, follow, obey, obey_or_complain, complain, without_return, prompt, prompt_end, help};
 ghost use Rattle.pp_engine.specs.Turns.{turns};
-ghost use Rattle.pp_engine.specs.declared.ending.Outcome.TheVariants as outcomes;
+ghost use Rattle.pp_engine.specs.declared.ending.Cause.TheVariants as causes;
 
-use crate::ending::Outcome;
+use crate::ending::Cause;
 use crate::message::{input_too_long_line, line_fault_line};
 use crate::reporting::report_on;
 use crate::resources::Resources;
@@ -37,7 +37,7 @@ pub fn shell<R: Threads + Sync, D: Desk, G: Gate>(
     l: &Loaded,
     config: &Config,
     desk: &mut D,
-) -> Result<Outcome, Stop>
+) -> Result<Cause, Stop>
     requires { IsCountable l.now.profile }
     ensures { Went (D.world desk.old) (D.world desk.new) (shell D.finds l.now config.now) result }
 {
@@ -51,17 +51,17 @@ fn take_turns<R: Threads + Sync, D: Desk, G: Gate>(
     l: &Loaded,
     config: &mut Config,
     desk: &mut D,
-) -> Result<Outcome, Stop>
+) -> Result<Cause, Stop>
     requires { IsCountable l.now.profile }
     ensures { Went (D.world desk.old) (D.world desk.new)
-        (turns (turn D.finds l.now) outcomes.Done MOST_LINES config.old) result }
+        (turns (turn D.finds l.now) causes.Done MOST_LINES config.old) result }
 {
     'turns: for _turn in 0..MOST_LINES {
-        if let Some(outcome) = turn(with, l, config, desk)? {
-            return Ok(outcome);
+        if let Some(cause) = turn(with, l, config, desk)? {
+            return Ok(cause);
         }
     }
-    Ok(Outcome::Done)
+    Ok(Cause::Done)
 }
 
 // One turn: the prompt, the line, and what it asks for. It gives how the session ends, where it does.
@@ -71,7 +71,7 @@ fn turn<R: Threads + Sync, D: Desk, G: Gate>(
     l: &Loaded,
     config: &mut Config,
     desk: &mut D,
-) -> Result<Option<Outcome>, Stop>
+) -> Result<Option<Cause>, Stop>
     requires { IsCountable l.now.profile }
     ensures { Went (D.world desk.old) (D.world desk.new) (turn D.finds l.now config.old)
         (beside config.new result) }
@@ -95,7 +95,7 @@ fn follow<R: Threads + Sync, D: Desk, G: Gate>(
     line: &InputLine,
     config: &mut Config,
     desk: &mut D,
-) -> Result<Option<Outcome>, Stop>
+) -> Result<Option<Cause>, Stop>
     requires { IsCountable l.now.profile }
     ensures { Went (D.world desk.old) (D.world desk.new)
         (follow D.finds l.now config.old line.now) (beside config.new result) }
@@ -111,11 +111,11 @@ fn follow<R: Threads + Sync, D: Desk, G: Gate>(
         }
         InputLine::End => {
             desk.write_out(line_end())?;
-            Ok(Some(Outcome::Done))
+            Ok(Some(Cause::Done))
         }
         InputLine::InputTooLong => {
             desk.write_err(input_too_long_line())?;
-            Ok(Some(Outcome::InputTooLong))
+            Ok(Some(Cause::InputTooLong))
         }
     }
 }
@@ -160,7 +160,7 @@ fn obey_or_complain<R: Threads + Sync, D: Desk, G: Gate>(
     said: &Result<Command, LineFault>,
     config: &mut Config,
     desk: &mut D,
-) -> Result<Option<Outcome>, Stop>
+) -> Result<Option<Cause>, Stop>
     requires { IsCountable l.now.profile }
     ensures { Went (D.world desk.old) (D.world desk.new)
         (obey_or_complain D.finds l.now config.old said.now) (beside config.new result) }
@@ -182,14 +182,14 @@ fn obey<R: Threads + Sync, D: Desk, G: Gate>(
     command: &Command,
     config: &mut Config,
     desk: &mut D,
-) -> Result<Option<Outcome>, Stop>
+) -> Result<Option<Cause>, Stop>
     requires { IsCountable l.now.profile }
     ensures { Went (D.world desk.old) (D.world desk.new)
         (obey D.finds l.now config.old command.now) (beside config.new result) }
 {
     match command {
         Command::Nothing => Ok(None),
-        Command::Quit => Ok(Some(Outcome::Done)),
+        Command::Quit => Ok(Some(Cause::Done)),
         Command::Options => {
             list_options(with.alloc, config, desk)?;
             Ok(None)
@@ -246,7 +246,7 @@ fn complain<D: Desk>(alloc: Global, fault: &LineFault, desk: &mut D) -> Result<(
 #[tactic(auto, using(crate::proofs::Lasting::shell_lasts))]
 pub fn turns_suffice()
     ensures { (finds : Finds) (l : Loaded) (config : Config) (old new : Told)
-        (input : List ℕ) (x other : Outcome) (more : ℕ) → old.lines ≡ Some (lines_of input)
+        (input : List ℕ) (x other : Cause) (more : ℕ) → old.lines ≡ Some (lines_of input)
         → Goes old new (shell finds l config) x
         → Goes old new (turns (turn finds l) other (MOST_LINES + more) config) x }
 {}

@@ -3,7 +3,7 @@ use Rattle.pp_engine.proofs.running.run_session.Goals as goal
 
 pub returns-in-Ok-clause-ending : goal.returns-in-Ok-clause-ending
 returns-in-Ok-clause-ending g c =
-    rw (c.of.ensures.cause, c.cause_of_outcome.ensures) (ran_whole g.D.Desk.finds c.args.words.now _ _ c.in-Ok.outcome c.in-Ok.ensures)
+    rw (c.of.ensures.cause) (ran_whole g.D.Desk.finds c.args.words.now _ _ c.in-Ok.cause c.in-Ok.ensures)
 
 pub returns-in-Err-clause-lines : goal.returns-in-Err-clause-lines
 returns-in-Err-clause-lines g c = lines_front g.D.Desk.finds c.args.words.now _ _ _ _ _ c.in-Err.ensures c.tell_stop.ensures

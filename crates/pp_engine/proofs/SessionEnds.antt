@@ -1,6 +1,6 @@
 -- How a session ends, whatever the outside replies.
-use Rattle.std.proofs.Common.{◌≡◌, ℕ, Bool, true, false, not, List, Option, Some, None, refl, sym, ap, subst, ◌∙◌}
-use Rattle.std.specs.Prelude.{Result, Ok, Err, is_some, IsTrue}
+use Rattle.std.proofs.Common.{◌≡◌, ℕ, Bool, true, false, List, Option, Some, None, refl, ap, subst}
+use Rattle.std.specs.Prelude.{Result, Ok, Err, IsTrue}
 use Rattle.std.proofs.lemmas.Bool.{false≢true}
 use Rattle.std.proofs.lemmas.Option.{same_Some}
 use Rattle.pp_desk.specs.Script.{◌>>=◌}
@@ -15,69 +15,63 @@ use Rattle.pp_options.specs.declared.help.Topic.{Topic}
 use Rattle.pp_options.specs.declared.plan.Plan.{Plan}
 use Rattle.pp_options.specs.declared.usage.UsageFault.{UsageFault}
 use Rattle.pp_options.specs.Help.{topic_asked}
-use Rattle.pp_options.specs.Words.{Request}
-use Rattle.pp_options.specs.Words as options
 use Rattle.pp_report.specs.declared.refusal.ReportRefusal.{ReportRefusal}
 use Rattle.pp_shell.specs.declared.command.Command.{Command}
 use Rattle.pp_shell.specs.declared.command.Command.TheVariants as commands
 use Rattle.pp_shell.specs.declared.fault.LineFault.{LineFault}
-use Rattle.pp_engine.specs.declared.ending.Outcome.{Outcome}
-use Rattle.pp_engine.specs.declared.ending.Outcome.TheVariants as outcomes
+use Rattle.pp_engine.specs.declared.ending.Cause.{Cause}
+use Rattle.pp_engine.specs.declared.ending.Cause.TheVariants as causes
 use Rattle.pp_engine.specs.declared.shell.TheConstants.{MOST_LINES}
-use Rattle.pp_engine.specs.Endings.{cause_of_outcome}
-use Rattle.pp_engine.specs.Plans.{plan_of}
+use Rattle.pp_engine.specs.Endings.{fault_line}
 use Rattle.pp_engine.specs.Reporting.{noted_report, end_with, end_report, report_once, report_on}
 use Rattle.pp_engine.specs.Shell.{Turn, complain, obey, obey_or_complain, follow, turn, shell}
-use Rattle.pp_engine.specs.Session.{serve, serve_loaded, perform, perform_some, perform_words, tell_topic, begin, session}
-use Rattle.pp_engine.specs.Words.{can_end, EndsBy, Ends}
+use Rattle.pp_engine.specs.Session.{serve, serve_loaded, perform, perform_words, tell_topic, begin, session}
+use Rattle.pp_engine.specs.Words.{planned, can_end, EndsBy, Ends}
 use Rattle.pp_engine.proofs.Gives.{Gives, gives_then, gives_more, turns_give}
-use Rattle.pp_engine.proofs.PlanLemmas.{plan_report}
 use Rattle.pp_pattern.specs.Report.{Finds}
 
--- an outcome is how a session of this report can end
-abbrev CanBe : Option Report → Outcome → Type 0
-CanBe report outcome = IsTrue (can_end report (cause_of_outcome outcome))
+-- a session of this report can end so
+abbrev CanBe : Option Report → Cause → Type 0
+CanBe report cause = IsTrue (can_end report cause)
 
-end_gives : (P : Outcome → Type 0) (line : List ℕ) (outcome : Outcome) → P outcome → Gives P (end_with line outcome)
+end_gives : (P : Cause → Type 0) (line : List ℕ) (cause : Cause) → P cause → Gives P (end_with line cause)
 unfolding end_with ◌>>=◌
-end_gives P line outcome p = λ _. p
+end_gives P line cause p = λ _. p
 
 made_gives : (report : Report) (made : Result (List ℕ) ReportRefusal) → Gives (CanBe (Some report)) (end_report report made)
 unfolding end_report ◌>>=◌
 made_gives report (Ok text) = λ _. refl
-made_gives report (Err refusal) = end_gives (CanBe (Some report)) _ (outcomes.Report refusal) refl
+made_gives report (Err refusal) = end_gives (CanBe (Some report)) _ (causes.Report refusal) refl
 
 report_gives : (finds : Finds) (l : Loaded) (report : Report) (config : Config) → Gives (CanBe (Some report)) (report_once finds l report config)
 unfolding report_once
 report_gives finds l report config = gives_then (CanBe (Some report)) (noted_report finds l report config) (end_report report) (made_gives report)
 
 -- how the shell ends: done, or at the limit of its input
-abbrev pub is_shell_end : Outcome → Bool
-is_shell_end outcomes.Done = true
-is_shell_end outcomes.InputTooLong = true
-is_shell_end outcome = false
+abbrev pub is_shell_end : Cause → Bool
+is_shell_end causes.Done = true
+is_shell_end causes.InputTooLong = true
+is_shell_end cause = false
 
-abbrev pub IsShellEnd : Outcome → Type 0
-IsShellEnd outcome = IsTrue (is_shell_end outcome)
+abbrev pub IsShellEnd : Cause → Type 0
+IsShellEnd cause = IsTrue (is_shell_end cause)
 
-can_be_shell : (outcome : Outcome) → IsShellEnd outcome → CanBe None outcome
-can_be_shell outcomes.Done e = refl
-can_be_shell outcomes.InputTooLong e = refl
-can_be_shell (outcomes.Usage fault) e = absurd (false≢true e)
-can_be_shell (outcomes.Refused refusal) e = absurd (false≢true e)
-can_be_shell (outcomes.Report refusal) e = absurd (false≢true e)
+can_be_shell : (cause : Cause) → IsShellEnd cause → CanBe None cause
+can_be_shell causes.Done e = refl
+can_be_shell causes.InputTooLong e = refl
+can_be_shell cause e = absurd (false≢true e)
 
 -- a turn ends nothing, or as the shell ends
 abbrev TurnEnds : Turn → Type 0
-TurnEnds next = (given : Outcome) → next.1 ≡ Some given → IsShellEnd given
+TurnEnds next = (given : Cause) → next.1 ≡ Some given → IsShellEnd given
 
 goes_on : (config : Config) → TurnEnds (config, None)
 goes_on config = λ given e. absurd (cc)
 
-ends_done : (config : Config) → TurnEnds (config, Some outcomes.Done)
+ends_done : (config : Config) → TurnEnds (config, Some causes.Done)
 ends_done config = λ given e. subst IsShellEnd (same_Some _ _ e) refl
 
-ends_long : (config : Config) → TurnEnds (config, Some outcomes.InputTooLong)
+ends_long : (config : Config) → TurnEnds (config, Some causes.InputTooLong)
 ends_long config = λ given e. subst IsShellEnd (same_Some _ _ e) refl
 
 obey_gives : (finds : Finds) (l : Loaded) (config : Config) (command : Command) → Gives TurnEnds (obey finds l config command)
@@ -108,7 +102,7 @@ turn_gives finds l config = λ _ line. line_gives finds l config line
 -- The shell ends done, or at the limit of its input.
 pub shell_gives : (finds : Finds) (l : Loaded) (config : Config) → Gives IsShellEnd (shell finds l config)
 unfolding shell
-shell_gives finds l config = turns_give IsShellEnd (turn finds l) outcomes.Done MOST_LINES config refl (turn_gives finds l)
+shell_gives finds l config = turns_give IsShellEnd (turn finds l) causes.Done MOST_LINES config refl (turn_gives finds l)
 
 serve_gives : (finds : Finds) (config : Config) (report : Option Report) (l : Loaded) → Gives (CanBe report) (serve finds config report l)
 unfolding serve
@@ -118,29 +112,37 @@ serve_gives finds config None l = gives_more IsShellEnd (CanBe None) (shell find
 loaded_gives : (finds : Finds) (plan : Plan) (loaded : Result Loaded LoadRefusal) → Gives (CanBe plan.report) (serve_loaded finds plan loaded)
 unfolding serve_loaded
 loaded_gives finds plan (Ok l) = serve_gives finds plan.config plan.report l
-loaded_gives finds plan (Err refusal) = end_gives (CanBe plan.report) _ (outcomes.Refused refusal) refl
+loaded_gives finds plan (Err refusal) = end_gives (CanBe plan.report) _ (causes.Refused refusal) refl
 
-some_gives : (finds : Finds) (report : Option Report) (plan : Option Plan) → ((p : Plan) → plan ≡ Some p → p.report ≡ report) → Gives (CanBe report) (perform_some finds plan)
-unfolding perform_some perform
-some_gives finds report (Some plan) same =
-    subst (λ named. Gives (CanBe named) (load finds plan >>= serve_loaded finds plan)) (same plan refl) (gives_then (CanBe plan.report) (load finds plan) (serve_loaded finds plan) (loaded_gives finds plan))
-some_gives finds report None same = refl
+words_gives : (finds : Finds) (said : Result Plan UsageFault) → Gives (λ x. EndsBy None said x) (perform_words finds said)
+unfolding perform_words perform
+words_gives finds (Ok plan) = gives_then (CanBe plan.report) (load finds plan) (serve_loaded finds plan) (loaded_gives finds plan)
+words_gives finds (Err fault) = end_gives (λ x. EndsBy None (Err fault) x) _ (causes.Usage fault) refl
 
-words_gives : (finds : Finds) (said : Result Request UsageFault) → Gives (λ x. EndsBy None said (cause_of_outcome x)) (perform_words finds said)
-unfolding perform_words
-words_gives finds (Ok request) = some_gives finds request.report (plan_of request) (plan_report request)
-words_gives finds (Err fault) = end_gives (λ x. EndsBy None (Err fault) (cause_of_outcome x)) _ (outcomes.Usage fault) refl
-
-topic_gives : (topic : Topic) (said : Result Request UsageFault) → Gives (λ x. EndsBy (Some topic) said (cause_of_outcome x)) (tell_topic topic)
+topic_gives : (topic : Topic) (said : Result Plan UsageFault) → Gives (λ x. EndsBy (Some topic) said x) (tell_topic topic)
 unfolding tell_topic ◌>>=◌
 topic_gives topic said = λ _. refl
 
-begin_gives : (finds : Finds) (words : List (List ℕ)) (topic : Option Topic) → Gives (λ x. EndsBy topic (options.words words) (cause_of_outcome x)) (begin finds words topic)
+begin_gives : (finds : Finds) (words : List (List ℕ)) (topic : Option Topic) → Gives (λ x. EndsBy topic (planned words) x) (begin finds words topic)
 unfolding begin
-begin_gives finds words (Some topic) = topic_gives topic (options.words words)
-begin_gives finds words None = words_gives finds (options.words words)
+begin_gives finds words (Some topic) = topic_gives topic (planned words)
+begin_gives finds words None = words_gives finds (planned words)
 
 -- A session ends as its words let it.
-pub session_gives : (finds : Finds) (words : List (List ℕ)) → Gives (λ x. Ends words (cause_of_outcome x)) (session finds words)
+pub session_gives : (finds : Finds) (words : List (List ℕ)) → Gives (Ends words) (session finds words)
 unfolding session
 session_gives finds words = begin_gives finds words (topic_asked words)
+
+ends_without_line : (topic : Option Topic) (said : Result Plan UsageFault) (cause : Cause) → EndsBy topic said cause → fault_line cause ≡ None
+ends_without_line (Some topic) said cause ends = ap fault_line ends
+ends_without_line None (Err fault) cause ends = ap fault_line ends
+ends_without_line None (Ok plan) causes.Done ends = refl
+ends_without_line None (Ok plan) (causes.Usage fault) ends = refl
+ends_without_line None (Ok plan) (causes.Refused refusal) ends = refl
+ends_without_line None (Ok plan) (causes.Report refusal) ends = refl
+ends_without_line None (Ok plan) causes.InputTooLong ends = refl
+ends_without_line None (Ok plan) cause ends = absurd (false≢true ends)
+
+-- It never ends so as a fault or as want of memory.
+pub no_fault_ends : (words : List (List ℕ)) (cause : Cause) → Ends words cause → fault_line cause ≡ None
+no_fault_ends words cause ends = ends_without_line (topic_asked words) (planned words) cause ends

@@ -1,16 +1,15 @@
--- What words ask for keeps what each plan keeps, so that it is a plan.
-use Rattle.std.proofs.Common.{◌≡◌, ℕ, ◌+◌, ◌≤◌, ◌<◌, Bool, true, false, List, [], ◌∷◌, ◌++◌, length, refl, sym, ap, subst, ◌∙◌, append_assoc, arith}
-use Rattle.std.specs.Prelude.{◌&&◌, not, Option, Some, None, is_some, option_map, Result, Ok, Err, nat_lt, nat_le, codes, if◌then◌else◌}
+-- A proof that what words ask for keeps what each plan keeps. Of it `Words` takes the last line alone.
+use Rattle.std.proofs.Common.{◌≡◌, ℕ, ◌+◌, ◌≤◌, ◌<◌, Bool, true, false, List, [], ◌∷◌, ◌++◌, length, refl, sym, subst, ◌∙◌, append_assoc, arith}
+use Rattle.std.specs.Prelude.{◌&&◌, not, Option, Some, None, is_some, option_map, Result, Ok, Err, nat_lt, codes, if◌then◌else◌}
 use Rattle.std.specs.Option.{option_or, ok_or}
 use Rattle.std.specs.List.{AllByRecursion, list_all}
 use Rattle.std.specs.Str.Parse.{digits_value}
-use Rattle.std.proofs.lemmas.Bool.{lt-ltb, le-leb, leb-false, and_from, false≢true}
+use Rattle.std.proofs.lemmas.Bool.{lt-ltb, ltb-true, leb-false, and_from, false≢true}
 use Rattle.std.proofs.lemmas.List.{append-nil, length-append}
 use Rattle.std.proofs.lemmas.List.Folds.{list_all-append}
 use Rattle.std.proofs.lemmas.Option.{same_Some}
 use Rattle.pp_model.specs.declared.report.Report.{Report}
 use Rattle.pp_model.specs.declared.report.BaseKind.{BaseKind}
-use Rattle.pp_model.specs.Changes.{where_true}
 use Rattle.pp_options.specs.declared.format.Format.{Format as ReportFormat}
 use Rattle.pp_options.specs.declared.format.Format.TheVariants as formats
 use Rattle.pp_options.specs.declared.item.Item.{Item}
@@ -19,7 +18,6 @@ use Rattle.pp_options.specs.declared.name.OptionName.{OptionName}
 use Rattle.pp_options.specs.declared.name.OptionName.TheVariants as names
 use Rattle.pp_options.specs.declared.origin.Origin.{Origin}
 use Rattle.pp_options.specs.declared.origin.Origin.TheVariants as origin
-use Rattle.pp_options.specs.declared.plan.Plan.{Plan}
 use Rattle.pp_options.specs.declared.usage.UsageFault.{UsageFault}
 use Rattle.pp_options.specs.declared.usage.UsageKind.{UsageKind}
 use Rattle.pp_options.specs.declared.usage.UsageKind.TheVariants.{BadValue, MissingValue, NoSource, BaseTwice, NormalizeAlone}
@@ -33,8 +31,7 @@ use Rattle.pp_options.specs.Spelling.{is_option, name_part, value_part, takes_ne
 use Rattle.pp_options.specs.Values.{is_number, truth_of, whole_number}
 use Rattle.pp_options.specs.Words.{Entry, Request, entry, entries, sources, ends_options, request, normalized_at, is_full, count_fault, has_other_kind, item_fault, asked_fault, entry_fault, first_entry_fault, late_fault, unless_fault, words}
 use Rattle.pp_options.proofs.RequestLemmas.{request_push, noted_push}
-use Rattle.pp_engine.specs.Plans.{is_same, same_equal, is_within, is_plan, plan_of}
-use Rattle.pp_engine.proofs.PlanLemmas.{same_from}
+use Rattle.pp_engine.specs.Plans.{IsPlan}
 
 -- ---- one word
 
@@ -178,7 +175,7 @@ entries_fair at (word ∷ next ∷ ws) = next_fair (ends_options word) (takes_ne
 record IsSound (r : Request) (normalized : Option ℕ) : Type 0 where
   few : length r.origins + length r.bases ≤ 256
   fair : list_all is_fair r.origins ≡ true
-  kinds : is_same (is_some r.base_kind) (nat_lt 0 (length r.bases)) ≡ true
+  kinds : is_some r.base_kind ≡ nat_lt 0 (length r.bases)
   patterned : has_pattern r.report ≡ true
   noted : r.normalize ≡ true → is_some normalized ≡ true
 
@@ -212,7 +209,7 @@ more_base r n kind path s none =
     record {
       few = omega (arith, room r none, one_more);
       fair = s.fair;
-      kinds = same_from _ _ (some_or r.base_kind kind ∙ sym (lt-ltb 0 (length (r.bases ++ path ∷ [])) (omega (arith, one_more))));
+      kinds = some_or r.base_kind kind ∙ sym (lt-ltb 0 (length (r.bases ++ path ∷ [])) (omega (arith, one_more)));
       patterned = s.patterned;
       noted = s.noted;
     }
@@ -263,42 +260,36 @@ nothing_asked = record { few = omega arith; fair = refl; kinds = refl; patterned
 -- without a late fault there is an origin, and a base where the sources are normalized
 not_late : (some based normalize : Bool) (n : Option ℕ) (count : ℕ) → (normalize ≡ true → is_some n ≡ true)
     → (if not some then Some (word_fault NoSource (count + 1)) else if normalize && not based then option_map (word_fault NormalizeAlone) n else None) ≡ None
-    → (some ≡ true) × (is_within normalize based ≡ true)
+    → (some ≡ true) × (normalize ≡ true → based ≡ true)
 not_late false based normalize n count noted none = absurd (cc)
-not_late true true true n count noted none = (refl, refl)
-not_late true true false n count noted none = (refl, refl)
-not_late true false false n count noted none = (refl, refl)
+not_late true true normalize n count noted none = (refl, λ on. refl)
+not_late true false false n count noted none = (refl, λ on. absurd (false≢true on))
 not_late true false true None count noted none = absurd (false≢true (noted refl))
 not_late true false true (Some at) count noted none = absurd (cc)
 
-fits : (count : ℕ) (r : Request) (n : Option ℕ) → IsSound r n → late_fault count r n ≡ None → is_plan r ≡ true
+fits : (count : ℕ) (r : Request) (n : Option ℕ) → IsSound r n → late_fault count r n ≡ None → IsPlan r
 fits count r n s none =
     let complete = not_late (nat_lt 0 (length r.origins)) (nat_lt 0 (length r.bases)) r.normalize n count s.noted none in
-    and_from _ _ complete.0
-    (and_from _ _ (le-leb _ _ s.few)
-    (and_from _ _ s.fair
-    (and_from _ _ s.kinds
-    (and_from _ _ (ap (is_within r.normalize) (same_equal _ _ s.kinds) ∙ complete.1) s.patterned))))
-
-some_through : {A : Type 0} (b : Bool) (value : b ≡ true → A) → b ≡ true → is_some (where_true b (λ e. Some (value e)) None) ≡ true
-some_through true value e = refl
-some_through false value e = absurd (cc)
-
-plan_made : (r : Request) → is_plan r ≡ true → is_some (plan_of r) ≡ true
-unfolding plan_of
-plan_made r e = some_through (is_plan r) _ e
+    record {
+      some_origin = ltb-true _ _ complete.0;
+      few = s.few;
+      fair = s.fair;
+      kind_with_bases = s.kinds;
+      normalized_by_bases = λ on. s.kinds ∙ complete.1 on;
+      patterned = s.patterned;
+    }
 
 faultless_request : (fault : Option UsageFault) (q r : Request) → unless_fault fault q ≡ Ok r → (fault ≡ None) × (q ≡ r)
 faultless_request None q r is = (refl, cc)
 faultless_request (Some fault) q r is = absurd (cc)
 
--- What words ask for is a plan.
-pub words_planned : (ws : List (List ℕ)) (r : Request) → words ws ≡ Ok r → is_some (plan_of r) ≡ true
+-- What words ask for keeps what each plan keeps.
+pub words_fit : (ws : List (List ℕ)) (r : Request) → words ws ≡ Ok r → IsPlan r
 unfolding words
-words_planned ws r is =
+words_fit ws r is =
     let es = entries 1 ws in
     let late = late_fault (length ws) (request es) (normalized_at es) in
     let (none, asked) = faultless_request (option_or (first_entry_fault [] es) late) (request es) r is in
     let faultless = or_none (first_entry_fault [] es) late none in
     let sound : IsSound (request es) (normalized_at es) = all_entries [] es nothing_asked (entries_fair 1 ws) faultless.0 in
-    plan_made r (subst (λ (q : Request). is_plan q ≡ true) asked (fits (length ws) (request es) (normalized_at es) sound faultless.1))
+    subst IsPlan asked (fits (length ws) (request es) (normalized_at es) sound faultless.1)
