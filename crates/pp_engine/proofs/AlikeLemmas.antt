@@ -41,7 +41,7 @@ use Rattle.pp_pattern.specs.Report.{Finds}
 use Rattle.pp_engine.specs.declared.ending.Cause.{Cause}
 use Rattle.pp_engine.specs.Alike.{DifferAt, is_within_limits, after_loading, RunAlike}
 use Rattle.pp_engine.specs.Session.{serve_loaded, perform}
-use Rattle.pp_engine.proofs.AskQuiet.{only_asking, only_load}
+use Rattle.pp_pattern.proofs.AskQuiet.{only_asking, only_load}
 use Rattle.pp_engine.proofs.Courses.{only_looks, joined, rest_of, course_both}
 use Rattle.pp_engine.proofs.LoadQuiet.{only_next, only_base, only_all, only_plan, load_looks}
 use Rattle.pp_engine.proofs.Performing.{plan_performed}
