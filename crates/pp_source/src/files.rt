@@ -19,16 +19,16 @@ use std::alloc::Global;
 
 /// The sources of files, each of which is read once.
 #[derive(Drop)]
-pub struct Sources<'a> {
+pub struct Sources<'a, 's> {
     /// The files, in the order of the reads.
     pub files: IndexSet<&'a [u8]>,
     /// The source of each, cut into lines, in the same order.
-    pub sources: Vec<SplitSource<'a>>,
+    pub sources: Vec<SplitSource<'s>>,
 }
 
-impl<'a> Sources<'a> {
+impl<'s> Sources<'_, 's> {
     /// The source of the file, where it was looked for.
-    pub fn find(&self, file: &[u8]) -> Option<&SplitSource<'a>>
+    pub fn find(&self, file: &[u8]) -> Option<&SplitSource<'s>>
         ensures { unwrap_or (option_map (λ s. s.now.source.now) result) sources.NotFound
             ≡ source_in self.now file.now }
     {

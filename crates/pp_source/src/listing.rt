@@ -148,7 +148,7 @@ fn list_lines<D: Desk>(
 fn lines_text(
     alloc: Global,
     listing: &Listing<'_>,
-    sources: &Sources<'_>,
+    sources: &Sources<'_, '_>,
     lines: &[FoundLine<'_>],
 ) -> Result<Text, Memory>
     requires lines { All (IsLineIn listing.now) lines.now }

@@ -27,7 +27,7 @@ use std::alloc::Global;
 pub fn write_routines(
     alloc: Global,
     listing: &Listing<'_>,
-    sources: &Sources<'_>,
+    sources: &Sources<'_, '_>,
     lines: &[FoundLine<'_>],
     out: &mut Text,
 ) -> Result<(), Memory>
@@ -50,7 +50,7 @@ pub fn write_routines(
 fn write_found(
     alloc: Global,
     listing: &Listing<'_>,
-    sources: &Sources<'_>,
+    sources: &Sources<'_, '_>,
     lines: &[FoundLine<'_>],
     out: &mut Text,
 ) -> Result<(), Memory>
