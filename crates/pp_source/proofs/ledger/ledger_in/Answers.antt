@@ -1,8 +1,8 @@
 use Rattle.std.proofs.Common.{◌≡◌, ap, sym, subst, length, ◌∙◌}
 use Rattle.pp_model.specs.declared.config.Config.{Config}
 use Rattle.pp_model.specs.declared.profile.Profile.{Profile}
-use Rattle.pp_tags.specs.TagFilters.{filter_in_force}
 use Rattle.pp_count.specs.Counted.{report_frames}
+use Rattle.pp_count.specs.Filters.{AreFilters}
 use Rattle.pp_count.specs.Rising.{AreRisingBetween}
 use Rattle.pp_count.specs.Seeing.{HoldsFilters, filtered_from}
 use Rattle.pp_count.proofs.Based.{chosen_few, chosen_fits}
@@ -13,15 +13,17 @@ use Rattle.pp_source.proofs.ledger.ledger_in.Goals as goal
 pub ledger_by-requires-clause-sound : goal.ledger_by-requires-clause-sound
 ledger_by-requires-clause-sound c =
     let filters = c.filters.ensures in
+    let by : AreFilters c.args.survey.now.l.now.profile c.args.survey.now.v.now (by_lines c.args.survey.now.config.now) c.filters.result.now =
     record {
-      filters = record {
-        focus = filters.focus ∙ ap (λ (x : Config). filter_in_force x.tagfocus) (sym c.requires.lines);
-        ignore = filters.ignore ∙ ap (λ (x : Config). filter_in_force x.tagignore) (sym c.requires.lines);
-        focus_tags = filters.focus_tags;
-        ignore_tags = filters.ignore_tags;
-        tables = filters.tables;
-        reach = filters.reach;
-      };
+      focus = filters.focus;
+      ignore = filters.ignore;
+      focus_tags = filters.focus_tags;
+      ignore_tags = filters.ignore_tags;
+      tables = filters.tables;
+      reach = filters.reach;
+    } in
+    record {
+      filters = subst (λ (x : Config). AreFilters c.args.survey.now.l.now.profile c.args.survey.now.v.now x c.filters.result.now) (sym c.requires.lines) by;
       verdicts = c.args.survey.now.can.verdicts;
       table = c.requires.table;
       few_kept = tt;
