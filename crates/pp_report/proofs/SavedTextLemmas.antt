@@ -20,6 +20,7 @@ use Rattle.pp_model.specs.declared.report.Report.TheVariants as reports
 use Rattle.pp_model.specs.Conditions.{IsColumnOf}
 use Rattle.pp_model.specs.Finders.{Finders}
 use Rattle.pp_model.specs.Lookup.{text_of}
+use Rattle.pp_model.specs.ReportFacts.{is_counted}
 use Rattle.pp_model.specs.Rules.{NoRuleFails}
 use Rattle.pp_model.specs.Sizes.{IsCountable}
 use Rattle.pp_units.specs.Shown.{Shown}
@@ -43,7 +44,7 @@ use Rattle.pp_report.specs.Reports.{Reported, finish, finish_on, report_script, 
 use Rattle.pp_report.specs.SavedReports.{IsPlain, IsSavedOf, NamesNoKey, ReportAlike, reads_figures, saved_by}
 use Rattle.pp_report.specs.SavedText.{AllTaken, IsProtoBy, IsProtoOf, IsSavedText, OnText, ReportsAlike, outcome_over, report_figures}
 use Rattle.pp_report.specs.Tagged.{basis_of}
-use Rattle.pp_report.proofs.PreparingLemmas.{showing_counts}
+use Rattle.pp_report.proofs.PreparingLemmas.{showing_counts, uncounted_comments}
 use Rattle.pp_report.proofs.SavedLemmas.{figures_are, plain_basis, saved_reports, types_are}
 use Rattle.pp_report.proofs.Taken.{GivesTaken, gives_counts, taken_course, taken_then}
 use Rattle.pp_report.proofs.TypesLemmas.{same_column}
@@ -140,8 +141,13 @@ made_at_once finds l reports.Table config reads s = absurd (false≢true reads)
 made_at_once finds l reports.Compare config reads s = absurd (false≢true reads)
 
 module _ (finds : Finds) (l : Loaded) (report : Report) (config : Config) (reads : reads_figures report ≡ true) where
-  not_comments : report ≡ reports.Comments → ⊥
-  not_comments is = false≢true (sym (ap reads_figures is) ∙ reads)
+  -- comments read no figures, so the report is counted
+  counted : is_counted report ≡ true
+  counted = by (is_counted report) refl
+    where
+      by : (yes : Bool) → is_counted report ≡ yes → is_counted report ≡ true
+      by true is = is
+      by false is = absurd (false≢true (sym (ap reads_figures (uncounted_comments report is)) ∙ reads))
 
   abbrev over : Loaded
   over = basis_of report l config
@@ -161,7 +167,7 @@ module _ (finds : Finds) (l : Loaded) (report : Report) (config : Config) (reads
       let settled : Settled = settled_of finds over report config s in
       taken_then (prepare finds l report config) (report_settled finds l report config) (Ok settled) (reported_with settled.notes x)
       (subst (λ k. GivesTaken (go_on (prepare_showing finds over report config) k) (Ok settled)) (sym known)
-      (subst (λ script. GivesTaken script (Ok settled)) (sym (showing_counts finds over report config s not_comments)) (gives_counts finds over report config s)))
+      (subst (λ script. GivesTaken script (Ok settled)) (sym (showing_counts finds over report config s counted)) (gives_counts finds over report config s)))
       (taken_then (finish finds l report config s) (λ outcome. Give (reported_with settled.notes outcome)) x (reported_with settled.notes x) made refl)
 
   module _ (files : FileMap) (answers : List Answer) (taken : AllTaken answers) where

@@ -111,10 +111,10 @@ fn prepare_showing<R: Threads + Sync, D: Desk, G: Gate>(
     ensures counted { IfOk result
         (λ answer. IfOk answer (IsCounted D.finds l.now report.now config.now shows)) }
 {
-    match report {
-        Report::Comments => Ok(Ok(uncounted(alloc, shows))),
-        _ => prepare_counts(rt, alloc, l, report, config, shows, desk, gate),
+    if !report.is_counted() {
+        return Ok(Ok(uncounted(alloc, shows)));
     }
+    prepare_counts(rt, alloc, l, report, config, shows, desk, gate)
 }
 
 fn uncounted(alloc: Global, shows: Shows) -> Prepared
