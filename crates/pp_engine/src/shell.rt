@@ -18,11 +18,11 @@ ghost use Rattle.pp_engine.specs.declared.ending.Outcome.TheVariants as outcomes
 use crate::ending::Outcome;
 use crate::message::{input_too_long_line, line_fault_line};
 use crate::reporting::report_on;
-use crate::resources::Resources;
 use pp_base::{Gate, Memory, Text};
 use pp_desk::{Desk, InputLine, Stop};
 use pp_model::{Config, Loaded};
 use pp_options::{SHELL_HELP, write_options};
+use pp_report::Resources;
 use pp_shell::{Command, LineFault, LineRefusal, read_line};
 use std::alloc::Global;
 use std::thread::Threads;

@@ -1,60 +1,48 @@
 //! The texts of the reports for other programs.
 ghost use Rattle.std.specs.Prelude.{◌≡◌, IfOk};
 ghost use Rattle.pp_model.specs.Finders.{Finders};
-ghost use Rattle.pp_count.specs.Counted.{CanCount, IsCountedOf};
 ghost use Rattle.pp_count.specs.Seeing.{HoldsFilters};
 ghost use Rattle.pp_graph.specs.Trim.{node_limit};
 ghost use Rattle.pp_export.specs.Folded.{folded_text};
 ghost use Rattle.pp_export.specs.Table.{exact_table};
 ghost use Rattle.pp_report.specs.Heads.{unit_text};
 
-use crate::prepared::Counts;
 use crate::shows::unit_text;
 use crate::texts::limit_of;
 use pp_base::{Memory, Text};
 use pp_calltree::CallTree;
+use pp_count::Survey;
 use pp_export::{write_folded, write_table};
 use pp_graph::rank_all;
-use pp_model::{Config, Loaded};
 use std::alloc::Global;
 
 /// The folded report: a line for each path from the root.
-pub fn folded(
-    alloc: Global,
-    l: &Loaded,
-    config: &Config,
-    column: Option<u32>,
-    counts: &Counts,
-) -> Result<Text, Memory>
-    requires can { CanCount l.now.profile counts.now.verdicts config.now column }
-    requires counted { IsCountedOf l.now counts.now.verdicts config.now column counts.now.counted }
-    ensures { (f : Finders) → HoldsFilters l.now counts.now.verdicts config.now f →
-        IfOk result (λ text. text ≡ folded_text l.now.profile f config.now column) }
+pub fn folded(alloc: Global, survey: &Survey<'_>) -> Result<Text, Memory>
+    ensures { (f : Finders) →
+        HoldsFilters survey.now.l.now survey.now.v.now survey.now.config.now f →
+        IfOk result (λ text. text ≡ folded_text survey.now.l.now.profile f survey.now.config.now
+        survey.now.column) }
 {
-    let tree = CallTree::build(alloc, l, &counts.verdicts, &counts.counted, config, column)?;
+    let s = survey;
+    let tree = CallTree::build(alloc, s.l, s.v, s.counted, s.config, s.column)?;
     let mut text = Text::new(alloc);
-    write_folded(alloc, l, &tree, &mut text)?;
+    write_folded(alloc, s.l, &tree, &mut text)?;
     Ok(text)
 }
 
 /// The table report, whose keys have no limit of their own.
-pub fn table(
-    alloc: Global,
-    l: &Loaded,
-    config: &Config,
-    column: Option<u32>,
-    counts: &Counts,
-) -> Result<Text, Memory>
-    requires can { CanCount l.now.profile counts.now.verdicts config.now column }
-    requires counted { IsCountedOf l.now counts.now.verdicts config.now column counts.now.counted }
-    ensures { (f : Finders) → HoldsFilters l.now counts.now.verdicts config.now f →
-        IfOk result (λ text. text ≡ exact_table l.now.profile f config.now column
-        (node_limit config.now.nodecount 0) (unit_text l.now.profile column)) }
+pub fn table(alloc: Global, survey: &Survey<'_>) -> Result<Text, Memory>
+    ensures { (f : Finders) →
+        HoldsFilters survey.now.l.now survey.now.v.now survey.now.config.now f →
+        IfOk result (λ text. text ≡ exact_table survey.now.l.now.profile f survey.now.config.now
+        survey.now.column (node_limit survey.now.config.now.nodecount 0)
+        (unit_text survey.now.l.now.profile survey.now.column)) }
 {
-    let limit = limit_of(config, 0);
-    let ranked = rank_all(alloc, l, &counts.counted, config, limit)?;
-    let unit = unit_text(l.profile.get(), column);
+    let (l, counted) = (survey.l, survey.counted);
+    let limit = limit_of(survey.config, 0);
+    let ranked = rank_all(alloc, l, counted, survey.config, limit)?;
+    let unit = unit_text(l.profile.get(), survey.column);
     let mut text = Text::new(alloc);
-    write_table(alloc, l, &counts.counted, &ranked, unit, &mut text)?;
+    write_table(alloc, l, counted, &ranked, unit, &mut text)?;
     Ok(text)
 }

@@ -8,6 +8,6 @@ use Rattle.pp_report.proofs.texts.tree.Goals as goal
 pub returns : goal.returns
 returns g c = λ f holds.
     made_text c.write_tree.new.out c.new-text.result _ c.new-text.ensures
-    (c.in_ok-write_tree.ensures.ok c.args.counts.now.verdicts c.args.config.now c.args.column c.limit_of-limit.result f c.requires.counted
+    (c.in_ok-write_tree.ensures.ok c.args.subject.now.survey.v.now c.args.subject.now.survey.config.now c.args.subject.now.survey.column c.limit_of-limit.result f c.args.subject.now.survey.counts
     c.in_ok-trimmed.ensures holds)
-    ∙ ap (λ limit. tree_text c.args.l.now.profile f c.args.config.now c.args.column limit (facts c.args.head.now)) c.limit_of-limit.ensures
+    ∙ ap (λ limit. tree_text c.args.subject.now.survey.l.now.profile f c.args.subject.now.survey.config.now c.args.subject.now.survey.column limit (facts c.args.subject.now.head.now)) c.limit_of-limit.ensures
