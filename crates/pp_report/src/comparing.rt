@@ -22,11 +22,10 @@ pub fn compare<R: Threads + Sync, G: Gate>(
     with: &Resources<'_, R, G>,
     subject: &Subject<'_, '_>,
 ) -> Result<Result<Text, ReportRefusal>, Memory>
-    ensures { (f : Finders) →
-        HoldsFilters subject.now.survey.l.now subject.now.survey.v.now
-        subject.now.survey.config.now f →
-        IfOk result (λ outcome. outcome ≡ compare_outcome subject.now.survey.l.now.profile f
-        subject.now.survey.config.now subject.now.survey.column (facts subject.now.head.now)) }
+    ensures { let s = subject.now.survey in (f : Finders) →
+        HoldsFilters s.l.now s.v.now s.config.now f →
+        IfOk result (λ outcome. outcome ≡ compare_outcome s.l.now.profile f s.config.now s.column
+        (facts subject.now.head.now)) }
 {
     if !has_base(subject.survey.l) {
         return Ok(Err(ReportRefusal::NoBase));
@@ -39,12 +38,10 @@ fn compared<R: Threads + Sync, G: Gate>(
     with: &Resources<'_, R, G>,
     subject: &Subject<'_, '_>,
 ) -> Result<Text, Memory>
-    ensures { (f : Finders) →
-        HoldsFilters subject.now.survey.l.now subject.now.survey.v.now
-        subject.now.survey.config.now f →
-        IfOk result (λ text. text ≡ compare_text subject.now.survey.l.now.profile f
-        subject.now.survey.config.now subject.now.survey.column
-        (node_limit subject.now.survey.config.now.nodecount 0) (facts subject.now.head.now)) }
+    ensures { let s = subject.now.survey in (f : Finders) →
+        HoldsFilters s.l.now s.v.now s.config.now f →
+        IfOk result (λ text. text ≡ compare_text s.l.now.profile f s.config.now s.column
+        (node_limit s.config.now.nodecount 0) (facts subject.now.head.now)) }
 {
     let survey = &subject.survey;
     let (alloc, config) = (with.alloc, survey.config);

@@ -18,10 +18,9 @@ use std::alloc::Global;
 
 /// The folded report: a line for each path from the root.
 pub fn folded(alloc: Global, survey: &Survey<'_>) -> Result<Text, Memory>
-    ensures { (f : Finders) →
-        HoldsFilters survey.now.l.now survey.now.v.now survey.now.config.now f →
-        IfOk result (λ text. text ≡ folded_text survey.now.l.now.profile f survey.now.config.now
-        survey.now.column) }
+    ensures { let s = survey.now in (f : Finders) →
+        HoldsFilters s.l.now s.v.now s.config.now f →
+        IfOk result (λ text. text ≡ folded_text s.l.now.profile f s.config.now s.column) }
 {
     let s = survey;
     let tree = CallTree::build(alloc, s.l, s.v, s.counted, s.config, s.column)?;
@@ -32,11 +31,10 @@ pub fn folded(alloc: Global, survey: &Survey<'_>) -> Result<Text, Memory>
 
 /// The table report, whose keys have no limit of their own.
 pub fn table(alloc: Global, survey: &Survey<'_>) -> Result<Text, Memory>
-    ensures { (f : Finders) →
-        HoldsFilters survey.now.l.now survey.now.v.now survey.now.config.now f →
-        IfOk result (λ text. text ≡ exact_table survey.now.l.now.profile f survey.now.config.now
-        survey.now.column (node_limit survey.now.config.now.nodecount 0)
-        (unit_text survey.now.l.now.profile survey.now.column)) }
+    ensures { let s = survey.now in (f : Finders) →
+        HoldsFilters s.l.now s.v.now s.config.now f →
+        IfOk result (λ text. text ≡ exact_table s.l.now.profile f s.config.now s.column
+        (node_limit s.config.now.nodecount 0) (unit_text s.l.now.profile s.column)) }
 {
     let (l, counted) = (survey.l, survey.counted);
     let limit = limit_of(survey.config, 0);

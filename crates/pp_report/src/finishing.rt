@@ -130,17 +130,13 @@ fn text_by<R: Threads + Sync, D: Desk, G: Gate>(
     desk: &mut D,
 ) -> Result<Result<Text, ReportRefusal>, Stop>
     requires { AreKept subject.now.survey.l.now.profile subject.now.survey.counted.now.kept }
-    ensures went { (f : Finders) →
-        HoldsFilters subject.now.survey.l.now subject.now.survey.v.now
-        subject.now.survey.config.now f →
-        Went (D.world desk.old) (D.world desk.new)
-        (text_by subject.now.survey.l.now.profile f subject.now.survey.config.now
-        subject.now.survey.column (facts subject.now.head.now) report.now) result }
-    ensures saved { (f : Finders) →
-        HoldsFilters subject.now.survey.l.now subject.now.survey.v.now
-        subject.now.survey.config.now f →
-        report.now ≡ Proto →
-        OnText result (IsProtoOf subject.now.survey.l.now.profile f subject.now.survey.config.now) }
+    ensures went { let s = subject.now.survey in (f : Finders) →
+        HoldsFilters s.l.now s.v.now s.config.now f →
+        Went (D.world desk.old) (D.world desk.new) (text_by s.l.now.profile f s.config.now s.column
+        (facts subject.now.head.now) report.now) result }
+    ensures saved { let s = subject.now.survey in (f : Finders) →
+        HoldsFilters s.l.now s.v.now s.config.now f →
+        report.now ≡ Proto → OnText result (IsProtoOf s.l.now.profile f s.config.now) }
 {
     let (alloc, survey) = (with.alloc, &subject.survey);
     match report {
@@ -165,12 +161,10 @@ fn list<D: Desk>(
     subject: &Subject<'_, '_>,
     desk: &mut D,
 ) -> Result<Result<Text, ReportRefusal>, Stop>
-    ensures { (f : Finders) →
-        HoldsFilters subject.now.survey.l.now subject.now.survey.v.now
-        subject.now.survey.config.now f →
-        Went (D.world desk.old) (D.world desk.new)
-        (list_text subject.now.survey.l.now.profile f subject.now.survey.config.now
-        subject.now.survey.column (facts subject.now.head.now)) result }
+    ensures { let s = subject.now.survey in (f : Finders) →
+        HoldsFilters s.l.now s.v.now s.config.now f →
+        Went (D.world desk.old) (D.world desk.new) (list_text s.l.now.profile f s.config.now
+        s.column (facts subject.now.head.now)) result }
 {
     let mut text = Text::new(alloc);
     let s = &subject.survey;

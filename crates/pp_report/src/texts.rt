@@ -36,12 +36,10 @@ const TREE_NODES: u32 = 80;
 
 /// The top report, whose nodes have no limit of their own.
 pub fn top(alloc: Global, subject: &Subject<'_, '_>) -> Result<Text, Memory>
-    ensures { (f : Finders) →
-        HoldsFilters subject.now.survey.l.now subject.now.survey.v.now
-        subject.now.survey.config.now f →
-        IfOk result (λ text. text ≡ top_text subject.now.survey.l.now.profile f
-        subject.now.survey.config.now subject.now.survey.column
-        (node_limit subject.now.survey.config.now.nodecount 0) (facts subject.now.head.now)) }
+    ensures { let s = subject.now.survey in (f : Finders) →
+        HoldsFilters s.l.now s.v.now s.config.now f →
+        IfOk result (λ text. text ≡ top_text s.l.now.profile f s.config.now s.column
+        (node_limit s.config.now.nodecount 0) (facts subject.now.head.now)) }
 {
     let s = &subject.survey;
     let limit = limit_of(s.config, 0);
@@ -56,12 +54,10 @@ pub fn tree<R: Threads + Sync, G: Gate>(
     with: &Resources<'_, R, G>,
     subject: &Subject<'_, '_>,
 ) -> Result<Text, Memory>
-    ensures { (f : Finders) →
-        HoldsFilters subject.now.survey.l.now subject.now.survey.v.now
-        subject.now.survey.config.now f →
-        IfOk result (λ text. text ≡ tree_text subject.now.survey.l.now.profile f
-        subject.now.survey.config.now subject.now.survey.column
-        (node_limit subject.now.survey.config.now.nodecount 80) (facts subject.now.head.now)) }
+    ensures { let s = subject.now.survey in (f : Finders) →
+        HoldsFilters s.l.now s.v.now s.config.now f →
+        IfOk result (λ text. text ≡ tree_text s.l.now.profile f s.config.now s.column
+        (node_limit s.config.now.nodecount 80) (facts subject.now.head.now)) }
 {
     let (alloc, s) = (with.alloc, &subject.survey);
     let limit = limit_of(s.config, TREE_NODES);
@@ -83,11 +79,10 @@ pub fn peek<R: Threads + Sync, G: Gate>(
     with: &Resources<'_, R, G>,
     subject: &Subject<'_, '_>,
 ) -> Result<Result<Text, ReportRefusal>, Memory>
-    ensures { (f : Finders) →
-        HoldsFilters subject.now.survey.l.now subject.now.survey.v.now
-        subject.now.survey.config.now f →
-        IfOk result (λ outcome. outcome ≡ peek_outcome subject.now.survey.l.now.profile f
-        subject.now.survey.config.now subject.now.survey.column (facts subject.now.head.now)) }
+    ensures { let s = subject.now.survey in (f : Finders) →
+        HoldsFilters s.l.now s.v.now s.config.now f →
+        IfOk result (λ outcome. outcome ≡ peek_outcome s.l.now.profile f s.config.now s.column
+        (facts subject.now.head.now)) }
 {
     let (alloc, survey) = (with.alloc, &subject.survey);
     let mut text = Text::new(alloc);
@@ -100,11 +95,10 @@ pub fn peek<R: Threads + Sync, G: Gate>(
 
 /// The traces report.
 pub fn traces(alloc: Global, subject: &Subject<'_, '_>) -> Result<Text, Memory>
-    ensures { (f : Finders) →
-        HoldsFilters subject.now.survey.l.now subject.now.survey.v.now
-        subject.now.survey.config.now f →
-        IfOk result (λ text. text ≡ traces_text subject.now.survey.l.now.profile f
-        subject.now.survey.config.now subject.now.survey.column (facts subject.now.head.now)) }
+    ensures { let s = subject.now.survey in (f : Finders) →
+        HoldsFilters s.l.now s.v.now s.config.now f →
+        IfOk result (λ text. text ≡ traces_text s.l.now.profile f s.config.now s.column
+        (facts subject.now.head.now)) }
 {
     let mut text = Text::new(alloc);
     let s = &subject.survey;
@@ -123,11 +117,10 @@ pub fn traces(alloc: Global, subject: &Subject<'_, '_>) -> Result<Text, Memory>
 
 /// The tags report.
 pub fn tags(alloc: Global, subject: &Subject<'_, '_>) -> Result<Text, Memory>
-    ensures { (f : Finders) →
-        HoldsFilters subject.now.survey.l.now subject.now.survey.v.now
-        subject.now.survey.config.now f →
-        IfOk result (λ text. text ≡ tags_text subject.now.survey.l.now.profile f
-        subject.now.survey.config.now subject.now.survey.column (facts subject.now.head.now)) }
+    ensures { let s = subject.now.survey in (f : Finders) →
+        HoldsFilters s.l.now s.v.now s.config.now f →
+        IfOk result (λ text. text ≡ tags_text s.l.now.profile f s.config.now s.column
+        (facts subject.now.head.now)) }
 {
     let mut text = Text::new(alloc);
     let s = &subject.survey;
@@ -147,9 +140,9 @@ pub fn tags(alloc: Global, subject: &Subject<'_, '_>) -> Result<Text, Memory>
 // The saved profile.
 fn saved(alloc: Global, survey: &Survey<'_>) -> Result<Compact, Memory>
     requires { AreKept survey.now.l.now.profile survey.now.counted.now.kept }
-    ensures saved { (f : Finders) →
-        HoldsFilters survey.now.l.now survey.now.v.now survey.now.config.now f →
-        IfOk result (λ q. q ≡ saved survey.now.l.now.profile f survey.now.config.now) }
+    ensures saved { let s = survey.now in (f : Finders) →
+        HoldsFilters s.l.now s.v.now s.config.now f →
+        IfOk result (λ q. q ≡ saved s.l.now.profile f s.config.now) }
     ensures lasts { IfOk result IsLasting }
     ensures starts { IfOk result (λ _.
         AllByRecursion (λ m. m.start < 2 ^ 64) survey.now.l.now.profile.mapping) }
@@ -160,10 +153,9 @@ fn saved(alloc: Global, survey: &Survey<'_>) -> Result<Compact, Memory>
 /// The raw report: the saved profile, table by table.
 pub fn raw(alloc: Global, survey: &Survey<'_>) -> Result<Text, Memory>
     requires { AreKept survey.now.l.now.profile survey.now.counted.now.kept }
-    ensures { (f : Finders) →
-        HoldsFilters survey.now.l.now survey.now.v.now survey.now.config.now f →
-        IfOk result (λ text. text
-        ≡ raw_text (saved survey.now.l.now.profile f survey.now.config.now)) }
+    ensures { let s = survey.now in (f : Finders) →
+        HoldsFilters s.l.now s.v.now s.config.now f →
+        IfOk result (λ text. text ≡ raw_text (saved s.l.now.profile f s.config.now)) }
 {
     let saved = saved(alloc, survey)?;
     let mut text = Text::new(alloc);
@@ -183,9 +175,9 @@ pub fn comments(alloc: Global, l: &Loaded) -> Result<Text, Memory>
 /// The bytes of the saved profile, which load as that profile.
 pub fn proto(alloc: Global, survey: &Survey<'_>) -> Result<Text, Memory>
     requires { AreKept survey.now.l.now.profile survey.now.counted.now.kept }
-    ensures { (f : Finders) →
-        HoldsFilters survey.now.l.now survey.now.v.now survey.now.config.now f →
-        IfOk result (IsProtoOf survey.now.l.now.profile f survey.now.config.now) }
+    ensures { let s = survey.now in (f : Finders) →
+        HoldsFilters s.l.now s.v.now s.config.now f →
+        IfOk result (IsProtoOf s.l.now.profile f s.config.now) }
 {
     // The profile keeps the table rules.
     let _profile = survey.l.profile.get();

@@ -20,11 +20,10 @@ pub fn tree_report<R: Threads + Sync, G: Gate>(
     with: &Resources<'_, R, G>,
     subject: &Subject<'_, '_>,
 ) -> Result<Text, Memory>
-    ensures { (f : Finders) →
-        HoldsFilters subject.now.survey.l.now subject.now.survey.v.now
-        subject.now.survey.config.now f →
-        IfOk result (λ text. text ≡ tree_report_text subject.now.survey.l.now.profile f
-        subject.now.survey.config.now subject.now.survey.column (facts subject.now.head.now)) }
+    ensures { let s = subject.now.survey in (f : Finders) →
+        HoldsFilters s.l.now s.v.now s.config.now f →
+        IfOk result (λ text. text ≡ tree_report_text s.l.now.profile f s.config.now s.column
+        (facts subject.now.head.now)) }
 {
     if subject.survey.config.path_tree {
         call_tree(with.alloc, subject)
@@ -35,11 +34,10 @@ pub fn tree_report<R: Threads + Sync, G: Gate>(
 
 // The nodes by their paths from the root.
 fn call_tree(alloc: Global, subject: &Subject<'_, '_>) -> Result<Text, Memory>
-    ensures { (f : Finders) →
-        HoldsFilters subject.now.survey.l.now subject.now.survey.v.now
-        subject.now.survey.config.now f →
-        IfOk result (λ text. text ≡ calltree_text subject.now.survey.l.now.profile f
-        subject.now.survey.config.now subject.now.survey.column (facts subject.now.head.now)) }
+    ensures { let s = subject.now.survey in (f : Finders) →
+        HoldsFilters s.l.now s.v.now s.config.now f →
+        IfOk result (λ text. text ≡ calltree_text s.l.now.profile f s.config.now s.column
+        (facts subject.now.head.now)) }
 {
     let s = &subject.survey;
     let tree = CallTree::build(alloc, s.l, s.v, s.counted, s.config, s.column)?;
