@@ -41,8 +41,8 @@ def constant(name):
 
 def names_in(file, table):
     """The names of a table of Named entries."""
-    found = re.search(r"static " + table + r":.*?= \[(.*?)\n\];", (SOURCES / file).read_text(), re.S)
-    return re.findall(r'name: b"([^"]*)"', found[1])
+    found = re.search(r"static " + table + r":.*?= \[(.*?)\];", (SOURCES / file).read_text(), re.S)
+    return re.findall(r'Named\(\s*b"([^"]*)"', found[1])
 
 
 def described():

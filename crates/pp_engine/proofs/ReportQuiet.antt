@@ -16,7 +16,7 @@ use Rattle.pp_count.specs.Sums.{Seen}
 use Rattle.pp_model.specs.FrameTexts.{Written}
 use Rattle.pp_pattern.specs.Report.{judge, Finds}
 use Rattle.pp_report.specs.declared.refusal.ReportRefusal.{ReportRefusal}
-use Rattle.pp_model.specs.ReportFacts.{own_pattern}
+use Rattle.pp_model.specs.ReportFacts.{own_pattern, is_counted}
 use Rattle.pp_report.specs.Patterns.{ask_patterns}
 use Rattle.pp_report.specs.Prepared.{Showing, prepare_counts, prepare_showing, showing_for, prepare_on, prepare}
 use Rattle.pp_report.specs.Reports.{list_text, text_by, finish_on, finish}
@@ -40,18 +40,11 @@ module _ (test : Step → Bool) where
 
     only_showing : (report : Report) (showing : Showing) → Only test (prepare_showing finds l report config showing)
     unfolding prepare_showing
-    only_showing reports.Comments showing = tt
-    only_showing reports.Top showing = only_counts reports.Top showing
-    only_showing reports.Tree showing = only_counts reports.Tree showing
-    only_showing (reports.Peek pattern) showing = only_counts (reports.Peek pattern) showing
-    only_showing reports.Traces showing = only_counts reports.Traces showing
-    only_showing reports.Tags showing = only_counts reports.Tags showing
-    only_showing reports.Raw showing = only_counts reports.Raw showing
-    only_showing reports.Proto showing = only_counts reports.Proto showing
-    only_showing (reports.List pattern) showing = only_counts (reports.List pattern) showing
-    only_showing reports.Folded showing = only_counts reports.Folded showing
-    only_showing reports.Table showing = only_counts reports.Table showing
-    only_showing reports.Compare showing = only_counts reports.Compare showing
+    only_showing report showing =
+        elim (is_counted report) as (λ counted. Only test (if counted then prepare_counts finds l report config showing else Give (Ok (record { showing = showing; notes = [] })))) [
+          | true ↦ only_counts report showing
+          | false ↦ tt
+        ]
 
     only_settled : (report : Report) (shows : Result Showing ReportRefusal) → Only test (go_on (prepare_showing finds l report config) shows)
     only_settled report (Ok showing) = only_showing report showing

@@ -16,11 +16,10 @@ ghost use Rattle.pp_pattern.specs.Report.{Finds};
 
 use crate::ending::Cause;
 use crate::message::locked_line;
-use crate::resources::Resources;
 use pp_base::{Gate, Text};
 use pp_desk::{Desk, Stop};
 use pp_model::{Config, Loaded, Report};
-use pp_report::{Prepared, ReportRefusal, finish, prepare, refusal_line};
+use pp_report::{Prepared, ReportRefusal, Resources, finish, prepare, refusal_line};
 use std::alloc::Global;
 use std::thread::Threads;
 
@@ -72,7 +71,7 @@ fn noted_report<R: Threads + Sync, D: Desk, G: Gate>(
     ensures { Went (D.world desk.old) (D.world desk.new)
         (noted_report D.finds l.now report.now config.now) result }
 {
-    match prepare(with.rt, with.alloc, l, report, config, desk, with.gate)? {
+    match prepare(with, l, report, config, desk)? {
         Err(refusal) => Ok(Err(refusal)),
         Ok(prepared) => note_and_finish(with, l, report, config, prepared, desk),
     }
@@ -100,9 +99,8 @@ fn note_and_finish<R: Threads + Sync, D: Desk, G: Gate>(
     ensures { Went (D.world desk.old) (D.world desk.new)
         (note_and_finish D.finds l.now report.now config.now (Ok (settled_by prepared))) result }
 {
-    let Resources { rt, alloc, gate } = with;
     desk.write_err(prepared.notes.as_slice())?;
-    finish(*rt, *alloc, l, report, config, prepared, desk, *gate)
+    finish(with, l, report, config, prepared, desk)
 }
 
 #[tactic(auto, using(pp_desk::proofs::Going::going), unfolding(crate::specs::Reporting::end_report))]

@@ -13,10 +13,10 @@ ghost use Rattle.pp_engine.specs.Validity.{is_valid};
 ghost use Rattle.pp_engine.specs.Words.{Ends, starts_shell};
 
 use crate::ending::{Cause, Ending, cause_of_stop};
-use crate::resources::Resources;
 use crate::session::session;
 use pp_base::{Files, Gate, Matcher, Sink, Source, Text};
 use pp_desk::{Desk, Objects, Stop};
+use pp_report::Resources;
 use std::alloc::Global;
 use std::thread::Threads;
 

@@ -12,13 +12,13 @@ ghost use Rattle.pp_engine.specs.declared.ending.Cause.TheVariants as causes;
 use crate::ending::Cause;
 use crate::message::usage_line;
 use crate::reporting::{end_with, report_once};
-use crate::resources::Resources;
 use crate::shell::shell;
 use pp_base::{Gate, Text};
 use pp_desk::{Desk, Stop};
 use pp_load::{LoadRefusal, load, refusal_line};
 use pp_model::{Config, Loaded, Report};
 use pp_options::{Plan, Topic, UsageFault, UsageRefusal, read_words, topic_asked, write_topic};
+use pp_report::Resources;
 use std::alloc::Global;
 use std::thread::Threads;
 

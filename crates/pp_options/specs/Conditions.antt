@@ -1,7 +1,8 @@
 -- What holds of each plan.
-use Rattle.std.specs.Prelude.{ℕ, Bool, true, ◌&&◌, length, Option, Some, None, nat_le, nat_lt}
+use Rattle.std.specs.Prelude.{ℕ, Bool, true, ◌&&◌, List, length, Option, Some, None, nat_le, nat_lt}
+use Rattle.std.specs.Option.{option_map_or}
 use Rattle.pp_model.specs.declared.report.Report.{Report}
-use Rattle.pp_model.specs.declared.report.Report.TheVariants as reports
+use Rattle.pp_model.specs.ReportFacts.{own_pattern}
 use Rattle.pp_options.specs.declared.origin.Origin.{Origin}
 use Rattle.pp_options.specs.declared.origin.Origin.TheVariants.{Path, Gen}
 
@@ -14,11 +15,9 @@ abbrev pub is_fair : Origin → Bool
 is_fair (Path path) = true
 is_fair (Gen samples) = is_fair_number samples
 
--- where the report has a pattern, the pattern isn't empty
+-- where the report has a pattern of its own, that isn't empty
 abbrev pub is_patterned : Report → Bool
-is_patterned (reports.Peek pattern) = nat_lt 0 (length pattern)
-is_patterned (reports.List pattern) = nat_lt 0 (length pattern)
-is_patterned report = true
+is_patterned report = option_map_or (λ (pattern : List ℕ). nat_lt 0 (length pattern)) (own_pattern report) true
 
 -- the same, where there is a report
 abbrev pub has_pattern : Option Report → Bool

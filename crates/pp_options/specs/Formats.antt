@@ -1,7 +1,8 @@
 -- The formats of reports.
-use Rattle.std.specs.Prelude.{ℕ, Bool, true, false, List, [], ◌∷◌, Option, codes}
+use Rattle.std.specs.Prelude.{ℕ, Bool, List, [], ◌∷◌, Option, is_some, codes}
 use Rattle.pp_model.specs.declared.report.Report.{Report}
 use Rattle.pp_model.specs.declared.report.Report.TheVariants as reports
+use Rattle.pp_model.specs.ReportFacts.{own_pattern}
 use Rattle.pp_options.specs.declared.format.Format.{Format}
 use Rattle.pp_options.specs.declared.format.Format.TheVariants.{Top, Tree, Peek, Traces, Tags, Raw, Comments, Proto, Folded, Table, Compare}
 use Rattle.pp_options.specs.declared.format.Format.TheVariants as formats
@@ -29,21 +30,6 @@ formats_by_name =
 unfoldable pub format_named : List ℕ → Option Format
 format_named name = value_named formats_by_name name
 
--- a pattern belongs to the format
-abbrev pub takes_pattern : Format → Bool
-takes_pattern Top = false
-takes_pattern Tree = false
-takes_pattern Peek = true
-takes_pattern Traces = false
-takes_pattern Tags = false
-takes_pattern Raw = false
-takes_pattern Comments = false
-takes_pattern Proto = false
-takes_pattern formats.List = true
-takes_pattern Folded = false
-takes_pattern Table = false
-takes_pattern Compare = false
-
 -- the report, of the pattern where one belongs to the format
 abbrev pub report_of : Format → List ℕ → Report
 report_of Top pattern = reports.Top
@@ -58,3 +44,7 @@ report_of formats.List pattern = reports.List pattern
 report_of Folded pattern = reports.Folded
 report_of Table pattern = reports.Table
 report_of Compare pattern = reports.Compare
+
+-- a pattern belongs to the format: its report has one of its own
+abbrev pub takes_pattern : Format → Bool
+takes_pattern format = is_some (own_pattern (report_of format []))

@@ -13,7 +13,7 @@ row name value = record { name = name; value = value }
 
 -- the row that an entry of a table in the code stands for
 abbrev pub row_of : {T : Type 0} → Named T → Row T
-row_of named = record { name = named.name.now; value = named.value }
+row_of named = record { name = named.0.now; value = named.1 }
 
 -- the value of the first row of the name
 abbrev pub value_named : {T : Type 0} → List (Row T) → List ℕ → Option T

@@ -25,58 +25,19 @@ pub enum Format {
 
 /// The formats by name. `text` and `top` are one.
 pub static FORMATS: [Named<Format>; 13] = [
-    Named {
-        name: b"text",
-        value: Format::Top,
-    },
-    Named {
-        name: b"top",
-        value: Format::Top,
-    },
-    Named {
-        name: b"tree",
-        value: Format::Tree,
-    },
-    Named {
-        name: b"traces",
-        value: Format::Traces,
-    },
-    Named {
-        name: b"tags",
-        value: Format::Tags,
-    },
-    Named {
-        name: b"raw",
-        value: Format::Raw,
-    },
-    Named {
-        name: b"comments",
-        value: Format::Comments,
-    },
-    Named {
-        name: b"proto",
-        value: Format::Proto,
-    },
-    Named {
-        name: b"peek",
-        value: Format::Peek,
-    },
-    Named {
-        name: b"list",
-        value: Format::List,
-    },
-    Named {
-        name: b"folded",
-        value: Format::Folded,
-    },
-    Named {
-        name: b"table",
-        value: Format::Table,
-    },
-    Named {
-        name: b"compare",
-        value: Format::Compare,
-    },
+    Named(b"text", Format::Top),
+    Named(b"top", Format::Top),
+    Named(b"tree", Format::Tree),
+    Named(b"traces", Format::Traces),
+    Named(b"tags", Format::Tags),
+    Named(b"raw", Format::Raw),
+    Named(b"comments", Format::Comments),
+    Named(b"proto", Format::Proto),
+    Named(b"peek", Format::Peek),
+    Named(b"list", Format::List),
+    Named(b"folded", Format::Folded),
+    Named(b"table", Format::Table),
+    Named(b"compare", Format::Compare),
 ];
 
 /// The format of the name.

@@ -16,26 +16,11 @@ pub enum Topic {
 
 /// The words that ask for a topic.
 pub static TOPICS: [Named<Topic>; 5] = [
-    Named {
-        name: b"--help",
-        value: Topic::Help,
-    },
-    Named {
-        name: b"-help",
-        value: Topic::Help,
-    },
-    Named {
-        name: b"-h",
-        value: Topic::Help,
-    },
-    Named {
-        name: b"--version",
-        value: Topic::Version,
-    },
-    Named {
-        name: b"-version",
-        value: Topic::Version,
-    },
+    Named(b"--help", Topic::Help),
+    Named(b"-help", Topic::Help),
+    Named(b"-h", Topic::Help),
+    Named(b"--version", Topic::Version),
+    Named(b"-version", Topic::Version),
 ];
 
 /// The line that tells the version.

@@ -40,9 +40,9 @@ fn put_line(config: &Config, variable: &Named<Variable>, out: &mut Text) -> Resu
     ensures ok { OnOk result (out.new ≡ out.old ++ option_line config.now (row_of variable.now)) }
     ensures err { OnErr result (Grew out.old out.new) }
 {
-    out.extend(variable.name)?;
+    out.extend(variable.0)?;
     out.extend(b"=")?;
-    put_value(config, variable.value, out)?;
+    put_value(config, variable.1, out)?;
     out.extend(b"\n")
 }
 

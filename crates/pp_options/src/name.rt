@@ -28,22 +28,10 @@ pub enum OptionName {
 
 // The names of what is neither a variable nor a choice nor a sample type nor a format.
 static OTHERS: [Named<OptionName>; 4] = [
-    Named {
-        name: b"base",
-        value: OptionName::Base(BaseKind::Base),
-    },
-    Named {
-        name: b"diff_base",
-        value: OptionName::Base(BaseKind::DiffBase),
-    },
-    Named {
-        name: b"gen",
-        value: OptionName::Gen,
-    },
-    Named {
-        name: b"normalize",
-        value: OptionName::Normalize,
-    },
+    Named(b"base", OptionName::Base(BaseKind::Base)),
+    Named(b"diff_base", OptionName::Base(BaseKind::DiffBase)),
+    Named(b"gen", OptionName::Gen),
+    Named(b"normalize", OptionName::Normalize),
 ];
 
 /// The choice of the name: an order or a granularity.

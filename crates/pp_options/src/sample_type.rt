@@ -17,30 +17,12 @@ pub enum SampleType {
 
 /// The words that select them. The word of `delay` is `total_delay`.
 pub static SAMPLE_TYPES: [Named<SampleType>; 6] = [
-    Named {
-        name: b"inuse_space",
-        value: SampleType::InuseSpace,
-    },
-    Named {
-        name: b"inuse_objects",
-        value: SampleType::InuseObjects,
-    },
-    Named {
-        name: b"alloc_space",
-        value: SampleType::AllocSpace,
-    },
-    Named {
-        name: b"alloc_objects",
-        value: SampleType::AllocObjects,
-    },
-    Named {
-        name: b"contentions",
-        value: SampleType::Contentions,
-    },
-    Named {
-        name: b"total_delay",
-        value: SampleType::Delay,
-    },
+    Named(b"inuse_space", SampleType::InuseSpace),
+    Named(b"inuse_objects", SampleType::InuseObjects),
+    Named(b"alloc_space", SampleType::AllocSpace),
+    Named(b"alloc_objects", SampleType::AllocObjects),
+    Named(b"contentions", SampleType::Contentions),
+    Named(b"total_delay", SampleType::Delay),
 ];
 
 /// The sample type that the word selects.

@@ -7,81 +7,27 @@ use crate::text::is;
 use pp_model::{Grain, Sort};
 use pp_units::number_within;
 
-static SORTS: [Named<Sort>; 2] = [
-    Named {
-        name: b"flat",
-        value: Sort::Flat,
-    },
-    Named {
-        name: b"cum",
-        value: Sort::Cum,
-    },
-];
+static SORTS: [Named<Sort>; 2] = [Named(b"flat", Sort::Flat), Named(b"cum", Sort::Cum)];
 
 static GRAINS: [Named<Grain>; 5] = [
-    Named {
-        name: b"functions",
-        value: Grain::Functions,
-    },
-    Named {
-        name: b"filefunctions",
-        value: Grain::FileFunctions,
-    },
-    Named {
-        name: b"files",
-        value: Grain::Files,
-    },
-    Named {
-        name: b"lines",
-        value: Grain::Lines,
-    },
-    Named {
-        name: b"addresses",
-        value: Grain::Addresses,
-    },
+    Named(b"functions", Grain::Functions),
+    Named(b"filefunctions", Grain::FileFunctions),
+    Named(b"files", Grain::Files),
+    Named(b"lines", Grain::Lines),
+    Named(b"addresses", Grain::Addresses),
 ];
 
 static TRUTHS: [Named<bool>; 10] = [
-    Named {
-        name: b"true",
-        value: true,
-    },
-    Named {
-        name: b"t",
-        value: true,
-    },
-    Named {
-        name: b"yes",
-        value: true,
-    },
-    Named {
-        name: b"y",
-        value: true,
-    },
-    Named {
-        name: b"1",
-        value: true,
-    },
-    Named {
-        name: b"false",
-        value: false,
-    },
-    Named {
-        name: b"f",
-        value: false,
-    },
-    Named {
-        name: b"no",
-        value: false,
-    },
-    Named {
-        name: b"n",
-        value: false,
-    },
-    Named {
-        name: b"0",
-        value: false,
-    },
+    Named(b"true", true),
+    Named(b"t", true),
+    Named(b"yes", true),
+    Named(b"y", true),
+    Named(b"1", true),
+    Named(b"false", false),
+    Named(b"f", false),
+    Named(b"no", false),
+    Named(b"n", false),
+    Named(b"0", false),
 ];
 
 /// The order of the name: `flat` or `cum`.

@@ -57,114 +57,42 @@ pub enum Variable {
 
 /// The variables, in the order in which they are listed.
 pub static VARIABLES: [Named<Variable>; 27] = [
-    Named {
-        name: b"sort",
-        value: Variable::Sort,
-    },
-    Named {
-        name: b"granularity",
-        value: Variable::Granularity,
-    },
-    Named {
-        name: b"noinlines",
-        value: Variable::Flag(FlagVariable::Noinlines),
-    },
-    Named {
-        name: b"showcolumns",
-        value: Variable::Flag(FlagVariable::Showcolumns),
-    },
-    Named {
-        name: b"path_tree",
-        value: Variable::Flag(FlagVariable::PathTree),
-    },
-    Named {
-        name: b"nodecount",
-        value: Variable::Nodecount,
-    },
-    Named {
-        name: b"nodefraction",
-        value: Variable::Fraction(FractionVariable::Nodefraction),
-    },
-    Named {
-        name: b"edgefraction",
-        value: Variable::Fraction(FractionVariable::Edgefraction),
-    },
-    Named {
-        name: b"focus",
-        value: Variable::Text(TextVariable::Focus),
-    },
-    Named {
-        name: b"ignore",
-        value: Variable::Text(TextVariable::Ignore),
-    },
-    Named {
-        name: b"show",
-        value: Variable::Text(TextVariable::Show),
-    },
-    Named {
-        name: b"hide",
-        value: Variable::Text(TextVariable::Hide),
-    },
-    Named {
-        name: b"show_from",
-        value: Variable::Text(TextVariable::ShowFrom),
-    },
-    Named {
-        name: b"prune_from",
-        value: Variable::Text(TextVariable::PruneFrom),
-    },
-    Named {
-        name: b"tagfocus",
-        value: Variable::Text(TextVariable::Tagfocus),
-    },
-    Named {
-        name: b"tagignore",
-        value: Variable::Text(TextVariable::Tagignore),
-    },
-    Named {
-        name: b"tagshow",
-        value: Variable::Text(TextVariable::Tagshow),
-    },
-    Named {
-        name: b"taghide",
-        value: Variable::Text(TextVariable::Taghide),
-    },
-    Named {
-        name: b"tagroot",
-        value: Variable::Text(TextVariable::Tagroot),
-    },
-    Named {
-        name: b"tagleaf",
-        value: Variable::Text(TextVariable::Tagleaf),
-    },
-    Named {
-        name: b"sample_index",
-        value: Variable::Text(TextVariable::SampleIndex),
-    },
-    Named {
-        name: b"unit",
-        value: Variable::Text(TextVariable::Unit),
-    },
-    Named {
-        name: b"relative_percentages",
-        value: Variable::Flag(FlagVariable::RelativePercentages),
-    },
-    Named {
-        name: b"divide_by",
-        value: Variable::DivideBy,
-    },
-    Named {
-        name: b"source_path",
-        value: Variable::Text(TextVariable::SourcePath),
-    },
-    Named {
-        name: b"trim_path",
-        value: Variable::Text(TextVariable::TrimPath),
-    },
-    Named {
-        name: b"workers",
-        value: Variable::Workers,
-    },
+    Named(b"sort", Variable::Sort),
+    Named(b"granularity", Variable::Granularity),
+    Named(b"noinlines", Variable::Flag(FlagVariable::Noinlines)),
+    Named(b"showcolumns", Variable::Flag(FlagVariable::Showcolumns)),
+    Named(b"path_tree", Variable::Flag(FlagVariable::PathTree)),
+    Named(b"nodecount", Variable::Nodecount),
+    Named(
+        b"nodefraction",
+        Variable::Fraction(FractionVariable::Nodefraction),
+    ),
+    Named(
+        b"edgefraction",
+        Variable::Fraction(FractionVariable::Edgefraction),
+    ),
+    Named(b"focus", Variable::Text(TextVariable::Focus)),
+    Named(b"ignore", Variable::Text(TextVariable::Ignore)),
+    Named(b"show", Variable::Text(TextVariable::Show)),
+    Named(b"hide", Variable::Text(TextVariable::Hide)),
+    Named(b"show_from", Variable::Text(TextVariable::ShowFrom)),
+    Named(b"prune_from", Variable::Text(TextVariable::PruneFrom)),
+    Named(b"tagfocus", Variable::Text(TextVariable::Tagfocus)),
+    Named(b"tagignore", Variable::Text(TextVariable::Tagignore)),
+    Named(b"tagshow", Variable::Text(TextVariable::Tagshow)),
+    Named(b"taghide", Variable::Text(TextVariable::Taghide)),
+    Named(b"tagroot", Variable::Text(TextVariable::Tagroot)),
+    Named(b"tagleaf", Variable::Text(TextVariable::Tagleaf)),
+    Named(b"sample_index", Variable::Text(TextVariable::SampleIndex)),
+    Named(b"unit", Variable::Text(TextVariable::Unit)),
+    Named(
+        b"relative_percentages",
+        Variable::Flag(FlagVariable::RelativePercentages),
+    ),
+    Named(b"divide_by", Variable::DivideBy),
+    Named(b"source_path", Variable::Text(TextVariable::SourcePath)),
+    Named(b"trim_path", Variable::Text(TextVariable::TrimPath)),
+    Named(b"workers", Variable::Workers),
 ];
 
 /// The variable of the name.

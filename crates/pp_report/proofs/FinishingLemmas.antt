@@ -35,6 +35,7 @@ use Rattle.pp_report.specs.declared.refusal.ReportRefusal.TheVariants.{NoMatch}
 use Rattle.pp_report.specs.Patterns.{report_finders}
 use Rattle.pp_report.specs.Prepared.{Showing, AreCounts, HasCounts}
 use Rattle.pp_report.specs.Reports.{of_found, finish_on, finish_by, text_by}
+use Rattle.pp_report.proofs.PreparingLemmas.{uncounted_comments}
 
 -- one of two totals
 either_small : (base all : ℕ) → base < 2 ^ 63 → all < 2 ^ 63 → total_by base all < 2 ^ 63
@@ -129,9 +130,9 @@ module _ (finds : Finds) (l : Loaded) (report : Report) (config : Config) where
       → AreCounts finds l report config column counts
   counts_at column all counts is has = subst (λ c. HasCounts finds l report config column c) is has
 
-  -- nothing is counted for comments alone
+  -- a report without counts is one of comments
   pub is_comments : (column : Option ℕ) (all : Option Counts) → all ≡ None → HasCounts finds l report config column all → report ≡ reports.Comments
-  is_comments column all is has = subst (λ c. HasCounts finds l report config column c) is has
+  is_comments column all is has = uncounted_comments report (subst (λ c. HasCounts finds l report config column c) is has)
 
 -- the text of a saved profile
 pub finish_proto : (w : World) (p : Profile) (f : Finders) (config : Config) (column : Option ℕ) (h : Facts) (report : Report) (text : List ℕ) → report ≡ reports.Proto

@@ -1,6 +1,7 @@
 -- How the stages went that settle what a report is made of.
-use Rattle.std.proofs.Common.{◌≡◌, ℕ, List, [], ◌++◌, append-nil, refl, sym, ap, ◌∙◌, subst}
-use Rattle.std.specs.Prelude.{Result, Ok, Err, Option, None, unwrap_or}
+use Rattle.std.proofs.Common.{◌≡◌, ℕ, Bool, true, false, List, [], ◌++◌, append-nil, refl, sym, ap, ◌∙◌, subst}
+use Rattle.std.specs.Prelude.{Result, Ok, Err, Option, None, unwrap_or, if◌then◌else◌}
+use Rattle.std.proofs.lemmas.Bool.{true≢false}
 use Rattle.pp_base.specs.Front.{IsFront}
 use Rattle.pp_desk.specs.declared.stop.Stop.{Stop}
 use Rattle.pp_desk.specs.declared.stop.Stop.TheVariants as stops
@@ -23,7 +24,7 @@ use Rattle.pp_report.specs.declared.prepared.Prepared.{Prepared}
 use Rattle.pp_report.specs.declared.refusal.ReportRefusal.{ReportRefusal}
 use Rattle.pp_report.specs.declared.shows.Shows.{Shows}
 use Rattle.pp_report.specs.Notes.{notes_by}
-use Rattle.pp_model.specs.ReportFacts.{own_pattern}
+use Rattle.pp_model.specs.ReportFacts.{own_pattern, is_counted}
 use Rattle.pp_report.specs.Patterns.{report_finders, ask_patterns}
 use Rattle.pp_report.specs.Prepared.{Settled, Showing, showing, settled_by, settled_of, notes_of, answered, prepare_on, prepare_counts, prepare_showing, IsCounted, IsCountedBy, IsCountedOver, HasCounts, IsPrepared, showing_for}
 use Rattle.pp_report.specs.Tagged.{basis_of}
@@ -74,10 +75,10 @@ front_same : (a b : List ℕ) → a ≡ b → IsFront a b
 front_same a b same = ([], sym same ∙ sym (append-nil a))
 
 -- what was counted
-pub is_counted : (finds : Finds) (l : Loaded) (report : Report) (config : Config) (known : Shows) (v : Verdicts)
+pub all_counted : (finds : Finds) (l : Loaded) (report : Report) (config : Config) (known : Shows) (v : Verdicts)
     → AreVerdictsOf finds config (own_pattern report) l v → IsCompact l.profile → IsCountable l.profile → IsColumnOf l.profile known.column
     → (prepared : Prepared) → IsCountedBy l config known v prepared → IsCounted finds l report config known prepared
-is_counted finds l report config known v are compact countable below prepared counted = record {
+all_counted finds l report config known v are compact countable below prepared counted = record {
   shows_that = ap (λ (p : Prepared). p.shows) counted.are;
   has_counts = subst (λ counts. HasCounts finds l report config known.column counts) (sym (ap (λ (p : Prepared). p.counts) counted.are))
       (record {
@@ -91,11 +92,11 @@ is_counted finds l report config known v are compact countable below prepared co
 }
 
 -- what was not counted
-pub is_uncounted : (finds : Finds) (l : Loaded) (report : Report) (config : Config) (known : Shows) (prepared : Prepared)
-    → report ≡ reports.Comments → prepared ≡ record { notes = []; shows = known; counts = None; tagged = None } → IsCounted finds l report config known prepared
-is_uncounted finds l report config known prepared comments is = record {
+pub none_counted : (finds : Finds) (l : Loaded) (report : Report) (config : Config) (known : Shows) (prepared : Prepared)
+    → is_counted report ≡ false → prepared ≡ record { notes = []; shows = known; counts = None; tagged = None } → IsCounted finds l report config known prepared
+none_counted finds l report config known prepared uncounted is = record {
   shows_that = ap (λ (p : Prepared). p.shows) is;
-  has_counts = subst (λ counts. HasCounts finds l report config known.column counts) (sym (ap (λ (p : Prepared). p.counts) is)) comments;
+  has_counts = subst (λ counts. HasCounts finds l report config known.column counts) (sym (ap (λ (p : Prepared). p.counts) is)) uncounted;
   notes_front =
       let all = notes_of finds l report config in
       (all, ap (λ (p : Prepared). p.notes ++ all) (sym is));
@@ -142,33 +143,38 @@ is_prepared finds l report config known prepared shows over = record {
   };
 }
 
-module _ (finds : Finds) (l : Loaded) (config : Config) (known : Shows) (w : World) where
-  -- a comments report asks for nothing
-  pub showing_comments : (prepared : Prepared) → prepared ≡ record { notes = []; shows = known; counts = None; tagged = None }
-      → Went w w (prepare_showing finds l reports.Comments config (showing known)) (answered (Ok (Ok prepared)))
-  unfolding prepare_showing
-  showing_comments prepared is =
-      subst (λ p. Went {T = Result Settled ReportRefusal} w w (Give (Ok (record { showing = showing known; notes = [] }))) (answered (Ok (Ok p)))) (sym is)
-      (asking_gives w (record { showing = showing known; notes = [] }))
-
--- each other report does
-pub showing_counts : (finds : Finds) (l : Loaded) (report : Report) (config : Config) (s : Showing)
-    → (report ≡ reports.Comments → ⊥) → prepare_showing finds l report config s ≡ prepare_counts finds l report config s
-unfolding prepare_showing
-showing_counts finds l reports.Top config s other = refl
-showing_counts finds l reports.Tree config s other = refl
-showing_counts finds l (reports.Peek pattern) config s other = refl
-showing_counts finds l reports.Traces config s other = refl
-showing_counts finds l reports.Tags config s other = refl
-showing_counts finds l reports.Raw config s other = refl
-showing_counts finds l reports.Comments config s other = absurd (other refl)
-showing_counts finds l reports.Proto config s other = refl
-showing_counts finds l (reports.List pattern) config s other = refl
-showing_counts finds l reports.Folded config s other = refl
-showing_counts finds l reports.Table config s other = refl
-showing_counts finds l reports.Compare config s other = refl
+-- of all reports comments alone isn't counted
+pub uncounted_comments : (report : Report) → is_counted report ≡ false → report ≡ reports.Comments
+uncounted_comments reports.Top uncounted = absurd (true≢false uncounted)
+uncounted_comments reports.Tree uncounted = absurd (true≢false uncounted)
+uncounted_comments (reports.Peek pattern) uncounted = absurd (true≢false uncounted)
+uncounted_comments reports.Traces uncounted = absurd (true≢false uncounted)
+uncounted_comments reports.Tags uncounted = absurd (true≢false uncounted)
+uncounted_comments reports.Raw uncounted = absurd (true≢false uncounted)
+uncounted_comments reports.Comments uncounted = refl
+uncounted_comments reports.Proto uncounted = absurd (true≢false uncounted)
+uncounted_comments (reports.List pattern) uncounted = absurd (true≢false uncounted)
+uncounted_comments reports.Folded uncounted = absurd (true≢false uncounted)
+uncounted_comments reports.Table uncounted = absurd (true≢false uncounted)
+uncounted_comments reports.Compare uncounted = absurd (true≢false uncounted)
 
 module _ (finds : Finds) (l : Loaded) (report : Report) (config : Config) where
+  -- a report that isn't counted asks for nothing
+  pub showing_uncounted : (known : Shows) (w : World) (prepared : Prepared) → is_counted report ≡ false
+      → prepared ≡ record { notes = []; shows = known; counts = None; tagged = None }
+      → Went w w (prepare_showing finds l report config (showing known)) (answered (Ok (Ok prepared)))
+  unfolding prepare_showing
+  showing_uncounted known w prepared uncounted is =
+      let settled : Settled = record { showing = showing known; notes = [] } in
+      subst (λ (counted : Bool). Went {T = Result Settled ReportRefusal} w w (if counted then prepare_counts finds l report config (showing known) else Give (Ok settled)) (answered (Ok (Ok prepared)))) (sym uncounted)
+      (subst (λ p. Went {T = Result Settled ReportRefusal} w w (Give (Ok settled)) (answered (Ok (Ok p)))) (sym is) (asking_gives w settled))
+
+  -- one that is asks for its patterns
+  pub showing_counts : (s : Showing) → is_counted report ≡ true → prepare_showing finds l report config s ≡ prepare_counts finds l report config s
+  unfolding prepare_showing
+  showing_counts s counted =
+      ap (λ (yes : Bool). if yes then prepare_counts finds l report config s else Give (Ok (record { showing = s; notes = [] }))) counted
+
   -- it is known what the report shows
   pub prepare_shown : (a b : World) (s : Showing) (answer : Result (Result Settled ReportRefusal) Stop) → Ok s ≡ showing_for report l.profile config
       → Went a b (prepare_showing finds l report config s) answer → Went a b (prepare_on finds l report config) answer

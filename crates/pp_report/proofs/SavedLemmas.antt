@@ -136,35 +136,54 @@ module _ (finds : Finds) (l r : Loaded) (report : Report) (config : Config) (can
     found_same : has_own_match r.profile g (unfiltered config) column ≡ has_own_match l.profile f config column
     found_same = texts_are.found
 
--- each report that reads figures alone
-text_same : (finds : Finds) (l r : Loaded) (report : Report) (config : Config) (can : CanSave l.profile config) (is : IsSavedOf finds l config r) → config.path_tree ≡ false
-    → reads_figures report ≡ true → (showing : Showing) → IsColumnOf l.profile showing.column
-    → finish_on finds r report (unfiltered config) showing ≡ finish_on finds l report config showing
-unfolding finish_on text_by
-text_same finds l r reports.Top config can is by_keys reads s within = λ i. Give (Ok (top_same finds l r reports.Top config can is s.column within s.wanted (node_limit config.nodecount 0) i))
-text_same finds l r reports.Tree config can is by_keys reads s within =
-    let q : Profile = r.profile in
-    let d : Config = unfiltered config in
-    let p : Profile = l.profile in
-    let f : Finders = report_finders finds l reports.Tree config in
-    let g : Finders = report_finders finds r reports.Tree d in
-    let h : Facts = report_head p f config s.column s.wanted in
-    let k : Facts = report_head q g d s.column s.wanted in
-    (λ i. Give (Ok (if by_keys i then calltree_text q g d s.column k else tree_text q g d s.column (node_limit config.nodecount 80) k)))
-    ∙ (λ i. Give (Ok (tree_same finds l r reports.Tree config can is s.column within s.wanted (node_limit config.nodecount 80) i)))
-    ∙ (λ i. Give (Ok (if sym by_keys i then calltree_text p f config s.column h else tree_text p f config s.column (node_limit config.nodecount 80) h)))
-text_same finds l r (reports.Peek pattern) config can is by_keys reads s within =
-    λ i. Give (if found_same finds l r (reports.Peek pattern) config can is s.column within s.wanted i
-    then Ok (peek_same finds l r (reports.Peek pattern) config can is s.column within s.wanted i) else Err NoMatch)
-text_same finds l r reports.Traces config can is by_keys reads s within = absurd (false≢true reads)
-text_same finds l r reports.Tags config can is by_keys reads s within = absurd (false≢true reads)
-text_same finds l r reports.Raw config can is by_keys reads s within = absurd (false≢true reads)
-text_same finds l r reports.Comments config can is by_keys reads s within = absurd (false≢true reads)
-text_same finds l r reports.Proto config can is by_keys reads s within = absurd (false≢true reads)
-text_same finds l r (reports.List pattern) config can is by_keys reads s within = absurd (false≢true reads)
-text_same finds l r reports.Folded config can is by_keys reads s within = absurd (false≢true reads)
-text_same finds l r reports.Table config can is by_keys reads s within = absurd (false≢true reads)
-text_same finds l r reports.Compare config can is by_keys reads s within = absurd (false≢true reads)
+-- what holds of each report that reads figures alone
+pub on_figures : (P : Report → Type 0) → P reports.Top → P reports.Tree → ((pattern : List ℕ) → P (reports.Peek pattern))
+    → (report : Report) → reads_figures report ≡ true → P report
+on_figures P top tree peek reports.Top reads = top
+on_figures P top tree peek reports.Tree reads = tree
+on_figures P top tree peek (reports.Peek pattern) reads = peek pattern
+on_figures P top tree peek reports.Traces reads = absurd (false≢true reads)
+on_figures P top tree peek reports.Tags reads = absurd (false≢true reads)
+on_figures P top tree peek reports.Raw reads = absurd (false≢true reads)
+on_figures P top tree peek reports.Comments reads = absurd (false≢true reads)
+on_figures P top tree peek reports.Proto reads = absurd (false≢true reads)
+on_figures P top tree peek (reports.List pattern) reads = absurd (false≢true reads)
+on_figures P top tree peek reports.Folded reads = absurd (false≢true reads)
+on_figures P top tree peek reports.Table reads = absurd (false≢true reads)
+on_figures P top tree peek reports.Compare reads = absurd (false≢true reads)
+
+module _ (finds : Finds) (l r : Loaded) (config : Config) (by_keys : config.path_tree ≡ false) (s : Showing) (within : IsColumnOf l.profile s.column)
+    (can : CanSave l.profile config) (is : IsSavedOf finds l config r) where
+  -- the report comes to the same text
+  abbrev IsSame : Report → Type 0
+  IsSame report = finish_on finds r report (unfiltered config) s ≡ finish_on finds l report config s
+
+  top_is : IsSame reports.Top
+  unfolding finish_on text_by
+  top_is = λ i. Give (Ok (top_same finds l r reports.Top config can is s.column within s.wanted (node_limit config.nodecount 0) i))
+
+  tree_is : IsSame reports.Tree
+  unfolding finish_on text_by
+  tree_is =
+      let q : Profile = r.profile in
+      let d : Config = unfiltered config in
+      let p : Profile = l.profile in
+      let f : Finders = report_finders finds l reports.Tree config in
+      let g : Finders = report_finders finds r reports.Tree d in
+      let h : Facts = report_head p f config s.column s.wanted in
+      let k : Facts = report_head q g d s.column s.wanted in
+      (λ i. Give (Ok (if by_keys i then calltree_text q g d s.column k else tree_text q g d s.column (node_limit config.nodecount 80) k)))
+      ∙ (λ i. Give (Ok (tree_same finds l r reports.Tree config can is s.column within s.wanted (node_limit config.nodecount 80) i)))
+      ∙ (λ i. Give (Ok (if sym by_keys i then calltree_text p f config s.column h else tree_text p f config s.column (node_limit config.nodecount 80) h)))
+
+  peek_is : (pattern : List ℕ) → IsSame (reports.Peek pattern)
+  unfolding finish_on text_by
+  peek_is pattern =
+      λ i. Give (if found_same finds l r (reports.Peek pattern) config can is s.column within s.wanted i
+      then Ok (peek_same finds l r (reports.Peek pattern) config can is s.column within s.wanted i) else Err NoMatch)
+
+  text_same : (report : Report) → reads_figures report ≡ true → IsSame report
+  text_same report reads = on_figures IsSame top_is tree_is peek_is report reads
 
 -- shows what the configuration shows, filtered or not
 unfiltered_shows : (report : Report) (p : Profile) (config : Config) → reads_figures report ≡ true → showing_for report p (unfiltered config) ≡ showing_for report p config
@@ -177,6 +196,6 @@ saved_reports finds l r report config reads can plain is = record {
   comes_to = λ showing within.
       ap (λ (x : Loaded). finish_on finds x report (unfiltered config) showing)
       (plain_basis report r (unfiltered config) (record { roots = plain.keyless.roots; leaves = plain.keyless.leaves }))
-      ∙ text_same finds l r report config can is plain.path_tree reads showing within
+      ∙ text_same finds l r config plain.path_tree showing within can is report reads
       ∙ ap (λ (x : Loaded). finish_on finds x report config showing) (sym (plain_basis report l config plain.keyless));
 }

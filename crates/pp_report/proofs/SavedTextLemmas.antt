@@ -5,7 +5,7 @@ use Rattle.std.specs.List.{AllByRecursion, list_all, prefix_len}
 use Rattle.std.specs.Char.{is_ascii_digit}
 use Rattle.std.specs.Option.{MatchOption}
 use Rattle.std.specs.Str.Parse.{digits_value}
-use Rattle.std.proofs.lemmas.Bool.{false≢true, ltb-true, eqb-false}
+use Rattle.std.proofs.lemmas.Bool.{ltb-true, eqb-false}
 use Rattle.std.proofs.lemmas.Option.{none-some, same_Some}
 use Rattle.pp_base.specs.FileMap.{FileMap}
 use Rattle.pp_base.specs.Judges.{Answer}
@@ -20,6 +20,7 @@ use Rattle.pp_model.specs.declared.report.Report.TheVariants as reports
 use Rattle.pp_model.specs.Conditions.{IsColumnOf}
 use Rattle.pp_model.specs.Finders.{Finders}
 use Rattle.pp_model.specs.Lookup.{text_of}
+use Rattle.pp_model.specs.ReportFacts.{is_counted}
 use Rattle.pp_model.specs.Rules.{NoRuleFails}
 use Rattle.pp_model.specs.Sizes.{IsCountable}
 use Rattle.pp_units.specs.Shown.{Shown}
@@ -44,7 +45,7 @@ use Rattle.pp_report.specs.SavedReports.{IsPlain, IsSavedOf, NamesNoKey, ReportA
 use Rattle.pp_report.specs.SavedText.{AllTaken, IsProtoBy, IsProtoOf, IsSavedText, OnText, ReportsAlike, outcome_over, report_figures}
 use Rattle.pp_report.specs.Tagged.{basis_of}
 use Rattle.pp_report.proofs.PreparingLemmas.{showing_counts}
-use Rattle.pp_report.proofs.SavedLemmas.{figures_are, plain_basis, saved_reports, types_are}
+use Rattle.pp_report.proofs.SavedLemmas.{figures_are, on_figures, plain_basis, saved_reports, types_are}
 use Rattle.pp_report.proofs.Taken.{GivesTaken, gives_counts, taken_course, taken_then}
 use Rattle.pp_report.proofs.TypesLemmas.{same_column}
 
@@ -107,18 +108,7 @@ module _ (p : Profile) where
 
     -- what a report shows that reads figures
     showing_bound : (report : Report) → reads_figures report ≡ true → showing_for report p config ≡ Ok s → IsColumnOf p s.column
-    showing_bound reports.Top reads is = values_bound is
-    showing_bound reports.Tree reads is = values_bound is
-    showing_bound (reports.Peek pattern) reads is = values_bound is
-    showing_bound reports.Traces reads is = absurd (false≢true reads)
-    showing_bound reports.Tags reads is = absurd (false≢true reads)
-    showing_bound reports.Raw reads is = absurd (false≢true reads)
-    showing_bound reports.Comments reads is = absurd (false≢true reads)
-    showing_bound reports.Proto reads is = absurd (false≢true reads)
-    showing_bound (reports.List pattern) reads is = absurd (false≢true reads)
-    showing_bound reports.Folded reads is = absurd (false≢true reads)
-    showing_bound reports.Table reads is = absurd (false≢true reads)
-    showing_bound reports.Compare reads is = absurd (false≢true reads)
+    showing_bound report reads = on_figures (λ r. showing_for r p config ≡ Ok s → IsColumnOf p s.column) values_bound values_bound (λ pattern. values_bound) report reads
 
 -- ---- what a report comes to that reads figures, where no pattern is refused
 
@@ -126,22 +116,12 @@ module _ (p : Profile) where
 made_at_once : (finds : Finds) (l : Loaded) (report : Report) (config : Config) → reads_figures report ≡ true → (s : Showing)
     → (x : Result (List ℕ) ReportRefusal) × GivesTaken (finish finds l report config s) x
 unfolding finish_on text_by
-made_at_once finds l reports.Top config reads s = (_, refl)
-made_at_once finds l reports.Tree config reads s = (_, refl)
-made_at_once finds l (reports.Peek pattern) config reads s = (_, refl)
-made_at_once finds l reports.Traces config reads s = absurd (false≢true reads)
-made_at_once finds l reports.Tags config reads s = absurd (false≢true reads)
-made_at_once finds l reports.Raw config reads s = absurd (false≢true reads)
-made_at_once finds l reports.Comments config reads s = absurd (false≢true reads)
-made_at_once finds l reports.Proto config reads s = absurd (false≢true reads)
-made_at_once finds l (reports.List pattern) config reads s = absurd (false≢true reads)
-made_at_once finds l reports.Folded config reads s = absurd (false≢true reads)
-made_at_once finds l reports.Table config reads s = absurd (false≢true reads)
-made_at_once finds l reports.Compare config reads s = absurd (false≢true reads)
+made_at_once finds l report config reads s =
+    on_figures (λ r. (x : Result (List ℕ) ReportRefusal) × GivesTaken (finish finds l r config s) x) (_, refl) (_, refl) (λ pattern. (_, refl)) report reads
 
 module _ (finds : Finds) (l : Loaded) (report : Report) (config : Config) (reads : reads_figures report ≡ true) where
-  not_comments : report ≡ reports.Comments → ⊥
-  not_comments is = false≢true (sym (ap reads_figures is) ∙ reads)
+  counted : is_counted report ≡ true
+  counted = on_figures (λ r. is_counted r ≡ true) refl refl (λ pattern. refl) report reads
 
   abbrev over : Loaded
   over = basis_of report l config
@@ -161,7 +141,7 @@ module _ (finds : Finds) (l : Loaded) (report : Report) (config : Config) (reads
       let settled : Settled = settled_of finds over report config s in
       taken_then (prepare finds l report config) (report_settled finds l report config) (Ok settled) (reported_with settled.notes x)
       (subst (λ k. GivesTaken (go_on (prepare_showing finds over report config) k) (Ok settled)) (sym known)
-      (subst (λ script. GivesTaken script (Ok settled)) (sym (showing_counts finds over report config s not_comments)) (gives_counts finds over report config s)))
+      (subst (λ script. GivesTaken script (Ok settled)) (sym (showing_counts finds over report config s counted)) (gives_counts finds over report config s)))
       (taken_then (finish finds l report config s) (λ outcome. Give (reported_with settled.notes outcome)) x (reported_with settled.notes x) made refl)
 
   module _ (files : FileMap) (answers : List Answer) (taken : AllTaken answers) where

@@ -1,5 +1,5 @@
 -- What is settled before the text of a report is made: what it shows, what it asks for, and its notes.
-use Rattle.std.specs.Prelude.{◌≡◌, ℕ, List, [], Option, Some, None, Result, Ok, Err, option_map, unwrap_or, if◌then◌else◌}
+use Rattle.std.specs.Prelude.{◌≡◌, ℕ, false, List, [], Option, Some, None, Result, Ok, Err, option_map, unwrap_or, if◌then◌else◌}
 use Rattle.pp_base.specs.Front.{IsFront}
 use Rattle.pp_desk.specs.declared.stop.Stop.{Stop}
 use Rattle.pp_desk.specs.Asking.{Asking, ◌>>=◌, go_on}
@@ -8,9 +8,8 @@ use Rattle.pp_model.specs.declared.config.Config.{Config}
 use Rattle.pp_model.specs.declared.loaded.Loaded.{Loaded}
 use Rattle.pp_model.specs.declared.profile.Profile.{Profile}
 use Rattle.pp_model.specs.declared.report.Report.{Report}
-use Rattle.pp_model.specs.declared.report.Report.TheVariants as reports
 use Rattle.pp_model.specs.declared.verdicts.Verdicts.{Verdicts}
-use Rattle.pp_model.specs.ReportFacts.{shows_values}
+use Rattle.pp_model.specs.ReportFacts.{shows_values, is_counted}
 use Rattle.pp_pattern.specs.Report.{Finds}
 use Rattle.pp_units.specs.Shown.{Shown, shown}
 use Rattle.pp_count.specs.declared.counted.Counted.{Counted}
@@ -68,11 +67,11 @@ prepare_counts finds l report config showing = do
   _ ← ask_patterns finds l report config
   Give (Ok (settled_of finds l report config showing))
 
--- The same of each report but comments, which asks for none and has no notes.
+-- The same where the report is counted. One that isn't asks for none and has no notes.
 unfoldable pub prepare_showing : Finds → Loaded → Report → Config → Showing → Asking ReportRefusal Settled
-prepare_showing finds l reports.Comments config showing =
-    Give (Ok (record { showing = showing; notes = [] }))
-prepare_showing finds l report config showing = prepare_counts finds l report config showing
+prepare_showing finds l report config showing =
+    if is_counted report then prepare_counts finds l report config showing
+    else Give (Ok (record { showing = showing; notes = [] }))
 
 -- What is done before the text of a report is made that is made of this profile. No pattern is asked of one that is
 -- refused for its column or its unit.
@@ -105,9 +104,9 @@ pub record AreCounts (finds : Finds) (l : Loaded) (report : Report) (config : Co
   pub can : CanCount l.profile counts.verdicts config shown_column
   pub are : IsCountedOf l counts.verdicts config shown_column counts.counted
 
--- samples are counted for each report but comments
+-- there are counts where the report is counted
 abbrev pub HasCounts : Finds → Loaded → Report → Config → Option ℕ → Option Counts → Type 0
-HasCounts finds l report config column None = report ≡ reports.Comments
+HasCounts finds l report config column None = is_counted report ≡ false
 HasCounts finds l report config column (Some counts) = AreCounts finds l report config column counts
 
 -- All is settled for the text of the report that is made of this profile.

@@ -19,7 +19,15 @@ abbrev pub reads_figures : Report → Bool
 reads_figures reports.Top = true
 reads_figures reports.Tree = true
 reads_figures (reports.Peek pattern) = true
-reads_figures report = false
+reads_figures reports.Traces = false
+reads_figures reports.Tags = false
+reads_figures reports.Raw = false
+reads_figures reports.Comments = false
+reads_figures reports.Proto = false
+reads_figures (reports.List pattern) = false
+reads_figures reports.Folded = false
+reads_figures reports.Table = false
+reads_figures reports.Compare = false
 
 -- the profile that a proto report writes
 abbrev pub saved_by : Finds → Loaded → Config → Profile

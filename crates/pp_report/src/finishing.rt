@@ -17,29 +17,29 @@ use crate::comparing::compare;
 use crate::exports::{folded, table};
 use crate::heads::head_of;
 use crate::prepared::{Counts, Prepared};
+use crate::resources::Resources;
 use crate::shows::Shows;
+use crate::subject::{Headed, Subject};
 use crate::texts::{comments, peek, proto, raw, tags, top, traces};
 use crate::trees::tree_report;
 use pp_base::{Gate, Text};
+use pp_count::Survey;
 use pp_desk::{Desk, Stop};
 use pp_model::{Config, Loaded, Report};
 use pp_pseudo::basis;
 use pp_source::write_list;
-use pp_units::Head;
 use std::alloc::Global;
 use std::thread::Threads;
 
 /// The text of a report that was prepared, `NoMatch` where the pattern of a peek or list report finds nothing, or
 /// `NoBase` where a compare report has no base. Only a list report reads files.
 pub fn finish<R: Threads + Sync, D: Desk, G: Gate>(
-    rt: &R,
-    alloc: Global,
+    with: &Resources<'_, R, G>,
     l: &Loaded,
     report: &Report,
     config: &Config,
     prepared: Prepared,
     desk: &mut D,
-    gate: &G,
 ) -> Result<Result<Text, ReportRefusal>, Stop>
     requires { IsPrepared D.finds l.now report.now config.now prepared }
     ensures went { Went (D.world desk.old) (D.world desk.new)
@@ -54,97 +54,131 @@ pub fn finish<R: Threads + Sync, D: Desk, G: Gate>(
         ..
     } = prepared;
     let over = basis(&tagged, l);
-    finish_on(rt, alloc, over, report, config, shows, counts, desk, gate)
+    finish_on(with, over, report, config, shows, counts, desk)
 }
 
 // The text of a report that shows this and is made of this profile.
 #[tactic(auto, using(pp_desk::proofs::Going::going), unfolding(crate::specs::Reports::finish_on))]
 fn finish_on<R: Threads + Sync, D: Desk, G: Gate>(
-    rt: &R,
-    alloc: Global,
+    with: &Resources<'_, R, G>,
     l: &Loaded,
     report: &Report,
     config: &Config,
     shows: Shows,
     counts: Option<Counts>,
     desk: &mut D,
-    gate: &G,
 ) -> Result<Result<Text, ReportRefusal>, Stop>
     requires { HasCounts D.finds l.now report.now config.now shows.column counts }
     ensures went { Went (D.world desk.old) (D.world desk.new)
         (finish_on D.finds l.now report.now config.now (showing shows)) result }
     ensures saved { report.now ≡ Proto → OnText result (IsProtoBy D.finds l.now config.now) }
 {
-    let column = shows.column;
     let Some(counts) = counts else {
-        return Ok(Ok(comments(alloc, l)?));
+        return Ok(Ok(comments(with.alloc, l)?));
     };
-    let head = head_of(alloc, l, shows, counts.counted.total)?;
-    text_by(
-        rt, alloc, l, report, config, column, &counts, &head, desk, gate,
-    )
+    let column = shows.column;
+    let head = head_of(with.alloc, l, shows, counts.counted.total)?;
+    let headed = Headed {
+        column,
+        counts,
+        head,
+    };
+    finish_counted(with, l, report, config, &headed, desk)
+}
+
+// The text of a report that has counted this.
+fn finish_counted<'x, R: Threads + Sync, D: Desk, G: Gate>(
+    with: &Resources<'_, R, G>,
+    l: &'x Loaded,
+    report: &Report,
+    config: &'x Config,
+    headed: &'x Headed,
+    desk: &mut D,
+) -> Result<Result<Text, ReportRefusal>, Stop>
+    requires can { CanCount l.now.profile headed.now.counts.verdicts config.now headed.now.column }
+    requires counted { IsCountedOf l.now headed.now.counts.verdicts config.now headed.now.column
+        headed.now.counts.counted }
+    requires kept { AreKept l.now.profile headed.now.counts.counted.kept }
+    requires small { headed.now.head.total < 2 ^ 63 }
+    ensures went { (f : Finders) → HoldsFilters l.now headed.now.counts.verdicts config.now f →
+        Went (D.world desk.old) (D.world desk.new) (text_by l.now.profile f config.now
+        headed.now.column (facts headed.now.head) report.now) result }
+    ensures saved { (f : Finders) → HoldsFilters l.now headed.now.counts.verdicts config.now f →
+        report.now ≡ Proto → OnText result (IsProtoOf l.now.profile f config.now) }
+{
+    let counts = &headed.counts;
+    let survey = Survey {
+        l,
+        v: &counts.verdicts,
+        config,
+        column: headed.column,
+        counted: &counts.counted,
+    };
+    let subject = Subject {
+        survey,
+        head: &headed.head,
+    };
+    text_by(with, report, &subject, desk)
 }
 
 // The text of a report with this head.
 #[tactic(auto, using(pp_desk::proofs::Going::going), unfolding(crate::specs::Reports::text_by))]
-fn text_by<'x, R: Threads + Sync, D: Desk, G: Gate>(
-    rt: &R,
-    alloc: Global,
-    l: &'x Loaded,
+fn text_by<R: Threads + Sync, D: Desk, G: Gate>(
+    with: &Resources<'_, R, G>,
     report: &Report,
-    config: &'x Config,
-    column: Option<u32>,
-    counts: &'x Counts,
-    head: &Head,
+    subject: &Subject<'_, '_>,
     desk: &mut D,
-    gate: &G,
 ) -> Result<Result<Text, ReportRefusal>, Stop>
-    requires can { CanCount l.now.profile counts.now.verdicts config.now column }
-    requires counted { IsCountedOf l.now counts.now.verdicts config.now column counts.now.counted }
-    requires kept { AreKept l.now.profile counts.now.counted.kept }
-    requires small { head.now.total < 2 ^ 63 }
-    ensures went { (f : Finders) → HoldsFilters l.now counts.now.verdicts config.now f →
-        Went (D.world desk.old) (D.world desk.new)
-        (text_by l.now.profile f config.now column (facts head.now) report.now) result }
-    ensures saved { (f : Finders) → HoldsFilters l.now counts.now.verdicts config.now f →
-        report.now ≡ Proto → OnText result (IsProtoOf l.now.profile f config.now) }
+    requires { AreKept subject.now.survey.l.now.profile subject.now.survey.counted.now.kept }
+    ensures went { let s = subject.now.survey in (f : Finders) →
+        HoldsFilters s.l.now s.v.now s.config.now f →
+        Went (D.world desk.old) (D.world desk.new) (text_by s.l.now.profile f s.config.now s.column
+        (facts subject.now.head.now) report.now) result }
+    ensures saved { let s = subject.now.survey in (f : Finders) →
+        HoldsFilters s.l.now s.v.now s.config.now f →
+        report.now ≡ Proto → OnText result (IsProtoOf s.l.now.profile f s.config.now) }
 {
+    let (alloc, survey) = (with.alloc, &subject.survey);
     match report {
-        Report::Top => Ok(Ok(top(alloc, l, config, column, counts, head)?)),
-        Report::Tree => Ok(Ok(tree_report(rt, alloc, l, config, column, counts, head, gate)?)),
-        Report::Peek(_) => Ok(peek(rt, alloc, l, config, column, counts, head, gate)?),
-        Report::Traces => Ok(Ok(traces(alloc, l, config, column, counts, head)?)),
-        Report::Tags => Ok(Ok(tags(alloc, l, config, column, counts, head)?)),
-        Report::Raw => Ok(Ok(raw(alloc, l, config, column, counts)?)),
-        Report::Comments => Ok(Ok(comments(alloc, l)?)),
-        Report::Proto => Ok(Ok(proto(alloc, l, config, column, counts)?)),
-        Report::List(_) => list(alloc, l, config, column, counts, head, desk),
-        Report::Folded => Ok(Ok(folded(alloc, l, config, column, counts)?)),
-        Report::Table => Ok(Ok(table(alloc, l, config, column, counts)?)),
-        Report::Compare => Ok(compare(rt, alloc, l, config, column, counts, head, gate)?),
+        Report::Top => Ok(Ok(top(alloc, subject)?)),
+        Report::Tree => Ok(Ok(tree_report(with, subject)?)),
+        Report::Peek(_) => Ok(peek(with, subject)?),
+        Report::Traces => Ok(Ok(traces(alloc, subject)?)),
+        Report::Tags => Ok(Ok(tags(alloc, subject)?)),
+        Report::Raw => Ok(Ok(raw(alloc, survey)?)),
+        Report::Comments => Ok(Ok(comments(alloc, survey.l)?)),
+        Report::Proto => Ok(Ok(proto(alloc, survey)?)),
+        Report::List(_) => list(alloc, subject, desk),
+        Report::Folded => Ok(Ok(folded(alloc, survey)?)),
+        Report::Table => Ok(Ok(table(alloc, survey)?)),
+        Report::Compare => Ok(compare(with, subject)?),
     }
 }
 
 #[tactic(auto, using(pp_desk::proofs::Going::going), unfolding(crate::specs::Reports::list_text))]
 fn list<D: Desk>(
     alloc: Global,
-    l: &Loaded,
-    config: &Config,
-    column: Option<u32>,
-    counts: &Counts,
-    head: &Head,
+    subject: &Subject<'_, '_>,
     desk: &mut D,
 ) -> Result<Result<Text, ReportRefusal>, Stop>
-    requires can { CanCount l.now.profile counts.now.verdicts config.now column }
-    requires counted { IsCountedOf l.now counts.now.verdicts config.now column counts.now.counted }
-    requires small { head.now.total < 2 ^ 63 }
-    ensures { (f : Finders) → HoldsFilters l.now counts.now.verdicts config.now f →
-        Went (D.world desk.old) (D.world desk.new)
-        (list_text l.now.profile f config.now column (facts head.now)) result }
+    ensures { let s = subject.now.survey in (f : Finders) →
+        HoldsFilters s.l.now s.v.now s.config.now f →
+        Went (D.world desk.old) (D.world desk.new) (list_text s.l.now.profile f s.config.now
+        s.column (facts subject.now.head.now)) result }
 {
     let mut text = Text::new(alloc);
-    let (v, c) = (&counts.verdicts, &counts.counted);
-    match write_list(alloc, l, v, c, config, column, head, desk, &mut text)? {
+    let s = &subject.survey;
+    match write_list(
+        alloc,
+        s.l,
+        s.v,
+        s.counted,
+        s.config,
+        s.column,
+        subject.head,
+        desk,
+        &mut text,
+    )? {
         Ok(()) => Ok(Ok(text)),
         Err(_) => Ok(Err(ReportRefusal::NoMatch)),
     }

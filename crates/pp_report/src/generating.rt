@@ -13,10 +13,10 @@ ghost use Rattle.pp_report.specs.SavedText.{OnText, IsSavedText};
 use crate::ReportRefusal;
 use crate::finishing::finish;
 use crate::preparing::prepare;
+use crate::resources::Resources;
 use pp_base::{Gate, Text};
 use pp_desk::{Desk, Stop};
 use pp_model::{Config, Loaded, Report};
-use std::alloc::Global;
 use std::thread::Threads;
 
 /// Makes a report: its text, or why there is none. Its notes are appended to `notes`, also where the answer is
@@ -37,13 +37,11 @@ use std::thread::Threads;
 /// and makes no frames from labels, where the loaded profile stays as it is when it is merged alone, none of its values
 /// is below 0, no sample carries `pprof::base` of the text `true`, and the matcher refuses no pattern.
 pub fn generate<R: Threads + Sync, D: Desk, G: Gate>(
-    rt: &R,
-    alloc: Global,
+    with: &Resources<'_, R, G>,
     l: &Loaded,
     report: &Report,
     config: &Config,
     desk: &mut D,
-    gate: &G,
     notes: &mut Text,
 ) -> Result<Result<Text, ReportRefusal>, Stop>
     requires { IsCountable l.now.profile }
@@ -58,11 +56,11 @@ pub fn generate<R: Threads + Sync, D: Desk, G: Gate>(
     ensures saved { report.now ≡ Proto → NamesNoKey config.now →
         OnText result (IsSavedText D.finds l.now config.now) }
 {
-    match prepare(rt, alloc, l, report, config, desk, gate)? {
+    match prepare(with, l, report, config, desk)? {
         Err(refusal) => Ok(Err(refusal)),
         Ok(prepared) => {
             notes.extend(prepared.notes.as_slice())?;
-            finish(rt, alloc, l, report, config, prepared, desk, gate)
+            finish(with, l, report, config, prepared, desk)
         }
     }
 }

@@ -21,7 +21,7 @@ pub struct Prepared {
     pub notes: Text,
     /// The column of values, and the unit that is asked for.
     pub shows: Shows,
-    /// None for a comments report, which counts nothing.
+    /// None where the report is not counted.
     pub counts: Option<Counts>,
     /// The profile with frames from labels, where the report is made of that one.
     pub tagged: Option<Loaded>,

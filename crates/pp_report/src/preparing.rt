@@ -11,6 +11,7 @@ use crate::ReportRefusal;
 use crate::asking::ask_patterns;
 use crate::notes::notes_by;
 use crate::prepared::{Counts, Prepared};
+use crate::resources::Resources;
 use crate::shows::{Shows, shows_for};
 use crate::tagging::tagged_of;
 use pp_base::{Gate, Memory, Text};
@@ -28,13 +29,11 @@ use std::thread::Threads;
 /// For callers that hand on the notes before the text is made, since a list report reads files for it: `prepare`, the
 /// notes, and `finish` come to what `generate` does.
 pub fn prepare<R: Threads + Sync, D: Desk, G: Gate>(
-    rt: &R,
-    alloc: Global,
+    with: &Resources<'_, R, G>,
     l: &Loaded,
     report: &Report,
     config: &Config,
     desk: &mut D,
-    gate: &G,
 ) -> Result<Result<Prepared, ReportRefusal>, Stop>
     requires { IsCountable l.now.profile }
     ensures went { Went (D.world desk.old) (D.world desk.new)
@@ -42,22 +41,20 @@ pub fn prepare<R: Threads + Sync, D: Desk, G: Gate>(
     ensures prepared { IfOk result
         (λ answer. IfOk answer (IsPrepared D.finds l.now report.now config.now)) }
 {
-    match shows_for(alloc, l, report, config)? {
-        Ok(shows) => prepare_over(rt, alloc, l, report, config, shows, desk, gate),
+    match shows_for(with.alloc, l, report, config)? {
+        Ok(shows) => prepare_over(with, l, report, config, shows, desk),
         Err(refusal) => Ok(Err(refusal)),
     }
 }
 
 // Makes the frames from labels that the report is made with, and goes on over the profile that has these.
 fn prepare_over<R: Threads + Sync, D: Desk, G: Gate>(
-    rt: &R,
-    alloc: Global,
+    with: &Resources<'_, R, G>,
     l: &Loaded,
     report: &Report,
     config: &Config,
     shows: Shows,
     desk: &mut D,
-    gate: &G,
 ) -> Result<Result<Prepared, ReportRefusal>, Stop>
     requires countable { IsCountable l.now.profile }
     requires column { IsColumnOf l.now.profile shows.column }
@@ -67,9 +64,9 @@ fn prepare_over<R: Threads + Sync, D: Desk, G: Gate>(
     ensures counted { IfOk result (λ answer. IfOk answer
         (IsCountedOver D.finds l.now (basis_of report.now l.now config.now) report.now config.now shows)) }
 {
-    let tagged = tagged_of(alloc, report, l, config)?;
+    let tagged = tagged_of(with.alloc, report, l, config)?;
     let over = basis(&tagged, l);
-    match prepare_showing(rt, alloc, over, report, config, shows, desk, gate)? {
+    match prepare_showing(with, over, report, config, shows, desk)? {
         Ok(prepared) => Ok(Ok(made_of(prepared, tagged))),
         Err(refusal) => Ok(Err(refusal)),
     }
@@ -95,14 +92,12 @@ fn made_of(prepared: Prepared, tagged: Option<Loaded>) -> Prepared
 
 // What is done before the text of a report is made that shows this.
 fn prepare_showing<R: Threads + Sync, D: Desk, G: Gate>(
-    rt: &R,
-    alloc: Global,
+    with: &Resources<'_, R, G>,
     l: &Loaded,
     report: &Report,
     config: &Config,
     shows: Shows,
     desk: &mut D,
-    gate: &G,
 ) -> Result<Result<Prepared, ReportRefusal>, Stop>
     requires countable { IsCountable l.now.profile }
     requires column { IsColumnOf l.now.profile shows.column }
@@ -111,10 +106,10 @@ fn prepare_showing<R: Threads + Sync, D: Desk, G: Gate>(
     ensures counted { IfOk result
         (λ answer. IfOk answer (IsCounted D.finds l.now report.now config.now shows)) }
 {
-    match report {
-        Report::Comments => Ok(Ok(uncounted(alloc, shows))),
-        _ => prepare_counts(rt, alloc, l, report, config, shows, desk, gate),
+    if !report.is_counted() {
+        return Ok(Ok(uncounted(with.alloc, shows)));
     }
+    prepare_counts(with, l, report, config, shows, desk)
 }
 
 fn uncounted(alloc: Global, shows: Shows) -> Prepared
@@ -130,14 +125,12 @@ fn uncounted(alloc: Global, shows: Shows) -> Prepared
 
 // Asks for the patterns, and counts the samples by what they find.
 fn prepare_counts<R: Threads + Sync, D: Desk, G: Gate>(
-    rt: &R,
-    alloc: Global,
+    with: &Resources<'_, R, G>,
     l: &Loaded,
     report: &Report,
     config: &Config,
     shows: Shows,
     desk: &mut D,
-    gate: &G,
 ) -> Result<Result<Prepared, ReportRefusal>, Stop>
     requires countable { IsCountable l.now.profile }
     requires column { IsColumnOf l.now.profile shows.column }
@@ -148,26 +141,25 @@ fn prepare_counts<R: Threads + Sync, D: Desk, G: Gate>(
 {
     // A profile's texts are distinct, so that verdicts on them tell what is found.
     let _profile = l.profile.get();
-    match ask_patterns(alloc, l, report, config, desk)? {
-        Ok(verdicts) => Ok(Ok(counted(rt, alloc, l, config, shows, verdicts, gate)?)),
+    match ask_patterns(with.alloc, l, report, config, desk)? {
+        Ok(verdicts) => Ok(Ok(counted(with, l, config, shows, verdicts)?)),
         Err(refusal) => Ok(Err(refusal)),
     }
 }
 
 // What the samples come to by these verdicts, and the notes.
 fn counted<R: Threads + Sync, G: Gate>(
-    rt: &R,
-    alloc: Global,
+    with: &Resources<'_, R, G>,
     l: &Loaded,
     config: &Config,
     shows: Shows,
     verdicts: Verdicts,
-    gate: &G,
 ) -> Result<Prepared, Memory>
     requires { CanCount l.now.profile verdicts config.now shows.column }
     ensures { IfOk result (IsCountedBy l.now config.now shows verdicts) }
 {
-    let counted = count(rt, alloc, l, &verdicts, config, shows.column, gate)?;
+    let (alloc, column) = (with.alloc, shows.column);
+    let counted = count(with.rt, alloc, l, &verdicts, config, column, with.gate)?;
     let notes = notes_by(alloc, config, counted.matched.slots.as_slice())?;
     Ok(Prepared {
         notes,

@@ -3,7 +3,6 @@ ghost use Rattle.std.specs.Prelude.{◌≡◌, ◌<◌, ◌^◌, IfOk};
 ghost use Rattle.std.specs.List.{AllByRecursion};
 ghost use Rattle.pp_model.specs.Finders.{Finders};
 ghost use Rattle.pp_units.specs.Head.{facts};
-ghost use Rattle.pp_count.specs.Counted.{CanCount, IsCountedOf};
 ghost use Rattle.pp_count.specs.Seeing.{HoldsFilters};
 ghost use Rattle.pp_graph.specs.Trim.{node_limit};
 ghost use Rattle.pp_top.specs.Top.{top_text};
@@ -18,16 +17,17 @@ ghost use Rattle.pp_report.specs.Reports.{peek_outcome};
 ghost use Rattle.pp_report.specs.SavedText.{IsProtoOf};
 
 use crate::ReportRefusal;
-use crate::prepared::Counts;
+use crate::resources::Resources;
+use crate::subject::Subject;
 use pp_base::{Gate, MatchRefusal, Memory, Text};
+use pp_count::Survey;
 use pp_dump::{saved_profile, write_raw};
-use pp_graph::{node_limit, rank, trim};
+use pp_graph::{node_limit, rank, trim_of};
 use pp_model::{Compact, Config, Loaded};
 use pp_samples::{write_comments, write_tags, write_traces};
 use pp_tables::write_profile;
 use pp_top::write_top;
-use pp_tree::{write_peek, write_tree};
-use pp_units::Head;
+use pp_tree::{write_peek_of, write_tree};
 use std::alloc::Global;
 use std::thread::Threads;
 
@@ -35,49 +35,35 @@ use std::thread::Threads;
 const TREE_NODES: u32 = 80;
 
 /// The top report, whose nodes have no limit of their own.
-pub fn top(
-    alloc: Global,
-    l: &Loaded,
-    config: &Config,
-    column: Option<u32>,
-    counts: &Counts,
-    head: &Head,
-) -> Result<Text, Memory>
-    requires can { CanCount l.now.profile counts.now.verdicts config.now column }
-    requires counted { IsCountedOf l.now counts.now.verdicts config.now column counts.now.counted }
-    ensures { (f : Finders) → HoldsFilters l.now counts.now.verdicts config.now f →
-        IfOk result (λ text. text ≡ top_text l.now.profile f config.now column
-        (node_limit config.now.nodecount 0) (facts head.now)) }
+pub fn top(alloc: Global, subject: &Subject<'_, '_>) -> Result<Text, Memory>
+    ensures { let s = subject.now.survey in (f : Finders) →
+        HoldsFilters s.l.now s.v.now s.config.now f →
+        IfOk result (λ text. text ≡ top_text s.l.now.profile f s.config.now s.column
+        (node_limit s.config.now.nodecount 0) (facts subject.now.head.now)) }
 {
-    let limit = limit_of(config, 0);
-    let ranked = rank(alloc, l, &counts.counted, config, limit)?;
+    let s = &subject.survey;
+    let limit = limit_of(s.config, 0);
+    let ranked = rank(alloc, s.l, s.counted, s.config, limit)?;
     let mut text = Text::new(alloc);
-    write_top(alloc, l, &counts.counted, &ranked, head, &mut text)?;
+    write_top(alloc, s.l, s.counted, &ranked, subject.head, &mut text)?;
     Ok(text)
 }
 
 /// The tree report.
 pub fn tree<R: Threads + Sync, G: Gate>(
-    rt: &R,
-    alloc: Global,
-    l: &Loaded,
-    config: &Config,
-    column: Option<u32>,
-    counts: &Counts,
-    head: &Head,
-    gate: &G,
+    with: &Resources<'_, R, G>,
+    subject: &Subject<'_, '_>,
 ) -> Result<Text, Memory>
-    requires can { CanCount l.now.profile counts.now.verdicts config.now column }
-    requires counted { IsCountedOf l.now counts.now.verdicts config.now column counts.now.counted }
-    ensures { (f : Finders) → HoldsFilters l.now counts.now.verdicts config.now f →
-        IfOk result (λ text. text ≡ tree_text l.now.profile f config.now column
-        (node_limit config.now.nodecount 80) (facts head.now)) }
+    ensures { let s = subject.now.survey in (f : Finders) →
+        HoldsFilters s.l.now s.v.now s.config.now f →
+        IfOk result (λ text. text ≡ tree_text s.l.now.profile f s.config.now s.column
+        (node_limit s.config.now.nodecount 80) (facts subject.now.head.now)) }
 {
-    let limit = limit_of(config, TREE_NODES);
-    let (v, c) = (&counts.verdicts, &counts.counted);
-    let trimmed = trim(rt, alloc, l, v, c, config, column, limit, gate)?;
+    let (alloc, s) = (with.alloc, &subject.survey);
+    let limit = limit_of(s.config, TREE_NODES);
+    let trimmed = trim_of(with.rt, alloc, s, limit, with.gate)?;
     let mut text = Text::new(alloc);
-    write_tree(alloc, l, c, &trimmed, head, &mut text)?;
+    write_tree(alloc, s.l, s.counted, &trimmed, subject.head, &mut text)?;
     Ok(text)
 }
 
@@ -90,24 +76,17 @@ pub fn limit_of(config: &Config, own: u32) -> u32
 
 /// The peek report, or `NoMatch` where its pattern finds nothing.
 pub fn peek<R: Threads + Sync, G: Gate>(
-    rt: &R,
-    alloc: Global,
-    l: &Loaded,
-    config: &Config,
-    column: Option<u32>,
-    counts: &Counts,
-    head: &Head,
-    gate: &G,
+    with: &Resources<'_, R, G>,
+    subject: &Subject<'_, '_>,
 ) -> Result<Result<Text, ReportRefusal>, Memory>
-    requires can { CanCount l.now.profile counts.now.verdicts config.now column }
-    requires counted { IsCountedOf l.now counts.now.verdicts config.now column counts.now.counted }
-    ensures { (f : Finders) → HoldsFilters l.now counts.now.verdicts config.now f →
-        IfOk result (λ outcome. outcome
-        ≡ peek_outcome l.now.profile f config.now column (facts head.now)) }
+    ensures { let s = subject.now.survey in (f : Finders) →
+        HoldsFilters s.l.now s.v.now s.config.now f →
+        IfOk result (λ outcome. outcome ≡ peek_outcome s.l.now.profile f s.config.now s.column
+        (facts subject.now.head.now)) }
 {
+    let (alloc, survey) = (with.alloc, &subject.survey);
     let mut text = Text::new(alloc);
-    let (v, c) = (&counts.verdicts, &counts.counted);
-    match write_peek(rt, alloc, l, v, c, config, column, head, gate, &mut text) {
+    match write_peek_of(with.rt, alloc, survey, subject.head, with.gate, &mut text) {
         Ok(()) => Ok(Ok(text)),
         Err(MatchRefusal::NoMatch) => Ok(Err(ReportRefusal::NoMatch)),
         Err(MatchRefusal::Memory) => Err(Memory),
@@ -115,81 +94,70 @@ pub fn peek<R: Threads + Sync, G: Gate>(
 }
 
 /// The traces report.
-pub fn traces(
-    alloc: Global,
-    l: &Loaded,
-    config: &Config,
-    column: Option<u32>,
-    counts: &Counts,
-    head: &Head,
-) -> Result<Text, Memory>
-    requires can { CanCount l.now.profile counts.now.verdicts config.now column }
-    requires counted { IsCountedOf l.now counts.now.verdicts config.now column counts.now.counted }
-    ensures { (f : Finders) → HoldsFilters l.now counts.now.verdicts config.now f →
-        IfOk result (λ text. text
-        ≡ traces_text l.now.profile f config.now column (facts head.now)) }
+pub fn traces(alloc: Global, subject: &Subject<'_, '_>) -> Result<Text, Memory>
+    ensures { let s = subject.now.survey in (f : Finders) →
+        HoldsFilters s.l.now s.v.now s.config.now f →
+        IfOk result (λ text. text ≡ traces_text s.l.now.profile f s.config.now s.column
+        (facts subject.now.head.now)) }
 {
     let mut text = Text::new(alloc);
-    let (v, c) = (&counts.verdicts, &counts.counted);
-    write_traces(alloc, l, v, c, config, column, head, &mut text)?;
+    let s = &subject.survey;
+    write_traces(
+        alloc,
+        s.l,
+        s.v,
+        s.counted,
+        s.config,
+        s.column,
+        subject.head,
+        &mut text,
+    )?;
     Ok(text)
 }
 
 /// The tags report.
-pub fn tags(
-    alloc: Global,
-    l: &Loaded,
-    config: &Config,
-    column: Option<u32>,
-    counts: &Counts,
-    head: &Head,
-) -> Result<Text, Memory>
-    requires can { CanCount l.now.profile counts.now.verdicts config.now column }
-    requires counted { IsCountedOf l.now counts.now.verdicts config.now column counts.now.counted }
-    ensures { (f : Finders) → HoldsFilters l.now counts.now.verdicts config.now f →
-        IfOk result (λ text. text
-        ≡ tags_text l.now.profile f config.now column (facts head.now)) }
+pub fn tags(alloc: Global, subject: &Subject<'_, '_>) -> Result<Text, Memory>
+    ensures { let s = subject.now.survey in (f : Finders) →
+        HoldsFilters s.l.now s.v.now s.config.now f →
+        IfOk result (λ text. text ≡ tags_text s.l.now.profile f s.config.now s.column
+        (facts subject.now.head.now)) }
 {
     let mut text = Text::new(alloc);
-    let (v, c) = (&counts.verdicts, &counts.counted);
-    write_tags(alloc, l, v, c, config, column, head, &mut text)?;
+    let s = &subject.survey;
+    write_tags(
+        alloc,
+        s.l,
+        s.v,
+        s.counted,
+        s.config,
+        s.column,
+        subject.head,
+        &mut text,
+    )?;
     Ok(text)
 }
 
 // The saved profile.
-fn saved(
-    alloc: Global,
-    l: &Loaded,
-    config: &Config,
-    column: Option<u32>,
-    counts: &Counts,
-) -> Result<Compact, Memory>
-    requires can { CanCount l.now.profile counts.now.verdicts config.now column }
-    requires counted { IsCountedOf l.now counts.now.verdicts config.now column counts.now.counted }
-    requires kept { AreKept l.now.profile counts.now.counted.kept }
-    ensures saved { (f : Finders) → HoldsFilters l.now counts.now.verdicts config.now f →
-        IfOk result (λ q. q ≡ saved l.now.profile f config.now) }
+fn saved(alloc: Global, survey: &Survey<'_>) -> Result<Compact, Memory>
+    requires { AreKept survey.now.l.now.profile survey.now.counted.now.kept }
+    ensures saved { let s = survey.now in (f : Finders) →
+        HoldsFilters s.l.now s.v.now s.config.now f →
+        IfOk result (λ q. q ≡ saved s.l.now.profile f s.config.now) }
     ensures lasts { IfOk result IsLasting }
-    ensures starts { IfOk result (λ _. AllByRecursion (λ m. m.start < 2 ^ 64) l.now.profile.mapping) }
+    ensures starts { IfOk result (λ _.
+        AllByRecursion (λ m. m.start < 2 ^ 64) survey.now.l.now.profile.mapping) }
 {
-    saved_profile(alloc, l, &counts.verdicts, &counts.counted)
+    saved_profile(alloc, survey.l, survey.v, survey.counted)
 }
 
 /// The raw report: the saved profile, table by table.
-pub fn raw(
-    alloc: Global,
-    l: &Loaded,
-    config: &Config,
-    column: Option<u32>,
-    counts: &Counts,
-) -> Result<Text, Memory>
-    requires can { CanCount l.now.profile counts.now.verdicts config.now column }
-    requires counted { IsCountedOf l.now counts.now.verdicts config.now column counts.now.counted }
-    requires kept { AreKept l.now.profile counts.now.counted.kept }
-    ensures { (f : Finders) → HoldsFilters l.now counts.now.verdicts config.now f →
-        IfOk result (λ text. text ≡ raw_text (saved l.now.profile f config.now)) }
+pub fn raw(alloc: Global, survey: &Survey<'_>) -> Result<Text, Memory>
+    requires { AreKept survey.now.l.now.profile survey.now.counted.now.kept }
+    ensures { let s = survey.now in (f : Finders) →
+        HoldsFilters s.l.now s.v.now s.config.now f →
+        IfOk result (λ text. text ≡ raw_text (saved s.l.now.profile f s.config.now)) }
 {
-    let saved = saved(alloc, l, config, column, counts)?;
+    let saved = saved(alloc, survey)?;
     let mut text = Text::new(alloc);
     write_raw(alloc, &saved, &mut text)?;
     Ok(text)
@@ -205,21 +173,14 @@ pub fn comments(alloc: Global, l: &Loaded) -> Result<Text, Memory>
 }
 
 /// The bytes of the saved profile, which load as that profile.
-pub fn proto(
-    alloc: Global,
-    l: &Loaded,
-    config: &Config,
-    column: Option<u32>,
-    counts: &Counts,
-) -> Result<Text, Memory>
-    requires can { CanCount l.now.profile counts.now.verdicts config.now column }
-    requires counted { IsCountedOf l.now counts.now.verdicts config.now column counts.now.counted }
-    requires kept { AreKept l.now.profile counts.now.counted.kept }
-    ensures { (f : Finders) → HoldsFilters l.now counts.now.verdicts config.now f →
-        IfOk result (IsProtoOf l.now.profile f config.now) }
+pub fn proto(alloc: Global, survey: &Survey<'_>) -> Result<Text, Memory>
+    requires { AreKept survey.now.l.now.profile survey.now.counted.now.kept }
+    ensures { let s = survey.now in (f : Finders) →
+        HoldsFilters s.l.now s.v.now s.config.now f →
+        IfOk result (IsProtoOf s.l.now.profile f s.config.now) }
 {
     // The profile keeps the table rules.
-    let _profile = l.profile.get();
-    let saved = saved(alloc, l, config, column, counts)?;
+    let _profile = survey.l.profile.get();
+    let saved = saved(alloc, survey)?;
     write_profile(alloc, saved.valid())
 }

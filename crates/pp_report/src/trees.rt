@@ -2,62 +2,46 @@
 ghost use Rattle.std.specs.Prelude.{◌≡◌, IfOk};
 ghost use Rattle.pp_model.specs.Finders.{Finders};
 ghost use Rattle.pp_units.specs.Head.{facts};
-ghost use Rattle.pp_count.specs.Counted.{CanCount, IsCountedOf};
 ghost use Rattle.pp_count.specs.Seeing.{HoldsFilters};
 ghost use Rattle.pp_calltree.specs.Text.{calltree_text};
 ghost use Rattle.pp_report.specs.Reports.{tree_report_text};
 
-use crate::prepared::Counts;
+use crate::resources::Resources;
+use crate::subject::Subject;
 use crate::texts::tree;
 use pp_base::{Gate, Memory, Text};
 use pp_calltree::{CallTree, write_calltree};
-use pp_model::{Config, Loaded};
-use pp_units::Head;
 use std::alloc::Global;
 use std::thread::Threads;
 
 /// The tree report: by paths from the root where the configuration asks for these, else each key with its callers and
 /// callees.
 pub fn tree_report<R: Threads + Sync, G: Gate>(
-    rt: &R,
-    alloc: Global,
-    l: &Loaded,
-    config: &Config,
-    column: Option<u32>,
-    counts: &Counts,
-    head: &Head,
-    gate: &G,
+    with: &Resources<'_, R, G>,
+    subject: &Subject<'_, '_>,
 ) -> Result<Text, Memory>
-    requires can { CanCount l.now.profile counts.now.verdicts config.now column }
-    requires counted { IsCountedOf l.now counts.now.verdicts config.now column counts.now.counted }
-    ensures { (f : Finders) → HoldsFilters l.now counts.now.verdicts config.now f →
-        IfOk result (λ text. text
-        ≡ tree_report_text l.now.profile f config.now column (facts head.now)) }
+    ensures { let s = subject.now.survey in (f : Finders) →
+        HoldsFilters s.l.now s.v.now s.config.now f →
+        IfOk result (λ text. text ≡ tree_report_text s.l.now.profile f s.config.now s.column
+        (facts subject.now.head.now)) }
 {
-    if config.path_tree {
-        call_tree(alloc, l, config, column, counts, head)
+    if subject.survey.config.path_tree {
+        call_tree(with.alloc, subject)
     } else {
-        tree(rt, alloc, l, config, column, counts, head, gate)
+        tree(with, subject)
     }
 }
 
 // The nodes by their paths from the root.
-fn call_tree(
-    alloc: Global,
-    l: &Loaded,
-    config: &Config,
-    column: Option<u32>,
-    counts: &Counts,
-    head: &Head,
-) -> Result<Text, Memory>
-    requires can { CanCount l.now.profile counts.now.verdicts config.now column }
-    requires counted { IsCountedOf l.now counts.now.verdicts config.now column counts.now.counted }
-    ensures { (f : Finders) → HoldsFilters l.now counts.now.verdicts config.now f →
-        IfOk result (λ text. text
-        ≡ calltree_text l.now.profile f config.now column (facts head.now)) }
+fn call_tree(alloc: Global, subject: &Subject<'_, '_>) -> Result<Text, Memory>
+    ensures { let s = subject.now.survey in (f : Finders) →
+        HoldsFilters s.l.now s.v.now s.config.now f →
+        IfOk result (λ text. text ≡ calltree_text s.l.now.profile f s.config.now s.column
+        (facts subject.now.head.now)) }
 {
-    let tree = CallTree::build(alloc, l, &counts.verdicts, &counts.counted, config, column)?;
+    let s = &subject.survey;
+    let tree = CallTree::build(alloc, s.l, s.v, s.counted, s.config, s.column)?;
     let mut text = Text::new(alloc);
-    write_calltree(alloc, l, &tree, config, head, &mut text)?;
+    write_calltree(alloc, s.l, &tree, s.config, subject.head, &mut text)?;
     Ok(text)
 }

@@ -18,30 +18,12 @@ pub enum Plain {
 
 /// The commands that take no words, by name.
 pub static PLAINS: [Named<Plain>; 6] = [
-    Named {
-        name: b"q",
-        value: Plain::Quit,
-    },
-    Named {
-        name: b"quit",
-        value: Plain::Quit,
-    },
-    Named {
-        name: b"exit",
-        value: Plain::Quit,
-    },
-    Named {
-        name: b"o",
-        value: Plain::Options,
-    },
-    Named {
-        name: b"options",
-        value: Plain::Options,
-    },
-    Named {
-        name: b"help",
-        value: Plain::Help,
-    },
+    Named(b"q", Plain::Quit),
+    Named(b"quit", Plain::Quit),
+    Named(b"exit", Plain::Quit),
+    Named(b"o", Plain::Options),
+    Named(b"options", Plain::Options),
+    Named(b"help", Plain::Help),
 ];
 
 /// The command of the name, where it takes no words.

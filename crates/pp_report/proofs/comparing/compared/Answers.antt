@@ -7,12 +7,14 @@ use Rattle.pp_report.proofs.comparing.compared.Goals as goal
 -- the ranking's numbers are those of names
 pub write_compare-requires-clause-below : goal.write_compare-requires-clause-below
 write_compare-requires-clause-below g c =
-    (c.in_ok-ranked.ensures c.args.counts.now.verdicts c.args.column c.requires.counted).below
+    let s = c.args.subject.now.survey in
+    (c.in_ok-ranked.ensures s.v.now s.column s.counts).below
 
 -- it is the whole text
 pub returns : goal.returns
 returns g c = λ f holds.
+    let s = c.args.subject.now.survey in
     made_text c.write_compare.new.out c.new-text.result _ c.new-text.ensures
     (c.in_ok-write_compare.ensures.ok c.limit_of-limit.result f
-    (c.in_ok-ranked.ensures c.args.counts.now.verdicts c.args.column c.requires.counted) holds (c.in_ok-base.ensures.sums f holds))
-    ∙ ap (λ limit. compare_text c.args.l.now.profile f c.args.config.now c.args.column limit (facts c.args.head.now)) c.limit_of-limit.ensures
+    (c.in_ok-ranked.ensures s.v.now s.column s.counts) holds (c.in_ok-base.ensures.sums f holds))
+    ∙ ap (λ limit. compare_text s.l.now.profile f s.config.now s.column limit (facts c.args.subject.now.head.now)) c.limit_of-limit.ensures

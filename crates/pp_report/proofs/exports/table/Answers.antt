@@ -8,18 +8,20 @@ use Rattle.pp_report.proofs.exports.table.Goals as goal
 -- the ranking can be written
 pub write_table-requires : goal.write_table-requires
 write_table-requires c =
-    let counted = c.requires.counted in
-    let ranked = c.in_ok-ranked.ensures c.args.counts.now.verdicts c.args.column counted in
+    let s = c.args.survey.now in
+    let counted = s.counts in
+    let ranked = c.in_ok-ranked.ensures s.v.now s.column counted in
     record { keys = counted.of_profile; fits = counted.fits; below = ranked.below; small = ranked.small }
 
 -- it is the whole text
 pub returns : goal.returns
 returns c = λ f holds.
-    let p = c.args.l.now.profile in
-    let config = c.args.config.now in
-    let unit : c.unit_text-unit.result.now ≡ unit_text p c.args.column =
-    c.unit_text-unit.ensures ∙ ap (λ (q : Profile). unit_text q c.args.column) c.get.ensures.same in
+    let s = c.args.survey.now in
+    let p = s.l.now.profile in
+    let config = s.config.now in
+    let unit : c.unit_text-unit.result.now ≡ unit_text p s.column =
+    c.unit_text-unit.ensures ∙ ap (λ (q : Profile). unit_text q s.column) c.get.ensures.same in
     made_text c.write_table.new.out c.new-text.result _ c.new-text.ensures
-    (c.in_ok-write_table.ensures.ok c.args.counts.now.verdicts config c.args.column c.limit_of-limit.result f c.requires.counted
-    (c.in_ok-ranked.ensures c.args.counts.now.verdicts c.args.column c.requires.counted) holds)
-    ∙ (λ i. exact_table p f config c.args.column (c.limit_of-limit.ensures i) (unit i))
+    (c.in_ok-write_table.ensures.ok s.v.now config s.column c.limit_of-limit.result f s.counts
+    (c.in_ok-ranked.ensures s.v.now s.column s.counts) holds)
+    ∙ (λ i. exact_table p f config s.column (c.limit_of-limit.ensures i) (unit i))

@@ -1,7 +1,7 @@
 use Rattle.std.proofs.Common.{subst}
 use Rattle.std.proofs.lemmas.Result.{err_from_is_err_and, IfOk-at_ok}
 use Rattle.pp_model.specs.Rules.{IsCompact}
-use Rattle.pp_report.proofs.PreparingLemmas.{counts_stop, counts_refused, counts_want, counts_all, is_counted}
+use Rattle.pp_report.proofs.PreparingLemmas.{counts_stop, counts_refused, counts_want, counts_all, all_counted}
 use Rattle.pp_report.proofs.preparing.prepare_counts.Goals as goal
 
 -- the patterns were stopped
@@ -26,7 +26,7 @@ returns-in_ok-counted-in-Ok-clause-went g c =
 
 pub returns-in_ok-counted-in-Ok-clause-counted : goal.returns-in_ok-counted-in-Ok-clause-counted
 returns-in_ok-counted-in-Ok-clause-counted g c =
-    is_counted g.D.Desk.finds c.args.l.now c.args.report.now c.args.config.now c.args.shows c.in-Ok.verdicts (IfOk-at_ok _ c.in-Ok.is c.in_ok-verdicts.ensures.are)
+    all_counted g.D.Desk.finds c.args.l.now c.args.report.now c.args.config.now c.args.shows c.in-Ok.verdicts (IfOk-at_ok _ c.in-Ok.is c.in_ok-verdicts.ensures.are)
     (subst IsCompact c.get-profile.ensures.same c.get-profile.ensures.compact) c.requires.countable c.requires.column _
     c.in_ok-counted-in-Ok.ensures
 

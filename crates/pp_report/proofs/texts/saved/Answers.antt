@@ -3,4 +3,4 @@ use Rattle.pp_report.proofs.texts.saved.Goals as goal
 
 -- what was saved lasts
 pub returns-clause-lasts : goal.returns-clause-lasts
-returns-clause-lasts c = lasting c.args.l.now.profile c.saved_profile.result c.saved_profile.ensures.valid c.saved_profile.ensures.again c.saved_profile.ensures.header
+returns-clause-lasts c = lasting c.args.survey.now.l.now.profile c.saved_profile.result c.saved_profile.ensures.valid c.saved_profile.ensures.again c.saved_profile.ensures.header

@@ -5,4 +5,4 @@ use Rattle.pp_report.proofs.trees.call_tree.Goals as goal
 pub returns : goal.returns
 returns c = λ f holds.
     made_text c.write_calltree.new.out c.new-text.result _ c.new-text.ensures
-    (c.in_ok-write_calltree.ensures.ok c.args.counts.now.verdicts c.args.column f c.in_ok-tree.ensures.tree holds)
+    (c.in_ok-write_calltree.ensures.ok c.args.subject.now.survey.v.now c.args.subject.now.survey.column f c.in_ok-tree.ensures.tree holds)

@@ -1,8 +1,8 @@
-//! What a session computes with.
+//! What a report is computed with.
 
 use std::alloc::Global;
 
-/// What a session computes with, apart from the outside.
+/// What a report is computed with, apart from the outside.
 #[derive(Drop)]
 pub struct Resources<'a, R, G> {
     /// The threads of the lanes.
