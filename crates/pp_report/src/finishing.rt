@@ -7,7 +7,7 @@ ghost use Rattle.pp_units.specs.Head.{facts};
 ghost use Rattle.pp_count.specs.Counted.{CanCount, IsCountedOf};
 ghost use Rattle.pp_count.specs.Seeing.{HoldsFilters};
 ghost use Rattle.pp_dump.specs.Saved.{AreKept};
-ghost use Rattle.pp_report.specs.Prepared.{showing, HasCounts, IsPrepared};
+ghost use Rattle.pp_report.specs.Prepared.{showing, AreCounts, HasCounts, IsPrepared};
 ghost use Rattle.pp_report.specs.Reports.{finish, finish_on, text_by, list_text};
 ghost use Rattle.pp_report.specs.SavedText.{OnText, IsProtoOf, IsProtoBy};
 ghost use Rattle.pp_report.specs.Tagged.{basis_of};
@@ -19,7 +19,7 @@ use crate::heads::head_of;
 use crate::prepared::{Counts, Prepared};
 use crate::resources::Resources;
 use crate::shows::Shows;
-use crate::subject::{Headed, Subject};
+use crate::subject::Subject;
 use crate::texts::{comments, peek, proto, raw, tags, top, traces};
 use crate::trees::tree_report;
 use pp_base::{Gate, Text};
@@ -27,7 +27,8 @@ use pp_count::Survey;
 use pp_desk::{Desk, Stop};
 use pp_model::{Config, Loaded, Report};
 use pp_pseudo::basis;
-use pp_source::write_list;
+use pp_source::write_list_of;
+use pp_units::Head;
 use std::alloc::Global;
 use std::thread::Threads;
 
@@ -73,52 +74,61 @@ fn finish_on<R: Threads + Sync, D: Desk, G: Gate>(
         (finish_on D.finds l.now report.now config.now (showing shows)) result }
     ensures saved { report.now ≡ Proto → OnText result (IsProtoBy D.finds l.now config.now) }
 {
-    let Some(counts) = counts else {
-        return Ok(Ok(comments(with.alloc, l)?));
-    };
-    let column = shows.column;
-    let head = head_of(with.alloc, l, shows, counts.counted.total)?;
-    let headed = Headed {
-        column,
-        counts,
-        head,
-    };
-    finish_counted(with, l, report, config, &headed, desk)
+    match counts {
+        Some(counts) => finish_counts(with, l, report, config, shows, counts, desk),
+        None => Ok(Ok(comments(with.alloc, l)?)),
+    }
 }
 
 // The text of a report that has counted this.
-fn finish_counted<'x, R: Threads + Sync, D: Desk, G: Gate>(
+fn finish_counts<R: Threads + Sync, D: Desk, G: Gate>(
+    with: &Resources<'_, R, G>,
+    l: &Loaded,
+    report: &Report,
+    config: &Config,
+    shows: Shows,
+    counts: Counts,
+    desk: &mut D,
+) -> Result<Result<Text, ReportRefusal>, Stop>
+    requires { AreCounts D.finds l.now report.now config.now shows.column counts }
+    ensures went { Went (D.world desk.old) (D.world desk.new)
+        (finish_on D.finds l.now report.now config.now (showing shows)) result }
+    ensures saved { report.now ≡ Proto → OnText result (IsProtoBy D.finds l.now config.now) }
+{
+    let column = shows.column;
+    let head = head_of(with.alloc, l, shows, counts.counted.total)?;
+    text_on(with, l, report, config, column, &counts, &head, desk)
+}
+
+// The text of a report that has counted this, under this head.
+fn text_on<'x, R: Threads + Sync, D: Desk, G: Gate>(
     with: &Resources<'_, R, G>,
     l: &'x Loaded,
     report: &Report,
     config: &'x Config,
-    headed: &'x Headed,
+    column: Option<u32>,
+    counts: &'x Counts,
+    head: &Head,
     desk: &mut D,
 ) -> Result<Result<Text, ReportRefusal>, Stop>
-    requires can { CanCount l.now.profile headed.now.counts.verdicts config.now headed.now.column }
-    requires counted { IsCountedOf l.now headed.now.counts.verdicts config.now headed.now.column
-        headed.now.counts.counted }
-    requires kept { AreKept l.now.profile headed.now.counts.counted.kept }
-    requires small { headed.now.head.total < 2 ^ 63 }
-    ensures went { (f : Finders) → HoldsFilters l.now headed.now.counts.verdicts config.now f →
-        Went (D.world desk.old) (D.world desk.new) (text_by l.now.profile f config.now
-        headed.now.column (facts headed.now.head) report.now) result }
-    ensures saved { (f : Finders) → HoldsFilters l.now headed.now.counts.verdicts config.now f →
+    requires can { CanCount l.now.profile counts.now.verdicts config.now column }
+    requires counted { IsCountedOf l.now counts.now.verdicts config.now column counts.now.counted }
+    requires kept { AreKept l.now.profile counts.now.counted.kept }
+    requires small { head.now.total < 2 ^ 63 }
+    ensures went { (f : Finders) → HoldsFilters l.now counts.now.verdicts config.now f →
+        Went (D.world desk.old) (D.world desk.new)
+        (text_by l.now.profile f config.now column (facts head.now) report.now) result }
+    ensures saved { (f : Finders) → HoldsFilters l.now counts.now.verdicts config.now f →
         report.now ≡ Proto → OnText result (IsProtoOf l.now.profile f config.now) }
 {
-    let counts = &headed.counts;
     let survey = Survey {
         l,
         v: &counts.verdicts,
         config,
-        column: headed.column,
+        column,
         counted: &counts.counted,
     };
-    let subject = Subject {
-        survey,
-        head: &headed.head,
-    };
-    text_by(with, report, &subject, desk)
+    text_by(with, report, &Subject { survey, head }, desk)
 }
 
 // The text of a report with this head.
@@ -167,18 +177,7 @@ fn list<D: Desk>(
         s.column (facts subject.now.head.now)) result }
 {
     let mut text = Text::new(alloc);
-    let s = &subject.survey;
-    match write_list(
-        alloc,
-        s.l,
-        s.v,
-        s.counted,
-        s.config,
-        s.column,
-        subject.head,
-        desk,
-        &mut text,
-    )? {
+    match write_list_of(alloc, &subject.survey, subject.head, desk, &mut text)? {
         Ok(()) => Ok(Ok(text)),
         Err(_) => Ok(Err(ReportRefusal::NoMatch)),
     }

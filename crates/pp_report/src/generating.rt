@@ -17,6 +17,7 @@ use crate::resources::Resources;
 use pp_base::{Gate, Text};
 use pp_desk::{Desk, Stop};
 use pp_model::{Config, Loaded, Report};
+use std::alloc::Global;
 use std::thread::Threads;
 
 /// Makes a report: its text, or why there is none. Its notes are appended to `notes`, also where the answer is
@@ -36,12 +37,14 @@ use std::thread::Threads;
 /// holds under each configuration with the same filters that has relative_percentages on, path_tree off and divide_by 1
 /// and makes no frames from labels, where the loaded profile stays as it is when it is merged alone, none of its values
 /// is below 0, no sample carries `pprof::base` of the text `true`, and the matcher refuses no pattern.
-pub fn generate<R: Threads + Sync, D: Desk, G: Gate>(
-    with: &Resources<'_, R, G>,
+pub fn generate<'x, R: Threads + Sync, D: Desk, G: Gate>(
+    rt: &'x R,
+    alloc: Global,
     l: &Loaded,
     report: &Report,
     config: &Config,
     desk: &mut D,
+    gate: &'x G,
     notes: &mut Text,
 ) -> Result<Result<Text, ReportRefusal>, Stop>
     requires { IsCountable l.now.profile }
@@ -56,11 +59,12 @@ pub fn generate<R: Threads + Sync, D: Desk, G: Gate>(
     ensures saved { report.now ≡ Proto → NamesNoKey config.now →
         OnText result (IsSavedText D.finds l.now config.now) }
 {
-    match prepare(with, l, report, config, desk)? {
+    let with = Resources { rt, alloc, gate };
+    match prepare(&with, l, report, config, desk)? {
         Err(refusal) => Ok(Err(refusal)),
         Ok(prepared) => {
             notes.extend(prepared.notes.as_slice())?;
-            finish(with, l, report, config, prepared, desk)
+            finish(&with, l, report, config, prepared, desk)
         }
     }
 }

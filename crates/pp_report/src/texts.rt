@@ -24,7 +24,7 @@ use pp_count::Survey;
 use pp_dump::{saved_profile, write_raw};
 use pp_graph::{node_limit, rank, trim_of};
 use pp_model::{Compact, Config, Loaded};
-use pp_samples::{write_comments, write_tags, write_traces};
+use pp_samples::{write_comments, write_tags_of, write_traces_of};
 use pp_tables::write_profile;
 use pp_top::write_top;
 use pp_tree::{write_peek_of, write_tree};
@@ -101,17 +101,7 @@ pub fn traces(alloc: Global, subject: &Subject<'_, '_>) -> Result<Text, Memory>
         (facts subject.now.head.now)) }
 {
     let mut text = Text::new(alloc);
-    let s = &subject.survey;
-    write_traces(
-        alloc,
-        s.l,
-        s.v,
-        s.counted,
-        s.config,
-        s.column,
-        subject.head,
-        &mut text,
-    )?;
+    write_traces_of(alloc, &subject.survey, subject.head, &mut text)?;
     Ok(text)
 }
 
@@ -123,17 +113,7 @@ pub fn tags(alloc: Global, subject: &Subject<'_, '_>) -> Result<Text, Memory>
         (facts subject.now.head.now)) }
 {
     let mut text = Text::new(alloc);
-    let s = &subject.survey;
-    write_tags(
-        alloc,
-        s.l,
-        s.v,
-        s.counted,
-        s.config,
-        s.column,
-        subject.head,
-        &mut text,
-    )?;
+    write_tags_of(alloc, &subject.survey, subject.head, &mut text)?;
     Ok(text)
 }
 
