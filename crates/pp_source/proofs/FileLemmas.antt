@@ -1,8 +1,13 @@
--- The first line of some bytes.
-use Rattle.std.proofs.Common.{◌≡◌, ℕ, suc, ◌+◌, ◌<◌, ◌==◌, ◌||◌, Bool, true, false, not, cond, List, [], ◌∷◌, length, take, drop, refl, sym, ap, ◌∙◌, arith}
+-- The lines of some bytes, one after the other.
+use Rattle.std.proofs.Common.{◌≡◌, ℕ, suc, ◌+◌, ◌<◌, ◌==◌, ◌||◌, Bool, true, false, not, cond, List, [], ◌∷◌, ◌++◌, Bor, length, map, take, drop, refl, sym, ap, ◌∙◌, append_assoc, arith}
 use Rattle.std.proofs.lemmas.Bool.{false≢true}
+use Rattle.std.proofs.lemmas.List.{append-nil, map-append}
 use Rattle.std.specs.List.{before_first, after_first, list_any, position_or_len}
 use Rattle.pp_source.specs.SourceText.{file_lines, in_first}
+
+-- what a lent text is
+abbrev pub told : Bor (List ℕ) → List ℕ
+told text = text.now
 
 -- a line end
 abbrev pub is_end : ℕ → Bool
@@ -65,3 +70,16 @@ cut_first (b ∷ bytes) line after some front back =
 -- bytes without a line end
 pub cut_all : (bytes : List ℕ) → 0 < length bytes → false ≡ list_any is_end bytes → before_first is_end bytes ≡ bytes → file_lines bytes ≡ bytes ∷ []
 cut_all bytes some none whole = cut_first bytes bytes [] some (sym whole) (sym (no_more bytes (sym none)))
+
+-- one more line of the bytes
+pub lines_next : (lines new : List (Bor (List ℕ))) (line : Bor (List ℕ)) (rest after bytes : List ℕ) → new ≡ lines ++ line ∷ [] → file_lines rest ≡ line.now ∷ file_lines after
+    → map told lines ++ file_lines rest ≡ file_lines bytes → map told new ++ file_lines after ≡ file_lines bytes
+lines_next lines new line rest after bytes added cut so_far =
+    ap (λ ls. map told ls ++ file_lines after) added
+    ∙ ap (λ ls. ls ++ file_lines after) (map-append told lines (line ∷ []))
+    ∙ append_assoc (map told lines) (line.now ∷ []) (file_lines after)
+    ∙ ap (λ ls. map told lines ++ ls) (sym cut) ∙ so_far
+
+-- no byte is left
+pub lines_whole : (lines : List (Bor (List ℕ))) (rest bytes : List ℕ) → rest ≡ [] → map told lines ++ file_lines rest ≡ file_lines bytes → map told lines ≡ file_lines bytes
+lines_whole lines rest bytes none so_far = sym (append-nil (map told lines)) ∙ ap (λ r. map told lines ++ file_lines r) (sym none) ∙ so_far

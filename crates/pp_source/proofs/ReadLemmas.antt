@@ -5,7 +5,7 @@ use Rattle.std.specs.List.{list_any, position_or_len}
 use Rattle.std.specs.Option.{is_some, option_map, unwrap_or}
 use Rattle.std.specs.Slice.{IsItemAt}
 use Rattle.std.proofs.lemmas.Bool.{false≢true}
-use Rattle.std.proofs.lemmas.List.{at_drop_more, at_drop_all, map-append, take_more}
+use Rattle.std.proofs.lemmas.List.{at_drop_more, at_drop_all, get_or-map, get_or_past, length-map, map-append, take_more}
 use Rattle.pp_desk.specs.declared.stop.Stop.{Stop}
 use Rattle.pp_desk.specs.declared.stop.Stop.TheVariants as stops
 use Rattle.pp_desk.specs.World.{World}
@@ -21,14 +21,12 @@ use Rattle.pp_count.specs.Sums.{Seen}
 use Rattle.pp_source.specs.declared.lines.FoundLine.{FoundLine}
 use Rattle.pp_source.specs.declared.source.Source.{Source}
 use Rattle.pp_source.specs.declared.source.Source.TheVariants.{NotFound}
-use Rattle.pp_source.specs.Files.{files_of_lines, source_at}
+use Rattle.pp_source.specs.declared.split.SplitSource.{SplitSource}
+use Rattle.pp_source.specs.Files.{files_of_lines, source_at, whole_source}
 use Rattle.pp_source.specs.Ledgers.{line_texts, lines_texts}
 use Rattle.pp_source.specs.Listing.{list_lines, read_sources, source_of}
 use Rattle.pp_source.specs.SourceText.{lines_text}
-
--- what a lent text is
-abbrev pub told : Bor (List ℕ) → List ℕ
-told text = text.now
+use Rattle.pp_source.proofs.FileLemmas.{told}
 
 module _ (config : Config) (files : List (Bor (List ℕ))) (i : ℕ) (sources : List Source) (whole : Script (List Source)) (a b : World)
     (on_way : IsOnWay a b whole (read_sources config sources (map told (drop i files)))) where
@@ -127,6 +125,12 @@ missing test files is = by (nat_lt (position_or_len test files) (length files)) 
   by true below is = absurd (false≢true (ap is_some is))
   by false below is = grind (arith, below)
 
+-- the source of what stands at a place
+item_source : (split : List SplitSource) (place : ℕ) (r : Option (Bor SplitSource)) → IsItemAt split place r
+    → unwrap_or (option_map (λ s. s.now.source.now) r) NotFound ≡ get_or (map whole_source split) place NotFound
+item_source split place None item = sym (get_or_past (map whole_source split) place NotFound (omega (arith, item.3, length-map split whole_source)))
+item_source split place (Some s) item = ap whole_source item.1 ∙ sym (get_or-map whole_source split place s.now NotFound item.3.0)
+
 module _ (file : List ℕ) (test : Bor (List ℕ) → Bool) (tells : (x : Bor (List ℕ)) → test x ≡ bytes_eq file x.now) where
   -- the source at the place of the file
   source_found : (files : List (Bor (List ℕ))) (sources : List Source) → position_or_len test files < length files
@@ -163,18 +167,25 @@ module _ (file : List ℕ) (test : Bor (List ℕ) → Bool) (tells : (x : Bor (L
       ] refl past
 
   -- the source that is found
-  pub finds : (files : List (Bor (List ℕ))) (lent sources : List Source) (place : ℕ) (r : Option (Bor Source)) → lent ≡ sources → Some place ≡ position test files → IsItemAt lent place r
-      → unwrap_or (option_map (λ s. s.now) r) NotFound ≡ source_at (map told files) sources file
-  finds files lent sources place r same at item =
+  pub finds : (files : List (Bor (List ℕ))) (lent split : List SplitSource) (place : ℕ) (r : Option (Bor SplitSource)) → lent ≡ split → Some place ≡ position test files → IsItemAt lent place r
+      → unwrap_or (option_map (λ s. s.now.source.now) r) NotFound ≡ source_at (map told files) (map whole_source split) file
+  finds files lent split place r same at item =
       let there = placed test files place at in
-      item.4 (omega arith) NotFound ∙ (λ j. get_or (same j) (there.0 j) NotFound) ∙ source_found files sources there.1
+      item_source lent place r item ∙ (λ j. get_or (map whole_source (same j)) (there.0 j) NotFound) ∙ source_found files (map whole_source split) there.1
 
   -- and none
-  pub misses : (files : List (Bor (List ℕ))) (sources : List Source) (r : Option (Bor Source)) → r ≡ None → None ≡ position test files
-      → unwrap_or (option_map (λ s. s.now) r) NotFound ≡ source_at (map told files) sources file
-  misses files sources r none at = ap (λ o. unwrap_or (option_map (λ s. s.now) o) NotFound) none ∙ source_missed files sources (missing test files at)
+  pub misses : (files : List (Bor (List ℕ))) (sources : List Source) (r : Option (Bor SplitSource)) → r ≡ None → None ≡ position test files
+      → unwrap_or (option_map (λ s. s.now.source.now) r) NotFound ≡ source_at (map told files) sources file
+  misses files sources r none at = ap (λ o. unwrap_or (option_map (λ (s : Bor SplitSource). s.now.source.now) o) NotFound) none ∙ source_missed files sources (missing test files at)
 
 -- the source that was found, and another where there is none
-pub found_else : (r : Option (Bor Source)) (other : Bor Source) → other.now ≡ NotFound → (unwrap_or r other).now ≡ unwrap_or (option_map (λ s. s.now) r) NotFound
+pub found_else : (r : Option (Bor SplitSource)) (other : Bor SplitSource) → other.now.source.now ≡ NotFound
+    → (unwrap_or r other).now.source.now ≡ unwrap_or (option_map (λ s. s.now.source.now) r) NotFound
 found_else None other is = is
-found_else (Some source) other is = refl
+found_else (Some split) other is = refl
+
+-- one more source is cut
+pub split_next : (sources : List Source) (i : ℕ) (d : Source) (old new : List SplitSource) (one : SplitSource) → i < length sources → map whole_source old ≡ take i sources
+    → new ≡ old ++ one ∷ [] → one.source.now ≡ get_or sources i d → map whole_source new ≡ take (i + 1) sources
+split_next sources i d old new one within so_far added is =
+    ap (map whole_source) added ∙ map-append whole_source old (one ∷ []) ∙ (λ j. so_far j ++ is j ∷ []) ∙ sym (take_more sources i d within)

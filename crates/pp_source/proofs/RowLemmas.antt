@@ -1,53 +1,97 @@
 -- Rows of source, one after the other.
-use Rattle.std.proofs.Common.{◌≡◌, ℕ, ◌+◌, ◌-◌, ◌<◌, nat_lt, true, false, cond, List, [], ◌∷◌, ◌++◌, length, take, get_or, flat_map, refl, sym, ap, ◌∙◌, append_assoc, arith}
+use Rattle.std.proofs.Common.{◌≡◌, ℕ, zero, suc, ◌+◌, ◌-◌, ◌<◌, ◌≤◌, ◌&&◌, min, nat_lt, nat_le, true, false, cond, List, [], ◌∷◌, ◌++◌, Bor, length, map, take, drop, get_or, flat_map, refl, sym, ap, ◌∙◌, append_assoc, arith}
 use Rattle.std.specs.Prelude.{codes}
-use Rattle.std.proofs.lemmas.List.{take_more, append-nil, map-append}
+use Rattle.std.proofs.lemmas.Bool.{le-leb, leb-true, lt-ltb, ltb-true}
+use Rattle.std.proofs.lemmas.List.{take_more, drop_all, drop_more, get_or-map, length-drop, length-map, append-nil, map-append}
 use Rattle.std.specs.List.{cons_option}
 use Rattle.std.proofs.lemmas.List.Elements.{filter_map-append}
-use Rattle.pp_source.specs.declared.lines.FoundLine.{FoundLine}
-use Rattle.pp_source.specs.declared.source.Source.{Source}
-use Rattle.pp_source.specs.Amounts.{routine_amounts}
-use Rattle.pp_source.specs.Ledgers.{line_texts, lines_texts}
 use Rattle.std.proofs.lemmas.Grind.{flat_map-append}
+use Rattle.pp_base.proofs.Booleans.{same_bool}
 use Rattle.pp_model.specs.FrameTexts.{Written}
 use Rattle.pp_units.specs.Head.{Facts}
 use Rattle.pp_count.specs.Sums.{Seen}
-use Rattle.pp_source.specs.SourceText.{file_lines, is_near, last_from, line_row, number_above, numbers_of, past_row, routine_line, routine_text, rows_text, shown_rows, routine_source, title_line}
+use Rattle.pp_source.specs.declared.lines.FoundLine.{FoundLine}
+use Rattle.pp_source.specs.declared.source.Source.{Source}
+use Rattle.pp_source.specs.declared.source.Source.TheVariants.{Whole}
+use Rattle.pp_source.specs.declared.split.SplitSource.{SplitSource}
+use Rattle.pp_source.specs.Amounts.{routine_amounts}
+use Rattle.pp_source.specs.Ledgers.{line_texts, lines_texts}
+use Rattle.pp_source.specs.SourceText.{is_near, last_from, line_row, number_above, numbers_of, past_row, routine_line, routine_text, rows_text, shown_rows, routine_source, source_lines, title_line}
+use Rattle.pp_source.proofs.FileLemmas.{told}
 
 -- the last of some numbers
 pub last_is : (n : ℕ) (ns : List ℕ) (d : ℕ) → get_or (n ∷ ns) (length ns) d ≡ last_from n ns
 last_is n [] d = refl
 last_is n (next ∷ ns) d = last_is next ns d
 
+-- which lines are shown, by the places about the span
+pub is_shown : (first last count place : ℕ) → place < count → is_near first last (place + 1) ≡ (nat_le (first - 6) place && nat_lt place (min count (last + 5)))
+is_shown first last count place within =
+    (λ i. front i && back i) where
+      front : nat_le first (place + 1 + 5) ≡ nat_le (first - 6) place
+      front = same_bool _ _
+          (λ yes. le-leb (first - 6) place (omega (arith, leb-true first (place + 1 + 5) yes)))
+          (λ yes. le-leb first (place + 1 + 5) (omega (arith, leb-true (first - 6) place yes)))
+
+      back : nat_le (place + 1) (last + 5) ≡ nat_lt place (min count (last + 5))
+      back = same_bool _ _
+          (λ yes. lt-ltb place (min count (last + 5)) (omega (arith, within, leb-true (place + 1) (last + 5) yes)))
+          (λ yes. le-leb (place + 1) (last + 5) (omega (arith, ltb-true place (min count (last + 5)) yes)))
+
 module _ (samples : List (Seen Written)) (h : Facts) (k : Written) where
-  -- The rows so far, and those of the lines that are left.
-  abbrev pub ShownTo : ℕ → ℕ → List ℕ → List ℕ → List ℕ → ℕ → List ℕ → Type 0
-  ShownTo first last bytes before out number rest =
-      out ++ shown_rows samples h k first last (number + 1) (file_lines rest) ≡ before ++ shown_rows samples h k first last 1 (file_lines bytes)
+  -- lines that aren't shown have no row
+  no_rows : (first last n from : ℕ) (lines : List (List ℕ)) → ((j : ℕ) → j < n → j < length lines → is_near first last (from + j + 1) ≡ false)
+      → shown_rows samples h k first last (from + 1) lines ≡ shown_rows samples h k first last (from + n + 1) (drop n lines)
+  no_rows first last zero from lines hidden = let same : from ≡ from + 0 = omega arith in ap (λ m. shown_rows samples h k first last (m + 1) lines) same
+  no_rows first last (suc n) from [] hidden = refl
+  no_rows first last (suc n) from (line ∷ lines) hidden =
+      let here : from + 1 ≡ from + 0 + 1 = omega arith in
+      let next : from + 1 + n ≡ from + suc n = omega arith in
+      ap (λ b. cond b (line_row samples h k (from + 1) line) [] ++ shown_rows samples h k first last (from + 1 + 1) lines) (ap (is_near first last) here ∙ hidden 0 (omega arith) (omega arith))
+      ∙ no_rows first last n (from + 1) lines
+      (λ j below within. let later : from + 1 + j + 1 ≡ from + suc j + 1 = omega arith in ap (is_near first last) later ∙ hidden (suc j) (omega (arith, below)) (omega (arith, within)))
+      ∙ ap (λ m. shown_rows samples h k first last (m + 1) (drop n lines)) next
+
+  -- The rows so far, and those of the lines from a place on.
+  abbrev pub ShownTo : ℕ → ℕ → List (List ℕ) → List ℕ → List ℕ → ℕ → Type 0
+  ShownTo first last lines before out place =
+      out ++ shown_rows samples h k first last (place + 1) (drop place lines) ≡ before ++ shown_rows samples h k first last 1 lines
+
+  -- the lines before the place aren't shown
+  pub shown_from : (first last place : ℕ) (lines : List (List ℕ)) (before : List ℕ) → ((j : ℕ) → j < place → j < length lines → is_near first last (j + 1) ≡ false)
+      → ShownTo first last lines before before place
+  shown_from first last place lines before hidden =
+      let from : 0 + place ≡ place = omega arith in
+      ap (λ rows. before ++ rows)
+      (sym
+      (no_rows first last place 0 lines (λ j below within. let at : 0 + j ≡ j = omega arith in ap (λ m. is_near first last (m + 1)) at ∙ hidden j below within)
+      ∙ ap (λ m. shown_rows samples h k first last (m + 1) (drop place lines)) from))
 
   -- one more line, which is shown
-  pub shown_more : (first last : ℕ) (bytes before out new : List ℕ) (number : ℕ) (rest line after : List ℕ)
-      → file_lines rest ≡ line ∷ file_lines after → is_near first last (number + 1) ≡ true → new ≡ out ++ line_row samples h k (number + 1) line
-      → ShownTo first last bytes before out number rest → ShownTo first last bytes before new (number + 1) after
-  shown_more first last bytes before out new number rest line after cut shown written so_far =
-      ap (λ o. o ++ shown_rows samples h k first last (number + 1 + 1) (file_lines after)) written
-      ∙ append_assoc out (line_row samples h k (number + 1) line) (shown_rows samples h k first last (number + 1 + 1) (file_lines after))
-      ∙ ap (λ b. out ++ (cond b (line_row samples h k (number + 1) line) [] ++ shown_rows samples h k first last (number + 1 + 1) (file_lines after))) (sym shown)
-      ∙ ap (λ ls. out ++ shown_rows samples h k first last (number + 1) ls) (sym cut) ∙ so_far
+  pub shown_more : (first last place : ℕ) (lines : List (Bor (List ℕ))) (d : Bor (List ℕ)) (before out new : List ℕ) → place < length lines → is_near first last (place + 1) ≡ true
+      → new ≡ out ++ line_row samples h k (place + 1) (get_or lines place d).now
+      → ShownTo first last (map told lines) before out place → ShownTo first last (map told lines) before new (place + 1)
+  shown_more first last place lines d before out new within near written so_far =
+      let line : List ℕ = (get_or lines place d).now in
+      let after : List (List ℕ) = drop (place + 1) (map told lines) in
+      let split : drop place (map told lines) ≡ line ∷ after =
+      drop_more (map told lines) place line (omega (arith, within, length-map lines told)) ∙ ap (λ l. l ∷ after) (get_or-map told lines place d line within) in
+      ap (λ o. o ++ shown_rows samples h k first last (place + 1 + 1) after) written
+      ∙ append_assoc out (line_row samples h k (place + 1) line) (shown_rows samples h k first last (place + 1 + 1) after)
+      ∙ ap (λ b. out ++ (cond b (line_row samples h k (place + 1) line) [] ++ shown_rows samples h k first last (place + 1 + 1) after)) (sym near)
+      ∙ ap (λ ls. out ++ shown_rows samples h k first last (place + 1) ls) (sym split) ∙ so_far
 
-  -- one more line, which isn't
-  pub hidden_more : (first last : ℕ) (bytes before out : List ℕ) (number : ℕ) (rest line after : List ℕ)
-      → file_lines rest ≡ line ∷ file_lines after → is_near first last (number + 1) ≡ false
-      → ShownTo first last bytes before out number rest → ShownTo first last bytes before out (number + 1) after
-  hidden_more first last bytes before out number rest line after cut hidden so_far =
-      ap (λ b. out ++ (cond b (line_row samples h k (number + 1) line) [] ++ shown_rows samples h k first last (number + 1 + 1) (file_lines after))) (sym hidden)
-      ∙ ap (λ ls. out ++ shown_rows samples h k first last (number + 1) ls) (sym cut) ∙ so_far
-
-  -- no line is left
-  pub shown_all : (first last : ℕ) (bytes before out : List ℕ) (number : ℕ) (rest : List ℕ) → rest ≡ []
-      → ShownTo first last bytes before out number rest → out ≡ before ++ shown_rows samples h k first last 1 (file_lines bytes)
-  shown_all first last bytes before out number rest none so_far =
-      sym (append-nil out) ∙ ap (λ r. out ++ shown_rows samples h k first last (number + 1) (file_lines r)) (sym none) ∙ so_far
+  -- the lines from the place on aren't shown
+  pub shown_all : (first last place : ℕ) (lines : List (List ℕ)) (before out : List ℕ) → ((j : ℕ) → place ≤ j → j < length lines → is_near first last (j + 1) ≡ false)
+      → ShownTo first last lines before out place → out ≡ before ++ shown_rows samples h k first last 1 lines
+  shown_all first last place lines before out hidden so_far =
+      let rest : List (List ℕ) = drop place lines in
+      sym (append-nil out)
+      ∙ ap (λ rows. out ++ rows)
+      (sym
+      (no_rows first last (length rest) place rest (λ j below within. hidden (place + j) (omega arith) (omega (arith, within, length-drop place lines)))
+      ∙ ap (shown_rows samples h k first last (place + length rest + 1)) (drop_all (length rest) rest (omega arith))))
+      ∙ so_far
 
   -- The rows past the file's end so far.
   abbrev pub PastTo : ℕ → List ℕ → List ℕ → List ℕ → ℕ → Type 0
@@ -80,16 +124,22 @@ module _ (samples : List (Seen Written)) (h : Facts) (k : Written) where
       ∙ sym (past_next count numbers i d within))
 
   -- All rows, after those of the file and those past its end.
-  pub rows_are : (bytes numbers : List ℕ) (first last count : ℕ) (before mid new : List ℕ) → 0 < length numbers → first ≡ get_or numbers 0 first → last ≡ get_or numbers (length numbers - 1) last
-      → count ≡ length (file_lines bytes) → mid ≡ before ++ shown_rows samples h k first last 1 (file_lines bytes) → new ≡ mid ++ flat_map (past_row samples h k count) numbers
-      → new ≡ before ++ rows_text samples h k (file_lines bytes) numbers
-  rows_are bytes [] first last count before mid new some at_first at_last counted shown past = absurd (omega (arith, some))
-  rows_are bytes (n ∷ ns) first last count before mid new some at_first at_last counted shown past =
+  pub rows_are : (lines : List (List ℕ)) (numbers : List ℕ) (first last count : ℕ) (before mid new : List ℕ) → 0 < length numbers → first ≡ get_or numbers 0 first → last ≡ get_or numbers (length numbers - 1) last
+      → count ≡ length lines → mid ≡ before ++ shown_rows samples h k first last 1 lines → new ≡ mid ++ flat_map (past_row samples h k count) numbers
+      → new ≡ before ++ rows_text samples h k lines numbers
+  rows_are lines [] first last count before mid new some at_first at_last counted shown past = absurd (omega (arith, some))
+  rows_are lines (n ∷ ns) first last count before mid new some at_first at_last counted shown past =
       let end : length (n ∷ ns) - 1 ≡ length ns = omega arith in
       let is_last : last ≡ last_from n ns = at_last ∙ ap (λ i. get_or (n ∷ ns) i last) end ∙ last_is n ns last in
       past ∙ (λ i. shown i ++ flat_map (past_row samples h k (counted i)) (n ∷ ns))
-      ∙ append_assoc before (shown_rows samples h k first last 1 (file_lines bytes)) (flat_map (past_row samples h k (length (file_lines bytes))) (n ∷ ns))
-      ∙ (λ i. before ++ (shown_rows samples h k (at_first i) (is_last i) 1 (file_lines bytes) ++ flat_map (past_row samples h k (length (file_lines bytes))) (n ∷ ns)))
+      ∙ append_assoc before (shown_rows samples h k first last 1 lines) (flat_map (past_row samples h k (length lines)) (n ∷ ns))
+      ∙ (λ i. before ++ (shown_rows samples h k (at_first i) (is_last i) 1 lines ++ flat_map (past_row samples h k (length lines)) (n ∷ ns)))
+
+  -- the source of a file's bytes is the rows of its lines
+  pub source_is : (split : SplitSource) (bytes numbers : List ℕ) (lines : List Written) → split.source.now ≡ Whole bytes → numbers ≡ numbers_of lines
+      → rows_text samples h k (map told split.lines.items) numbers ≡ routine_source samples h split.source.now k lines
+  source_is split bytes numbers lines is are =
+      (λ i. rows_text samples h k ((split.cut ∙ ap source_lines is) i) (are i)) ∙ ap (λ s. routine_source samples h s k lines) (sym is)
 
 -- the numbers above 0 of lines with one more
 pub numbers_next : (lines : List FoundLine) (i : ℕ) (d : FoundLine) → i < length lines

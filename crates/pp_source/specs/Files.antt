@@ -5,6 +5,7 @@ use Rattle.pp_model.specs.FrameTexts.{Written}
 use Rattle.pp_source.specs.declared.files.Sources.{Sources}
 use Rattle.pp_source.specs.declared.source.Source.{Source}
 use Rattle.pp_source.specs.declared.source.Source.TheVariants.{NotFound}
+use Rattle.pp_source.specs.declared.split.SplitSource.{SplitSource}
 
 -- The file texts of these lines, each once, in the order in which the lines need them.
 abbrev pub files_of_lines : List Written → List (List ℕ)
@@ -17,6 +18,10 @@ source_at (f ∷ files) [] file = NotFound
 source_at (f ∷ files) (source ∷ sources) file =
     if bytes_eq file f then source else source_at files sources file
 
+-- the source that was cut into lines
+abbrev pub whole_source : SplitSource → Source
+whole_source split = split.source.now
+
 -- the source of a file, among those that were read
 abbrev pub source_in : Sources → List ℕ → Source
-source_in read = source_at (map (λ f. f.now) read.files.keys) read.sources
+source_in read = source_at (map (λ f. f.now) read.files.keys) (map whole_source read.sources.items)

@@ -79,6 +79,13 @@ abbrev pub file_lines : List ℕ → List (List ℕ)
 file_lines [] = []
 file_lines (b ∷ bytes) = if b == 10 then [] ∷ file_lines bytes else in_first b (file_lines bytes)
 
+-- the lines of a source; none where there are no bytes
+abbrev pub source_lines : Source → List (List ℕ)
+source_lines NoName = []
+source_lines NotFound = []
+source_lines TooLong = []
+source_lines (Whole bytes) = file_lines bytes
+
 -- how many lines are shown before the first and after the last that has a frame
 abbrev pub around : ℕ
 around = 5

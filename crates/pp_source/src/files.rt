@@ -10,6 +10,7 @@ ghost use Rattle.pp_source.specs.Listing.{read_sources};
 use crate::lines::FoundLine;
 use crate::looking::source_of;
 use crate::source::Source;
+use crate::split::SplitSource;
 use indexmap::IndexSet;
 use pp_base::{List, Memory};
 use pp_desk::{Desk, Stop};
@@ -18,17 +19,17 @@ use std::alloc::Global;
 
 /// The sources of files, each of which is read once.
 #[derive(Drop)]
-pub struct Sources<'a> {
+pub struct Sources<'a, 's> {
     /// The files, in the order of the reads.
     pub files: IndexSet<&'a [u8]>,
-    /// The source of each, in the same order.
-    pub sources: List<Source>,
+    /// The source of each, cut into lines, in the same order.
+    pub sources: Vec<SplitSource<'s>>,
 }
 
-impl Sources<'_> {
+impl<'s> Sources<'_, 's> {
     /// The source of the file, where it was looked for.
-    pub fn find(&self, file: &[u8]) -> Option<&Source>
-        ensures { unwrap_or (option_map (λ s. s.now) result) sources.NotFound
+    pub fn find(&self, file: &[u8]) -> Option<&SplitSource<'s>>
+        ensures { unwrap_or (option_map (λ s. s.now.source.now) result) sources.NotFound
             ≡ source_in self.now file.now }
     {
         let place = self.files.get_index_of(file)?;

@@ -15,6 +15,7 @@ mod routine;
 mod rows;
 mod runs;
 mod source;
+mod split;
 mod tallies;
 mod tally;
 mod walk;

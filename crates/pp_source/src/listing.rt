@@ -19,6 +19,7 @@ use crate::refusal::ListRefusal;
 use crate::report::ListReport;
 use crate::routine::write_routines;
 use crate::rows::Listing;
+use crate::split::split_sources;
 use pp_base::{Memory, Text};
 use pp_count::Counted;
 use pp_desk::{Desk, Stop};
@@ -119,8 +120,12 @@ fn list_lines<D: Desk>(
 {
     let files = files_of(alloc, lines)?;
     let sources = read_sources(alloc, config, files.as_slice(), desk)?;
-    let sources = Sources { files, sources };
-    let text = lines_text(alloc, listing, &sources, lines)?;
+    let split = split_sources(alloc, sources.as_slice())?;
+    let read = Sources {
+        files,
+        sources: split,
+    };
+    let text = lines_text(alloc, listing, &read, lines)?;
     Ok(text)
 }
 
@@ -128,7 +133,7 @@ fn list_lines<D: Desk>(
 fn lines_text(
     alloc: Global,
     listing: &Listing<'_>,
-    sources: &Sources<'_>,
+    sources: &Sources<'_, '_>,
     lines: &[FoundLine<'_>],
 ) -> Result<Text, Memory>
     requires lines { All (IsLineIn listing.now) lines.now }

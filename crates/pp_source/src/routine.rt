@@ -17,6 +17,7 @@ use crate::lines::FoundLine;
 use crate::rows::{Listing, write_rows};
 use crate::runs::cut_routine;
 use crate::source::Source;
+use crate::split::SplitSource;
 use crate::tallies::amounts_at;
 use pp_base::{Memory, Text};
 use pp_units::{Head, Small, write_percent};
@@ -26,7 +27,7 @@ use std::alloc::Global;
 pub fn write_routines(
     alloc: Global,
     listing: &Listing<'_>,
-    sources: &Sources<'_>,
+    sources: &Sources<'_, '_>,
     lines: &[FoundLine<'_>],
     out: &mut Text,
 ) -> Result<(), Memory>
@@ -49,7 +50,7 @@ pub fn write_routines(
 fn write_found(
     alloc: Global,
     listing: &Listing<'_>,
-    sources: &Sources<'_>,
+    sources: &Sources<'_, '_>,
     lines: &[FoundLine<'_>],
     out: &mut Text,
 ) -> Result<(), Memory>
@@ -59,9 +60,13 @@ fn write_found(
         out.new ≡ out.old ++ routine_text samples (facts listing.now.head.now)
         (source_in sources.now (file_of (lines_texts lines.now))) (lines_texts lines.now)) }
 {
-    let none = Source::NotFound;
-    let source = sources.find(path_of(lines)).unwrap_or(&none);
-    write_routine(alloc, listing, source, lines, out)
+    let missing = Source::NotFound;
+    let none = SplitSource {
+        source: &missing,
+        lines: Vec::new(alloc),
+    };
+    let file = sources.find(path_of(lines)).unwrap_or(&none);
+    write_routine(alloc, listing, file, lines, out)
 }
 
 // The path of the file of these lines.
@@ -78,7 +83,7 @@ fn path_of<'a>(lines: &[FoundLine<'a>]) -> &'a [u8]
 fn write_routine(
     alloc: Global,
     listing: &Listing<'_>,
-    source: &Source,
+    file: &SplitSource<'_>,
     lines: &[FoundLine<'_>],
     out: &mut Text,
 ) -> Result<(), Memory>
@@ -86,14 +91,15 @@ fn write_routine(
     ensures { (samples : Seq (Seen Written)) →
         ListsOf listing.now samples → IfOk result (λ _.
         out.new ≡ out.old
-        ++ routine_text samples (facts listing.now.head.now) source.now (lines_texts lines.now)) }
+        ++ routine_text samples (facts listing.now.head.now) file.now.source.now
+        (lines_texts lines.now)) }
 {
     let [line, ..] = lines else {
         return Ok(());
     };
     write_title(line, out)?;
     write_sums(alloc, listing, line, out)?;
-    write_source(alloc, listing, source, line, lines, out)
+    write_source(alloc, listing, file, line, lines, out)
 }
 
 // `"ROUTINE ======================== %s in %s\n"`
@@ -165,7 +171,7 @@ fn put_framed(front: &[u8], text: &[u8], back: &[u8], out: &mut Text) -> Result<
 fn write_source(
     alloc: Global,
     listing: &Listing<'_>,
-    source: &Source,
+    file: &SplitSource<'_>,
     line: &FoundLine<'_>,
     lines: &[FoundLine<'_>],
     out: &mut Text,
@@ -174,17 +180,17 @@ fn write_source(
     requires lines { All (IsLineIn listing.now) lines.now }
     ensures { (samples : Seq (Seen Written)) →
         ListsOf listing.now samples → IfOk result (λ _.
-        out.new ≡ out.old ++ routine_source samples (facts listing.now.head.now) source.now
-        (line_texts line.now) (lines_texts lines.now)) }
+        out.new ≡ out.old ++ routine_source samples (facts listing.now.head.now)
+        file.now.source.now (line_texts line.now) (lines_texts lines.now)) }
 {
-    let file = line.texts.file;
-    match source {
+    let path = line.texts.file;
+    match file.source {
         Source::NoName => write_error(b"no file name", b"\n", out),
-        Source::NotFound => write_error(file, b": no such file\n", out),
-        Source::TooLong => write_error(file, b": longer than 134217728 bytes\n", out),
-        Source::Whole(bytes) => {
+        Source::NotFound => write_error(path, b": no such file\n", out),
+        Source::TooLong => write_error(path, b": longer than 134217728 bytes\n", out),
+        Source::Whole(_) => {
             let numbers = numbers_of(alloc, lines)?;
-            write_rows(alloc, listing, line, bytes.as_slice(), &numbers, out)
+            write_rows(alloc, listing, line, &file.lines, &numbers, out)
         }
     }
 }

@@ -1,11 +1,11 @@
 //! The lines of source of one routine.
-ghost use Rattle.std.specs.Prelude.{◌≡◌, ◌++◌, ◌<◌, ◌^◌, ◌∷◌, ◌-◌, List as Seq, length, flat_map, codes, All, IfOk};
+ghost use Rattle.std.specs.Prelude.{◌≡◌, ◌++◌, ◌<◌, ◌^◌, ◌+◌, ◌≤◌, ◌&&◌, ℕ, nat_le, nat_lt, List as Seq, map, flat_map, All, IfOk};
 ghost use Rattle.pp_model.specs.FrameTexts.{Written};
 ghost use Rattle.pp_units.specs.Shown.{shown};
 ghost use Rattle.pp_units.specs.Head.{facts};
 ghost use Rattle.pp_count.specs.Sums.{Seen};
 ghost use Rattle.pp_source.specs.Ledgers.{IsLineIn, ListsOf, line_texts};
-ghost use Rattle.pp_source.specs.SourceText.{file_lines, is_near, line_row, numbered_text, past_row, row_text, rows_text, shown_rows, sum_column, sums_text};
+ghost use Rattle.pp_source.specs.SourceText.{is_near, line_row, numbered_text, past_row, row_text, rows_text, shown_rows, sum_column, sums_text};
 
 use crate::amounts::Amounts;
 use crate::found::key_at;
@@ -15,7 +15,7 @@ use crate::tallies::amounts_at;
 use itoa::Buffer;
 use pp_base::{Memory, Text};
 use pp_model::{Loaded, Verdicts};
-use pp_units::{Head, cut_at, put_right};
+use pp_units::{Head, put_right};
 use std::alloc::Global;
 
 /// How many lines are shown before the first and after the last that has a frame.
@@ -43,13 +43,13 @@ pub struct LineSpan {
     pub last: u64,
 }
 
-/// Appends the lines of the file about those with frames, and the numbers of those past its end. `numbers` are the
-/// lines with frames, rising.
+/// Appends those of the file's lines that stand about the ones with frames, and the numbers of those past its end.
+/// `numbers` are the lines with frames, rising.
 pub fn write_rows(
     alloc: Global,
     listing: &Listing<'_>,
     line: &FoundLine<'_>,
-    bytes: &[u8],
+    lines: &[&[u8]],
     numbers: &[u64],
     out: &mut Text,
 ) -> Result<(), Memory>
@@ -58,7 +58,7 @@ pub fn write_rows(
     ensures { (samples : Seq (Seen Written)) →
         ListsOf listing.now samples → IfOk result (λ _.
         out.new ≡ out.old ++ rows_text samples (facts listing.now.head.now) (line_texts line.now)
-        (file_lines bytes.now) numbers.now) }
+        (map (λ l. l.now) lines.now) numbers.now) }
 {
     let [first, ..] = numbers else {
         return Ok(());
@@ -68,59 +68,50 @@ pub fn write_rows(
         last: numbers[numbers.len() - 1],
     };
     let mut scratch = Text::new(alloc);
-    let count = write_shown(listing, line, bytes, span, &mut scratch, out)?;
-    write_past(listing, line, count, numbers, &mut scratch, out)
+    write_shown(listing, line, lines, span, &mut scratch, out)?;
+    write_past(
+        listing,
+        line,
+        lines.len() as u64,
+        numbers,
+        &mut scratch,
+        out,
+    )
 }
 
-// Appends the lines of the file about this span, and counts all.
+// Appends the file's lines about this span.
 fn write_shown(
     listing: &Listing<'_>,
     line: &FoundLine<'_>,
-    bytes: &[u8],
+    lines: &[&[u8]],
     span: LineSpan,
     scratch: &mut Text,
     out: &mut Text,
-) -> Result<u64, Memory>
+) -> Result<(), Memory>
     requires line { IsLineIn listing.now line.now }
     requires last { span.last < 2 ^ 63 }
-    ensures count { IfOk result (λ count. count ≡ length (file_lines bytes.now)) }
-    ensures rows { (samples : Seq (Seen Written)) →
+    ensures { (samples : Seq (Seen Written)) →
         ListsOf listing.now samples → IfOk result (λ _.
         out.new ≡ out.old ++ shown_rows samples (facts listing.now.head.now) (line_texts line.now)
-        span.first span.last 1 (file_lines bytes.now)) }
+        span.first span.last 1 (map (λ l. l.now) lines.now)) }
 {
-    let mut number = 0;
-    let mut rest = bytes;
-    while !rest.is_empty() {
-        let (text, after) = cut_line(rest);
-        number += 1;
-        if is_shown(span, number) {
-            write_row(listing, line, number, text, scratch, out)?;
-        }
-        rest = after;
+    let (from, to) = shown_places(span, lines.len());
+    for place in from..to {
+        write_row(listing, line, place as u64 + 1, lines[place], scratch, out)?;
     }
-    Ok(number)
+    Ok(())
 }
 
-// The first line, without its end, and what stands after it.
-fn cut_line(bytes: &[u8]) -> (&[u8], &[u8])
-    requires { 0 < length bytes.now }
-    ensures line { file_lines bytes.now ≡ result.0.now ∷ file_lines result.1.now }
-    ensures less { length result.1.now < length bytes.now }
+// The place of the first of so many lines that is shown, and the place after the last.
+fn shown_places(span: LineSpan, count: usize) -> (usize, usize)
+    requires { span.last < 2 ^ 63 }
+    ensures within { result.1 ≤ count }
+    ensures shown { (place : ℕ) → place < count → is_near span.first span.last (place + 1)
+        ≡ (nat_le result.0 place && nat_lt place result.1) }
 {
-    match cut_at(bytes, b'\n') {
-        Some(parts) => parts,
-        None => (bytes, &[]),
-    }
-}
-
-// Whether the line is shown.
-fn is_shown(span: LineSpan, number: u64) -> bool
-    requires last { span.last < 2 ^ 63 }
-    requires number { number < 2 ^ 64 - 5 }
-    ensures { result ≡ is_near span.first span.last number }
-{
-    span.first <= number + AROUND && number <= span.last + AROUND
+    let from = span.first.saturating_sub(AROUND + 1);
+    let to = count.min((span.last + AROUND) as usize);
+    (from as usize, to)
 }
 
 // Appends the lines with frames past the file's end.

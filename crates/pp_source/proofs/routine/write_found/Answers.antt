@@ -1,5 +1,6 @@
-use Rattle.std.proofs.Common.{◌≡◌, ◌++◌, refl, ap, subst, ◌∙◌, IfOk}
+use Rattle.std.proofs.Common.{◌≡◌, ◌++◌, Bor, refl, ap, subst, ◌∙◌, IfOk}
 use Rattle.pp_units.specs.Head.{facts}
+use Rattle.pp_source.specs.declared.split.SplitSource.{SplitSource}
 use Rattle.pp_source.specs.Files.{source_in}
 use Rattle.pp_source.specs.Ledgers.{lines_texts}
 use Rattle.pp_source.specs.SourceText.{routine_text}
@@ -10,5 +11,5 @@ use Rattle.pp_source.proofs.routine.write_found.Goals as goal
 pub returns : goal.returns
 returns c samples of =
     subst (λ s. IfOk c.write_routine.result (λ _. c.write_routine.new.out ≡ c.args.out.now ++ routine_text samples (facts c.args.listing.now.head.now) s (lines_texts c.args.lines.now)))
-    (ap (λ r. r.now) c.unwrap_or-source.ensures ∙ found_else c.find.result _ refl ∙ c.find.ensures ∙ ap (source_in c.args.sources.now) c.path_of.ensures)
+    (ap (λ (r : Bor SplitSource). r.now.source.now) c.unwrap_or-file.ensures ∙ found_else c.find.result _ refl ∙ c.find.ensures ∙ ap (source_in c.args.sources.now) c.path_of.ensures)
     (c.write_routine.ensures samples of)

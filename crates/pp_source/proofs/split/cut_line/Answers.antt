@@ -1,5 +1,5 @@
 use Rattle.pp_source.proofs.FileLemmas.{cut_first, cut_all}
-use Rattle.pp_source.proofs.rows.cut_line.Goals as goal
+use Rattle.pp_source.proofs.split.cut_line.Goals as goal
 
 pub returns-in-Some-clause-line : goal.returns-in-Some-clause-line
 returns-in-Some-clause-line c = cut_first c.args.bytes.now c.in-Some.parts.0.now c.in-Some.parts.1.now c.requires c.in-Some.ensures.before c.in-Some.ensures.after

@@ -1,0 +1,9 @@
+use Rattle.std.proofs.Common.{arith}
+use Rattle.pp_source.proofs.RowLemmas.{is_shown}
+use Rattle.pp_source.proofs.rows.shown_places.Goals as goal
+
+pub returns-clause-within : goal.returns-clause-within
+returns-clause-within c = omega (arith, c.min-to.ensures)
+
+pub returns-clause-shown : goal.returns-clause-shown
+returns-clause-shown c place within = rw (c.saturating_sub-from.ensures, c.min-to.ensures) (is_shown c.args.span.first c.args.span.last c.args.count place within)
