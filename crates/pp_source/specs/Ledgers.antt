@@ -107,9 +107,11 @@ lines_texts lines = map line_texts lines
 
 -- the line is one of the listing's report
 abbrev pub IsLineIn : Listing → FoundLine → Type 0
-IsLineIn listing line = IsLineOf listing.l.now.profile listing.v.now.own line
+IsLineIn listing line =
+    IsLineOf listing.survey.now.l.now.profile listing.survey.now.v.now.own line
 
 -- the listing's ledger has what these samples come to
 abbrev pub ListsOf : Listing → List (Seen Written) → Type 0
 ListsOf listing samples =
-    IsLedgerOf listing.l.now.profile listing.v.now.own samples listing.ledger.now
+    IsLedgerOf listing.survey.now.l.now.profile listing.survey.now.v.now.own samples
+    listing.ledger.now

@@ -1,20 +1,17 @@
 //! What samples come to in the lines and in the routines that a report's own pattern finds.
-ghost use Rattle.std.specs.Prelude.{◌≡◌, length, IfOk, Some};
+ghost use Rattle.std.specs.Prelude.{◌≡◌, IfOk, Some};
 ghost use Rattle.pp_model.specs.Finders.{Finders};
-ghost use Rattle.pp_count.specs.Counted.{CanCount, IsCountedOf, report_frames};
-ghost use Rattle.pp_count.specs.Filters.{AreFilters};
-ghost use Rattle.pp_count.specs.Rising.{AreRisingBetween};
+ghost use Rattle.pp_count.specs.Counted.{report_frames};
 ghost use Rattle.pp_count.specs.Scope.{AreCountable, IsSoundScope, chosen_of, samples_in_scope};
 ghost use Rattle.pp_count.specs.Seeing.{HoldsFilters, filtered_from};
 ghost use Rattle.pp_count.specs.Table.{IsKeyTable};
 ghost use Rattle.pp_source.specs.Ledgers.{AreFound, IsLedgerOf, by_lines};
 
 use crate::found::{KeyPart, found_parts};
-use crate::report::ListReport;
 use crate::tallies::KeyTallies;
 use crate::walk::{Walk, add_samples};
 use pp_base::Memory;
-use pp_count::{Filters, KeyTable, Scope, key_table};
+use pp_count::{KeyTable, Scope, Survey, key_table};
 use pp_model::{Config, Grain};
 use std::alloc::Global;
 
@@ -28,22 +25,17 @@ pub struct Ledger {
 }
 
 /// The sums over the samples that the filters leave, in one pass. `Err` is want of memory.
-pub fn ledger_of(alloc: Global, report: &ListReport<'_>) -> Result<Ledger, Memory>
-    requires can { CanCount report.now.l.now.profile report.now.v.now report.now.config.now
-        report.now.column }
-    requires counted { IsCountedOf report.now.l.now report.now.v.now report.now.config.now
-        report.now.column report.now.counted.now }
+pub fn ledger_of(alloc: Global, survey: &Survey<'_>) -> Result<Ledger, Memory>
     ensures found { IfOk result (λ ledger.
-        AreFound report.now.l.now.profile report.now.v.now.own ledger.lines.names.keys) }
+        AreFound survey.now.l.now.profile survey.now.v.now.own ledger.lines.names.keys) }
     ensures sums { (f : Finders) →
-        HoldsFilters report.now.l.now report.now.v.now report.now.config.now f → IfOk result
-        (IsLedgerOf report.now.l.now.profile report.now.v.now.own
-        (report_frames report.now.l.now.profile f report.now.config.now report.now.column)) }
+        HoldsFilters survey.now.l.now survey.now.v.now survey.now.config.now f → IfOk result
+        (IsLedgerOf survey.now.l.now.profile survey.now.v.now.own
+        (report_frames survey.now.l.now.profile f survey.now.config.now survey.now.column)) }
 {
-    let config = by_lines(alloc, report.config)?;
-    let filters = Filters::new(alloc, report.l, report.v, &config)?;
-    let table = key_table(alloc, report.l, &config)?;
-    let ledger = ledger_in(alloc, report, &config, &filters, &table)?;
+    let config = by_lines(alloc, survey.config)?;
+    let table = key_table(alloc, survey.l, &config)?;
+    let ledger = ledger_in(alloc, survey, &config, &table)?;
     Ok(ledger)
 }
 
@@ -57,35 +49,29 @@ fn by_lines(alloc: Global, config: &Config) -> Result<Config, Memory>
     Ok(lines)
 }
 
-// The same under this configuration, by its filters and its table.
+// The same under this configuration, by its table. The report's filters are those of both configurations.
 fn ledger_in<'x>(
     alloc: Global,
-    report: &'x ListReport<'x>,
+    survey: &'x Survey<'x>,
     config: &'x Config,
-    filters: &'x Filters,
     table: &'x KeyTable,
 ) -> Result<Ledger, Memory>
-    requires can { CanCount report.now.l.now.profile report.now.v.now config.now report.now.column }
-    requires rising { AreRisingBetween 0 (length report.now.l.now.profile.sample)
-        report.now.counted.now.kept }
-    requires lines { config.now ≡ by_lines config.now }
-    requires filters { AreFilters report.now.l.now.profile report.now.v.now config.now filters.now }
-    requires table { IsKeyTable report.now.l.now.profile config.now table.now }
+    requires lines { config.now ≡ by_lines survey.now.config.now }
+    requires table { IsKeyTable survey.now.l.now.profile config.now table.now }
     ensures found { IfOk result (λ ledger.
-        AreFound report.now.l.now.profile report.now.v.now.own ledger.lines.names.keys) }
-    ensures sums { (f : Finders) → HoldsFilters report.now.l.now report.now.v.now config.now f →
-        report.now.counted.now.kept
-        ≡ filtered_from report.now.l.now.profile f config.now 0 report.now.l.now.profile.sample →
-        IfOk result (IsLedgerOf report.now.l.now.profile report.now.v.now.own
-        (report_frames report.now.l.now.profile f config.now report.now.column)) }
+        AreFound survey.now.l.now.profile survey.now.v.now.own ledger.lines.names.keys) }
+    ensures sums { (f : Finders) →
+        HoldsFilters survey.now.l.now survey.now.v.now survey.now.config.now f → IfOk result
+        (IsLedgerOf survey.now.l.now.profile survey.now.v.now.own
+        (report_frames survey.now.l.now.profile f survey.now.config.now survey.now.column)) }
 {
-    let kept = report.counted.kept.as_slice();
+    let kept = survey.counted.kept.as_slice();
     let scope = Scope {
-        l: report.l,
-        v: report.v,
+        l: survey.l,
+        v: survey.v,
         config,
-        filters,
-        column: report.column,
+        filters: survey.filters(),
+        column: survey.column,
         table,
         over: None,
         chosen: Some(kept),

@@ -10,7 +10,6 @@ mod listing;
 mod looking;
 mod paths;
 mod refusal;
-mod report;
 mod routine;
 mod rows;
 mod runs;
@@ -20,6 +19,6 @@ mod tallies;
 mod tally;
 mod walk;
 
-pub use listing::write_list;
+pub use listing::{write_list, write_list_of};
 pub use refusal::ListRefusal;
 pub use source::SOURCE_LIMIT;

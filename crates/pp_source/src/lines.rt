@@ -10,9 +10,9 @@ ghost use Rattle.pp_source.specs.Ledgers.{AreFound, IsLedgerOf, IsLineOf, keys_s
 ghost use Rattle.pp_source.specs.Routines.{found_lines};
 
 use crate::ledger::Ledger;
-use crate::report::ListReport;
 use crate::tallies::{KeyTallies, tally_at};
 use pp_base::Memory;
+use pp_count::Survey;
 use pp_grain::{Key, KeyTexts, texts_of, texts_order};
 use std::alloc::Global;
 
@@ -28,19 +28,19 @@ pub struct FoundLine<'a> {
 /// The lines that the own pattern finds, by function, file and number. `Err` is want of memory.
 pub fn found_lines<'a>(
     alloc: Global,
-    report: &ListReport<'a>,
+    survey: &Survey<'a>,
     ledger: &Ledger,
 ) -> Result<Vec<FoundLine<'a>>, Memory>
-    requires { AreFound report.now.l.now.profile report.now.v.now.own ledger.now.lines.names.keys }
-    ensures found { (f : Finders) → report.now.v.now.own ≡ judged report.now.l.now.profile f.own →
+    requires { AreFound survey.now.l.now.profile survey.now.v.now.own ledger.now.lines.names.keys }
+    ensures found { (f : Finders) → survey.now.v.now.own ≡ judged survey.now.l.now.profile f.own →
         (samples : Seq (Seen Written)) →
-        IsLedgerOf report.now.l.now.profile report.now.v.now.own samples ledger.now →
+        IsLedgerOf survey.now.l.now.profile survey.now.v.now.own samples ledger.now →
         IfOk result (λ lines. lines_texts lines.items ≡ found_lines f samples) }
     ensures of_report { IfOk result (λ lines.
-        All (IsLineOf report.now.l.now.profile report.now.v.now.own) lines.items) }
+        All (IsLineOf survey.now.l.now.profile survey.now.v.now.own) lines.items) }
 {
-    let _compact = report.l.profile.get();
-    let mut lines = collect(alloc, report, &ledger.lines)?;
+    let _compact = survey.l.profile.get();
+    let mut lines = collect(alloc, survey, &ledger.lines)?;
     lines.sort_by(|a, b| texts_order(&a.texts, &b.texts))?;
     Ok(lines)
 }
@@ -48,16 +48,16 @@ pub fn found_lines<'a>(
 // Those of the lines that some sample had.
 fn collect<'a>(
     alloc: Global,
-    report: &ListReport<'a>,
+    survey: &Survey<'a>,
     lines: &KeyTallies,
 ) -> Result<Vec<FoundLine<'a>>, Memory>
-    requires { AreFound report.now.l.now.profile report.now.v.now.own lines.now.names.keys }
+    requires { AreFound survey.now.l.now.profile survey.now.v.now.own lines.now.names.keys }
     ensures keys { IfOk result (λ found. map (λ line. line.key) found.items ≡ keys_seen lines.now) }
     ensures of_report { IfOk result (λ found.
-        All (IsLineOf report.now.l.now.profile report.now.v.now.own) found.items) }
+        All (IsLineOf survey.now.l.now.profile survey.now.v.now.own) found.items) }
     ensures distinct { IsDistinct same_key lines.now.names.keys }
 {
-    let p = report.l.profile.get();
+    let p = survey.l.profile.get();
     let mut found = Vec::new(alloc);
     for key in lines.names.as_slice() {
         if tally_at(lines, key).last > 0 {

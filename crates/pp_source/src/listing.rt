@@ -16,12 +16,11 @@ use crate::files::{Sources, files_of, read_sources};
 use crate::ledger::ledger_of;
 use crate::lines::{FoundLine, found_lines};
 use crate::refusal::ListRefusal;
-use crate::report::ListReport;
 use crate::routine::write_routines;
 use crate::rows::Listing;
 use crate::split::split_sources;
 use pp_base::{Memory, Text};
-use pp_count::Counted;
+use pp_count::{Counted, Survey};
 use pp_desk::{Desk, Stop};
 use pp_model::{Config, Loaded, Verdicts};
 use pp_units::{Head, put_value};
@@ -54,15 +53,35 @@ pub fn write_list<D: Desk>(
         (beside out.new result) }
     ensures stopped { OnErr result (out.new ≡ out.old) }
 {
-    let report = ListReport {
+    let survey = Survey {
         l,
         v,
-        counted: c,
         config,
         column,
-        head,
+        counted: c,
     };
-    let Some(text) = list_report(alloc, &report, desk)? else {
+    write_list_of(alloc, &survey, head, desk, out)
+}
+
+/// What `write_list` does for the report.
+#[tactic(auto, using(pp_desk::proofs::Going::going))]
+pub fn write_list_of<D: Desk>(
+    alloc: Global,
+    survey: &Survey<'_>,
+    head: &Head,
+    desk: &mut D,
+    out: &mut Text,
+) -> Result<Result<(), ListRefusal>, Stop>
+    requires { head.now.total < 2 ^ 63 }
+    ensures went { (f : Finders) →
+        HoldsFilters survey.now.l.now survey.now.v.now survey.now.config.now f →
+        Went (D.world desk.old) (D.world desk.new)
+        (added_report out.old (list_report survey.now.l.now.profile f survey.now.config.now
+        survey.now.column (facts head.now)))
+        (beside out.new result) }
+    ensures stopped { OnErr result (out.new ≡ out.old) }
+{
+    let Some(text) = list_report(alloc, survey, head, desk)? else {
         return Ok(Err(ListRefusal::NoMatch));
     };
     out.append(text)?;
@@ -73,32 +92,28 @@ pub fn write_list<D: Desk>(
 #[tactic(auto, using(pp_desk::proofs::Going::going))]
 fn list_report<D: Desk>(
     alloc: Global,
-    report: &ListReport<'_>,
+    survey: &Survey<'_>,
+    head: &Head,
     desk: &mut D,
 ) -> Result<Option<Text>, Stop>
-    requires can { CanCount report.now.l.now.profile report.now.v.now report.now.config.now
-        report.now.column }
-    requires counted { IsCountedOf report.now.l.now report.now.v.now report.now.config.now
-        report.now.column report.now.counted.now }
-    requires total { report.now.head.now.total < 2 ^ 63 }
+    requires { head.now.total < 2 ^ 63 }
     ensures { (f : Finders) →
-        HoldsFilters report.now.l.now report.now.v.now report.now.config.now f →
+        HoldsFilters survey.now.l.now survey.now.v.now survey.now.config.now f →
         Went (D.world desk.old) (D.world desk.new)
-        (list_report report.now.l.now.profile f report.now.config.now report.now.column
-        (facts report.now.head.now)) result }
+        (list_report survey.now.l.now.profile f survey.now.config.now survey.now.column
+        (facts head.now)) result }
 {
-    let ledger = ledger_of(alloc, report)?;
-    let lines = found_lines(alloc, report, &ledger)?;
+    let ledger = ledger_of(alloc, survey)?;
+    let lines = found_lines(alloc, survey, &ledger)?;
     if lines.is_empty() {
         return Ok(None);
     }
     let listing = Listing {
-        l: report.l,
-        v: report.v,
-        head: report.head,
+        survey,
+        head,
         ledger: &ledger,
     };
-    let text = list_lines(alloc, &listing, report.config, &lines, desk)?;
+    let text = list_lines(alloc, &listing, &lines, desk)?;
     Ok(Some(text))
 }
 
@@ -107,7 +122,6 @@ fn list_report<D: Desk>(
 fn list_lines<D: Desk>(
     alloc: Global,
     listing: &Listing<'_>,
-    config: &Config,
     lines: &[FoundLine<'_>],
     desk: &mut D,
 ) -> Result<Text, Stop>
@@ -115,9 +129,10 @@ fn list_lines<D: Desk>(
     requires total { listing.now.head.now.total < 2 ^ 63 }
     ensures { (samples : Seq (Seen Written)) →
         ListsOf listing.now samples →
-        Went (D.world desk.old) (D.world desk.new) (list_lines config.now samples
-        (facts listing.now.head.now) (lines_texts lines.now)) result }
+        Went (D.world desk.old) (D.world desk.new) (list_lines listing.now.survey.now.config.now
+        samples (facts listing.now.head.now) (lines_texts lines.now)) result }
 {
+    let config = listing.survey.config;
     let files = files_of(alloc, lines)?;
     let sources = read_sources(alloc, config, files.as_slice(), desk)?;
     let split = split_sources(alloc, sources.as_slice())?;

@@ -126,7 +126,7 @@ fn write_sums(
         out.new ≡ out.old ++ routine_line (facts listing.now.head.now)
         (routine_amounts samples (line_texts line.now))) }
 {
-    let _valid = listing.l.profile.get();
+    let _valid = listing.survey.l.profile.get();
     let key = part_key(KeyPart::Routine, &line.key);
     let sums = amounts_at(&listing.ledger.routines, &key);
     put_routine(alloc, listing.head, sums, out)

@@ -14,7 +14,7 @@ use crate::lines::FoundLine;
 use crate::tallies::amounts_at;
 use itoa::Buffer;
 use pp_base::{Memory, Text};
-use pp_model::{Loaded, Verdicts};
+use pp_count::Survey;
 use pp_units::{Head, put_right};
 use std::alloc::Global;
 
@@ -24,10 +24,8 @@ const AROUND: u64 = 5;
 /// What the texts of all routines are made of.
 #[derive(Clone, Copy)]
 pub struct Listing<'a> {
-    /// The profile.
-    pub l: &'a Loaded,
-    /// What the patterns of the report find of its texts.
-    pub v: &'a Verdicts,
+    /// What the report looks at.
+    pub survey: &'a Survey<'a>,
     /// How values are printed.
     pub head: &'a Head,
     /// What the samples come to, by line and by routine.
@@ -154,7 +152,7 @@ fn write_row(
         out.new ≡ out.old ++ line_row samples (facts listing.now.head.now) (line_texts line.now)
         number bytes.now) }
 {
-    let _valid = listing.l.profile.get();
+    let _valid = listing.survey.l.profile.get();
     let key = key_at(&line.key, number as i64);
     let sums = amounts_at(&listing.ledger.lines, &key);
     put_row(listing.head, sums, number, bytes, scratch, out)

@@ -11,10 +11,10 @@ use Rattle.pp_source.proofs.lines.found_lines.Goals as goal
 
 pub returns-clause-found : goal.returns-clause-found
 returns-clause-found c f judges samples of =
-    lines_are c.args.report.now.l.now.profile (subst IsCompact c.get-compact.ensures.same c.get-compact.ensures.compact) f c.args.report.now.v.now.own judges samples c.args.ledger.now of c.requires c.in_ok-lines.ensures.distinct
+    lines_are c.args.survey.now.l.now.profile (subst IsCompact c.get-compact.ensures.same c.get-compact.ensures.compact) f c.args.survey.now.v.now.own judges samples c.args.ledger.now of c.requires c.in_ok-lines.ensures.distinct
     _ _ c.in_ok-lines.ensures.keys c.in_ok-lines.ensures.of_report c.in_ok-sort_by.ensures.permutation
     (c.in_ok-sort_by.ensures.sorted (λ a b. is_lt (key_cmp (line_texts a) (line_texts b))) (ranks_by key_cmp_total line_texts)
     (always_returns_same _ (λ a r. is_lt r ≡ is_lt (key_cmp (line_texts a.0.now) (line_texts a.1.0.now))) _ (λ a r f' k. search rules)))
 
 pub returns-clause-of_report : goal.returns-clause-of_report
-returns-clause-of_report c = All-permutation (IsLineOf c.args.report.now.l.now.profile c.args.report.now.v.now.own) _ _ c.in_ok-sort_by.ensures.permutation c.in_ok-lines.ensures.of_report
+returns-clause-of_report c = All-permutation (IsLineOf c.args.survey.now.l.now.profile c.args.survey.now.v.now.own) _ _ c.in_ok-sort_by.ensures.permutation c.in_ok-lines.ensures.of_report

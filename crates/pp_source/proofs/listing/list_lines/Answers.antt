@@ -13,7 +13,7 @@ pub returns-in_err-sources : goal.returns-in_err-sources
 returns-in_err-sources g c samples of =
     let p = err_from_is_err_and c.from_residual-in_err-sources.result c.from_residual-in_err-sources.ensures.1 in
     rw (p.1, p.2)
-    (lines_stop c.args.config.now samples (facts c.args.listing.now.head.now) (lines_texts c.args.lines.now) c.as_slice.result.now c.in_ok-files.files.keys c.as_slice.ensures.keys c.in_ok-files.ensures _ _ _
+    (lines_stop c.args.listing.now.survey.now.config.now samples (facts c.args.listing.now.head.now) (lines_texts c.args.lines.now) c.as_slice.result.now c.in_ok-files.files.keys c.as_slice.ensures.keys c.in_ok-files.ensures _ _ _
     c.in_err-sources.ensures)
 
 -- memory was wanting for the lines of the sources
@@ -21,7 +21,7 @@ pub returns-in_err-split : goal.returns-in_err-split
 returns-in_err-split g c samples of =
     let p = err_from_is_err_and c.from_residual-in_err-split.result c.from_residual-in_err-split.ensures.1 in
     rw (p.1, p.2)
-    (lines_want c.args.config.now samples (facts c.args.listing.now.head.now) (lines_texts c.args.lines.now) c.as_slice.result.now c.in_ok-files.files.keys c.as_slice.ensures.keys c.in_ok-files.ensures _ _
+    (lines_want c.args.listing.now.survey.now.config.now samples (facts c.args.listing.now.head.now) (lines_texts c.args.lines.now) c.as_slice.result.now c.in_ok-files.files.keys c.as_slice.ensures.keys c.in_ok-files.ensures _ _
     c.in_ok-sources.sources c.in_ok-sources.ensures)
 
 -- memory was wanting for the text
@@ -29,13 +29,13 @@ pub returns-in_err-text : goal.returns-in_err-text
 returns-in_err-text g c samples of =
     let p = err_from_is_err_and c.from_residual-in_err-text.result c.from_residual-in_err-text.ensures.1 in
     rw (p.1, p.2)
-    (lines_want c.args.config.now samples (facts c.args.listing.now.head.now) (lines_texts c.args.lines.now) c.as_slice.result.now c.in_ok-files.files.keys c.as_slice.ensures.keys c.in_ok-files.ensures _ _
+    (lines_want c.args.listing.now.survey.now.config.now samples (facts c.args.listing.now.head.now) (lines_texts c.args.lines.now) c.as_slice.result.now c.in_ok-files.files.keys c.as_slice.ensures.keys c.in_ok-files.ensures _ _
     c.in_ok-sources.sources c.in_ok-sources.ensures)
 
 -- the report is whole
 pub returns : goal.returns
 returns g c samples of =
-    lines_go c.args.config.now samples (facts c.args.listing.now.head.now) (lines_texts c.args.lines.now) c.as_slice.result.now c.in_ok-files.files.keys c.as_slice.ensures.keys c.in_ok-files.ensures _ _
+    lines_go c.args.listing.now.survey.now.config.now samples (facts c.args.listing.now.head.now) (lines_texts c.args.lines.now) c.as_slice.result.now c.in_ok-files.files.keys c.as_slice.ensures.keys c.in_ok-files.ensures _ _
     c.in_ok-sources.sources c.in_ok-text.text c.in_ok-sources.ensures
     (c.in_ok-text.ensures samples of
     ∙ ap (λ ss. lines_text samples (facts c.args.listing.now.head.now) (source_at (map told c.in_ok-files.files.keys) ss) (lines_texts c.args.lines.now)) (c.in_ok-split.ensures ∙ c.as_slice-2.ensures))

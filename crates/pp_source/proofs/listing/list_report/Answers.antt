@@ -12,29 +12,29 @@ use Rattle.pp_source.proofs.listing.list_report.Goals as goal
 -- nothing is found
 pub returns-then-is_empty : goal.returns-then-is_empty
 returns-then-is_empty g c f holds =
-    let samples : List (Seen Written) = report_frames c.args.report.now.l.now.profile f c.args.report.now.config.now c.args.report.now.column in
+    let samples : List (Seen Written) = report_frames c.args.survey.now.l.now.profile f c.args.survey.now.config.now c.args.survey.now.column in
     let empty : length c.in_ok-lines.lines.items ≡ 0 = first_of (search rules, grind (arith, c.is_empty.ensures, c.if-is_empty.true)) in
-    report_none c.args.report.now.config.now samples (facts c.args.report.now.head.now) (found_lines f samples) (has_own_match c.args.report.now.l.now.profile f c.args.report.now.config.now c.args.report.now.column) _
+    report_none c.args.survey.now.config.now samples (facts c.args.head.now) (found_lines f samples) (has_own_match c.args.survey.now.l.now.profile f c.args.survey.now.config.now c.args.survey.now.column) _
     (no_lines f samples c.in_ok-lines.lines.items (c.in_ok-lines.ensures.found f holds.found.own samples (c.in_ok-ledger.ensures.sums f holds)) empty)
 
 -- the report was stopped
 pub returns-in_err-text : goal.returns-in_err-text
 returns-in_err-text g c f holds =
-    let samples : List (Seen Written) = report_frames c.args.report.now.l.now.profile f c.args.report.now.config.now c.args.report.now.column in
+    let samples : List (Seen Written) = report_frames c.args.survey.now.l.now.profile f c.args.survey.now.config.now c.args.survey.now.column in
     let some : length c.in_ok-lines.lines.items ≡ 0 → ⊥ = λ none. first_of (search (rules, c.if-is_empty.false), grind (arith, c.is_empty.ensures, c.if-is_empty.false, none)) in
     let are : lines_texts c.in_ok-lines.lines.items ≡ found_lines f samples = c.in_ok-lines.ensures.found f holds.found.own samples (c.in_ok-ledger.ensures.sums f holds) in
     let p = err_from_is_err_and c.from_residual-in_err-text.result c.from_residual-in_err-text.ensures.1 in
     rw (p.1, p.2)
-    (made_stopped c.args.report.now.config.now samples (facts c.args.report.now.head.now) (lines_texts c.deref.result.now) (found_lines f samples) (ap lines_texts c.deref.ensures.value ∙ are)
-    (has_own_match c.args.report.now.l.now.profile f c.args.report.now.config.now c.args.report.now.column) (some_lines f samples c.in_ok-lines.lines.items are some) _ _ _
+    (made_stopped c.args.survey.now.config.now samples (facts c.args.head.now) (lines_texts c.deref.result.now) (found_lines f samples) (ap lines_texts c.deref.ensures.value ∙ are)
+    (has_own_match c.args.survey.now.l.now.profile f c.args.survey.now.config.now c.args.survey.now.column) (some_lines f samples c.in_ok-lines.lines.items are some) _ _ _
     (c.in_err-text.ensures samples (c.in_ok-ledger.ensures.sums f holds)))
 
 -- the report is there
 pub returns : goal.returns
 returns g c f holds =
-    let samples : List (Seen Written) = report_frames c.args.report.now.l.now.profile f c.args.report.now.config.now c.args.report.now.column in
+    let samples : List (Seen Written) = report_frames c.args.survey.now.l.now.profile f c.args.survey.now.config.now c.args.survey.now.column in
     let some : length c.in_ok-lines.lines.items ≡ 0 → ⊥ = λ none. first_of (search (rules, c.if-is_empty.false), grind (arith, c.is_empty.ensures, c.if-is_empty.false, none)) in
     let are : lines_texts c.in_ok-lines.lines.items ≡ found_lines f samples = c.in_ok-lines.ensures.found f holds.found.own samples (c.in_ok-ledger.ensures.sums f holds) in
-    made_found c.args.report.now.config.now samples (facts c.args.report.now.head.now) (lines_texts c.deref.result.now) (found_lines f samples) (ap lines_texts c.deref.ensures.value ∙ are)
-    (has_own_match c.args.report.now.l.now.profile f c.args.report.now.config.now c.args.report.now.column) (some_lines f samples c.in_ok-lines.lines.items are some) _ _ c.in_ok-text.text
+    made_found c.args.survey.now.config.now samples (facts c.args.head.now) (lines_texts c.deref.result.now) (found_lines f samples) (ap lines_texts c.deref.ensures.value ∙ are)
+    (has_own_match c.args.survey.now.l.now.profile f c.args.survey.now.config.now c.args.survey.now.column) (some_lines f samples c.in_ok-lines.lines.items are some) _ _ c.in_ok-text.text
     (c.in_ok-text.ensures samples (c.in_ok-ledger.ensures.sums f holds))

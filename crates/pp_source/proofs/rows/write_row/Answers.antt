@@ -19,5 +19,5 @@ returns c samples of =
     (c.amounts_at-sums.ensures
     ∙ ap (λ k. amounts_of_tally (tally_of_key c.args.listing.now.ledger.now.lines k)) c.key_at-key.ensures
     ∙ ap (λ n. amounts_of_tally (tally_of_key c.args.listing.now.ledger.now.lines (key_at c.args.line.now.key n))) (to_z_pos w64 c.args.number c.requires.small)
-    ∙ line_comes_to c.args.listing.now.l.now.profile c.args.listing.now.v.now.own (zero_text c.args.listing.now.l.now.profile (subst NoRuleFails c.get-valid.ensures.same c.get-valid.ensures.valid)) c.args.line.now c.requires.line samples c.args.listing.now.ledger.now of c.args.number))
+    ∙ line_comes_to c.args.listing.now.survey.now.l.now.profile c.args.listing.now.survey.now.v.now.own (zero_text c.args.listing.now.survey.now.l.now.profile (subst NoRuleFails c.get-valid.ensures.same c.get-valid.ensures.valid)) c.args.line.now c.requires.line samples c.args.listing.now.ledger.now of c.args.number))
     c.put_row.ensures
