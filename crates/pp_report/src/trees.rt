@@ -1,5 +1,5 @@
 //! The two forms of the tree report.
-ghost use Rattle.std.specs.Prelude.{◌≡◌, ◌<◌, ◌^◌, IfOk};
+ghost use Rattle.std.specs.Prelude.{◌≡◌, IfOk};
 ghost use Rattle.pp_model.specs.Finders.{Finders};
 ghost use Rattle.pp_units.specs.Head.{facts};
 ghost use Rattle.pp_count.specs.Counted.{CanCount, IsCountedOf};
@@ -30,7 +30,6 @@ pub fn tree_report<R: Threads + Sync, G: Gate>(
 ) -> Result<Text, Memory>
     requires can { CanCount l.now.profile counts.now.verdicts config.now column }
     requires counted { IsCountedOf l.now counts.now.verdicts config.now column counts.now.counted }
-    requires small { head.now.total < 2 ^ 63 }
     ensures { (f : Finders) → HoldsFilters l.now counts.now.verdicts config.now f →
         IfOk result (λ text. text
         ≡ tree_report_text l.now.profile f config.now column (facts head.now)) }
@@ -53,7 +52,6 @@ fn call_tree(
 ) -> Result<Text, Memory>
     requires can { CanCount l.now.profile counts.now.verdicts config.now column }
     requires counted { IsCountedOf l.now counts.now.verdicts config.now column counts.now.counted }
-    requires small { head.now.total < 2 ^ 63 }
     ensures { (f : Finders) → HoldsFilters l.now counts.now.verdicts config.now f →
         IfOk result (λ text. text
         ≡ calltree_text l.now.profile f config.now column (facts head.now)) }
