@@ -11,7 +11,7 @@ use Rattle.pp_report.specs.Patterns.{report_finders}
 use Rattle.pp_report.specs.Prepared.{showing}
 use Rattle.pp_report.specs.Reports.{finish_on, text_by}
 use Rattle.pp_report.specs.SavedText.{IsProtoOf, OnText}
-use Rattle.pp_report.proofs.FinishingLemmas.{finish_comments, is_comments, counts_small, counts_at, same_small}
+use Rattle.pp_report.proofs.FinishingLemmas.{finish_comments, is_comments, counts_at}
 use Rattle.pp_report.proofs.finishing.finish_on.Goals as goal
 
 -- a comments report counts nothing
@@ -26,14 +26,6 @@ returns-in_default-clause-went g c =
 pub returns-in_err-head-clause-went : goal.returns-in_err-head-clause-went
 returns-in_err-head-clause-went g c =
     let p = err_from_is_err_and c.from_residual-in_err-head.result c.from_residual-in_err-head.ensures.1 in rw (p.1, p.2) (wants _ _)
-
--- its total is that of the counts
-pub text_by-requires-clause-small : goal.text_by-requires-clause-small
-text_by-requires-clause-small g c = λ _ _.
-    same_small c.in_ok-head.head.total c.in-Some.counts.counted.total c.in_ok-head.ensures.total
-    (counts_small g.D.Desk.finds c.args.l.now c.args.report.now c.args.config.now c.args.shows.column c.in-Some.counts
-    (counts_at g.D.Desk.finds c.args.l.now c.args.report.now c.args.config.now c.args.shows.column c.args.counts
-    c.in-Some.counts c.in-Some.is c.requires))
 
 -- what is counted is what the report's own patterns leave
 pub text_by-requires-clause-kept : goal.text_by-requires-clause-kept
@@ -68,6 +60,6 @@ returns-clause-went g c =
     let wanted = option_map shown c.args.shows.unit in
     let are = counts_at finds l report config column c.args.counts c.in-Some.counts c.in-Some.is c.requires in
     let head : facts c.in_ok-head.head ≡ report_head l.profile own config column wanted =
-    c.in_ok-head.ensures.facts ∙ ap (head_of l.profile column wanted) (are.are.total_is own are.holds) in
+    c.in_ok-head.ensures ∙ ap (head_of l.profile column wanted) (are.are.total_is own are.holds) in
     subst (λ (h : Facts). Went (g.D.Desk.world c.args.desk.now) (g.D.Desk.world c.text_by.new.desk) (text_by l.profile own config column h report) c.text_by.result)
     head (c.text_by.ensures.went own are.holds)
