@@ -1,8 +1,6 @@
 -- What the writers of reports ask for, and what they leave.
-use Rattle.std.proofs.Common.{◌≡◌, ℕ, ◌<◌, ◌^◌, ◌==◌, true, false, cond, List, [], ◌++◌, nat_abs, refl, sym, ap, ◌∙◌, subst, arith}
-use Rattle.std.specs.Prelude.{Option, Some, None, Result, Ok, Err, if◌then◌else◌}
-use Rattle.std.specs.List.{filter}
-use Rattle.std.specs.Option.{is_some}
+use Rattle.std.proofs.Common.{◌≡◌, ℕ, List, [], ◌++◌, refl, sym, ap, ◌∙◌, subst}
+use Rattle.std.specs.Prelude.{Option, Some, None, Result, Ok, Err}
 use Rattle.pp_desk.specs.declared.stop.Stop.{Stop}
 use Rattle.pp_desk.specs.Script.{Script, Give, Make, ◌>>=◌}
 use Rattle.pp_desk.specs.Went.{Went}
@@ -11,20 +9,12 @@ use Rattle.pp_desk.proofs.Going.{gives, goes_give, stops_first}
 use Rattle.pp_model.specs.declared.config.Config.{Config}
 use Rattle.pp_model.specs.declared.loaded.Loaded.{Loaded}
 use Rattle.pp_model.specs.declared.profile.Profile.{Profile}
-use Rattle.pp_model.specs.declared.profile.Sample.{Sample}
 use Rattle.pp_model.specs.declared.report.Report.{Report}
 use Rattle.pp_model.specs.declared.report.Report.TheVariants as reports
-use Rattle.pp_model.specs.Conditions.{IsColumnOf}
 use Rattle.pp_model.specs.Finders.{Finders}
-use Rattle.pp_model.specs.Sizes.{IsCountable}
 use Rattle.pp_units.specs.Head.{Facts}
 use Rattle.pp_tables.specs.Encode.{encode}
 use Rattle.pp_pattern.specs.Report.{Finds}
-use Rattle.pp_count.specs.Column.{selected}
-use Rattle.pp_count.specs.Counts.{is_base, total_by, total_over, total_of, filtered_samples}
-use Rattle.pp_count.specs.Seeing.{absolute_all, filtered_stack}
-use Rattle.pp_count.proofs.Kept.{values_fit}
-use Rattle.pp_count.proofs.Totals.{filter_size}
 use Rattle.pp_source.specs.declared.refusal.ListRefusal.{ListRefusal}
 use Rattle.pp_source.specs.Listing.{with_report, added_report}
 use Rattle.pp_samples.specs.Comments.{comments_text}
@@ -36,32 +26,6 @@ use Rattle.pp_report.specs.Patterns.{report_finders}
 use Rattle.pp_report.specs.Prepared.{Showing, AreCounts, HasCounts}
 use Rattle.pp_report.specs.Reports.{of_found, finish_on, finish_by, text_by}
 use Rattle.pp_report.proofs.PreparingLemmas.{uncounted_comments}
-
--- one of two totals
-either_small : (base all : ℕ) → base < 2 ^ 63 → all < 2 ^ 63 → total_by base all < 2 ^ 63
-either_small base all a b = elim (base == 0) as (λ t. cond t all base < 2 ^ 63) [ true ↦ b | false ↦ a ]
-
-over_small : (p : Profile) (config : Config) (column : Option ℕ) (samples : List Sample)
-    → absolute_all column config.divide_by samples < 2 ^ 63 → total_over p config column samples < 2 ^ 63
-over_small p config column samples small =
-    let size : Sample → ℕ = λ s. nat_abs (selected column config.divide_by s) in
-    either_small (absolute_all column config.divide_by (filter (is_base p) samples)) (absolute_all column config.divide_by samples)
-    (omega (arith, small, filter_size size (is_base p) samples)) small
-
--- a total is below 2^63
-pub total_small : (p : Profile) (f : Finders) (config : Config) (column : Option ℕ) → IsCountable p → IsColumnOf p column
-    → total_of p f config column < 2 ^ 63
-total_small p f config column countable below =
-    let size : Sample → ℕ = λ s. nat_abs (selected column config.divide_by s) in
-    let all = values_fit p column config.divide_by countable below in
-    over_small p config column (if config.relative_percentages then filtered_samples p f config p.sample else p.sample)
-    (elim config.relative_percentages as (λ relative. absolute_all column config.divide_by (cond relative (filtered_samples p f config p.sample) p.sample) < 2 ^ 63) [
-      | true ↦ omega (arith, all, filter_size size (λ s. is_some (filtered_stack p f config s)) p.sample)
-      | false ↦ all
-    ])
-
-pub same_small : (total counted : ℕ) → total ≡ counted → counted < 2 ^ 63 → total < 2 ^ 63
-same_small total counted same small = rw same small
 
 -- what was written into an empty text
 pub made_text : (new old text : List ℕ) → old ≡ [] → new ≡ old ++ text → new ≡ text
@@ -118,12 +82,6 @@ module _ (finds : Finds) (l : Loaded) (report : Report) (config : Config) where
   finish_comments w s text comments is =
       subst (λ r. Went {T = Result (List ℕ) ReportRefusal} w w (finish_by l.profile (report_finders finds l r config) config s r) (Ok (Ok text))) (sym comments)
       (subst (λ t. Went {T = Result (List ℕ) ReportRefusal} w w (Give (Ok (comments_text l.profile))) (Ok (Ok t))) (sym is) (gives w (Ok (comments_text l.profile))))
-
-  -- the total that was counted is below 2^63
-  pub counts_small : (column : Option ℕ) (counts : Counts) → AreCounts finds l report config column counts → counts.counted.total < 2 ^ 63
-  counts_small column counts are =
-      rw (are.are.total_is (report_finders finds l report config) are.holds)
-      (total_small l.profile (report_finders finds l report config) config column are.can.countable are.can.column)
 
   -- what was counted, where something was
   pub counts_at : (column : Option ℕ) (all : Option Counts) (counts : Counts) → all ≡ Some counts → HasCounts finds l report config column all

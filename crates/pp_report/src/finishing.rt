@@ -1,5 +1,5 @@
 //! The text of a report.
-ghost use Rattle.std.specs.Prelude.{◌≡◌, ◌<◌, ◌^◌};
+ghost use Rattle.std.specs.Prelude.{◌≡◌};
 ghost use Rattle.pp_desk.specs.Went.{Went};
 ghost use Rattle.pp_model.specs.declared.report.Report.TheVariants.{Proto};
 ghost use Rattle.pp_model.specs.Finders.{Finders};
@@ -114,7 +114,6 @@ fn text_on<'x, R: Threads + Sync, D: Desk, G: Gate>(
     requires can { CanCount l.now.profile counts.now.verdicts config.now column }
     requires counted { IsCountedOf l.now counts.now.verdicts config.now column counts.now.counted }
     requires kept { AreKept l.now.profile counts.now.counted.kept }
-    requires small { head.now.total < 2 ^ 63 }
     ensures went { (f : Finders) → HoldsFilters l.now counts.now.verdicts config.now f →
         Went (D.world desk.old) (D.world desk.new)
         (text_by l.now.profile f config.now column (facts head.now) report.now) result }

@@ -12,8 +12,7 @@ use std::alloc::Global;
 
 /// The head of a report that shows this, over the total.
 pub fn head_of(alloc: Global, l: &Loaded, shows: Shows, total: u64) -> Result<Head, Memory>
-    ensures total { IfOk result (λ head. head.total ≡ total) }
-    ensures facts { IfOk result (λ head. facts head
+    ensures { IfOk result (λ head. facts head
         ≡ head_of l.now.profile shows.column (option_map shown shows.unit) total) }
 {
     let p = l.profile.get();

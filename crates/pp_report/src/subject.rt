@@ -1,6 +1,4 @@
 //! What the text of a report is made of.
-ghost use Rattle.std.specs.Prelude.{◌<◌, ◌^◌};
-
 use pp_count::Survey;
 use pp_units::Head;
 
@@ -11,5 +9,4 @@ pub struct Subject<'s, 'h> {
     pub survey: Survey<'s>,
     /// The lines in front, and how values are printed.
     pub head: &'h Head,
-    pub ghost small: { head.now.total < 2 ^ 63 },
 }

@@ -25,18 +25,19 @@ last_is n [] d = refl
 last_is n (next ∷ ns) d = last_is next ns d
 
 -- which lines are shown, by the places about the span
-pub is_shown : (first last count place : ℕ) → place < count → is_near first last (place + 1) ≡ (nat_le (first - 6) place && nat_lt place (min count (last + 5)))
-is_shown first last count place within =
+pub is_shown : (first last count place : ℕ) → count ≤ 18446744073709551615 → place < count
+    → is_near first last (place + 1) ≡ (nat_le (first - 6) place && nat_lt place (min count (min (last + 5) 18446744073709551615)))
+is_shown first last count place most within =
     (λ i. front i && back i) where
       front : nat_le first (place + 1 + 5) ≡ nat_le (first - 6) place
       front = same_bool _ _
           (λ yes. le-leb (first - 6) place (omega (arith, leb-true first (place + 1 + 5) yes)))
           (λ yes. le-leb first (place + 1 + 5) (omega (arith, leb-true (first - 6) place yes)))
 
-      back : nat_le (place + 1) (last + 5) ≡ nat_lt place (min count (last + 5))
+      back : nat_le (place + 1) (last + 5) ≡ nat_lt place (min count (min (last + 5) 18446744073709551615))
       back = same_bool _ _
-          (λ yes. lt-ltb place (min count (last + 5)) (omega (arith, within, leb-true (place + 1) (last + 5) yes)))
-          (λ yes. le-leb (place + 1) (last + 5) (omega (arith, ltb-true place (min count (last + 5)) yes)))
+          (λ yes. lt-ltb place (min count (min (last + 5) 18446744073709551615)) (omega (arith, most, within, leb-true (place + 1) (last + 5) yes)))
+          (λ yes. le-leb (place + 1) (last + 5) (omega (arith, ltb-true place (min count (min (last + 5) 18446744073709551615)) yes)))
 
 module _ (samples : List (Seen Written)) (h : Facts) (k : Written) where
   -- lines that aren't shown have no row

@@ -1,5 +1,5 @@
 //! The list report.
-ghost use Rattle.std.specs.Prelude.{◌≡◌, ◌++◌, ◌<◌, ◌^◌, List as Seq, All, IfOk, OnErr};
+ghost use Rattle.std.specs.Prelude.{◌≡◌, ◌++◌, List as Seq, All, IfOk, OnErr};
 ghost use Rattle.pp_desk.specs.Went.{Went, beside};
 ghost use Rattle.pp_model.specs.Finders.{Finders};
 ghost use Rattle.pp_model.specs.FrameTexts.{Written};
@@ -23,7 +23,7 @@ use pp_base::{Memory, Text};
 use pp_count::{Counted, Survey};
 use pp_desk::{Desk, Stop};
 use pp_model::{Config, Loaded, Verdicts};
-use pp_units::{Head, put_value};
+use pp_units::{Head, put_size};
 use std::alloc::Global;
 
 /// Appends the list report: for each function and file that the report's own pattern finds, its sums and the lines of
@@ -46,7 +46,6 @@ pub fn write_list<D: Desk>(
 ) -> Result<Result<(), ListRefusal>, Stop>
     requires can { CanCount l.now.profile v.now config.now column }
     requires counted { IsCountedOf l.now v.now config.now column c.now }
-    requires total { head.now.total < 2 ^ 63 }
     ensures went { (f : Finders) → HoldsFilters l.now v.now config.now f →
         Went (D.world desk.old) (D.world desk.new)
         (added_report out.old (list_report l.now.profile f config.now column (facts head.now)))
@@ -72,7 +71,6 @@ pub fn write_list_of<D: Desk>(
     desk: &mut D,
     out: &mut Text,
 ) -> Result<Result<(), ListRefusal>, Stop>
-    requires { head.now.total < 2 ^ 63 }
     ensures went { (f : Finders) →
         HoldsFilters survey.now.l.now survey.now.v.now survey.now.config.now f →
         Went (D.world desk.old) (D.world desk.new)
@@ -96,7 +94,6 @@ fn list_report<D: Desk>(
     head: &Head,
     desk: &mut D,
 ) -> Result<Option<Text>, Stop>
-    requires { head.now.total < 2 ^ 63 }
     ensures { (f : Finders) →
         HoldsFilters survey.now.l.now survey.now.v.now survey.now.config.now f →
         Went (D.world desk.old) (D.world desk.new)
@@ -125,8 +122,7 @@ fn list_lines<D: Desk>(
     lines: &[FoundLine<'_>],
     desk: &mut D,
 ) -> Result<Text, Stop>
-    requires lines { All (IsLineIn listing.now) lines.now }
-    requires total { listing.now.head.now.total < 2 ^ 63 }
+    requires { All (IsLineIn listing.now) lines.now }
     ensures { (samples : Seq (Seen Written)) →
         ListsOf listing.now samples →
         Went (D.world desk.old) (D.world desk.new) (list_lines listing.now.survey.now.config.now
@@ -151,8 +147,7 @@ fn lines_text(
     sources: &Sources<'_, '_>,
     lines: &[FoundLine<'_>],
 ) -> Result<Text, Memory>
-    requires lines { All (IsLineIn listing.now) lines.now }
-    requires total { listing.now.head.now.total < 2 ^ 63 }
+    requires { All (IsLineIn listing.now) lines.now }
     ensures { (samples : Seq (Seen Written)) →
         ListsOf listing.now samples → IfOk result (λ text.
         text ≡ lines_text samples (facts listing.now.head.now) (source_in sources.now)
@@ -166,10 +161,9 @@ fn lines_text(
 
 // `"Total: %s\n"`
 fn write_total(head: &Head, out: &mut Text) -> Result<(), Memory>
-    requires { head.now.total < 2 ^ 63 }
     ensures { IfOk result (λ _. out.new ≡ out.old ++ total_line (facts head.now)) }
 {
     out.extend(b"Total: ")?;
-    put_value(head.total as i64, &head.unit, out)?;
+    put_size(head.total, &head.unit, out)?;
     out.extend(b"\n")
 }

@@ -86,8 +86,7 @@ fn write_shown(
     scratch: &mut Text,
     out: &mut Text,
 ) -> Result<(), Memory>
-    requires line { IsLineIn listing.now line.now }
-    requires last { span.last < 2 ^ 63 }
+    requires { IsLineIn listing.now line.now }
     ensures { (samples : Seq (Seen Written)) →
         ListsOf listing.now samples → IfOk result (λ _.
         out.new ≡ out.old ++ shown_rows samples (facts listing.now.head.now) (line_texts line.now)
@@ -102,13 +101,12 @@ fn write_shown(
 
 // The place of the first of so many lines that is shown, and the place after the last.
 fn shown_places(span: LineSpan, count: usize) -> (usize, usize)
-    requires { span.last < 2 ^ 63 }
     ensures within { result.1 ≤ count }
     ensures shown { (place : ℕ) → place < count → is_near span.first span.last (place + 1)
         ≡ (nat_le result.0 place && nat_lt place result.1) }
 {
     let from = span.first.saturating_sub(AROUND + 1);
-    let to = count.min((span.last + AROUND) as usize);
+    let to = count.min(span.last.saturating_add(AROUND) as usize);
     (from as usize, to)
 }
 

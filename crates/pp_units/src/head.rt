@@ -87,7 +87,7 @@ fn put_known(
 
 /// Appends the size, which is in the unit's type, with the unit.
 #[tactic(auto, unfolding(crate::specs::Numbers::value_text, crate::specs::Numbers::number_text))]
-pub(crate) fn put_size(size: u64, unit: &Unit, lines: &mut Text) -> Result<(), Memory>
+pub fn put_size(size: u64, unit: &Unit, lines: &mut Text) -> Result<(), Memory>
     ensures { OnOk result (lines.new ≡ lines.old ++ value_text (pos size) (shown unit.now)) }
 {
     let mut number = Small::new();

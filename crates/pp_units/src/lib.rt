@@ -21,7 +21,7 @@ pub use each::each_unit;
 pub use family::{Family, family_of};
 pub use forced::forced_unit;
 pub use fraction::{BILLION, read_fraction};
-pub use head::{Head, write_head};
+pub use head::{Head, put_size, write_head};
 pub use number::{put_value, write_percent, write_value};
 pub use picked::pick_unit;
 pub use range::{Bound, Range, in_range, read_range};

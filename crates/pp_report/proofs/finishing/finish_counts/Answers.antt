@@ -11,7 +11,6 @@ use Rattle.pp_report.specs.Patterns.{report_finders}
 use Rattle.pp_report.specs.Prepared.{showing}
 use Rattle.pp_report.specs.Reports.{finish_on, text_by}
 use Rattle.pp_report.specs.SavedText.{IsProtoOf, OnText}
-use Rattle.pp_report.proofs.FinishingLemmas.{counts_small, same_small}
 use Rattle.pp_report.proofs.finishing.finish_counts.Goals as goal
 
 -- memory was wanting for the head
@@ -24,12 +23,6 @@ pub text_on-requires-clause-kept : goal.text_on-requires-clause-kept
 text_on-requires-clause-kept g c = λ _ _.
     let own = report_finders g.D.Desk.finds c.args.l.now c.args.report.now c.args.config.now in
     (own, (c.args.config.now, c.requires.are.kept own c.requires.holds))
-
--- the head has the total that was counted
-pub text_on-requires-clause-small : goal.text_on-requires-clause-small
-text_on-requires-clause-small g c = λ _ _.
-    same_small c.in_ok-head.head.total c.args.counts.counted.total c.in_ok-head.ensures.total
-    (counts_small g.D.Desk.finds c.args.l.now c.args.report.now c.args.config.now c.args.shows.column c.args.counts c.requires)
 
 -- what was saved is what the report's own patterns leave
 pub returns-clause-saved : goal.returns-clause-saved
@@ -54,6 +47,6 @@ returns-clause-went g c =
     let wanted = option_map shown shows.unit in
     let are = c.requires in
     let head : facts c.in_ok-head.head ≡ report_head l.profile own config shows.column wanted =
-    c.in_ok-head.ensures.facts ∙ ap (head_of l.profile shows.column wanted) (are.are.total_is own are.holds) in
+    c.in_ok-head.ensures ∙ ap (head_of l.profile shows.column wanted) (are.are.total_is own are.holds) in
     subst (λ (h : Facts). Went (g.D.Desk.world c.args.desk.now) (g.D.Desk.world c.text_on.new.desk) (text_by l.profile own config shows.column h report) c.text_on.result)
     head (c.text_on.ensures.went own are.holds)
