@@ -20,6 +20,13 @@ use pp_report::Resources;
 use std::alloc::Global;
 use std::thread::Threads;
 
+// How the program was called: its words, and what it is computed with.
+#[derive(Drop)]
+struct Invocation<'a, R, G> {
+    words: &'a [Text],
+    with: Resources<'a, R, G>,
+}
+
 /// The whole program: what it does for the words after its name, over files, standard
 /// input, both outputs, a matcher of patterns and a gate. A report's text is whole before
 /// its first byte goes out, and the line of an ending is written last.
@@ -97,13 +104,13 @@ pub fn run<R: Threads + Sync, F: Files, I: Source, O: Sink, E: Sink, M: Matcher,
     ensures taken { TakesFront INPUT_LIMIT (I.left input.old) (I.left input.new) }
 {
     let with = Resources { rt, alloc, gate };
-    run_objects(&with, words, files, input, out, err, matcher)
+    let invocation = Invocation { words, with };
+    run_objects(&invocation, files, input, out, err, matcher)
 }
 
 // The same over the objects, by the two clauses of which all else follows.
 fn run_objects<R: Threads + Sync, F: Files, I: Source, O: Sink, E: Sink, M: Matcher, G: Gate>(
-    with: &Resources<'_, R, G>,
-    words: &[Text],
+    invocation: &Invocation<'_, R, G>,
     files: &mut F,
     input: &mut I,
     out: &mut O,
@@ -111,7 +118,7 @@ fn run_objects<R: Threads + Sync, F: Files, I: Source, O: Sink, E: Sink, M: Matc
     matcher: &mut M,
 ) -> Ending
     ensures status { result.status ≡ status_of result.cause }
-    ensures ending { Ran (session M.finds words.now)
+    ensures ending { Ran (session M.finds invocation.now.words.now)
         (told_at (outside (O.written out.old) (E.written err.old) (F.content files.old) (F.reads files.old))
         (F.locked files.old) (I.left input.old) (M.answers matcher.old))
         (outside (O.written out.new) (E.written err.new) (F.content files.new) (F.reads files.new))
@@ -119,12 +126,12 @@ fn run_objects<R: Threads + Sync, F: Files, I: Source, O: Sink, E: Sink, M: Matc
         (fault_counts (F.faults files.old) (I.faults input.old) (O.faults out.old) (E.faults err.old))
         (fault_counts (F.faults files.new) (I.faults input.new) (O.faults out.new) (E.faults err.new))
         result.cause }
-    ensures unread { starts_shell words.now ≡ false → I.left input.new ≡ I.left input.old }
+    ensures unread { starts_shell invocation.now.words.now ≡ false → I.left input.new ≡ I.left input.old }
     ensures taken { TakesFront INPUT_LIMIT (I.left input.old) (I.left input.new) }
 {
     let mut reader = None;
     let mut objects = Objects {
-        alloc: with.alloc,
+        alloc: invocation.with.alloc,
         files: &mut *files,
         input: &mut *input,
         out: &mut *out,
@@ -132,7 +139,7 @@ fn run_objects<R: Threads + Sync, F: Files, I: Source, O: Sink, E: Sink, M: Matc
         matcher: &mut *matcher,
         reader: &mut reader,
     };
-    run_session(with, words, &mut objects)
+    run_session(&invocation.with, invocation.words, &mut objects)
 }
 
 // The session, and the line of its stop.

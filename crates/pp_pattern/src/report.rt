@@ -66,6 +66,13 @@ pub struct NameVerdicts {
     pub own: Option<List<bool>>,
 }
 
+// The tag filters of a report that are in force.
+#[derive(Drop)]
+struct TagFilters {
+    focus: Option<TagFilter>,
+    ignore: Option<TagFilter>,
+}
+
 /// Asks for the patterns of a report that aren't empty: focus, ignore, hide, show, show_from, the parts of tagfocus,
 /// those of tagignore, prune_from, tagshow, taghide, and `own`, the pattern of a peek or list report. No pattern is
 /// asked after one that is refused.
@@ -102,7 +109,8 @@ fn judge_all<D: Desk>(
 {
     let focus = TagFilter::in_force(alloc, config.tagfocus.as_slice())?;
     let ignore = TagFilter::in_force(alloc, config.tagignore.as_slice())?;
-    judge_with(alloc, desk, config, own, l, &focus, &ignore)
+    let filters = TagFilters { focus, ignore };
+    judge_with(alloc, desk, config, own, l, &filters)
 }
 
 // Asks for all patterns, with these tag filters.
@@ -113,18 +121,17 @@ fn judge_with<D: Desk>(
     config: &Config,
     own: Option<&Text>,
     l: &Loaded,
-    focus: &Option<TagFilter>,
-    ignore: &Option<TagFilter>,
+    filters: &TagFilters,
 ) -> Result<Verdicts, Halt<PatternRefused>>
     ensures went { Went (D.world desk.old) (D.world desk.new)
-        (judge_with D.finds config.now (option_copied own.entry) l.now.profile focus.now ignore.now)
-        (settled result) }
+        (judge_with D.finds config.now (option_copied own.entry) l.now.profile filters.now.focus
+        filters.now.ignore) (settled result) }
     ensures found { IfOk result (λ v. v ≡ verdicts_with D.finds config.now (option_copied own.entry)
-        l.now.profile focus.now ignore.now) }
+        l.now.profile filters.now.focus filters.now.ignore) }
 {
     let texts = &l.profile.get().text;
     let frames = judge_frames(desk, config, texts)?;
-    let tags = judge_tags(alloc, desk, l, focus, ignore)?;
+    let tags = judge_tags(alloc, desk, l, filters)?;
     let names = judge_names(desk, config, own, texts)?;
     Ok(all_verdicts(frames, tags, names))
 }
@@ -167,16 +174,17 @@ fn judge_tags<D: Desk>(
     alloc: Global,
     desk: &mut D,
     l: &Loaded,
-    focus: &Option<TagFilter>,
-    ignore: &Option<TagFilter>,
+    filters: &TagFilters,
 ) -> Result<TagVerdicts, Halt<PatternRefused>>
     ensures went { Went (D.world desk.old) (D.world desk.new)
-        (judge_tags D.finds l.now.profile focus.now ignore.now) (settled result) }
-    ensures found { IfOk result (λ v. v ≡ tags_found D.finds l.now.profile focus.now ignore.now) }
+        (judge_tags D.finds l.now.profile filters.now.focus filters.now.ignore) (settled result) }
+    ensures found { IfOk result
+        (λ v. v ≡ tags_found D.finds l.now.profile filters.now.focus filters.now.ignore) }
 {
-    let tag = tags_for(alloc, l, focus, ignore)?;
-    let tagfocus = judge_filter(alloc, desk, Slot::TagFocus, l.profile.get(), &tag, focus)?;
-    let tagignore = judge_filter(alloc, desk, Slot::TagIgnore, l.profile.get(), &tag, ignore)?;
+    let p = l.profile.get();
+    let tag = tags_for(alloc, l, filters)?;
+    let tagfocus = judge_filter(alloc, desk, Slot::TagFocus, p, &tag, &filters.focus)?;
+    let tagignore = judge_filter(alloc, desk, Slot::TagIgnore, p, &tag, &filters.ignore)?;
     Ok(TagVerdicts {
         tag,
         tagfocus,
@@ -185,15 +193,11 @@ fn judge_tags<D: Desk>(
 }
 
 // The profile's tags, where a filter is in force.
-fn tags_for(
-    alloc: Global,
-    l: &Loaded,
-    focus: &Option<TagFilter>,
-    ignore: &Option<TagFilter>,
-) -> Result<List<Tag>, Memory>
-    ensures { IfOk result (λ tags. tags ≡ tags_for l.now.profile focus.now ignore.now) }
+fn tags_for(alloc: Global, l: &Loaded, filters: &TagFilters) -> Result<List<Tag>, Memory>
+    ensures { IfOk result
+        (λ tags. tags ≡ tags_for l.now.profile filters.now.focus filters.now.ignore) }
 {
-    match (focus, ignore) {
+    match (&filters.focus, &filters.ignore) {
         (None, None) => Ok(List::new(alloc)),
         _ => tags_of(alloc, l),
     }

@@ -4,7 +4,6 @@ ghost use Rattle.pp_desk.specs.Went.{Went};
 ghost use Rattle.pp_model.specs.declared.report.Report.TheVariants.{Proto};
 ghost use Rattle.pp_model.specs.Finders.{Finders};
 ghost use Rattle.pp_units.specs.Head.{facts};
-ghost use Rattle.pp_count.specs.Counted.{CanCount, IsCountedOf};
 ghost use Rattle.pp_count.specs.Seeing.{HoldsFilters};
 ghost use Rattle.pp_dump.specs.Saved.{AreKept};
 ghost use Rattle.pp_report.specs.Prepared.{showing, AreCounts, HasCounts, IsPrepared};
@@ -20,6 +19,7 @@ use crate::prepared::{Counts, Prepared};
 use crate::resources::Resources;
 use crate::shows::Shows;
 use crate::subject::Subject;
+use crate::task::Task;
 use crate::texts::{comments, peek, proto, raw, tags, top, traces};
 use crate::trees::tree_report;
 use pp_base::{Gate, Text};
@@ -28,7 +28,6 @@ use pp_desk::{Desk, Stop};
 use pp_model::{Config, Loaded, Report};
 use pp_pseudo::basis;
 use pp_source::write_list_of;
-use pp_units::Head;
 use std::alloc::Global;
 use std::thread::Threads;
 
@@ -55,79 +54,64 @@ pub fn finish<R: Threads + Sync, D: Desk, G: Gate>(
         ..
     } = prepared;
     let over = basis(&tagged, l);
-    finish_on(with, over, report, config, shows, counts, desk)
+    let task = Task {
+        l: over,
+        report,
+        config,
+    };
+    finish_on(with, &task, shows, counts, desk)
 }
 
-// The text of a report that shows this and is made of this profile.
+// The text of a report that shows this.
 #[tactic(auto, using(pp_desk::proofs::Going::going), unfolding(crate::specs::Reports::finish_on))]
 fn finish_on<R: Threads + Sync, D: Desk, G: Gate>(
     with: &Resources<'_, R, G>,
-    l: &Loaded,
-    report: &Report,
-    config: &Config,
+    task: &Task<'_>,
     shows: Shows,
     counts: Option<Counts>,
     desk: &mut D,
 ) -> Result<Result<Text, ReportRefusal>, Stop>
-    requires { HasCounts D.finds l.now report.now config.now shows.column counts }
-    ensures went { Went (D.world desk.old) (D.world desk.new)
-        (finish_on D.finds l.now report.now config.now (showing shows)) result }
-    ensures saved { report.now ≡ Proto → OnText result (IsProtoBy D.finds l.now config.now) }
+    requires { HasCounts D.finds task.now.l.now task.now.report.now task.now.config.now
+        shows.column counts }
+    ensures went { let t = task.now in Went (D.world desk.old) (D.world desk.new)
+        (finish_on D.finds t.l.now t.report.now t.config.now (showing shows)) result }
+    ensures saved { let t = task.now in t.report.now ≡ Proto →
+        OnText result (IsProtoBy D.finds t.l.now t.config.now) }
 {
     match counts {
-        Some(counts) => finish_counts(with, l, report, config, shows, counts, desk),
-        None => Ok(Ok(comments(with.alloc, l)?)),
+        Some(counts) => finish_counts(with, task, shows, &counts, desk),
+        None => Ok(Ok(comments(with.alloc, task.l)?)),
     }
 }
 
 // The text of a report that has counted this.
-fn finish_counts<R: Threads + Sync, D: Desk, G: Gate>(
+fn finish_counts<'x, R: Threads + Sync, D: Desk, G: Gate>(
     with: &Resources<'_, R, G>,
-    l: &Loaded,
-    report: &Report,
-    config: &Config,
+    task: &Task<'x>,
     shows: Shows,
-    counts: Counts,
-    desk: &mut D,
-) -> Result<Result<Text, ReportRefusal>, Stop>
-    requires { AreCounts D.finds l.now report.now config.now shows.column counts }
-    ensures went { Went (D.world desk.old) (D.world desk.new)
-        (finish_on D.finds l.now report.now config.now (showing shows)) result }
-    ensures saved { report.now ≡ Proto → OnText result (IsProtoBy D.finds l.now config.now) }
-{
-    let column = shows.column;
-    let head = head_of(with.alloc, l, shows, counts.counted.total)?;
-    text_on(with, l, report, config, column, &counts, &head, desk)
-}
-
-// The text of a report that has counted this, under this head.
-fn text_on<'x, R: Threads + Sync, D: Desk, G: Gate>(
-    with: &Resources<'_, R, G>,
-    l: &'x Loaded,
-    report: &Report,
-    config: &'x Config,
-    column: Option<u32>,
     counts: &'x Counts,
-    head: &Head,
     desk: &mut D,
 ) -> Result<Result<Text, ReportRefusal>, Stop>
-    requires can { CanCount l.now.profile counts.now.verdicts config.now column }
-    requires counted { IsCountedOf l.now counts.now.verdicts config.now column counts.now.counted }
-    requires kept { AreKept l.now.profile counts.now.counted.kept }
-    ensures went { (f : Finders) → HoldsFilters l.now counts.now.verdicts config.now f →
-        Went (D.world desk.old) (D.world desk.new)
-        (text_by l.now.profile f config.now column (facts head.now) report.now) result }
-    ensures saved { (f : Finders) → HoldsFilters l.now counts.now.verdicts config.now f →
-        report.now ≡ Proto → OnText result (IsProtoOf l.now.profile f config.now) }
+    requires { AreCounts D.finds task.now.l.now task.now.report.now task.now.config.now
+        shows.column counts.now }
+    ensures went { let t = task.now in Went (D.world desk.old) (D.world desk.new)
+        (finish_on D.finds t.l.now t.report.now t.config.now (showing shows)) result }
+    ensures saved { let t = task.now in t.report.now ≡ Proto →
+        OnText result (IsProtoBy D.finds t.l.now t.config.now) }
 {
     let survey = Survey {
-        l,
+        l: task.l,
         v: &counts.verdicts,
-        config,
-        column,
+        config: task.config,
+        column: shows.column,
         counted: &counts.counted,
     };
-    text_by(with, report, &Subject { survey, head }, desk)
+    let head = head_of(with.alloc, task.l, shows, counts.counted.total)?;
+    let subject = Subject {
+        survey,
+        head: &head,
+    };
+    text_by(with, task.report, &subject, desk)
 }
 
 // The text of a report with this head.

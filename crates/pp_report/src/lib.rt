@@ -18,6 +18,7 @@ mod saved;
 mod shows;
 mod subject;
 mod tagging;
+mod task;
 mod texts;
 mod trees;
 

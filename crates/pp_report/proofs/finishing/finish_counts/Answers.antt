@@ -19,34 +19,35 @@ returns-in_err-head-clause-went g c =
     let p = err_from_is_err_and c.from_residual.result c.from_residual.ensures.1 in rw (p.1, p.2) (wants _ _)
 
 -- what is kept is what the report's own patterns leave
-pub text_on-requires-clause-kept : goal.text_on-requires-clause-kept
-text_on-requires-clause-kept g c = λ _ _.
-    let own = report_finders g.D.Desk.finds c.args.l.now c.args.report.now c.args.config.now in
-    (own, (c.args.config.now, c.requires.are.kept own c.requires.holds))
+pub text_by-requires-after_bounds : goal.text_by-requires-after_bounds
+text_by-requires-after_bounds g c = λ _ _.
+    let t = c.args.task.now in
+    let own = report_finders g.D.Desk.finds t.l.now t.report.now t.config.now in
+    (own, (t.config.now, c.requires.are.kept own c.requires.holds))
 
 -- what was saved is what the report's own patterns leave
 pub returns-clause-saved : goal.returns-clause-saved
 returns-clause-saved g c proto =
     let finds = g.D.Desk.finds in
-    let l = c.args.l.now in
-    let config = c.args.config.now in
+    let l = c.args.task.now.l.now in
+    let config = c.args.task.now.config.now in
     let are = c.requires in
-    subst (λ (r : Report). OnText c.text_on.result (IsProtoOf l.profile (report_finders finds l r config) config)) proto
-    (c.text_on.ensures.saved (report_finders finds l c.args.report.now config) are.holds proto)
+    subst (λ (r : Report). OnText c.text_by.result (IsProtoOf l.profile (report_finders finds l r config) config)) proto
+    (c.text_by.ensures.saved (report_finders finds l c.args.task.now.report.now config) are.holds proto)
 
 -- the text is that of the report's own patterns, under the head of their total
 pub returns-clause-went : goal.returns-clause-went
 unfolding finish_on
 returns-clause-went g c =
     let finds = g.D.Desk.finds in
-    let l = c.args.l.now in
-    let report = c.args.report.now in
-    let config = c.args.config.now in
+    let l = c.args.task.now.l.now in
+    let report = c.args.task.now.report.now in
+    let config = c.args.task.now.config.now in
     let shows = c.args.shows in
     let own = report_finders finds l report config in
     let wanted = option_map shown shows.unit in
     let are = c.requires in
     let head : facts c.in_ok-head.head ≡ report_head l.profile own config shows.column wanted =
     c.in_ok-head.ensures ∙ ap (head_of l.profile shows.column wanted) (are.are.total_is own are.holds) in
-    subst (λ (h : Facts). Went (g.D.Desk.world c.args.desk.now) (g.D.Desk.world c.text_on.new.desk) (text_by l.profile own config shows.column h report) c.text_on.result)
-    head (c.text_on.ensures.went own are.holds)
+    subst (λ (h : Facts). Went (g.D.Desk.world c.args.desk.now) (g.D.Desk.world c.text_by.new.desk) (text_by l.profile own config shows.column h report) c.text_by.result)
+    head (c.text_by.ensures.went own are.holds)
