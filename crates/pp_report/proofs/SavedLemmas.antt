@@ -1,14 +1,12 @@
 -- The reports of a saved profile come to the texts that its filters gave.
-use Rattle.std.proofs.Common.{◌≡◌, ℕ, Bool, true, false, List, [], ◌∷◌, map, refl, sym, ap, ◌∙◌, subst}
-use Rattle.std.specs.Prelude.{Option, Some, None, Result, Ok, Err, option_map, slice_get, if◌then◌else◌, unwrap_or}
+use Rattle.std.proofs.Common.{◌≡◌, ℕ, Bool, true, false, List, [], ◌∷◌, refl, sym, ap, ◌∙◌, subst}
+use Rattle.std.specs.Prelude.{Option, Result, Ok, Err, option_map, if◌then◌else◌, unwrap_or}
 use Rattle.std.specs.Option.{option_and_then, option_map_or}
 use Rattle.std.proofs.lemmas.Bool.{false≢true}
-use Rattle.std.proofs.lemmas.Option.{slice_get-map}
 use Rattle.pp_desk.specs.Script.{Give}
 use Rattle.pp_model.specs.declared.config.Config.{Config}
 use Rattle.pp_model.specs.declared.loaded.Loaded.{Loaded}
 use Rattle.pp_model.specs.declared.profile.Profile.{Profile}
-use Rattle.pp_model.specs.declared.profile.ValueType.{ValueType}
 use Rattle.pp_model.specs.declared.report.Report.{Report}
 use Rattle.pp_model.specs.declared.report.Report.TheVariants as reports
 use Rattle.pp_model.specs.Conditions.{IsColumnOf}
@@ -17,7 +15,7 @@ use Rattle.pp_model.specs.Lookup.{text_of}
 use Rattle.pp_units.specs.Head.{Facts}
 use Rattle.pp_units.specs.Shown.{Shown, picked}
 use Rattle.pp_pattern.specs.Report.{Finds, finders_of}
-use Rattle.pp_share.specs.Header.{HeaderText, TypeText, type_text, header_of}
+use Rattle.pp_share.specs.Header.{HeaderText, TypeText, header_of}
 use Rattle.pp_count.specs.Counted.{has_own_match}
 use Rattle.pp_graph.specs.Trim.{node_limit}
 use Rattle.pp_restack.specs.Stacks.{patternless}
@@ -26,14 +24,15 @@ use Rattle.pp_tree.specs.Tree.{tree_text}
 use Rattle.pp_tree.specs.Peek.{peek_text}
 use Rattle.pp_calltree.specs.Text.{calltree_text}
 use Rattle.pp_dump.specs.Saved.{saved}
-use Rattle.pp_saved.specs.Figures.{Figures, figures, column_type}
+use Rattle.pp_saved.specs.Figures.{Figures, figures}
 use Rattle.pp_saved.specs.Kept.{PrintAlike}
 use Rattle.pp_saved.specs.Premises.{CanSave, unfiltered, own_alone}
 use Rattle.pp_saved.proofs.SavedAlike.{saved_figures, saved_texts}
 use Rattle.pp_saved.proofs.Saving.{is_saved}
 use Rattle.pp_report.specs.declared.refusal.ReportRefusal.{ReportRefusal}
 use Rattle.pp_report.specs.declared.refusal.ReportRefusal.TheVariants.{NoMatch}
-use Rattle.pp_report.specs.Heads.{type_of_column, kind_text, unit_text, report_head}
+use Rattle.pp_report.specs.declared.texts.TheConstants.{TREE_NODES}
+use Rattle.pp_report.specs.Heads.{kind_text, unit_text, report_head}
 use Rattle.pp_model.specs.ReportFacts.{is_counted, own_pattern}
 use Rattle.pp_report.specs.Patterns.{report_finders}
 use Rattle.pp_stack.specs.LoadFinders.{finder_by}
@@ -42,17 +41,7 @@ use Rattle.pp_report.specs.Reports.{finish, finish_on, finish_by, text_by}
 use Rattle.pp_pseudo.specs.Basis.{framed_by}
 use Rattle.pp_report.specs.Tagged.{basis_of}
 use Rattle.pp_report.specs.SavedReports.{SavedReports, IsSavedOf, NamesNoKey, reads_figures}
-use Rattle.pp_report.proofs.TypesLemmas.{HasTypesOf, same_showing, types_by_header}
-
--- a text of the column's type
-type_is : (get : TypeText → List ℕ) (p : Profile) (column : Option ℕ)
-    → option_map_or get (column_type p column) [] ≡ option_map_or (λ t. get (type_text p t)) (type_of_column p column) []
-type_is get p None = refl
-type_is get p (Some n) = ap (λ (o : Option TypeText). option_map_or get o []) (slice_get-map (type_text p) p.sample_type n) ∙ by (slice_get p.sample_type n)
-  where
-    by : (o : Option ValueType) → option_map_or get (option_map (type_text p) o) [] ≡ option_map_or (λ t. get (type_text p t)) o []
-    by None = refl
-    by (Some t) = refl
+use Rattle.pp_report.proofs.TypesLemmas.{HasTypesOf, same_showing, type_is, types_by_header}
 
 -- the head follows from the figures
 abbrev head_by : Figures → Option Shown → Facts
@@ -172,9 +161,9 @@ module _ (finds : Finds) (l r : Loaded) (config : Config) (by_keys : config.path
       let g : Finders = report_finders finds r reports.Tree d in
       let h : Facts = report_head p f config s.column s.wanted in
       let k : Facts = report_head q g d s.column s.wanted in
-      (λ i. Give (Ok (if by_keys i then calltree_text q g d s.column k else tree_text q g d s.column (node_limit config.nodecount 80) k)))
-      ∙ (λ i. Give (Ok (tree_same finds l r reports.Tree config can is s.column within s.wanted (node_limit config.nodecount 80) i)))
-      ∙ (λ i. Give (Ok (if sym by_keys i then calltree_text p f config s.column h else tree_text p f config s.column (node_limit config.nodecount 80) h)))
+      (λ i. Give (Ok (if by_keys i then calltree_text q g d s.column k else tree_text q g d s.column (node_limit config.nodecount TREE_NODES) k)))
+      ∙ (λ i. Give (Ok (tree_same finds l r reports.Tree config can is s.column within s.wanted (node_limit config.nodecount TREE_NODES) i)))
+      ∙ (λ i. Give (Ok (if sym by_keys i then calltree_text p f config s.column h else tree_text p f config s.column (node_limit config.nodecount TREE_NODES) h)))
 
   peek_is : (pattern : List ℕ) → IsSame (reports.Peek pattern)
   unfolding finish_on text_by

@@ -1,15 +1,15 @@
 -- What a report shows is known by the texts of the sample types, and frames from labels leave these.
-use Rattle.std.proofs.Common.{◌≡◌, ℕ, ◌<◌, ◌+◌, Bool, true, false, cond, not, List, [], ◌∷◌, length, map, refl, sym, ap, ◌∙◌, subst}
-use Rattle.std.specs.Prelude.{⊤, ◌==◌, ◌&&◌, nat_lt, Option, Some, None, Ok, option_map, position, slice_get, bytes_eq, if◌then◌else◌}
-use Rattle.std.specs.List.{AllByRecursion, list_all, prefix_len}
-use Rattle.std.specs.Char.{is_ascii_digit}
+use Rattle.std.proofs.Common.{◌≡◌, ℕ, ◌<◌, true, false, List, [], ◌∷◌, length, map, refl, sym, ap, ◌∙◌, subst}
+use Rattle.std.specs.Prelude.{⊤, ◌==◌, ◌&&◌, Option, Some, None, Ok, option_map, slice_get, if◌then◌else◌}
+use Rattle.std.specs.List.{AllByRecursion}
 use Rattle.std.specs.Option.{MatchOption, option_and_then, option_map_or}
-use Rattle.std.specs.Str.Parse.{digits_value}
 use Rattle.std.proofs.lemmas.List.{length-map}
 use Rattle.std.proofs.lemmas.Option.{slice_get-map}
+use Rattle.std.proofs.lemmas.Simd.{map-map}
 use Rattle.pp_model.specs.declared.config.Config.{Config}
 use Rattle.pp_model.specs.declared.loaded.Loaded.{Loaded}
 use Rattle.pp_model.specs.declared.profile.Profile.{Profile}
+use Rattle.pp_model.specs.declared.profile.ValueType.{ValueType}
 use Rattle.pp_model.specs.declared.report.Report.{Report}
 use Rattle.pp_model.specs.Conditions.{IsColumnOf}
 use Rattle.pp_model.specs.Lookup.{text_of}
@@ -18,12 +18,14 @@ use Rattle.pp_share.specs.Header.{HeaderText, TypeText, type_text, header_of}
 use Rattle.pp_share.specs.Written.{Contents, type_texts, written, written_type}
 use Rattle.pp_merge.proofs.RoundTrip.{IsText, text_again}
 use Rattle.pp_merge.proofs.WrittenValid.{last_texts, texts_of_types}
-use Rattle.pp_count.specs.Column.{column_of, first_else, last_of, type_named}
+use Rattle.pp_count.specs.Column.{column_of}
+use Rattle.pp_count.proofs.Columns.{type_names, columns_alike}
 use Rattle.pp_dump.proofs.SavedHeader.{first_alone}
+use Rattle.pp_saved.specs.Figures.{column_type}
 use Rattle.pp_restack.specs.Stacks.{patternless}
 use Rattle.pp_pseudo.specs.KeyList.{key_list}
 use Rattle.pp_pseudo.specs.WithTags.{tagged, tagged_contents}
-use Rattle.pp_report.specs.Heads.{unit_text, wanted_unit}
+use Rattle.pp_report.specs.Heads.{type_of_column, unit_text, wanted_unit}
 use Rattle.pp_report.specs.Prepared.{in_column, in_unit, showing_for}
 use Rattle.pp_pseudo.specs.Basis.{framed_by, framed_for}
 use Rattle.pp_report.specs.Tagged.{basis_of}
@@ -33,31 +35,13 @@ pub record HasTypesOf (p q : Profile) : Type 0 where
   pub types : map (type_text q) q.sample_type ≡ map (type_text p) p.sample_type
   pub default : text_of q q.default_sample_type ≡ text_of p p.default_sample_type
 
-module _ {A B : Type 0} (f : A → B) where
-  prefix_map : (test : B → Bool) (xs : List A) → prefix_len test (map f xs) ≡ prefix_len (λ x. test (f x)) xs
-  prefix_map test [] = refl
-  prefix_map test (x ∷ xs) = ap (λ n. cond (test (f x)) (1 + n) 0) (prefix_map test xs)
-
-  -- the first place that passes, before and after a map
-  position_map : (test : B → Bool) (xs : List A) → position test (map f xs) ≡ position (λ x. test (f x)) xs
-  position_map test xs = λ i. cond (nat_lt (prefix_map (λ y. not (test y)) xs i) (length-map xs f i)) (Some (prefix_map (λ y. not (test y)) xs i)) None
-
--- the first of these types with the name
-abbrev named_in : List TypeText → List ℕ → Option ℕ
-named_in types name = if length name == 0 then None else position (λ t. bytes_eq t.kind name) types
-
-named_by : (p : Profile) (name : List ℕ) → named_in (map (type_text p) p.sample_type) name ≡ type_named p name
-named_by p name = ap (λ place. if length name == 0 then None else place) (position_map (type_text p) (λ t. bytes_eq t.kind name) p.sample_type)
-
--- the unit of the type at the place
-abbrev unit_in : List TypeText → Option ℕ → List ℕ
-unit_in types column = option_map_or (λ t. t.unit) (option_and_then (slice_get types) column) []
-
-unit_by : (p : Profile) (column : Option ℕ) → unit_in (map (type_text p) p.sample_type) column ≡ unit_text p column
-unit_by p None = refl
-unit_by p (Some n) = ap (λ o. option_map_or (λ (t : TypeText). t.unit) o []) (slice_get-map (type_text p) p.sample_type n) ∙ by (slice_get p.sample_type n)
+-- a text of the column's type
+pub type_is : (get : TypeText → List ℕ) (p : Profile) (column : Option ℕ)
+    → option_map_or get (column_type p column) [] ≡ option_map_or (λ t. get (type_text p t)) (type_of_column p column) []
+type_is get p None = refl
+type_is get p (Some n) = ap (λ (o : Option TypeText). option_map_or get o []) (slice_get-map (type_text p) p.sample_type n) ∙ by (slice_get p.sample_type n)
   where
-    by : (o : Option _) → option_map_or (λ (t : TypeText). t.unit) (option_map (type_text p) o) [] ≡ option_map_or (λ t. text_of p t.unit) o []
+    by : (o : Option ValueType) → option_map_or get (option_map (type_text p) o) [] ≡ option_map_or (λ t. get (type_text p t)) o []
     by None = refl
     by (Some t) = refl
 
@@ -65,18 +49,19 @@ module _ (p q : Profile) (same : HasTypesOf p q) where
   same_length : length q.sample_type ≡ length p.sample_type
   same_length = sym (length-map q.sample_type (type_text q)) ∙ ap length same.types ∙ length-map p.sample_type (type_text p)
 
-  same_named : (name : List ℕ) → type_named q name ≡ type_named p name
-  same_named name = sym (named_by q name) ∙ ap (λ types. named_in types name) same.types ∙ named_by p name
+  same_names : type_names q ≡ type_names p
+  same_names =
+      sym (map-map (λ (t : TypeText). t.kind) (type_text q) q.sample_type) ∙ ap (λ (types : List TypeText). map (λ t. t.kind) types) same.types
+      ∙ map-map (λ (t : TypeText). t.kind) (type_text p) p.sample_type
 
   same_unit : (column : Option ℕ) → unit_text q column ≡ unit_text p column
-  same_unit column = sym (unit_by q column) ∙ ap (λ types. unit_in types column) same.types ∙ unit_by p column
+  same_unit column =
+      sym (type_is (λ t. t.unit) q column) ∙ ap (λ types. option_map_or (λ (t : TypeText). t.unit) (option_and_then (slice_get types) column) []) same.types
+      ∙ type_is (λ t. t.unit) p column
 
   -- a text asks for the same column of both
   pub same_column : (text : List ℕ) → column_of q text ≡ column_of p text
-  same_column [] = λ i. Some (first_else ((same_named (text_of q q.default_sample_type) ∙ ap (type_named p) same.default) i) (last_of (same_length i)))
-  same_column (b ∷ text) =
-      let digits = b ∷ text in
-      λ i. option_map Some (if list_all is_ascii_digit digits then (if nat_lt (digits_value 10 digits) (same_length i) then Some (digits_value 10 digits) else None) else same_named digits i)
+  same_column = columns_alike p q same_names same.default
 
   same_in : (config : Config) (column : Option (Option ℕ)) → in_column q config column ≡ in_column p config column
   same_in config None = refl

@@ -29,6 +29,7 @@ use Rattle.pp_dump.specs.Saved.{saved}
 use Rattle.pp_source.specs.Listing.{list_report}
 use Rattle.pp_report.specs.declared.refusal.ReportRefusal.{ReportRefusal}
 use Rattle.pp_report.specs.declared.refusal.ReportRefusal.TheVariants.{NoMatch, NoBase}
+use Rattle.pp_report.specs.declared.texts.TheConstants.{TREE_NODES}
 use Rattle.pp_report.specs.Heads.{report_head, unit_text}
 use Rattle.pp_report.specs.Patterns.{report_finders}
 use Rattle.pp_report.specs.Prepared.{Showing, Settled, prepare}
@@ -55,7 +56,7 @@ list_text p f config column h =
 abbrev pub tree_report_text : Profile → Finders → Config → Option ℕ → Facts → List ℕ
 tree_report_text p f config column h =
     if config.path_tree then calltree_text p f config column h
-    else tree_text p f config column (node_limit config.nodecount 80) h
+    else tree_text p f config column (node_limit config.nodecount TREE_NODES) h
 
 -- what a compare report comes to
 abbrev pub compare_outcome : Profile → Finders → Config → Option ℕ → Facts → Result (List ℕ) ReportRefusal

@@ -13,6 +13,7 @@ ghost use Rattle.pp_dump.specs.Raw.{raw_text};
 ghost use Rattle.pp_samples.specs.Comments.{comments_text};
 ghost use Rattle.pp_dump.specs.Saved.{AreKept, saved};
 ghost use Rattle.pp_saved.specs.Kept.{IsLasting};
+ghost use Rattle.pp_report.specs.declared.texts.TheConstants.{TREE_NODES};
 ghost use Rattle.pp_report.specs.Reports.{peek_outcome};
 ghost use Rattle.pp_report.specs.SavedText.{IsProtoOf};
 
@@ -32,7 +33,7 @@ use std::alloc::Global;
 use std::thread::Threads;
 
 /// The most nodes of a tree report, unless `nodecount` says otherwise. A top report has no limit of its own.
-const TREE_NODES: u32 = 80;
+pub const TREE_NODES: u32 = 80;
 
 /// The top report, whose nodes have no limit of their own.
 pub fn top(alloc: Global, subject: &Subject<'_, '_>) -> Result<Text, Memory>
@@ -57,7 +58,7 @@ pub fn tree<R: Threads + Sync, G: Gate>(
     ensures { let s = subject.now.survey in (f : Finders) →
         HoldsFilters s.l.now s.v.now s.config.now f →
         IfOk result (λ text. text ≡ tree_text s.l.now.profile f s.config.now s.column
-        (node_limit s.config.now.nodecount 80) (facts subject.now.head.now)) }
+        (node_limit s.config.now.nodecount TREE_NODES) (facts subject.now.head.now)) }
 {
     let (alloc, s) = (with.alloc, &subject.survey);
     let limit = limit_of(s.config, TREE_NODES);

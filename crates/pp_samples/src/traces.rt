@@ -146,7 +146,7 @@ fn put_traces(alloc: Global, t: &Traces, kept: &[u32], lines: &mut Text) -> Resu
         stack: List::new(alloc),
         keys: Vec::new(alloc),
         shown: List::new(alloc),
-        made: no_lines(alloc, t.scope.l.profile.get()),
+        made: no_lines(alloc),
         labels: Text::new(alloc),
         value: Text::new(alloc),
     };

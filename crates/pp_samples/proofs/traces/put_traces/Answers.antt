@@ -1,9 +1,7 @@
 use Rattle.std.proofs.Common.{◌≡◌, ◌++◌, ℕ, List, [], ◌∷◌, sym, ap, subst, ◌∙◌, arith, get_or, take}
 use Rattle.std.specs.List.{flat_map}
 use Rattle.std.proofs.lemmas.List.{append-nil, take_all}
-use Rattle.pp_model.specs.declared.profile.Profile.{Profile}
 use Rattle.pp_count.specs.Counts.{samples_at}
-use Rattle.pp_samples.specs.LabelLines.{AreLabelLines}
 use Rattle.pp_samples.specs.Tracing.{trace_profile, sample_trace}
 use Rattle.pp_base.proofs.TextLemmas.{then_more}
 use Rattle.pp_count.proofs.KeptSamples.{made_more}
@@ -11,7 +9,7 @@ use Rattle.pp_samples.proofs.traces.put_traces.Goals as goal
 
 pub loop-number-init : goal.loop-number-init
 loop-number-init c = record {
-  made = subst (λ (p : Profile). AreLabelLines p c.no_lines.result) c.get.ensures.same c.no_lines.ensures;
+  made = c.no_lines.ensures (trace_profile c.args.t.now);
   lines = λ f finds. sym (append-nil c.args.lines.now);
 }
 
