@@ -23,7 +23,7 @@ use Rattle.pp_options.specs.declared.usage.UsageKind.{UsageKind}
 use Rattle.pp_options.specs.declared.usage.UsageKind.TheVariants.{BadValue, MissingValue, NoSource, BaseTwice, NormalizeAlone}
 use Rattle.pp_options.specs.Conditions.{is_fair_number, is_fair, is_patterned, has_pattern}
 use Rattle.pp_options.specs.Drafts.{with_origin, with_item, normalized_first}
-use Rattle.pp_options.specs.Formats.{takes_pattern, report_of}
+use Rattle.pp_options.specs.Formats.{takes_pattern, report_of_format}
 use Rattle.pp_options.specs.Items.{word_fault, is_true_word, chosen, selected_type, pattern_report, item_with, valued_item, named_item, item_of}
 use Rattle.pp_options.specs.Names.{option_named, needs_value}
 use Rattle.pp_options.specs.Settings.{setting_of}
@@ -60,7 +60,7 @@ or_bad_value None fair = tt
 or_bad_value (Some item) fair = fair
 
 -- a pattern of one byte or more
-with_pattern : (format : ReportFormat) (byte : ℕ) (bytes : List ℕ) → is_patterned (report_of format (byte ∷ bytes)) ≡ true
+with_pattern : (format : ReportFormat) (byte : ℕ) (bytes : List ℕ) → is_patterned (report_of_format format (byte ∷ bytes)) ≡ true
 with_pattern formats.Top byte bytes = refl
 with_pattern formats.Tree byte bytes = refl
 with_pattern formats.Peek byte bytes = lt-ltb 0 (length (byte ∷ bytes)) (omega arith)
@@ -75,7 +75,7 @@ with_pattern formats.Compare byte bytes = refl
 with_pattern formats.List byte bytes = lt-ltb 0 (length (byte ∷ bytes)) (omega arith)
 
 -- a format without a pattern
-without_pattern : (format : ReportFormat) → takes_pattern format ≡ false → is_patterned (report_of format []) ≡ true
+without_pattern : (format : ReportFormat) → takes_pattern format ≡ false → is_patterned (report_of_format format []) ≡ true
 without_pattern formats.Top takes = refl
 without_pattern formats.Tree takes = refl
 without_pattern formats.Peek takes = absurd (false≢true (sym takes))
@@ -93,12 +93,12 @@ pattern_fair : (format : ReportFormat) (value : List ℕ) → IsFairOption (opti
 pattern_fair format [] = tt
 pattern_fair format (byte ∷ bytes) = with_pattern format byte bytes
 
-flag_fair : (format : ReportFormat) (on : Bool) → takes_pattern format ≡ false → IsFairOption (option_map Format (if on then Some (report_of format []) else None))
+flag_fair : (format : ReportFormat) (on : Bool) → takes_pattern format ≡ false → IsFairOption (option_map Format (if on then Some (report_of_format format []) else None))
 flag_fair format true takes = without_pattern format takes
 flag_fair format false takes = tt
 
 report_fair : (format : ReportFormat) (value : List ℕ) (takes : Bool) → takes_pattern format ≡ takes
-    → IsFairOption (option_map Format (if takes then pattern_report format value else if is_true_word value then Some (report_of format []) else None))
+    → IsFairOption (option_map Format (if takes then pattern_report format value else if is_true_word value then Some (report_of_format format []) else None))
 report_fair format value true is = pattern_fair format value
 report_fair format value false is = flag_fair format (is_true_word value) is
 

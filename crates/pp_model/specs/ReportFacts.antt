@@ -1,69 +1,83 @@
--- The facts in which reports differ. Each has a line for each report.
+-- The facts in which reports differ. Each report has a line.
 use Rattle.std.specs.Prelude.{ℕ, Bool, true, false, List, Option, Some, None, codes}
 use Rattle.pp_model.specs.declared.report.Report.{Report}
 use Rattle.pp_model.specs.declared.report.Report.TheVariants as reports
 use Rattle.pp_model.specs.declared.verdicts.Slot.{Slot}
 use Rattle.pp_model.specs.declared.verdicts.Slot.TheVariants as slots
 
--- the name of a report, which is also its command's
+-- What is known of a report.
+pub record ReportFacts : Type 0 where
+  -- its name, which is also its command's
+  pub name : List ℕ
+  -- the pattern that it has of its own
+  pub own_pattern : Option (List ℕ)
+  -- it shows a column of values, which it is refused without
+  pub shows_values : Bool
+  -- its patterns are asked, and its samples counted
+  pub is_counted : Bool
+  -- the shell shows few rows of it, where nothing else is said
+  pub is_short : Bool
+  -- it is of labels, so that patterns behind its command filter labels
+  pub is_of_labels : Bool
+  -- it reads nothing but figures
+  pub reads_figures : Bool
+
+-- what is known of most reports
+abbrev pub usual : List ℕ → ReportFacts
+usual name = record {
+  name = name;
+  own_pattern = None;
+  shows_values = true;
+  is_counted = true;
+  is_short = false;
+  is_of_labels = false;
+  reads_figures = false;
+}
+
+-- what is known of the report
+abbrev pub facts_of : Report → ReportFacts
+facts_of reports.Top = record (usual (codes "top")) { is_short = true; reads_figures = true }
+facts_of reports.Tree = record (usual (codes "tree")) { reads_figures = true }
+facts_of (reports.Peek pattern) =
+    record (usual (codes "peek")) { own_pattern = Some pattern; reads_figures = true }
+facts_of reports.Traces = usual (codes "traces")
+facts_of reports.Tags = record (usual (codes "tags")) { is_of_labels = true }
+facts_of reports.Raw = record (usual (codes "raw")) { shows_values = false }
+facts_of reports.Comments =
+    record (usual (codes "comments")) { shows_values = false; is_counted = false }
+facts_of reports.Proto = record (usual (codes "proto")) { shows_values = false }
+facts_of (reports.List pattern) = record (usual (codes "list")) { own_pattern = Some pattern }
+facts_of reports.Folded = usual (codes "folded")
+facts_of reports.Table = usual (codes "table")
+facts_of reports.Compare = record (usual (codes "compare")) { is_short = true }
+
+-- its name
 abbrev pub report_name : Report → List ℕ
-report_name reports.Top = codes "top"
-report_name reports.Tree = codes "tree"
-report_name (reports.Peek pattern) = codes "peek"
-report_name reports.Traces = codes "traces"
-report_name reports.Tags = codes "tags"
-report_name reports.Raw = codes "raw"
-report_name reports.Comments = codes "comments"
-report_name reports.Proto = codes "proto"
-report_name (reports.List pattern) = codes "list"
-report_name reports.Folded = codes "folded"
-report_name reports.Table = codes "table"
-report_name reports.Compare = codes "compare"
+report_name report = (facts_of report).name
 
--- the pattern that a report has of its own
+-- the pattern that it has of its own
 abbrev pub own_pattern : Report → Option (List ℕ)
-own_pattern reports.Top = None
-own_pattern reports.Tree = None
-own_pattern (reports.Peek pattern) = Some pattern
-own_pattern reports.Traces = None
-own_pattern reports.Tags = None
-own_pattern reports.Raw = None
-own_pattern reports.Comments = None
-own_pattern reports.Proto = None
-own_pattern (reports.List pattern) = Some pattern
-own_pattern reports.Folded = None
-own_pattern reports.Table = None
-own_pattern reports.Compare = None
+own_pattern report = (facts_of report).own_pattern
 
--- the report shows a column of values
+-- it shows a column of values
 abbrev pub shows_values : Report → Bool
-shows_values reports.Top = true
-shows_values reports.Tree = true
-shows_values (reports.Peek pattern) = true
-shows_values reports.Traces = true
-shows_values reports.Tags = true
-shows_values reports.Raw = false
-shows_values reports.Comments = false
-shows_values reports.Proto = false
-shows_values (reports.List pattern) = true
-shows_values reports.Folded = true
-shows_values reports.Table = true
-shows_values reports.Compare = true
+shows_values report = (facts_of report).shows_values
 
--- the report's patterns are asked, and its samples counted
+-- it is counted
 abbrev pub is_counted : Report → Bool
-is_counted reports.Top = true
-is_counted reports.Tree = true
-is_counted (reports.Peek pattern) = true
-is_counted reports.Traces = true
-is_counted reports.Tags = true
-is_counted reports.Raw = true
-is_counted reports.Comments = false
-is_counted reports.Proto = true
-is_counted (reports.List pattern) = true
-is_counted reports.Folded = true
-is_counted reports.Table = true
-is_counted reports.Compare = true
+is_counted report = (facts_of report).is_counted
+
+-- it has few rows in the shell
+abbrev pub is_short : Report → Bool
+is_short report = (facts_of report).is_short
+
+-- it is of labels
+abbrev pub is_of_labels : Report → Bool
+is_of_labels report = (facts_of report).is_of_labels
+
+-- it reads nothing but figures
+abbrev pub reads_figures : Report → Bool
+reads_figures report = (facts_of report).reads_figures
 
 -- the variable whose pattern stands in this place, or the report's name for its own
 unfoldable pub option_name : Report → Slot → List ℕ

@@ -1,7 +1,7 @@
 //! What a run is asked for, and the facts in which reports differ.
 ghost use Rattle.std.specs.Prelude.{◌≡◌};
 ghost use Rattle.std.specs.Option.{option_copied};
-ghost use Rattle.pp_model.specs.ReportFacts.{report_name, own_pattern, shows_values, is_counted, option_name};
+ghost use Rattle.pp_model.specs.ReportFacts.{report_name, own_pattern, shows_values, is_counted, is_short, is_of_labels, option_name};
 
 use crate::verdicts::Slot;
 use pp_base::Text;
@@ -90,6 +90,30 @@ impl Report {
             Report::Traces | Report::Tags | Report::Raw | Report::Proto => true,
             Report::Folded | Report::Table | Report::Compare => true,
             Report::Comments => false,
+        }
+    }
+
+    /// Whether the shell shows few rows of it, where nothing else is said.
+    pub fn is_short(&self) -> bool
+        ensures { result ≡ is_short self.now }
+    {
+        match self {
+            Report::Top | Report::Compare => true,
+            Report::Tree | Report::Peek(_) | Report::List(_) => false,
+            Report::Traces | Report::Tags | Report::Folded | Report::Table => false,
+            Report::Raw | Report::Comments | Report::Proto => false,
+        }
+    }
+
+    /// Whether patterns behind its command filter labels in the place of frames.
+    pub fn is_of_labels(&self) -> bool
+        ensures { result ≡ is_of_labels self.now }
+    {
+        match self {
+            Report::Tags => true,
+            Report::Top | Report::Tree | Report::Peek(_) | Report::List(_) => false,
+            Report::Traces | Report::Folded | Report::Table | Report::Compare => false,
+            Report::Raw | Report::Comments | Report::Proto => false,
         }
     }
 

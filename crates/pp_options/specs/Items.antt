@@ -19,7 +19,7 @@ use Rattle.pp_options.specs.declared.usage.UsageRefusal.TheVariants.{Fault, Memo
 use Rattle.pp_options.specs.declared.item.Item.{Item}
 use Rattle.pp_options.specs.declared.item.Item.TheVariants.{Source, Base, Gen, Normalize, Format, Set}
 use Rattle.pp_options.specs.Conditions.{is_fair_number, is_patterned}
-use Rattle.pp_options.specs.Formats.{takes_pattern, report_of}
+use Rattle.pp_options.specs.Formats.{takes_pattern, report_of_format}
 use Rattle.pp_options.specs.Names.{option_named, needs_value}
 use Rattle.pp_options.specs.SampleTypes.{type_name}
 use Rattle.pp_options.specs.Settings.{setting_of, is_fitting}
@@ -65,13 +65,13 @@ selected_type kind value = if is_true_word value then Some (set.Text texts.Sampl
 -- a report with a pattern, which isn't empty
 abbrev pub pattern_report : ReportFormat → List ℕ → Option Report
 pattern_report format [] = None
-pattern_report format (byte ∷ bytes) = Some (report_of format (byte ∷ bytes))
+pattern_report format (byte ∷ bytes) = Some (report_of_format format (byte ∷ bytes))
 
 -- a report with its pattern, or one that as a flag can only be true
 abbrev pub report_with : ReportFormat → List ℕ → Option Report
 report_with format value =
     if takes_pattern format then pattern_report format value
-    else if is_true_word value then Some (report_of format []) else None
+    else if is_true_word value then Some (report_of_format format []) else None
 
 -- what an option asks for with the value, or none where it can't have the value
 unfoldable pub item_with : OptionName → List ℕ → Option Item

@@ -70,9 +70,9 @@ normalize_of (Normalize on) = Some on
 normalize_of item = None
 
 -- the report that an item asks for
-abbrev pub report_of : Item → Option Report
-report_of (Format report) = Some report
-report_of item = None
+abbrev pub report_asked : Item → Option Report
+report_asked (Format report) = Some report
+report_asked item = None
 
 -- the variable with the value that an item asks for
 abbrev pub setting_of : Item → Option Setting
@@ -100,7 +100,7 @@ request es = record {
   bases = all_of base_of es;
   base_kind = slice_get (all_of kind_of es) 0;
   normalize = unwrap_or (last_or None (all_of normalize_of es)) false;
-  report = slice_get (all_of report_of es) 0;
+  report = slice_get (all_of report_asked es) 0;
   config = fold assigned defaults (all_of setting_of es);
 }
 

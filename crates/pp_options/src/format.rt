@@ -1,6 +1,6 @@
 //! The formats of reports.
 ghost use Rattle.std.specs.Prelude.{◌≡◌};
-ghost use Rattle.pp_options.specs.Formats.{format_named, takes_pattern, report_of};
+ghost use Rattle.pp_options.specs.Formats.{format_named, takes_pattern, report_of_format};
 
 use crate::table::{Named, value_named};
 use pp_base::Text;
@@ -63,7 +63,7 @@ impl Format {
 
     /// The report, of the pattern where one belongs to it.
     pub fn report(self, pattern: Text) -> Report
-        ensures { result ≡ report_of self pattern }
+        ensures { result ≡ report_of_format self pattern }
     {
         match self {
             Format::Top => Report::Top,

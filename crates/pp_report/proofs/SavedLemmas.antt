@@ -33,14 +33,14 @@ use Rattle.pp_report.specs.declared.refusal.ReportRefusal.{ReportRefusal}
 use Rattle.pp_report.specs.declared.refusal.ReportRefusal.TheVariants.{NoMatch}
 use Rattle.pp_report.specs.declared.texts.TheConstants.{TREE_NODES}
 use Rattle.pp_report.specs.Heads.{kind_text, unit_text, report_head}
-use Rattle.pp_model.specs.ReportFacts.{is_counted, own_pattern}
+use Rattle.pp_model.specs.ReportFacts.{is_counted, own_pattern, reads_figures}
 use Rattle.pp_report.specs.Patterns.{report_finders}
 use Rattle.pp_stack.specs.LoadFinders.{finder_by}
 use Rattle.pp_report.specs.Prepared.{Showing, showing_for}
 use Rattle.pp_report.specs.Reports.{finish, finish_on, finish_by, text_by}
 use Rattle.pp_pseudo.specs.Basis.{framed_by}
 use Rattle.pp_report.specs.Tagged.{basis_of}
-use Rattle.pp_report.specs.SavedReports.{SavedReports, IsSavedOf, NamesNoKey, reads_figures}
+use Rattle.pp_report.specs.SavedReports.{SavedReports, IsSavedOf, NamesNoKey}
 use Rattle.pp_report.proofs.TypesLemmas.{HasTypesOf, same_showing, type_is, types_by_header}
 
 -- the head follows from the figures

@@ -20,7 +20,7 @@ use Rattle.pp_model.specs.declared.report.Report.TheVariants as reports
 use Rattle.pp_model.specs.Conditions.{IsColumnOf}
 use Rattle.pp_model.specs.Finders.{Finders}
 use Rattle.pp_model.specs.Lookup.{text_of}
-use Rattle.pp_model.specs.ReportFacts.{is_counted}
+use Rattle.pp_model.specs.ReportFacts.{is_counted, reads_figures}
 use Rattle.pp_model.specs.Rules.{NoRuleFails}
 use Rattle.pp_model.specs.Sizes.{IsCountable}
 use Rattle.pp_units.specs.Shown.{Shown}
@@ -41,7 +41,7 @@ use Rattle.pp_report.specs.Heads.{wanted_unit, unit_text}
 use Rattle.pp_report.specs.Patterns.{report_finders}
 use Rattle.pp_report.specs.Prepared.{Showing, Settled, in_column, in_unit, prepare, prepare_on, prepare_showing, settled_of, showing_for}
 use Rattle.pp_report.specs.Reports.{Reported, finish, finish_on, report_script, report_settled, reported_with, text_by}
-use Rattle.pp_report.specs.SavedReports.{IsPlain, IsSavedOf, NamesNoKey, ReportAlike, reads_figures, saved_by}
+use Rattle.pp_report.specs.SavedReports.{IsPlain, IsSavedOf, NamesNoKey, ReportAlike, saved_by}
 use Rattle.pp_report.specs.SavedText.{AllTaken, IsProtoBy, IsProtoOf, IsSavedText, OnText, ReportsAlike, outcome_over, report_figures}
 use Rattle.pp_report.specs.Tagged.{basis_of}
 use Rattle.pp_report.proofs.PreparingLemmas.{showing_counts}

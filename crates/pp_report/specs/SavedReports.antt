@@ -1,11 +1,12 @@
 -- A saved profile reports as its filters did.
-use Rattle.std.specs.Prelude.{◌≡◌, Bool, true, false, [], None, Result, Ok}
+use Rattle.std.specs.Prelude.{◌≡◌, true, false, [], None, Result, Ok}
 use Rattle.pp_model.specs.declared.config.Config.{Config}
 use Rattle.pp_model.specs.declared.loaded.Loaded.{Loaded}
 use Rattle.pp_model.specs.declared.profile.Profile.{Profile}
 use Rattle.pp_model.specs.declared.report.Report.{Report}
 use Rattle.pp_model.specs.declared.report.Report.TheVariants as reports
 use Rattle.pp_model.specs.Conditions.{IsColumnOf}
+use Rattle.pp_model.specs.ReportFacts.{reads_figures}
 use Rattle.pp_pattern.specs.Report.{Finds}
 use Rattle.pp_pseudo.specs.KeyList.{key_list}
 use Rattle.pp_dump.specs.Saved.{saved}
@@ -13,21 +14,6 @@ use Rattle.pp_saved.specs.Premises.{CanSave, unfiltered}
 use Rattle.pp_report.specs.Patterns.{report_finders}
 use Rattle.pp_report.specs.Prepared.{Showing, showing_for}
 use Rattle.pp_report.specs.Reports.{finish}
-
--- the report reads nothing but figures
-abbrev pub reads_figures : Report → Bool
-reads_figures reports.Top = true
-reads_figures reports.Tree = true
-reads_figures (reports.Peek pattern) = true
-reads_figures reports.Traces = false
-reads_figures reports.Tags = false
-reads_figures reports.Raw = false
-reads_figures reports.Comments = false
-reads_figures reports.Proto = false
-reads_figures (reports.List pattern) = false
-reads_figures reports.Folded = false
-reads_figures reports.Table = false
-reads_figures reports.Compare = false
 
 -- the profile that a proto report writes
 abbrev pub saved_by : Finds → Loaded → Config → Profile

@@ -11,6 +11,7 @@ use Rattle.pp_model.specs.declared.profile.Profile.{Profile}
 use Rattle.pp_model.specs.declared.report.Report.{Report}
 use Rattle.pp_model.specs.declared.report.Report.TheVariants as reports
 use Rattle.pp_model.specs.Finders.{Finders}
+use Rattle.pp_model.specs.ReportFacts.{reads_figures}
 use Rattle.pp_model.specs.Rules.{NoRuleFails}
 use Rattle.pp_model.specs.Sizes.{absolute_sum}
 use Rattle.pp_pattern.specs.Report.{Finds}
@@ -23,7 +24,7 @@ use Rattle.pp_saved.specs.Premises.{HasFiltersOf, IsSource, CountsFiltered, unfi
 use Rattle.pp_report.specs.declared.refusal.ReportRefusal.{ReportRefusal}
 use Rattle.pp_report.specs.Patterns.{report_finders}
 use Rattle.pp_report.specs.Reports.{report_script}
-use Rattle.pp_report.specs.SavedReports.{IsPlain, IsSavedOf, reads_figures, saved_by}
+use Rattle.pp_report.specs.SavedReports.{IsPlain, IsSavedOf, saved_by}
 
 -- what holds of the text of a report that was made
 abbrev pub OnText : Result (Result (List ℕ) ReportRefusal) Stop → (List ℕ → Type 0) → Type 0

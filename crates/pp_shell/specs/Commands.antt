@@ -3,14 +3,14 @@ use Rattle.std.specs.Prelude.{ℕ, ℤ, pos, negsuc, Bool, true, false, ◌&&◌
 use Rattle.std.specs.Char.{is_ascii_digit}
 use Rattle.pp_model.specs.declared.config.Sort.TheVariants.{Cum}
 use Rattle.pp_model.specs.declared.config.Config.{Config}
+use Rattle.pp_model.specs.declared.report.Report.{Report}
+use Rattle.pp_model.specs.ReportFacts.{is_short, is_of_labels}
 use Rattle.pp_options.specs.declared.format.Format.{Format}
-use Rattle.pp_options.specs.declared.format.Format.TheVariants.{Top, Tree, Peek, Traces, Tags, Raw, Comments, Proto, Folded, Table, Compare}
-use Rattle.pp_options.specs.declared.format.Format.TheVariants as formats
 use Rattle.pp_options.specs.declared.setting.Setting.TheVariants as settings
 use Rattle.pp_options.specs.declared.variable.TextVariable.{TextVariable}
 use Rattle.pp_options.specs.declared.variable.TextVariable.TheVariants as texts
 use Rattle.pp_options.specs.Ends.{without_end}
-use Rattle.pp_options.specs.Formats.{format_named, takes_pattern, report_of}
+use Rattle.pp_options.specs.Formats.{format_named, takes_pattern, report_of_format}
 use Rattle.pp_options.specs.Settings.{assigned}
 use Rattle.pp_options.specs.Tables.{Row, row, value_named}
 use Rattle.pp_shell.specs.declared.command.Command.{Command}
@@ -58,81 +58,50 @@ abbrev pub with_pattern : TextVariable → List ℕ → Config → Config
 with_pattern which [] c = c
 with_pattern which (byte ∷ bytes) c = assigned c (settings.Text which (byte ∷ bytes))
 
--- the shell shows few rows of the format, where nothing else is said
-abbrev pub is_short : Format → Bool
-is_short Top = true
-is_short Tree = false
-is_short Peek = false
-is_short Traces = false
-is_short Tags = false
-is_short Raw = false
-is_short Comments = false
-is_short Proto = false
-is_short formats.List = false
-is_short Folded = false
-is_short Table = false
-is_short Compare = true
-
 -- the number of rows is the report's own
 abbrev pub is_own : ℤ → Bool
 is_own (negsuc n) = true
 is_own (pos n) = false
 
 -- in the shell the own number of rows of top and compare is 10
-abbrev pub with_few_rows : Format → Config → Config
-with_few_rows format c =
-    if is_short format && is_own c.nodecount then assigned c (settings.Nodecount (pos 10)) else c
-
--- the report is of labels, so that patterns behind its command filter labels
-abbrev pub is_of_labels : Format → Bool
-is_of_labels Top = false
-is_of_labels Tree = false
-is_of_labels Peek = false
-is_of_labels Traces = false
-is_of_labels Tags = true
-is_of_labels Raw = false
-is_of_labels Comments = false
-is_of_labels Proto = false
-is_of_labels formats.List = false
-is_of_labels Folded = false
-is_of_labels Table = false
-is_of_labels Compare = false
+abbrev pub with_few_rows : Report → Config → Config
+with_few_rows report c =
+    if is_short report && is_own c.nodecount then assigned c (settings.Nodecount (pos 10)) else c
 
 -- the variable whose place added patterns take
-abbrev pub focus_variable : Format → TextVariable
-focus_variable format = if is_of_labels format then texts.Tagfocus else texts.Focus
+abbrev pub focus_variable : Report → TextVariable
+focus_variable report = if is_of_labels report then texts.Tagfocus else texts.Focus
 
 -- the same for patterns after a dash
-abbrev pub ignore_variable : Format → TextVariable
-ignore_variable format = if is_of_labels format then texts.Tagignore else texts.Ignore
+abbrev pub ignore_variable : Report → TextVariable
+ignore_variable report = if is_of_labels report then texts.Tagignore else texts.Ignore
 
 -- the configuration of one report, as the words after its command want it
-abbrev pub narrowed : Format → Narrowing → Config → Config
-narrowed format n c =
-    with_few_rows format
-    (with_pattern (ignore_variable format) n.ignore
-    (with_pattern (focus_variable format) n.focus (with_order n.by_cum (with_rows n.rows c))))
+abbrev pub narrowed : Report → Narrowing → Config → Config
+narrowed report n c =
+    with_few_rows report
+    (with_pattern (ignore_variable report) n.ignore
+    (with_pattern (focus_variable report) n.focus (with_order n.by_cum (with_rows n.rows c))))
 
 -- a report with what the words after it ask for, or their first fault
-abbrev pub run_with : Format → List ℕ → Config → Result Narrowing LineFault
-    → Result Command LineFault
-run_with format pattern c (Err fault) = Err fault
-run_with format pattern c (Ok n) =
-    Ok (commands.Run (report_of format pattern) (narrowed format n c) n.output)
+abbrev pub run_with : Report → Config → Result Narrowing LineFault → Result Command LineFault
+run_with report c (Err fault) = Err fault
+run_with report c (Ok n) = Ok (commands.Run report (narrowed report n c) n.output)
 
 -- a report with the words after it
-abbrev pub run : Format → List ℕ → List (List ℕ) → Config → Result Command LineFault
-run format pattern words c = run_with format pattern c (together (arguments words))
+abbrev pub run : Report → List (List ℕ) → Config → Result Command LineFault
+run report words c = run_with report c (together (arguments words))
 
 -- a report whose pattern is the first of the words
 abbrev pub pattern_command : Format → List ℕ → List (List ℕ) → Config → Result Command LineFault
 pattern_command format name [] c = Err (MissingArgument name)
-pattern_command format name (pattern ∷ words) c = run format pattern words c
+pattern_command format name (pattern ∷ words) c = run (report_of_format format pattern) words c
 
 -- a report with its words
 abbrev pub report : Format → List ℕ → List (List ℕ) → Config → Result Command LineFault
 report format name words c =
-    if takes_pattern format then pattern_command format name words c else run format [] words c
+    if takes_pattern format then pattern_command format name words c
+    else run (report_of_format format []) words c
 
 -- a report, where the name is a format's; `first` is the whole first word
 abbrev pub format_command : List ℕ → List ℕ → Option Format → List (List ℕ) → Config

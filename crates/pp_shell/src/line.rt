@@ -143,13 +143,13 @@ fn report(
     ensures { AnswersLine (report format name.now (map (λ w. w.now) words.now) config.now) result }
 {
     if !format.takes_pattern() {
-        return run(alloc, format, Text::new(alloc), words, config);
+        return run(alloc, format.report(Text::new(alloc)), words, config);
     }
     let [pattern, rest @ ..] = words else {
         return missing_argument(alloc, name);
     };
     let pattern = Text::from_slice(alloc, pattern)?;
-    run(alloc, format, pattern, rest, config)
+    run(alloc, format.report(pattern), rest, config)
 }
 
 fn unknown_command(alloc: Global, word: &[u8]) -> Result<Command, LineRefusal>
