@@ -63,12 +63,20 @@ header_text_ids p =
     ++ (type_text_ids p.period_type
     ++ (flat_map text_ids p.comment ++ (text_ids p.default_sample_type ++ text_ids p.doc_url))))
 
+-- the texts that come before those of samples: text 0, and those of the sample types
+abbrev pub first_text_ids : Profile → List ℕ
+first_text_ids p = (1 ∷ []) ++ flat_map type_text_ids p.sample_type
+
+-- the texts that come behind those of samples
+abbrev pub table_text_ids : Profile → List ℕ
+table_text_ids p =
+    flat_map mapping_text_ids p.mapping
+    ++ (flat_map function_text_ids p.function ++ header_text_ids p)
+
 -- the texts of the profile, each as often as it is named, in the order in which they are numbered;
 -- text 0 comes first
 abbrev pub profile_text_ids : Profile → List ℕ
 profile_text_ids p =
     (1 ∷ [])
     ++ (flat_map type_text_ids p.sample_type
-    ++ (flat_map sample_text_ids p.sample
-    ++ (flat_map mapping_text_ids p.mapping
-    ++ (flat_map function_text_ids p.function ++ header_text_ids p))))
+    ++ (flat_map sample_text_ids p.sample ++ table_text_ids p))

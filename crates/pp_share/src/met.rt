@@ -43,18 +43,38 @@ impl Met {
 
     /// Adds the id, unless it is 0 or was met.
     #[inline(always)]
-    #[tactic(auto, using(crate::proofs::MetLemmas::met_already))]
     pub fn meet(&mut self, id: u64) -> Result<(), Memory>
         ensures { OnOk result (self.new ≡ met_with self.old id) }
     {
-        if number_at(&self.places, id) > 0 {
-            return Ok(());
+        self.place(id)?;
+        Ok(())
+    }
+
+    /// Adds the id, unless it is 0 or was met, and gives its place plus 1. 0 stays.
+    #[inline(always)]
+    #[tactic(auto, using(crate::proofs::MetLemmas::met_already))]
+    pub fn place(&mut self, id: u64) -> Result<u64, Memory>
+        ensures met { OnOk result (self.new ≡ met_with self.old id) }
+        ensures place { IfOk result (λ place. place ≡ place_id self.new id) }
+    {
+        let number = number_at(&self.places, id);
+        if number > 0 {
+            return Ok(number);
         }
-        self.add(id)
+        self.place_new(id)
     }
 
     // The same, where the table does not know the id.
     #[inline(never)]
+    fn place_new(&mut self, id: u64) -> Result<u64, Memory>
+        ensures met { OnOk result (self.new ≡ met_with self.old id) }
+        ensures place { IfOk result (λ place. place ≡ place_id self.new id) }
+    {
+        self.add(id)?;
+        Ok(self.id(id))
+    }
+
+    // Adds the id, unless it is 0 or was met.
     fn add(&mut self, id: u64) -> Result<(), Memory>
         ensures { OnOk result (self.new ≡ met_with self.old id) }
     {
