@@ -9,7 +9,6 @@ pub mod Ready
 pub mod EntryLemmas
 pub mod WalkedLemmas
 pub mod Renaming
-pub mod PlacingLemmas
 pub mod Once
 pub mod SharedTexts
 pub mod SharedFunctions

@@ -1,8 +1,8 @@
 //! A profile's tables in the order in which a walk over its samples meets their entries.
 ghost use Rattle.std.specs.Prelude.{◌≡◌, ◌<◌, ◌^◌, [], length, IfOk, OnOk};
 ghost use Rattle.std.specs.List.{flat_map};
-ghost use Rattle.pp_share.specs.Walked.{locations_met, with_placed_samples, first_id, mappings_met, with_mappings, functions_met, with_functions, with_texts_of, IsWalked};
-ghost use Rattle.pp_share.specs.Walk.{met_after, first_text_ids, sample_text_ids, table_text_ids, header_text_ids};
+ghost use Rattle.pp_share.specs.Walked.{locations_met, with_placed_samples, first_id, mappings_met, with_mappings, functions_met, with_functions, with_texts, IsWalked};
+ghost use Rattle.pp_share.specs.Walk.{met_after, IsPlaced, first_text_ids, sample_text_ids, table_text_ids, header_text_ids};
 
 use crate::gather::gather;
 use crate::ids::Ids;
@@ -48,7 +48,7 @@ fn first_texts(alloc: Global, p: &Profile) -> Result<Met, Memory>
 fn keep_locations(alloc: Global, p: &mut Profile, texts: &mut Met) -> Result<Met, Memory>
     ensures met { IfOk result (λ met. met ≡ locations_met p.old) }
     ensures texts { OnOk result (texts.new ≡ met_after texts.old (flat_map sample_text_ids p.old.sample)) }
-    ensures kept { OnOk result (p.new ≡ with_placed_samples texts.new p.old) }
+    ensures kept { OnOk result (IsPlaced with_placed_samples texts.new p.old p.new) }
 {
     let mut met = Met::new(alloc, p.location.len().saturating_add(1))?;
     place_samples(&mut p.sample, &mut met, texts)?;
@@ -90,7 +90,7 @@ fn keep_functions(alloc: Global, p: &mut Profile) -> Result<Met, Memory>
 fn keep_texts(alloc: Global, p: &mut Profile, met: &mut Met) -> Result<(), Memory>
     ensures met { OnOk result (met.new ≡ met_after met.old (table_text_ids p.old)) }
     ensures few { OnOk result (length met.new < 2 ^ 62) }
-    ensures kept { OnOk result (p.new ≡ with_texts_of met.new p.old) }
+    ensures kept { OnOk result (p.new ≡ with_texts met.new p.old) }
 {
     meet_tables(p, met)?;
     // No memory holds so many, and an index of a text has 63 bits.
