@@ -1,7 +1,7 @@
 -- A list of which a front has been changed, item by item.
-use Rattle.std.proofs.Common.{◌≡◌, ℕ, zero, suc, ◌+◌, ◌≤◌, List, [], ◌∷◌, ◌++◌, length, map, take, drop, set, slice_get, Some, sym, ap, ◌∙◌, arith, length-append, length-drop}
+use Rattle.std.proofs.Common.{◌≡◌, ℕ, zero, suc, ◌+◌, ◌<◌, ◌≤◌, List, [], ◌∷◌, ◌++◌, length, map, take, drop, set, slice_get, get_or, Some, refl, sym, ap, ◌∙◌, arith, length-append, length-drop}
 use Rattle.std.proofs.lemmas.List.{length-map, length-take, append-nil, take_all, drop_all}
-use Rattle.std.proofs.lemmas.Option.{none-some, same_Some}
+use Rattle.std.proofs.lemmas.Option.{none-some, same_Some, get_or_from_slice_get}
 
 module _ {A : Type 0} (f : A → A) where
   -- the list with its first k items changed
@@ -11,6 +11,17 @@ module _ {A : Type 0} (f : A → A) where
   pub length-changed_front : (xs : List A) (k : ℕ) → k ≤ length xs → length (changed_front xs k) ≡ length xs
   length-changed_front xs k within =
       omega (arith, length-append (map f (take k xs)) (drop k xs), length-map (take k xs) f, length-take k xs, length-drop k xs)
+
+  -- an item behind the front is as it was
+  pub front_kept : (xs : List A) (k : ℕ) (d : A) → k < length xs → get_or (changed_front xs k) k d ≡ get_or xs k d
+  front_kept [] k d within = absurd (omega arith)
+  front_kept (x ∷ xs) zero d within = refl
+  front_kept (x ∷ xs) (suc k) d within = front_kept xs k d (omega arith)
+
+  -- and so is the one that comes next
+  pub item_kept : (xs items : List A) (k : ℕ) (x : A) → items ≡ changed_front xs k → slice_get items k ≡ Some x → k < length xs → x ≡ get_or xs k x
+  item_kept xs items k x so_far at within =
+      sym (get_or_from_slice_get items k x x at) ∙ ap (λ l. get_or l k x) so_far ∙ front_kept xs k x within
 
   step : (xs : List A) (k : ℕ) (x : A) → slice_get (changed_front xs k) k ≡ Some x → set (changed_front xs k) k (f x) ≡ changed_front xs (suc k)
   step [] zero x at = absurd (none-some x at)

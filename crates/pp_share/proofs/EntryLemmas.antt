@@ -11,7 +11,7 @@ use Rattle.pp_model.specs.Lookup.{place_read}
 use Rattle.pp_share.specs.Described.{FunctionText, MappingText, less, plus}
 use Rattle.pp_share.specs.Header.{first_nonempty}
 use Rattle.pp_share.specs.Ids.{index_of_id}
-use Rattle.pp_share.proofs.Tables.{Names, IsRef, named, read_named}
+use Rattle.pp_share.proofs.Tables.{Names, IsRef}
 
 -- the index of the text with an id
 pub index_next : (n : ℕ) → n < 4611686018427387904 → index_of_id (n + 1) ≡ pos n
@@ -51,12 +51,6 @@ nonempty_same t = by (bytes_eq [] t) (bytes_eq-Decides [] t)
     by : (b : Bool) → Decides b ([] ≡ t) → unwrap_or (if not b then Some t else None) [] ≡ t
     by true is = is.0 refl
     by false is = refl
-
--- entries that ids name are what is read there
-pub names_read : {A : Type 0} (xs : List A) (d : A) (ids : List ℕ) → AllByRecursion (Names (length xs)) ids → map (named xs d) ids ≡ filter_map (place_read xs) ids
-names_read xs d [] all = refl
-names_read xs d (id ∷ ids) all =
-    ap (λ l. named xs d id ∷ l) (names_read xs d ids all.1) ∙ ap (λ o. cons_option o (filter_map (place_read xs) ids)) (sym (read_named xs d id all.0))
 
 -- ids that name entries are references
 pub refs_named : (n : ℕ) (ids : List ℕ) → AllByRecursion (Names n) ids → AllByRecursion (IsRef n) ids

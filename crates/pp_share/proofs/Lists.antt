@@ -3,7 +3,7 @@ use Rattle.std.proofs.Common.{◌≡◌, ℕ, Bool, true, false, ◌&&◌, if◌
 use Rattle.std.specs.List.{AllByRecursion, filter_map, flat_map, cons_option}
 use Rattle.std.specs.Option.{option_map, option_to_list}
 use Rattle.std.specs.Cmp.Lexicographic.{pointwise}
-use Rattle.std.proofs.lemmas.List.{map-append, get_or-map}
+use Rattle.std.proofs.lemmas.List.{map-append}
 use Rattle.std.proofs.lemmas.List.Elements.{filter_map-append, All-from_recursion}
 use Rattle.pp_share.proofs.Tables.{Names, named}
 
@@ -51,10 +51,6 @@ all_flat Q g P holds (x ∷ xs) all = all_both Q (g x) (flat_map g xs) (holds x 
 -- what holds of each entry holds of the one that an id names
 pub all_named : {A : Type 0} (P : A → Type 0) (xs : List A) (d : A) (id : ℕ) → AllByRecursion P xs → Names (length xs) id → P (named xs d id)
 all_named P xs d id all is = All-from_recursion P xs all _ d (omega (arith, is.0, is.1))
-
--- the description of the entry that an id names
-pub named-map : {A B : Type 0} (f : A → B) (xs : List A) (d : A) (e : B) (id : ℕ) → Names (length xs) id → named (map f xs) e id ≡ f (named xs d id)
-named-map f xs d e id is = get_or-map f xs _ d e (omega (arith, is.0, is.1))
 
 pub option_map-same : {A : Type 0} (o : Option A) → option_map (λ x. x) o ≡ o
 option_map-same None = refl

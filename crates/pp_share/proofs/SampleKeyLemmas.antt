@@ -16,7 +16,7 @@ use Rattle.pp_model.specs.FirstSight.{seen_with, distinct, place_of}
 use Rattle.pp_model.proofs.FirstSightLemmas.{any-map, place-map, seen_with-map, distinct_apart}
 use Rattle.pp_share.specs.declared.samples.SampleKey.{SampleKey}
 use Rattle.pp_share.specs.Sums.{keys_of, sum_of, summed, rows_with}
-use Rattle.pp_share.specs.SampleKeys.{sample_item, stack_of, item_of_key, equal_label, same_stack, AreSums}
+use Rattle.pp_share.specs.SampleKeys.{sample_item, key_lists, item_of_key, equal_label, same_stack, AreSums}
 use Rattle.pp_share.proofs.Prefix.{map_same, all_tt, IsNext, next_holds}
 use Rattle.pp_share.proofs.Pairs.{zip-map}
 use Rattle.pp_share.proofs.Grouping.{keys_push, sums_push, put_wide, put_fits}
@@ -64,7 +64,7 @@ stack_decides a b =
 
 -- keys are one where the locations and the labels are
 abbrev pub same_key : SampleKey → SampleKey → Bool
-same_key a b = same_stack (stack_of a) (stack_of b)
+same_key a b = same_stack (key_lists a) (key_lists b)
 
 stack_laws : IsEquivalence same_stack
 stack_laws = decided same_stack stack_decides
@@ -73,13 +73,13 @@ stack_laws = decided same_stack stack_decides
 pub paired_sums : (columns : ℕ) (items : List ((List ℕ × List Label) × List ℤ)) (keys : List SampleKey) (sums : List (List ℤ)) → AreSums columns items keys sums
     → map item_of_key (zip keys sums) ≡ summed same_stack columns items
 paired_sums columns items keys sums are =
-    zip-described stack_of keys sums ∙ (λ i. zip (are.once i) (are.added_up i))
+    zip-described key_lists keys sums ∙ (λ i. zip (are.once i) (are.added_up i))
     ∙ zip-map (sum_of same_stack columns items) (distinct same_stack (keys_of same_stack items))
 
 module _ (columns : ℕ) (samples seen : List Sample) (s : Sample) (next : IsNext samples seen s)
     (wide : All (λ (s : Sample). length s.value ≡ columns) samples)
     (keys : List SampleKey) (sums : List (List ℤ)) (so_far : AreSums columns (map sample_item seen) keys sums)
-    (key : SampleKey) (is : stack_of key ≡ (s.location_id, s.label)) where
+    (key : SampleKey) (is : key_lists key ≡ (s.location_id, s.label)) where
   abbrev all_items : List ((List ℕ × List Label) × List ℤ)
   all_items = map sample_item samples
 
@@ -96,7 +96,7 @@ module _ (columns : ℕ) (samples seen : List Sample) (s : Sample) (next : IsNex
   wide_items = All-map (λ (item : (List ℕ × List Label) × List ℤ). length item.1 ≡ columns) sample_item samples wide
 
   long : length keys ≡ length (distinct same_stack (keys_of same_stack items))
-  long = sym (length-map keys stack_of) ∙ ap length so_far.once
+  long = sym (length-map keys key_lists) ∙ ap length so_far.once
 
   -- the row of a known key and the sample's values are as wide, and do not add up to too much
   pub sample_wide : (place : ℕ) → place < length keys → length s.value ≡ length (get_or sums place [])
@@ -118,11 +118,11 @@ module _ (columns : ℕ) (samples seen : List Sample) (s : Sample) (next : IsNex
   pub sums_with : (is_new : Bool) → is_new ≡ not (list_any (same_key key) keys) → (place : ℕ) → place ≡ place_of same_key keys key
       → AreSums columns (map sample_item (seen ++ s ∷ [])) (seen_with same_key keys key) (rows_with sums place is_new s.value)
   sums_with is_new tells place at =
-      let agree : (a b : SampleKey) → Unit {0} → Unit {0} → same_stack (stack_of a) (stack_of b) ≡ same_key a b = λ a b _ _. refl in
+      let agree : (a b : SampleKey) → Unit {0} → Unit {0} → same_stack (key_lists a) (key_lists b) ≡ same_key a b = λ a b _ _. refl in
       let more = map-append sample_item seen (s ∷ []) in
       subst (λ l. AreSums columns l (seen_with same_key keys key) (rows_with sums place is_new s.value)) (sym more) (record {
         once =
-            sym (seen_with-map same_key same_stack stack_of (λ _. Unit {0}) agree key tt keys (all_tt keys))
+            sym (seen_with-map same_key same_stack key_lists (λ _. Unit {0}) agree key tt keys (all_tt keys))
             ∙ (λ i. seen_with same_stack (so_far.once i) (is i))
             ∙ sym (keys_push same_stack stack_laws columns items stack s.value);
         added_up =
@@ -130,9 +130,9 @@ module _ (columns : ℕ) (samples seen : List Sample) (s : Sample) (next : IsNex
             ∙ sym (sums_push same_stack stack_laws columns items stack s.value
             (next_holds all_items items (stack, s.value) next_item (λ item. length item.1 ≡ columns) wide_items)
             (distinct_apart same_stack stack_laws (keys_of same_stack items)) is_new
-            (tells ∙ ap not (sym (any-map same_key same_stack stack_of (λ _. Unit {0}) agree key tt keys (all_tt keys)))
+            (tells ∙ ap not (sym (any-map same_key same_stack key_lists (λ _. Unit {0}) agree key tt keys (all_tt keys)))
             ∙ (λ i. not (list_any (same_stack (is i)) (so_far.once i))))
             place
-            (at ∙ sym (place-map same_key same_stack stack_of (λ _. Unit {0}) agree key tt keys (all_tt keys))
+            (at ∙ sym (place-map same_key same_stack key_lists (λ _. Unit {0}) agree key tt keys (all_tt keys))
             ∙ (λ i. place_of same_stack (so_far.once i) (is i))));
       })

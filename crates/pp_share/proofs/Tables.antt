@@ -4,8 +4,10 @@ use Rattle.std.specs.Prelude.{◌==◌, slice_get}
 use Rattle.std.specs.List.{AllByRecursion, IsDistinct, filter_map, cons_option}
 use Rattle.std.specs.Option.{option_map, option_map_or, option_to_list}
 use Rattle.std.specs.Cmp.{IsEquivalence}
+use Rattle.std.proofs.Math.ListN.{get_or-map}
 use Rattle.std.proofs.Math.Dec.{eqb-suc-zero, eqb-zero-suc, eqb-suc-suc}
 use Rattle.std.proofs.lemmas.Bool.{eq-eqb, ne_eqb, cases_eq, cond-true, cond-false}
+use Rattle.std.proofs.lemmas.List.{length-map}
 use Rattle.std.proofs.lemmas.List.Elements.{All-from_recursion}
 use Rattle.std.proofs.lemmas.Map.Keys.{IsDistinct-head}
 use Rattle.std.proofs.lemmas.Option.{slice_get-get_or, slice_get-map}
@@ -104,50 +106,67 @@ names_nonzero n (id ∷ ids) refs = by (id == 0) refl (names_nonzero n ids refs.
           | inr other ↦ omega (arith, other)
         ]
 
-read_each : {A : Type 0} (xs : List A) (d : A) (ids : List ℕ) → AllByRecursion (IsRef (length xs)) ids → filter_map (place_read xs) ids ≡ map (named xs d) (nonzero ids)
-read_each xs d [] refs = refl
-read_each {A} xs d (id ∷ ids) refs = elim (cases_eq id 0) as (λ _. filter_map (place_read xs) (id ∷ ids) ≡ map (named xs d) (nonzero (id ∷ ids))) [
-  | inl none ↦
-      ap (λ o. cons_option o (filter_map (place_read xs) ids)) (read_none xs id none) ∙ read_each xs d ids refs.1
-      ∙ ap (λ b. map (named xs d) (if not b then id ∷ nonzero ids else nonzero ids)) (sym (eq-eqb id 0 none))
-  | inr other ↦
-      ap (λ o. cons_option o (filter_map (place_read xs) ids)) (read_named xs d id (omega (arith, other), refs.0))
-      ∙ ap (λ l. named xs d id ∷ l) (read_each xs d ids refs.1)
-      ∙ ap (λ b. map (named xs d) (if not b then id ∷ nonzero ids else nonzero ids)) (sym (ne_eqb id 0 other))
-]
+-- A walk over references to a table of entries, of which this is said, and of no two the same.
+module _ {A B : Type 0} (same : B → B → Bool) (laws : IsEquivalence same) (say : A → B) (items : List A) (none : A) (apart : IsDistinct same (map say items)) where
+  -- what is said of the entry that the id names
+  abbrev pub said : ℕ → B
+  said id = say (named items none id)
 
--- A walk over references to a table of distinct entries.
-module _ {A : Type 0} (same : A → A → Bool) (laws : IsEquivalence same) (xs : List A) (d : A) (apart : IsDistinct same xs) where
+  pub read_said : (id : ℕ) → Names (length items) id → place_read (map say items) id ≡ Some (said id)
+  read_said id is = read-map say items id ∙ ap (option_map say) (read_named items none id is)
+
+  said_tell : (a b : ℕ) → Names (length items) a → Names (length items) b → same (said a) (said b) ≡ same_id a b
+  said_tell a b na nb =
+      let long = sym (length-map items say) in
+      (λ j. same (sym (get_or-map say items (a - 1) none) j) (sym (get_or-map say items (b - 1) none) j))
+      ∙ ids_tell same laws (map say items) (say none) a b apart (subst (λ n. Names n a) long na) (subst (λ n. Names n b) long nb)
+
+  -- what is said of entries that ids name is what is read there
+  pub said_each : (ids : List ℕ) → AllByRecursion (Names (length items)) ids → map said ids ≡ filter_map (place_read (map say items)) ids
+  said_each [] all = refl
+  said_each (id ∷ ids) all = (λ j. cons_option (sym (read_said id all.0) j) (said_each ids all.1 j))
+
+  read_each : (ids : List ℕ) → AllByRecursion (IsRef (length items)) ids → filter_map (place_read (map say items)) ids ≡ map said (nonzero ids)
+  read_each [] refs = refl
+  read_each (id ∷ ids) refs = elim (cases_eq id 0) as (λ _. filter_map (place_read (map say items)) (id ∷ ids) ≡ map said (nonzero (id ∷ ids))) [
+    | inl none_is ↦
+        (λ j. cons_option (read_none (map say items) id none_is j) (read_each ids refs.1 j))
+        ∙ ap (λ b. map said (if not b then id ∷ nonzero ids else nonzero ids)) (sym (eq-eqb id 0 none_is))
+    | inr other ↦
+        (λ j. cons_option (read_said id (omega (arith, other), refs.0) j) (read_each ids refs.1 j))
+        ∙ ap (λ b. map said (if not b then id ∷ nonzero ids else nonzero ids)) (sym (ne_eqb id 0 other))
+  ]
+
   -- the distinct entries that are met are those of the ids that are met
-  pub walk_entries : (ids : List ℕ) → AllByRecursion (IsRef (length xs)) ids → distinct same (filter_map (place_read xs) ids) ≡ map (named xs d) (met_after [] ids)
+  pub walk_entries : (ids : List ℕ) → AllByRecursion (IsRef (length items)) ids → distinct same (filter_map (place_read (map say items)) ids) ≡ map said (met_after [] ids)
   walk_entries ids refs =
-      ap (distinct same) (read_each xs d ids refs)
-      ∙ distinct-map same_id same (named xs d) (Names (length xs)) (λ a b na nb. ids_tell same laws xs d a b apart na nb) (nonzero ids) (names_nonzero (length xs) ids refs)
-      ∙ ap (map (named xs d)) (sym (met_distinct [] ids))
+      ap (distinct same) (read_each ids refs)
+      ∙ distinct-map same_id same said (Names (length items)) said_tell (nonzero ids) (names_nonzero (length items) ids refs)
+      ∙ ap (map said) (sym (met_distinct [] ids))
 
   -- the ids that are met name entries
-  pub walk_names : (ids : List ℕ) → AllByRecursion (IsRef (length xs)) ids → AllByRecursion (Names (length xs)) (met_after [] ids)
+  pub walk_names : (ids : List ℕ) → AllByRecursion (IsRef (length items)) ids → AllByRecursion (Names (length items)) (met_after [] ids)
   walk_names ids refs =
-      subst (AllByRecursion (Names (length xs))) (sym (met_distinct [] ids))
-      (all-seen_after same_id same (named xs d) (Names (length xs)) (λ a b na nb. ids_tell same laws xs d a b apart na nb) [] (nonzero ids) tt (names_nonzero (length xs) ids refs))
+      subst (AllByRecursion (Names (length items))) (sym (met_distinct [] ids))
+      (all-seen_after same_id same said (Names (length items)) said_tell [] (nonzero ids) tt (names_nonzero (length items) ids refs))
 
   -- an entry's id among those met is that of its id
-  pub walk_place : (met : List ℕ) → AllByRecursion (Names (length xs)) met → (id : ℕ) → Names (length xs) id
-      → place_of same (map (named xs d) met) (named xs d id) + 1 ≡ place_id met id
+  pub walk_place : (met : List ℕ) → AllByRecursion (Names (length items)) met → (id : ℕ) → Names (length items) id
+      → place_id met id ≡ place_of same (map said met) (said id) + 1
   walk_place met all id is =
-      ap (λ n. n + 1) (place-map same_id same (named xs d) (Names (length xs)) (λ a b na nb. ids_tell same laws xs d a b apart na nb) id is met all)
-      ∙ sym (cond-false _ _ _ (ne_eqb id 0 (λ e. let zero_is : id ≡ 0 = e in omega (arith, zero_is, is.0))))
+      cond-false _ _ _ (ne_eqb id 0 (λ e. let zero_is : id ≡ 0 = e in omega (arith, zero_is, is.0)))
+      ∙ ap (λ n. n + 1) (sym (place-map same_id same said (Names (length items)) said_tell id is met all))
 
   -- the same of a reference, which may be none
-  pub walk_ref : (met : List ℕ) → AllByRecursion (Names (length xs)) met → (id : ℕ) → IsRef (length xs) id
-      → option_map_or (λ x. place_of same (map (named xs d) met) x + 1) (place_read xs id) 0 ≡ place_id met id
-  walk_ref met all id is = elim (cases_eq id 0) as (λ _. option_map_or (λ x. place_of same (map (named xs d) met) x + 1) (place_read xs id) 0 ≡ place_id met id) [
-    | inl none ↦
-        ap (λ o. option_map_or (λ x. place_of same (map (named xs d) met) x + 1) o 0) (read_none xs id none)
-        ∙ sym (cond-true _ _ _ (eq-eqb id 0 none))
+  pub walk_ref : (met : List ℕ) → AllByRecursion (Names (length items)) met → (id : ℕ) → IsRef (length items) id
+      → place_id met id ≡ option_map_or (λ x. place_of same (map said met) x + 1) (place_read (map say items) id) 0
+  walk_ref met all id is = elim (cases_eq id 0) as (λ _. place_id met id ≡ option_map_or (λ x. place_of same (map said met) x + 1) (place_read (map say items) id) 0) [
+    | inl none_is ↦
+        cond-true _ _ _ (eq-eqb id 0 none_is)
+        ∙ ap (λ o. option_map_or (λ x. place_of same (map said met) x + 1) o 0) (sym (read_none (map say items) id none_is))
     | inr other ↦
-        ap (λ o. option_map_or (λ x. place_of same (map (named xs d) met) x + 1) o 0) (read_named xs d id (omega (arith, other), is))
-        ∙ walk_place met all id (omega (arith, other), is)
+        walk_place met all id (omega (arith, other), is)
+        ∙ ap (λ o. option_map_or (λ x. place_of same (map said met) x + 1) o 0) (sym (read_said id (omega (arith, other), is)))
   ]
 
 -- what is gathered are the entries that the ids name

@@ -11,6 +11,10 @@ pub met_both : (met after last xs ys : List ℕ) → after ≡ met_after met xs 
 met_both met after last xs ys first second =
     second ∙ ap (λ m. met_after m ys) first ∙ sym (fold-append met_with met xs ys)
 
+-- what is met later, after these
+pub met_later : (met now ids more : List ℕ) → now ≡ met_after met ids → met_after met (ids ++ more) ≡ met_after now more
+met_later met now ids more is = fold-append met_with met ids more ∙ ap (λ m. met_after m more) (sym is)
+
 -- one more item of a list
 pub met_next : {A : Type 0} (refs : A → List ℕ) (items : List A) (i : ℕ) (x : A) (met now last : List ℕ) → i < length items → x ≡ get_or items i x
     → now ≡ met_after met (flat_map refs (take i items)) → last ≡ met_after now (refs x) → last ≡ met_after met (flat_map refs (take (i + 1) items))

@@ -93,3 +93,7 @@ module _ (by : NewIds) where
         function = map renumbered_function p.function;
         comment = map by.text p.comment;
       })
+
+  -- the same, but for the samples, which stay
+  abbrev pub renumbered_tables : Profile → Profile
+  renumbered_tables p = record (renumbered p) { sample = p.sample }

@@ -17,12 +17,12 @@ abbrev pub sample_of : (List ℕ × List Label) × List ℤ → Sample
 sample_of item = record { location_id = item.0.0; value = item.1; label = item.0.1 }
 
 -- the key as locations and labels
-abbrev pub stack_of : SampleKey → List ℕ × List Label
-stack_of key = (key.locations.ids.items, key.labels.items)
+abbrev pub key_lists : SampleKey → List ℕ × List Label
+key_lists key = (key.locations.ids.items, key.labels.items)
 
 -- the same, with its values
 abbrev pub item_of_key : SampleKey × List ℤ → (List ℕ × List Label) × List ℤ
-item_of_key item = (stack_of item.0, item.1)
+item_of_key item = (key_lists item.0, item.1)
 
 -- labels have the same fields
 abbrev pub equal_label : Label → Label → Bool
@@ -37,7 +37,7 @@ same_stack a b = pointwise (λ i j. i == j) a.0 b.0 && pointwise equal_label a.1
 -- These are the keys of the items without repeats, in the order of first sight, and these the sums of
 -- their values.
 pub record AreSums (columns : ℕ) (items : List ((List ℕ × List Label) × List ℤ)) (keys : List SampleKey) (sums : List (List ℤ)) : Type 0 where
-  pub once : map stack_of keys ≡ distinct same_stack (keys_of same_stack items)
+  pub once : map key_lists keys ≡ distinct same_stack (keys_of same_stack items)
   pub added_up : sums ≡ map (sum_of same_stack columns items) (distinct same_stack (keys_of same_stack items))
 
 -- The samples with different locations or labels, with the sums of their values, but for those whose

@@ -1,5 +1,5 @@
 -- Ids in the order in which a walk over a profile meets them. The id of a text is its index plus 1.
-use Rattle.std.specs.Prelude.{ℕ, ◌+◌, ◌==◌, ℤ, List, [], ◌∷◌, ◌++◌, fold, if◌then◌else◌}
+use Rattle.std.specs.Prelude.{◌≡◌, ℕ, ◌+◌, ◌==◌, ℤ, List, [], ◌∷◌, ◌++◌, fold, if◌then◌else◌}
 use Rattle.std.specs.List.{flat_map}
 use Rattle.pp_model.specs.declared.profile.ValueType.{ValueType}
 use Rattle.pp_model.specs.declared.profile.Label.{Label}
@@ -18,6 +18,10 @@ met_with met id = if id == 0 then met else seen_with (λ a b. a == b) met id
 -- the ids met after these
 abbrev pub met_after : List ℕ → List ℕ → List ℕ
 met_after met ids = fold met_with met ids
+
+-- what the item becomes by the ids that were met, whatever is met after them
+abbrev pub IsPlaced : {A : Type 0} → (List ℕ → A → A) → List ℕ → A → A → Type 0
+IsPlaced placed met old new = (more : List ℕ) → new ≡ placed (met_after met more) old
 
 -- the locations of a sample
 abbrev pub location_refs : Sample → List ℕ
@@ -63,12 +67,17 @@ header_text_ids p =
     ++ (type_text_ids p.period_type
     ++ (flat_map text_ids p.comment ++ (text_ids p.default_sample_type ++ text_ids p.doc_url))))
 
+-- the texts that come before those of samples: text 0, and those of the sample types
+abbrev pub first_text_ids : Profile → List ℕ
+first_text_ids p = (1 ∷ []) ++ flat_map type_text_ids p.sample_type
+
+-- the texts that come behind those of samples
+abbrev pub table_text_ids : Profile → List ℕ
+table_text_ids p =
+    flat_map mapping_text_ids p.mapping
+    ++ (flat_map function_text_ids p.function ++ header_text_ids p)
+
 -- the texts of the profile, each as often as it is named, in the order in which they are numbered;
 -- text 0 comes first
 abbrev pub profile_text_ids : Profile → List ℕ
-profile_text_ids p =
-    (1 ∷ [])
-    ++ (flat_map type_text_ids p.sample_type
-    ++ (flat_map sample_text_ids p.sample
-    ++ (flat_map mapping_text_ids p.mapping
-    ++ (flat_map function_text_ids p.function ++ header_text_ids p))))
+profile_text_ids p = first_text_ids p ++ (flat_map sample_text_ids p.sample ++ table_text_ids p)

@@ -113,8 +113,8 @@ pub fn listed(ids: &[u64], id: u64) -> u64
     }
 }
 
-// The index of the text with the id, and 0 where there is none.
-fn index_of_id(id: u64) -> i64
+/// The index of the text with the id, and 0 where there is none.
+pub fn index_of_id(id: u64) -> i64
     ensures { result ≡ index_of_id id }
 {
     if id == 0 || id >= 1 << 63 {

@@ -10,6 +10,7 @@ mod ids;
 mod known;
 mod met;
 mod places;
+mod placing;
 mod renumbering;
 mod samples;
 mod sharing;

@@ -1,6 +1,6 @@
 //! Ids in the order in which they are met.
 ghost use Rattle.std.specs.Prelude.{◌≡◌, [], length, slice_index_or, IfOk, OnOk};
-ghost use Rattle.pp_share.specs.Walk.{met_with};
+ghost use Rattle.pp_share.specs.Walk.{met_with, IsPlaced};
 ghost use Rattle.pp_share.specs.Ids.{place_id};
 
 use crate::ids::place_id;
@@ -43,31 +43,46 @@ impl Met {
 
     /// Adds the id, unless it is 0 or was met.
     #[inline(always)]
-    #[tactic(auto, using(crate::proofs::MetLemmas::met_already))]
     pub fn meet(&mut self, id: u64) -> Result<(), Memory>
         ensures { OnOk result (self.new ≡ met_with self.old id) }
     {
-        if number_at(&self.places, id) > 0 {
-            return Ok(());
+        self.place(id)?;
+        Ok(())
+    }
+
+    /// Adds the id, unless it is 0 or was met, and gives its place plus 1. 0 stays.
+    #[inline(always)]
+    #[tactic(auto, using(crate::proofs::MetLemmas::met_already, crate::proofs::MetLemmas::placed_already))]
+    pub fn place(&mut self, id: u64) -> Result<u64, Memory>
+        ensures met { OnOk result (self.new ≡ met_with self.old id) }
+        ensures place { IfOk result (λ place. IsPlaced place_id self.new id place) }
+    {
+        let number = number_at(&self.places, id);
+        if number > 0 {
+            return Ok(number);
         }
-        self.add(id)
+        self.place_new(id)
     }
 
     // The same, where the table does not know the id.
     #[inline(never)]
-    fn add(&mut self, id: u64) -> Result<(), Memory>
-        ensures { OnOk result (self.new ≡ met_with self.old id) }
+    #[tactic(auto, using(crate::proofs::MetLemmas::placed_now))]
+    fn place_new(&mut self, id: u64) -> Result<u64, Memory>
+        ensures met { OnOk result (self.new ≡ met_with self.old id) }
+        ensures place { IfOk result (λ place. IsPlaced place_id self.new id place) }
     {
         if id == 0 {
-            return Ok(());
+            return Ok(0);
         }
         let (place, _) = self.ids.insert_full(id)?;
+        // A place is below the length, so its number fits.
         let _len = self.ids.len();
+        let number = place as u64 + 1;
         let index = id as usize;
         if index < self.places.len() {
-            self.places[index] = place as u64 + 1;
+            self.places[index] = number;
         }
-        Ok(())
+        Ok(number)
     }
 
     /// The place of the id plus 1, which is past the ids where it wasn't met. 0 stays.

@@ -1,13 +1,12 @@
 //! Tables whose ids and references are given new numbers, in place.
-ghost use Rattle.pp_share.specs.Renumbered.{renumbered_label, renumbered_line, renumbered_type, renumbered_function, renumbered_mapping, renumbered_location, renumbered_sample, renumbered, with_header, new_ids};
+ghost use Rattle.pp_share.specs.Renumbered.{renumbered_label, renumbered_line, renumbered_type, renumbered_function, renumbered_mapping, renumbered_location, renumbered_sample, renumbered, renumbered_tables, with_header, new_ids};
 ghost use Rattle.pp_share.specs.Behind.{behind_id};
-ghost use Rattle.pp_share.specs.Ids.{new_id, new_text, place_id, listed_id};
+ghost use Rattle.pp_share.specs.Ids.{new_id, new_text, listed_id};
 ghost use Rattle.std.specs.Prelude.{◌≡◌, map};
 
 use crate::behind::Behind;
 use crate::change::{Change, change_each};
 use crate::ids::{Ids, Known, listed};
-use crate::met::Met;
 use pp_base::List;
 use pp_model::{Function, Label, Line, Location, Mapping, Profile, Sample, ValueType};
 
@@ -39,15 +38,6 @@ impl Change<u64> for Renumbering {
 
     fn change(&self, id: &mut u64) {
         *id = self.location.id(*id);
-    }
-}
-
-/// The id of a location whose place among those that were met is its new id.
-impl Change<u64> for Met {
-    ghost changed = { place_id };
-
-    fn change(&self, id: &mut u64) {
-        *id = self.id(*id);
     }
 }
 
@@ -145,7 +135,7 @@ impl Renumbering {
     {
         match &self.location {
             Ids::Same => {}
-            Ids::Listed(met) => change_each(ids, met),
+            Ids::Listed(_) => change_each(ids, self),
             Ids::Moved(Known::InOrder, behind) => change_each(ids, behind),
             Ids::Moved(Known::KnownIds(_), _) => change_each(ids, self),
             Ids::By(list) => change_each(ids, list),
@@ -168,8 +158,15 @@ impl Renumbering {
 pub fn renumber(p: &mut Profile, by: &Renumbering)
     ensures { p.new ≡ renumbered (new_ids by.now) p.old }
 {
-    change_each(&mut p.sample_type, by);
     change_each(&mut p.sample, by);
+    renumber_tables(p, by);
+}
+
+/// The same, but for the samples, which stay.
+pub fn renumber_tables(p: &mut Profile, by: &Renumbering)
+    ensures { p.new ≡ renumbered_tables (new_ids by.now) p.old }
+{
+    change_each(&mut p.sample_type, by);
     change_each(&mut p.mapping, by);
     change_each(&mut p.location, by);
     change_each(&mut p.function, by);

@@ -4,7 +4,7 @@ ghost use Rattle.std.specs.List.{sum_by, list_all, zip};
 ghost use Rattle.std.specs.Ordering.{int_eq};
 ghost use Rattle.pp_model.specs.Sizes.{value_in};
 ghost use Rattle.pp_share.specs.Sums.{counts};
-ghost use Rattle.pp_share.specs.SampleKeys.{sample_item, stack_of, item_of_key, sample_of, AreSums, summed_samples};
+ghost use Rattle.pp_share.specs.SampleKeys.{sample_item, key_lists, item_of_key, sample_of, AreSums, summed_samples};
 
 use crate::stack::Stack;
 use crate::sums::put;
@@ -62,7 +62,7 @@ fn sum_each(
 
 // The key of these locations and labels.
 fn key_of(locations: List<u64>, labels: List<Label>) -> SampleKey
-    ensures { stack_of result ≡ (locations, labels) }
+    ensures { key_lists result ≡ (locations, labels) }
 {
     SampleKey {
         locations: Stack {

@@ -1,12 +1,12 @@
 //! Ids in the order in which a walk meets them.
 ghost use Rattle.std.specs.Prelude.{◌≡◌, ℕ, List, [], ◌∷◌, OnOk};
 ghost use Rattle.std.specs.List.{flat_map};
-ghost use Rattle.pp_share.specs.Walk.{met_with, met_after, function_refs, mapping_ref, text_ids, type_text_ids, label_text_ids, sample_text_ids, mapping_text_ids, function_text_ids, location_refs};
+ghost use Rattle.pp_share.specs.Walk.{met_with, met_after, function_refs, mapping_ref, text_ids, type_text_ids, mapping_text_ids, function_text_ids};
 
 use crate::ids::id_of_index;
 use crate::met::Met;
 use pp_base::Memory;
-use pp_model::{Function, Label, Line, Location, Mapping, Sample, ValueType};
+use pp_model::{Function, Line, Location, Mapping, ValueType};
 
 /// The table of texts, whose ids are their indices plus 1. It and those below tell of which table a reference is.
 #[derive(Clone, Copy, Debug)]
@@ -19,10 +19,6 @@ pub struct Mappings;
 /// The table of functions, to which the lines of locations refer.
 #[derive(Clone, Copy, Debug)]
 pub struct Functions;
-
-/// The table of locations, to which samples refer.
-#[derive(Clone, Copy, Debug)]
-pub struct Locations;
 
 /// What refers to entries of a table.
 pub trait Refers<Table> {
@@ -57,22 +53,6 @@ fn meet_text(index: i64, met: &mut Met) -> Result<(), Memory>
     ensures { OnOk result (met.new ≡ met_after met.old (text_ids index)) }
 {
     meet_id(id_of_index(index), met)
-}
-
-impl Refers<Locations> for u64 {
-    ghost refs = { λ id. id ∷ [] };
-
-    fn meet(&self, met: &mut Met) -> Result<(), Memory> {
-        meet_id(*self, met)
-    }
-}
-
-impl Refers<Locations> for Sample {
-    ghost refs = { location_refs };
-
-    fn meet(&self, met: &mut Met) -> Result<(), Memory> {
-        meet_each::<Locations, u64>(self.location_id.as_slice(), met)
-    }
 }
 
 impl Refers<Mappings> for Location {
@@ -113,24 +93,6 @@ impl Refers<Texts> for ValueType {
     fn meet(&self, met: &mut Met) -> Result<(), Memory> {
         meet_text(self.kind, met)?;
         meet_text(self.unit, met)
-    }
-}
-
-impl Refers<Texts> for Label {
-    ghost refs = { label_text_ids };
-
-    fn meet(&self, met: &mut Met) -> Result<(), Memory> {
-        meet_text(self.key, met)?;
-        meet_text(self.text, met)?;
-        meet_text(self.num_unit, met)
-    }
-}
-
-impl Refers<Texts> for Sample {
-    ghost refs = { sample_text_ids };
-
-    fn meet(&self, met: &mut Met) -> Result<(), Memory> {
-        meet_each::<Texts, Label>(self.label.as_slice(), met)
     }
 }
 

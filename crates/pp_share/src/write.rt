@@ -1,15 +1,17 @@
 //! A profile's tables in the order in which a walk over its samples meets their entries.
-ghost use Rattle.std.specs.Prelude.{◌≡◌, ◌<◌, ◌^◌, length, IfOk, OnOk};
-ghost use Rattle.pp_share.specs.Walked.{locations_met, with_locations, first_id, mappings_met, with_mappings, functions_met, with_functions, texts_met, with_texts, walked_texts_of, walked, IsWalked};
-ghost use Rattle.pp_share.specs.Walk.{met_after, profile_text_ids, header_text_ids};
+ghost use Rattle.std.specs.Prelude.{◌≡◌, ◌<◌, ◌^◌, [], length, IfOk, OnOk};
+ghost use Rattle.std.specs.List.{flat_map};
+ghost use Rattle.pp_share.specs.Walked.{locations_met, with_placed_samples, first_id, mappings_met, with_mappings, functions_met, with_functions, with_texts, IsWalked};
+ghost use Rattle.pp_share.specs.Walk.{met_after, IsPlaced, first_text_ids, sample_text_ids, table_text_ids, header_text_ids};
 
 use crate::gather::gather;
 use crate::ids::Ids;
 use crate::met::Met;
-use crate::renumbering::{Renumbering, renumber};
-use crate::walk::{Functions, Locations, Mappings, Refers, Texts, meet_each, meet_id};
+use crate::placing::place_samples;
+use crate::renumbering::{Renumbering, renumber_tables};
+use crate::walk::{Functions, Mappings, Refers, Texts, meet_each, meet_id};
 use pp_base::Memory;
-use pp_model::{Function, Location, Mapping, Profile, Sample, ValueType};
+use pp_model::{Function, Location, Mapping, Profile, ValueType};
 use std::alloc::Global;
 
 /// The profile with what its samples name, in the order in which a walk over them meets it: mappings after the first
@@ -17,27 +19,39 @@ use std::alloc::Global;
 pub fn write(alloc: Global, mut p: Profile) -> Result<Profile, Memory>
     ensures { IfOk result (λ r. IsWalked p r) }
 {
-    let location = Ids::Listed(keep_locations(alloc, &mut p)?);
+    let mut texts = first_texts(alloc, &p)?;
+    let location = Ids::Listed(keep_locations(alloc, &mut p, &mut texts)?);
     let mapping = Ids::Listed(keep_mappings(alloc, &mut p)?);
     let function = Ids::Listed(keep_functions(alloc, &mut p)?);
-    let text = Ids::Listed(keep_texts(alloc, &mut p)?);
+    keep_texts(alloc, &mut p, &mut texts)?;
     let by = Renumbering {
-        text,
+        text: Ids::Listed(texts),
         mapping,
         function,
         location,
     };
-    renumber(&mut p, &by);
+    renumber_tables(&mut p, &by);
     Ok(p)
 }
 
-// Keeps the locations of the samples, and gives their ids in order.
-fn keep_locations(alloc: Global, p: &mut Profile) -> Result<Met, Memory>
+// Meets the texts that are numbered before those of samples.
+fn first_texts(alloc: Global, p: &Profile) -> Result<Met, Memory>
+    ensures { IfOk result (λ met. met ≡ met_after [] (first_text_ids p.now)) }
+{
+    let mut met = Met::new(alloc, p.text.len().saturating_add(1))?;
+    meet_id(1, &mut met)?;
+    meet_each::<Texts, ValueType>(p.sample_type.as_slice(), &mut met)?;
+    Ok(met)
+}
+
+// Keeps the locations of the samples, and gives their ids in order. The samples get their new ids.
+fn keep_locations(alloc: Global, p: &mut Profile, texts: &mut Met) -> Result<Met, Memory>
     ensures met { IfOk result (λ met. met ≡ locations_met p.old) }
-    ensures kept { OnOk result (p.new ≡ with_locations p.old) }
+    ensures texts { OnOk result (texts.new ≡ met_after texts.old (flat_map sample_text_ids p.old.sample)) }
+    ensures kept { OnOk result (IsPlaced with_placed_samples texts.new p.old p.new) }
 {
     let mut met = Met::new(alloc, p.location.len().saturating_add(1))?;
-    meet_each::<Locations, Sample>(p.sample.as_slice(), &mut met)?;
+    place_samples(&mut p.sample, &mut met, texts)?;
     p.location = gather(alloc, p.location.as_slice(), met.as_slice())?;
     Ok(met)
 }
@@ -72,29 +86,25 @@ fn keep_functions(alloc: Global, p: &mut Profile) -> Result<Met, Memory>
     Ok(met)
 }
 
-// Keeps the texts that the profile names, and gives their ids in order.
-fn keep_texts(alloc: Global, p: &mut Profile) -> Result<Met, Memory>
-    ensures met { IfOk result (λ met. met ≡ texts_met p.old) }
-    ensures few { IfOk result (λ met. length met < 2 ^ 62) }
-    ensures kept { OnOk result (p.new ≡ with_texts p.old) }
+// Meets the texts of the tables too, and keeps those that were met.
+fn keep_texts(alloc: Global, p: &mut Profile, met: &mut Met) -> Result<(), Memory>
+    ensures met { OnOk result (met.new ≡ met_after met.old (table_text_ids p.old)) }
+    ensures few { OnOk result (length met.new < 2 ^ 62) }
+    ensures kept { OnOk result (p.new ≡ with_texts met.new p.old) }
 {
-    let mut met = Met::new(alloc, p.text.len().saturating_add(1))?;
-    meet_texts(p, &mut met)?;
+    meet_tables(p, met)?;
     // No memory holds so many, and an index of a text has 63 bits.
     if met.len() >= 1 << 62 {
         return Err(Memory);
     }
     p.text = gather(alloc, p.text.as_slice(), met.as_slice())?;
-    Ok(met)
+    Ok(())
 }
 
-// Meets the texts in the order in which they are numbered.
-fn meet_texts(p: &Profile, met: &mut Met) -> Result<(), Memory>
-    ensures { OnOk result (met.new ≡ met_after met.old (profile_text_ids p.now)) }
+// Meets the texts that are numbered behind those of samples.
+fn meet_tables(p: &Profile, met: &mut Met) -> Result<(), Memory>
+    ensures { OnOk result (met.new ≡ met_after met.old (table_text_ids p.now)) }
 {
-    meet_id(1, met)?;
-    meet_each::<Texts, ValueType>(p.sample_type.as_slice(), met)?;
-    meet_each::<Texts, Sample>(p.sample.as_slice(), met)?;
     meet_each::<Texts, Mapping>(p.mapping.as_slice(), met)?;
     meet_each::<Texts, Function>(p.function.as_slice(), met)?;
     meet_header(p, met)

@@ -1,7 +1,7 @@
 use Rattle.std.proofs.Common.{ℕ, ◌∙◌, length, map, sym, ap, subst, if◌then◌else◌, arith}
 use Rattle.std.proofs.lemmas.Iterator.Adapters.{YieldsList-from_vec}
 use Rattle.std.proofs.lemmas.Iterator.Consumers.{YieldsList-so_far, YieldsList-turn, YieldsList-end}
-use Rattle.pp_share.specs.SampleKeys.{sample_item, stack_of, AreSums}
+use Rattle.pp_share.specs.SampleKeys.{sample_item, key_lists, AreSums}
 use Rattle.pp_share.proofs.Prefix.{IsNext, map_same}
 use Rattle.pp_share.proofs.SampleKeyLemmas.{sample_wide, sample_fits, sums_with}
 use Rattle.pp_share.proofs.samples.sum_each.Goals as goal
@@ -40,7 +40,7 @@ loop-sample-preserved c =
     let e = c.in_ok-place.ensures in
     let with = sums_with c.args.columns c.args.samples c.loop-sample.yielded c.in-Some.sample next c.requires.wide c.loop-sample.keys.keys c.loop-sample.sums c.loop-sample.invariant
     c.key_of-key.result c.key_of-key.ensures c.in_ok-place.is_new e.added c.in_ok-place.place e.index in
-    record { once = ap (map stack_of) e.keys ∙ with.once; added_up = c.in_ok-put.ensures ∙ with.added_up }
+    record { once = ap (map key_lists) e.keys ∙ with.once; added_up = c.in_ok-put.ensures ∙ with.added_up }
 
 pub returns : goal.returns
 returns c =

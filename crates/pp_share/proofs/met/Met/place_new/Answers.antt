@@ -1,7 +1,7 @@
 use Rattle.std.proofs.Common.{◌+◌, set, sym, subst, arith}
 use Rattle.pp_share.specs.MetPlaces.{HoldsPlaces}
 use Rattle.pp_share.proofs.MetLemmas.{places_kept, places_set}
-use Rattle.pp_share.proofs.met.Met.add.Goals as goal
+use Rattle.pp_share.proofs.met.Met.place_new.Goals as goal
 
 -- the table has a number for the id
 pub invariant_of-self-then-index-len : goal.invariant_of-self-then-index-len

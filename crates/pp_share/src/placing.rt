@@ -1,0 +1,96 @@
+//! Samples whose locations and texts become places while they are met. Samples are many, so they are gone through once.
+ghost use Rattle.std.specs.Prelude.{◌≡◌, ℕ, List, [], ◌∷◌, map, OnOk};
+ghost use Rattle.std.specs.List.{flat_map};
+ghost use Rattle.pp_share.specs.Ids.{place_id};
+ghost use Rattle.pp_share.specs.Walk.{met_after, IsPlaced, location_refs, text_ids, label_text_ids, sample_text_ids};
+ghost use Rattle.pp_share.specs.Walked.{placed_text, placed_label, placed_sample};
+
+use crate::ids::{id_of_index, index_of_id};
+use crate::met::Met;
+use pp_base::{List, Memory};
+use pp_model::{Label, Sample};
+
+/// Adds the locations and the texts of the samples that were not met yet. Each becomes its place among those that are
+/// met.
+pub fn place_samples(
+    samples: &mut List<Sample>,
+    locations: &mut Met,
+    texts: &mut Met,
+) -> Result<(), Memory>
+    ensures locations { OnOk result (locations.new
+        ≡ met_after locations.old (flat_map location_refs samples.old)) }
+    ensures texts { OnOk result (texts.new ≡ met_after texts.old (flat_map sample_text_ids samples.old)) }
+    ensures placed { OnOk result ((more : List ℕ) → IsPlaced (λ texts. map (placed_sample (met_after locations.new more) texts))
+        texts.new samples.old samples.new) }
+{
+    for index in 0..samples.len() {
+        let sample = samples.item_mut(index);
+        place_each(&mut sample.location_id, locations)?;
+        place_each(&mut sample.label, texts)?;
+    }
+    Ok(())
+}
+
+/// What refers to entries of a table, and is given their places.
+pub trait Place {
+    /// The ids to which it refers, in order, with 0 for none.
+    ghost refs: { Self → List ℕ };
+
+    /// What it becomes where these ids were met.
+    ghost placed: { List ℕ → Self → Self };
+
+    /// Adds the ids that were not met yet, and gives it their places.
+    fn place(&mut self, met: &mut Met) -> Result<(), Memory>
+        ensures met { OnOk result (met.new ≡ met_after met.old (refs self.old)) }
+        ensures placed { OnOk result (IsPlaced placed met.new self.old self.new) };
+}
+
+// The same of each item, in order.
+fn place_each<T: Place>(items: &mut List<T>, met: &mut Met) -> Result<(), Memory>
+    ensures met { OnOk result (met.new ≡ met_after met.old (flat_map T.refs items.old)) }
+    ensures placed { OnOk result (IsPlaced (λ met. map (T.placed met)) met.new items.old items.new) }
+{
+    for index in 0..items.len() {
+        items.item_mut(index).place(met)?;
+    }
+    Ok(())
+}
+
+/// The id of a location.
+impl Place for u64 {
+    ghost refs = { λ id. id ∷ [] };
+
+    ghost placed = { place_id };
+
+    #[inline(always)]
+    fn place(&mut self, met: &mut Met) -> Result<(), Memory> {
+        *self = met.place(*self)?;
+        Ok(())
+    }
+}
+
+/// The index of a text.
+impl Place for i64 {
+    ghost refs = { text_ids };
+
+    ghost placed = { placed_text };
+
+    #[inline(always)]
+    fn place(&mut self, met: &mut Met) -> Result<(), Memory> {
+        *self = index_of_id(met.place(id_of_index(*self))?);
+        Ok(())
+    }
+}
+
+impl Place for Label {
+    ghost refs = { label_text_ids };
+
+    ghost placed = { placed_label };
+
+    fn place(&mut self, met: &mut Met) -> Result<(), Memory> {
+        self.key.place(met)?;
+        self.text.place(met)?;
+        self.num_unit.place(met)?;
+        Ok(())
+    }
+}
