@@ -10,21 +10,15 @@ use Rattle.pp_model.specs.declared.profile.Profile.{Profile}
 use Rattle.pp_model.specs.Sizes.{value_in, absolute_sum}
 use Rattle.pp_model.specs.Values.{no_sample, with_column, with_value}
 use Rattle.pp_merge.specs.Scale.{scaled_value, scaled_sample}
-use Rattle.pp_share.proofs.ChangeLemmas.{changed_front, length-changed_front, change_next}
+use Rattle.pp_share.proofs.ChangeLemmas.{changed_front, length-changed_front, front_kept, change_next}
 
 module _ {A : Type 0} (f : A → A) where
-  -- an item behind the front is as it was
-  pub front_kept : (xs : List A) (k : ℕ) (d : A) → k < length xs → get_or (changed_front f xs k) k d ≡ get_or xs k d
-  front_kept [] k d within = absurd (omega arith)
-  front_kept (x ∷ xs) zero d within = refl
-  front_kept (x ∷ xs) (suc k) d within = front_kept xs k d (omega arith)
-
   -- one more item is changed
   pub set_next : (xs : List A) (k : ℕ) (d : A) → k < length xs → set (changed_front f xs k) k (f (get_or xs k d)) ≡ changed_front f xs (k + 1)
   set_next xs k d within =
       let here = slice_get-get_or (changed_front f xs k) k d (omega (arith, within, length-changed_front f xs k)) in
       change_next f xs (changed_front f xs k) (set (changed_front f xs k) k (f (get_or xs k d))) k (get_or xs k d) (f (get_or xs k d)) refl
-      (here ∙ ap Some (front_kept xs k d within)) refl refl
+      (here ∙ ap Some (front_kept f xs k d within)) refl refl
 
 -- the value of one more sample is scaled
 pub scale_next : (old now next : Profile) (column num den k : ℕ) (value : ℤ) (item : Sample) → k < length old.sample

@@ -43,6 +43,13 @@ sizes_of p = record {
 abbrev pub no_sizes : Sizes
 no_sizes = record { text = 0; mapping = 0; function = 0; location = 0 }
 
+-- tables that fit in memory
+pub record AreFew (sizes : Sizes) : Type 0 where
+  pub text : sizes.text < 2 ^ 60
+  pub mapping : sizes.mapping < 2 ^ 60
+  pub function : sizes.function < 2 ^ 60
+  pub location : sizes.location < 2 ^ 60
+
 -- the index of the text in the profile where that isn't empty, and else the other index
 abbrev pub first_text : Profile → ℤ → ℤ → ℤ
 first_text p index other = if bytes_eq (text_of p index) [] then other else index

@@ -6,7 +6,7 @@ ghost use Rattle.pp_model.specs.Rules.{NoRuleFails, first_repeated, mapping_ids,
 ghost use Rattle.pp_share.specs.Behind.{behind_id};
 ghost use Rattle.pp_share.specs.Ids.{place_id, new_id};
 ghost use Rattle.pp_share.specs.Renumbered.{new_ids};
-ghost use Rattle.pp_merge.specs.Joined.{behind_ids, moved_behind, chained, with_header_of, first_text, no_sizes, sizes_of, joined, IsInPlace};
+ghost use Rattle.pp_merge.specs.Joined.{behind_ids, moved_behind, chained, with_header_of, first_text, no_sizes, sizes_of, joined, AreFew, IsInPlace};
 ghost use Rattle.pp_share.specs.Header.{greater, earlier};
 
 use pp_base::{List, Memory};
@@ -30,6 +30,8 @@ pub fn join(alloc: Global, first: Valid, others: Vec<Valid>) -> Result<Profile, 
         let next = joined_behind(alloc, joined, p)?;
         joined = next;
     }
+    // A table fits in memory.
+    let _sizes = sizes_of(&joined);
     Ok(joined)
 }
 
@@ -38,8 +40,7 @@ pub fn join(alloc: Global, first: Valid, others: Vec<Valid>) -> Result<Profile, 
 #[tactic(auto, using(crate::proofs::InPlace::stays_in_place))]
 fn first_joined(alloc: Global, p: Profile) -> Result<Profile, Memory>
     requires { NoRuleFails p }
-    ensures same { IfOk result (λ r. r ≡ moved_behind no_sizes p) }
-    ensures few { IfOk result (λ r. length r.text < 2 ^ 62) }
+    ensures { IfOk result (λ r. r ≡ moved_behind no_sizes p) }
 {
     if is_in_place(alloc, &p)? {
         return Ok(p);
@@ -56,8 +57,9 @@ fn is_in_place(alloc: Global, p: &Profile) -> Result<bool, Memory>
     let mappings = mapping_ids(alloc, p)?;
     let functions = function_ids(alloc, p)?;
     let locations = location_ids(alloc, p)?;
-    let are_in_place = p.text.len() < 1 << 62
-        && are_numbered(mappings.as_slice())
+    // A table fits in memory.
+    let _sizes = sizes_of(p);
+    let are_in_place = are_numbered(mappings.as_slice())
         && are_numbered(functions.as_slice())
         && are_numbered(locations.as_slice());
     Ok(are_in_place)
@@ -66,8 +68,7 @@ fn is_in_place(alloc: Global, p: &Profile) -> Result<bool, Memory>
 // The profile behind others.
 fn joined_behind(alloc: Global, joined: Profile, p: Profile) -> Result<Profile, Memory>
     requires { NoRuleFails p }
-    ensures same { IfOk result (λ r. r ≡ chained joined (moved_behind (sizes_of joined) p)) }
-    ensures few { IfOk result (λ r. length r.text < 2 ^ 62) }
+    ensures { IfOk result (λ r. r ≡ chained joined (moved_behind (sizes_of joined) p)) }
 {
     let sizes = sizes_of(&joined);
     let moved = moved_behind(alloc, &sizes, p)?;
@@ -85,7 +86,8 @@ struct Sizes {
 }
 
 fn no_sizes() -> Sizes
-    ensures { result ≡ no_sizes }
+    ensures same { result ≡ no_sizes }
+    ensures few { AreFew result }
 {
     Sizes {
         text: 0,
@@ -96,21 +98,22 @@ fn no_sizes() -> Sizes
 }
 
 fn sizes_of(p: &Profile) -> Sizes
-    ensures { result ≡ sizes_of p.now }
+    ensures same { result ≡ sizes_of p.now }
+    ensures few { AreFew result }
 {
     Sizes {
-        text: p.text.len(),
-        mapping: p.mapping.len(),
-        function: p.function.len(),
-        location: p.location.len(),
+        text: p.text.as_slice().len(),
+        mapping: p.mapping.as_slice().len(),
+        function: p.function.as_slice().len(),
+        location: p.location.as_slice().len(),
     }
 }
 
 // The profile with its references by place, as its tables stand behind tables of these sizes.
 fn moved_behind(alloc: Global, after: &Sizes, mut p: Profile) -> Result<Profile, Memory>
-    requires { NoRuleFails p }
-    ensures same { IfOk result (λ r. r ≡ moved_behind after.now p) }
-    ensures few { IfOk result (λ r. after.now.text + length p.text < 2 ^ 62) }
+    requires valid { NoRuleFails p }
+    requires few { AreFew after.now }
+    ensures { IfOk result (λ r. r ≡ moved_behind after.now p) }
 {
     let by = behind(alloc, after, &p)?;
     renumber(&mut p, &by);
@@ -119,11 +122,11 @@ fn moved_behind(alloc: Global, after: &Sizes, mut p: Profile) -> Result<Profile,
 
 // What the profile's references become.
 fn behind(alloc: Global, after: &Sizes, p: &Profile) -> Result<Renumbering, Memory>
-    requires { NoRuleFails p.now }
-    ensures same { IfOk result (λ by. new_ids by ≡ behind_ids after.now p.now) }
-    ensures few { IfOk result (λ by. after.now.text + length p.now.text < 2 ^ 62) }
+    requires valid { NoRuleFails p.now }
+    requires few { AreFew after.now }
+    ensures { IfOk result (λ by. new_ids by ≡ behind_ids after.now p.now) }
 {
-    let texts = Behind::new(after.text, p.text.len())?;
+    let texts = Behind::new(after.text, p.text.as_slice().len());
     let mappings = mapping_ids(alloc, p)?;
     let mapping = ids_behind(alloc, after.mapping, mappings.as_slice())?;
     let functions = function_ids(alloc, p)?;
@@ -140,11 +143,12 @@ fn behind(alloc: Global, after: &Sizes, p: &Profile) -> Result<Renumbering, Memo
 
 // What ids become where their table goes behind others.
 fn ids_behind(alloc: Global, after: usize, ids: &[u64]) -> Result<Ids, Memory>
-    requires { first_repeated ids.now ≡ None }
+    requires apart { first_repeated ids.now ≡ None }
+    requires few { after < 2 ^ 60 }
     ensures { IfOk result (λ r. (id : ℕ) → new_id r id ≡ behind_id after (length ids.now) (place_id ids.now id)) }
 {
     let known = known_ids(alloc, ids)?;
-    let behind = Behind::new(after, ids.len())?;
+    let behind = Behind::new(after, ids.len());
     Ok(Ids::Moved(known, behind))
 }
 

@@ -1,8 +1,8 @@
 -- Entries, texts and addresses that are looked up, and what stands for an entry that is not there.
-use Rattle.std.proofs.Common.{◌≡◌, ℕ, ◌+◌, ◌-◌, ◌<◌, ◌≤◌, Bool, true, false, not, ◌||◌, nat_le, pos, List, [], ◌∷◌, map, length, None, Some, refl, sym, ap, subst, ◌∙◌, arith, if◌then◌else◌}
+use Rattle.std.proofs.Common.{◌≡◌, ℕ, ◌+◌, ◌-◌, ◌<◌, ◌≤◌, Bool, true, false, not, ◌||◌, nat_le, pos, List, [], ◌∷◌, length, None, Some, refl, sym, ap, subst, ◌∙◌, arith, if◌then◌else◌}
 use Rattle.std.specs.Prelude.{◌==◌, slice_get}
 use Rattle.std.specs.Bool.{Decides}
-use Rattle.std.specs.List.{AllByRecursion, filter_map, flat_map, cons_option}
+use Rattle.std.specs.List.{AllByRecursion, flat_map}
 use Rattle.std.specs.Option.{unwrap_or}
 use Rattle.std.specs.Str.{bytes_eq}
 use Rattle.std.proofs.lemmas.Bool.{ne_eqb, cond-false, lt-leb}

@@ -1,8 +1,6 @@
 //! A table that goes behind others of its kind.
-ghost use Rattle.std.specs.Prelude.{◌≡◌, ◌+◌, ◌^◌, ◌<◌, IfOk};
+ghost use Rattle.std.specs.Prelude.{◌≡◌, ◌+◌, ◌^◌, ◌<◌};
 ghost use Rattle.pp_share.specs.Behind.{behind_id};
-
-use pp_base::Memory;
 
 /// A table of `len` entries that goes behind `after` others.
 #[derive(Clone, Copy, Debug)]
@@ -15,16 +13,16 @@ pub struct Behind {
 }
 
 impl Behind {
-    /// The table behind the others. `Err` where there are 2^62 entries or more, which no memory holds.
-    pub fn new(after: usize, len: usize) -> Result<Behind, Memory>
-        ensures after { IfOk result (λ behind. behind.after ≡ after) }
-        ensures len { IfOk result (λ behind. behind.len ≡ len) }
+    /// The table behind the others.
+    pub fn new(after: usize, len: usize) -> Behind
+        requires { after + len < 2 ^ 62 }
+        ensures after { result.after ≡ after }
+        ensures len { result.len ≡ len }
     {
-        let (after, len) = (after as u64, len as u64);
-        if after >= 1 << 62 || len >= (1 << 62) - after {
-            return Err(Memory);
+        Behind {
+            after: after as u64,
+            len: len as u64,
         }
-        Ok(Behind { after, len })
     }
 
     /// The id in the joined table of the entry at the place `id` - 1, and 0 where there is none.

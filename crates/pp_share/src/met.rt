@@ -1,5 +1,5 @@
 //! Ids in the order in which they are met.
-ghost use Rattle.std.specs.Prelude.{◌≡◌, [], length, slice_index_or, IfOk, OnOk};
+ghost use Rattle.std.specs.Prelude.{◌≡◌, [], slice_index_or, IfOk, OnOk};
 ghost use Rattle.pp_share.specs.Walk.{met_with, IsPlaced};
 ghost use Rattle.pp_share.specs.Ids.{place_id};
 
@@ -101,13 +101,6 @@ impl Met {
         ensures { result.now ≡ self.now }
     {
         self.ids.as_slice()
-    }
-
-    /// How many ids were met.
-    pub fn len(&self) -> usize
-        ensures { result ≡ length self.now }
-    {
-        self.ids.len()
     }
 }
 

@@ -1,7 +1,7 @@
 //! Ids in the order in which a walk meets them.
 ghost use Rattle.std.specs.Prelude.{◌≡◌, ℕ, List, [], ◌∷◌, OnOk};
 ghost use Rattle.std.specs.List.{flat_map};
-ghost use Rattle.pp_share.specs.Walk.{met_with, met_after, function_refs, mapping_ref, text_ids, type_text_ids, mapping_text_ids, function_text_ids};
+ghost use Rattle.pp_share.specs.Walk.{met_after, function_refs, mapping_ref, text_ids, type_text_ids, mapping_text_ids, function_text_ids};
 
 use crate::ids::id_of_index;
 use crate::met::Met;
@@ -40,26 +40,18 @@ pub fn meet_each<Table, T: Refers<Table>>(items: &[T], met: &mut Met) -> Result<
     Ok(())
 }
 
-/// Adds the id, unless it is 0 or was met.
-#[inline(always)]
-pub fn meet_id(id: u64, met: &mut Met) -> Result<(), Memory>
-    ensures { OnOk result (met.new ≡ met_with met.old id) }
-{
-    met.meet(id)
-}
-
 // Adds the id of the text with the index.
 fn meet_text(index: i64, met: &mut Met) -> Result<(), Memory>
     ensures { OnOk result (met.new ≡ met_after met.old (text_ids index)) }
 {
-    meet_id(id_of_index(index), met)
+    met.meet(id_of_index(index))
 }
 
 impl Refers<Mappings> for Location {
     ghost refs = { mapping_ref };
 
     fn meet(&self, met: &mut Met) -> Result<(), Memory> {
-        meet_id(self.mapping_id, met)
+        met.meet(self.mapping_id)
     }
 }
 
@@ -67,7 +59,7 @@ impl Refers<Functions> for Line {
     ghost refs = { λ line. line.function_id ∷ [] };
 
     fn meet(&self, met: &mut Met) -> Result<(), Memory> {
-        meet_id(self.function_id, met)
+        met.meet(self.function_id)
     }
 }
 

@@ -9,7 +9,7 @@ use crate::ids::Ids;
 use crate::met::Met;
 use crate::placing::place_samples;
 use crate::renumbering::{Renumbering, renumber_tables};
-use crate::walk::{Functions, Mappings, Refers, Texts, meet_each, meet_id};
+use crate::walk::{Functions, Mappings, Refers, Texts, meet_each};
 use pp_base::Memory;
 use pp_model::{Function, Location, Mapping, Profile, ValueType};
 use std::alloc::Global;
@@ -39,7 +39,7 @@ fn first_texts(alloc: Global, p: &Profile) -> Result<Met, Memory>
     ensures { IfOk result (λ met. met ≡ met_after [] (first_text_ids p.now)) }
 {
     let mut met = Met::new(alloc, p.text.len().saturating_add(1))?;
-    meet_id(1, &mut met)?;
+    met.meet(1)?;
     meet_each::<Texts, ValueType>(p.sample_type.as_slice(), &mut met)?;
     Ok(met)
 }
@@ -62,7 +62,7 @@ fn keep_mappings(alloc: Global, p: &mut Profile) -> Result<Met, Memory>
     ensures kept { OnOk result (p.new ≡ with_mappings p.old) }
 {
     let mut met = Met::new(alloc, p.mapping.len().saturating_add(1))?;
-    meet_id(first_id(p), &mut met)?;
+    met.meet(first_id(p))?;
     meet_each::<Mappings, Location>(p.location.as_slice(), &mut met)?;
     p.mapping = gather(alloc, p.mapping.as_slice(), met.as_slice())?;
     Ok(met)
@@ -93,10 +93,6 @@ fn keep_texts(alloc: Global, p: &mut Profile, met: &mut Met) -> Result<(), Memor
     ensures kept { OnOk result (p.new ≡ with_texts met.new p.old) }
 {
     meet_tables(p, met)?;
-    // No memory holds so many, and an index of a text has 63 bits.
-    if met.len() >= 1 << 62 {
-        return Err(Memory);
-    }
     p.text = gather(alloc, p.text.as_slice(), met.as_slice())?;
     Ok(())
 }

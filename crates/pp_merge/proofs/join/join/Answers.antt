@@ -11,8 +11,7 @@ use Rattle.pp_merge.proofs.join.join.Goals as goal
 
 pub loop-valid-init : goal.loop-valid-init
 loop-valid-init c = record {
-  same = c.in_ok-joined.ensures.same ∙ ap (moved_behind no_sizes) c.into_profile-start.ensures.same;
-  few = c.in_ok-joined.ensures.few;
+  same = c.in_ok-joined.ensures ∙ ap (moved_behind no_sizes) c.into_profile-start.ensures.same;
   start = subst NoRuleFails c.into_profile-start.ensures.same c.into_profile-start.ensures.valid;
   valid = tt;
 }
@@ -23,10 +22,9 @@ loop-valid-preserved c =
     let so_far = c.loop-valid.invariant in
     record {
       same =
-          c.in_ok-next.ensures.same
+          c.in_ok-next.ensures
           ∙ (λ j. chained (so_far.same j) (moved_behind (sizes_of (so_far.same j)) (c.into_profile-p.ensures.same j)))
           ∙ sym (join_from-append (moved_behind no_sizes c.args.first) c.loop-valid.yielded c.in-Some.valid);
-      few = c.in_ok-next.ensures.few;
       start = so_far.start;
       valid = all_push NoRuleFails c.loop-valid.yielded c.in-Some.valid so_far.valid (subst NoRuleFails c.into_profile-p.ensures.same c.into_profile-p.ensures.valid);
     }

@@ -1,4 +1,4 @@
-use Rattle.std.proofs.Common.{◌≡◌, ◌<◌, ◌^◌, length}
+use Rattle.std.proofs.Common.{◌≡◌}
 use Rattle.std.specs.List.{AllByRecursion}
 use Rattle.pp_model.specs.Rules.{NoRuleFails}
 use Rattle.pp_merge.specs.Joined.{joined}
@@ -7,7 +7,6 @@ use Rattle.pp_merge.proofs.join.join.Given as goal
 abbrev pub invariant-loop-valid : goal.invariant-loop-valid
 invariant-loop-valid l = record {
   same : l.joined ≡ joined l.fn.first l.yielded;
-  few : length l.joined.text < 2 ^ 62;
   start : NoRuleFails l.fn.first;
   valid : AllByRecursion NoRuleFails l.yielded;
 }
