@@ -1,6 +1,7 @@
 //! The lines of labels, each made at its first sight.
 ghost use Rattle.std.specs.Prelude.{◌≡◌, ◌++◌, IfOk, OnOk};
 ghost use Rattle.std.specs.List.{flat_map};
+ghost use Rattle.pp_model.specs.declared.profile.Profile.{Profile as Tables};
 ghost use Rattle.pp_model.specs.Conditions.{IsSampleOf};
 ghost use Rattle.pp_model.specs.Finders.{Finders, HoldsFinders};
 ghost use Rattle.pp_tags.specs.TagFilters.{shown_labels};
@@ -22,9 +23,9 @@ pub struct LabelLines {
     pub lines: IndexMap<Label, Text>,
 }
 
-/// No lines of labels of the profile.
-pub fn no_lines(alloc: Global, _p: &Profile) -> LabelLines
-    ensures { AreLabelLines _p.now result }
+/// No lines of labels.
+pub fn no_lines(alloc: Global) -> LabelLines
+    ensures { (p : Tables) → AreLabelLines p result }
 {
     LabelLines {
         lines: IndexMap::new(alloc),
