@@ -6,7 +6,6 @@ use Rattle.pp_count.specs.Counts.{samples_at}
 use Rattle.pp_count.proofs.Chosen.{is_read}
 use Rattle.pp_count.proofs.Totals.{at_more, looked_up, not_there}
 use Rattle.pp_restack.proofs.Placing.{front_front}
-use Rattle.pp_dump.specs.Places.{AddsSamples}
 use Rattle.pp_dump.proofs.AddingSamples.{adds_none, adds_both}
 use Rattle.pp_dump.proofs.cutting.cut_samples.Goals.{in-Some+in_ok-cut_sample, in_default}
 use Rattle.pp_dump.proofs.cutting.cut_samples.Goals as goal
