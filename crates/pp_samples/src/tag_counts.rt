@@ -126,10 +126,14 @@ fn count_label(
         AreSmall (events ++ label_event p.now value turn label.now ∷ []) →
         OnOk result (AreKeys (events ++ label_event p.now value turn label.now ∷ []) counts.new.keys) }
 {
-    let Some(place) = place_of(&counts.places, label) else {
-        return count_new(alloc, p, label, value, turn, counts);
-    };
-    add_known_label(&mut counts.keys, place, value, turn);
+    if let Some(place) = place_of(&counts.places, label) {
+        add_known_label(&mut counts.keys, place, value, turn);
+        return Ok(());
+    }
+    let key = key_name(alloc, p, label)?;
+    let tag = tag_name(alloc, p, label)?;
+    let place = add_label(alloc, &mut counts.keys, key, tag, value, turn)?;
+    counts.places.insert(*label, place)?;
     Ok(())
 }
 
@@ -141,26 +145,4 @@ fn place_of(places: &IndexMap<Label, TagPlace>, label: &Label) -> Option<TagPlac
         None => None,
         Some(place) => Some(*place),
     }
-}
-
-// A label that was not seen.
-fn count_new(
-    alloc: Global,
-    p: &Profile,
-    label: &Label,
-    value: i64,
-    turn: u64,
-    counts: &mut TagCounts,
-) -> Result<(), Memory>
-    requires { AreSound p.now counts.old }
-    ensures sound { OnOk result (AreSound p.now counts.new) }
-    ensures keys { (events : Seq Event) → AreKeys events counts.old.keys →
-        AreSmall (events ++ label_event p.now value turn label.now ∷ []) →
-        OnOk result (AreKeys (events ++ label_event p.now value turn label.now ∷ []) counts.new.keys) }
-{
-    let key = key_name(alloc, p, label)?;
-    let tag = tag_name(alloc, p, label)?;
-    let place = add_label(alloc, &mut counts.keys, key, tag, value, turn)?;
-    counts.places.insert(*label, place)?;
-    Ok(())
 }
