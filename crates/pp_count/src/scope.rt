@@ -84,7 +84,7 @@ pub(crate) fn count_of(scope: &Scope) -> usize
 }
 
 /// The sample at the place among those that are counted.
-pub(crate) fn sample_at<'a>(scope: &Scope<'a>, place: usize) -> &'a Sample
+pub fn sample_at<'a>(scope: &Scope<'a>, place: usize) -> &'a Sample
     requires sound { IsSoundScope scope.now }
     requires few { length (samples_in_scope scope.now) < 2 ^ 32 }
     requires within { place < length (samples_in_scope scope.now) }

@@ -54,31 +54,13 @@ pub fn cut_samples(
     ensures { OnOk result (AddsSamples l.now v.now (samples_at l.now.profile kept.now)
         cut.old.samples cut.old.places.locations cut.new.samples cut.new.places.locations) }
 {
+    let samples = l.profile.get().sample.as_slice();
     for number in kept {
-        cut_numbered(alloc, l, v, tables, *number, cut)?;
+        if let Some(s) = samples.get(*number as usize) {
+            cut_sample(alloc, l, v, tables, s, cut)?;
+        }
     }
     Ok(())
-}
-
-// The sample with the number, if there is one.
-fn cut_numbered(
-    alloc: Global,
-    l: &Loaded,
-    v: &Verdicts,
-    tables: &VerdictTables,
-    number: u32,
-    cut: &mut Cut,
-) -> Result<(), Memory>
-    requires { CanCut l.now v.now tables.now cut.old.places.locations }
-    ensures { OnOk result (AddsSamples l.now v.now (samples_at l.now.profile (number ∷ []))
-        cut.old.samples cut.old.places.locations cut.new.samples cut.new.places.locations) }
-{
-    let samples = l.profile.get().sample.as_slice();
-    let place = number as usize;
-    if place >= samples.len() {
-        return Ok(());
-    }
-    cut_sample(alloc, l, v, tables, &samples[place], cut)
 }
 
 fn cut_sample(

@@ -13,24 +13,21 @@ use std::alloc::Global;
 pub fn put_signed(n: i64, out: &mut Text) -> Result<(), Memory>
     ensures { IfOk result (λ _. out.new ≡ out.old ++ signed_decimal n) }
 {
-    let mut digits = Buffer::new();
-    out.extend(digits.format(n).as_bytes())
+    out.extend(Buffer::new().format(n).as_bytes())
 }
 
 /// The same at the right of ten places.
 pub fn put_right_signed(n: i64, out: &mut Text) -> Result<(), Memory>
     ensures { IfOk result (λ _. out.new ≡ out.old ++ right_text 10 (signed_decimal n)) }
 {
-    let mut digits = Buffer::new();
-    put_right(10, digits.format(n).as_bytes(), out)
+    put_right(10, Buffer::new().format(n).as_bytes(), out)
 }
 
 /// Appends the number in decimal digits.
 pub fn put_decimal(n: u64, out: &mut Text) -> Result<(), Memory>
     ensures { IfOk result (λ _. out.new ≡ out.old ++ decimal n) }
 {
-    let mut digits = Buffer::new();
-    out.extend(digits.format(n).as_bytes())
+    out.extend(Buffer::new().format(n).as_bytes())
 }
 
 /// Appends the number in hexadecimal digits, in lower case and without leading zeros, after `0x`.

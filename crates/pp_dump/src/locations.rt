@@ -72,8 +72,7 @@ fn put_location_line(alloc: Global, location: &Location, lines: &mut Text) -> Re
 fn put_place(alloc: Global, id: u64, address: u64, lines: &mut Text) -> Result<(), Memory>
     ensures { IfOk result (λ _. lines.new ≡ lines.old ++ place_word id address) }
 {
-    let mut digits = Buffer::new();
-    put_right(6, digits.format(id).as_bytes(), lines)?;
+    put_right(6, Buffer::new().format(id).as_bytes(), lines)?;
     lines.extend(b": ")?;
     put_hex(alloc, address, lines)
 }

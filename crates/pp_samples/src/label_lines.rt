@@ -85,21 +85,6 @@ fn put_label(
     if let Some(line) = made.lines.get(label) {
         return text.extend(line.as_slice());
     }
-    put_new(alloc, p, label, made, text)
-}
-
-// A label whose line isn't made.
-fn put_new(
-    alloc: Global,
-    p: &Profile,
-    label: &Label,
-    made: &mut LabelLines,
-    text: &mut Text,
-) -> Result<(), Memory>
-    requires { AreLabelLines p.now made.old }
-    ensures made { OnOk result (AreLabelLines p.now made.new) }
-    ensures text { OnOk result (text.new ≡ text.old ++ trace_label_line p.now label.now) }
-{
     let line = line_of(alloc, p, label)?;
     text.extend(line.as_slice())?;
     made.lines.insert(*label, line)?;

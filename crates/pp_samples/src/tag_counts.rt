@@ -1,6 +1,7 @@
 //! The tags of a report's samples, with their sums.
-ghost use Rattle.std.specs.Prelude.{◌≡◌, ◌+◌, ◌-◌, ◌<◌, ◌≤◌, ◌^◌, [], ◌∷◌, ◌++◌, length, map, List as Seq, Some, IfOk, OnOk};
+ghost use Rattle.std.specs.Prelude.{◌≡◌, [], ◌∷◌, ◌++◌, map, List as Seq, IfOk, OnOk};
 ghost use Rattle.indexmap.specs.IndexMap.{get};
+ghost use Rattle.pp_model.specs.declared.profile.Profile.{Profile as Tables};
 ghost use Rattle.pp_model.specs.Conditions.{IsSampleOf};
 ghost use Rattle.pp_model.specs.Finders.{Finders};
 ghost use Rattle.pp_count.specs.Counts.{samples_at};
@@ -37,18 +38,22 @@ pub fn count_tags(alloc: Global, survey: &Survey<'_>, kept: &[u32]) -> Result<Ke
         IfOk result (AreKeys (events_from 0
         (map (survey_tagged survey.now f) (samples_at (survey_profile survey.now) kept.now)))) }
 {
-    let mut counts = no_counts(alloc, survey.l.profile.get())?;
+    let samples = survey.l.profile.get().sample.as_slice();
+    let mut counts = no_counts(alloc)?;
     let mut shown = List::new(alloc);
     let mut turn: u64 = 0;
     for number in kept {
-        turn = count_numbered(alloc, survey, *number, turn, &mut shown, &mut counts)?;
+        if let Some(s) = samples.get(*number as usize) {
+            turn += 1;
+            count_sample(alloc, survey, s, turn, &mut shown, &mut counts)?;
+        }
     }
     Ok(counts.keys)
 }
 
-// No tags of the profile.
-fn no_counts(alloc: Global, _p: &Profile) -> Result<TagCounts, Memory>
-    ensures sound { IfOk result (AreSound _p.now) }
+// No tags.
+fn no_counts(alloc: Global) -> Result<TagCounts, Memory>
+    ensures sound { IfOk result (λ counts. (p : Tables) → AreSound p counts) }
     ensures keys { IfOk result (λ counts. AreKeys [] counts.keys) }
 {
     Ok(TagCounts {
@@ -57,38 +62,7 @@ fn no_counts(alloc: Global, _p: &Profile) -> Result<TagCounts, Memory>
     })
 }
 
-// The sample with the number, if there is one, after so many samples. `shown` is room for its labels.
-fn count_numbered(
-    alloc: Global,
-    survey: &Survey<'_>,
-    number: u32,
-    turn: u64,
-    shown: &mut List<Label>,
-    counts: &mut TagCounts,
-) -> Result<u64, Memory>
-    requires few { turn < 2 ^ 64 - 1 }
-    requires sound { AreSound (survey_profile survey.now) counts.old }
-    ensures sound { OnOk result (AreSound (survey_profile survey.now) counts.new) }
-    ensures turn { IfOk result (λ next.
-        next ≡ turn + length (samples_at (survey_profile survey.now) (number ∷ []))) }
-    ensures next { IfOk result (λ next. next ≤ turn + 1) }
-    ensures keys { (f : Finders) → FindsInSurvey survey.now f → (events : Seq Event) →
-        AreKeys events counts.old.keys → AreSmall (events ++ events_from turn
-        (map (survey_tagged survey.now f) (samples_at (survey_profile survey.now) (number ∷ [])))) →
-        OnOk result (AreKeys (events ++ events_from turn
-        (map (survey_tagged survey.now f) (samples_at (survey_profile survey.now) (number ∷ []))))
-        counts.new.keys) }
-{
-    let samples = survey.l.profile.get().sample.as_slice();
-    let place = number as usize;
-    if place >= samples.len() {
-        return Ok(turn);
-    }
-    count_sample(alloc, survey, &samples[place], turn + 1, shown, counts)?;
-    Ok(turn + 1)
-}
-
-// The tags that are shown of the sample, which has this turn.
+// The tags that are shown of the sample, which has this turn. `shown` is room for its labels.
 fn count_sample(
     alloc: Global,
     survey: &Survey<'_>,
@@ -152,10 +126,14 @@ fn count_label(
         AreSmall (events ++ label_event p.now value turn label.now ∷ []) →
         OnOk result (AreKeys (events ++ label_event p.now value turn label.now ∷ []) counts.new.keys) }
 {
-    let Some(place) = place_of(&counts.places, label) else {
-        return count_new(alloc, p, label, value, turn, counts);
-    };
-    add_known_label(&mut counts.keys, place, value, turn);
+    if let Some(place) = place_of(&counts.places, label) {
+        add_known_label(&mut counts.keys, place, value, turn);
+        return Ok(());
+    }
+    let key = key_name(alloc, p, label)?;
+    let tag = tag_name(alloc, p, label)?;
+    let place = add_label(alloc, &mut counts.keys, key, tag, value, turn)?;
+    counts.places.insert(*label, place)?;
     Ok(())
 }
 
@@ -167,26 +145,4 @@ fn place_of(places: &IndexMap<Label, TagPlace>, label: &Label) -> Option<TagPlac
         None => None,
         Some(place) => Some(*place),
     }
-}
-
-// A label that was not seen.
-fn count_new(
-    alloc: Global,
-    p: &Profile,
-    label: &Label,
-    value: i64,
-    turn: u64,
-    counts: &mut TagCounts,
-) -> Result<(), Memory>
-    requires { AreSound p.now counts.old }
-    ensures sound { OnOk result (AreSound p.now counts.new) }
-    ensures keys { (events : Seq Event) → AreKeys events counts.old.keys →
-        AreSmall (events ++ label_event p.now value turn label.now ∷ []) →
-        OnOk result (AreKeys (events ++ label_event p.now value turn label.now ∷ []) counts.new.keys) }
-{
-    let key = key_name(alloc, p, label)?;
-    let tag = tag_name(alloc, p, label)?;
-    let place = add_label(alloc, &mut counts.keys, key, tag, value, turn)?;
-    counts.places.insert(*label, place)?;
-    Ok(())
 }

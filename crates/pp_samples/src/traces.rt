@@ -142,6 +142,7 @@ fn put_traces(alloc: Global, t: &Traces, kept: &[u32], lines: &mut Text) -> Resu
     ensures { (f : Finders) → FindsInTraces t.now f → IfOk result (λ _. lines.new ≡ lines.old
         ++ flat_map (sample_trace t.now f) (samples_at (trace_profile t.now) kept.now)) }
 {
+    let samples = t.scope.l.profile.get().sample.as_slice();
     let mut room = Room {
         stack: List::new(alloc),
         keys: Vec::new(alloc),
@@ -151,31 +152,11 @@ fn put_traces(alloc: Global, t: &Traces, kept: &[u32], lines: &mut Text) -> Resu
         value: Text::new(alloc),
     };
     for number in kept {
-        put_numbered(alloc, t, *number, &mut room, lines)?;
+        if let Some(s) = samples.get(*number as usize) {
+            put_sample(alloc, t, s, &mut room, lines)?;
+        }
     }
     Ok(())
-}
-
-// The sample with the number, if there is one.
-fn put_numbered(
-    alloc: Global,
-    t: &Traces,
-    number: u32,
-    room: &mut Room,
-    lines: &mut Text,
-) -> Result<(), Memory>
-    requires ready { AreTracesReady t.now }
-    requires made { AreLabelLines (trace_profile t.now) room.old.made }
-    ensures made { OnOk result (AreLabelLines (trace_profile t.now) room.new.made) }
-    ensures lines { (f : Finders) → FindsInTraces t.now f → IfOk result (λ _. lines.new ≡ lines.old
-        ++ flat_map (sample_trace t.now f) (samples_at (trace_profile t.now) (number ∷ []))) }
-{
-    let samples = t.scope.l.profile.get().sample.as_slice();
-    let place = number as usize;
-    if place >= samples.len() {
-        return Ok(());
-    }
-    put_sample(alloc, t, &samples[place], room, lines)
 }
 
 // What the filters leave of the sample.

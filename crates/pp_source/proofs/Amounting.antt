@@ -7,14 +7,14 @@ use Rattle.pp_grain.specs.Keys.{key_cmp, key_written, IsKeyOf}
 use Rattle.pp_count.specs.Sums.{Seen, renamed}
 use Rattle.pp_source.specs.declared.ledger.Ledger.{Ledger}
 use Rattle.pp_source.specs.declared.lines.FoundLine.{FoundLine}
-use Rattle.pp_source.specs.declared.tally.SampleTally.{SampleTally}
+use Rattle.pp_count.specs.declared.tally.Tally.{Tally}
 use Rattle.pp_source.specs.Amounts.{amounts_of, source_line, line_numbered, line_amounts, routine_of, routine_amounts}
 use Rattle.pp_source.specs.Found.{key_at}
 use Rattle.pp_source.specs.Ledgers.{IsLedgerOf, IsLineOf, line_texts, tally_of_key}
 use Rattle.pp_source.specs.Tally.{IsTallyBy, amounts_of_tally}
 
 -- a tally comes to the sums of its key
-comes_to : (samples : List (Seen Written)) (w : Written) (t : SampleTally) → IsTallyBy key_cmp samples w t → amounts_of_tally t ≡ amounts_of samples w
+comes_to : (samples : List (Seen Written)) (w : Written) (t : Tally) → IsTallyBy key_cmp samples w t → amounts_of_tally t ≡ amounts_of samples w
 comes_to samples w t is = λ i. record { flat = is.flat i; cum = is.cum i }
 
 module _ (p : Profile) (own : Option (List Bool)) (zero : (text_at p 0 ≡ []) × (0 < length p.text)) (line : FoundLine) (is : IsLineOf p own line) where

@@ -36,7 +36,7 @@ use Rattle.pp_source.specs.Amounts.{source_line}
 use Rattle.pp_source.specs.Found.{is_among_keys, has_own_function}
 use Rattle.pp_source.specs.Ledgers.{AreFound, HasKey, IsLedgerOf, IsLineOf, keys_seen, line_texts, lines_texts, tally_of_key}
 use Rattle.pp_source.specs.Routines.{all_lines, found_lines}
-use Rattle.pp_source.specs.Tally.{no_line_tally, tally_of}
+use Rattle.pp_count.specs.Tally.{no_tally, tally_at}
 use Rattle.pp_source.proofs.InOrder.{distinct_apart}
 use Rattle.pp_source.proofs.Parts.{has_told, placed, same_told}
 
@@ -54,7 +54,7 @@ seen_is p own t found k =
       by : (b : Bool) → is_among_keys k t.names.keys ≡ b → (nat_lt 0 (tally_of_key t k).last && is_among_keys k t.names.keys) ≡ (has_own_function own k && nat_lt 0 (tally_of_key t k).last)
       by true there = and_comm (nat_lt 0 (tally_of_key t k).last) (is_among_keys k t.names.keys) ∙ (λ i. (there ∙ sym (found_own p own t.names.keys found k there)) i && nat_lt 0 (tally_of_key t k).last)
       by false none =
-          let zero : nat_lt 0 (tally_of_key t k).last ≡ false = ap (λ b. nat_lt 0 (cond b (tally_of t.sums.items (place_of same_key t.names.keys k)) no_line_tally).last) none in
+          let zero : nat_lt 0 (tally_of_key t k).last ≡ false = ap (λ b. nat_lt 0 (cond b (tally_at t.sums (place_of same_key t.names.keys k)) no_tally).last) none in
           (λ i. zero i && is_among_keys k t.names.keys) ∙ sym (ap (λ b. has_own_function own k && b) zero ∙ and_comm (has_own_function own k) false)
 
 -- keys that are left of distinct ones are distinct

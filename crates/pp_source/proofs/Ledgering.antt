@@ -20,6 +20,7 @@ use Rattle.pp_count.specs.Parts.{HasBelow}
 use Rattle.pp_count.specs.Seeing.{filtered_from, seen_samples}
 use Rattle.pp_count.specs.Sums.{Seen, weighed, renamed, has, occurs}
 use Rattle.pp_count.specs.Table.{no_key, written_key}
+use Rattle.pp_count.specs.Tally.{no_tally, tally_at}
 use Rattle.pp_count.proofs.Based.{kept_seen}
 use Rattle.pp_count.proofs.CallerLemmas.{keyed_report, weighed-renamed}
 use Rattle.pp_count.proofs.Ties.{tied}
@@ -29,9 +30,10 @@ use Rattle.pp_source.specs.declared.found.KeyPart.TheVariants.{Routine, Line}
 use Rattle.pp_source.specs.declared.tallies.KeyTallies.{KeyTallies}
 use Rattle.pp_source.specs.Found.{IsFoundOf, is_among_keys, has_own_function, part_key, part_of}
 use Rattle.pp_source.specs.Ledgers.{AreAdded, HasKey, HasKeyTallies, by_lines}
-use Rattle.pp_source.specs.Tally.{no_line_tally, renumbered, tally_of, IsTallyBy}
+use Rattle.pp_source.specs.Tally.{renumbered, IsTallyBy}
 use Rattle.pp_source.proofs.Parts.{part_of_profile, part_told, ties_none, ties_there}
 use Rattle.pp_source.proofs.Retelling.{no_tally_of, renamed_twice, tally_same}
+use Rattle.pp_source.proofs.Tallying.{added_by}
 
 -- a part of a line is that of the frame
 part_of_line : (part : KeyPart) (w : Written) → part_of part (key_texts Lines false w) ≡ part_of part w
@@ -84,7 +86,7 @@ module _ (p : Profile) (compact : IsCompact p) (zero_text : (text_at p 0 ≡ [])
 
   -- The tallies of what was found are those of these samples.
   pub has_tallies : (turn : ℕ) (seen : List (Seen ℕ)) (t : KeyTallies) (samples : List (Seen Written)) → All (HasBelow (length keys)) seen → t.names.keys ≡ found.names.keys
-      → AreAdded found turn seen t.sums.items → map (renamed told) (weighed seen) ≡ samples → HasKeyTallies p own samples t
+      → AreAdded found turn seen t.sums → map (renamed told) (weighed seen) ≡ samples → HasKeyTallies p own samples t
   has_tallies turn seen t samples below names_are added seen_is =
       let ss : List (Seen ℕ) = weighed seen in
       let ss_below : All (HasBelow (length keys)) ss = All-filter (λ (s : Seen ℕ). not (int_eq s.value (pos 0))) (HasBelow (length keys)) seen below in
@@ -93,11 +95,11 @@ module _ (p : Profile) (compact : IsCompact p) (zero_text : (text_at p 0 ≡ [])
         known = λ q there. known q ss ss_below there;
       }) where
         by : (k : Key) → IsKeyOf p k → has_own_function own k ≡ true → (b : Bool) → is_among_keys k found.names.keys ≡ b → All (HasBelow (length keys)) (weighed seen)
-            → IsTallyBy key_cmp (map (renamed told) (weighed seen)) (key_written p k) (cond (is_among_keys k t.names.keys) (tally_of t.sums.items (place_of same_key t.names.keys k)) no_line_tally)
+            → IsTallyBy key_cmp (map (renamed told) (weighed seen)) (key_written p k) (cond (is_among_keys k t.names.keys) (tally_at t.sums (place_of same_key t.names.keys k)) no_tally)
         by k of_k own_k true there ss_below =
             rw (names_are, there)
             (tally_same key_cmp nat_cmp told (renumbered found.numbers.items) (key_written p k) (place_of same_key found.names.keys k) (length keys)
-            (λ n within. ties_there p zero_text own part keys of_p found is k n compact of_k there within) (weighed seen) _ ss_below (added.each (place_of same_key found.names.keys k)))
+            (λ n within. ties_there p zero_text own part keys of_p found is k n compact of_k there within) (weighed seen) _ ss_below (added_by found turn seen t.sums added (place_of same_key found.names.keys k)))
         by k of_k own_k false there ss_below =
             rw (names_are, there)
             (no_tally_of key_cmp told (key_written p k) (length keys) (λ n within. ties_none p zero_text own part keys of_p found is k n compact of_k own_k there within) (weighed seen) ss_below)

@@ -3,7 +3,6 @@ mod Examples
 pub mod FileLemmas
 pub mod Finding
 pub mod InOrder
-pub mod Keys
 pub mod Ledgering
 pub mod ListLemmas
 pub mod LookLemmas

@@ -201,8 +201,3 @@ module _ (p : Profile) (zero_text : (text_at p 0 ≡ []) × (0 < length p.text))
         let key_is : k ≡ q = (key_decides k q).0 same in
         false≢true (sym none ∙ ap (λ x. is_among_keys x found.names.keys) key_is ∙ ap (is_among_keys q) is.names
         ∙ part_seen own part [] keys n within (sym (part_own own part at) ∙ ap (has_own_function own) (sym key_is) ∙ own_k)))
-
--- each number has a place
-pub numbers_within : (own : Option (List Bool)) (part : KeyPart) (keys : List Key) (found : FoundKeys) (size : ℕ) → IsFoundOf own part keys found → size ≡ length found.names.keys + 1 → All (λ n. n < size) found.numbers.items
-numbers_within own part keys found size is is_size =
-    rw is.numbers (All-map (λ n. n < size) (part_number part found.names.keys) keys (λ n d within. omega (arith, is_size, place_le (part_key part (get_or keys n d)) found.names.keys)))

@@ -4,11 +4,12 @@ use Rattle.std.specs.Ordering.{eq_by_cmp}
 use Rattle.std.specs.declared.cmp.Ordering.{Ordering}
 use Rattle.std.proofs.Math.IntN.{+ℤ_idl}
 use Rattle.std.proofs.lemmas.List.Elements.{All-head, All-tail}
+use Rattle.pp_count.specs.declared.tally.Tally.{Tally}
 use Rattle.pp_count.specs.Parts.{HasBelow}
 use Rattle.pp_count.specs.Sums.{Seen, renamed, has, leads, cum, flat, occurs}
+use Rattle.pp_count.specs.Tally.{no_tally}
 use Rattle.pp_count.proofs.Keyed.{map_twice}
-use Rattle.pp_source.specs.declared.tally.SampleTally.{SampleTally}
-use Rattle.pp_source.specs.Tally.{no_line_tally, IsTallyBy}
+use Rattle.pp_source.specs.Tally.{IsTallyBy}
 
 pub renamed_twice : {X Y Z : Type 0} (g : Y → Z) (f : X → Y) (ss : List (Seen X)) → map (renamed g) (map (renamed f) ss) ≡ map (renamed (λ x. g (f x))) ss
 renamed_twice g f [] = refl
@@ -37,7 +38,7 @@ module _ {A B : Type 0} (one : A → A → Ordering) (other : B → B → Orderi
   occurs_same [] below = refl
   occurs_same (s ∷ ss) below = λ i. has_same s.keys (All-head (HasBelow n) s ss below) i || occurs_same ss (All-tail (HasBelow n) s ss below) i
 
-  pub tally_same : (ss : List (Seen ℕ)) (t : SampleTally) → All (HasBelow n) ss → IsTallyBy other (map (renamed g) ss) b t → IsTallyBy one (map (renamed f) ss) a t
+  pub tally_same : (ss : List (Seen ℕ)) (t : Tally) → All (HasBelow n) ss → IsTallyBy other (map (renamed g) ss) b t → IsTallyBy one (map (renamed f) ss) a t
   tally_same ss t below is = record {
     flat = is.flat ∙ sym (flat_same ss below);
     cum = is.cum ∙ sym (cum_same ss below);
@@ -54,7 +55,7 @@ module _ {A : Type 0} (order : A → A → Ordering) (f : ℕ → A) (a : A) (n 
   leads_none [] below = refl
   leads_none (m ∷ ks) below = none m (All-head (λ j. j < n) m ks below)
 
-  pub no_tally_of : (ss : List (Seen ℕ)) → All (HasBelow n) ss → IsTallyBy order (map (renamed f) ss) a no_line_tally
+  pub no_tally_of : (ss : List (Seen ℕ)) → All (HasBelow n) ss → IsTallyBy order (map (renamed f) ss) a no_tally
   no_tally_of [] below = record { flat = refl; cum = refl; occurs = refl }
   no_tally_of (s ∷ ss) below =
       let rest = no_tally_of ss (All-tail (HasBelow n) s ss below) in

@@ -1,6 +1,6 @@
 -- Rows of source, one after the other.
 use Rattle.std.proofs.Common.{◌≡◌, ℕ, zero, suc, ◌+◌, ◌-◌, ◌<◌, ◌≤◌, ◌&&◌, min, nat_lt, nat_le, true, false, cond, List, [], ◌∷◌, ◌++◌, Bor, length, map, take, drop, get_or, flat_map, refl, sym, ap, ◌∙◌, append_assoc, arith}
-use Rattle.std.specs.Prelude.{codes}
+use Rattle.std.specs.Prelude.{codes, Result, Ok, Err, IfOk}
 use Rattle.std.proofs.lemmas.Bool.{le-leb, leb-true, lt-ltb, ltb-true}
 use Rattle.std.proofs.lemmas.List.{take_more, drop_all, drop_more, get_or-map, length-drop, length-map, append-nil, map-append}
 use Rattle.std.specs.List.{cons_option}
@@ -157,3 +157,8 @@ pub routine_is : (samples : List (Seen Written)) (h : Facts) (source : Source) (
 routine_is samples h source [] line some is = absurd (omega (arith, some))
 routine_is samples h source (first ∷ lines) line some is =
     ap (λ l. (title_line (line_texts l) ++ routine_line h (routine_amounts samples (line_texts l))) ++ routine_source samples h source (line_texts l) (lines_texts (first ∷ lines))) is
+
+-- one of a result that is Ok
+pub if_one : {T E A C : Type 0} (r : Result T E) → (A → C) → IfOk r (λ _. A) → IfOk r (λ _. C)
+if_one (Ok x) then_so a = then_so a
+if_one (Err e) then_so a = tt

@@ -1,7 +1,6 @@
 -- What samples come to in the lines and the routines that a report's own pattern finds. No public clause cites it.
-use Rattle.std.specs.Prelude.{◌≡◌, ℕ, ◌+◌, ◌≤◌, nat_lt, Bool, true, false, List, length, map, All, Option, if◌then◌else◌}
+use Rattle.std.specs.Prelude.{◌≡◌, ℕ, ◌≤◌, nat_lt, Bool, true, false, List, map, All, Option, if◌then◌else◌}
 use Rattle.std.specs.List.{filter}
-use Rattle.std.specs.Ordering.{nat_cmp}
 use Rattle.pp_model.specs.declared.config.Config.{Config}
 use Rattle.pp_model.specs.declared.config.Grain.TheVariants.{Lines}
 use Rattle.pp_model.specs.declared.profile.Profile.{Profile}
@@ -13,19 +12,21 @@ use Rattle.pp_grain.specs.Keys.{key_cmp, key_written, IsKeyOf}
 use Rattle.pp_grain.specs.Sight.{same_key}
 use Rattle.pp_grain.specs.Told.{written_texts}
 use Rattle.pp_count.specs.Scope.{AreCountable, AreSeen, IsSoundScope, samples_in_scope}
+use Rattle.pp_count.specs.declared.tallies.Tallies.{Tallies}
+use Rattle.pp_count.specs.declared.tally.Tally.{Tally}
 use Rattle.pp_count.specs.Sums.{Seen, weighed, renamed, occurs}
+use Rattle.pp_count.specs.Tally.{no_tally, tally_at, IsTallyOf}
 use Rattle.pp_source.specs.declared.found.FoundKeys.{FoundKeys}
 use Rattle.pp_source.specs.declared.found.KeyPart.TheVariants.{Routine, Line}
 use Rattle.pp_source.specs.declared.ledger.Ledger.{Ledger}
 use Rattle.pp_source.specs.declared.lines.FoundLine.{FoundLine}
 use Rattle.pp_source.specs.declared.rows.Listing.{Listing}
 use Rattle.pp_source.specs.declared.tallies.KeyTallies.{KeyTallies}
-use Rattle.pp_source.specs.declared.tally.SampleTally.{SampleTally}
 use Rattle.pp_source.specs.declared.walk.WalkSums.{WalkSums}
 use Rattle.pp_source.specs.declared.walk.Walk.{Walk}
 use Rattle.pp_source.specs.Amounts.{source_line, routine_of}
 use Rattle.pp_source.specs.Found.{IsFoundOf, is_among_keys, has_own_function}
-use Rattle.pp_source.specs.Tally.{no_line_tally, renumbered, tally_of, IsTallyBy}
+use Rattle.pp_source.specs.Tally.{renumbered, IsTallyBy}
 
 -- the configuration under which the lines of frames are counted
 abbrev pub by_lines : Config → Config
@@ -38,30 +39,25 @@ pub record IsSoundWalk (walk : Walk) : Type 0 where
   pub lines : IsFoundOf walk.scope.v.now.own Line walk.scope.table.now.names walk.lines.now
   pub routines : IsFoundOf walk.scope.v.now.own Routine walk.scope.table.now.names walk.routines.now
 
--- there is a tally for each part, and one for all else
-abbrev pub HasPartTallies : FoundKeys → List SampleTally → Type 0
-HasPartTallies found tallies = length tallies ≡ length found.names.keys + 1
-
 -- The samples are added to the tallies of what was found, none of them at a turn after this one.
-pub record AreAdded (found : FoundKeys) (turn : ℕ) (seen : List (Seen ℕ)) (tallies : List SampleTally)
+pub record AreAdded (found : FoundKeys) (turn : ℕ) (seen : List (Seen ℕ)) (tallies : Tallies)
     : Type 0 where
-  pub count : HasPartTallies found tallies
   pub each : (k : ℕ)
-      → IsTallyBy nat_cmp (map (renamed (renumbered found.numbers.items)) (weighed seen)) k (tally_of tallies k)
-  pub earlier : (k : ℕ) → (tally_of tallies k).last ≤ turn
+      → IsTallyOf (weighed (map (renamed (renumbered found.numbers.items)) seen)) k (tally_at tallies k)
+  pub earlier : (k : ℕ) → (tally_at tallies k).last ≤ turn
 
 -- These samples are added to the sums.
 pub record HasWalkedTo (walk : Walk) (turn : ℕ) (samples : List Sample) (sums : WalkSums) : Type 0 where
   pub seen : List (Seen ℕ)
   pub are : AreSeen walk.scope samples seen
-  pub lines : AreAdded walk.lines.now turn seen sums.lines.items
-  pub routines : AreAdded walk.routines.now turn seen sums.routines.items
+  pub lines : AreAdded walk.lines.now turn seen sums.lines
+  pub routines : AreAdded walk.routines.now turn seen sums.routines
 
 -- what is kept of a key
-abbrev pub tally_of_key : KeyTallies → Key → SampleTally
+abbrev pub tally_of_key : KeyTallies → Key → Tally
 tally_of_key t k =
-    if is_among_keys k t.names.keys then tally_of t.sums.items (place_of same_key t.names.keys k)
-    else no_line_tally
+    if is_among_keys k t.names.keys then tally_at t.sums (place_of same_key t.names.keys k)
+    else no_tally
 
 -- A key of the profile stands for it.
 pub record HasKey (p : Profile) (w : Written) : Type 0 where

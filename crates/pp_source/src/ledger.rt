@@ -16,7 +16,7 @@ use pp_model::{Config, Grain};
 use std::alloc::Global;
 
 /// Sums by the lines and by the routines of frames.
-#[derive(Debug, Drop)]
+#[derive(Drop)]
 pub struct Ledger {
     /// By function, file and line.
     pub lines: KeyTallies,

@@ -16,7 +16,6 @@ mod runs;
 mod source;
 mod split;
 mod tallies;
-mod tally;
 mod walk;
 
 pub use listing::{write_list, write_list_of};

@@ -192,9 +192,8 @@ fn put_sum(head: &Head, sum: i64, scratch: &mut Text, out: &mut Text) -> Result<
 fn put_numbered(number: u64, bytes: &[u8], out: &mut Text) -> Result<(), Memory>
     ensures { IfOk result (λ _. out.new ≡ out.old ++ numbered_text number bytes.now) }
 {
-    let mut digits = Buffer::new();
     out.extend(b" ")?;
-    put_right(6, digits.format(number).as_bytes(), out)?;
+    put_right(6, Buffer::new().format(number).as_bytes(), out)?;
     out.extend(b":")?;
     out.extend(bytes)?;
     out.extend(b"\n")

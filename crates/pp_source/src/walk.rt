@@ -1,17 +1,13 @@
 //! Adding up samples in the lines and the routines that the own pattern finds.
-ghost use Rattle.std.specs.Prelude.{◌≡◌, ◌+◌, ◌<◌, [], length, All, IfOk, Some};
-ghost use Rattle.std.specs.List.{slice_get};
-ghost use Rattle.pp_model.specs.Conditions.{IsSampleOf, RefersTo};
+ghost use Rattle.std.specs.Prelude.{◌≡◌, ◌<◌, [], length, map, All, IfOk, Some};
 ghost use Rattle.pp_count.specs.Column.{selected};
-ghost use Rattle.pp_count.specs.Scope.{chosen_of, profile_in_scope, samples_in_scope};
-ghost use Rattle.pp_source.specs.Ledgers.{HasPartTallies, IsSoundWalk, HasWalkedTo};
-ghost use Rattle.pp_source.specs.Tally.{AddsKeys, IsReadyFor};
+ghost use Rattle.pp_count.specs.Scope.{chosen_of, samples_in_scope};
+ghost use Rattle.pp_source.specs.Ledgers.{IsSoundWalk, HasWalkedTo};
+ghost use Rattle.pp_source.specs.Tally.{AddsKeys, IsReadyFor, renumbered};
 
 use crate::found::FoundKeys;
-use crate::tallies::add_keys;
-use crate::tally::SampleTally;
 use pp_base::{List, Memory};
-use pp_count::{Scope, see, selected};
+use pp_count::{Scope, Tallies, add_sample, sample_at, see, selected};
 use pp_model::Sample;
 use std::alloc::Global;
 
@@ -26,13 +22,13 @@ pub struct Walk<'a> {
     pub routines: &'a FoundKeys,
 }
 
-/// What samples come to, by the numbers of what was found. One tally more than those has all else.
-#[derive(Debug, Drop)]
+/// What samples come to, by the numbers of what was found. One number more than those has all else.
+#[derive(Drop)]
 pub struct WalkSums {
-    /// The tally of each line that was found, and last that of all else.
-    pub lines: Vec<SampleTally>,
-    /// The tally of each routine that was found, and last that of all else.
-    pub routines: Vec<SampleTally>,
+    /// What each line that was found has, and last all else.
+    pub lines: Tallies,
+    /// What each routine that was found has, and last all else.
+    pub routines: Tallies,
 }
 
 /// The sums over the samples with these numbers, which are those that the scope chooses. `Err` is want of memory.
@@ -43,11 +39,12 @@ pub fn add_samples(alloc: Global, walk: &Walk<'_>, kept: &[u32]) -> Result<WalkS
 {
     let mut stack = List::new(alloc);
     let mut keys = Vec::new(alloc);
+    let mut room = Vec::new(alloc);
     let mut sums = no_sums(alloc, walk)?;
     for place in 0..kept.len() {
-        let sample = sample_at(walk, kept, place);
+        let sample = sample_at(&walk.scope, place);
         if see(&walk.scope, sample, &mut stack, &mut keys)? {
-            add_seen(walk, sample, &keys, place as u64 + 1, &mut sums);
+            add_seen(walk, sample, &keys, place as u64 + 1, &mut room, &mut sums)?;
         }
     }
     Ok(sums)
@@ -56,53 +53,67 @@ pub fn add_samples(alloc: Global, walk: &Walk<'_>, kept: &[u32]) -> Result<WalkS
 fn no_sums(alloc: Global, walk: &Walk<'_>) -> Result<WalkSums, Memory>
     ensures { IfOk result (HasWalkedTo walk.now 0 []) }
 {
-    let lines = vec![in alloc; SampleTally::NONE; walk.lines.names.len() + 1]?;
-    let routines = vec![in alloc; SampleTally::NONE; walk.routines.names.len() + 1]?;
+    let lines = Tallies::new(alloc, walk.lines.names.len() + 1)?;
+    let routines = Tallies::new(alloc, walk.routines.names.len() + 1)?;
     Ok(WalkSums { lines, routines })
 }
 
-// The sample whose number stands at the place.
-fn sample_at<'a>(walk: &Walk<'a>, kept: &[u32], place: usize) -> &'a Sample
-    requires sound { IsSoundWalk walk.now }
-    requires chosen { chosen_of walk.now.scope ≡ Some kept.now }
-    requires within { place < length kept.now }
-    ensures is { slice_get (samples_in_scope walk.now.scope) place ≡ Some result.now }
-    ensures member { IsSampleOf (profile_in_scope walk.now.scope) result.now }
-    ensures refers { RefersTo (profile_in_scope walk.now.scope) result.now }
-{
-    let samples = walk.scope.l.profile.get().sample.as_slice();
-    &samples[kept[place] as usize]
-}
-
-// Adds a sample whose frames have these keys, leaf first.
-fn add_seen(walk: &Walk<'_>, sample: &Sample, keys: &[u64], turn: u64, sums: &mut WalkSums)
+// Adds a sample whose frames have these keys, leaf first. `room` is for the numbers of what was found of them.
+fn add_seen(
+    walk: &Walk<'_>,
+    sample: &Sample,
+    keys: &[u64],
+    turn: u64,
+    room: &mut Vec<u64>,
+    sums: &mut WalkSums,
+) -> Result<(), Memory>
     requires sound { IsSoundWalk walk.now }
     requires keys { All (λ k. k < length walk.now.scope.table.now.names) keys.now }
-    requires lines { HasPartTallies walk.now.lines.now sums.old.lines.items }
-    requires routines { HasPartTallies walk.now.routines.now sums.old.routines.items }
     requires lines_ready { IsReadyFor
         (selected walk.now.scope.column walk.now.scope.config.now.divide_by sample.now) turn
-        sums.old.lines.items }
+        sums.old.lines }
     requires routines_ready { IsReadyFor
         (selected walk.now.scope.column walk.now.scope.config.now.divide_by sample.now) turn
-        sums.old.routines.items }
-    ensures lines { AddsKeys walk.now.lines.now.numbers.items
+        sums.old.routines }
+    ensures lines { IfOk result (λ _. AddsKeys walk.now.lines.now.numbers.items
         (selected walk.now.scope.column walk.now.scope.config.now.divide_by sample.now) turn keys.now
-        sums.old.lines.items sums.new.lines.items }
-    ensures routines { AddsKeys walk.now.routines.now.numbers.items
+        sums.old.lines sums.new.lines) }
+    ensures routines { IfOk result (λ _. AddsKeys walk.now.routines.now.numbers.items
         (selected walk.now.scope.column walk.now.scope.config.now.divide_by sample.now) turn keys.now
-        sums.old.routines.items sums.new.routines.items }
+        sums.old.routines sums.new.routines) }
 {
     let scope = &walk.scope;
     let value = selected(scope.l, sample, scope.column, scope.config.divide_by);
-    if value != 0 {
-        add_keys(&mut sums.lines, &walk.lines.numbers, value, keys, turn);
-        add_keys(
-            &mut sums.routines,
-            &walk.routines.numbers,
-            value,
-            keys,
-            turn,
-        );
+    add_found(walk.lines, value, keys, turn, room, &mut sums.lines)?;
+    add_found(walk.routines, value, keys, turn, room, &mut sums.routines)
+}
+
+// Adds a sample with these keys, leaf first, to the tallies of the numbers of what was found of them.
+fn add_found(
+    found: &FoundKeys,
+    value: i64,
+    keys: &[u64],
+    turn: u64,
+    room: &mut Vec<u64>,
+    tallies: &mut Tallies,
+) -> Result<(), Memory>
+    requires keys { All (λ k. k < length found.now.numbers.items) keys.now }
+    requires ready { IsReadyFor value turn tallies.old }
+    ensures { IfOk result (λ _.
+        AddsKeys found.now.numbers.items value turn keys.now tallies.old tallies.new) }
+{
+    put_numbers(&found.numbers, keys, room)?;
+    add_sample(tallies, value, room, turn)
+}
+
+// Makes the numbers that stand for the keys the content of `room`.
+fn put_numbers(numbers: &[u64], keys: &[u64], room: &mut Vec<u64>) -> Result<(), Memory>
+    requires { All (λ k. k < length numbers.now) keys.now }
+    ensures { IfOk result (λ _. room.new.items ≡ map (renumbered numbers.now) keys.now) }
+{
+    room.clear();
+    for key in keys {
+        room.push(numbers[*key as usize])?;
     }
+    Ok(())
 }

@@ -4,10 +4,17 @@ use Rattle.pp_model.specs.FrameTexts.{Written}
 use Rattle.pp_units.specs.Head.{facts}
 use Rattle.pp_count.specs.Counted.{has_own_match, report_frames}
 use Rattle.pp_count.specs.Sums.{Seen}
+use Rattle.pp_desk.proofs.Going.{wants}
 use Rattle.pp_source.specs.Ledgers.{lines_texts}
 use Rattle.pp_source.specs.Routines.{found_lines}
 use Rattle.pp_source.proofs.ListLemmas.{made_found, made_stopped, no_lines, report_none, some_lines}
 use Rattle.pp_source.proofs.listing.list_report.Goals as goal
+
+-- memory was wanting before anything was read
+pub returns-in_err-lines : goal.returns-in_err-lines
+returns-in_err-lines g c f holds =
+    let p = err_from_is_err_and c.from_residual-in_err-lines.result c.from_residual-in_err-lines.ensures.1 in
+    rw (p.1, p.2) (wants _ _)
 
 -- nothing is found
 pub returns-then-is_empty : goal.returns-then-is_empty

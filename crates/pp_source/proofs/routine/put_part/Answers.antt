@@ -1,6 +1,6 @@
 use Rattle.std.proofs.Common.{◌++◌, codes, ap, ◌∙◌, w64}
 use Rattle.std.proofs.lemmas.Int.{to_z-of_z}
-use Rattle.pp_source.proofs.Keys.{if_one}
+use Rattle.pp_source.proofs.RowLemmas.{if_one}
 use Rattle.pp_source.proofs.routine.put_part.Goals as goal
 
 pub returns : goal.returns

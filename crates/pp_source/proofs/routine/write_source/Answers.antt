@@ -1,8 +1,7 @@
-use Rattle.std.proofs.Common.{◌++◌, ap, ◌∙◌, sym}
+use Rattle.std.proofs.Common.{◌++◌, ap, ◌∙◌}
 use Rattle.pp_units.specs.Head.{facts}
 use Rattle.pp_source.specs.Ledgers.{line_texts, lines_texts}
-use Rattle.pp_source.proofs.Keys.{if_one}
-use Rattle.pp_source.proofs.RowLemmas.{source_is}
+use Rattle.pp_source.proofs.RowLemmas.{if_one, source_is}
 use Rattle.pp_source.proofs.routine.write_source.Goals as goal
 
 -- the lines of the file's bytes

@@ -7,7 +7,7 @@ use Rattle.pp_source.specs.Ledgers.{tally_of_key}
 use Rattle.pp_source.specs.SourceText.{row_text}
 use Rattle.pp_source.specs.Tally.{amounts_of_tally}
 use Rattle.pp_source.proofs.Amounting.{line_comes_to}
-use Rattle.pp_source.proofs.Keys.{if_one}
+use Rattle.pp_source.proofs.RowLemmas.{if_one}
 use Rattle.pp_source.proofs.Zero.{zero_text}
 use Rattle.pp_source.proofs.rows.write_row.Goals as goal
 

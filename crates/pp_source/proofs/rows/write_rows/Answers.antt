@@ -3,8 +3,7 @@ use Rattle.std.proofs.lemmas.List.{get_or_default, length-map}
 use Rattle.pp_units.specs.Head.{facts}
 use Rattle.pp_source.specs.Ledgers.{line_texts}
 use Rattle.pp_source.proofs.FileLemmas.{told}
-use Rattle.pp_source.proofs.Keys.{if_one}
-use Rattle.pp_source.proofs.RowLemmas.{rows_are}
+use Rattle.pp_source.proofs.RowLemmas.{if_one, rows_are}
 use Rattle.pp_source.proofs.rows.write_rows.Goals as goal
 
 pub returns : goal.returns
