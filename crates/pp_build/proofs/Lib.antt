@@ -1,5 +1,6 @@
 pub mod BuiltLemmas
 pub mod ChangeLemmas
+pub mod FrameLemmas
 pub mod OnceLemmas
 pub mod PutLemmas
 pub mod SaidLemmas

@@ -33,7 +33,7 @@ use Rattle.pp_build.specs.Said.{ExtendsTables, said_sample, said_samples}
 use Rattle.pp_build.proofs.ChangeLemmas.{mapping_built, function_built, location_built}
 
 -- an item of the front
-front_at : {X : Type 0} (xs ys : List X) (k : ℕ) (d : X) → IsFront xs ys → k < length xs → get_or ys k d ≡ get_or xs k d
+pub front_at : {X : Type 0} (xs ys : List X) (k : ℕ) (d : X) → IsFront xs ys → k < length xs → get_or ys k d ≡ get_or xs k d
 front_at xs ys k d front low = ap (λ zs. get_or zs k d) front.1 ∙ get_or_append_left xs front.0 d k low
 
 -- the same by an id
@@ -181,7 +181,7 @@ module _ (p q : Profile) (built : IsBuilt p) (after : IsBuilt q) (grown : Extend
       (all_by (SampleIn (length p.text) (length p.location) (length p.sample_type)) (λ s. said_sample q s ≡ said_sample p s) sample_same p.sample built.samples)
 
 -- a table is the front of the table with one entry more
-seen_front : {X : Type 0} (same : X → X → Bool) (xs : List X) (x : X) → IsFront xs (seen_with same xs x)
+pub seen_front : {X : Type 0} (same : X → X → Bool) (xs : List X) (x : X) → IsFront xs (seen_with same xs x)
 seen_front same xs x = by (list_any (same x) xs)
   where
     by : (b : Bool) → IsFront xs (if b then xs else xs ++ x ∷ [])

@@ -1,5 +1,5 @@
 -- A builder's profile after one call more. Equal entries are one, and an entry's id is its place plus 1.
-use Rattle.std.specs.Prelude.{ℕ, ◌+◌, ℤ, pos, List, [], ◌∷◌, ◌++◌, length}
+use Rattle.std.specs.Prelude.{ℕ, ◌+◌, ℤ, pos, false, List, [], ◌∷◌, ◌++◌, length}
 use Rattle.std.specs.Str.{bytes_eq}
 use Rattle.pp_model.specs.declared.profile.ValueType.{ValueType}
 use Rattle.pp_model.specs.declared.profile.Mapping.{Mapping}
@@ -42,9 +42,24 @@ with_new_text p text = record p { text = seen_with bytes_eq p.text text }
 abbrev pub text_index : Profile → List ℕ → ℕ
 text_index p text = place_of bytes_eq p.text text
 
+-- the profile with both texts
+abbrev pub with_texts : Profile → List ℕ → List ℕ → Profile
+with_texts p first second = with_new_text (with_new_text p first) second
+
+-- the index of the second text, once the first is there
+abbrev pub second_index : Profile → List ℕ → List ℕ → ℕ
+second_index p first second = text_index (with_new_text p first) second
+
 -- the profile with the sample type behind the others
 abbrev pub with_type : Profile → ValueType → Profile
 with_type p t = record p { sample_type = p.sample_type ++ t ∷ [] }
+
+-- the profile with the sample type of these two texts behind the others
+abbrev pub with_column : Profile → List ℕ → List ℕ → Profile
+with_column p kind unit = with_type (with_texts p kind unit) (record {
+  kind = pos (text_index p kind);
+  unit = pos (second_index p kind unit);
+})
 
 -- the profile with the mapping
 abbrev pub with_mapping : Profile → Mapping → Profile
@@ -78,6 +93,45 @@ with_location p l =
 -- the location's id, which is the next one where it isn't there
 abbrev pub location_number : Profile → Location → ℕ
 location_number p l = place_of same_location_entry p.location l + 1
+
+-- the function of this name and file, both of which are added
+abbrev pub named_function : Profile → List ℕ → List ℕ → Function
+named_function p name file = record {
+  id = 0;
+  name = pos (text_index p name);
+  system_name = pos (text_index p name);
+  filename = pos (second_index p name file);
+  start_line = pos 0;
+}
+
+-- the profile with that function
+abbrev pub with_named : Profile → List ℕ → List ℕ → Profile
+with_named p name file = with_function (with_texts p name file) (named_function p name file)
+
+-- the location of the function's line, in no mapping
+abbrev pub frame_location : ℕ → ℤ → Location
+frame_location function line = record {
+  id = 0;
+  mapping_id = 0;
+  address = 0;
+  line = record { function_id = function; line = line; column = pos 0 } ∷ [];
+  folded = false;
+}
+
+-- the location of a line of the function of this name and file
+abbrev pub named_location : Profile → List ℕ → List ℕ → ℤ → Location
+named_location p name file line =
+    frame_location (function_number (with_texts p name file) (named_function p name file)) line
+
+-- the profile with that location
+abbrev pub with_frame : Profile → List ℕ → List ℕ → ℤ → Profile
+with_frame p name file line =
+    with_location (with_named p name file) (named_location p name file line)
+
+-- that location's id
+abbrev pub frame_number : Profile → List ℕ → List ℕ → ℤ → ℕ
+frame_number p name file line =
+    location_number (with_named p name file) (named_location p name file line)
 
 -- the profile with the sample behind the others
 abbrev pub with_new_sample : Profile → Sample → Profile

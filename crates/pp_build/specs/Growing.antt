@@ -1,6 +1,7 @@
 -- What holds of a builder's profile at all times, and how it grows.
 use Rattle.std.specs.Prelude.{◌≡◌, ℕ, ◌<◌, ◌≤◌, ◌^◌, ℤ, true, length}
 use Rattle.std.specs.List.{AllByRecursion}
+use Rattle.pp_base.specs.Front.{IsFront}
 use Rattle.pp_model.specs.declared.profile.ValueType.{ValueType}
 use Rattle.pp_model.specs.declared.profile.Label.{Label}
 use Rattle.pp_model.specs.declared.profile.Mapping.{Mapping}
@@ -71,3 +72,9 @@ pub record Grows (old new : Profile) : Type 0 where
   pub functions : length old.function ≤ length new.function
   pub locations : length old.location ≤ length new.location
   pub types : length new.sample_type ≡ length old.sample_type
+
+-- Texts and functions may have been added, and nothing else has changed.
+pub record HasMoreNames (old new : Profile) : Type 0 where
+  pub texts : IsFront old.text new.text
+  pub functions : IsFront old.function new.function
+  pub same : new ≡ record old { text = new.text; function = new.function }

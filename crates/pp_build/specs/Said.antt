@@ -1,5 +1,5 @@
 -- What the samples of a profile say: their stacks in texts, their values, and their labels in texts.
-use Rattle.std.specs.Prelude.{ℤ, List, map}
+use Rattle.std.specs.Prelude.{ℕ, ℤ, pos, List, [], map}
 use Rattle.pp_base.specs.Front.{IsFront}
 use Rattle.pp_model.specs.declared.profile.Location.{Location}
 use Rattle.pp_model.specs.declared.profile.Sample.{Sample}
@@ -29,6 +29,17 @@ said_samples p = map (said_sample p) p.sample
 -- the frames of a location, the innermost first, as they stand in a stack
 abbrev pub location_frames : Profile → Location → List Written
 location_frames p l = written_lines p l l.line
+
+-- the frame of a line of a function, in no file that is known to be mapped
+abbrev pub bare_frame : List ℕ → List ℕ → ℤ → Written
+bare_frame name file line = record {
+  function = name;
+  file = file;
+  line = line;
+  column = pos 0;
+  address = 0;
+  object = [];
+}
 
 -- Each table that samples refer to begins with what it was.
 pub record ExtendsTables (p q : Profile) : Type 0 where

@@ -37,15 +37,15 @@ impl Model for Builder {
 }
 
 impl Builder {
-    ghost use Rattle.std.specs.Prelude.{◌≡◌, ◌≢◌, ◌<◌, ◌≤◌, ◌++◌, ◌∷◌, pos, [], length, All, IfOk, OnOk, OnErr, Some};
+    ghost use Rattle.std.specs.Prelude.{◌≡◌, ◌≢◌, ◌<◌, ◌≤◌, ◌+◌, ◌++◌, ◌∷◌, pos, [], length, All, IfOk, OnOk, OnErr, Some};
     ghost use Rattle.pp_model.specs.FrameTexts.{written_at};
     ghost use Rattle.pp_model.specs.Lookup.{text_at};
     ghost use Rattle.pp_model.specs.Rules.{NoRuleFails};
     ghost use Rattle.pp_share.specs.Described.{function_text, function_found, mapping_text, mapping_found};
     ghost use Rattle.pp_build.specs.Given.{given_type, given_mapping, function_of, given_location, given_sample, LabelIsWithin};
-    ghost use Rattle.pp_build.specs.Adding.{no_entries, with_new_text, text_index, with_type, with_mapping, mapping_number, with_function, function_number, with_location, location_number, with_new_sample, with_comment};
-    ghost use Rattle.pp_build.specs.Growing.{IdIn, Grows};
-    ghost use Rattle.pp_build.specs.Said.{location_frames, said_sample, said_samples};
+    ghost use Rattle.pp_build.specs.Adding.{no_entries, with_new_text, text_index, with_type, with_column, with_mapping, mapping_number, with_function, function_number, with_location, location_number, with_frame, frame_number, with_new_sample, with_comment};
+    ghost use Rattle.pp_build.specs.Growing.{IdIn, Grows, HasMoreNames};
+    ghost use Rattle.pp_build.specs.Said.{bare_frame, location_frames, said_sample, said_samples};
 
     /// A profile of nothing but the empty text.
     pub fn new(alloc: Global) -> Result<Builder, Memory>
@@ -98,6 +98,22 @@ impl Builder {
             kind: index_of(kind),
             unit: index_of(unit),
         })
+    }
+
+    /// The column of values of this kind and unit, which are texts. It comes before the first sample. On want of memory
+    /// the texts may have been added.
+    pub fn column(&mut self, kind: &[u8], unit: &[u8]) -> Result<(), Memory>
+        requires { self.old.sample ≡ [] }
+        ensures new { OnOk result (self.new ≡ with_column self.old kind.now unit.now) }
+        ensures err { OnErr result (HasMoreNames self.old self.new) }
+        ensures types { OnOk result (length self.new.sample_type
+            ≡ length self.old.sample_type + 1) }
+        ensures texts { length self.old.text ≤ length self.new.text }
+        ensures none { self.new.sample ≡ [] }
+    {
+        let kind = self.text(kind)?;
+        let unit = self.text(unit)?;
+        self.sample_type(kind, unit)
     }
 
     /// How many values a sample has.
@@ -190,6 +206,31 @@ impl Builder {
         let table = &mut self.profile.location;
         let number = put_once(&mut self.seen.locations, table, key, location)?;
         Ok(LocationId { number })
+    }
+
+    /// The location of this line of a function, by the function's name and file: in no mapping, and at no known address.
+    /// On want of memory the texts and the function may have been added.
+    pub fn frame(&mut self, name: &[u8], file: &[u8], line: i64) -> Result<LocationId, Memory>
+        ensures id { IfOk result (λ id. id.number ≡ frame_number self.old name.now file.now line) }
+        ensures new { OnOk result (self.new ≡ with_frame self.old name.now file.now line) }
+        ensures err { OnErr result (HasMoreNames self.old self.new) }
+        ensures within { IfOk result (λ id. IdIn (length self.new.location) id.number) }
+        ensures grows { Grows self.old self.new }
+        ensures stands { IfOk result (λ id. written_at self.new id.number
+            ≡ bare_frame name.now file.now line ∷ []) }
+        ensures said { said_samples self.new ≡ said_samples self.old }
+    {
+        // In what is built no mapping has the id 0, and text 0 is empty.
+        let _built = &self.profile;
+        let name = self.text(name)?;
+        let file = self.text(file)?;
+        let function = self.function(name, name, file, 0)?;
+        let place = SourceLine {
+            function,
+            line,
+            column: 0,
+        };
+        self.location(MappingId { number: 0 }, 0, &[place])
     }
 
     /// The sample of this stack, the leaf's location first, with one value per sample type.

@@ -1,87 +1,80 @@
-//! The program `pp_example`: a server's allocations of two hours. They are recorded, written to files, read back,
-//! labelled and merged, and shown as a table of its own and as the report top. The server is made up.
+//! Allocations of a made-up server: recorded, written to files, read back, merged, and shown in two ways.
 #![tactic(auto)]
 
-ghost use Rattle.std.specs.Prelude.{◌≡◌, ◌<◌, ◌≤◌, ◌^◌, IfOk, length};
-ghost use Rattle.std.specs.List.{AllByRecursion, sum_by};
-
-mod recording;
-mod showing;
+ghost use Rattle.std.specs.Prelude.{IfOk};
+ghost use Rattle.pp_model.specs.Sizes.{HasAtMost};
+ghost use Rattle.pp_graph.specs.KeyRows.{CanShow};
 
 use anyhow::{Result, ensure};
-use pp_base::{FileRead, FileWrite, Files, List, Text, write_all};
-use pp_check::check;
-use pp_edit::{is_countable, set_label};
-use pp_merge::merge;
-use pp_model::{Compact, Loaded, Valid};
-use pp_real::{Output, RealFiles};
-use pp_tables::{read_profile, write_profile};
-use recording::record_hour;
-use showing::show;
+use pp_base::{List, Memory, OpenGate, Text};
+use pp_model::{Config, Loaded, Valid};
 use std::alloc::Global;
-use std::thread::Threads;
-
-/// The most bytes that a profile's file may have: 16 MiB.
-const LIMIT: u64 = 16_777_216;
+use std::io::Write;
 
 fn main(rt: HostRuntime) -> Result<()> {
     let alloc = rt.alloc();
-    let both = merge(alloc, hours(alloc, &mut RealFiles::new(&rt))?)?;
-    let text = show_countable(&rt, alloc, both)?;
-    write_all(&mut Output::new(rt.stdout()), text.as_slice())?;
-    Ok(())
-}
-
-// Shows the profile, which has no patterns of its own, if it can be counted.
-fn show_countable<R: Threads + Sync>(rt: &R, alloc: Global, profile: Compact) -> Result<Text> {
-    ensure!(is_countable(profile.get()), "too large to be counted");
+    let mut hours = List::new(alloc);
+    hours.push(through_file(&rt, "hour-1.pb", &record(alloc, 300)?)?)?;
+    hours.push(through_file(&rt, "hour-2.pb", &record(alloc, 500)?)?)?;
     let l = Loaded {
-        profile,
+        profile: pp_merge::merge(alloc, hours)?,
         drop: None,
         keep: None,
     };
-    show(rt, alloc, &l)
+    let p = l.profile.get();
+    ensure!(pp_edit::is_countable(p), "too large to be counted");
+    let config = Config::standard(alloc)?;
+    let column = pp_count::column_of(&l, &config)?;
+    let verdicts = pp_edit::no_verdicts(alloc);
+    let counted = pp_count::count(&rt, alloc, &l, &verdicts, &config, column, &OpenGate)?;
+    let ranked = pp_graph::rank(alloc, &l, &counted, &config, 0)?;
+    let text = show(alloc, &l, &counted, &ranked)?;
+    Ok(rt.stdout().write_all(text.as_slice())?)
 }
 
-// Two hours, each through a file of its own, and labelled.
-fn hours<F: Files>(alloc: Global, files: &mut F) -> Result<List<Valid>>
-    ensures some { IfOk result (λ hours. length hours ≡ 2) }
-    ensures columns { IfOk result (AllByRecursion (λ p. length p.sample_type < 2 ^ 32)) }
-    ensures samples { IfOk result (λ hours. sum_by (λ p. length p.sample) hours < 2 ^ 32) }
-{
-    let first = through_file(alloc, files, b"hour-1.pb", &record_hour(alloc, 300)?)?;
-    let second = through_file(alloc, files, b"hour-2.pb", &record_hour(alloc, 500)?)?;
-    let mut hours = List::new(alloc);
-    hours.push(set_label(alloc, first, b"hour", b"1")?)?;
-    hours.push(set_label(alloc, second, b"hour", b"2")?)?;
-    Ok(hours)
+// The allocations of an hour with so many requests.
+fn record(alloc: Global, requests: u32) -> Result<Valid, Memory> {
+    let mut b = pp_build::Builder::new(alloc)?;
+    b.column(b"alloc_space", b"bytes")?;
+    let main = b.frame(b"main.main", b"main.go", 12)?;
+    let serve = b.frame(b"server.serve", b"server.go", 40)?;
+    let parse = b.frame(b"json.parse", b"parse.go", 7)?;
+    b.sample(&[serve, main], &[i64::from(requests) * 1024], &[])?;
+    b.sample(&[parse, serve, main], &[i64::from(requests) * 4096], &[])?;
+    Ok(b.finish())
 }
 
 // The profile, written to the file and read back.
-fn through_file<F: Files>(alloc: Global, files: &mut F, name: &[u8], hour: &Valid) -> Result<Valid>
-    ensures columns { IfOk result (λ read. length read.sample_type ≤ LIMIT) }
-    ensures samples { IfOk result (λ read. length read.sample ≤ LIMIT) }
+fn through_file(rt: &HostRuntime, path: &str, hour: &Valid) -> Result<Valid>
+    ensures { IfOk result (HasAtMost 16777216) }
 {
-    let path = Text::from_slice(alloc, name)?;
-    write_hour(alloc, files, &path, hour)?;
-    read_hour(alloc, files, &path)
+    let written = pp_tables::write_profile(rt.alloc(), hour)?;
+    std::fs::write(rt, path, written.as_slice())?;
+    let bytes = std::fs::read(rt, path)?;
+    ensure!(bytes.len() <= 16_777_216, "{path} has more than 16 MiB");
+    let profile = pp_tables::read_profile(rt.alloc(), &bytes)?;
+    Ok(pp_check::check(rt.alloc(), profile)?)
 }
 
-fn write_hour<F: Files>(alloc: Global, files: &mut F, path: &Text, hour: &Valid) -> Result<()> {
-    let bytes = write_profile(alloc, hour)?;
-    let answer = files.write(path, bytes.as_slice());
-    ensure!(answer == FileWrite::Written, "a file can't be written");
-    Ok(())
-}
-
-fn read_hour<F: Files>(alloc: Global, files: &mut F, path: &Text) -> Result<Valid>
-    ensures columns { IfOk result (λ read. length read.sample_type ≤ LIMIT) }
-    ensures samples { IfOk result (λ read. length read.sample ≤ LIMIT) }
+// A line for each function, and the report.
+fn show(alloc: Global, l: &Loaded, c: &pp_count::Counted, r: &pp_graph::Ranked) -> Result<Text>
+    requires { CanShow l.now.profile c.now.sums r.now.order }
 {
-    let mut bytes = Text::new(alloc);
-    let answer = files.read(path, &mut bytes, LIMIT);
-    ensure!(answer == FileRead::Read, "a file can't be read");
-    let profile = read_profile(alloc, bytes.as_slice())?;
-    let hour = check(alloc, profile)?;
-    Ok(hour)
+    let mut text = Text::from_slice(alloc, b"own bytes  with callees  function")?;
+    for number in r.order.as_slice() {
+        let own = c.sums.flat.as_slice()[*number as usize];
+        let cum = c.sums.cum.as_slice()[*number as usize];
+        text.extend(format!(in alloc; "\n{own:>9}  {cum:>12}  ")?.as_bytes())?;
+        pp_grain::write_name(l, &c.sums.names.key(*number), &mut text)?;
+    }
+    text.extend(b"\n\n")?;
+    let head = pp_units::Head {
+        file: Text::from_slice(alloc, b"server")?,
+        kind: Text::from_slice(alloc, b"alloc_space")?,
+        duration: 0,
+        total: c.total,
+        unit: pp_units::pick_unit(alloc, c.total, b"bytes")?,
+    };
+    pp_top::write_top(alloc, l, c, r, &head, &mut text)?;
+    Ok(text)
 }

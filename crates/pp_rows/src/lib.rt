@@ -12,6 +12,8 @@ mod figures;
 #[cfg(test)]
 mod fixtures;
 #[cfg(test)]
+mod labels;
+#[cfg(test)]
 mod lanes;
 #[cfg(test)]
 mod laws;

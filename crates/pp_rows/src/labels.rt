@@ -1,0 +1,40 @@
+// Labels that a builder is given, and labels that are set on all samples of a profile.
+
+use pp_base::Memory;
+use pp_build::{Builder, LabelValue, SampleLabel};
+use pp_edit::{has_label, set_label};
+use pp_model::{Profile, Valid};
+use std::alloc::Global;
+use std::test::Fail;
+
+#[test]
+fn samples_have_the_hour(rt: HostRuntime) -> Result<(), Fail> {
+    let alloc = rt.alloc();
+    let hour = allocations(alloc)?;
+    let hour = set_label(alloc, hour, b"hour", b"2")?;
+    assert_eq!(rt; samples_of(hour.get(), b"2"), 2);
+    assert_eq!(rt; samples_of(hour.get(), b"1"), 0);
+    Ok(())
+}
+
+// Two samples of a stack, one of them with a number label.
+fn allocations(alloc: Global) -> Result<Valid, Memory> {
+    let mut b = Builder::new(alloc)?;
+    b.column(b"alloc_space", b"bytes")?;
+    let parse = b.frame(b"json.parse", b"parse.go", 7)?;
+    let bytes = b.text(b"bytes")?;
+    let block = SampleLabel {
+        key: bytes,
+        value: LabelValue::Number(4096, bytes),
+    };
+    b.sample(&[parse], &[4096], &[block])?;
+    b.sample(&[parse], &[1024], &[])?;
+    Ok(b.finish())
+}
+
+// How many samples have the label of the hour.
+fn samples_of(p: &Profile, hour: &[u8]) -> usize {
+    let samples = p.sample.as_slice().iter();
+    let own = samples.filter(|sample| has_label(p, sample, b"hour", hour));
+    own.count()
+}
