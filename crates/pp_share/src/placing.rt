@@ -20,7 +20,8 @@ pub fn place_samples(
     ensures locations { OnOk result (locations.new
         ≡ met_after locations.old (flat_map location_refs samples.old)) }
     ensures texts { OnOk result (texts.new ≡ met_after texts.old (flat_map sample_text_ids samples.old)) }
-    ensures placed { OnOk result ((more : List ℕ) → IsPlaced (λ texts. map (placed_sample (met_after locations.new more) texts))
+    ensures placed { OnOk result ((more : List ℕ)
+        → IsPlaced (λ texts. map (placed_sample (met_after locations.new more) texts))
         texts.new samples.old samples.new) }
 {
     for index in 0..samples.len() {
