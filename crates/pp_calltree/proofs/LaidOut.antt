@@ -1,5 +1,5 @@
 -- Branches are laid out in the order of the call tree.
-use Rattle.std.proofs.Common.{◌≡◌, ℕ, zero, suc, ◌+◌, ◌-◌, ◌<◌, ◌≤◌, ◌||◌, nat_eq, nat_abs, List, [], ◌∷◌, ◌++◌, length, map, reverse, get_or, All, refl, sym, ap, subst, ◌∙◌, append_assoc, arith}
+use Rattle.std.proofs.Common.{◌≡◌, ℕ, zero, suc, ◌+◌, ◌-◌, ◌<◌, ◌≤◌, ◌||◌, nat_eq, nat_abs, List, [], ◌∷◌, ◌++◌, length, map, reverse, get_or, All, Some, refl, sym, ap, subst, ◌∙◌, append_assoc, arith}
 use Rattle.std.specs.Prelude.{flat_map}
 use Rattle.std.specs.List.{list_any, sum_by}
 use Rattle.std.proofs.lemmas.List.Sums.{sum_by-cons, sum_by-append, sum_by_push}
@@ -10,7 +10,7 @@ use Rattle.std.proofs.lemmas.Bool.{false≢true, eq-eqb}
 use Rattle.std.proofs.lemmas.Grind.{flat_map-append, reverse_onto}
 use Rattle.std.proofs.lemmas.List.{reverse-append, reverse-reverse, append-nil, map-append}
 use Rattle.std.proofs.lemmas.List.Concat.{flat_map-cons}
-use Rattle.std.proofs.lemmas.List.Elements.{All-nil, All-cons, All-head, All-tail, All-append, All-push}
+use Rattle.std.proofs.lemmas.List.Elements.{All-nil, All-head, All-tail, All-append, All-pop, All-push}
 use Rattle.pp_model.specs.declared.profile.Profile.{Profile}
 use Rattle.pp_model.specs.FrameTexts.{Written}
 use Rattle.pp_grain.specs.declared.key.Key.{Key}
@@ -217,7 +217,7 @@ laying_more p names most samples nodes new_nodes before new b node so_far more r
           ∙ ap (λ r. front ++ r) (sym (ap (flat_map whole) old_turned ∙ flat_map-cons whole b (reverse before)))
           ∙ so_far.rows;
       layable = subst (All (IsLayable names most)) (sym wait.added)
-          (All-append (IsLayable names most) before (reverse wait.branches) (fronts before so_far.layable) (all_reversed (IsLayable names most) wait.branches wait.layable));
+          (All-append (IsLayable names most) before (reverse wait.branches) ((All-pop (IsLayable names most) (before ++ b ∷ []) before (Some b) refl so_far.layable).0) (all_reversed (IsLayable names most) wait.branches wait.layable));
       keys = subst (All (λ (n : PathNode). IsKeyOf p n.key)) (sym more) (All-push (λ (n : PathNode). IsKeyOf p n.key) nodes node so_far.keys key);
       sizes = omega (
         arith,
@@ -230,15 +230,11 @@ laying_more p names most samples nodes new_nodes before new b node so_far more r
         ap (sum_by (λ (x : Branch). absolute (branch_samples x))) wait.added ∙ sum_by-append (λ (x : Branch). absolute (branch_samples x)) before (reverse wait.branches),
         sum_by-IsPermutation (λ (x : Branch). absolute (branch_samples x)) wait.branches (reverse wait.branches) (IsPermutation-reverse wait.branches),
       );
-    } where
-      fronts : (xs : List Branch) → All (IsLayable names most) (xs ++ b ∷ []) → All (IsLayable names most) xs
-      fronts [] all = All-nil (IsLayable names most)
-      fronts (x ∷ xs) all = All-cons (IsLayable names most) x xs (All-head (IsLayable names most) x (xs ++ b ∷ []) all) (fronts xs (All-tail (IsLayable names most) x (xs ++ b ∷ []) all))
+    }
 
 -- the branch that was popped
 pub last_layable : (names : List Key) (most : ℕ) (before : List Branch) (b : Branch) → All (IsLayable names most) (before ++ b ∷ []) → IsLayable names most b
-last_layable names most [] b all = All-head (IsLayable names most) b [] all
-last_layable names most (x ∷ xs) b all = last_layable names most xs b (All-tail (IsLayable names most) x (xs ++ b ∷ []) all)
+last_layable names most before b all = (All-pop (IsLayable names most) (before ++ b ∷ []) before (Some b) refl all).1
 
 -- the branches of all samples wait
 pub laying_start : (p : Profile) (names : List Key) (most : ℕ) (samples : List (Seen ℕ)) (nodes : List PathNode) (new : List Branch)

@@ -1,12 +1,12 @@
 -- The paths of a call tree, listed branch by branch.
-use Rattle.std.proofs.Common.{◌≡◌, ℕ, zero, suc, ◌+◌, ◌-◌, ◌<◌, ◌≤◌, Bool, true, false, cond, not, ℤ, pos, List, [], ◌∷◌, ◌++◌, length, take, drop, map, reverse, get_or, All, refl, sym, ap, subst, ◌∙◌, append_assoc, arith}
+use Rattle.std.proofs.Common.{◌≡◌, ℕ, ◌+◌, ◌-◌, ◌<◌, ◌≤◌, Bool, true, false, cond, not, ℤ, pos, List, [], ◌∷◌, ◌++◌, length, take, drop, map, reverse, get_or, All, Some, refl, sym, ap, subst, ◌∙◌, append_assoc, arith}
 use Rattle.std.specs.Prelude.{flat_map}
 use Rattle.std.specs.List.{filter, sum_by}
 use Rattle.std.specs.Ordering.{int_eq}
 use Rattle.std.proofs.lemmas.Grind.{flat_map-append}
 use Rattle.std.proofs.lemmas.List.{append-nil, length-map, map-append, reverse-append, reverse-reverse, take-append-drop}
 use Rattle.std.proofs.lemmas.List.Concat.{flat_map-cons}
-use Rattle.std.proofs.lemmas.List.Elements.{All-nil, All-cons, All-head, All-tail, All-append, All-take, All-weaker, filter-append}
+use Rattle.std.proofs.lemmas.List.Elements.{All-nil, All-cons, All-head, All-append, All-pop, filter-append}
 use Rattle.std.proofs.lemmas.List.Sorted.{sum_by-IsPermutation, IsPermutation-reverse}
 use Rattle.std.proofs.lemmas.List.Sums.{sum_by-append, sum_by_push}
 use Rattle.pp_model.specs.declared.profile.Profile.{Profile}
@@ -34,18 +34,6 @@ all_unless P path here = elim (int_eq path.sum (pos 0)) as (λ b. All P (cond b 
   | true ↦ All-nil P
   | false ↦ All-cons P path [] here (All-nil P)
 ]
-
--- the first of all but the last
-fronts : (P : Branch → Type 0) (xs : List Branch) (b : Branch) → All P (xs ++ b ∷ []) → All P xs
-fronts P xs b all = λ i d here. by xs i d here all where
-  by : (ys : List Branch) (i : ℕ) (d : Branch) → i < length ys → All P (ys ++ b ∷ []) → P (get_or ys i d)
-  by [] i d here all = absurd (omega (arith, here))
-  by (y ∷ ys) zero d here all = All-head P y (ys ++ b ∷ []) all
-  by (y ∷ ys) (suc i) d here all = by ys i d (omega (arith, here)) (All-tail P y (ys ++ b ∷ []) all)
-
-last : (P : Branch → Type 0) (xs : List Branch) (b : Branch) → All P (xs ++ b ∷ []) → P b
-last P [] b all = All-head P b [] all
-last P (x ∷ xs) b all = last P xs b (All-tail P x (xs ++ b ∷ []) all)
 
 module _ (p : Profile) (names : List Key) (most : ℕ) where
   abbrev write : PathSum → CallPath Written
@@ -173,19 +161,19 @@ module _ (p : Profile) (names : List Key) (most : ℕ) where
               ∙ ap (λ r. front ++ summed r) (sym (reverse-append old (b ∷ [])))
               ∙ so_far.are;
           layable = subst (All (IsLayable names most)) (sym pass.added)
-              (All-append (IsLayable names most) old (reverse pass.branches) (fronts (IsLayable names most) old b so_far.layable)
+              (All-append (IsLayable names most) old (reverse pass.branches) (All-pop (IsLayable names most) (old ++ b ∷ []) old (Some b) refl so_far.layable).0
               (all_reversed (IsLayable names most) pass.branches pass.layable));
           trailed = subst (All (IsTrailed (length names))) (sym pass.added)
-              (All-append (IsTrailed (length names)) old (reverse pass.branches) (fronts (IsTrailed (length names)) old b so_far.trailed)
+              (All-append (IsTrailed (length names)) old (reverse pass.branches) (All-pop (IsTrailed (length names)) (old ++ b ∷ []) old (Some b) refl so_far.trailed).0
               (all_reversed (IsTrailed (length names)) pass.branches pass.trailed));
           below = subst (All (HasNumbersBelow (length names))) (sym pass.lists) (All-append (HasNumbersBelow (length names)) before pass.listed so_far.below pass.below);
         }
 
     pub next_layable : (b : Branch) (old : List Branch) (before : List PathSum) → Listing p names most samples before (old ++ b ∷ []) → IsLayable names most b
-    next_layable b old before so_far = last (IsLayable names most) old b so_far.layable
+    next_layable b old before so_far = (All-pop (IsLayable names most) (old ++ b ∷ []) old (Some b) refl so_far.layable).1
 
     pub next_trailed : (b : Branch) (old : List Branch) (before : List PathSum) → Listing p names most samples before (old ++ b ∷ []) → IsTrailed (length names) b
-    next_trailed b old before so_far = last (IsTrailed (length names)) old b so_far.trailed
+    next_trailed b old before so_far = (All-pop (IsTrailed (length names)) (old ++ b ∷ []) old (Some b) refl so_far.trailed).1
 
     -- no branch waits any more
     pub listing_end : (paths : List PathSum) (waiting : List Branch) → Listing p names most samples paths waiting → waiting ≡ []

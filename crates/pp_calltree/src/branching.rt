@@ -86,11 +86,7 @@ fn add_branch<'p, 'k>(
 }
 
 // The branch of the key, which all these paths have below so many others.
-fn branch_of<'p, 'k>(
-    run: &'p [Path<'k>],
-    depth: usize,
-    key: u32,
-) -> Result<Branch<'p, 'k>, Memory>
+fn branch_of<'p, 'k>(run: &'p [Path<'k>], depth: usize, key: u32) -> Result<Branch<'p, 'k>, Memory>
     requires deep { depth ≤ 2 ^ 32 }
     requires fits { absolute (below (depth + 1) run.now) < 2 ^ 63 }
     ensures { IfOk result (IsBranchOf depth key run.now) }

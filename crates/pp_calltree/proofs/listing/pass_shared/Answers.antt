@@ -1,4 +1,4 @@
-use Rattle.std.proofs.Common.{◌+◌, ◌-◌, ℕ, ap, take, w64, rules, arith}
+use Rattle.std.proofs.Common.{◌+◌, ◌-◌, ap, take, w64, rules, arith}
 use Rattle.std.proofs.lemmas.Int.{to_z-of_z}
 use Rattle.std.proofs.lemmas.Result.{IfOk-weaker}
 use Rattle.pp_calltree.specs.declared.branch.Branch.{Branch}
