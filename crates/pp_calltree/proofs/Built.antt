@@ -1,5 +1,6 @@
 -- From the samples of a profile to the nodes of its call tree.
-use Rattle.std.proofs.Common.{◌≡◌, ℕ, ◌<◌, ◌≤◌, ◌^◌, not, nat_abs, pos, List, [], ◌∷◌, ◌++◌, length, map, reverse, get_or, All, refl, sym, ap, subst, ◌∙◌, arith}
+use Rattle.std.proofs.Common.{◌≡◌, ℕ, ◌<◌, ◌≤◌, ◌^◌, not, nat_abs, pos, List, [], ◌∷◌, ◌++◌, length, map, reverse, get_or, All, Option, refl, sym, ap, subst, ◌∙◌, arith}
+use Rattle.std.specs.List.{filter, sum_by}
 use Rattle.std.specs.Ordering.{int_eq}
 use Rattle.std.proofs.lemmas.Grind.{reverse_onto}
 use Rattle.std.proofs.lemmas.List.{map-append}
@@ -7,12 +8,15 @@ use Rattle.std.proofs.lemmas.List.Elements.{All-map, All-filter}
 use Rattle.std.specs.List.Sorted.{IsPermutation}
 use Rattle.std.proofs.lemmas.List.Sorted.{All-permutation, IsPermutation-map, sum_by-IsPermutation}
 use Rattle.std.proofs.lemmas.List.Sums.{get_or-le-sum_by}
+use Rattle.pp_model.specs.declared.config.Config.{Config}
+use Rattle.pp_model.specs.declared.loaded.Loaded.{Loaded}
+use Rattle.pp_model.specs.declared.verdicts.Verdicts.{Verdicts}
 use Rattle.pp_model.specs.declared.profile.Sample.{Sample}
 use Rattle.pp_model.specs.declared.profile.Profile.{Profile}
 use Rattle.pp_model.specs.Finders.{Finders}
 use Rattle.pp_model.specs.FrameTexts.{Written}
 use Rattle.pp_grain.specs.declared.key.Key.{Key}
-use Rattle.pp_grain.specs.Keys.{key_cmp}
+use Rattle.pp_grain.specs.Keys.{key_cmp, IsKeyOf}
 use Rattle.pp_count.specs.Table.{written_key}
 use Rattle.pp_count.specs.declared.scope.Scope.{Scope}
 use Rattle.pp_count.specs.Sums.{Seen, weighed, renamed}
@@ -20,13 +24,18 @@ use Rattle.pp_count.specs.Parts.{HasBelow}
 use Rattle.pp_count.specs.Seeing.{HoldsFilters}
 use Rattle.pp_count.specs.Scope.{profile_in_scope, config_of, size_of, AreSeen}
 use Rattle.pp_count.proofs.CallerLemmas.{weighed-renamed}
+use Rattle.pp_calltree.specs.declared.building.ReportPaths.{ReportPaths}
+use Rattle.pp_calltree.specs.declared.listing.PathSum.{PathSum}
 use Rattle.pp_calltree.specs.declared.path.Path.{Path}
+use Rattle.pp_calltree.specs.declared.tree.PathNode.{PathNode}
+use Rattle.pp_calltree.specs.CallPaths.{all_paths, has_sum, paths_below, path_written, ArePathsOf, HasKeysOf}
 use Rattle.pp_calltree.specs.CallTree.{any_row, rooted, all_lengths, path_samples, rows_below, tree_rows}
-use Rattle.pp_calltree.specs.Laid.{written_out, HasRoom}
+use Rattle.pp_calltree.specs.Laid.{node_row, written_out, HasRoom}
 use Rattle.pp_calltree.proofs.Gathering.{paths_within}
-use Rattle.pp_calltree.specs.Paths.{below, path_of}
+use Rattle.pp_calltree.specs.Paths.{below, parts_of, path_of, AreGathered, IsScopeOf}
+use Rattle.pp_calltree.specs.Tree.{IsTreeOf}
 use Rattle.pp_calltree.proofs.LaidOut.{all_reversed}
-use Rattle.pp_calltree.proofs.Permuted.{alike_permuted, rows_alike}
+use Rattle.pp_calltree.proofs.Permuted.{alike_permuted, paths_alike, rows_alike}
 
 map-reversed : {J K : Type 0} (f : J → K) (ks : List J) → map f (reverse ks) ≡ reverse (map f ks)
 map-reversed f [] = refl
@@ -40,7 +49,7 @@ rooted-renamed f [] = refl
 rooted-renamed f (s ∷ S) = λ i. record { value = s.value; keys = map-reversed f s.keys i } ∷ rooted-renamed f S i
 
 -- the paths can be laid out
-pub paths_have_room : (scope : Scope) (samples : List Sample) (S : List (Seen ℕ)) → AreSeen scope samples S → size_of scope samples < 2 ^ 63
+paths_have_room : (scope : Scope) (samples : List Sample) (S : List (Seen ℕ)) → AreSeen scope samples S → size_of scope samples < 2 ^ 63
     → HasRoom scope.table.now.names (all_lengths (map rooted (weighed S))) (map rooted (weighed S))
 paths_have_room scope samples S are fits =
     let n : ℕ = length scope.table.now.names in
@@ -53,14 +62,14 @@ paths_have_room scope samples S are fits =
     }
 
 -- written out, they are the paths of the report's samples
-pub paths_written : (scope : Scope) (S : List (Seen ℕ)) (f : Finders) → HoldsFilters scope.l.now scope.v.now (config_of scope) f
+paths_written : (scope : Scope) (S : List (Seen ℕ)) (f : Finders) → HoldsFilters scope.l.now scope.v.now (config_of scope) f
     → AreSeen scope (profile_in_scope scope).sample S
     → written_out (profile_in_scope scope) scope.table.now.names (map rooted (weighed S)) ≡ path_samples (profile_in_scope scope) f (config_of scope) scope.column
 paths_written scope S f holds are =
     rooted-renamed _ (weighed S) ∙ ap (map rooted) (sym (weighed-renamed _ S) ∙ ap weighed (are.are f holds))
 
 -- what can be laid out can be so in any order
-pub sorted_room : (names : List Key) (S R : List (Seen ℕ)) → IsPermutation S R → HasRoom names (all_lengths S) S → HasRoom names (all_lengths R) R
+sorted_room : (names : List Key) (S R : List (Seen ℕ)) → IsPermutation S R → HasRoom names (all_lengths S) S → HasRoom names (all_lengths R) R
 sorted_room names S R moved room =
     let same : all_lengths S ≡ all_lengths R = sym (sum_by-IsPermutation (λ (s : Seen ℕ). length s.keys) S R moved) in
     record {
@@ -70,7 +79,7 @@ sorted_room names S R moved room =
     }
 
 -- and comes to the same nodes
-pub sorted_rows : (p : Profile) (names : List Key) (S R : List (Seen ℕ)) → IsPermutation S R
+sorted_rows : (p : Profile) (names : List Key) (S R : List (Seen ℕ)) → IsPermutation S R
     → tree_rows key_cmp any_row (written_out p names R) ≡ tree_rows key_cmp any_row (written_out p names S)
 sorted_rows p names S R moved =
     let W : List (Seen Written) = written_out p names S in
@@ -79,6 +88,66 @@ sorted_rows p names S R moved =
     sym (rows_alike (all_lengths W) 0 W V (alike_permuted W V written)
     ∙ ap (λ n. rows_below key_cmp any_row n 0 V) (sym (sum_by-IsPermutation (λ (s : Seen Written). length s.keys) W V written)))
 
+-- and to the same paths
+sorted_paths : (p : Profile) (names : List Key) (S R : List (Seen ℕ)) → IsPermutation S R
+    → all_paths key_cmp (written_out p names R) ≡ all_paths key_cmp (written_out p names S)
+sorted_paths p names S R moved =
+    let W : List (Seen Written) = written_out p names S in
+    let V : List (Seen Written) = written_out p names R in
+    let written : IsPermutation W V = IsPermutation-map (renamed (written_key p names)) S R moved in
+    sym (paths_alike (all_lengths W) [] W V (alike_permuted W V written)
+    ∙ ap (λ n. paths_below key_cmp n [] V) (sym (sum_by-IsPermutation (λ (s : Seen Written). length s.keys) W V written)))
+
 -- paths in another order
 pub moved_paths : (S : List (Seen ℕ)) (cut sorted : List Path) → map path_of cut ≡ S → IsPermutation cut sorted → IsPermutation S (below 0 sorted)
 moved_paths S cut sorted is moved = subst (λ (r : List (Seen ℕ)). IsPermutation r (below 0 sorted)) is (IsPermutation-map path_of cut sorted moved)
+
+-- what holds of a scope's own values holds of those that it is of
+of_scope : (P : Loaded → Verdicts → Config → Option ℕ → Type 0) (l : Loaded) (v : Verdicts) (config : Config) (column : Option ℕ) (scope : Scope) → IsScopeOf l v config column scope
+    → P scope.l.now scope.v.now scope.config.now scope.column → P l v config column
+of_scope P l v config column scope same here =
+    subst (λ x. P x v config column) same.l_is (subst (λ x. P scope.l.now x config column) same.v_is
+    (subst (λ x. P scope.l.now scope.v.now x column) same.config_is (subst (λ x. P scope.l.now scope.v.now scope.config.now x) same.column_is here)))
+
+-- The gathered paths in the order of their keys.
+module _ (gathered : ReportPaths) (are : AreGathered gathered) (sorted : List Path)
+    (moved : IsPermutation (parts_of gathered.paths.keys.items gathered.paths.parts.items) (below 0 sorted)) where
+  abbrev scope : Scope
+  scope = gathered.scope
+
+  abbrev p : Profile
+  p = profile_in_scope scope
+
+  abbrev names : List Key
+  names = scope.table.now.names
+
+  abbrev samples : List (Seen ℕ)
+  samples = map rooted (weighed are.paths.seen)
+
+  of_samples : IsPermutation samples (below 0 sorted)
+  of_samples = subst (λ (r : List (Seen ℕ)). IsPermutation r (below 0 sorted)) are.paths.stands.are moved
+
+  pub gathered_room : HasRoom names (all_lengths (below 0 sorted)) (below 0 sorted)
+  gathered_room = sorted_room names samples (below 0 sorted) of_samples (paths_have_room scope p.sample are.paths.seen are.paths.are are.fits)
+
+  -- their paths are those of the report
+  pub sums_are : (list : List PathSum) → map (path_written p names) list ≡ filter has_sum (all_paths key_cmp (written_out p names (below 0 sorted))) → All (HasKeysOf p names) list
+      → (l : Loaded) (v : Verdicts) (config : Config) (column : Option ℕ) → IsScopeOf l v config column scope → ArePathsOf l v config column names list
+  sums_are list listed keys l v config column same =
+      of_scope (λ l v config column. ArePathsOf l v config column names list) l v config column scope same (record {
+        are = λ f holds.
+            listed ∙ ap (filter has_sum) (sorted_paths p names samples (below 0 sorted) of_samples ∙ ap (all_paths key_cmp) (paths_written scope are.paths.seen f holds are.paths.are));
+        keys = keys;
+      })
+
+  -- and their nodes those of its tree
+  pub tree_is : (nodes : List PathNode) → map (node_row p) nodes ≡ tree_rows key_cmp any_row (written_out p names (below 0 sorted)) → All (λ n. IsKeyOf p n.key) nodes
+      → sum_by (λ n. nat_abs n.flat) nodes < 2 ^ 63
+      → (l : Loaded) (v : Verdicts) (config : Config) (column : Option ℕ) → IsScopeOf l v config column scope → IsTreeOf l v config column nodes
+  tree_is nodes laid keys fits l v config column same =
+      of_scope (λ l v config column. IsTreeOf l v config column nodes) l v config column scope same (record {
+        rows = λ f holds.
+            laid ∙ sorted_rows p names samples (below 0 sorted) of_samples ∙ ap (tree_rows key_cmp any_row) (paths_written scope are.paths.seen f holds are.paths.are);
+        keys = keys;
+        fits = fits;
+      })

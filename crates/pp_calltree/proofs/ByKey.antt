@@ -147,7 +147,7 @@ module _ (t : Written → Bool) where
         ∙ (λ i. one_total (gain v (p ∷ path)) p ks distinct (All-head (λ q. list_any (eq q) ks ≡ true) p (first_keys S) all) i
         +ℤ later (All-tail (λ q. list_any (eq q) ks ≡ true) p (first_keys S) all) i)
 
-  flats_where-append : (a b : List (TreeRow Written)) → flats_where t (a ++ b) ≡ flats_where t a +ℤ flats_where t b
+  pub flats_where-append : (a b : List (TreeRow Written)) → flats_where t (a ++ b) ≡ flats_where t a +ℤ flats_where t b
   flats_where-append [] b = omega (arith, ints)
   flats_where-append (r ∷ a) b = omega (arith, ints, flats_where-append a b)
 

@@ -5,11 +5,14 @@ pub mod Sorting
 pub mod Runs
 pub mod FoundRuns
 pub mod RunSums
+pub mod Trails
 pub mod Permuted
 pub mod Naming
 pub mod Under
 pub mod Children
 pub mod LaidOut
+pub mod Alone
+pub mod ListedPaths
 pub mod Built
 pub mod LinkLemmas
 pub mod Summing

@@ -1,5 +1,5 @@
 -- In which order samples stand doesn't matter to the call tree.
-use Rattle.std.proofs.Common.{◌≡◌, ℕ, zero, suc, ◌+◌, Bool, false, cond, ◌||◌, ℤ, pos, ◌+ℤ◌, List, [], ◌∷◌, map, Option, Some, None, refl, sym, ap, ◌∙◌, arith}
+use Rattle.std.proofs.Common.{◌≡◌, ℕ, zero, suc, ◌+◌, Bool, false, cond, ◌||◌, ℤ, pos, ◌+ℤ◌, List, [], ◌∷◌, ◌++◌, map, Option, Some, None, refl, sym, ap, ◌∙◌, arith}
 use Rattle.std.specs.Prelude.{flat_map}
 use Rattle.std.specs.List.{cons_option, filter_map, list_any, sum_by}
 use Rattle.std.specs.List.Sorted.{IsPermutation}
@@ -19,6 +19,7 @@ use Rattle.pp_grain.specs.Keys.{key_cmp}
 use Rattle.pp_count.specs.Ranks.{by_size, each_once, set_entry}
 use Rattle.pp_count.specs.Sums.{Seen, sum_where}
 use Rattle.pp_count.proofs.EachOnce.{keys-items}
+use Rattle.pp_calltree.specs.CallPaths.{paths_below}
 use Rattle.pp_calltree.specs.CallTree.{any_path, any_row, is_end, first_key, first_keys, below_key, under, path_cum, path_flat, sibling_order, siblings, rows_below}
 use Rattle.pp_calltree.proofs.Children.{order_total, order_same}
 
@@ -98,3 +99,9 @@ rows_alike zero depth S R same = refl
 rows_alike (suc most) depth S R same = λ i.
     flat_map (λ k. record { depth = depth; key = k; flat = flat_alike S R same k i; cum = cum_alike S R same k i }
     ∷ rows_alike most (depth + 1) (under key_cmp k S) (under key_cmp k R) (under_alike S R same k) i) (siblings_alike S R same i)
+
+pub paths_alike : (most : ℕ) (above : List Written) (S R : List (Seen Written)) → AreAlike S R → paths_below key_cmp most above S ≡ paths_below key_cmp most above R
+paths_alike zero above S R same = refl
+paths_alike (suc most) above S R same = λ i.
+    flat_map (λ k. record { keys = above ++ k ∷ []; sum = flat_alike S R same k i }
+    ∷ paths_alike most (above ++ k ∷ []) (under key_cmp k S) (under key_cmp k R) (under_alike S R same k) i) (siblings_alike S R same i)

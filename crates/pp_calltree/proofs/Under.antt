@@ -25,7 +25,7 @@ pub sum_where-renamed : {J K : Type 0} (f : J → K) (P : List K → Bool) (Q : 
 sum_where-renamed f P Q same [] = refl
 sum_where-renamed f P Q same (s ∷ S) = λ i. cond (same s.keys i) s.value (pos 0) +ℤ sum_where-renamed f P Q same S i
 
-is_end-renamed : {J K : Type 0} (f : J → K) (ks : List J) → is_end (map f ks) ≡ is_end ks
+pub is_end-renamed : {J K : Type 0} (f : J → K) (ks : List J) → is_end (map f ks) ≡ is_end ks
 is_end-renamed f [] = refl
 is_end-renamed f (k ∷ ks) = refl
 

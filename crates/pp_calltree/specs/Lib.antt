@@ -1,8 +1,10 @@
 pub mod CallTree
+pub mod CallPaths
 pub mod Paths
 pub mod Branches
 pub mod Siblings
 pub mod Laid
+pub mod Listed
 pub mod Tree
 pub mod Walk
 pub mod Links

@@ -4,7 +4,7 @@ use crate::path::Path;
 
 /// A node of the tree of paths.
 #[derive(Clone, Copy, Debug)]
-pub struct Branch<'a> {
+pub struct Branch<'p, 'k> {
     /// How many keys stand above its own.
     pub depth: u32,
     /// The number of its key.
@@ -14,5 +14,5 @@ pub struct Branch<'a> {
     /// The sum over the paths that go through here.
     pub cum: i64,
     /// The paths that go through here, whole.
-    pub paths: &'a [Path<'a>],
+    pub paths: &'p [Path<'k>],
 }

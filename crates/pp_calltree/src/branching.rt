@@ -4,6 +4,7 @@ ghost use Rattle.pp_count.specs.Sums.{absolute, sum_where};
 ghost use Rattle.pp_calltree.specs.CallTree.{any_path, is_end};
 ghost use Rattle.pp_calltree.specs.Paths.{below, first_run, has_key_below, own_path_value, run_length, IsRising};
 ghost use Rattle.pp_calltree.specs.Branches.{HasBranches, IsBranchOf, IsStep};
+ghost use Rattle.pp_calltree.specs.Listed.{GoOn};
 
 use crate::branch::Branch;
 use crate::path::Path;
@@ -11,15 +12,16 @@ use crate::paths::number;
 use pp_base::Memory;
 
 /// The branches of these sorted paths below so many keys, in the place of what was found before.
-pub fn find_branches<'a>(
-    paths: &'a [Path<'a>],
+pub fn find_branches<'p, 'k>(
+    paths: &'p [Path<'k>],
     depth: usize,
-    found: &mut Vec<Branch<'a>>,
+    found: &mut Vec<Branch<'p, 'k>>,
 ) -> Result<(), Memory>
     requires deep { depth ≤ 2 ^ 32 }
     requires rises { IsRising (below depth paths.now) }
     requires fits { absolute (below depth paths.now) < 2 ^ 63 }
-    ensures { IfOk result (λ _. HasBranches depth paths.now found.new.items) }
+    ensures branches { IfOk result (λ _. HasBranches depth paths.now found.new.items) }
+    ensures go_on { IfOk result (λ _. GoOn depth paths.now found.new.items) }
 {
     found.clear();
     let mut from = 0;
@@ -67,10 +69,10 @@ fn has_key(path: &Path, depth: usize, key: u32) -> bool
 }
 
 // Adds the branch of a run's key, which is that of its first path. Where that has none, there is no branch.
-fn add_branch<'a>(
-    run: &'a [Path<'a>],
+fn add_branch<'p, 'k>(
+    run: &'p [Path<'k>],
     depth: usize,
-    found: &mut Vec<Branch<'a>>,
+    found: &mut Vec<Branch<'p, 'k>>,
 ) -> Result<(), Memory>
     requires some { 0 < length run.now }
     requires deep { depth ≤ 2 ^ 32 }
@@ -84,7 +86,7 @@ fn add_branch<'a>(
 }
 
 // The branch of the key, which all these paths have below so many others.
-fn branch_of<'a>(run: &'a [Path<'a>], depth: usize, key: u32) -> Result<Branch<'a>, Memory>
+fn branch_of<'p, 'k>(run: &'p [Path<'k>], depth: usize, key: u32) -> Result<Branch<'p, 'k>, Memory>
     requires deep { depth ≤ 2 ^ 32 }
     requires fits { absolute (below (depth + 1) run.now) < 2 ^ 63 }
     ensures { IfOk result (IsBranchOf depth key run.now) }

@@ -1,48 +1,95 @@
-//! The call tree of a report's samples.
-ghost use Rattle.std.specs.Prelude.{◌≡◌, ◌<◌, ◌^◌, nat_abs, length, map, All, IfOk};
-ghost use Rattle.std.specs.List.{sum_by};
+//! The call tree of a report's samples, and its paths with sums.
+ghost use Rattle.std.specs.Prelude.{◌≡◌, ℕ, List as Seq, map, Option, IfOk};
+ghost use Rattle.std.specs.List.Sorted.{IsPermutation};
+ghost use Rattle.pp_model.specs.declared.config.Config.{Config as Options};
+ghost use Rattle.pp_model.specs.declared.loaded.Loaded.{Loaded as Read};
+ghost use Rattle.pp_model.specs.declared.verdicts.Verdicts.{Verdicts as Found};
 ghost use Rattle.pp_model.specs.Finders.{Finders};
-ghost use Rattle.pp_grain.specs.Keys.{IsKeyOf};
-ghost use Rattle.pp_count.specs.Seeing.{HoldsFilters, filtered_from};
-ghost use Rattle.pp_count.specs.Scope.{IsSoundScope, size_of};
-ghost use Rattle.pp_calltree.specs.Paths.{IsScopeOf};
-ghost use Rattle.pp_count.specs.Rising.{AreRisingBetween};
+ghost use Rattle.pp_count.specs.Seeing.{HoldsFilters};
+ghost use Rattle.pp_count.specs.Scope.{IsSoundScope};
 ghost use Rattle.pp_count.specs.Counts.{written_names};
 ghost use Rattle.pp_count.specs.Counted.{CanCount, IsCountedOf};
-ghost use Rattle.pp_calltree.specs.CallTree.{tree_nodes};
-ghost use Rattle.pp_calltree.specs.Laid.{node_row};
+ghost use Rattle.pp_calltree.specs.CallPaths.{ArePathsOf};
 ghost use Rattle.pp_calltree.specs.Links.{nodes_by};
+ghost use Rattle.pp_calltree.specs.Paths.{below, parts_of, AreGathered, IsRising, IsScopeOf};
 ghost use Rattle.pp_calltree.specs.Tree.{IsTreeOf, flats_at};
 ghost use Rattle.pp_calltree.specs.Walk.{IsWalkOf};
 
 use crate::laying::lay_out;
 use crate::linking::{nexts_of, parents_of};
-use crate::path::{cut_paths, sort_paths};
-use crate::paths::gather_paths;
-use crate::tree::{CallTree, NumberedNode, NumberedTree};
+use crate::listing::{PathSum, list_paths};
+use crate::path::{Path, cut_paths, sort_paths};
+use crate::paths::{Paths, gather_paths};
+use crate::tree::{CallTree, NumberedNode};
 use pp_base::{List, Memory};
 use pp_count::{Counted, Scope, Survey};
+use pp_grain::Names;
 use pp_model::{Config, Loaded, Verdicts};
 use std::alloc::Global;
 
-impl<'a> NumberedTree<'a> {
-    /// Makes the nodes of the counted samples that put keys into the report. `Err` is want of memory.
-    ///
-    /// Siblings, and roots, stand by absolute cum falling, then by absolute flat falling, then by the order of keys.
-    pub fn build(alloc: Global, survey: &Survey<'a>) -> Result<NumberedTree<'a>, Memory>
-        ensures { IfOk result (λ t.
-            IsTreeOf survey.now.l.now survey.now.v.now survey.now.config.now survey.now.column
-            (nodes_by t.names.now t.nodes)) }
+/// The paths of the samples that put keys into a report.
+#[derive(Drop)]
+pub struct ReportPaths<'a> {
+    // How the samples are seen.
+    scope: Scope<'a>,
+    paths: Paths,
+}
+
+/// The paths of a call tree whose sums aren't 0.
+#[derive(Drop)]
+pub struct PathSums<'a> {
+    /// The keys, by number.
+    pub names: &'a Names,
+    /// Parents before children.
+    pub paths: Vec<PathSum<'a>>,
+}
+
+impl<'a> ReportPaths<'a> {
+    /// Gathers the paths of the counted samples. `Err` is want of memory.
+    pub fn gather(alloc: Global, survey: &Survey<'a>) -> Result<ReportPaths<'a>, Memory>
+        ensures gathered { IfOk result AreGathered }
+        ensures same { IfOk result (λ r. IsScopeOf survey.now.l.now survey.now.v.now
+            survey.now.config.now survey.now.column r.scope) }
     {
         let scope = scope_of(survey);
-        let nodes = nodes_by(alloc, &scope, survey.counted.kept.as_slice())?;
+        let samples = scope.l.profile.get().sample.as_slice();
+        let paths = gather_paths(alloc, &scope, samples, survey.counted.kept.as_slice())?;
+        Ok(ReportPaths { scope, paths })
+    }
+
+    /// The paths whose sums aren't 0, each once, as the call tree has its nodes: parents before children, and siblings,
+    /// as roots, by absolute cum falling, then by absolute flat falling, then by the order of keys. `Err` is want of
+    /// memory.
+    pub fn sums(&self, alloc: Global) -> Result<PathSums<'_>, Memory>
+        requires { AreGathered self.now }
+        ensures { (l : Read) (v : Found) (config : Options) (column : Option ℕ) →
+            IsScopeOf l v config column self.now.scope →
+            IfOk result (λ r. ArePathsOf l v config column r.names.now r.paths.items) }
+    {
+        let scope = self.scope;
         let names = &scope.table.names;
-        Ok(NumberedTree { names, nodes })
+        let sorted = self.sorted(alloc)?;
+        let paths = list_paths(alloc, scope.l.profile.get(), names, &sorted)?;
+        Ok(PathSums { names, paths })
+    }
+
+    // The paths in the order of their keys.
+    fn sorted(&self, alloc: Global) -> Result<Vec<Path<'_>>, Memory>
+        requires { AreGathered self.now }
+        ensures rises { IfOk result (λ paths. IsRising (below 0 paths.items)) }
+        ensures same { IfOk result (λ paths. IsPermutation
+            (parts_of self.now.paths.keys.items self.now.paths.parts.items) (below 0 paths.items)) }
+    {
+        let mut paths = cut_paths(alloc, &self.paths.keys, &self.paths.parts)?;
+        sort_paths(&mut paths)?;
+        Ok(paths)
     }
 }
 
 impl<'a> CallTree<'a> {
-    /// Builds the tree of the same nodes, with their links. `Err` is want of memory.
+    /// Builds the tree of the counted samples that put keys into the report. `Err` is want of memory.
+    ///
+    /// Siblings, and roots, stand by absolute cum falling, then by absolute flat falling, then by the order of keys.
     pub fn build(
         alloc: Global,
         l: &'a Loaded,
@@ -71,10 +118,9 @@ impl<'a> CallTree<'a> {
             column,
             counted: c,
         };
-        let tree = NumberedTree::build(alloc, &survey)?;
-        let parents = parents_of(alloc, tree.nodes.as_slice())?;
-        let nexts = nexts_of(alloc, tree.nodes.as_slice())?;
-        let NumberedTree { names, nodes } = tree;
+        let (names, nodes) = named_nodes(alloc, &survey)?;
+        let parents = parents_of(alloc, nodes.as_slice())?;
+        let nexts = nexts_of(alloc, nodes.as_slice())?;
         Ok(CallTree {
             names,
             nodes,
@@ -82,6 +128,23 @@ impl<'a> CallTree<'a> {
             nexts,
         })
     }
+}
+
+// The names of the report, and its nodes by the numbers of their keys.
+fn named_nodes<'a>(
+    alloc: Global,
+    survey: &Survey<'a>,
+) -> Result<(&'a Names, List<NumberedNode>), Memory>
+    ensures { IfOk result (λ t.
+        IsTreeOf survey.now.l.now survey.now.v.now survey.now.config.now survey.now.column
+        (nodes_by t.0.now t.1)) }
+{
+    let gathered = ReportPaths::gather(alloc, survey)?;
+    let scope = gathered.scope;
+    let names = &scope.table.names;
+    let sorted = gathered.sorted(alloc)?;
+    let nodes = lay_out(alloc, scope.l.profile.get(), names, &sorted)?;
+    Ok((names, nodes))
 }
 
 // How all samples are seen, each key by its number in the report's table.
@@ -100,30 +163,4 @@ fn scope_of<'a>(survey: &Survey<'a>) -> Scope<'a>
         over: None,
         chosen: None,
     }
-}
-
-// The nodes of the samples with these numbers.
-fn nodes_by(alloc: Global, scope: &Scope, kept: &[u32]) -> Result<List<NumberedNode>, Memory>
-    requires sound { IsSoundScope scope.now }
-    requires fits { size_of scope.now scope.now.l.now.profile.sample < 2 ^ 63 }
-    requires rising { AreRisingBetween 0 (length scope.now.l.now.profile.sample) kept.now }
-    requires kept { (f : Finders) →
-        HoldsFilters scope.now.l.now scope.now.v.now scope.now.config.now f →
-        kept.now ≡ filtered_from scope.now.l.now.profile f scope.now.config.now 0
-        scope.now.l.now.profile.sample }
-    ensures rows { (f : Finders) →
-        HoldsFilters scope.now.l.now scope.now.v.now scope.now.config.now f →
-        IfOk result (λ nodes.
-        map (node_row scope.now.l.now.profile) (nodes_by scope.now.table.now.names nodes)
-        ≡ tree_nodes scope.now.l.now.profile f scope.now.config.now scope.now.column) }
-    ensures keys { IfOk result (λ nodes. All (λ n. IsKeyOf scope.now.l.now.profile n.key)
-        (nodes_by scope.now.table.now.names nodes)) }
-    ensures fits { IfOk result (λ nodes.
-        sum_by (λ n. nat_abs n.flat) (nodes_by scope.now.table.now.names nodes) < 2 ^ 63) }
-{
-    let p = scope.l.profile.get();
-    let gathered = gather_paths(alloc, scope, p.sample.as_slice(), kept)?;
-    let mut paths = cut_paths(alloc, &gathered.keys, &gathered.parts)?;
-    sort_paths(&mut paths)?;
-    lay_out(alloc, p, &scope.table.names, &paths)
 }

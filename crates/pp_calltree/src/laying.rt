@@ -1,20 +1,16 @@
 //! The nodes of a call tree, laid out parents before children.
-ghost use Rattle.std.specs.Prelude.{◌≡◌, ◌≢◌, ℕ, ◌+◌, ◌<◌, ◌≤◌, ◌^◌, nat_abs, List as Seq, map, All, AllPairs, IfOk};
+ghost use Rattle.std.specs.Prelude.{◌≡◌, ◌≢◌, ◌<◌, ◌^◌, nat_abs, map, All, AllPairs, IfOk};
 ghost use Rattle.std.specs.List.{sum_by};
-ghost use Rattle.pp_model.specs.declared.profile.Profile.{Profile as Tables};
 ghost use Rattle.pp_model.specs.Rules.{IsCompact};
-ghost use Rattle.pp_grain.specs.declared.key.Key.{Key};
 ghost use Rattle.pp_grain.specs.Keys.{IsKeyOf, key_cmp};
-ghost use Rattle.pp_count.specs.Sums.{absolute};
 ghost use Rattle.pp_calltree.specs.CallTree.{all_lengths, any_row, tree_rows};
-ghost use Rattle.pp_calltree.specs.Laid.{CanLay, HasRoom, WaitBelow, node_row, written_out};
+ghost use Rattle.pp_calltree.specs.Laid.{HasRoom, node_row, written_out};
 ghost use Rattle.pp_calltree.specs.Links.{nodes_by};
 ghost use Rattle.pp_calltree.specs.Paths.{below, IsRising};
 
 use crate::branch::Branch;
-use crate::branching::find_branches;
 use crate::path::{Path, node_count};
-use crate::siblings::sort_branches;
+use crate::siblings::push_branches;
 use crate::texts::Texts;
 use crate::tree::NumberedNode;
 use pp_base::{List, Memory};
@@ -56,29 +52,6 @@ pub fn lay_out(
         )?;
     }
     Ok(nodes)
-}
-
-// Adds the branches of the paths below so many keys, the last one first. What was found before is written over.
-fn push_branches<'a>(
-    texts: &Texts,
-    paths: &'a [Path<'a>],
-    depth: usize,
-    found: &mut Vec<Branch<'a>>,
-    waiting: &mut Vec<Branch<'a>>,
-) -> Result<(), Memory>
-    requires deep { depth ≤ 2 ^ 32 }
-    requires rises { IsRising (below depth paths.now) }
-    requires fits { absolute (below depth paths.now) < 2 ^ 63 }
-    ensures { (p : Tables) (names : Seq Key) (most left : ℕ) →
-        CanLay p names texts.now → HasRoom names left (below depth paths.now) →
-        most ≡ depth + left → IfOk result (λ _. WaitBelow p names most depth left
-        (below depth paths.now) waiting.old.items waiting.new.items) }
-{
-    find_branches(paths, depth, found)?;
-    sort_branches(texts, found)?;
-    found.reverse();
-    waiting.append(found)?;
-    Ok(())
 }
 
 fn node_of(branch: &Branch) -> NumberedNode

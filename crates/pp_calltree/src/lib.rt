@@ -6,6 +6,7 @@ mod branching;
 mod building;
 mod laying;
 mod linking;
+mod listing;
 mod path;
 mod paths;
 mod shown;
@@ -14,5 +15,7 @@ mod texts;
 mod tree;
 mod writing;
 
-pub use tree::{CallTree, NumberedNode, NumberedTree, PathNode, key_at};
+pub use building::{PathSums, ReportPaths};
+pub use listing::PathSum;
+pub use tree::{CallTree, PathNode, key_at};
 pub use writing::write_calltree;

@@ -1,16 +1,42 @@
 //! The branches of a node, as siblings stand.
-ghost use Rattle.std.specs.Prelude.{◌≡◌, OnOk};
+ghost use Rattle.std.specs.Prelude.{◌≡◌, ◌<◌, ◌≤◌, ◌^◌, IfOk, OnOk};
 ghost use Rattle.std.specs.List.Sorted.{IsPermutation, IsSorted};
+ghost use Rattle.pp_count.specs.Sums.{absolute};
+ghost use Rattle.pp_calltree.specs.Listed.{AddsBranches};
+ghost use Rattle.pp_calltree.specs.Paths.{below, IsRising};
 ghost use Rattle.pp_calltree.specs.Siblings.{branch_cmp};
 
 use crate::branch::Branch;
+use crate::branching::find_branches;
+use crate::path::Path;
 use crate::texts::Texts;
 use pp_base::Memory;
 use pp_grain::texts_order;
 use std::cmp::Ordering;
 
-/// Sorts the branches by absolute cum falling, then by absolute flat falling, then by the order of their keys.
-pub fn sort_branches(texts: &Texts, list: &mut Vec<Branch>) -> Result<(), Memory>
+/// Adds the branches of the paths below so many keys, the last one first. What was found before is written over.
+pub fn push_branches<'p, 'k>(
+    texts: &Texts,
+    paths: &'p [Path<'k>],
+    depth: usize,
+    found: &mut Vec<Branch<'p, 'k>>,
+    waiting: &mut Vec<Branch<'p, 'k>>,
+) -> Result<(), Memory>
+    requires deep { depth ≤ 2 ^ 32 }
+    requires rises { IsRising (below depth paths.now) }
+    requires fits { absolute (below depth paths.now) < 2 ^ 63 }
+    ensures { IfOk result (λ _.
+        AddsBranches texts.now depth paths.now waiting.old.items waiting.new.items) }
+{
+    find_branches(paths, depth, found)?;
+    sort_branches(texts, found)?;
+    found.reverse();
+    waiting.append(found)?;
+    Ok(())
+}
+
+// Sorts the branches by absolute cum falling, then by absolute flat falling, then by the order of their keys.
+fn sort_branches(texts: &Texts, list: &mut Vec<Branch>) -> Result<(), Memory>
     ensures sorted { OnOk result (IsSorted (branch_cmp texts.now) list.new.items) }
     ensures same { IsPermutation list.old.items list.new.items }
 {

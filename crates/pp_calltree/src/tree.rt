@@ -35,15 +35,6 @@ pub struct NumberedNode {
     pub cum: i64,
 }
 
-/// The nodes of a call tree by the numbers of their keys, without links: for what goes over all of them in their order.
-#[derive(Drop)]
-pub struct NumberedTree<'a> {
-    /// The keys, by number.
-    pub names: &'a Names,
-    /// Parents before children.
-    pub nodes: List<NumberedNode>,
-}
-
 /// The call tree of a report. Contracts see the list of its nodes, parents before children.
 #[derive(Drop)]
 pub struct CallTree<'a> {

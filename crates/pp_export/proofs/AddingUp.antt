@@ -1,31 +1,30 @@
 -- What the lines of the folded report add up to.
-use Rattle.std.proofs.Common.{◌≡◌, ℕ, Bool, true, false, cond, not, ℤ, pos, ◌+ℤ◌, List, [], ◌∷◌, ◌++◌, length, map, take, reverse, Option, refl, sym, ap, ◌∙◌, arith}
-use Rattle.std.specs.List.{filter}
+use Rattle.std.proofs.Common.{◌≡◌, ℕ, zero, suc, ◌+◌, Bool, true, false, cond, not, ℤ, pos, ◌+ℤ◌, List, [], ◌∷◌, ◌++◌, length, map, take, reverse, Option, refl, sym, ap, ◌∙◌, arith}
+use Rattle.std.specs.List.{filter, flat_map}
 use Rattle.std.specs.Ordering.{int_eq, eq_by_cmp}
 use Rattle.std.proofs.lemmas.Bool.Decides.{Decides-int_eq}
 use Rattle.std.proofs.lemmas.Int.{ints}
 use Rattle.std.proofs.lemmas.List.{reverse-append}
+use Rattle.std.proofs.lemmas.List.Concat.{flat_map-cons}
 use Rattle.pp_model.specs.declared.config.Config.{Config}
 use Rattle.pp_model.specs.declared.profile.Profile.{Profile}
 use Rattle.pp_model.specs.Finders.{Finders}
 use Rattle.pp_model.specs.FrameTexts.{Written}
 use Rattle.pp_grain.specs.Keys.{key_cmp}
-use Rattle.pp_calltree.specs.CallTree.{TreeRow, any_row, is_end, path_samples, tree_rows}
+use Rattle.pp_calltree.specs.CallPaths.{CallPath, has_sum, path_by, paths_below, report_paths}
+use Rattle.pp_calltree.specs.CallTree.{TreeRow, all_lengths, any_row, is_end, path_flat, path_samples, row_of, rows_below, siblings, under}
 use Rattle.pp_count.specs.Counted.{report_samples}
 use Rattle.pp_count.specs.Seeing.{seen_samples}
 use Rattle.pp_count.specs.Sums.{Seen, flat, leads, sum_where, weighed}
 use Rattle.pp_graph.specs.Trimmed.{int_sum}
-use Rattle.pp_export.specs.Folded.{Path, has_sum, report_paths, all_paths}
 use Rattle.pp_export.specs.Laws.{has_names, printed_paths, paths_sum, ends_with, LinesAddUp, LinesOfKeysAddUp}
-use Rattle.pp_export.specs.Walked.{keys_to, path_to, paths_along}
-use Rattle.pp_calltree.proofs.ByKey.{first_passes, flats_where, flats_add_up, sum_where-same}
-use Rattle.pp_export.proofs.Paths.{paths_are}
+use Rattle.pp_calltree.proofs.ByKey.{first_passes, flats_where, flats_where-append, flats_add_up, sum_where-same}
 
 no_sum : (z : ℤ) → int_eq z (pos 0) ≡ true → z ≡ pos 0
 no_sum z none = (Decides-int_eq z (pos 0)).0 none
 
 -- the sum of the paths that pass a test
-abbrev sum_if : (Path Written → Bool) → List (Path Written) → ℤ
+abbrev sum_if : (CallPath Written → Bool) → List (CallPath Written) → ℤ
 sum_if t [] = pos 0
 sum_if t (path ∷ paths) = cond (t path) path.sum (pos 0) +ℤ sum_if t paths
 
@@ -33,7 +32,7 @@ nothing_more : (passes : Bool) (sum rest : ℤ) → sum ≡ pos 0 → rest ≡ c
 nothing_more true sum rest none = omega (arith, ints, none)
 nothing_more false sum rest none = omega (arith, ints)
 
-module _ (t : Path Written → Bool) (path : Path Written) (paths : List (Path Written)) (rest : ℤ) (is : paths_sum (filter t paths) ≡ rest) where
+module _ (t : CallPath Written → Bool) (path : CallPath Written) (paths : List (CallPath Written)) (rest : ℤ) (is : paths_sum (filter t paths) ≡ rest) where
   -- one path more
   one_more : (none : Bool) → (none ≡ true → path.sum ≡ pos 0) → paths_sum (filter t (cond (not none) (path ∷ paths) paths)) ≡ cond (t path) path.sum (pos 0) +ℤ rest
   one_more true zero = is ∙ nothing_more (t path) path.sum rest (zero refl)
@@ -43,26 +42,38 @@ module _ (t : Path Written → Bool) (path : Path Written) (paths : List (Path W
   ]
 
 -- paths without a sum add nothing
-printed_sum : (t : Path Written → Bool) (paths : List (Path Written)) → paths_sum (filter t (filter has_sum paths)) ≡ sum_if t paths
+printed_sum : (t : CallPath Written → Bool) (paths : List (CallPath Written)) → paths_sum (filter t (filter has_sum paths)) ≡ sum_if t paths
 printed_sum t [] = refl
 printed_sum t (path ∷ paths) =
     one_more t path (filter has_sum paths) (sum_if t paths) (printed_sum t paths) (int_eq path.sum (pos 0)) (no_sum path.sum)
 
--- the same of the paths of nodes, by their last keys
-along_sum : (t : Written → Bool) (of_path : Path Written → Bool) → ((keys : List Written) (k : Written) (sum : ℤ) → of_path (record { keys = keys ++ k ∷ []; sum = sum }) ≡ t k)
-    → (before : List Written) (rows : List (TreeRow Written)) → sum_if of_path (paths_along before rows) ≡ flats_where t rows
-along_sum t of_path last before [] = refl
-along_sum t of_path last before (row ∷ rows) =
-    λ i. cond (last (take row.depth before) row.key row.flat i) row.flat (pos 0) +ℤ along_sum t of_path last (keys_to before row) rows i
+-- The same of the paths of a call tree by their last keys, which are those of its nodes.
+module _ (t : Written → Bool) (of_path : CallPath Written → Bool) (last : (keys : List Written) (k : Written) (sum : ℤ) → of_path (record { keys = keys ++ k ∷ []; sum = sum }) ≡ t k) where
+  sum_if-append : (a b : List (CallPath Written)) → sum_if of_path (a ++ b) ≡ sum_if of_path a +ℤ sum_if of_path b
+  sum_if-append [] b = omega (arith, ints)
+  sum_if-append (path ∷ a) b = omega (arith, ints, sum_if-append a b)
 
-report_sum : (t : Written → Bool) (of_path : Path Written → Bool) → ((keys : List Written) (k : Written) (sum : ℤ) → of_path (record { keys = keys ++ k ∷ []; sum = sum }) ≡ t k)
-    → (p : Profile) (f : Finders) (config : Config) (column : Option ℕ)
-    → paths_sum (filter of_path (printed_paths p f config column)) ≡ sum_where (first_passes t) (report_samples p f config column)
-report_sum t of_path last p f config column =
-    printed_sum of_path (report_paths p f config column)
-    ∙ ap (sum_if of_path) (sym (paths_are key_cmp (path_samples p f config column)))
-    ∙ along_sum t of_path last [] (tree_rows key_cmp any_row (path_samples p f config column))
-    ∙ flats_add_up t (report_samples p f config column)
+  keys_sum : (F : Written → List (CallPath Written)) (G : Written → List (TreeRow Written)) → ((k : Written) → sum_if of_path (F k) ≡ flats_where t (G k))
+      → (ks : List Written) → sum_if of_path (flat_map F ks) ≡ flats_where t (flat_map G ks)
+  keys_sum F G same [] = refl
+  keys_sum F G same (k ∷ ks) =
+      ap (sum_if of_path) (flat_map-cons F k ks) ∙ sum_if-append (F k) (flat_map F ks) ∙ (λ i. same k i +ℤ keys_sum F G same ks i)
+      ∙ sym (ap (flats_where t) (flat_map-cons G k ks) ∙ flats_where-append t (G k) (flat_map G ks))
+
+  tree_sum : (most depth : ℕ) (above : List Written) (samples : List (Seen Written))
+      → sum_if of_path (paths_below key_cmp most above samples) ≡ flats_where t (rows_below key_cmp any_row most depth samples)
+  tree_sum zero depth above samples = refl
+  tree_sum (suc most) depth above samples =
+      keys_sum (λ k. path_by key_cmp above samples k ∷ paths_below key_cmp most (above ++ k ∷ []) (under key_cmp k samples))
+      (λ k. row_of key_cmp depth samples k ∷ rows_below key_cmp any_row most (depth + 1) (under key_cmp k samples))
+      (λ k i. cond (last above k (path_flat key_cmp samples k) i) (path_flat key_cmp samples k) (pos 0) +ℤ tree_sum most (depth + 1) (above ++ k ∷ []) (under key_cmp k samples) i)
+      (siblings key_cmp samples)
+
+  report_sum : (p : Profile) (f : Finders) (config : Config) (column : Option ℕ)
+      → paths_sum (filter of_path (printed_paths p f config column)) ≡ sum_where (first_passes t) (report_samples p f config column)
+  report_sum p f config column =
+      let samples : List (Seen Written) = path_samples p f config column in
+      printed_sum of_path (report_paths p f config column) ∙ tree_sum (all_lengths samples) 0 [] samples ∙ flats_add_up t (report_samples p f config column)
 
 filter-all : {X : Type 0} (xs : List X) → filter (λ x. true) xs ≡ xs
 filter-all [] = refl

@@ -1,6 +1,4 @@
 pub mod PathNameLemmas
-pub mod Places
-pub mod Paths
 pub mod Lines
 pub mod Rows
 pub mod AddingUp

@@ -1,11 +1,9 @@
--- The lines of a walk over the nodes of a call tree.
-use Rattle.std.proofs.Common.{◌≡◌, ℕ, ◌+◌, ◌<◌, ◌≤◌, true, false, cond, not, pos, List, [], ◌∷◌, ◌++◌, length, drop, map, get_or, All, Option, Result, Ok, Err, IfOk, refl, sym, ap, subst, ◌∙◌, append_assoc, arith}
-use Rattle.std.specs.List.{filter, flat_map}
-use Rattle.std.specs.Ordering.{int_eq}
-use Rattle.std.proofs.lemmas.Grind.{flat_map-append}
-use Rattle.std.proofs.lemmas.List.{drop_more, drop_all, append-nil, get_or-map, length-map}
+-- The names of a path, and the lines of paths.
+use Rattle.std.proofs.Common.{◌≡◌, ℕ, ◌+◌, ◌-◌, List, [], ◌∷◌, ◌++◌, length, take, map, max, Option, refl, sym, ap, ◌∙◌, arith, append_assoc, length-append}
+use Rattle.std.specs.List.{flat_map, join_with_byte}
+use Rattle.std.proofs.Math.Seq.{take-append_seam, take-append-add}
+use Rattle.std.proofs.lemmas.List.{append-nil}
 use Rattle.std.proofs.lemmas.List.Concat.{flat_map-cons}
-use Rattle.std.proofs.lemmas.List.Elements.{filter-append, All-get_or}
 use Rattle.pp_model.specs.declared.config.Config.{Config}
 use Rattle.pp_model.specs.declared.loaded.Loaded.{Loaded}
 use Rattle.pp_model.specs.declared.profile.Profile.{Profile}
@@ -13,81 +11,57 @@ use Rattle.pp_model.specs.declared.verdicts.Verdicts.{Verdicts}
 use Rattle.pp_model.specs.Finders.{Finders}
 use Rattle.pp_model.specs.FrameTexts.{Written}
 use Rattle.pp_grain.specs.declared.key.Key.{Key}
-use Rattle.pp_grain.specs.Keys.{key_cmp, IsKeyOf}
 use Rattle.pp_count.specs.Seeing.{HoldsFilters}
-use Rattle.pp_calltree.specs.declared.tree.NumberedNode.{NumberedNode}
-use Rattle.pp_calltree.specs.declared.tree.PathNode.{PathNode}
-use Rattle.pp_calltree.specs.CallTree.{TreeRow, path_samples}
-use Rattle.pp_calltree.specs.Laid.{node_row}
-use Rattle.pp_calltree.specs.Links.{node_by, nodes_by}
-use Rattle.pp_calltree.specs.Tree.{IsTreeOf}
-use Rattle.pp_export.specs.declared.path_names.PathNames.{PathNames}
-use Rattle.pp_export.specs.declared.path_names.Place.{Place}
-use Rattle.pp_export.specs.Folded.{Path, has_sum, names_joined, path_line, path_lines, folded_text}
-use Rattle.pp_export.specs.PathNames.{numbered_name, ArePathNames}
-use Rattle.pp_export.specs.Walked.{keys_to, path_to, paths_along, line_unless_zero, LeadsTo, WalkedTo}
-use Rattle.pp_export.proofs.Paths.{paths_are}
+use Rattle.pp_count.specs.Table.{written_key}
+use Rattle.pp_calltree.specs.declared.listing.PathSum.{PathSum}
+use Rattle.pp_calltree.specs.CallPaths.{path_written, ArePathsOf}
+use Rattle.pp_export.specs.Escaped.{semicolon}
+use Rattle.pp_export.specs.Folded.{folded_text, names_joined, path_line}
+use Rattle.pp_export.specs.PathNames.{name_and_separator, path_name, separated_name, written_line}
 
--- the lines of one path, and then of others
-lines_cons : (path : Path Written) (paths : List (Path Written)) → path_lines (path ∷ paths) ≡ path_lines (path ∷ []) ++ path_lines paths
-lines_cons path paths =
-    ap (flat_map path_line) (filter-append has_sum (path ∷ []) paths) ∙ flat_map-append path_line (filter has_sum (path ∷ [])) (filter has_sum paths)
+-- a `;` ends the names of a path
+names_end : (name : List ℕ) (names : List (List ℕ)) → flat_map name_and_separator (name ∷ names) ≡ join_with_byte semicolon (name ∷ names) ++ semicolon ∷ []
+names_end name [] = flat_map-cons name_and_separator name [] ∙ append-nil (name_and_separator name)
+names_end name (next ∷ names) =
+    flat_map-cons name_and_separator name (next ∷ names) ∙ append_assoc name (semicolon ∷ []) (flat_map name_and_separator (next ∷ names))
+    ∙ ap (λ t. name ++ semicolon ∷ t) (names_end next names) ∙ sym (append_assoc name (semicolon ∷ join_with_byte semicolon (next ∷ names)) (semicolon ∷ []))
 
--- the lines of one path
-pub own_line : (path : Path Written) (names : List ℕ) → names ≡ names_joined path.keys → line_unless_zero names path.sum ≡ path_lines (path ∷ [])
-own_line path names is =
-    ap (λ ns. line_unless_zero ns path.sum) is
-    ∙ elim (int_eq path.sum (pos 0)) as (λ b. cond b [] (path_line path) ≡ flat_map path_line (cond (not b) (path ∷ []) [])) [
-      | true ↦ refl
-      | false ↦ sym (flat_map-cons path_line path [] ∙ append-nil (path_line path))
-    ]
+-- and is left out
+joined_is : (names : List (List ℕ)) → take (length (flat_map name_and_separator names) - 1) (flat_map name_and_separator names) ≡ join_with_byte semicolon names
+joined_is [] = refl
+joined_is (name ∷ names) =
+    let joined : List ℕ = join_with_byte semicolon (name ∷ names) in
+    let short : length (joined ++ semicolon ∷ []) - 1 ≡ length joined = omega (arith, length-append joined (semicolon ∷ [])) in
+    ap (λ t. take (length t - 1) t) (names_end name names) ∙ ap (λ n. take n (joined ++ semicolon ∷ [])) short ∙ take-append_seam joined (semicolon ∷ [])
 
-pub line_is : {E : Type 0} (r : Result (Unit {0}) E) (old new : List ℕ) (path : Path Written) (names : List ℕ) → names ≡ names_joined path.keys
-    → IfOk r (λ _. new ≡ old ++ line_unless_zero names path.sum) → IfOk r (λ _. new ≡ old ++ path_lines (path ∷ []))
-line_is (Err e) old new path names is h = tt
-line_is (Ok x) old new path names is h = h ∙ ap (λ t. old ++ t) (own_line path names is)
+separated_is : (p : Profile) (names : List Key) (keys : List ℕ) → flat_map (separated_name p names) keys ≡ flat_map name_and_separator (map path_name (map (written_key p names) keys))
+separated_is p names [] = refl
+separated_is p names (k ∷ keys) =
+    flat_map-cons (separated_name p names) k keys ∙ ap (λ r. separated_name p names k ++ r) (separated_is p names keys)
+    ∙ sym (flat_map-cons name_and_separator (path_name (written_key p names k)) (map path_name (map (written_key p names) keys)))
 
--- a node has a key of the profile
-pub node_is_key : (p : Profile) (names : List Key) (nodes : List NumberedNode) (i : ℕ) (d : NumberedNode) → All (λ n. IsKeyOf p n.key) (nodes_by names nodes)
-    → i < length nodes → IsKeyOf p (node_by names (get_or nodes i d)).key
-node_is_key p names nodes i d all here =
-    subst (λ (m : PathNode). IsKeyOf p m.key) (get_or-map (node_by names) nodes i d (node_by names d) here)
-    (All-get_or (λ (m : PathNode). IsKeyOf p m.key) (nodes_by names nodes) i (node_by names d) (omega (arith, here, length-map nodes (node_by names))) all)
+-- a text from which the last byte of what was added is taken
+less_one : (old all new parts : List ℕ) (end : ℕ) → all ≡ old ++ parts → end ≡ max (length all - 1) (length old) → new ≡ take end all
+    → new ≡ old ++ take (length parts - 1) parts
+less_one old all new parts end all_is end_is new_is =
+    let place : end ≡ length old + (length parts - 1) = omega (arith, end_is, ap length all_is, length-append old parts) in
+    new_is ∙ (λ i. take (place i) (all_is i)) ∙ take-append-add old parts (length parts - 1)
 
-pub walk_starts : (p : Profile) (names : List Key) (nodes : List NumberedNode) (before : List ℕ) (path_names : PathNames) (path : List Place)
-    → ArePathNames (numbered_name p names) path_names → path ≡ [] → WalkedTo p names nodes before 0 path_names path before
-walk_starts p names nodes before path_names path are none = record { are_names = are; keys = []; leads = subst (λ ps. LeadsTo [] path_names.text.items ps) (sym none) tt; whole = refl }
+-- the names of keys, without the `;` behind the last
+pub keys_joined : (p : Profile) (names : List Key) (keys : List ℕ) (old all new : List ℕ) (end : ℕ) → all ≡ old ++ flat_map (separated_name p names) keys
+    → end ≡ max (length all - 1) (length old) → new ≡ take end all → new ≡ old ++ names_joined (map (written_key p names) keys)
+keys_joined p names keys old all new end all_is end_is new_is =
+    less_one old all new (flat_map (separated_name p names) keys) end all_is end_is new_is
+    ∙ ap (λ t. old ++ t) (ap (λ t. take (length t - 1) t) (separated_is p names keys) ∙ joined_is (map path_name (map (written_key p names) keys)))
 
-pub walk_more : (p : Profile) (names : List Key) (nodes : List NumberedNode) (before : List ℕ) (i : ℕ) (d : NumberedNode) (path_names made : PathNames) (path next : List Place)
-    (out new : List ℕ) → i < length nodes → WalkedTo p names nodes before i path_names path out → ArePathNames (numbered_name p names) made
-    → ((keys : List Written) → LeadsTo keys path_names.text.items path → LeadsTo (keys_to keys (node_row p (node_by names (get_or nodes i d)))) made.text.items next)
-    → ((keys : List Written) → LeadsTo keys path_names.text.items path → new ≡ out ++ path_lines (path_to keys (node_row p (node_by names (get_or nodes i d))) ∷ []))
-    → WalkedTo p names nodes before (i + 1) made next new
-walk_more p names nodes before i d path_names made path next out new here so_far are leads line =
-    let row : TreeRow Written = node_row p (node_by names (get_or nodes i d)) in
-    let rest : List (TreeRow Written) = map (node_row p) (nodes_by names (drop (i + 1) nodes)) in
-    record {
-      are_names = are;
-      keys = keys_to so_far.keys row;
-      leads = leads so_far.keys so_far.leads;
-      whole =
-          ap (λ o. o ++ path_lines (paths_along (keys_to so_far.keys row) rest)) (line so_far.keys so_far.leads)
-          ∙ append_assoc out (path_lines (path_to so_far.keys row ∷ [])) (path_lines (paths_along (keys_to so_far.keys row) rest))
-          ∙ ap (λ r. out ++ r) (sym (lines_cons (path_to so_far.keys row) (paths_along (keys_to so_far.keys row) rest)))
-          ∙ ap (λ ns. out ++ path_lines (paths_along so_far.keys (map (node_row p) (nodes_by names ns)))) (sym (drop_more nodes i d here))
-          ∙ so_far.whole;
-    }
+lines_are : (p : Profile) (names : List Key) (paths : List PathSum) → flat_map (written_line p names) paths ≡ flat_map path_line (map (path_written p names) paths)
+lines_are p names [] = refl
+lines_are p names (path ∷ paths) =
+    flat_map-cons (written_line p names) path paths ∙ ap (λ r. written_line p names path ++ r) (lines_are p names paths)
+    ∙ sym (flat_map-cons path_line (path_written p names path) (map (path_written p names) paths))
 
-pub walk_ends : (p : Profile) (names : List Key) (nodes : List NumberedNode) (before : List ℕ) (i : ℕ) (path_names : PathNames) (path : List Place) (out : List ℕ)
-    → length nodes ≤ i → WalkedTo p names nodes before i path_names path out
-    → out ≡ before ++ path_lines (paths_along [] (map (node_row p) (nodes_by names nodes)))
-walk_ends p names nodes before i path_names path out past so_far =
-    sym (append-nil out) ∙ sym (ap (λ ns. out ++ path_lines (paths_along so_far.keys (map (node_row p) (nodes_by names ns)))) (drop_all i nodes past)) ∙ so_far.whole
-
--- what is written of the nodes is the report
-pub folded_is : (l : Loaded) (v : Verdicts) (config : Config) (column : Option ℕ) (f : Finders) (nodes : List PathNode)
-    → IsTreeOf l v config column nodes → HoldsFilters l v config f
-    → path_lines (paths_along [] (map (node_row l.profile) nodes)) ≡ folded_text l.profile f config column
-folded_is l v config column f nodes tree holds =
-    ap (λ rows. path_lines (paths_along [] rows)) (tree.rows f holds)
-    ∙ ap path_lines (paths_are key_cmp (path_samples l.profile f config column))
+-- what is written of the paths is the report
+pub folded_is : (l : Loaded) (v : Verdicts) (config : Config) (column : Option ℕ) (f : Finders) (names : List Key) (paths : List PathSum)
+    → ArePathsOf l v config column names paths → HoldsFilters l v config f
+    → flat_map (written_line l.profile names) paths ≡ folded_text l.profile f config column
+folded_is l v config column f names paths are holds = lines_are l.profile names paths ∙ ap (flat_map path_line) (are.are f holds)

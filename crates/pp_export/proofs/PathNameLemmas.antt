@@ -5,7 +5,7 @@ use Rattle.std.proofs.lemmas.Bool.{cases_eq}
 use Rattle.std.proofs.lemmas.List.{drop-append-le, length-drop, take-append-le, take_all}
 use Rattle.pp_export.specs.declared.path_names.Place.{Place}
 use Rattle.pp_export.specs.declared.path_names.PathNames.{PathNames}
-use Rattle.pp_export.specs.PathNames.{at_place, name_and_separator, place_in, ArePathNames, GivesName, StandsAt}
+use Rattle.pp_export.specs.PathNames.{at_place, name_and_separator, name_place, ArePathNames, GivesName, StandsAt}
 
 -- what stands at a place stays there
 kept : (text more : List ℕ) (place : Place) → place.start + place.len ≤ length text → at_place (text ++ more) place ≡ at_place text place
@@ -19,19 +19,18 @@ added text more place start len =
     (λ i. take (len i) (drop (start i) (text ++ more))) ∙ ap (take (length more)) (drop-append_seam text more) ∙ take_all (length more) more (omega arith)
 
 -- a name that is made already
-pub gives_old : (name : ℕ → List ℕ) (number : ℕ) (path_names : PathNames) (place : Place) → place ≡ place_in path_names number → 0 < place.len → ArePathNames name path_names
-    → GivesName name number path_names.text.items path_names place
+pub gives_old : (name : ℕ → List ℕ) (number : ℕ) (path_names : PathNames) (place : Place) → place ≡ name_place path_names number → 0 < place.len → ArePathNames name path_names
+    → GivesName name number path_names place
 gives_old name number path_names place is some are = record {
   names = are;
   own = subst (λ (q : Place). StandsAt path_names.text.items q (name_and_separator (name number))) (sym is) (are.made number (subst (λ (q : Place). 0 < q.len) is some));
-  kept = λ other bytes stands. stands;
 }
 
 -- one more name is made
 pub gives_new : (name : ℕ → List ℕ) (old new : PathNames) (number : ℕ) (place : Place) (part : List ℕ) → new.text.items ≡ old.text.items ++ part
-    → place.start ≡ length old.text.items → place.len ≡ length part → part ≡ name_and_separator (name number) → ArePathNames name old → place_in new number ≡ place
-    → ((other : ℕ) → other ≢ number → place_in new other ≡ place_in old other) → GivesName name number old.text.items new place
-gives_new name old new number place part text start len is so_far own others = record { names = record { made = made }; own = here; kept = still } where
+    → place.start ≡ length old.text.items → place.len ≡ length part → part ≡ name_and_separator (name number) → ArePathNames name old → name_place new number ≡ place
+    → ((other : ℕ) → other ≢ number → name_place new other ≡ name_place old other) → GivesName name number new place
+gives_new name old new number place part text start len is so_far own others = record { names = record { made = made }; own = here } where
   still : (other : Place) (bytes : List ℕ) → StandsAt old.text.items other bytes → StandsAt new.text.items other bytes
   still other bytes stands = record {
     within = omega (arith, stands.within, ap length text, length-append old.text.items part);
@@ -44,13 +43,13 @@ gives_new name old new number place part text start len is so_far own others = r
     are = ap (λ t. at_place t place) text ∙ added old.text.items part place start len ∙ is;
   }
 
-  made : (n : ℕ) → 0 < (place_in new n).len → StandsAt new.text.items (place_in new n) (name_and_separator (name n))
-  made n some = elim (cases_eq n number) as (λ _. StandsAt new.text.items (place_in new n) (name_and_separator (name n))) [
+  made : (n : ℕ) → 0 < (name_place new n).len → StandsAt new.text.items (name_place new n) (name_and_separator (name n))
+  made n some = elim (cases_eq n number) as (λ _. StandsAt new.text.items (name_place new n) (name_and_separator (name n))) [
     | inl same ↦
-        subst (λ (q : Place). StandsAt new.text.items q (name_and_separator (name n))) (sym (ap (place_in new) same ∙ own))
+        subst (λ (q : Place). StandsAt new.text.items q (name_and_separator (name n))) (sym (ap (name_place new) same ∙ own))
         (subst (λ m. StandsAt new.text.items place (name_and_separator (name m))) (sym same) here)
     | inr other ↦
-        let same : place_in new n ≡ place_in old n = others n other in
+        let same : name_place new n ≡ name_place old n = others n other in
         subst (λ (q : Place). StandsAt new.text.items q (name_and_separator (name n))) (sym same)
-        (still (place_in old n) (name_and_separator (name n)) (so_far.made n (subst (λ (q : Place). 0 < q.len) same some)))
+        (still (name_place old n) (name_and_separator (name n)) (so_far.made n (subst (λ (q : Place). 0 < q.len) same some)))
   ]

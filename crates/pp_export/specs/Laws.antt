@@ -6,6 +6,7 @@ use Rattle.pp_model.specs.declared.profile.Profile.{Profile}
 use Rattle.pp_model.specs.Finders.{Finders}
 use Rattle.pp_model.specs.FrameTexts.{Written}
 use Rattle.pp_grain.specs.Keys.{key_cmp}
+use Rattle.pp_calltree.specs.CallPaths.{CallPath, has_sum, report_paths}
 use Rattle.pp_calltree.specs.CallTree.{is_end}
 use Rattle.pp_count.specs.Counted.{report_samples}
 use Rattle.pp_count.specs.Seeing.{seen_samples}
@@ -13,7 +14,6 @@ use Rattle.pp_count.specs.Sums.{flat, leads, sum_where}
 use Rattle.pp_graph.specs.KeyRows.{key_row}
 use Rattle.pp_graph.specs.Trim.{first_report_keys}
 use Rattle.pp_graph.specs.Trimmed.{int_sum}
-use Rattle.pp_export.specs.Folded.{Path, has_sum, report_paths}
 use Rattle.pp_export.specs.Table.{row_line}
 
 -- some frame of a sample counts
@@ -21,15 +21,15 @@ abbrev pub has_names : {K : Type 0} → List K → Bool
 has_names keys = not (is_end keys)
 
 -- the paths that have a line in the folded report
-abbrev pub printed_paths : Profile → Finders → Config → Option ℕ → List (Path Written)
+abbrev pub printed_paths : Profile → Finders → Config → Option ℕ → List (CallPath Written)
 printed_paths p f config column = filter has_sum (report_paths p f config column)
 
 -- what the sums of paths add up to
-abbrev pub paths_sum : List (Path Written) → ℤ
+abbrev pub paths_sum : List (CallPath Written) → ℤ
 paths_sum paths = int_sum (map (λ path. path.sum) paths)
 
 -- the path ends with the key
-abbrev pub ends_with : Written → Path Written → Bool
+abbrev pub ends_with : Written → CallPath Written → Bool
 ends_with k path = leads key_cmp k (reverse path.keys)
 
 -- The lines of the folded report add up to the selected values of the filtered samples of which some frame counts.

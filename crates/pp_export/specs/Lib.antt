@@ -1,6 +1,5 @@
 pub mod Escaped
-pub mod PathNames
 pub mod Folded
-pub mod Walked
+pub mod PathNames
 pub mod Table
 pub mod Laws

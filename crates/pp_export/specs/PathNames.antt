@@ -1,18 +1,20 @@
 -- The names of keys as they stand in paths, all in one text, as the code holds them. No public clause cites it.
-use Rattle.std.specs.Prelude.{◌≡◌, ℕ, ◌+◌, ◌-◌, ◌<◌, ◌≤◌, List, [], ◌∷◌, ◌++◌, length, take, drop, slice_index_or}
-use Rattle.std.specs.List.{flat_map}
+use Rattle.std.specs.Prelude.{◌≡◌, ℕ, ◌+◌, ◌<◌, ◌≤◌, List, [], ◌∷◌, ◌++◌, length, take, drop, slice_index_or}
 use Rattle.pp_model.specs.declared.profile.Profile.{Profile}
 use Rattle.pp_model.specs.FrameTexts.{Written}
 use Rattle.pp_grain.specs.declared.key.Key.{Key}
 use Rattle.pp_grain.specs.Naming.{name_text}
 use Rattle.pp_count.specs.Table.{written_key}
+use Rattle.pp_calltree.specs.declared.listing.PathSum.{PathSum}
+use Rattle.pp_calltree.specs.CallPaths.{path_written}
 use Rattle.pp_export.specs.declared.path_names.Place.{Place}
 use Rattle.pp_export.specs.declared.path_names.PathNames.{PathNames}
 use Rattle.pp_export.specs.Escaped.{semicolon, escaped_name}
+use Rattle.pp_export.specs.Folded.{path_line}
 
 -- no name stands there
-abbrev pub nowhere : Place
-nowhere = record { start = 0; len = 0 }
+abbrev pub no_name_place : Place
+no_name_place = record { start = 0; len = 0 }
 
 -- the bytes at the place
 abbrev pub at_place : List ℕ → Place → List ℕ
@@ -23,14 +25,9 @@ pub record StandsAt (text : List ℕ) (place : Place) (bytes : List ℕ) : Type 
   pub within : place.start + place.len ≤ length text
   pub are : at_place text place ≡ bytes
 
--- what stands at the places, one behind the other, but for the last byte
-abbrev pub joined_at : List ℕ → List Place → List ℕ
-joined_at text places =
-    take (length (flat_map (at_place text) places) - 1) (flat_map (at_place text) places)
-
 -- where the name of the number stands
-abbrev pub place_in : PathNames → ℕ → Place
-place_in path_names number = slice_index_or path_names.places.items number nowhere
+abbrev pub name_place : PathNames → ℕ → Place
+name_place path_names number = slice_index_or path_names.places.items number no_name_place
 
 -- a key's name in a path
 abbrev pub path_name : Written → List ℕ
@@ -44,15 +41,21 @@ numbered_name p names number = path_name (written_key p names number)
 abbrev pub name_and_separator : List ℕ → List ℕ
 name_and_separator name = name ++ semicolon ∷ []
 
+-- the name of the key with the number, and a `;`
+abbrev pub separated_name : Profile → List Key → ℕ → List ℕ
+separated_name p names number = name_and_separator (numbered_name p names number)
+
+-- the line of the path
+abbrev pub written_line : Profile → List Key → PathSum → List ℕ
+written_line p names path = path_line (path_written p names path)
+
 -- What is made are the names of the numbers.
 pub record ArePathNames (name : ℕ → List ℕ) (path_names : PathNames) : Type 0 where
-  pub made : (number : ℕ) → 0 < (place_in path_names number).len
-      → StandsAt path_names.text.items (place_in path_names number) (name_and_separator (name number))
+  pub made : (number : ℕ) → 0 < (name_place path_names number).len
+      → StandsAt path_names.text.items (name_place path_names number) (name_and_separator (name number))
 
--- The name of the number stands at the place, and what stood in the old text stands where it did.
-pub record GivesName (name : ℕ → List ℕ) (number : ℕ) (old : List ℕ) (path_names : PathNames) (place : Place)
-    : Type 0 where
-  pub names : ArePathNames name path_names
-  pub own : StandsAt path_names.text.items place (name_and_separator (name number))
-  pub kept : (other : Place) (bytes : List ℕ) → StandsAt old other bytes
-      → StandsAt path_names.text.items other bytes
+-- The name of the number stands at the place.
+pub record GivesName (name : ℕ → List ℕ) (number : ℕ) (path_names : PathNames) (place : Place) : Type 0
+  where
+    pub names : ArePathNames name path_names
+    pub own : StandsAt path_names.text.items place (name_and_separator (name number))

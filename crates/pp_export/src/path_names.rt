@@ -1,10 +1,9 @@
 //! The names of keys as they stand in paths, by key number.
 ghost use Rattle.std.specs.Prelude.{◌≡◌, ◌≢◌, ◌++◌, ◌<◌, ℕ, List as Seq, length, slice_index_or, IfOk};
-ghost use Rattle.std.specs.List.{flat_map};
 ghost use Rattle.pp_grain.specs.Keys.{IsKeyOf};
 ghost use Rattle.pp_count.specs.Table.{key_numbered};
 ghost use Rattle.pp_export.specs.Escaped.{escaped_name};
-ghost use Rattle.pp_export.specs.PathNames.{nowhere, at_place, joined_at, place_in, name_and_separator, numbered_name, ArePathNames, GivesName};
+ghost use Rattle.pp_export.specs.PathNames.{no_name_place, at_place, name_place, name_and_separator, numbered_name, separated_name, ArePathNames, GivesName};
 
 use crate::escaped::put_frame_name;
 use pp_base::{Memory, Text};
@@ -45,12 +44,31 @@ impl PathNames {
         }
     }
 
-    /// The place of the name of the key with the number. The name is made where none was asked for before.
-    pub fn place_of(&mut self, l: &Loaded, names: &Names, number: u32) -> Result<Place, Memory>
+    /// Appends the name of the key with the number, and a `;`. The name is made where none was asked for before.
+    pub fn put_name(
+        &mut self,
+        l: &Loaded,
+        names: &Names,
+        number: u32,
+        out: &mut Text,
+    ) -> Result<(), Memory>
+        requires key { IsKeyOf l.now.profile (key_numbered names.now number) }
+        requires names { ArePathNames (numbered_name l.now.profile names.now) self.old }
+        ensures names { IfOk result (λ _.
+            ArePathNames (numbered_name l.now.profile names.now) self.new) }
+        ensures text { IfOk result (λ _.
+            out.new ≡ out.old ++ separated_name l.now.profile names.now number) }
+    {
+        let place = self.place_of(l, names, number)?;
+        out.extend(part(&self.text, place))
+    }
+
+    // The place of the name of the key with the number.
+    fn place_of(&mut self, l: &Loaded, names: &Names, number: u32) -> Result<Place, Memory>
         requires key { IsKeyOf l.now.profile (key_numbered names.now number) }
         requires names { ArePathNames (numbered_name l.now.profile names.now) self.old }
         ensures { IfOk result (λ place. GivesName (numbered_name l.now.profile names.now) number
-            self.old.text.items self.new place) }
+            self.new place) }
     {
         let place = self.place(number);
         if place.len > 0 {
@@ -64,7 +82,7 @@ impl PathNames {
         requires key { IsKeyOf l.now.profile (key_numbered names.now number) }
         requires names { ArePathNames (numbered_name l.now.profile names.now) self.old }
         ensures { IfOk result (λ place. GivesName (numbered_name l.now.profile names.now) number
-            self.old.text.items self.new place) }
+            self.new place) }
     {
         self.scratch.clear();
         write_name(l, &key_at(names, number as u64), &mut self.scratch)?;
@@ -75,7 +93,7 @@ impl PathNames {
     fn add(&mut self, number: u32) -> Result<Place, Memory>
         ensures { (name : ℕ → Seq ℕ) → ArePathNames name self.old →
             escaped_name self.old.scratch ≡ name number →
-            IfOk result (λ place. GivesName name number self.old.text.items self.new place) }
+            IfOk result (λ place. GivesName name number self.new place) }
     {
         let place = put_path_name(self.scratch.as_slice(), &mut self.text)?;
         put_place(number, place, &mut self.places)?;
@@ -84,37 +102,16 @@ impl PathNames {
 
     // Where the name of the number stands.
     fn place(&self, number: u32) -> Place
-        ensures { result ≡ place_in self.now number }
+        ensures { result ≡ name_place self.now number }
     {
         match self.places.get(number as usize) {
             Some(place) => *place,
-            None => NOWHERE,
+            None => NO_NAME,
         }
     }
-
-    /// Appends what stands at the places, but for the `;` behind the last name.
-    pub fn put_path(&self, path: &[Place], out: &mut Text) -> Result<(), Memory>
-        ensures { IfOk result (λ _. out.new ≡ out.old ++ joined_at self.now.text.items path.now) }
-    {
-        let start = out.len();
-        put_parts(&self.text, path, out)?;
-        let end = out.len().saturating_sub(1).max(start);
-        out.truncate(end);
-        Ok(())
-    }
 }
 
-const NOWHERE: Place = Place { start: 0, len: 0 };
-
-// Appends what stands at the places.
-fn put_parts(text: &[u8], places: &[Place], out: &mut Text) -> Result<(), Memory>
-    ensures { IfOk result (λ _. out.new ≡ out.old ++ flat_map (at_place text.now) places.now) }
-{
-    for place in places {
-        out.extend(part(text, *place))?;
-    }
-    Ok(())
-}
+const NO_NAME: Place = Place { start: 0, len: 0 };
 
 // The bytes at the place.
 fn part(text: &[u8], place: Place) -> &[u8]
@@ -143,10 +140,10 @@ fn put_path_name(name: &[u8], text: &mut Vec<u8>) -> Result<Place, Memory>
 
 // Puts the place to the number.
 fn put_place(number: u32, place: Place, places: &mut Vec<Place>) -> Result<(), Memory>
-    ensures own { IfOk result (λ _. slice_index_or places.new.items number nowhere ≡ place) }
+    ensures own { IfOk result (λ _. slice_index_or places.new.items number no_name_place ≡ place) }
     ensures others { IfOk result (λ _. (other : ℕ) → other ≢ number →
-        slice_index_or places.new.items other nowhere
-        ≡ slice_index_or places.old.items other nowhere) }
+        slice_index_or places.new.items other no_name_place
+        ≡ slice_index_or places.old.items other no_name_place) }
 {
     make_room(number, places)?;
     places[number as usize] = place;
@@ -157,12 +154,12 @@ fn put_place(number: u32, place: Place, places: &mut Vec<Place>) -> Result<(), M
 fn make_room(number: u32, places: &mut Vec<Place>) -> Result<(), Memory>
     ensures room { IfOk result (λ _. number < length places.new.items) }
     ensures same { IfOk result (λ _. (other : ℕ) →
-        slice_index_or places.new.items other nowhere
-        ≡ slice_index_or places.old.items other nowhere) }
+        slice_index_or places.new.items other no_name_place
+        ≡ slice_index_or places.old.items other no_name_place) }
 {
     let len = number as usize + 1;
     if places.len() < len {
-        places.resize(len, NOWHERE)?;
+        places.resize(len, NO_NAME)?;
     }
     Ok(())
 }

@@ -10,7 +10,7 @@ ghost use Rattle.pp_report.specs.Heads.{unit_text};
 use crate::shows::unit_text;
 use crate::texts::limit_of;
 use pp_base::{Memory, Text};
-use pp_calltree::NumberedTree;
+use pp_calltree::ReportPaths;
 use pp_count::Survey;
 use pp_export::{write_folded, write_table};
 use pp_graph::rank_all;
@@ -22,9 +22,10 @@ pub fn folded(alloc: Global, survey: &Survey<'_>) -> Result<Text, Memory>
         HoldsFilters s.l.now s.v.now s.config.now f →
         IfOk result (λ text. text ≡ folded_text s.l.now.profile f s.config.now s.column) }
 {
-    let tree = NumberedTree::build(alloc, survey)?;
+    let paths = ReportPaths::gather(alloc, survey)?;
+    let sums = paths.sums(alloc)?;
     let mut text = Text::new(alloc);
-    write_folded(alloc, survey.l, &tree, &mut text)?;
+    write_folded(alloc, survey.l, &sums, &mut text)?;
     Ok(text)
 }
 

@@ -15,7 +15,7 @@ use Rattle.pp_calltree.specs.Links.{node_by, nodes_by}
 use Rattle.pp_calltree.specs.Paths.{below}
 use Rattle.pp_calltree.proofs.Naming.{texts_are}
 use Rattle.pp_calltree.proofs.Under.{all_lengths-renamed}
-use Rattle.pp_calltree.proofs.LaidOut.{laying_start, laying_more, laying_end, last_layable, lighter_more}
+use Rattle.pp_calltree.proofs.LaidOut.{wait_below, laying_start, laying_more, laying_end, last_layable, lighter_more}
 use Rattle.pp_calltree.proofs.laying.lay_out.Goals as goal
 
 pub loop-branch-init : goal.loop-branch-init
@@ -26,7 +26,8 @@ loop-branch-init c =
     let can : CanLay p names c.in_ok-texts.texts =
     record { apart = apart p c.requires.compact names c.requires.keys c.requires.distinct; texts_are = texts_are p names c.in_ok-texts.texts c.in_ok-texts.ensures } in
     laying_start p names (all_lengths S) S (nodes_by names c.from_vec-nodes.result) c.push_branches.new.waiting.items
-    (rw c.new-waiting.ensures.items at c.in_ok-push_branches.ensures p names (all_lengths S) (all_lengths S) can c.requires.room (omega arith)) (ap (nodes_by names) (c.from_vec-nodes.ensures ∙ c.in_ok-with_capacity.ensures.items))
+    (wait_below p names c.in_ok-texts.texts can (all_lengths S) 0 (all_lengths S) c.args.paths.now [] c.push_branches.new.waiting.items c.requires.room (omega arith)
+    (rw c.new-waiting.ensures.items at c.in_ok-push_branches.ensures)) (ap (nodes_by names) (c.from_vec-nodes.ensures ∙ c.in_ok-with_capacity.ensures.items))
 
 pub push_branches-requires-in-Some-clause-rises : goal.push_branches-requires-in-Some-clause-rises
 push_branches-requires-in-Some-clause-rises c =
@@ -50,7 +51,8 @@ loop-branch-smaller c =
     let layable : IsLayable names most b = last_layable names most c.pop.new.self.items b so_far.layable in
     subst (λ (ws : List Branch). sum_by weight c.push_branches-in-Some.new.waiting.items < sum_by weight ws) (sym c.in-Some.ensures.items)
     (lighter_more p names most (b.depth + 1) (most - (b.depth + 1)) c.pop.new.self.items c.push_branches-in-Some.new.waiting.items b
-    (c.in_ok-push_branches-2.ensures p names most (most - (b.depth + 1)) can layable.room (omega (arith, layable.depth_fits))))
+    (wait_below p names c.in_ok-texts.texts can most (b.depth + 1) (most - (b.depth + 1)) b.paths.now c.pop.new.self.items c.push_branches-in-Some.new.waiting.items layable.room
+    (omega (arith, layable.depth_fits)) c.in_ok-push_branches-2.ensures))
 
 pub loop-branch-preserved : goal.loop-branch-preserved
 loop-branch-preserved c =
@@ -67,7 +69,8 @@ loop-branch-preserved c =
     (node_by names c.node_of.result) so_far (ap (nodes_by names) c.in_ok-push.ensures.ok ∙ map-append (node_by names) c.loop-branch.nodes (c.node_of.result ∷ []))
     (ap (λ n. node_row p (node_by names n)) c.node_of.ensures)
     (subst (λ n. IsKeyOf p (node_by names n).key) (sym c.node_of.ensures) (c.requires.keys b.key no_key layable.key_below)) layable.flat_is
-    (c.in_ok-push_branches-2.ensures p names most (most - (b.depth + 1)) can layable.room (omega (arith, layable.depth_fits)))
+    (wait_below p names c.in_ok-texts.texts can most (b.depth + 1) (most - (b.depth + 1)) b.paths.now c.pop.new.self.items c.push_branches-in-Some.new.waiting.items layable.room
+    (omega (arith, layable.depth_fits)) c.in_ok-push_branches-2.ensures)
 
 -- no branch waits any more
 pub returns-clause-rows : goal.returns-clause-rows
