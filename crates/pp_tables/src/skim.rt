@@ -1,0 +1,54 @@
+//! One walk over a profile's fields, in which samples are only noted.
+ghost use Rattle.std.specs.Prelude.{◌≡◌, ◌++◌, ◌<◌, ◌^◌, length, map, OnOk, OnErr};
+ghost use Rattle.pp_wire.specs.Fields.{item, fields};
+ghost use Rattle.pp_tables.specs.Message.{fault_of, fault_in};
+ghost use Rattle.pp_tables.specs.Takes.{TakesField};
+ghost use Rattle.pp_tables.specs.Apart.{other_rules, other_put, others_after, noted, all_noted, UnlessMemory};
+
+use crate::ReadRefusal;
+use crate::message::Message;
+use pp_base::List;
+use pp_model::Profile;
+use pp_wire::{Field, Walker};
+use std::alloc::Global;
+
+/// Fills a profile with all fields of a file's bytes but the samples, up to the first fault, and notes the fields of
+/// the samples before it. Nothing is said of a fault in a sample.
+pub(crate) fn skim<'a>(
+    alloc: Global,
+    bytes: &'a [u8],
+    profile: &mut Profile,
+    samples: &mut List<Field<'a>>,
+) -> Result<(), ReadRefusal>
+    requires { length bytes.now < 2 ^ 64 }
+    ensures others { TakesField result (fault_in other_rules bytes.now 0)
+        (profile.new ≡ others_after profile.old (fields bytes.now 0).items) }
+    ensures samples { UnlessMemory result
+        (map item samples.new ≡ map item samples.old ++ all_noted (fields bytes.now 0).items) }
+{
+    let mut walker = Walker::new(bytes, 0);
+    while let Some(next) = walker.next() {
+        let field = next?;
+        note(alloc, &field, profile, samples)?;
+    }
+    Ok(())
+}
+
+// Takes the next field, or notes it where it is a sample.
+fn note<'a>(
+    alloc: Global,
+    field: &Field<'a>,
+    profile: &mut Profile,
+    samples: &mut List<Field<'a>>,
+) -> Result<(), ReadRefusal>
+    ensures others { TakesField result (fault_of other_rules (item field.now))
+        (profile.new ≡ other_put profile.old (item field.now)) }
+    ensures samples { OnOk result (map item samples.new ≡ map item samples.old ++ noted (item field.now)) }
+    ensures kept { OnErr result (samples.new ≡ samples.old) }
+{
+    match field.number {
+        // repeated Sample sample = 2;
+        2 => Ok(samples.push(*field)?),
+        _ => profile.take(alloc, field),
+    }
+}
