@@ -1,12 +1,13 @@
 -- Samples read apart from the other fields, in pieces: the same profile, or the same first fault.
 use Rattle.std.proofs.Common.{◌≡◌, ℕ, suc, ◌+◌, ◌-◌, ◌*◌, ◌<◌, ◌≤◌, Bool, true, false, cond, eqb, min, map, List, [], ◌∷◌, ◌++◌, length, filter, take, drop, get_or, Option, Some, None, Result, Ok, Err, refl, sym, ap, subst, ◌∙◌, append_assoc, arith}
-use Rattle.std.specs.List.{flat_map}
+use Rattle.std.specs.Prelude.{⊤}
 use Rattle.std.proofs.lemmas.Bool.{eqb-true}
 use Rattle.std.proofs.lemmas.Grind.{flat_map-append}
-use Rattle.std.proofs.lemmas.List.{append-nil, drop-drop, drop-map, length-drop, take-append-drop, take-map, take_all, take_min}
+use Rattle.std.proofs.lemmas.List.{append-nil, drop-drop, drop-map, length-drop, length-map, take-append-drop, take-map, take_all, take_min}
 use Rattle.pp_wire.specs.declared.fault.WireFault.{WireFault}
 use Rattle.pp_wire.specs.declared.field.Field.{Field}
-use Rattle.pp_wire.specs.Fields.{Item, item, fields}
+use Rattle.pp_wire.specs.Fields.{Item, item, field, fields}
+use Rattle.pp_wire.proofs.Walks.{length-walk_of}
 use Rattle.pp_model.specs.declared.profile.Sample.{Sample}
 use Rattle.pp_model.specs.declared.profile.Profile.{Profile}
 use Rattle.pp_tables.specs.declared.refusal.ReadRefusal.{ReadRefusal}
@@ -101,10 +102,6 @@ others_more m i items = put_more (eqb i.number 2) m i items refl
 pub others_none : (m : Profile) → others_after m [] ≡ m
 others_none m = ap (λ p. with_samples p m.sample) (profile_none m)
 
--- with the samples it is what all fields make
-pub with_all_samples : (items : List Item) (p : Profile) → p ≡ with_samples (others_after no_profile items) (samples_of (filter is_sample items)) → p ≡ profile_after no_profile items
-with_all_samples items p e = e
-
 -- ---- pieces
 
 samples-append : (xs ys : List Item) → samples_of (xs ++ ys) ≡ samples_of xs ++ samples_of ys
@@ -117,8 +114,9 @@ pub record AreJoined (items : List Item) (before after : List Sample) (parts : L
   pub fault : samples_fault items ≡ samples_fault rest
   pub samples : after ++ samples_of rest ≡ before ++ samples_of items
 
-pub none_joined : (items : List Item) (before : List Sample) (parts : List Decoded) → AreDecoded items parts → AreJoined items before before parts
-none_joined items before parts are = record { rest = items; are = are; fault = refl; samples = refl }
+pub none_joined : (items : List Item) (before after : List Sample) (parts rest : List Decoded) → AreDecoded items parts → after ≡ before → rest ≡ parts → AreJoined items before after rest
+none_joined items before after parts rest are same all =
+    record { rest = items; are = subst (AreDecoded items) (sym all) are; fault = refl; samples = ap (λ l. l ++ samples_of items) same }
 
 -- the next part has no fault
 pub part_joined : (items : List Item) (before after more : List Sample) (d : Decoded) (parts : List Decoded) → AreJoined items before after (d ∷ parts)
@@ -140,6 +138,20 @@ pub part_faulty : (items : List Item) (before after : List Sample) (d : Decoded)
 part_faulty items before after d parts fault j next =
     let (front, rest, cut, is, are) = j.are in
     j.fault ∙ ap samples_fault cut ∙ first_fault-append sample_rule front rest None ∙ ap (λ f. or_else f (samples_fault rest)) (next front is)
+
+-- a part is refused
+refused_at : (X : Type 0) (e : ReadRefusal) (items : List Item) (before after : List Sample) (d : Decoded) (parts : List Decoded) (Q : List Item → Type 0) (P : Type 0)
+    → AreJoined items before after (d ∷ parts) → ((front : List Item) → IsDecoded front d → TakesField {X = ⊤} (Err e) (samples_fault front) (Q front)) → TakesField {X = X} (Err e) (samples_fault items) P
+refused_at X refusal.Memory items before after d parts Q P j h = tt
+refused_at X (refusal.Wire fault) items before after d parts Q P j h = part_faulty items before after d parts fault j h
+refused_at X refusal.Empty items before after d parts Q P j h = let (front, rest, cut, is, are) = j.are in absurd (h front is)
+refused_at X refusal.Compressed items before after d parts Q P j h = let (front, rest, cut, is, are) = j.are in absurd (h front is)
+
+pub part_refused : (X : Type 0) (e : ReadRefusal) (r : Result X ReadRefusal) (items : List Item) (before after : List Sample) (d : Decoded) (parts rest : List Decoded) (Q : List Item → Type 0) (P : Type 0)
+    → r ≡ Err e → rest ≡ d ∷ parts → AreJoined items before after rest → ((front : List Item) → IsDecoded front d → TakesField {X = ⊤} (Err e) (samples_fault front) (Q front)) → TakesField r (samples_fault items) P
+part_refused X e r items before after d parts rest Q P is next j h =
+    subst (λ (s : Result X ReadRefusal). TakesField s (samples_fault items) P) (sym is)
+    (refused_at X e items before after d parts Q P (subst (AreJoined items before after) next j) h)
 
 -- all parts are joined
 pub all_joined : (items : List Item) (before after : List Sample) (parts : List Decoded) → parts ≡ [] → AreJoined items before after parts
@@ -182,3 +194,62 @@ pub outcomes_are : (items : List Item) (pieces : ℕ) (parts : List Decoded) →
 outcomes_are items pieces parts all whole =
     let many = all.many in
     parts_are items parts (λ k d here. all.each k d (omega (arith, here, many))) (omega (arith, whole, many))
+
+-- ---- the message
+
+few_more : (f : Option WireFault) (b : Bool) (i : Item) (items : List Item) (n : ℕ) → length items ≤ n → length (unless f (cond b (i ∷ []) [] ++ items)) ≤ suc n
+few_more (Some fault) b i items n few = omega arith
+few_more None true i items n few = omega (arith, few)
+few_more None false i items n few = omega (arith, few)
+
+-- no more notes than fields
+pub length-all_noted : (items : List Item) → length (all_noted items) ≤ length items
+length-all_noted [] = omega arith
+length-all_noted (i ∷ items) = few_more (fault_of other_rules i) (eqb i.number 2) i (all_noted items) (length items) (length-all_noted items)
+
+-- nor than bytes
+pub notes_few : (bytes : List ℕ) (notes : List Field) → map item notes ≡ all_noted (fields bytes 0).items → length notes ≤ length bytes
+notes_few bytes notes are =
+    omega (arith, ap length are, length-map notes item, length-all_noted (fields bytes 0).items, length-walk_of (field (0 + length bytes)) bytes)
+
+-- what the message is, by the first fault of the samples and that of the other fields
+message_is : (bytes : List ℕ) (notes : List Item) (f g : Option WireFault) → notes ≡ all_noted (fields bytes 0).items → samples_fault notes ≡ f → fault_in other_rules bytes 0 ≡ g
+    → read_message bytes ≡ profile_unless (or_else f g) (profile_of (fields bytes 0).items)
+message_is bytes notes f g are first second =
+    ap (λ h. profile_unless h (profile_of (fields bytes 0).items))
+    (fault_apart (fields bytes 0).items (fields bytes 0).fault ∙ ap (λ h. or_else h (fault_in other_rules bytes 0)) (ap samples_fault (sym are) ∙ first) ∙ ap (or_else f) second)
+
+sample_refused : (e : ReadRefusal) (bytes : List ℕ) (notes : List Item) (P : Type 0) → notes ≡ all_noted (fields bytes 0).items → TakesField {X = ⊤} (Err e) (samples_fault notes) P
+    → Answers (Err e) (read_message bytes)
+sample_refused refusal.Memory bytes notes P are h = tt
+sample_refused (refusal.Wire fault) bytes notes P are h = message_is bytes notes (Some fault) (fault_in other_rules bytes 0) are h refl
+sample_refused refusal.Empty bytes notes P are h = absurd h
+sample_refused refusal.Compressed bytes notes P are h = absurd h
+
+-- a sample is refused
+pub message_refused : (e : ReadRefusal) (r : Result Profile ReadRefusal) (bytes : List ℕ) (notes : List Item) (P : Type 0) → r ≡ Err e → notes ≡ all_noted (fields bytes 0).items
+    → TakesField {X = ⊤} (Err e) (samples_fault notes) P → Answers r (read_message bytes)
+message_refused e r bytes notes P is are h = subst (λ (s : Result Profile ReadRefusal). Answers s (read_message bytes)) (sym is) (sample_refused e bytes notes P are h)
+
+other_refused : (e : ReadRefusal) (bytes : List ℕ) (notes : List Item) (P : Type 0) → notes ≡ all_noted (fields bytes 0).items → samples_fault notes ≡ None → TakesField {X = ⊤} (Err e) (fault_in other_rules bytes 0) P
+    → Answers (Err e) (read_message bytes)
+other_refused refusal.Memory bytes notes P are sound h = tt
+other_refused (refusal.Wire fault) bytes notes P are sound h = message_is bytes notes None (Some fault) are sound h
+other_refused refusal.Empty bytes notes P are sound h = absurd h
+other_refused refusal.Compressed bytes notes P are sound h = absurd h
+
+-- another field is refused, and no sample in front of it
+pub message_refused_then : (e : ReadRefusal) (r : Result Profile ReadRefusal) (bytes : List ℕ) (notes : List Item) (P : Type 0) → r ≡ Err e → notes ≡ all_noted (fields bytes 0).items
+    → samples_fault notes ≡ None → TakesField {X = ⊤} (Err e) (fault_in other_rules bytes 0) P → Answers r (read_message bytes)
+message_refused_then e r bytes notes P is are sound h =
+    subst (λ (s : Result Profile ReadRefusal). Answers s (read_message bytes)) (sym is) (other_refused e bytes notes P are sound h)
+
+-- no field is refused
+pub message_whole : (bytes : List ℕ) (notes : List Item) (p q : Profile) (samples : List Sample) → notes ≡ all_noted (fields bytes 0).items → samples_fault notes ≡ None → fault_in other_rules bytes 0 ≡ None
+    → p ≡ others_after no_profile (fields bytes 0).items → samples ≡ p.sample ++ samples_of notes → q ≡ with_a_text (with_samples p samples) → read_message bytes ≡ Ok q
+message_whole bytes notes p q samples are sound others is all with_text =
+    let items = (fields bytes 0).items in
+    let none : p.sample ≡ [] = ap (λ (m : Profile). m.sample) is in
+    let of_all : samples ≡ samples_of (filter is_sample items) = all ∙ ap (λ l. l ++ samples_of notes) none ∙ ap samples_of (are ∙ all_are_noted items (fields bytes 0).fault others) in
+    let whole : with_samples p samples ≡ profile_after no_profile items = ap (with_samples p) of_all ∙ ap (λ m. with_samples m (samples_of (filter is_sample items))) is in
+    message_is bytes notes None None are sound others ∙ ap (λ m. Ok (with_a_text m)) (sym whole) ∙ ap (λ m. Ok m) (sym with_text)

@@ -1,5 +1,6 @@
 -- One step of the walk that only notes samples.
-use Rattle.std.proofs.Common.{◌≡◌, ⊤, List, [], ◌∷◌, ◌++◌, drop, Option, Some, None, Result, Ok, Err, sym, ap, subst, ◌∙◌, append_assoc}
+use Rattle.std.proofs.Common.{◌≡◌, List, [], ◌∷◌, ◌++◌, drop, Option, Some, None, Result, Ok, Err, sym, ap, subst, ◌∙◌, append_assoc}
+use Rattle.std.specs.Prelude.{⊤}
 use Rattle.std.proofs.lemmas.List.{append-nil}
 use Rattle.pp_wire.specs.declared.fault.WireFault.{WireFault}
 use Rattle.pp_wire.specs.Walk.{Walk, more, first, rest_of, next_item}

@@ -1,19 +1,21 @@
 -- A profile whose samples are read apart from its other fields, in pieces. Beside the others, a
 -- sample's field is only noted, and what the notes give is joined in order. No public clause cites
 -- these.
-use Rattle.std.specs.Prelude.{◌≡◌, ℕ, ◌*◌, ◌==◌, Bool, List, [], ◌∷◌, ◌++◌, take, drop, Option, Some, None, Result, Ok, Err, if◌then◌else◌, ⊤}
+use Rattle.std.specs.Prelude.{◌≡◌, ℕ, ◌*◌, ◌==◌, Bool, List, [], ◌∷◌, ◌++◌, map, take, drop, Option, Some, None, Result, Ok, Err, if◌then◌else◌, ⊤}
 use Rattle.std.specs.List.{flat_map}
 use Rattle.pp_wire.specs.declared.fault.WireFault.{WireFault}
-use Rattle.pp_wire.specs.Fields.{Item}
+use Rattle.pp_wire.specs.Walk.{Walk}
+use Rattle.pp_wire.specs.Fields.{Item, item}
 use Rattle.pp_model.specs.declared.profile.Sample.{Sample}
 use Rattle.pp_model.specs.declared.profile.Profile.{Profile}
 use Rattle.pp_tables.specs.declared.decoded.Decoded.{Decoded}
 use Rattle.pp_tables.specs.declared.decoding.TheConstants.{PIECE}
+use Rattle.pp_tables.specs.declared.skim.Skimmed.{Skimmed}
 use Rattle.pp_tables.specs.declared.refusal.ReadRefusal.{ReadRefusal}
 use Rattle.pp_tables.specs.declared.refusal.ReadRefusal.TheVariants as refusal
-use Rattle.pp_tables.specs.Message.{Rule, Unknown, Nested, fault_of, first_item_fault, fault_in}
+use Rattle.pp_tables.specs.Message.{Rule, Unknown, Nested, fault_of, first_item_fault, walk_fault, fault_in}
 use Rattle.pp_tables.specs.Select.{messages_in}
-use Rattle.pp_tables.specs.Tables.{no_sample, sample_rules, sample_after, profile_rules, profile_after}
+use Rattle.pp_tables.specs.Tables.{no_sample, sample_rules, sample_after, no_profile, profile_rules, profile_after}
 use Rattle.pp_tables.specs.Takes.{TakesField, profile_put}
 
 -- the field is a sample
@@ -65,6 +67,12 @@ UnlessMemory (Err refusal.Memory) P = ⊤
 UnlessMemory (Err (refusal.Wire fault)) P = P
 UnlessMemory (Err refusal.Empty) P = P
 UnlessMemory (Err refusal.Compressed) P = P
+
+-- what came of all fields but the samples, of which the fields are noted
+pub record IsSkimmed (walk : Walk Item) (s : Skimmed) : Type 0 where
+  pub others : TakesField s.done (walk_fault other_rules walk)
+      (s.profile ≡ others_after no_profile walk.items)
+  pub samples : map item s.samples ≡ all_noted walk.items
 
 -- the fields of a piece
 abbrev pub piece_fields : List Item → ℕ → List Item

@@ -10,9 +10,8 @@ use crate::ReadRefusal;
 use crate::decoded::Decoded;
 use crate::decoding::{Decoding, PIECE};
 use crate::fields::reserve;
-use crate::message::Message;
 use crate::reading::{is_compressed, read_profile, with_a_text};
-use crate::skim::skim;
+use crate::skim::{Skimmed, skim};
 use pp_base::{Gate, List, Memory};
 use pp_model::{Profile, Sample};
 use pp_steal::{Deal, run_pieces};
@@ -54,19 +53,18 @@ fn message_on<R: Threads + Sync, G: Gate>(
     requires short { length bytes.now < 2 ^ 32 }
     ensures { Answers result (read_message bytes.now) }
 {
-    let mut profile = Profile::none(alloc);
-    let mut fields = List::new(alloc);
-    let others = skim(alloc, bytes, &mut profile, &mut fields);
-    if let Err(ReadRefusal::Memory) = others {
-        return Err(ReadRefusal::Memory);
-    }
+    let Skimmed {
+        mut profile,
+        samples,
+        done,
+    } = skim(alloc, bytes)?;
     let job = Decoding {
         alloc,
-        fields: fields.as_slice(),
-        pieces: fields.len().div_ceil(PIECE) as u32,
+        fields: samples.as_slice(),
+        pieces: samples.len().div_ceil(PIECE) as u32,
     };
     read_samples(rt, &job, workers, gate, &mut profile.sample)?;
-    others?;
+    done?;
     Ok(with_a_text(alloc, profile)?)
 }
 

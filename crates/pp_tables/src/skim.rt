@@ -1,20 +1,47 @@
 //! One walk over a profile's fields, in which samples are only noted.
-ghost use Rattle.std.specs.Prelude.{◌≡◌, ◌++◌, ◌<◌, ◌^◌, length, map, OnOk, OnErr};
+ghost use Rattle.std.specs.Prelude.{◌≡◌, ◌++◌, ◌<◌, ◌^◌, length, map, IfOk, OnOk, OnErr};
 ghost use Rattle.pp_wire.specs.Fields.{item, fields};
 ghost use Rattle.pp_tables.specs.Message.{fault_of, fault_in};
 ghost use Rattle.pp_tables.specs.Takes.{TakesField};
-ghost use Rattle.pp_tables.specs.Apart.{other_rules, other_put, others_after, noted, all_noted, UnlessMemory};
+ghost use Rattle.pp_tables.specs.Apart.{other_rules, other_put, others_after, noted, all_noted, UnlessMemory, IsSkimmed};
 
 use crate::ReadRefusal;
 use crate::message::Message;
-use pp_base::List;
+use pp_base::{List, Memory};
 use pp_model::Profile;
 use pp_wire::{Field, Walker};
 use std::alloc::Global;
 
-/// Fills a profile with all fields of a file's bytes but the samples, up to the first fault, and notes the fields of
-/// the samples before it. Nothing is said of a fault in a sample.
-pub(crate) fn skim<'a>(
+/// A profile but for its samples, up to the first fault of another field.
+#[derive(Drop)]
+pub(crate) struct Skimmed<'a> {
+    /// What the fields before the fault make, the samples left out.
+    pub(crate) profile: Profile,
+    /// The fields of the samples before the fault. Nothing was asked of their payloads.
+    pub(crate) samples: List<Field<'a>>,
+    /// The fault, where there is one.
+    pub(crate) done: Result<(), ReadRefusal>,
+}
+
+/// Reads the fields of a file's bytes, and notes those of the samples.
+pub(crate) fn skim<'a>(alloc: Global, bytes: &'a [u8]) -> Result<Skimmed<'a>, Memory>
+    requires { length bytes.now < 2 ^ 64 }
+    ensures { IfOk result (IsSkimmed (fields bytes.now 0)) }
+{
+    let mut profile = Profile::none(alloc);
+    let mut samples = List::new(alloc);
+    match skim_fields(alloc, bytes, &mut profile, &mut samples) {
+        Err(ReadRefusal::Memory) => Err(Memory),
+        done => Ok(Skimmed {
+            profile,
+            samples,
+            done,
+        }),
+    }
+}
+
+// Takes the fields into the profile, and adds those of the samples at the end of the notes.
+fn skim_fields<'a>(
     alloc: Global,
     bytes: &'a [u8],
     profile: &mut Profile,

@@ -3,7 +3,7 @@ use Rattle.pp_wire.specs.Walk.{more, first}
 use Rattle.pp_wire.specs.Fields.{item}
 use Rattle.pp_tables.specs.Apart.{all_noted}
 use Rattle.pp_tables.proofs.Skims.{walk_front, value_kept, fault_kept, notes_kept, notes_end, at_fault}
-use Rattle.pp_tables.proofs.skim.skim.Goals as goal
+use Rattle.pp_tables.proofs.skim.skim_fields.Goals as goal
 
 pub loop-next-preserved : goal.loop-next-preserved
 loop-next-preserved c =

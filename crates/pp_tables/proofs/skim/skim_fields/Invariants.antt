@@ -2,7 +2,7 @@ use Rattle.std.proofs.Common.{◌≡◌, ◌++◌, length, map}
 use Rattle.pp_wire.specs.Fields.{item, fields}
 use Rattle.pp_tables.specs.Message.{walk_fault, fault_in}
 use Rattle.pp_tables.specs.Apart.{other_rules, others_after, all_noted}
-use Rattle.pp_tables.proofs.skim.skim.Given as goal
+use Rattle.pp_tables.proofs.skim.skim_fields.Given as goal
 
 -- what the profile has and what is left are what all the fields give, and so are the notes
 abbrev pub invariant-loop-next : goal.invariant-loop-next
