@@ -46,6 +46,5 @@ returns g c =
     let done : c.in_ok-profile.field-0.done ≡ Ok c.in_ok-done.field-0 = search rules in
     let P = c.in_ok-profile.field-0.profile ≡ others_after no_profile (fields bytes 0).items in
     let others : (fault_in other_rules bytes 0 ≡ None) × P = subst (λ (r : Result ⊤ ReadRefusal). TakesField r (fault_in other_rules bytes 0) P) done c.in_ok-profile.ensures.others in
-    let same : c.in_ok-profile.profile ≡ c.in_ok-profile.field-0.profile = search rules in
-    message_whole bytes notes c.in_ok-profile.profile c.in_ok-with_a_text.field-0 c.read_samples.new.samples are c.in_ok-read_samples.ensures.0 others.0 (same ∙ others.1)
+    message_whole bytes notes c.in_ok-profile.field-0.profile c.in_ok-with_a_text.field-0 c.read_samples.new.samples are c.in_ok-read_samples.ensures.0 others.0 others.1
     c.in_ok-read_samples.ensures.1 c.in_ok-with_a_text.ensures
