@@ -20,7 +20,7 @@ use Rattle.pp_tables.specs.Tables.{no_sample, sample_rules, sample_after, no_pro
 use Rattle.pp_tables.specs.Takes.{TakesField, profile_put}
 use Rattle.pp_tables.specs.Filling.{profile_none, profile_more}
 use Rattle.pp_tables.specs.Read.{Answers, read_message, profile_of, profile_unless, with_a_text}
-use Rattle.pp_tables.specs.Apart.{is_sample, other_rules, sample_rule, other_put, others_after, noted, unless, all_noted, samples_of, samples_fault, piece_fields, IsDecoded, AreDecoded}
+use Rattle.pp_tables.specs.Apart.{is_sample, other_rules, sample_rule, other_put, others_after, unless, all_noted, samples_of, samples_fault, piece_fields, IsDecoded, AreDecoded}
 use Rattle.pp_tables.proofs.Payloads.{both_none}
 use Rattle.pp_steal.specs.Running.{AreOutcomes}
 

@@ -20,9 +20,8 @@ use std::alloc::Global;
 use std::mem;
 use std::thread::Threads;
 
-/// Reads the message `Profile` as `read_profile` does, its samples in pieces of 1,024 on so many lanes, from 1 to 64.
-/// The answer does not tell how many there were. One lane reads as `read_profile` does, and so are more than 4 GiB
-/// read.
+/// Reads the message `Profile` as `read_profile` does, with the samples in pieces of 1,024 on so many lanes, from 1 to
+/// 64. The answer does not tell how many there were. With one lane, and above 4 GiB, it is `read_profile`.
 pub fn read_profile_on<R: Threads + Sync, G: Gate>(
     rt: &R,
     alloc: Global,

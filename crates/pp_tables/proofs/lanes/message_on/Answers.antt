@@ -1,4 +1,4 @@
-use Rattle.std.proofs.Common.{rules, ◌≡◌, ◌≤◌, ◌∙◌, ℕ, List, length, map, Result, Ok, Err, None, ap, subst, arith}
+use Rattle.std.proofs.Common.{rules, ◌≡◌, ◌≤◌, ◌∙◌, ℕ, List, length, map, Result, Ok, Err, None, ap, subst}
 use Rattle.std.specs.Prelude.{⊤}
 use Rattle.pp_wire.specs.Fields.{item, fields}
 use Rattle.pp_tables.specs.declared.refusal.ReadRefusal.{ReadRefusal}

@@ -1,7 +1,6 @@
-use Rattle.std.proofs.Common.{rules, ◌≡◌, ◌∙◌, ◌++◌, map, Some, Ok, Err}
+use Rattle.std.proofs.Common.{rules, ◌≡◌, ◌∙◌, map, Some, Ok, Err}
 use Rattle.pp_wire.specs.Walk.{more, first}
 use Rattle.pp_wire.specs.Fields.{item}
-use Rattle.pp_tables.specs.Apart.{all_noted}
 use Rattle.pp_tables.proofs.Skims.{walk_front, value_kept, fault_kept, notes_kept, notes_end, at_fault}
 use Rattle.pp_tables.proofs.skim.skim_fields.Goals as goal
 
