@@ -84,7 +84,7 @@ fn perform<R: Threads + Sync, D: Desk, G: Gate>(
 ) -> Result<Cause, Stop>
     ensures { Went (D.world desk.old) (D.world desk.new) (perform D.finds plan.now) result }
 {
-    let loaded = load(with.alloc, plan, desk)?;
+    let loaded = load(with.rt, with.alloc, plan, desk)?;
     serve_loaded(with, plan, &loaded, desk)
 }
 

@@ -8,25 +8,32 @@ ghost use Rattle.pp_load.specs.Decode.{legacy_given, tables_given, checked, tabl
 ghost use Rattle.pp_model.specs.Sizes.{HasAtMost};
 
 use crate::refusal::LoadRefusal;
+use crate::resources::Resources;
+use pp_base::OpenGate;
 use pp_check::{CheckRefusal, check};
 use pp_desk::{Halt, Stop};
 use pp_legacy::{LegacyRefusal, is_legacy, read_legacy};
 use pp_model::{Profile, Valid};
-use pp_tables::{ReadRefusal, read_profile};
+use pp_tables::{ReadRefusal, read_profile_on};
 use std::alloc::Global;
+use std::thread::Threads;
 
 /// The profile of the source of this number, by its bytes: a CPU profile of gperftools, or a message of profile.proto
 /// in which no table rule fails.
 #[tactic(auto, unfolding(crate::specs::Decode::decoded))]
-pub fn decode(alloc: Global, source: u32, bytes: &[u8]) -> Result<Valid, Halt<LoadRefusal>>
+pub fn decode<R: Threads + Sync>(
+    with: &Resources<'_, R>,
+    source: u32,
+    bytes: &[u8],
+) -> Result<Valid, Halt<LoadRefusal>>
     requires { length bytes.now < 2 ^ 32 }
     ensures is { Loads (decoded source bytes.now) result }
     ensures few { IfOk result (HasAtMost (length bytes.now)) }
 {
     if is_legacy(bytes) {
-        return decode_legacy(alloc, source, bytes);
+        return decode_legacy(with.alloc, source, bytes);
     }
-    decode_tables(alloc, source, bytes)
+    decode_tables(with, source, bytes)
 }
 
 #[tactic(auto, unfolding(crate::specs::Steps::Loads))]
@@ -45,21 +52,29 @@ fn decode_legacy(alloc: Global, source: u32, bytes: &[u8]) -> Result<Valid, Halt
 }
 
 #[tactic(auto, using(crate::proofs::Giving::giving), unfolding(crate::specs::Decode::tables_of))]
-fn decode_tables(alloc: Global, source: u32, bytes: &[u8]) -> Result<Valid, Halt<LoadRefusal>>
+fn decode_tables<R: Threads + Sync>(
+    with: &Resources<'_, R>,
+    source: u32,
+    bytes: &[u8],
+) -> Result<Valid, Halt<LoadRefusal>>
     requires { length bytes.now < 2 ^ 32 }
     ensures is { Loads (tables_of source bytes.now) result }
     ensures few { IfOk result (HasAtMost (length bytes.now)) }
 {
-    let profile = read_tables(alloc, source, bytes)?;
-    check_tables(alloc, source, profile)
+    let profile = read_tables(with, source, bytes)?;
+    check_tables(with.alloc, source, profile)
 }
 
 #[tactic(auto, unfolding(crate::specs::Steps::Loads))]
-fn read_tables(alloc: Global, source: u32, bytes: &[u8]) -> Result<Profile, Halt<LoadRefusal>>
+fn read_tables<R: Threads + Sync>(
+    with: &Resources<'_, R>,
+    source: u32,
+    bytes: &[u8],
+) -> Result<Profile, Halt<LoadRefusal>>
     ensures is { Loads (tables_given source (read bytes.now)) result }
     ensures few { IfOk result (HasAtMost (length bytes.now)) }
 {
-    match read_profile(alloc, bytes) {
+    match read_profile_on(with.rt, with.alloc, bytes, with.workers, &OpenGate) {
         Ok(profile) => Ok(profile),
         Err(ReadRefusal::Empty) => Err(Halt::Refused(LoadRefusal::Empty { source })),
         Err(ReadRefusal::Compressed) => Err(Halt::Refused(LoadRefusal::Compressed { source })),

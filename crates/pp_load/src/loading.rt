@@ -15,17 +15,20 @@ ghost use Rattle.pp_load.specs.Load.{load};
 use crate::combine::combine;
 use crate::reading::{Read, read_plan};
 use crate::refusal::LoadRefusal;
+use crate::resources::Resources;
 use pp_base::List;
 use pp_desk::{Desk, Halt, Stop, settle};
 use pp_model::{Compact, Loaded};
 use pp_options::Plan;
 use pp_pattern::{FramesRefused, judge_load};
 use std::alloc::Global;
+use std::thread::Threads;
 
 /// Loads the profile of a plan: its sources and bases are read in the order of their words, combined to one profile,
 /// and that profile's own patterns are asked. The first refusal ends all. A file's bytes are given up once they are
-/// decoded, and the decoded profiles once they are merged.
-pub fn load<D: Desk>(
+/// decoded, on as many lanes as the configuration has workers, and the decoded profiles once they are merged.
+pub fn load<R: Threads + Sync, D: Desk>(
+    rt: &R,
     alloc: Global,
     plan: &Plan,
     desk: &mut D,
@@ -41,17 +44,27 @@ pub fn load<D: Desk>(
     ensures found { IfOk result (λ loading.
         IfOk loading (λ l. (l.drop, l.keep) ≡ load_verdicts D.finds l.profile)) }
 {
-    settle(load_plan(alloc, plan, desk))
+    settle(load_plan(rt, alloc, plan, desk))
 }
 
 #[tactic(auto, using(pp_desk::proofs::AskingLemmas::asking, crate::proofs::Giving::given), unfolding(crate::specs::Load::load))]
-fn load_plan<D: Desk>(alloc: Global, plan: &Plan, desk: &mut D) -> Result<Loaded, Halt<LoadRefusal>>
+fn load_plan<R: Threads + Sync, D: Desk>(
+    rt: &R,
+    alloc: Global,
+    plan: &Plan,
+    desk: &mut D,
+) -> Result<Loaded, Halt<LoadRefusal>>
     ensures went { Went (D.world desk.old) (D.world desk.new) (load D.finds plan.now)
         (settled result) }
     ensures ready { IfOk result (λ l. IsReady l.profile) }
     ensures found { IfOk result (λ l. (l.drop, l.keep) ≡ load_verdicts D.finds l.profile) }
 {
-    let read = read_plan(alloc, plan, desk)?;
+    let with = Resources {
+        rt,
+        alloc,
+        workers: plan.config.workers,
+    };
+    let read = read_plan(&with, plan, desk)?;
     let profile = combine_read(alloc, plan, read)?;
     judge(alloc, profile, desk)
 }

@@ -14,11 +14,13 @@ ghost use Rattle.pp_load.specs.Load.{read_bytes, read_next, read_base, read_all,
 use crate::decode::decode;
 use crate::generator::gen_profile;
 use crate::refusal::LoadRefusal;
+use crate::resources::Resources;
 use pp_base::{List, Memory, Text};
 use pp_desk::{Desk, FileContent, Halt};
 use pp_model::Valid;
 use pp_options::{Origin, Plan};
 use std::alloc::Global;
+use std::thread::Threads;
 
 /// The most bytes of one file, and of all sources and bases together: 256 MiB.
 pub const SIZE_LIMIT: u64 = 268_435_456;
@@ -34,8 +36,8 @@ pub struct Read {
 
 /// The profiles of a plan's sources, and behind them those of its bases. The first refusal ends the reading.
 #[tactic(auto, using(pp_desk::proofs::AskingLemmas::asking), unfolding(crate::specs::Load::read_plan))]
-pub fn read_plan<D: Desk>(
-    alloc: Global,
+pub fn read_plan<R: Threads + Sync, D: Desk>(
+    with: &Resources<'_, R>,
     plan: &Plan,
     desk: &mut D,
 ) -> Result<Read, Halt<LoadRefusal>>
@@ -46,15 +48,15 @@ pub fn read_plan<D: Desk>(
         length read.profiles ≡ length plan.now.origins + length plan.now.bases) }
 {
     let read = Read {
-        profiles: List::new(alloc),
+        profiles: List::new(with.alloc),
         size: 0,
     };
-    let read = read_origins(alloc, read, plan.origins.as_slice(), desk)?;
-    read_bases(alloc, read, plan.bases.as_slice(), desk)
+    let read = read_origins(with, read, plan.origins.as_slice(), desk)?;
+    read_bases(with, read, plan.bases.as_slice(), desk)
 }
 
-fn read_origins<D: Desk>(
-    alloc: Global,
+fn read_origins<R: Threads + Sync, D: Desk>(
+    with: &Resources<'_, R>,
     mut read: Read,
     origins: &[Origin],
     desk: &mut D,
@@ -69,13 +71,13 @@ fn read_origins<D: Desk>(
         length more.profiles ≡ length read.profiles + length origins.now) }
 {
     for origin in origins {
-        read = read_next(alloc, read, origin, desk)?;
+        read = read_next(with, read, origin, desk)?;
     }
     Ok(read)
 }
 
-fn read_bases<D: Desk>(
-    alloc: Global,
+fn read_bases<R: Threads + Sync, D: Desk>(
+    with: &Resources<'_, R>,
     mut read: Read,
     bases: &[Text],
     desk: &mut D,
@@ -89,15 +91,15 @@ fn read_bases<D: Desk>(
         length more.profiles ≡ length read.profiles + length bases.now) }
 {
     for path in bases {
-        read = read_base(alloc, read, path, desk)?;
+        read = read_base(with, read, path, desk)?;
     }
     Ok(read)
 }
 
 // One source more.
 #[tactic(auto, using(pp_desk::proofs::AskingLemmas::asking, crate::proofs::Giving::given), unfolding(crate::specs::Load::read_next))]
-fn read_next<D: Desk>(
-    alloc: Global,
+fn read_next<R: Threads + Sync, D: Desk>(
+    with: &Resources<'_, R>,
     read: Read,
     origin: &Origin,
     desk: &mut D,
@@ -110,14 +112,14 @@ fn read_next<D: Desk>(
     ensures few { IfOk result IsCountableRead }
     ensures all { IfOk result (λ more. length more.profiles ≡ length read.profiles + 1) }
 {
-    let bytes = read_bytes(alloc, read.profiles.len() as u32, origin, desk)?;
-    add(alloc, read, bytes)
+    let bytes = read_bytes(with.alloc, read.profiles.len() as u32, origin, desk)?;
+    add(with, read, bytes)
 }
 
 // One base more.
 #[tactic(auto, using(pp_desk::proofs::AskingLemmas::asking, crate::proofs::Giving::given), unfolding(crate::specs::Load::read_base, crate::specs::Load::read_next, crate::specs::Load::read_bytes))]
-fn read_base<D: Desk>(
-    alloc: Global,
+fn read_base<R: Threads + Sync, D: Desk>(
+    with: &Resources<'_, R>,
     read: Read,
     path: &Text,
     desk: &mut D,
@@ -130,7 +132,7 @@ fn read_base<D: Desk>(
     ensures all { IfOk result (λ more. length more.profiles ≡ length read.profiles + 1) }
 {
     let bytes = read_path(read.profiles.len() as u32, path, desk)?;
-    add(alloc, read, bytes)
+    add(with, read, bytes)
 }
 
 // The bytes of the source of this number.
@@ -175,7 +177,11 @@ fn whole_of(source: u32, content: FileContent) -> Result<Text, Halt<LoadRefusal>
 
 // The profile of the bytes, behind those that were read. The bytes are given up.
 #[tactic(auto, using(crate::proofs::Giving::giving, crate::proofs::StartLemmas::decoded_has), unfolding(crate::specs::Sources::with_bytes))]
-fn add(alloc: Global, read: Read, bytes: Text) -> Result<Read, Halt<LoadRefusal>>
+fn add<R: Threads + Sync>(
+    with: &Resources<'_, R>,
+    read: Read,
+    bytes: Text,
+) -> Result<Read, Halt<LoadRefusal>>
     requires few { IsCountableRead read }
     requires room { length read.profiles + 1 < 2 ^ 32 }
     ensures is { Loads (with_bytes read bytes) result }
@@ -184,7 +190,7 @@ fn add(alloc: Global, read: Read, bytes: Text) -> Result<Read, Halt<LoadRefusal>
 {
     let len = bytes.len() as u64;
     fit(&read, len)?;
-    let profile = decode(alloc, read.profiles.len() as u32, bytes.as_slice())?;
+    let profile = decode(with, read.profiles.len() as u32, bytes.as_slice())?;
     Ok(push(read, profile, len)?)
 }
 

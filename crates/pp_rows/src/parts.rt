@@ -17,15 +17,21 @@ use pp_options::read_words;
 use pp_regex::RegexMatcher;
 use std::alloc::Global;
 use std::test::Fail;
+use std::thread::Threads;
 
 #[test]
 fn parts_join_to_the_whole(rt: HostRuntime) -> Result<(), Fail> {
-    assert!(rt; are_joined(rt.alloc(), "-top -gen=1500", &Sums::of(1500))?);
+    assert!(rt; are_joined(&rt, rt.alloc(), "-top -gen=1500", &Sums::of(1500))?);
     Ok(())
 }
 
 // Whether two pieces of the profile that these words make come to these sums, once they are joined.
-fn are_joined(alloc: Global, words: &str, sums: &Sums) -> Result<bool, Fail> {
+fn are_joined<R: Threads + Sync>(
+    rt: &R,
+    alloc: Global,
+    words: &str,
+    sums: &Sums,
+) -> Result<bool, Fail> {
     let words = words_of(alloc, words)?;
     let plan = read_words(alloc, words.as_slice()).ok().ok_or("no plan")?;
     let mut files = CalmFiles::new(alloc, List::new(alloc), List::new(alloc));
@@ -43,7 +49,7 @@ fn are_joined(alloc: Global, words: &str, sums: &Sums) -> Result<bool, Fail> {
         matcher: &mut matcher,
         reader: &mut reader,
     };
-    let Ok(Ok(l)) = load(alloc, &plan, &mut desk) else {
+    let Ok(Ok(l)) = load(rt, alloc, &plan, &mut desk) else {
         return Err("not loaded".into());
     };
     have_sums(alloc, &l, sums)

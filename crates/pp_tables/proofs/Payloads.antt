@@ -65,7 +65,7 @@ front_followed bytes at x behind base some e =
     }
 
 -- no fault in the first nor in the second
-both_none : (f g : Option WireFault) → or_else f g ≡ None → (f ≡ None) × (g ≡ None)
+pub both_none : (f g : Option WireFault) → or_else f g ≡ None → (f ≡ None) × (g ≡ None)
 both_none None g e = (refl, e)
 both_none (Some fault) g e = absurd cc
 

@@ -7,3 +7,4 @@ pub mod Filling
 pub mod Encode
 pub mod Fits
 pub mod Joined
+pub mod Apart

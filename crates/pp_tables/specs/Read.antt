@@ -19,9 +19,13 @@ abbrev pub or_one_empty : List (List ℕ) → List (List ℕ)
 or_one_empty [] = [] ∷ []
 or_one_empty (text ∷ texts) = text ∷ texts
 
+-- a profile that has a text
+abbrev pub with_a_text : Profile → Profile
+with_a_text p = record p { text = or_one_empty p.text }
+
 -- the profile that the fields of its message make
 abbrev pub profile_of : List Item → Profile
-profile_of items = let p = profile_after no_profile items in record p { text = or_one_empty p.text }
+profile_of items = with_a_text (profile_after no_profile items)
 
 -- that profile, unless there is a fault
 abbrev pub profile_unless : Option WireFault → Profile → Result Profile ReadRefusal

@@ -180,7 +180,11 @@ fn count_ends(bytes: &[u8]) -> usize {
 }
 
 // Makes room for so many items more. An empty list gets no more than that, since it is mostly filled once.
-fn reserve<T: Drop>(alloc: Global, list: &mut List<T>, count: usize) -> Result<(), Memory>
+pub(crate) fn reserve<T: Drop>(
+    alloc: Global,
+    list: &mut List<T>,
+    count: usize,
+) -> Result<(), Memory>
     ensures { OnOk result (list.new ≡ list.old) }
 {
     let mut items = mem::replace(list, List::new(alloc)).into_vec();
