@@ -1,5 +1,5 @@
 //! What a program does with a profile that it holds, beside reports: copies of it, labels that are asked for, set and
-//! removed, whether it can be counted, and the verdicts of a report without patterns.
+//! removed, whether it can be counted, and what a report without patterns is made of.
 #![tactic(auto)]
 
 mod asking;
@@ -14,4 +14,4 @@ pub use asking::{find_label, has_label, is_of_base};
 pub use copying::{copy_compact, copy_profile, copy_valid};
 pub use counting::is_countable;
 pub use labelling::{remove_label, set_label, set_number_label};
-pub use verdicts::no_verdicts;
+pub use verdicts::{no_verdicts, without_patterns};

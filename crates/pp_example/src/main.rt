@@ -1,54 +1,32 @@
 //! Allocations of a made-up server: recorded, written to files, read back, merged, and shown in two ways.
 #![tactic(auto)]
 
-ghost use Rattle.std.specs.Prelude.{IfOk};
+ghost use Rattle.std.specs.Prelude.{◌≡◌, IfOk};
 ghost use Rattle.pp_model.specs.Sizes.{HasAtMost};
+ghost use Rattle.pp_build.specs.Adding.{no_entries};
 ghost use Rattle.pp_graph.specs.KeyRows.{CanShow};
 
 use anyhow::{Result, ensure};
 use pp_base::{List, Memory, OpenGate, Text};
 use pp_model::{Config, Loaded, Valid};
-use std::alloc::Global;
 use std::io::Write;
 
 fn main(rt: HostRuntime) -> Result<()> {
-    let alloc = rt.alloc();
-    let mut hours = List::new(alloc);
-    hours.push(through_file(&rt, "hour-1.pb", &record(alloc, 300)?)?)?;
-    hours.push(through_file(&rt, "hour-2.pb", &record(alloc, 500)?)?)?;
-    let l = Loaded {
-        profile: pp_merge::merge(alloc, hours)?,
-        drop: None,
-        keep: None,
-    };
-    let p = l.profile.get();
-    ensure!(pp_edit::is_countable(p), "too large to be counted");
-    let config = Config::standard(alloc)?;
-    let column = pp_count::column_of(&l, &config)?;
-    let verdicts = pp_edit::no_verdicts(alloc);
-    let counted = pp_count::count(&rt, alloc, &l, &verdicts, &config, column, &OpenGate)?;
-    let ranked = pp_graph::rank(alloc, &l, &counted, &config, 0)?;
-    let text = show(alloc, &l, &counted, &ranked)?;
+    let mut hours = List::new(rt.alloc());
+    hours.push(hour(&rt, "hour-1.pb", 300)?)?;
+    hours.push(hour(&rt, "hour-2.pb", 500)?)?;
+    let both = pp_edit::without_patterns(pp_merge::merge(rt.alloc(), hours)?);
+    let text = report(&rt, &both)?;
     Ok(rt.stdout().write_all(text.as_slice())?)
 }
 
-// The allocations of an hour with so many requests.
-fn record(alloc: Global, requests: u32) -> Result<Valid, Memory> {
-    let mut b = pp_build::Builder::new(alloc)?;
-    b.column(b"alloc_space", b"bytes")?;
-    let main = b.frame(b"main.main", b"main.go", 12)?;
-    let serve = b.frame(b"server.serve", b"server.go", 40)?;
-    let parse = b.frame(b"json.parse", b"parse.go", 7)?;
-    b.sample(&[serve, main], &[i64::from(requests) * 1024], &[])?;
-    b.sample(&[parse, serve, main], &[i64::from(requests) * 4096], &[])?;
-    Ok(b.finish())
-}
-
-// The profile, written to the file and read back.
-fn through_file(rt: &HostRuntime, path: &str, hour: &Valid) -> Result<Valid>
+// An hour of so many requests, written to the file and read back.
+fn hour(rt: &HostRuntime, path: &str, requests: u32) -> Result<Valid>
     ensures { IfOk result (HasAtMost 16777216) }
 {
-    let written = pp_tables::write_profile(rt.alloc(), hour)?;
+    let mut b = pp_build::Builder::new(rt.alloc())?;
+    record(&mut b, requests)?;
+    let written = pp_tables::write_profile(rt.alloc(), &b.finish())?;
     std::fs::write(rt, path, written.as_slice())?;
     let bytes = std::fs::read(rt, path)?;
     ensure!(bytes.len() <= 16_777_216, "{path} has more than 16 MiB");
@@ -56,25 +34,47 @@ fn through_file(rt: &HostRuntime, path: &str, hour: &Valid) -> Result<Valid>
     Ok(pp_check::check(rt.alloc(), profile)?)
 }
 
+fn record(b: &mut pp_build::Builder, requests: u32) -> Result<(), Memory>
+    requires { b.old ≡ no_entries }
+{
+    b.column(b"alloc_space", b"bytes")?;
+    let main = b.frame(b"main.main", b"main.go", 12)?;
+    let serve = b.frame(b"server.serve", b"server.go", 40)?;
+    let parse = b.frame(b"json.parse", b"parse.go", 7)?;
+    b.sample(&[serve, main], &[i64::from(requests) * 1024], &[])?;
+    b.sample(&[parse, serve, main], &[i64::from(requests) * 4096], &[])
+}
+
+fn report(rt: &HostRuntime, l: &Loaded) -> Result<Text> {
+    let p = l.profile.get();
+    ensure!(pp_edit::is_countable(p), "too large to be counted");
+    let config = Config::standard(rt.alloc())?;
+    let column = pp_count::column_of(l, &config)?;
+    let verdicts = pp_edit::no_verdicts(rt.alloc());
+    let counted = pp_count::count(rt, rt.alloc(), l, &verdicts, &config, column, &OpenGate)?;
+    let ranked = pp_graph::rank(rt.alloc(), l, &counted, &config, 0)?;
+    show(rt, l, &counted, &ranked)
+}
+
 // A line for each function, and the report.
-fn show(alloc: Global, l: &Loaded, c: &pp_count::Counted, r: &pp_graph::Ranked) -> Result<Text>
+fn show(rt: &HostRuntime, l: &Loaded, c: &pp_count::Counted, r: &pp_graph::Ranked) -> Result<Text>
     requires { CanShow l.now.profile c.now.sums r.now.order }
 {
-    let mut text = Text::from_slice(alloc, b"own bytes  with callees  function")?;
+    let mut text = Text::from_slice(rt.alloc(), b"own bytes  with callees  function")?;
     for number in r.order.as_slice() {
         let own = c.sums.flat.as_slice()[*number as usize];
         let cum = c.sums.cum.as_slice()[*number as usize];
-        text.extend(format!(in alloc; "\n{own:>9}  {cum:>12}  ")?.as_bytes())?;
+        text.extend(format!(in rt.alloc(); "\n{own:>9}  {cum:>12}  ")?.as_bytes())?;
         pp_grain::write_name(l, &c.sums.names.key(*number), &mut text)?;
     }
     text.extend(b"\n\n")?;
     let head = pp_units::Head {
-        file: Text::from_slice(alloc, b"server")?,
-        kind: Text::from_slice(alloc, b"alloc_space")?,
+        file: Text::from_slice(rt.alloc(), b"server")?,
+        kind: Text::from_slice(rt.alloc(), b"alloc_space")?,
         duration: 0,
         total: c.total,
-        unit: pp_units::pick_unit(alloc, c.total, b"bytes")?,
+        unit: pp_units::pick_unit(rt.alloc(), c.total, b"bytes")?,
     };
-    pp_top::write_top(alloc, l, c, r, &head, &mut text)?;
+    pp_top::write_top(rt.alloc(), l, c, r, &head, &mut text)?;
     Ok(text)
 }
