@@ -35,8 +35,8 @@ nothing_more false sum rest none = omega (arith, ints)
 module _ (t : CallPath Written → Bool) (path : CallPath Written) (paths : List (CallPath Written)) (rest : ℤ) (is : paths_sum (filter t paths) ≡ rest) where
   -- one path more
   one_more : (none : Bool) → (none ≡ true → path.sum ≡ pos 0) → paths_sum (filter t (cond (not none) (path ∷ paths) paths)) ≡ cond (t path) path.sum (pos 0) +ℤ rest
-  one_more true zero = is ∙ nothing_more (t path) path.sum rest (zero refl)
-  one_more false zero = elim (t path) as (λ b. paths_sum (cond b (path ∷ filter t paths) (filter t paths)) ≡ cond b path.sum (pos 0) +ℤ rest) [
+  one_more true is_zero = is ∙ nothing_more (t path) path.sum rest (is_zero refl)
+  one_more false is_zero = elim (t path) as (λ b. paths_sum (cond b (path ∷ filter t paths) (filter t paths)) ≡ cond b path.sum (pos 0) +ℤ rest) [
     | true ↦ ap (λ z. path.sum +ℤ z) is
     | false ↦ is ∙ omega (arith, ints)
   ]
@@ -86,8 +86,8 @@ framed (k ∷ keys) = refl
 -- samples whose value is 0 add nothing
 weighed_more : {K : Type 0} (P : List K → Bool) (s : Seen K) (samples : List (Seen K)) (rest : ℤ) → sum_where P samples ≡ rest → (none : Bool) → (none ≡ true → s.value ≡ pos 0)
     → sum_where P (cond (not none) (s ∷ samples) samples) ≡ cond (P s.keys) s.value (pos 0) +ℤ rest
-weighed_more P s samples rest is true zero = is ∙ nothing_more (P s.keys) s.value rest (zero refl)
-weighed_more P s samples rest is false zero = ap (λ z. cond (P s.keys) s.value (pos 0) +ℤ z) is
+weighed_more P s samples rest is true is_zero = is ∙ nothing_more (P s.keys) s.value rest (is_zero refl)
+weighed_more P s samples rest is false is_zero = ap (λ z. cond (P s.keys) s.value (pos 0) +ℤ z) is
 
 weighed_sum : {K : Type 0} (P : List K → Bool) (samples : List (Seen K)) → sum_where P (weighed samples) ≡ sum_where P samples
 weighed_sum P [] = refl
