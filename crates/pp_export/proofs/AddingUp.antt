@@ -1,5 +1,5 @@
 -- What the lines of the folded report add up to.
-use Rattle.std.proofs.Common.{◌≡◌, ℕ, zero, suc, ◌+◌, Bool, true, false, cond, not, ℤ, pos, ◌+ℤ◌, List, [], ◌∷◌, ◌++◌, length, map, take, reverse, Option, refl, sym, ap, ◌∙◌, arith}
+use Rattle.std.proofs.Common.{◌≡◌, ℕ, zero, suc, ◌+◌, Bool, true, false, cond, not, ℤ, pos, ◌+ℤ◌, List, [], ◌∷◌, ◌++◌, reverse, Option, refl, sym, ap, ◌∙◌, arith}
 use Rattle.std.specs.List.{filter, flat_map}
 use Rattle.std.specs.Ordering.{int_eq, eq_by_cmp}
 use Rattle.std.proofs.lemmas.Bool.Decides.{Decides-int_eq}
@@ -12,11 +12,10 @@ use Rattle.pp_model.specs.Finders.{Finders}
 use Rattle.pp_model.specs.FrameTexts.{Written}
 use Rattle.pp_grain.specs.Keys.{key_cmp}
 use Rattle.pp_calltree.specs.CallPaths.{CallPath, has_sum, path_by, paths_below, report_paths}
-use Rattle.pp_calltree.specs.CallTree.{TreeRow, all_lengths, any_row, is_end, path_flat, path_samples, row_of, rows_below, siblings, under}
+use Rattle.pp_calltree.specs.CallTree.{TreeRow, all_lengths, any_row, path_flat, path_samples, row_of, rows_below, siblings, under}
 use Rattle.pp_count.specs.Counted.{report_samples}
 use Rattle.pp_count.specs.Seeing.{seen_samples}
-use Rattle.pp_count.specs.Sums.{Seen, flat, leads, sum_where, weighed}
-use Rattle.pp_graph.specs.Trimmed.{int_sum}
+use Rattle.pp_count.specs.Sums.{Seen, leads, sum_where, weighed}
 use Rattle.pp_export.specs.Laws.{has_names, printed_paths, paths_sum, ends_with, LinesAddUp, LinesOfKeysAddUp}
 use Rattle.pp_calltree.proofs.ByKey.{first_passes, flats_where, flats_where-append, flats_add_up, sum_where-same}
 
