@@ -1,5 +1,5 @@
 -- What the lines of the folded report add up to.
-use Rattle.std.proofs.Common.{◌≡◌, ℕ, zero, suc, ◌+◌, Bool, true, false, cond, not, ℤ, pos, ◌+ℤ◌, List, [], ◌∷◌, ◌++◌, length, map, take, reverse, Option, refl, sym, ap, ◌∙◌, arith}
+use Rattle.std.proofs.Common.{◌≡◌, ℕ, zero, suc, ◌+◌, Bool, true, false, cond, not, ℤ, pos, ◌+ℤ◌, List, [], ◌∷◌, ◌++◌, reverse, Option, refl, sym, ap, ◌∙◌, arith}
 use Rattle.std.specs.List.{filter, flat_map}
 use Rattle.std.specs.Ordering.{int_eq, eq_by_cmp}
 use Rattle.std.proofs.lemmas.Bool.Decides.{Decides-int_eq}
@@ -12,11 +12,10 @@ use Rattle.pp_model.specs.Finders.{Finders}
 use Rattle.pp_model.specs.FrameTexts.{Written}
 use Rattle.pp_grain.specs.Keys.{key_cmp}
 use Rattle.pp_calltree.specs.CallPaths.{CallPath, has_sum, path_by, paths_below, report_paths}
-use Rattle.pp_calltree.specs.CallTree.{TreeRow, all_lengths, any_row, is_end, path_flat, path_samples, row_of, rows_below, siblings, under}
+use Rattle.pp_calltree.specs.CallTree.{TreeRow, all_lengths, any_row, path_flat, path_samples, row_of, rows_below, siblings, under}
 use Rattle.pp_count.specs.Counted.{report_samples}
 use Rattle.pp_count.specs.Seeing.{seen_samples}
-use Rattle.pp_count.specs.Sums.{Seen, flat, leads, sum_where, weighed}
-use Rattle.pp_graph.specs.Trimmed.{int_sum}
+use Rattle.pp_count.specs.Sums.{Seen, leads, sum_where, weighed}
 use Rattle.pp_export.specs.Laws.{has_names, printed_paths, paths_sum, ends_with, LinesAddUp, LinesOfKeysAddUp}
 use Rattle.pp_calltree.proofs.ByKey.{first_passes, flats_where, flats_where-append, flats_add_up, sum_where-same}
 
@@ -35,8 +34,8 @@ nothing_more false sum rest none = omega (arith, ints)
 module _ (t : CallPath Written → Bool) (path : CallPath Written) (paths : List (CallPath Written)) (rest : ℤ) (is : paths_sum (filter t paths) ≡ rest) where
   -- one path more
   one_more : (none : Bool) → (none ≡ true → path.sum ≡ pos 0) → paths_sum (filter t (cond (not none) (path ∷ paths) paths)) ≡ cond (t path) path.sum (pos 0) +ℤ rest
-  one_more true zero = is ∙ nothing_more (t path) path.sum rest (zero refl)
-  one_more false zero = elim (t path) as (λ b. paths_sum (cond b (path ∷ filter t paths) (filter t paths)) ≡ cond b path.sum (pos 0) +ℤ rest) [
+  one_more true is_zero = is ∙ nothing_more (t path) path.sum rest (is_zero refl)
+  one_more false is_zero = elim (t path) as (λ b. paths_sum (cond b (path ∷ filter t paths) (filter t paths)) ≡ cond b path.sum (pos 0) +ℤ rest) [
     | true ↦ ap (λ z. path.sum +ℤ z) is
     | false ↦ is ∙ omega (arith, ints)
   ]
@@ -86,8 +85,8 @@ framed (k ∷ keys) = refl
 -- samples whose value is 0 add nothing
 weighed_more : {K : Type 0} (P : List K → Bool) (s : Seen K) (samples : List (Seen K)) (rest : ℤ) → sum_where P samples ≡ rest → (none : Bool) → (none ≡ true → s.value ≡ pos 0)
     → sum_where P (cond (not none) (s ∷ samples) samples) ≡ cond (P s.keys) s.value (pos 0) +ℤ rest
-weighed_more P s samples rest is true zero = is ∙ nothing_more (P s.keys) s.value rest (zero refl)
-weighed_more P s samples rest is false zero = ap (λ z. cond (P s.keys) s.value (pos 0) +ℤ z) is
+weighed_more P s samples rest is true is_zero = is ∙ nothing_more (P s.keys) s.value rest (is_zero refl)
+weighed_more P s samples rest is false is_zero = ap (λ z. cond (P s.keys) s.value (pos 0) +ℤ z) is
 
 weighed_sum : {K : Type 0} (P : List K → Bool) (samples : List (Seen K)) → sum_where P (weighed samples) ≡ sum_where P samples
 weighed_sum P [] = refl

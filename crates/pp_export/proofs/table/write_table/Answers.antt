@@ -1,6 +1,5 @@
-use Rattle.std.proofs.Common.{◌++◌, map, ap, ◌∙◌}
+use Rattle.std.proofs.Common.{◌∙◌}
 use Rattle.pp_base.proofs.TextLemmas.{appended}
-use Rattle.pp_export.specs.Table.{exact_heading, table_rows}
 use Rattle.pp_export.proofs.Rows.{table_is}
 use Rattle.pp_export.proofs.table.write_table.Goals as goal
 
