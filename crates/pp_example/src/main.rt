@@ -9,6 +9,7 @@ ghost use Rattle.pp_graph.specs.KeyRows.{CanShow};
 use anyhow::{Result, ensure};
 use pp_base::{List, Memory, OpenGate, Text};
 use pp_model::{Config, Loaded, Valid};
+use std::alloc::Global;
 use std::io::Write;
 
 fn main(rt: HostRuntime) -> Result<()> {
@@ -16,7 +17,7 @@ fn main(rt: HostRuntime) -> Result<()> {
     hours.push(hour(&rt, "hour-1.pb", 300)?)?;
     hours.push(hour(&rt, "hour-2.pb", 500)?)?;
     let both = pp_edit::without_patterns(pp_merge::merge(rt.alloc(), hours)?);
-    let text = report(&rt, &both)?;
+    let text = report(&rt, rt.alloc(), &both)?;
     Ok(rt.stdout().write_all(text.as_slice())?)
 }
 
@@ -45,36 +46,35 @@ fn record(b: &mut pp_build::Builder, requests: u32) -> Result<(), Memory>
     b.sample(&[parse, serve, main], &[i64::from(requests) * 4096], &[])
 }
 
-fn report(rt: &HostRuntime, l: &Loaded) -> Result<Text> {
-    let p = l.profile.get();
-    ensure!(pp_edit::is_countable(p), "too large to be counted");
-    let config = Config::standard(rt.alloc())?;
+fn report<R: std::thread::Threads + Sync>(rt: &R, alloc: Global, l: &Loaded) -> Result<Text> {
+    ensure!(pp_edit::is_countable(l.profile.get()), "too large");
+    let config = Config::standard(alloc)?;
     let column = pp_count::column_of(l, &config)?;
-    let verdicts = pp_edit::no_verdicts(rt.alloc());
-    let counted = pp_count::count(rt, rt.alloc(), l, &verdicts, &config, column, &OpenGate)?;
-    let ranked = pp_graph::rank(rt.alloc(), l, &counted, &config, 0)?;
-    show(rt, l, &counted, &ranked)
+    let verdicts = pp_edit::no_verdicts(alloc);
+    let counted = pp_count::count(rt, alloc, l, &verdicts, &config, column, &OpenGate)?;
+    let ranked = pp_graph::rank(alloc, l, &counted, &config, 0)?;
+    show(alloc, l, &counted, &ranked)
 }
 
 // A line for each function, and the report.
-fn show(rt: &HostRuntime, l: &Loaded, c: &pp_count::Counted, r: &pp_graph::Ranked) -> Result<Text>
+fn show(alloc: Global, l: &Loaded, c: &pp_count::Counted, r: &pp_graph::Ranked) -> Result<Text>
     requires { CanShow l.now.profile c.now.sums r.now.order }
 {
-    let mut text = Text::from_slice(rt.alloc(), b"own bytes  with callees  function")?;
+    let mut text = Text::from_slice(alloc, b"own bytes  with callees  function")?;
     for number in r.order.as_slice() {
         let own = c.sums.flat.as_slice()[*number as usize];
         let cum = c.sums.cum.as_slice()[*number as usize];
-        text.extend(format!(in rt.alloc(); "\n{own:>9}  {cum:>12}  ")?.as_bytes())?;
+        text.extend(format!(in alloc; "\n{own:>9}  {cum:>12}  ")?.as_bytes())?;
         pp_grain::write_name(l, &c.sums.names.key(*number), &mut text)?;
     }
     text.extend(b"\n\n")?;
     let head = pp_units::Head {
-        file: Text::from_slice(rt.alloc(), b"server")?,
-        kind: Text::from_slice(rt.alloc(), b"alloc_space")?,
+        file: Text::from_slice(alloc, b"server")?,
+        kind: Text::from_slice(alloc, b"alloc_space")?,
         duration: 0,
         total: c.total,
-        unit: pp_units::pick_unit(rt.alloc(), c.total, b"bytes")?,
+        unit: pp_units::pick_unit(alloc, c.total, b"bytes")?,
     };
-    pp_top::write_top(rt.alloc(), l, c, r, &head, &mut text)?;
+    pp_top::write_top(alloc, l, c, r, &head, &mut text)?;
     Ok(text)
 }
