@@ -2,10 +2,7 @@ use Rattle.std.proofs.Common.{◌≡◌, ◌++◌, ℕ, List, [], ◌∷◌, Opt
 use Rattle.std.specs.List.{flat_map, cons_option}
 use Rattle.std.proofs.lemmas.Grind.{flat_map-append}
 use Rattle.std.proofs.lemmas.List.{append-nil, take_all}
-<<<<<<< HEAD
-=======
 use Rattle.pp_model.specs.declared.profile.Sample.{Sample}
->>>>>>> 4a893c6f7d3e4e836bba8a3be4dbe4b8d93cfd6f
 use Rattle.pp_count.specs.Counts.{samples_at}
 use Rattle.pp_samples.specs.Tracing.{trace_profile, sample_trace}
 use Rattle.pp_base.proofs.TextLemmas.{then_more}
