@@ -75,7 +75,7 @@ is_long value scale counter bytes total le so_far =
     let one : with_front value scale (groups (10 - counter) bytes) ≡ Err LongVarint = rw k refl in
     sym so_far ∙ one
 
--- a varint of one byte, and of two
+-- a varint of one byte, of two, and of three
 pub one_byte : (b : ℕ) (bytes rest : List ℕ) → rest ≡ b ∷ bytes → b < 128 → varint rest ≡ Ok (b, bytes)
 one_byte b bytes rest parts low =
     is_last 0 1 0 b bytes rest (varint rest) (omega arith) low parts (starts_varint rest)
@@ -87,3 +87,11 @@ two_bytes a b n bytes rest whole first second high low sum small =
     is_last _ _ 1 b bytes rest (varint whole) (omega arith) low second
     (goes_on 0 1 0 a rest whole (varint whole) (omega arith) high first (starts_varint whole))
     ∙ ap (λ n. read_of n bytes) (omega (arith, high, low, sum, small))
+
+pub three_bytes : (a b c n : ℕ) (bytes third second whole : List ℕ) → whole ≡ a ∷ second → second ≡ b ∷ third → third ≡ c ∷ bytes
+    → 128 ≤ a → 128 ≤ b → c < 128 → n ≡ (a - 128) + 128 * ((b - 128) + 128 * c) → n < 2 ^ 21 → varint whole ≡ Ok (n, bytes)
+three_bytes a b c n bytes third second whole at_a at_b at_c high_a high_b low sum small =
+    is_last _ _ 2 c bytes third (varint whole) (omega arith) low at_c
+    (goes_on _ _ 1 b third second (varint whole) (omega arith) high_b at_b
+    (goes_on 0 1 0 a second whole (varint whole) (omega arith) high_a at_a (starts_varint whole)))
+    ∙ ap (λ n. read_of n bytes) (omega (arith, high_a, high_b, low, sum, small))

@@ -23,11 +23,6 @@ first walk = next_item walk.items walk.fault
 abbrev pub rest_of : {A : Type 0} → Walk A → Walk A
 rest_of walk = record { items = drop 1 walk.items; fault = walk.fault }
 
--- what is left is that fault alone, where there is one
-abbrev pub stopped : {A : Type 0} → Option WireFault → Walk A → Walk A
-stopped (Some fault) walk = record { items = []; fault = Some fault }
-stopped None walk = walk
-
 -- one item in front of others
 abbrev pub more : {A : Type 0} → A → Walk A → Walk A
 more x walk = record { items = x ∷ walk.items; fault = walk.fault }

@@ -13,17 +13,16 @@ use std::marker::Model;
 pub struct Packed<'a> {
     rest: &'a [u8],
     at: u64,
-    fault: Option<WireFault>,
 }
 
 impl<'a> Model for Packed<'a> {
     ghost use Rattle.std.specs.Prelude.{ℕ};
-    ghost use Rattle.pp_wire.specs.Varint.{varint};
-    ghost use Rattle.pp_wire.specs.Walk.{Walk, stopped, walk_of, placed};
+    ghost use Rattle.pp_wire.specs.Walk.{Walk};
+    ghost use Rattle.pp_wire.specs.Fields.{numbers};
 
     ghost Value = { Walk ℕ };
 
-    ghost view = { λ p. stopped p.fault (walk_of (λ rest. placed p.at (varint rest)) p.rest.now) };
+    ghost view = { λ p. numbers p.rest.now p.at };
 }
 
 impl<'a> Packed<'a> {
@@ -32,11 +31,7 @@ impl<'a> Packed<'a> {
         ensures numbers { result ≡ numbers bytes.now at }
         ensures few { length result.items ≤ length bytes.now }
     {
-        Packed {
-            rest: bytes,
-            at,
-            fault: None,
-        }
+        Packed { rest: bytes, at }
     }
 
     /// The next number, or `None` exactly at the end of the bytes. A fault has the place of the field's tag. A faulty
@@ -46,9 +41,6 @@ impl<'a> Packed<'a> {
         ensures given { result ≡ first self.old }
         ensures left { self.new ≡ rest_of self.old }
     {
-        if let Some(fault) = self.fault {
-            return Some(Err(fault));
-        }
         if self.rest.is_empty() {
             return None;
         }
@@ -57,11 +49,7 @@ impl<'a> Packed<'a> {
                 self.rest = rest;
                 Some(Ok(number))
             }
-            Err(kind) => {
-                let fault = WireFault { kind, at: self.at };
-                self.fault = Some(fault);
-                Some(Err(fault))
-            }
+            Err(kind) => Some(Err(WireFault { kind, at: self.at })),
         }
     }
 }

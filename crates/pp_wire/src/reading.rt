@@ -9,6 +9,7 @@ use crate::varint::varint_of;
 use crate::{Field, Payload, WireKind};
 
 /// The field at the front of bytes that end at the place `end`, and the bytes after it.
+#[inline(always)]
 #[tactic(auto, unfolding(crate::specs::Fields::field_in))]
 pub(crate) fn field_of(end: u64, bytes: &[u8]) -> Result<(Field<'_>, &[u8]), WireKind>
     requires { length bytes.now ≤ end }
@@ -30,6 +31,7 @@ pub(crate) fn field_of(end: u64, bytes: &[u8]) -> Result<(Field<'_>, &[u8]), Wir
 }
 
 // A tag is `(number << 3) | kind`.
+#[inline(always)]
 #[tactic(auto, unfolding(crate::specs::Fields::number_in))]
 fn number_of(tag: u64) -> Result<u32, WireKind>
     ensures { Gives (λ n. n) result (number_in tag) }
@@ -42,6 +44,7 @@ fn number_of(tag: u64) -> Result<u32, WireKind>
     }
 }
 
+#[inline(always)]
 #[tactic(auto, unfolding(crate::specs::Fields::content))]
 fn payload_of(end: u64, kind: u64, bytes: &[u8]) -> Result<(Payload<'_>, &[u8]), WireKind>
     requires { length bytes.now ≤ end }
@@ -58,6 +61,7 @@ fn payload_of(end: u64, kind: u64, bytes: &[u8]) -> Result<(Payload<'_>, &[u8]),
     }
 }
 
+#[inline(always)]
 #[tactic(auto, unfolding(crate::specs::Fields::number))]
 fn varint_payload(bytes: &[u8]) -> Result<(Payload<'_>, &[u8]), WireKind>
     ensures read { Gives (λ x. (content_of x.0, x.1.now)) result (number bytes.now) }
@@ -68,6 +72,7 @@ fn varint_payload(bytes: &[u8]) -> Result<(Payload<'_>, &[u8]), WireKind>
     Ok((Payload::Varint(value), rest))
 }
 
+#[inline(always)]
 #[tactic(auto, unfolding(crate::specs::Fields::eight))]
 fn eight_payload(bytes: &[u8]) -> Result<(Payload<'_>, &[u8]), WireKind>
     ensures read { Gives (λ x. (content_of x.0, x.1.now)) result (eight bytes.now) }
@@ -84,6 +89,7 @@ fn eight_payload(bytes: &[u8]) -> Result<(Payload<'_>, &[u8]), WireKind>
     Ok((Payload::Eight(value), rest))
 }
 
+#[inline(always)]
 #[tactic(auto, unfolding(crate::specs::Fields::four))]
 fn four_payload(bytes: &[u8]) -> Result<(Payload<'_>, &[u8]), WireKind>
     ensures read { Gives (λ x. (content_of x.0, x.1.now)) result (four bytes.now) }
@@ -98,6 +104,7 @@ fn four_payload(bytes: &[u8]) -> Result<(Payload<'_>, &[u8]), WireKind>
     Ok((Payload::Four(value), rest))
 }
 
+#[inline(always)]
 #[tactic(auto, unfolding(crate::specs::Fields::length_delimited))]
 fn bytes_payload(end: u64, bytes: &[u8]) -> Result<(Payload<'_>, &[u8]), WireKind>
     requires { length bytes.now ≤ end }

@@ -16,7 +16,7 @@ pub(crate) fn varint_of(bytes: &[u8]) -> Result<(u64, &[u8]), WireKind>
     // Most numbers are small.
     match short_varint_of(bytes) {
         Some(read) => Ok(read),
-        None => long_varint_of(bytes),
+        None => wide_varint_of(bytes),
     }
 }
 
@@ -46,6 +46,36 @@ fn two_groups(first: u8, second: u8) -> u64
     ensures small { result < 2 ^ 14 }
 {
     u64::from(first - 128) + 128 * u64::from(second)
+}
+
+// The same for a varint of any length. Most that take more than two bytes take three.
+#[inline(always)]
+#[tactic(auto, using(crate::proofs::Varints::three_bytes))]
+fn wide_varint_of(bytes: &[u8]) -> Result<(u64, &[u8]), WireKind>
+    ensures read { Gives (λ x. (x.0, x.1.now)) result (varint bytes.now) }
+    ensures shorter { IfOk result (λ x. length x.1.now < length bytes.now) }
+{
+    if let Some((first, rest)) = first_of(bytes)
+        && first >= 128
+        && let Some((second, rest)) = first_of(rest)
+        && second >= 128
+        && let Some((third, rest)) = first_of(rest)
+        && third < 128
+    {
+        return Ok((three_groups(first, second, third), rest));
+    }
+    long_varint_of(bytes)
+}
+
+// The number of these three groups, of which the first two are marked as not the last.
+fn three_groups(first: u8, second: u8, third: u8) -> u64
+    requires marked { 128 ≤ first }
+    requires second_marked { 128 ≤ second }
+    requires last { third < 128 }
+    ensures sum { result ≡ (first - 128) + 128 * ((second - 128) + 128 * third) }
+    ensures small { result < 2 ^ 21 }
+{
+    u64::from(first - 128) + 128 * two_groups(second, third)
 }
 
 // The same for a varint of any length, group by group.

@@ -14,17 +14,16 @@ pub struct Walker<'a> {
     rest: &'a [u8],
     // The place behind the last byte.
     end: u64,
-    fault: Option<WireFault>,
 }
 
 impl<'a> Model for Walker<'a> {
     ghost use Rattle.std.specs.Prelude.{◌≤◌, length};
-    ghost use Rattle.pp_wire.specs.Walk.{Walk, stopped, walk_of};
+    ghost use Rattle.pp_wire.specs.Walk.{Walk, walk_of};
     ghost use Rattle.pp_wire.specs.Fields.{Item, field};
 
     ghost Value = { Walk Item };
 
-    ghost view = { λ w. stopped w.fault (walk_of (field w.end) w.rest.now) };
+    ghost view = { λ w. walk_of (field w.end) w.rest.now };
 
     ghost invariant = { λ w. length w.rest.now ≤ w.end };
 }
@@ -39,20 +38,17 @@ impl<'a> Walker<'a> {
         Walker {
             rest: bytes,
             end: base + bytes.len() as u64,
-            fault: None,
         }
     }
 
     /// The next field, or `None` exactly at the end of the bytes. A faulty field is never passed: the walker stays in
     /// front of it and answers with its fault from then on. It never answers `WrongKind`, since it does not know which
     /// fields the message may have (`fields_are_read_in_turn`, `no_wrong_kind`).
+    #[inline(always)]
     pub fn next(&mut self) -> Option<Result<Field<'a>, WireFault>>
         ensures given { item_or_fault result ≡ first self.old }
         ensures left { self.new ≡ rest_of self.old }
     {
-        if let Some(fault) = self.fault {
-            return Some(Err(fault));
-        }
         if self.rest.is_empty() {
             return None;
         }
@@ -63,9 +59,7 @@ impl<'a> Walker<'a> {
             }
             Err(kind) => {
                 let at = self.end - self.rest.len() as u64;
-                let fault = WireFault { kind, at };
-                self.fault = Some(fault);
-                Some(Err(fault))
+                Some(Err(WireFault { kind, at }))
             }
         }
     }
