@@ -19,11 +19,11 @@ case_few true read i rest n one others = omega (arith, length-append (read i) (f
 case_few false read i rest n one others = omega arith
 
 -- where a field gives no more entries than it has bytes
-all_few : {A : Type 0} (read : Item → List A) (n : ℕ) → ((i : Item) → length (read i) ≤ size_of i) → (items : List Item) → length (all read n items) ≤ total size_of items
+pub all_few : {A : Type 0} (read : Item → List A) (n : ℕ) → ((i : Item) → length (read i) ≤ size_of i) → (items : List Item) → length (all read n items) ≤ total size_of items
 all_few read n few [] = omega arith
 all_few read n few (i ∷ items) = case_few (eqb i.number n) read i (filter (λ item. eqb item.number n) items) (total size_of items) (few i) (all_few read n few items)
 
-payload_few : {A : Type 0} (read : List ℕ → ℕ → List A) → ((bytes : List ℕ) (place : ℕ) → length (read bytes place) ≤ 1) → (content : Content) → length (of_payload read content) ≤ suc (run_length content)
+pub payload_few : {A : Type 0} (read : List ℕ → ℕ → List A) → ((bytes : List ℕ) (place : ℕ) → length (read bytes place) ≤ 1) → (content : Content) → length (of_payload read content) ≤ suc (run_length content)
 payload_few read one (Varint n) = omega arith
 payload_few read one (Eight n) = omega arith
 payload_few read one (Four n) = omega arith

@@ -7,4 +7,5 @@ pub mod Filling
 pub mod Encode
 pub mod Fits
 pub mod Joined
+pub mod Skim
 pub mod Apart

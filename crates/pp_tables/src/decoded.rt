@@ -1,47 +1,44 @@
 //! The samples of a piece.
-ghost use Rattle.std.specs.Prelude.{◌≡◌, ◌++◌, map, IfOk};
-ghost use Rattle.pp_wire.specs.Fields.{item};
-ghost use Rattle.pp_tables.specs.Takes.{TakesField};
-ghost use Rattle.pp_tables.specs.Apart.{samples_of, samples_fault, IsDecoded};
+ghost use Rattle.std.specs.Prelude.{◌≡◌, ◌++◌, map, IfOk, OnOk};
+ghost use Rattle.pp_tables.specs.Skim.{payload_of};
+ghost use Rattle.pp_tables.specs.Apart.{AddsSamples, AreSamples};
 
 use crate::ReadRefusal;
-use crate::fields::push_message;
+use crate::extent::Extent;
+use crate::fields::push_filled;
+use crate::packed::with_room;
 use pp_base::{List, Memory};
 use pp_model::Sample;
-use pp_wire::Field;
 use std::alloc::Global;
 
-/// What came of the fields of some samples.
-#[derive(Drop)]
-pub(crate) struct Decoded {
-    /// The samples, up to the first fault.
-    pub(crate) samples: List<Sample>,
-    /// The first fault, where there is one.
-    pub(crate) done: Result<(), ReadRefusal>,
-}
-
-/// Reads the fields of some samples.
-pub(crate) fn decode(alloc: Global, fields: &[Field<'_>]) -> Result<Decoded, Memory>
-    ensures { IfOk result (IsDecoded (map item fields.now)) }
+/// Reads the samples that lie there in the bytes. `None` where one has a fault.
+pub(crate) fn decode(
+    alloc: Global,
+    bytes: &[u8],
+    extents: &[Extent],
+) -> Result<Option<List<Sample>>, Memory>
+    ensures { IfOk result (AreSamples (map (payload_of bytes.now) extents.now)) }
 {
-    let mut samples = List::from_vec(Vec::with_capacity(alloc, fields.len())?);
-    match push_samples(alloc, &mut samples, fields) {
+    let mut samples = with_room(alloc, extents.len())?;
+    match push_samples(alloc, &mut samples, bytes, extents) {
+        Ok(()) => Ok(Some(samples)),
         Err(ReadRefusal::Memory) => Err(Memory),
-        done => Ok(Decoded { samples, done }),
+        Err(_) => Ok(None),
     }
 }
 
-// Adds the samples of these fields at the end, up to the first fault.
+// Adds the samples at the end.
 fn push_samples(
     alloc: Global,
     samples: &mut List<Sample>,
-    fields: &[Field<'_>],
+    bytes: &[u8],
+    extents: &[Extent],
 ) -> Result<(), ReadRefusal>
-    ensures { TakesField result (samples_fault (map item fields.now))
-        (samples.new ≡ samples.old ++ samples_of (map item fields.now)) }
+    ensures { OnOk result
+        (AddsSamples (map (payload_of bytes.now) extents.now) samples.old samples.new) }
 {
-    for field in fields {
-        push_message(alloc, samples, field)?;
+    for extent in extents {
+        push_filled(alloc, samples, extent.cut(bytes), u64::from(extent.start))?;
     }
     Ok(())
 }

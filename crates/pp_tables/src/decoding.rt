@@ -2,43 +2,48 @@
 ghost use Rattle.std.specs.Prelude.{◌+◌, ◌*◌, ◌<◌, ◌≤◌, length};
 ghost use Rattle.pp_tables.specs.declared.decoding.TheConstants.{PIECE};
 
-use crate::decoded::{Decoded, decode};
-use pp_base::Memory;
+use crate::decoded::decode;
+use crate::extent::Extent;
+use pp_base::{List, Memory};
+use pp_model::Sample;
 use pp_steal::Job;
-use pp_wire::Field;
 use std::alloc::Global;
 
 /// How many samples a piece has. The last piece may have fewer.
 pub const PIECE: usize = 1024;
 
-/// The fields of samples, to be read on any thread.
+/// The samples of a file, to be read on any thread.
 #[derive(Drop)]
 pub(crate) struct Decoding<'a> {
     /// Where the samples are allocated.
     pub(crate) alloc: Global,
-    /// The fields of all samples, in order.
-    pub(crate) fields: &'a [Field<'a>],
+    /// The bytes of the file.
+    pub(crate) bytes: &'a [u8],
+    /// Where all samples lie, in order.
+    pub(crate) extents: &'a [Extent],
     /// How many pieces they make.
     pub(crate) pieces: u32,
-    pub ghost within: { PIECE * pieces < length fields.now + PIECE },
-    pub ghost whole: { length fields.now ≤ PIECE * pieces },
+    pub ghost within: { PIECE * pieces < length extents.now + PIECE },
+    pub ghost whole: { length extents.now ≤ PIECE * pieces },
 }
 
 impl Job for Decoding<'_> {
-    type Out = Decoded;
+    /// The samples of a piece, or `None` where one has a fault.
+    type Out = Option<List<Sample>>;
 
     ghost use Rattle.std.specs.Prelude.{map};
-    ghost use Rattle.pp_wire.specs.Fields.{item};
-    ghost use Rattle.pp_tables.specs.Apart.{piece_fields, IsDecoded};
+    ghost use Rattle.pp_tables.specs.Skim.{payload_of};
+    ghost use Rattle.pp_tables.specs.Apart.{piece_of, AreSamples};
 
     ghost pieces = { λ job. job.pieces };
 
-    ghost right = { λ job piece part. IsDecoded (piece_fields (map item job.fields.now) piece) part };
+    ghost right = { λ job piece part.
+        AreSamples (piece_of (map (payload_of job.bytes.now) job.extents.now) piece) part };
 
-    fn run(&self, piece: u32) -> Result<Decoded, Memory> {
+    fn run(&self, piece: u32) -> Result<Option<List<Sample>>, Memory> {
         let start = piece as usize * PIECE;
-        let count = (self.fields.len() - start).min(PIECE);
-        let rest = &self.fields[start..];
-        decode(self.alloc, &rest[..count])
+        let count = (self.extents.len() - start).min(PIECE);
+        let rest = &self.extents[start..];
+        decode(self.alloc, self.bytes, &rest[..count])
     }
 }

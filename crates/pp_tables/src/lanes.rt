@@ -1,27 +1,26 @@
 //! The profile that a file's bytes are, of which workers read the samples.
-ghost use Rattle.std.specs.Prelude.{◌≡◌, ◌++◌, ◌<◌, ◌≤◌, ◌^◌, List, length, map, IfOk, OnOk};
-ghost use Rattle.pp_wire.specs.Fields.{Item, item};
+ghost use Rattle.std.specs.Prelude.{◌≡◌, ◌++◌, ◌<◌, ◌≤◌, ◌^◌, List as Seq, Ok, length, map, IfOk, IfSome, OnOk};
 ghost use Rattle.pp_model.specs.Sizes.{HasAtMost};
+ghost use Rattle.pp_tables.specs.Joined.{PayloadAt};
 ghost use Rattle.pp_tables.specs.Read.{Answers, read, read_message};
-ghost use Rattle.pp_tables.specs.Takes.{TakesField};
-ghost use Rattle.pp_tables.specs.Apart.{samples_of, samples_fault, IsDecoded};
+ghost use Rattle.pp_tables.specs.Skim.{payload_of, IsSkimmed};
+ghost use Rattle.pp_tables.specs.Apart.{AreSamples, AreSampleParts, AnswersIfAny};
 
 use crate::ReadRefusal;
-use crate::decoded::Decoded;
 use crate::decoding::{Decoding, PIECE};
-use crate::fields::reserve;
+use crate::packed::with_room;
 use crate::reading::{is_compressed, read_profile, with_a_text};
 use crate::skim::{Skimmed, skim};
 use pp_base::{Gate, List, Memory};
 use pp_model::{Profile, Sample};
 use pp_steal::{Deal, run_pieces};
-use pp_wire::Field;
 use std::alloc::Global;
 use std::mem;
 use std::thread::Threads;
 
 /// Reads the message `Profile` as `read_profile` does, with the samples in pieces of 1,024 on so many lanes, from 1 to
-/// 64. The answer does not tell how many there were. With one lane, and above 4 GiB, it is `read_profile`.
+/// 64. The answer does not tell how many there were. With one lane, above 4 GiB, and where the bytes have a fault, it is
+/// `read_profile`.
 pub fn read_profile_on<R: Threads + Sync, G: Gate>(
     rt: &R,
     alloc: Global,
@@ -37,71 +36,102 @@ pub fn read_profile_on<R: Threads + Sync, G: Gate>(
     if workers == 1 || bytes.len() >= 1 << 32 || bytes.is_empty() || is_compressed(bytes) {
         return read_profile(alloc, bytes);
     }
-    message_on(rt, alloc, bytes, workers, gate)
+    match message_on(rt, alloc, bytes, workers, gate) {
+        Ok(Some(profile)) => Ok(profile),
+        // The first fault is found from the front.
+        Ok(None) => read_profile(alloc, bytes),
+        Err(refusal) => Err(refusal),
+    }
 }
 
+// The profile, or `None` where there is a fault.
 fn message_on<R: Threads + Sync, G: Gate>(
     rt: &R,
     alloc: Global,
     bytes: &[u8],
     workers: u32,
     gate: &G,
-) -> Result<Profile, ReadRefusal>
+) -> Result<Option<Profile>, ReadRefusal>
     requires some { 1 ≤ workers }
     requires most { workers ≤ 64 }
     requires short { length bytes.now < 2 ^ 32 }
-    ensures { Answers result (read_message bytes.now) }
+    ensures { AnswersIfAny result (read_message bytes.now) }
+{
+    match skim(alloc, bytes) {
+        Ok(skimmed) => Ok(finish(rt, alloc, bytes, skimmed, workers, gate)?),
+        Err(ReadRefusal::Memory) => Err(ReadRefusal::Memory),
+        // A sample in front of this fault may have one too.
+        Err(_) => Ok(None),
+    }
+}
+
+// Reads the samples, and puts them into the profile.
+fn finish<R: Threads + Sync, G: Gate>(
+    rt: &R,
+    alloc: Global,
+    bytes: &[u8],
+    skimmed: Skimmed,
+    workers: u32,
+    gate: &G,
+) -> Result<Option<Profile>, Memory>
+    requires some { 1 ≤ workers }
+    requires most { workers ≤ 64 }
+    requires short { length bytes.now < 2 ^ 32 }
+    requires skimmed { IsSkimmed bytes.now skimmed }
+    ensures { IfOk result (λ found. IfSome found (λ p. read_message bytes.now ≡ Ok p)) }
 {
     let Skimmed {
         mut profile,
         samples,
-        done,
-    } = skim(alloc, bytes)?;
+    } = skimmed;
     let job = Decoding {
         alloc,
-        fields: samples.as_slice(),
+        bytes,
+        extents: samples.as_slice(),
         pieces: samples.len().div_ceil(PIECE) as u32,
     };
-    read_samples(rt, &job, workers, gate, &mut profile.sample)?;
-    done?;
-    Ok(with_a_text(alloc, profile)?)
+    match read_samples(rt, &job, workers, gate)? {
+        Some(samples) => {
+            profile.sample = samples;
+            Ok(Some(with_a_text(alloc, profile)?))
+        }
+        None => Ok(None),
+    }
 }
 
-// Adds the samples at the end, up to the first fault.
+// The samples of all pieces, or `None` where one has a fault.
 fn read_samples<R: Threads + Sync, G: Gate>(
     rt: &R,
     job: &Decoding<'_>,
     workers: u32,
     gate: &G,
-    samples: &mut List<Sample>,
-) -> Result<(), ReadRefusal>
+) -> Result<Option<List<Sample>>, Memory>
     requires some { 1 ≤ workers }
     requires most { workers ≤ 64 }
-    ensures { TakesField result (samples_fault (map item job.now.fields.now))
-        (samples.new ≡ samples.old ++ samples_of (map item job.now.fields.now)) }
+    ensures { IfOk result (AreSamples (map (payload_of job.now.bytes.now) job.now.extents.now)) }
 {
     // Few samples need no further thread.
     let lanes = workers.min(job.pieces.max(1));
     let parts = run_pieces(rt, job.alloc, job, job.pieces, lanes, Deal::Round, gate)?;
-    reserve(job.alloc, samples, job.fields.len())?;
-    for part in parts.into_vec() {
-        add(job.alloc, samples, part)?;
-    }
-    Ok(())
+    join(job.alloc, job.extents.len(), parts)
 }
 
-// Adds the samples of the next piece, or tells its fault.
-fn add(alloc: Global, samples: &mut List<Sample>, part: Decoded) -> Result<(), ReadRefusal>
-    ensures { (items : List Item) → IsDecoded items part
-        → TakesField result (samples_fault items) (samples.new ≡ samples.old ++ samples_of items) }
+// The samples of all parts, of which there are so many.
+fn join(
+    alloc: Global,
+    count: usize,
+    parts: List<Option<List<Sample>>>,
+) -> Result<Option<List<Sample>>, Memory>
+    ensures { (payloads : Seq PayloadAt) → AreSampleParts payloads parts → IfOk result (AreSamples payloads) }
 {
-    let Decoded {
-        samples: more,
-        done,
-    } = part;
-    done?;
-    append(alloc, samples, more)?;
-    Ok(())
+    let mut samples = with_room(alloc, count)?;
+    for part in parts.into_vec() {
+        match part {
+            Some(more) => append(alloc, &mut samples, more)?,
+            None => return Ok(None),
+        }
+    }
+    Ok(Some(samples))
 }
 
 // Puts the items behind those that are there.

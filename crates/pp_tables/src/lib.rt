@@ -4,10 +4,12 @@
 mod code;
 mod decoded;
 mod decoding;
+mod extent;
 mod fields;
 mod lanes;
 mod laws;
 mod message;
+mod packed;
 mod profile;
 mod reading;
 mod refusal;

@@ -1,81 +1,61 @@
-//! One walk over a profile's fields, in which samples are only noted.
-ghost use Rattle.std.specs.Prelude.{◌≡◌, ◌++◌, ◌<◌, ◌^◌, length, map, IfOk, OnOk, OnErr};
-ghost use Rattle.pp_wire.specs.Fields.{item, fields};
-ghost use Rattle.pp_tables.specs.Message.{fault_of, fault_in};
-ghost use Rattle.pp_tables.specs.Takes.{TakesField};
-ghost use Rattle.pp_tables.specs.Apart.{other_rules, other_put, others_after, noted, all_noted, UnlessMemory, IsSkimmed};
+//! A profile without its samples, of which only the places are noted.
+ghost use Rattle.std.specs.Prelude.{◌<◌, ◌^◌, length, IfOk};
+ghost use Rattle.pp_tables.specs.Skim.{IsSkimmed};
 
 use crate::ReadRefusal;
-use crate::message::Message;
-use pp_base::{List, Memory};
+use crate::extent::{Extent, push_extent};
+use crate::message::{Message, fill};
+use pp_base::List;
 use pp_model::Profile;
-use pp_wire::{Field, Walker};
+use pp_wire::Field;
 use std::alloc::Global;
 
-/// A profile but for its samples, up to the first fault of another field.
+/// A profile, and where its samples lie.
 #[derive(Drop)]
-pub(crate) struct Skimmed<'a> {
-    /// What the fields before the fault make, the samples left out.
+pub(crate) struct Skimmed {
+    /// The profile without its samples.
     pub(crate) profile: Profile,
-    /// The fields of the samples before the fault. Nothing was asked of their payloads.
-    pub(crate) samples: List<Field<'a>>,
-    /// The fault, where there is one.
-    pub(crate) done: Result<(), ReadRefusal>,
+    /// The payloads of the samples, in order. Nothing was asked of their bytes.
+    pub(crate) samples: List<Extent>,
 }
 
-/// Reads the fields of a file's bytes, and notes those of the samples.
-pub(crate) fn skim<'a>(alloc: Global, bytes: &'a [u8]) -> Result<Skimmed<'a>, Memory>
-    requires { length bytes.now < 2 ^ 64 }
-    ensures { IfOk result (IsSkimmed (fields bytes.now 0)) }
-{
-    let mut profile = Profile::none(alloc);
-    let mut samples = List::new(alloc);
-    match skim_fields(alloc, bytes, &mut profile, &mut samples) {
-        Err(ReadRefusal::Memory) => Err(Memory),
-        done => Ok(Skimmed {
-            profile,
-            samples,
-            done,
-        }),
+impl Message for Skimmed {
+    ghost use Rattle.pp_tables.specs.Skim.{skim_rules, no_skim, skim_put, skim_after, skim_none, skim_more};
+
+    ghost rules = { skim_rules };
+
+    ghost empty = { no_skim };
+
+    ghost put = { skim_put };
+
+    ghost filled = { skim_after };
+
+    fn none(alloc: Global) -> Self {
+        Skimmed {
+            profile: Profile::none(alloc),
+            samples: List::new(alloc),
+        }
     }
+
+    fn take(&mut self, alloc: Global, field: &Field<'_>) -> Result<(), ReadRefusal> {
+        match field.number {
+            // repeated Sample sample = 2;
+            2 => push_extent(&mut self.samples, field),
+            _ => self.profile.take(alloc, field),
+        }
+    }
+
+    ghost filled_none = { skim_none };
+
+    ghost filled_more = { skim_more };
 }
 
-// Takes the fields into the profile, and adds those of the samples at the end of the notes.
-fn skim_fields<'a>(
-    alloc: Global,
-    bytes: &'a [u8],
-    profile: &mut Profile,
-    samples: &mut List<Field<'a>>,
-) -> Result<(), ReadRefusal>
-    requires { length bytes.now < 2 ^ 64 }
-    ensures others { TakesField result (fault_in other_rules bytes.now 0)
-        (profile.new ≡ others_after profile.old (fields bytes.now 0).items) }
-    ensures samples { UnlessMemory result
-        (map item samples.new ≡ map item samples.old ++ all_noted (fields bytes.now 0).items) }
+/// Reads all fields of a file's bytes but the samples, and notes where these lie.
+pub(crate) fn skim(alloc: Global, bytes: &[u8]) -> Result<Skimmed, ReadRefusal>
+    requires { length bytes.now < 2 ^ 32 }
+    ensures { IfOk result (IsSkimmed bytes.now) }
 {
-    let mut walker = Walker::new(bytes, 0);
-    while let Some(next) = walker.next() {
-        let field = next?;
-        note(alloc, &field, profile, samples)?;
-    }
-    Ok(())
-}
-
-// Takes the next field, or notes it where it is a sample.
-fn note<'a>(
-    alloc: Global,
-    field: &Field<'a>,
-    profile: &mut Profile,
-    samples: &mut List<Field<'a>>,
-) -> Result<(), ReadRefusal>
-    ensures others { TakesField result (fault_of other_rules (item field.now))
-        (profile.new ≡ other_put profile.old (item field.now)) }
-    ensures samples { OnOk result (map item samples.new ≡ map item samples.old ++ noted (item field.now)) }
-    ensures kept { OnErr result (samples.new ≡ samples.old) }
-{
-    match field.number {
-        // repeated Sample sample = 2;
-        2 => Ok(samples.push(*field)?),
-        _ => profile.take(alloc, field),
-    }
+    let mut skimmed = Skimmed::none(alloc);
+    fill(alloc, &mut skimmed, bytes, 0)?;
+    Ok(skimmed)
 }

@@ -1,11 +1,8 @@
-use Rattle.std.proofs.Common.{◌≡◌, ◌++◌, map, drop}
-use Rattle.pp_wire.specs.Fields.{item}
-use Rattle.pp_tables.specs.Apart.{samples_of, samples_fault}
+use Rattle.std.proofs.Common.{map, take}
+use Rattle.pp_tables.specs.Skim.{payload_of}
+use Rattle.pp_tables.specs.Apart.{AddsSamples}
 use Rattle.pp_tables.proofs.decoded.push_samples.Given as goal
 
--- the samples so far and those of the fields that are left are all, and so is the first fault
-abbrev pub invariant-loop-field : goal.invariant-loop-field
-invariant-loop-field l = record {
-  samples : l.samples ++ samples_of (map item (drop l.field-index l.fields)) ≡ l.fn.samples ++ samples_of (map item l.fields);
-  fault : samples_fault (map item (drop l.field-index l.fields)) ≡ samples_fault (map item l.fields);
-}
+-- the samples of the extents so far
+abbrev pub invariant-loop-extent : goal.invariant-loop-extent
+invariant-loop-extent l = AddsSamples (map (payload_of l.bytes) (take l.extent-index l.extents)) l.fn.samples l.samples
