@@ -8,8 +8,8 @@ use Rattle.pp_check.proofs.Stages.{passed_on, raised_last, later, later_none}
 use Rattle.pp_check.proofs.checking.keep_locations.Goals as goal
 
 -- rule 10 alone is left, and fails
-pub returns-then-sound-in_err-refuse : goal.returns-then-sound-in_err-refuse
-returns-then-sound-in_err-refuse c =
+pub returns-in_err-refuse : goal.returns-in_err-refuse
+returns-in_err-refuse c =
     let p = c.args.p.now in
     raised_last (location_faults p ++ reference_faults p) _ c.in_err-refuse.field-0.0 c.from_residual.ensures.1
     (tenth_left p (c.requires.sound c.if-sound.true) ∙ ap (rule_fault 10 Locations) (sym c.location_fault.ensures.fault) ∙ c.in_err-refuse.ensures)

@@ -9,4 +9,4 @@ pub returns : goal.returns
 returns g c =
     let p = c.args.p.now in
     c.are_all.ensures ∙ ap (list_all (λ flag. flag)) c.as_slice.ensures
-    ∙ outcomes_are (is_sound p) p.sample c.job.pieces c.in_ok-parts.parts c.in_ok-parts.ensures (omega arith)
+    ∙ outcomes_are (is_sound p) p.sample c.div_ceil.result c.in_ok-parts.parts c.in_ok-parts.ensures (omega arith)
