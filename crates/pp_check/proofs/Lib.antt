@@ -5,3 +5,4 @@ pub mod Repeats
 pub mod KnownLemmas
 pub mod Scans
 pub mod WholeLemmas
+pub mod SoundLemmas

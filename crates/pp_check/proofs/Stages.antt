@@ -46,8 +46,3 @@ later os more r none found = subst (λ o. AnswersFault o r) (sym (decided_after 
 -- no stage has a fault
 pub later_none : (os more : List (Option TableFault)) → first_fault_of os ≡ None → first_fault_of more ≡ None → first_fault_of (os ++ more) ≡ None
 later_none os more none rest = decided_after os more none ∙ rest
-
--- without a fault of the definition the profile has none
-pub opened_none : (p : Profile) → first_fault_of (faults p) ≡ None → first_fault p ≡ None
-unfolding first_fault
-opened_none p none = none

@@ -1,6 +1,6 @@
 -- Where all samples keep two rules, neither fails.
 use Rattle.std.proofs.Common.{◌≡◌, ◌+◌, Bool, true, false, true≢false, cond, not, ◌&&◌, List, [], ◌∷◌, length, nat_lt, refl, sym, ap, ◌∙◌, arith}
-use Rattle.std.specs.Prelude.{Option, None, Some, ◌==◌}
+use Rattle.std.specs.Prelude.{None, Some, ◌==◌}
 use Rattle.std.specs.List.{list_all, position_or_len}
 use Rattle.std.proofs.lemmas.Bool.{le-ltb}
 use Rattle.pp_model.specs.declared.profile.Profile.{Profile}
@@ -11,7 +11,7 @@ use Rattle.pp_check.specs.FirstFault.{reference_faults}
 use Rattle.pp_check.specs.Whole.{is_whole}
 
 -- a test that all items pass
-none_fails : {A : Type 0} (test : A → Bool) (xs : List A) → list_all test xs ≡ true → first_failing test xs ≡ None
+pub none_fails : {A : Type 0} (test : A → Bool) (xs : List A) → list_all test xs ≡ true → first_failing test xs ≡ None
 none_fails test xs all =
     ap (λ n. cond (nat_lt n (length xs)) (Some n) None) (past xs all) ∙ ap (λ b. cond b (Some (length xs)) None) (le-ltb (length xs) (length xs) (omega arith))
   where
@@ -25,7 +25,7 @@ none_fails test xs all =
         by false rest is = absurd (true≢false (sym is))
 
 -- two tests that all items pass
-both : {A : Type 0} (one other : A → Bool) (xs : List A) → list_all (λ x. one x && other x) xs ≡ true → (list_all one xs ≡ true) × (list_all other xs ≡ true)
+pub both : {A : Type 0} (one other : A → Bool) (xs : List A) → list_all (λ x. one x && other x) xs ≡ true → (list_all one xs ≡ true) × (list_all other xs ≡ true)
 both one other [] all = (refl, refl)
 both one other (x ∷ xs) all = by (one x) (other x) (both one other xs) all
   where
@@ -35,14 +35,17 @@ both one other (x ∷ xs) all = by (one x) (other x) (both one other xs) all
     by true false rest is = absurd (true≢false (sym is))
     by false b rest is = absurd (true≢false (sym is))
 
+-- rules 11 and 12 hold of whole samples
+pub whole_samples : (p : Profile) → list_all (is_whole p) p.sample ≡ true → (sample_fault p ≡ None) × (value_fault p ≡ None)
+whole_samples p all =
+    let parts = both (λ s. list_all (stands_in (location_ids p)) s.location_id) (λ s. length s.value == length p.sample_type) p.sample all in (
+      none_fails (λ s. list_all (stands_in (location_ids p)) s.location_id) p.sample parts.0,
+      none_fails (λ s. length s.value == length p.sample_type) p.sample parts.1,
+    )
+
 -- no rule on references fails
 pub none_refers_wrong : (p : Profile) → rule_fault 10 Locations (location_fault p) ≡ None → list_all (is_whole p) p.sample ≡ true
     → first_fault_of (reference_faults p) ≡ None
 none_refers_wrong p tenth all =
-    let parts = both (λ s. list_all (stands_in (location_ids p)) s.location_id) (λ s. length s.value == length p.sample_type) p.sample all in
-    (λ j. first_fault_of (
-    tenth j
-    ∷ rule_fault 11 Samples (none_fails (λ s. list_all (stands_in (location_ids p)) s.location_id) p.sample parts.0 j)
-    ∷ rule_fault 12 Samples (none_fails (λ s. length s.value == length p.sample_type) p.sample parts.1 j)
-    ∷ []
-    ))
+    let samples = whole_samples p all in
+    (λ j. first_fault_of (tenth j ∷ rule_fault 11 Samples (samples.0 j) ∷ rule_fault 12 Samples (samples.1 j) ∷ []))

@@ -2,4 +2,5 @@ pub mod Finds
 pub mod FirstFault
 pub mod Known
 pub mod Whole
+pub mod Sound
 pub mod Checks

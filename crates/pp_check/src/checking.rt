@@ -1,9 +1,10 @@
 // The table rules, in the order in which they decide.
-ghost use Rattle.std.specs.Prelude.{◌≡◌, IfOk};
+ghost use Rattle.std.specs.Prelude.{◌≡◌, ◌++◌, IfOk, IsTrue};
 ghost use Rattle.pp_check.specs.FirstFault.{first_fault, text_faults, mapping_faults, function_faults, location_faults, reference_faults, IsIndexed};
 ghost use Rattle.pp_check.specs.Finds.{first_fault_of, AnswersFault, FindsFault};
 ghost use Rattle.pp_check.specs.Checks.{Checks};
 ghost use Rattle.pp_check.specs.Known.{Knows};
+ghost use Rattle.pp_check.specs.Sound.{AreSound};
 ghost use Rattle.pp_model.specs.Rules.{mapping_ids, function_ids, location_ids};
 
 use crate::fault::{CheckRefusal, Table, TableFault, refuse};
@@ -24,7 +25,7 @@ pub fn first_fault(alloc: Global, p: &Profile) -> Result<Option<TableFault>, Mem
     requires { IsIndexed p.now }
     ensures { IfOk result (λ fault. fault ≡ first_fault p.now) }
 {
-    match keep_rules(alloc, p) {
+    match keep_rules(alloc, p, false) {
         Ok(()) => Ok(None),
         Err(CheckRefusal::Fault(fault)) => Ok(Some(fault)),
         Err(CheckRefusal::Memory) => Err(Memory),
@@ -37,33 +38,33 @@ pub fn check(alloc: Global, p: Profile) -> Result<Valid, CheckRefusal>
     requires { IsIndexed p }
     ensures { Checks p result }
 {
-    keep_rules(alloc, &p)?;
+    keep_rules(alloc, &p, false)?;
     Ok(Valid::claim(p))
 }
 
-// Asks all rules, in their order.
-fn keep_rules(alloc: Global, p: &Profile) -> Result<(), CheckRefusal>
-    requires { IsIndexed p.now }
+/// Asks all rules, in their order. Where it is known that samples and the locations' ids are sound, they are not asked.
+pub(crate) fn keep_rules(alloc: Global, p: &Profile, sound: bool) -> Result<(), CheckRefusal>
+    requires indexed { IsIndexed p.now }
+    requires sound { IsTrue sound → AreSound p.now }
     ensures { AnswersFault (first_fault p.now) result }
 {
-    keep_texts(p)?;
+    keep_texts(p, sound)?;
     let mappings = known_mappings(alloc, p)?;
     let functions = known_functions(alloc, p)?;
-    let locations = known_locations(alloc, p)?;
-    keep_references(p, &mappings, &functions, &locations)?;
-    Ok(())
+    keep_locations(alloc, p, &mappings, &functions, sound)
 }
 
 // Asks rules 1 to 3.
-fn keep_texts(p: &Profile) -> Result<(), TableFault>
-    requires { IsIndexed p.now }
+fn keep_texts(p: &Profile, sound: bool) -> Result<(), TableFault>
+    requires indexed { IsIndexed p.now }
+    requires sound { IsTrue sound → AreSound p.now }
     ensures { FindsFault (first_fault_of (text_faults p.now)) result }
 {
     refuse(1, Table::Texts, text_zero_fault(p))?;
     refuse(2, Table::Header, header_text_fault(p))?;
     refuse(2, Table::Comments, comment_text_fault(p))?;
     refuse(2, Table::SampleTypes, type_text_fault(p))?;
-    refuse(2, Table::Samples, sample_text_fault(p))?;
+    refuse(2, Table::Samples, sample_text_fault(p, sound))?;
     refuse(2, Table::Mappings, mapping_text_fault(p))?;
     refuse(2, Table::Functions, function_text_fault(p))?;
     refuse(3, Table::SampleTypes, untyped_fault(p))
@@ -87,8 +88,31 @@ fn known_functions(alloc: Global, p: &Profile) -> Result<Known, CheckRefusal>
     known_ids(alloc, 6, Table::Functions, p.function.as_slice())
 }
 
-// Asks rules 8 and 9. Where none fails, these are the ids of the locations.
-fn known_locations(alloc: Global, p: &Profile) -> Result<Known, CheckRefusal>
+// Asks rules 8 to 12, of which sound samples leave rule 10 alone.
+fn keep_locations(
+    alloc: Global,
+    p: &Profile,
+    mappings: &Known,
+    functions: &Known,
+    sound: bool,
+) -> Result<(), CheckRefusal>
+    requires indexed { IsIndexed p.now }
+    requires mappings { Knows mappings.now (mapping_ids p.now) }
+    requires functions { Knows functions.now (function_ids p.now) }
+    requires sound { IsTrue sound → AreSound p.now }
+    ensures { AnswersFault (first_fault_of (location_faults p.now ++ reference_faults p.now)) result }
+{
+    if sound {
+        refuse(10, Table::Locations, location_fault(p, mappings, functions))?;
+        return Ok(());
+    }
+    let locations = known_locations(alloc, p)?;
+    keep_references(p, mappings, functions, &locations)?;
+    Ok(())
+}
+
+/// Asks rules 8 and 9. Where none fails, these are the ids of the locations.
+pub(crate) fn known_locations(alloc: Global, p: &Profile) -> Result<Known, CheckRefusal>
     requires { IsIndexed p.now }
     ensures faults { AnswersFault (first_fault_of (location_faults p.now)) result }
     ensures known { IfOk result (λ known. Knows known (location_ids p.now)) }

@@ -7,14 +7,17 @@
 //! locations are there. Rule 12: each sample has one value per sample type.
 #![tactic(auto)]
 
+mod asking;
 mod checking;
 mod fault;
 mod ids;
 mod known;
+mod lanes;
 mod laws;
 mod references;
 mod texts;
 
 pub use checking::{check, first_fault};
 pub use fault::{CheckRefusal, Table, TableFault};
+pub use lanes::check_on;
 pub use laws::no_fault_means_no_rule_fails;

@@ -80,8 +80,8 @@ fn sample_refers(p: &Profile, locations: &Known, sample: &Sample) -> bool
         .all(|id| is_location(p, locations, *id))
 }
 
-// Whether the sample's locations are there, and it has one value per sample type.
-fn is_whole(p: &Profile, locations: &Known, sample: &Sample) -> bool
+/// Whether the sample's locations are there, and it has one value per sample type.
+pub fn is_whole(p: &Profile, locations: &Known, sample: &Sample) -> bool
     requires { Knows locations.now (rules.location_ids p.now) }
     ensures { result ≡ is_whole p.now sample.now }
 {

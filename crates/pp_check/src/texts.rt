@@ -1,5 +1,5 @@
 // Rules 1 to 3: texts, their indices, and sample types.
-ghost use Rattle.std.specs.Prelude.{◌≡◌, ℤ, ◌<◌, length, IfSome};
+ghost use Rattle.std.specs.Prelude.{◌≡◌, ℤ, ◌<◌, length, IfSome, IsTrue};
 ghost use Rattle.std.specs.List.{list_all};
 ghost use Rattle.pp_model.specs.Rules as rules;
 
@@ -76,8 +76,8 @@ fn label_has_texts(p: &Profile, label: &Label) -> bool
     is_text(p, label.key) && is_text(p, label.text) && is_text(p, label.num_unit)
 }
 
-// Whether the texts of the sample's labels are there.
-fn sample_has_texts(p: &Profile, sample: &Sample) -> bool
+/// Whether the texts of the sample's labels are there.
+pub fn sample_has_texts(p: &Profile, sample: &Sample) -> bool
     ensures { result ≡ list_all (rules.label_has_texts p.now) sample.now.label }
 {
     sample
@@ -87,11 +87,15 @@ fn sample_has_texts(p: &Profile, sample: &Sample) -> bool
         .all(|label| label_has_texts(p, label))
 }
 
-/// Rule 2: the least index of a sample with a label whose key, text or unit is no text.
-pub fn sample_text_fault(p: &Profile) -> Option<usize>
+/// Rule 2: the least index of a sample with a label whose key, text or unit is no text. Sound samples are not asked.
+pub fn sample_text_fault(p: &Profile, sound: bool) -> Option<usize>
+    requires { IsTrue sound → rules.sample_text_fault p.now ≡ None }
     ensures fault { result ≡ rules.sample_text_fault p.now }
     ensures within { IfSome result (λ index. index < length p.now.sample) }
 {
+    if sound {
+        return None;
+    }
     p.sample
         .as_slice()
         .iter()

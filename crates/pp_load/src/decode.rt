@@ -10,7 +10,7 @@ ghost use Rattle.pp_model.specs.Sizes.{HasAtMost};
 use crate::refusal::LoadRefusal;
 use crate::resources::Resources;
 use pp_base::OpenGate;
-use pp_check::{CheckRefusal, check};
+use pp_check::{CheckRefusal, check_on};
 use pp_desk::{Halt, Stop};
 use pp_legacy::{LegacyRefusal, is_legacy, read_legacy};
 use pp_model::{Profile, Valid};
@@ -62,7 +62,7 @@ fn decode_tables<R: Threads + Sync>(
     ensures few { IfOk result (HasAtMost (length bytes.now)) }
 {
     let profile = read_tables(with, source, bytes)?;
-    check_tables(with.alloc, source, profile)
+    check_tables(with, source, profile)
 }
 
 #[tactic(auto, unfolding(crate::specs::Steps::Loads))]
@@ -84,12 +84,16 @@ fn read_tables<R: Threads + Sync>(
 }
 
 #[tactic(auto, unfolding(crate::specs::Steps::Loads))]
-fn check_tables(alloc: Global, source: u32, profile: Profile) -> Result<Valid, Halt<LoadRefusal>>
+fn check_tables<R: Threads + Sync>(
+    with: &Resources<'_, R>,
+    source: u32,
+    profile: Profile,
+) -> Result<Valid, Halt<LoadRefusal>>
     requires { IsIndexed profile }
     ensures is { Loads (checked source profile) result }
     ensures same { IfOk result (λ valid. valid ≡ profile) }
 {
-    match check(alloc, profile) {
+    match check_on(with.rt, with.alloc, profile, with.workers, &OpenGate) {
         Ok(valid) => Ok(valid),
         Err(CheckRefusal::Fault(fault)) => {
             Err(Halt::Refused(LoadRefusal::Table { source, fault }))

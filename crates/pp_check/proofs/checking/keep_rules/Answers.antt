@@ -4,7 +4,7 @@ use Rattle.pp_model.specs.declared.profile.Profile.{Profile}
 use Rattle.pp_check.specs.declared.fault.TableFault.{TableFault}
 use Rattle.pp_check.specs.declared.known.Known.{Known}
 use Rattle.pp_check.specs.FirstFault.{text_faults, mapping_faults, function_faults, location_faults, reference_faults}
-use Rattle.pp_check.proofs.Stages.{opened, passed_on, raised, raised_last, later, later_none, opened_none}
+use Rattle.pp_check.proofs.Stages.{opened, passed_on, raised, later}
 use Rattle.pp_check.proofs.checking.keep_rules.Goals as goal
 
 -- what comes after each stage
@@ -35,27 +35,9 @@ returns-in_err-functions c =
     (later (mapping_faults p) (from_functions p) _ c.in_ok-mappings.ensures.faults
     (passed_on Known (function_faults p) (from_locations p) _ c.in_err-functions.field-0.0 c.from_residual-in_err-functions.ensures.1 c.in_err-functions.ensures.faults)))
 
-pub returns-in_err-locations : goal.returns-in_err-locations
-returns-in_err-locations c =
-    let p = c.args.p.now in
-    opened p _ (later (text_faults p) (from_mappings p) _ c.in_ok-keep_texts.ensures
-    (later (mapping_faults p) (from_functions p) _ c.in_ok-mappings.ensures.faults
-    (later (function_faults p) (from_locations p) _ c.in_ok-functions.ensures.faults
-    (passed_on Known (location_faults p) (reference_faults p) _ c.in_err-locations.field-0.0 c.from_residual-in_err-locations.ensures.1 c.in_err-locations.ensures.faults))))
-
-pub returns-in_err-keep_references : goal.returns-in_err-keep_references
-returns-in_err-keep_references c =
-    let p = c.args.p.now in
-    opened p _ (later (text_faults p) (from_mappings p) _ c.in_ok-keep_texts.ensures
-    (later (mapping_faults p) (from_functions p) _ c.in_ok-mappings.ensures.faults
-    (later (function_faults p) (from_locations p) _ c.in_ok-functions.ensures.faults
-    (later (location_faults p) (reference_faults p) _ c.in_ok-locations.ensures.faults
-    (raised_last (reference_faults p) _ c.in_err-keep_references.field-0.0 c.from_residual-in_err-keep_references.ensures.1 c.in_err-keep_references.ensures)))))
-
 pub returns : goal.returns
 returns c =
     let p = c.args.p.now in
-    opened_none p (later_none (text_faults p) (from_mappings p) c.in_ok-keep_texts.ensures
-    (later_none (mapping_faults p) (from_functions p) c.in_ok-mappings.ensures.faults
-    (later_none (function_faults p) (from_locations p) c.in_ok-functions.ensures.faults
-    (later_none (location_faults p) (reference_faults p) c.in_ok-locations.ensures.faults c.in_ok-keep_references.ensures))))
+    opened p _ (later (text_faults p) (from_mappings p) _ c.in_ok-keep_texts.ensures
+    (later (mapping_faults p) (from_functions p) _ c.in_ok-mappings.ensures.faults
+    (later (function_faults p) (from_locations p) _ c.in_ok-functions.ensures.faults c.keep_locations.ensures)))
