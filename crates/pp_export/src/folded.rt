@@ -44,8 +44,8 @@ fn put_paths(
     out: &mut Text,
 ) -> Result<(), Memory>
     requires { All (HasKeysOf l.now.profile names.now) paths.now }
-    ensures { IfOk result (λ _.
-        out.new ≡ out.old ++ flat_map path_line (map (path_written l.now.profile names.now) paths.now)) }
+    ensures { IfOk result (λ _. out.new ≡ out.old
+        ++ flat_map path_line (map (path_written l.now.profile names.now) paths.now)) }
 {
     let mut path_names = PathNames::new(alloc);
     for path in paths {

@@ -56,8 +56,8 @@ impl PathNames {
         requires names { ArePathNames (numbered_name l.now.profile names.now) self.old }
         ensures names { IfOk result (λ _.
             ArePathNames (numbered_name l.now.profile names.now) self.new) }
-        ensures text { IfOk result (λ _.
-            out.new ≡ out.old ++ name_and_separator (numbered_name l.now.profile names.now number)) }
+        ensures text { IfOk result (λ _. out.new ≡ out.old
+            ++ name_and_separator (numbered_name l.now.profile names.now number)) }
     {
         let place = self.place_of(l, names, number)?;
         out.extend(part(&self.text, place))
