@@ -65,23 +65,19 @@ module _ (p : Profile) (ps : List Profile) (few : AreCountableProfiles (p ∷ ps
         few = lengths.samples;
       }
 
+abs-neg : (m : ℕ) → nat_abs (neg_ℤ (pos m)) ≡ m
+abs-neg zero = refl
+abs-neg (suc m) = refl
+
 -- the size of a product
 abs-times : (z : ℤ) (n : ℕ) → nat_abs (z *ℤ pos n) ≡ nat_abs z * n
 abs-times (pos a) n = refl
 abs-times (negsuc a) n = abs-neg (suc a * n)
-  where
-    abs-neg : (m : ℕ) → nat_abs (neg_ℤ (pos m)) ≡ m
-    abs-neg zero = refl
-    abs-neg (suc m) = refl
 
 -- the size of a quotient
 abs-divided : (z : ℤ) (d : ℕ) → nat_abs (int_div z (pos d)) ≡ nat_abs z / d
 abs-divided (pos a) d = refl
 abs-divided (negsuc a) d = abs-neg (suc a / d)
-  where
-    abs-neg : (m : ℕ) → nat_abs (neg_ℤ (pos m)) ≡ m
-    abs-neg zero = refl
-    abs-neg (suc m) = refl
 
 -- a value that is scaled and scaled back has grown no larger
 scaled_back : (num den : ℕ) (v : ℤ) → nat_abs (scaled_value num den v) * den ≤ nat_abs v * num
