@@ -10,4 +10,4 @@ loop-number-preserved c =
 pub returns : goal.returns
 returns c =
     can_lay c.args.p.now c.args.names.now _ c.loop-number.number c.requires.compact c.requires.keys c.requires.distinct
-    (omega (arith, c.loop-number-test.false, c.len.ensures)) c.loop-number.invariant
+    (omega (arith, c.loop-number-test.false, c.len-number-end.ensures)) c.loop-number.invariant
