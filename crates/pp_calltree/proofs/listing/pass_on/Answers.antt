@@ -1,4 +1,4 @@
-use Rattle.std.proofs.Common.{pos, [], get_or, refl, w64, to_z, of_z, FitsSigned, rules}
+use Rattle.std.proofs.Common.{get_or, refl, w64, to_z, of_z, FitsSigned, rules}
 use Rattle.std.proofs.lemmas.Int.{to_z-of_z}
 use Rattle.std.proofs.lemmas.Result.{IfOk-weaker}
 use Rattle.pp_calltree.specs.declared.path.Path.{Path}

@@ -1,6 +1,5 @@
-use Rattle.std.proofs.Common.{pos, w64, to_z, of_z}
+use Rattle.std.proofs.Common.{w64, to_z, of_z}
 use Rattle.pp_units.specs.Shown.{shown}
-use Rattle.pp_calltree.specs.declared.tree.PathNode.{PathNode}
 use Rattle.pp_calltree.proofs.Summing.{next_is, rows_more}
 use Rattle.pp_calltree.proofs.writing.put_rows.Goals as goal
 

@@ -1,5 +1,4 @@
-use Rattle.std.proofs.Common.{pos, w64, to_z, of_z, arith}
-use Rattle.pp_calltree.specs.declared.tree.PathNode.{PathNode}
+use Rattle.std.proofs.Common.{w64, to_z, of_z, arith}
 use Rattle.pp_calltree.proofs.Summing.{next_is, sum_more, sum_all}
 use Rattle.pp_calltree.proofs.writing.sum_flats.Goals as goal
 
