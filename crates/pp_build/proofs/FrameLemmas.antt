@@ -18,25 +18,25 @@ use Rattle.pp_share.specs.Described.{FunctionText, function_text, function_found
 use Rattle.pp_build.specs.declared.given.TextId.{TextId}
 use Rattle.pp_build.specs.declared.given.FunctionId.{FunctionId}
 use Rattle.pp_build.specs.Given.{function_of}
-use Rattle.pp_build.specs.Adding.{with_new_text, text_index, with_texts, second_index, with_function, function_number, named_function, with_named, frame_location}
+use Rattle.pp_build.specs.Adding.{with_new_text, text_index, with_both_texts, second_index, with_function, function_number, named_function, with_named, frame_location}
 use Rattle.pp_build.specs.Growing.{IsBuilt, HasMoreNames}
 use Rattle.pp_build.specs.Said.{location_frames, bare_frame}
 use Rattle.pp_build.specs.Same.{same_function_entry}
 use Rattle.pp_build.proofs.SaidLemmas.{front_at, seen_front}
 
 module _ (p : Profile) (first second : List ℕ) where
-  texts_front : IsFront p.text (with_texts p first second).text
+  texts_front : IsFront p.text (with_both_texts p first second).text
   texts_front =
       let one = seen_front bytes_eq p.text first in
       let two = seen_front bytes_eq (with_new_text p first).text second in
       (one.0 ++ two.0, two.1 ∙ ap (λ texts. texts ++ two.0) one.1 ∙ append_assoc p.text one.0 two.0)
 
   -- two texts more
-  pub texts_more : HasMoreNames p (with_texts p first second)
+  pub texts_more : HasMoreNames p (with_both_texts p first second)
   texts_more = record { texts = texts_front; functions = own_front p.function; same = refl }
 
   -- and a function
-  pub function_more : (f : Function) → HasMoreNames p (with_function (with_texts p first second) f)
+  pub function_more : (f : Function) → HasMoreNames p (with_function (with_both_texts p first second) f)
   function_more f = record {
     texts = texts_front;
     functions = seen_front same_function_entry p.function (record f { id = length p.function + 1 });
@@ -48,9 +48,9 @@ pub frame_steps :
     (p one two three : Profile) (name file : List ℕ) (n f : TextId) (g : FunctionId) → one ≡ with_new_text p name → n.index ≡ text_index p name →
     two ≡ with_new_text one file → f.index ≡ text_index one file → three ≡ with_function two (function_of n n f (pos 0)) →
     g.number ≡ function_number two (function_of n n f (pos 0)) →
-    (three ≡ with_named p name file) × (g.number ≡ function_number (with_texts p name file) (named_function p name file))
+    (three ≡ with_named p name file) × (g.number ≡ function_number (with_both_texts p name file) (named_function p name file))
 frame_steps p one two three name file n f g one_is n_is two_is f_is three_is g_is =
-    let texts : two ≡ with_texts p name file = two_is ∙ ap (λ q. with_new_text q file) one_is in
+    let texts : two ≡ with_both_texts p name file = two_is ∙ ap (λ q. with_new_text q file) one_is in
     let second : f.index ≡ second_index p name file = f_is ∙ ap (λ q. text_index q file) one_is in
     let function : function_of n n f (pos 0) ≡ named_function p name file =
     λ i. record { id = 0; name = pos (n_is i); system_name = pos (n_is i); filename = pos (second i); start_line = pos 0 } in

@@ -1,5 +1,5 @@
 -- What the id of an entry stands for, once the entry was added.
-use Rattle.std.proofs.Common.{◌≡◌, ◌≢◌, ℕ, ◌+◌, ◌-◌, ◌<◌, ◌⊎◌, inl, inr, Bool, true, false, true≢false, cond, not, ◌||◌, List, [], ◌∷◌, ◌++◌, map, length, length-append, get_or, Some, None, option_map, refl, sym, ap, ◌∙◌, arith}
+use Rattle.std.proofs.Common.{◌≡◌, ◌≢◌, ℕ, ◌+◌, ◌-◌, ◌<◌, ◌⊎◌, inl, inr, Bool, true, false, true≢false, cond, not, ◌||◌, List, [], ◌∷◌, ◌++◌, map, length, length-append, Some, None, option_map, refl, sym, ap, ◌∙◌, arith}
 use Rattle.std.specs.Prelude.{ℤ, pos, find, slice_get, if◌then◌else◌}
 use Rattle.std.specs.List.{list_any}
 use Rattle.std.specs.Option.{option_map_or}
@@ -24,6 +24,7 @@ use Rattle.pp_model.specs.Rules.{begins_empty}
 use Rattle.pp_model.specs.FrameTexts.{name_number, file_number, written_lines, written_at}
 use Rattle.pp_model.specs.Lookup.{text_number, text_at, text_of, mapping_with, place_read}
 use Rattle.pp_model.proofs.CompactLemmas.{find_by_place}
+use Rattle.pp_model.proofs.FirstText.{first_empty}
 use Rattle.pp_model.proofs.LookupLemmas.{no_function, no_mapping}
 use Rattle.pp_share.specs.Described.{function_text, mapping_text, function_found, mapping_found}
 use Rattle.pp_build.specs.Adding.{with_new_text, text_index, with_mapping, mapping_number, with_function, function_number, with_location, location_number}
@@ -88,14 +89,9 @@ text_stands p text =
 -- a text that isn't empty isn't the first one
 pub text_some : (p : Profile) (text : List ℕ) → begins_empty (with_new_text p text).text ≡ true → text ≢ [] → 0 < text_index p text
 text_some p text begins other = elim (cases_eq (text_index p text) 0) [
-  | inl none ↦ absurd (other (sym (text_stands p text) ∙ ap (text_at (with_new_text p text)) none ∙ first (with_new_text p text).text begins))
+  | inl none ↦ absurd (other (sym (text_stands p text) ∙ ap (text_at (with_new_text p text)) none ∙ first_empty (with_new_text p text).text begins))
   | inr some ↦ omega (arith, some)
 ]
-  where
-    first : (texts : List (List ℕ)) → begins_empty texts ≡ true → get_or texts 0 [] ≡ []
-    first [] is = refl
-    first ([] ∷ texts) is = refl
-    first ((b ∷ bs) ∷ texts) is = absurd (true≢false (sym is))
 
 -- equal numbers
 ints : (a b : ℤ) → int_eq a b ≡ true → a ≡ b

@@ -43,8 +43,8 @@ abbrev pub text_index : Profile → List ℕ → ℕ
 text_index p text = place_of bytes_eq p.text text
 
 -- the profile with both texts
-abbrev pub with_texts : Profile → List ℕ → List ℕ → Profile
-with_texts p first second = with_new_text (with_new_text p first) second
+abbrev pub with_both_texts : Profile → List ℕ → List ℕ → Profile
+with_both_texts p first second = with_new_text (with_new_text p first) second
 
 -- the index of the second text, once the first is there
 abbrev pub second_index : Profile → List ℕ → List ℕ → ℕ
@@ -55,8 +55,8 @@ abbrev pub with_type : Profile → ValueType → Profile
 with_type p t = record p { sample_type = p.sample_type ++ t ∷ [] }
 
 -- the profile with the sample type of these two texts behind the others
-abbrev pub with_column : Profile → List ℕ → List ℕ → Profile
-with_column p kind unit = with_type (with_texts p kind unit) (record {
+abbrev pub with_named_type : Profile → List ℕ → List ℕ → Profile
+with_named_type p kind unit = with_type (with_both_texts p kind unit) (record {
   kind = pos (text_index p kind);
   unit = pos (second_index p kind unit);
 })
@@ -106,7 +106,7 @@ named_function p name file = record {
 
 -- the profile with that function
 abbrev pub with_named : Profile → List ℕ → List ℕ → Profile
-with_named p name file = with_function (with_texts p name file) (named_function p name file)
+with_named p name file = with_function (with_both_texts p name file) (named_function p name file)
 
 -- the location of the function's line, in no mapping
 abbrev pub frame_location : ℕ → ℤ → Location
@@ -121,7 +121,7 @@ frame_location function line = record {
 -- the location of a line of the function of this name and file
 abbrev pub named_location : Profile → List ℕ → List ℕ → ℤ → Location
 named_location p name file line =
-    frame_location (function_number (with_texts p name file) (named_function p name file)) line
+    frame_location (function_number (with_both_texts p name file) (named_function p name file)) line
 
 -- the profile with that location
 abbrev pub with_frame : Profile → List ℕ → List ℕ → ℤ → Profile

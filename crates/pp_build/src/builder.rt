@@ -43,7 +43,7 @@ impl Builder {
     ghost use Rattle.pp_model.specs.Rules.{NoRuleFails};
     ghost use Rattle.pp_share.specs.Described.{function_text, function_found, mapping_text, mapping_found};
     ghost use Rattle.pp_build.specs.Given.{given_type, given_mapping, function_of, given_location, given_sample, LabelIsWithin};
-    ghost use Rattle.pp_build.specs.Adding.{no_entries, with_new_text, text_index, with_type, with_column, with_mapping, mapping_number, with_function, function_number, with_location, location_number, with_frame, frame_number, with_new_sample, with_comment};
+    ghost use Rattle.pp_build.specs.Adding.{no_entries, with_new_text, text_index, with_type, with_named_type, with_mapping, mapping_number, with_function, function_number, with_location, location_number, with_frame, frame_number, with_new_sample, with_comment};
     ghost use Rattle.pp_build.specs.Growing.{IdIn, Grows, HasMoreNames};
     ghost use Rattle.pp_build.specs.Said.{bare_frame, location_frames, said_sample, said_samples};
 
@@ -104,11 +104,12 @@ impl Builder {
     /// the texts may have been added.
     pub fn column(&mut self, kind: &[u8], unit: &[u8]) -> Result<(), Memory>
         requires { self.old.sample ≡ [] }
-        ensures new { OnOk result (self.new ≡ with_column self.old kind.now unit.now) }
+        ensures new { OnOk result (self.new ≡ with_named_type self.old kind.now unit.now) }
         ensures err { OnErr result (HasMoreNames self.old self.new) }
         ensures types { OnOk result (length self.new.sample_type
             ≡ length self.old.sample_type + 1) }
         ensures texts { length self.old.text ≤ length self.new.text }
+        ensures functions { self.new.function ≡ self.old.function }
         ensures none { self.new.sample ≡ [] }
     {
         let kind = self.text(kind)?;

@@ -11,9 +11,7 @@ use Rattle.std.proofs.lemmas.List.Sums.{get_or-le-sum_by}
 use Rattle.pp_model.specs.declared.config.Config.{Config}
 use Rattle.pp_model.specs.declared.loaded.Loaded.{Loaded}
 use Rattle.pp_model.specs.declared.verdicts.Verdicts.{Verdicts}
-use Rattle.pp_model.specs.declared.profile.Sample.{Sample}
 use Rattle.pp_model.specs.declared.profile.Profile.{Profile}
-use Rattle.pp_model.specs.Finders.{Finders}
 use Rattle.pp_model.specs.FrameTexts.{Written}
 use Rattle.pp_grain.specs.declared.key.Key.{Key}
 use Rattle.pp_grain.specs.Keys.{key_cmp, IsKeyOf}
@@ -21,21 +19,22 @@ use Rattle.pp_count.specs.Table.{written_key}
 use Rattle.pp_count.specs.declared.scope.Scope.{Scope}
 use Rattle.pp_count.specs.Sums.{Seen, weighed, renamed}
 use Rattle.pp_count.specs.Parts.{HasBelow}
-use Rattle.pp_count.specs.Seeing.{HoldsFilters}
-use Rattle.pp_count.specs.Scope.{profile_in_scope, config_of, size_of, AreSeen}
+use Rattle.pp_count.specs.Scope.{profile_in_scope, size_of, IsSoundScope}
 use Rattle.pp_count.proofs.CallerLemmas.{weighed-renamed}
 use Rattle.pp_calltree.specs.declared.building.ReportPaths.{ReportPaths}
 use Rattle.pp_calltree.specs.declared.listing.PathSum.{PathSum}
 use Rattle.pp_calltree.specs.declared.path.Path.{Path}
+use Rattle.pp_calltree.specs.declared.paths.Paths.{Paths}
 use Rattle.pp_calltree.specs.declared.tree.PathNode.{PathNode}
 use Rattle.pp_calltree.specs.CallPaths.{all_paths, has_sum, paths_below, path_written, ArePathsOf, HasKeysOf}
-use Rattle.pp_calltree.specs.CallTree.{any_row, rooted, all_lengths, path_samples, rows_below, tree_rows}
+use Rattle.pp_calltree.specs.CallTree.{any_row, rooted, all_lengths, rows_below, tree_rows}
 use Rattle.pp_calltree.specs.Laid.{node_row, written_out, HasRoom}
 use Rattle.pp_calltree.proofs.Gathering.{paths_within}
-use Rattle.pp_calltree.specs.Paths.{below, parts_of, path_of, AreGathered, IsScopeOf}
+use Rattle.pp_calltree.specs.Gathered.{samples_of_paths, AreGathered, IsScopeOf}
+use Rattle.pp_calltree.specs.Paths.{below, path_of, HasPaths}
 use Rattle.pp_calltree.specs.Tree.{IsTreeOf}
-use Rattle.pp_calltree.proofs.LaidOut.{all_reversed}
 use Rattle.pp_calltree.proofs.Permuted.{alike_permuted, paths_alike, rows_alike}
+use Rattle.pp_calltree.proofs.Waiting.{all_reversed}
 
 map-reversed : {J K : Type 0} (f : J → K) (ks : List J) → map f (reverse ks) ≡ reverse (map f ks)
 map-reversed f [] = refl
@@ -48,25 +47,26 @@ rooted-renamed : {J K : Type 0} (f : J → K) (S : List (Seen J)) → map (renam
 rooted-renamed f [] = refl
 rooted-renamed f (s ∷ S) = λ i. record { value = s.value; keys = map-reversed f s.keys i } ∷ rooted-renamed f S i
 
--- the paths can be laid out
-paths_have_room : (scope : Scope) (samples : List Sample) (S : List (Seen ℕ)) → AreSeen scope samples S → size_of scope samples < 2 ^ 63
-    → HasRoom scope.table.now.names (all_lengths (map rooted (weighed S))) (map rooted (weighed S))
-paths_have_room scope samples S are fits =
+-- the paths of all samples of the profile are those of the report, and can be laid out
+pub paths_gathered : (scope : Scope) (paths : Paths) → IsSoundScope scope → size_of scope (profile_in_scope scope).sample < 2 ^ 63
+    → HasPaths scope (profile_in_scope scope).sample paths → AreGathered scope paths
+paths_gathered scope paths sound fits has =
     let n : ℕ = length scope.table.now.names in
+    let S : List (Seen ℕ) = has.seen in
     record {
-      below = All-map (HasBelow n) rooted (weighed S)
-          (λ i d here. all_reversed (λ k. k < n) (get_or (weighed S) i d).keys
-          (All-filter (λ (s : Seen ℕ). not (int_eq s.value (pos 0))) (HasBelow n) S are.below i d here));
-      short = λ i d here. get_or-le-sum_by (λ (s : Seen ℕ). length s.keys) (map rooted (weighed S)) i d here;
-      fits = omega (arith, fits, are.within, paths_within S);
+      sound = sound;
+      whole = has.stands.whole;
+      room = subst (λ (r : List (Seen ℕ)). HasRoom scope.table.now.names (all_lengths r) r) (sym has.stands.are) (record {
+        below = All-map (HasBelow n) rooted (weighed S)
+            (λ i d here. all_reversed (λ k. k < n) (get_or (weighed S) i d).keys
+            (All-filter (λ (s : Seen ℕ). not (int_eq s.value (pos 0))) (HasBelow n) S has.are.below i d here));
+        short = λ i d here. get_or-le-sum_by (λ (s : Seen ℕ). length s.keys) (map rooted (weighed S)) i d here;
+        fits = omega (arith, fits, has.are.within, paths_within S);
+      });
+      are = λ f holds.
+          ap (written_out (profile_in_scope scope) scope.table.now.names) has.stands.are
+          ∙ rooted-renamed _ (weighed S) ∙ ap (map rooted) (sym (weighed-renamed _ S) ∙ ap weighed (has.are.are f holds));
     }
-
--- written out, they are the paths of the report's samples
-paths_written : (scope : Scope) (S : List (Seen ℕ)) (f : Finders) → HoldsFilters scope.l.now scope.v.now (config_of scope) f
-    → AreSeen scope (profile_in_scope scope).sample S
-    → written_out (profile_in_scope scope) scope.table.now.names (map rooted (weighed S)) ≡ path_samples (profile_in_scope scope) f (config_of scope) scope.column
-paths_written scope S f holds are =
-    rooted-renamed _ (weighed S) ∙ ap (map rooted) (sym (weighed-renamed _ S) ∙ ap weighed (are.are f holds))
 
 -- what can be laid out can be so in any order
 sorted_room : (names : List Key) (S R : List (Seen ℕ)) → IsPermutation S R → HasRoom names (all_lengths S) S → HasRoom names (all_lengths R) R
@@ -110,8 +110,7 @@ of_scope P l v config column scope same here =
     (subst (λ x. P scope.l.now scope.v.now x column) same.config_is (subst (λ x. P scope.l.now scope.v.now scope.config.now x) same.column_is here)))
 
 -- The gathered paths in the order of their keys.
-module _ (gathered : ReportPaths) (are : AreGathered gathered) (sorted : List Path)
-    (moved : IsPermutation (parts_of gathered.paths.keys.items gathered.paths.parts.items) (below 0 sorted)) where
+module _ (gathered : ReportPaths) (sorted : List Path) (moved : IsPermutation (samples_of_paths gathered.paths) (below 0 sorted)) where
   abbrev scope : Scope
   scope = gathered.scope
 
@@ -122,21 +121,17 @@ module _ (gathered : ReportPaths) (are : AreGathered gathered) (sorted : List Pa
   names = scope.table.now.names
 
   abbrev samples : List (Seen ℕ)
-  samples = map rooted (weighed are.paths.seen)
-
-  of_samples : IsPermutation samples (below 0 sorted)
-  of_samples = subst (λ (r : List (Seen ℕ)). IsPermutation r (below 0 sorted)) are.paths.stands.are moved
+  samples = samples_of_paths gathered.paths
 
   pub gathered_room : HasRoom names (all_lengths (below 0 sorted)) (below 0 sorted)
-  gathered_room = sorted_room names samples (below 0 sorted) of_samples (paths_have_room scope p.sample are.paths.seen are.paths.are are.fits)
+  gathered_room = sorted_room names samples (below 0 sorted) moved gathered.gathered.room
 
   -- their paths are those of the report
   pub sums_are : (list : List PathSum) → map (path_written p names) list ≡ filter has_sum (all_paths key_cmp (written_out p names (below 0 sorted))) → All (HasKeysOf p names) list
       → (l : Loaded) (v : Verdicts) (config : Config) (column : Option ℕ) → IsScopeOf l v config column scope → ArePathsOf l v config column names list
   sums_are list listed keys l v config column same =
       of_scope (λ l v config column. ArePathsOf l v config column names list) l v config column scope same (record {
-        are = λ f holds.
-            listed ∙ ap (filter has_sum) (sorted_paths p names samples (below 0 sorted) of_samples ∙ ap (all_paths key_cmp) (paths_written scope are.paths.seen f holds are.paths.are));
+        are = λ f holds. listed ∙ ap (filter has_sum) (sorted_paths p names samples (below 0 sorted) moved ∙ ap (all_paths key_cmp) (gathered.gathered.are f holds));
         keys = keys;
       })
 
@@ -146,8 +141,7 @@ module _ (gathered : ReportPaths) (are : AreGathered gathered) (sorted : List Pa
       → (l : Loaded) (v : Verdicts) (config : Config) (column : Option ℕ) → IsScopeOf l v config column scope → IsTreeOf l v config column nodes
   tree_is nodes laid keys fits l v config column same =
       of_scope (λ l v config column. IsTreeOf l v config column nodes) l v config column scope same (record {
-        rows = λ f holds.
-            laid ∙ sorted_rows p names samples (below 0 sorted) of_samples ∙ ap (tree_rows key_cmp any_row) (paths_written scope are.paths.seen f holds are.paths.are);
+        rows = λ f holds. laid ∙ sorted_rows p names samples (below 0 sorted) moved ∙ ap (tree_rows key_cmp any_row) (gathered.gathered.are f holds);
         keys = keys;
         fits = fits;
       })

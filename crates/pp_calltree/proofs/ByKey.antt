@@ -1,5 +1,5 @@
 -- For each key, the flats of its nodes add up to its flat.
-use Rattle.std.proofs.Common.{◌≡◌, ℕ, zero, suc, ◌+◌, ◌<◌, ◌≤◌, Bool, true, false, cond, ◌&&◌, ◌||◌, ℤ, pos, ◌+ℤ◌, List, [], ◌∷◌, ◌++◌, length, map, reverse, get_or, All, Some, None, refl, sym, ap, ◌∙◌, arith}
+use Rattle.std.proofs.Common.{◌≡◌, ℕ, zero, suc, ◌+◌, ◌≤◌, Bool, true, false, cond, ◌||◌, ℤ, pos, ◌+ℤ◌, List, [], ◌∷◌, ◌++◌, length, map, reverse, get_or, All, Some, None, refl, sym, ap, ◌∙◌, arith}
 use Rattle.std.specs.Prelude.{flat_map}
 use Rattle.std.specs.List.{list_any, cons_option, IsDistinct, AllByRecursion}
 use Rattle.std.specs.Ordering.{eq_by_cmp, is_lt, is_eq}
@@ -9,12 +9,13 @@ use Rattle.std.specs.FinMap as finite
 use Rattle.std.specs.FinMap.Entries.{below_all, is_sorted, is_some-find}
 use Rattle.std.specs.declared.cmp.Ordering.{Ordering}
 use Rattle.std.specs.declared.cmp.Ordering.TheVariants.{Less, Equal, Greater}
-use Rattle.std.proofs.lemmas.Bool.{false≢true}
+use Rattle.std.proofs.lemmas.Bool.{and_parts, false≢true}
 use Rattle.std.proofs.lemmas.Cmp.{eq_by_cmp_equiv}
 use Rattle.std.proofs.lemmas.Grind.{reverse_onto}
 use Rattle.std.proofs.lemmas.Int.{ints}
 use Rattle.std.proofs.lemmas.List.Concat.{flat_map-cons}
 use Rattle.std.proofs.lemmas.List.Elements.{All-nil, All-cons, All-head, All-tail}
+use Rattle.std.proofs.lemmas.List.Folds.{list_any_at}
 use Rattle.std.proofs.lemmas.List.Sums.{get_or-le-sum_by}
 use Rattle.pp_base.proofs.Booleans.{is_true}
 use Rattle.pp_base.proofs.Orders.{equal_is}
@@ -157,10 +158,6 @@ module _ (t : Written → Bool) where
 
 -- the keys of a list that rises strictly are distinct
 module _ (R : Written → Written → Ordering) (ties_same : (x y : Written) → eq_by_cmp R x y ≡ eq x y) where
-  both : (a b : Bool) → (a && b) ≡ true → (a ≡ true) × (b ≡ true)
-  both true b e = (refl, e)
-  both false b e = absurd (false≢true e)
-
   less_apart : (o : Ordering) → is_lt o ≡ true → is_eq o ≡ false
   less_apart Less e = refl
   less_apart Equal e = absurd (false≢true e)
@@ -168,20 +165,12 @@ module _ (R : Written → Written → Ordering) (ties_same : (x y : Written) →
 
   apart_all : (x : Written) (es : List (Written × Unit {0})) → below_all R x es ≡ true → AllByRecursion (λ y. eq x y ≡ false) (map (λ e. e.0) es)
   apart_all x [] e = tt
-  apart_all x (y ∷ es) e = let parts = both (is_lt (R x y.0)) (below_all R x es) e in (sym (ties_same x y.0) ∙ less_apart (R x y.0) parts.0, apart_all x es parts.1)
+  apart_all x (y ∷ es) e = let parts = and_parts (is_lt (R x y.0)) (below_all R x es) e in (sym (ties_same x y.0) ∙ less_apart (R x y.0) parts.0, apart_all x es parts.1)
 
   distinct_all : (es : List (Written × Unit {0})) → is_sorted R es ≡ true → IsDistinct eq (map (λ e. e.0) es)
   unfolding IsDistinct
   distinct_all [] e = tt
-  distinct_all (x ∷ es) e = let parts = both (below_all R x.0 es) (is_sorted R es) e in (apart_all x.0 es parts.0, distinct_all es parts.1)
-
-found_at : (p : Written → Bool) (xs : List Written) (i : ℕ) (d : Written) → i < length xs → p (get_or xs i d) ≡ true → list_any p xs ≡ true
-found_at p [] i d here e = absurd (omega arith)
-found_at p (x ∷ xs) zero d here e = ap (λ b. b || list_any p xs) e
-found_at p (x ∷ xs) (suc i) d here e = or_later (p x) (list_any p xs) (found_at p xs i d (omega arith) e) where
-  or_later : (a b : Bool) → b ≡ true → (a || b) ≡ true
-  or_later true b e = refl
-  or_later false b e = e
+  distinct_all (x ∷ es) e = let parts = and_parts (below_all R x.0 es) (is_sorted R es) e in (apart_all x.0 es parts.0, distinct_all es parts.1)
 
 module _ (S : List (Seen Written)) where
   abbrev as_set : finite.FinMap (sibling_order key_cmp S) (Unit {0})
@@ -199,7 +188,7 @@ module _ (S : List (Seen Written)) where
 
   siblings_cover : All (λ q. list_any (eq q) (siblings key_cmp S) ≡ true) (first_keys S)
   siblings_cover i d here =
-      siblings_found (get_or (first_keys S) i d) (found_at (eq (get_or (first_keys S) i d)) (first_keys S) i d here (ap is_eq (tied_itself key_cmp_total (get_or (first_keys S) i d))))
+      siblings_found (get_or (first_keys S) i d) (list_any_at (eq (get_or (first_keys S) i d)) (first_keys S) i d here (ap is_eq (tied_itself key_cmp_total (get_or (first_keys S) i d))))
 
 short_one : (m : ℕ) (q : Written) (v : ℤ) (keys : List Written) (R : List (Seen Written)) → length keys ≤ suc m → All (λ (s : Seen Written). length s.keys ≤ m) R
     → All (λ (s : Seen Written). length s.keys ≤ m) (cons_option (below_key key_cmp q v keys) R)

@@ -1,14 +1,15 @@
 -- The sorted branches of a node are its children in the call tree.
-use Rattle.std.proofs.Common.{◌≡◌, ℕ, zero, suc, ◌+◌, ◌<◌, Bool, true, false, ◌||◌, nat_eq, nat_abs, List, [], ◌∷◌, length, map, get_or, All, refl, sym, ap, subst, ◌∙◌, arith}
+use Rattle.std.proofs.Common.{◌≡◌, ℕ, zero, suc, ◌+◌, ◌<◌, false, nat_eq, nat_abs, List, [], ◌∷◌, length, map, get_or, All, refl, sym, ap, subst, ◌∙◌, arith}
 use Rattle.std.specs.List.{list_any, IsDistinct, AllByRecursion}
 use Rattle.std.specs.List.Sorted.{IsPermutation, IsSorted}
 use Rattle.std.specs.Ordering.{nat_cmp, eq_by_cmp, is_lt, is_eq, ordering_then}
 use Rattle.std.specs.Cmp.{IsTotalOrder, nat_cmp_total, tied_itself, unsigned_tied}
 use Rattle.std.specs.FinMap.{IsAntisymmetric}
-use Rattle.std.proofs.lemmas.Bool.{eq-eqb, or_right}
+use Rattle.std.proofs.lemmas.Bool.{eq-eqb}
 use Rattle.std.proofs.lemmas.Cmp.{nat_eq_equiv, on_total, then_total, back_total, eq_by_cmp_equiv}
-use Rattle.std.proofs.lemmas.List.{length-map}
+use Rattle.std.proofs.lemmas.List.{get_or-map, length-map}
 use Rattle.std.proofs.lemmas.List.Elements.{All-head, All-tail, All-map}
+use Rattle.std.proofs.lemmas.List.Folds.{list_any_at}
 use Rattle.std.proofs.lemmas.List.Sorted.{IsPermutation-map, All-permutation, list_any-IsPermutation}
 use Rattle.std.proofs.lemmas.Map.Keys.{IsDistinct-IsPermutation}
 use Rattle.pp_base.proofs.Booleans.{same_bool}
@@ -62,21 +63,11 @@ module _ (W : List (Seen Written)) where
   all_apart [] d = tt
   all_apart (k ∷ ks) d = keys_apart k ks d
 
-get_or-mapped : {A B : Type 0} (g : A → B) (xs : List A) (j : ℕ) (d : B) (e : A) → j < length xs → get_or (map g xs) j d ≡ g (get_or xs j e)
-get_or-mapped g [] j d e h = absurd (omega arith)
-get_or-mapped g (x ∷ xs) zero d e h = refl
-get_or-mapped g (x ∷ xs) (suc j) d e h = get_or-mapped g xs j d e (omega arith)
-
 -- the item at a place
 item_at : {A : Type 0} (xs : List A) (j : ℕ) → j < length xs → A
 item_at [] j h = absurd (omega arith)
 item_at (x ∷ xs) zero h = x
 item_at (x ∷ xs) (suc j) h = item_at xs j (omega arith)
-
-has_at : (p : ℕ → Bool) (ks : List ℕ) (i d : ℕ) → i < length ks → p (get_or ks i d) ≡ true → list_any p ks ≡ true
-has_at p [] i d here e = absurd (omega arith)
-has_at p (k ∷ ks) zero d here e = ap (λ b. b || list_any p ks) e
-has_at p (k ∷ ks) (suc i) d here e = or_right (p k) (list_any p ks) (has_at p ks i d (omega arith) e)
 
 module _ (texts : Texts) (name : ℕ → Written) (n : ℕ) (apart : (a b : ℕ) → a < n → b < n → eq_by_cmp key_cmp (name a) (name b) ≡ eq_by_cmp nat_cmp a b)
     (texts_are : (k : ℕ) → k < n → texts_at texts k ≡ name k) (depth : ℕ) (S : List (Seen ℕ)) (below : All (HasBelow n) S) (list : List Branch) (are : AreBranches depth S list) where
@@ -93,7 +84,7 @@ module _ (texts : Texts) (name : ℕ → Written) (n : ℕ) (apart : (a b : ℕ)
   keys_below i d here =
       let k : ℕ = (get_or list i d).key in
       let within : i < length (map (λ (b : Branch). b.key) list) = omega (arith, here, length-map list (λ (b : Branch). b.key)) in
-      first_below n k S below (sym (are.present k) ∙ has_at (nat_eq k) (map (λ (b : Branch). b.key) list) i 0 within (ap (nat_eq k) (get_or-mapped (λ (b : Branch). b.key) list i 0 d here) ∙ eq-eqb k k refl))
+      first_below n k S below (sym (are.present k) ∙ list_any_at (nat_eq k) (map (λ (b : Branch). b.key) list) i 0 within (ap (nat_eq k) (get_or-map (λ (b : Branch). b.key) list i d 0 here) ∙ eq-eqb k k refl))
 
   nodes_are : All IsNode list
   nodes_are i d here =
@@ -118,7 +109,7 @@ module _ (texts : Texts) (name : ℕ → Written) (n : ℕ) (apart : (a b : ℕ)
       let here : k < length list = omega (arith, len, high) in
       let next : k + 1 < length list = omega (arith, len, high) in
       let e : Branch = item_at list k here in
-      (λ i. is_lt (sibling_order key_cmp W (get_or-mapped (λ (b : Branch). name b.key) list (k + 1) d e next i) (get_or-mapped (λ (b : Branch). name b.key) list k d e here i)))
+      (λ i. is_lt (sibling_order key_cmp W (get_or-map (λ (b : Branch). name b.key) list (k + 1) e d next i) (get_or-map (λ (b : Branch). name b.key) list k e d here i)))
       ∙ ap is_lt (nodes_order (get_or list (k + 1) e) (get_or list k e) (nodes_are (k + 1) e next) (nodes_are k e here)) ∙ sorted k e low next
 
   apart_all : (x : ℕ) (xs : List ℕ) → x < n → All (λ m. m < n) xs → AllByRecursion (λ y. nat_eq x y ≡ false) xs → AllByRecursion (λ y. eq_by_cmp key_cmp (name x) y ≡ false) (map name xs)

@@ -1,37 +1,38 @@
 -- Branches are laid out in the order of the call tree.
-use Rattle.std.proofs.Common.{◌≡◌, ℕ, zero, suc, ◌+◌, ◌-◌, ◌<◌, ◌≤◌, ◌||◌, nat_eq, nat_abs, List, [], ◌∷◌, ◌++◌, length, map, reverse, get_or, All, Some, refl, sym, ap, subst, ◌∙◌, append_assoc, arith}
+use Rattle.std.proofs.Common.{◌≡◌, ℕ, zero, suc, ◌+◌, ◌-◌, ◌<◌, ◌≤◌, ◌||◌, nat_eq, nat_abs, List, [], ◌∷◌, ◌++◌, length, map, get_or, All, refl, sym, ap, subst, ◌∙◌, arith}
 use Rattle.std.specs.Prelude.{flat_map}
 use Rattle.std.specs.List.{list_any, sum_by}
-use Rattle.std.proofs.lemmas.List.Sums.{sum_by-cons, sum_by-append, sum_by_push}
-use Rattle.std.proofs.lemmas.List.Sorted.{sum_by-IsPermutation, IsPermutation-reverse}
+use Rattle.std.proofs.lemmas.List.Sums.{sum_by-cons, sum_by_push}
 use Rattle.std.specs.List.Sorted.{IsSorted}
 use Rattle.std.specs.Ordering.{nat_cmp}
 use Rattle.std.proofs.lemmas.Bool.{false≢true, eq-eqb}
-use Rattle.std.proofs.lemmas.Grind.{flat_map-append, reverse_onto}
-use Rattle.std.proofs.lemmas.List.{reverse-append, reverse-reverse, append-nil, map-append}
+use Rattle.std.proofs.lemmas.Grind.{flat_map-append}
+use Rattle.std.proofs.lemmas.List.{append-nil, map-append}
 use Rattle.std.proofs.lemmas.List.Concat.{flat_map-cons}
-use Rattle.std.proofs.lemmas.List.Elements.{All-nil, All-head, All-tail, All-append, All-pop, All-push}
+use Rattle.std.proofs.lemmas.List.Elements.{All-nil, All-head, All-tail, All-push}
 use Rattle.pp_model.specs.declared.profile.Profile.{Profile}
 use Rattle.pp_model.specs.FrameTexts.{Written}
 use Rattle.pp_grain.specs.declared.key.Key.{Key}
 use Rattle.pp_grain.specs.Keys.{key_cmp, IsKeyOf}
 use Rattle.pp_count.specs.Sums.{Seen, absolute, renamed, sum_where}
 use Rattle.pp_count.specs.Parts.{HasBelow}
-use Rattle.pp_count.specs.Table.{written_key}
+use Rattle.pp_count.specs.Table.{no_key, written_key}
 use Rattle.pp_calltree.specs.declared.branch.Branch.{Branch}
 use Rattle.pp_calltree.specs.declared.texts.Texts.{Texts}
+use Rattle.pp_calltree.specs.declared.tree.NumberedNode.{NumberedNode}
 use Rattle.pp_calltree.specs.declared.tree.PathNode.{PathNode}
 use Rattle.pp_calltree.specs.declared.path.Path.{Path}
 use Rattle.pp_calltree.specs.CallPaths.{path_by, paths_below}
-use Rattle.pp_calltree.specs.CallTree.{TreeRow, any_row, is_end, under, path_cum, path_flat, row_of, rows_below}
-use Rattle.pp_calltree.specs.Branches.{Said, branch_samples, branch_said, branch_of, weight, AreBranches, AreOrdered}
-use Rattle.pp_calltree.specs.Listed.{trail, branch_paths, AddsBranches, BeginsWith, GoesOnFrom, WaitBehind}
+use Rattle.pp_calltree.specs.CallTree.{TreeRow, all_lengths, any_row, is_end, under, path_cum, path_flat, row_of, rows_below, tree_rows}
+use Rattle.pp_calltree.specs.Branches.{Said, branch_samples, branch_said, branch_of, AreBranches, AreOrdered}
+use Rattle.pp_calltree.specs.Links.{node_by, nodes_by}
+use Rattle.pp_calltree.specs.Listed.{trail, branch_paths, AddsBranches}
 use Rattle.pp_calltree.specs.Paths.{below}
 use Rattle.pp_calltree.specs.Siblings.{branch_cmp}
-use Rattle.pp_calltree.specs.Laid.{node_row, written_out, branch_row, whole_branch, CanLay, HasRoom, IsLayable, WaitBelow, Laying}
-use Rattle.pp_calltree.proofs.Trails.{trail_is, is_trailed}
-use Rattle.pp_calltree.proofs.Under.{under-renamed, under_all, under_size, none_first, parted}
+use Rattle.pp_calltree.specs.Laid.{node_row, written_out, branch_row, whole_branch, CanLay, HasRoom, IsLayable}
+use Rattle.pp_calltree.proofs.Under.{all_lengths-renamed, under-renamed, under_all, under_size, none_first, parted}
 use Rattle.pp_calltree.proofs.Children.{siblings_are, keys_below, row_cum, row_flat}
+use Rattle.pp_calltree.proofs.Waiting.{next_holds, sum_waiting, whole_start, whole_more, whole_end, MakesWhole}
 
 -- lists put together of what each item gives
 flat_map-mapped : {A B C : Type 0} (F : B → List C) (g : A → B) (H : A → List C) (xs : List A) → All (λ x. F (g x) ≡ H x) xs → flat_map F (map g xs) ≡ flat_map H xs
@@ -156,119 +157,78 @@ module _ (p : Profile) (names : List Key) (texts : Texts) (can : CanLay p names 
           ∙ flat_map-mapped (λ k. path_by key_cmp names_above (written_out p names S) k ∷ paths_below key_cmp left (names_above ++ k ∷ []) (under key_cmp k (written_out p names S)))
           (λ (b : Branch). name b.key) (branch_paths p names most) list (path_at left room same)
 
--- the branches that are added wait in the place of their samples
-pub wait_below : (p : Profile) (names : List Key) (texts : Texts) → CanLay p names texts → (most depth left : ℕ) (paths : List Path) (old new : List Branch)
-    → HasRoom names left (below depth paths) → most ≡ depth + left → AddsBranches texts depth paths old new
-    → WaitBelow p names most depth left (below depth paths) old new
-wait_below p names texts can most depth left paths old new room same adds =
-    let is = laid p names texts can most depth (below depth paths) adds.branches adds.are adds.sorted left room same in
-    record {
-      branches = adds.branches;
-      added = adds.added;
-      rows = is.0;
-      layable = is.1;
-      sizes = branch_sizes p names texts can most depth (below depth paths) adds.branches adds.are adds.sorted;
-      lighter = adds.are.lighter;
-    }
+-- The nodes so far, and those of the branches that wait, are those of the samples.
+pub record Laying (p : Profile) (names : List Key) (samples : List (Seen ℕ)) (nodes : List NumberedNode) (waiting : List Branch) : Type 0 where
+  pub rows : MakesWhole (IsLayable names (all_lengths samples)) (flat_map (whole_branch p names (all_lengths samples)))
+      (tree_rows key_cmp any_row (written_out p names samples)) (map (node_row p) (nodes_by names nodes)) waiting
+  pub keys : All (λ n. IsKeyOf p n.key) (nodes_by names nodes)
+  pub sizes : sum_by (λ n. nat_abs n.flat) (nodes_by names nodes) + sum_by (λ b. absolute (branch_samples b)) waiting ≤ absolute samples
 
--- the same of branches of which the paths are wanted, where all paths begin with the keys above
-pub wait_behind : (p : Profile) (names : List Key) (texts : Texts) → CanLay p names texts → (most depth left : ℕ) (above : List ℕ) (paths : List Path) (old new : List Branch)
-    → HasRoom names left (below depth paths) → most ≡ depth + left → length above ≡ depth → All (BeginsWith above) paths → All (λ k. k < length names) above
-    → AddsBranches texts depth paths old new → WaitBehind p names most depth left above (below depth paths) old new
-wait_behind p names texts can most depth left above paths old new room same deep begin known adds =
-    let layable : All (IsLayable names most) adds.branches = (laid p names texts can most depth (below depth paths) adds.branches adds.are adds.sorted left room same).1 in
-    let on : All (GoesOnFrom above) adds.branches = adds.go_on above deep begin in
-    let depths : All (λ (b : Branch). b.depth ≡ length above) adds.branches = λ i d here. ap (λ (s : Said). s.depth) (adds.are.are.said_are i d here) ∙ sym deep in
-    record {
-      branches = adds.branches;
-      added = adds.added;
-      paths = paths_laid p names texts can most depth (below depth paths) adds.branches adds.are adds.sorted above
-          (λ i d here. trail_is above (get_or adds.branches i d) (depths i d here) (on i d here)) left room same;
-      layable = layable;
-      trailed = λ i d here. is_trailed (length names) above (get_or adds.branches i d) (depths i d here) (on i d here) known (layable i d here).key_below;
-      lighter = adds.are.lighter;
-    }
+module _ (p : Profile) (names : List Key) (texts : Texts) (can : CanLay p names texts) (paths : List Path) where
+  abbrev S : List (Seen ℕ)
+  S = below 0 paths
 
--- what holds of all holds of all in reverse
-pub all_reversed : {X : Type 0} (P : X → Type 0) (xs : List X) → All P xs → All P (reverse xs)
-all_reversed P [] all = All-nil P
-all_reversed P (x ∷ xs) all = subst (All P) (sym (reverse_onto xs x [])) (All-push P (reverse xs) x (all_reversed P xs (All-tail P x xs all)) (All-head P x xs all))
+  abbrev most : ℕ
+  most = all_lengths S
 
--- one more node is laid out
-pub laying_more : (p : Profile) (names : List Key) (most : ℕ) (samples : List (Seen ℕ)) (nodes new_nodes : List PathNode) (before new : List Branch) (b : Branch) (node : PathNode)
-    → Laying p names most samples nodes (before ++ b ∷ []) → new_nodes ≡ nodes ++ node ∷ [] → node_row p node ≡ branch_row p names b → IsKeyOf p node.key
-    → b.flat ≡ sum_where is_end (branch_samples b)
-    → WaitBelow p names most (b.depth + 1) (most - (b.depth + 1)) (branch_samples b) before new
-    → Laying p names most samples new_nodes new
-laying_more p names most samples nodes new_nodes before new b node so_far more row key flat_is wait =
-    let whole : Branch → List (TreeRow Written) = whole_branch p names most in
-    let front : List (TreeRow Written) = map (node_row p) nodes in
-    let turned : reverse new ≡ wait.branches ++ reverse before =
-    ap reverse wait.added ∙ reverse-append before (reverse wait.branches) ∙ ap (λ r. r ++ reverse before) (reverse-reverse wait.branches) in
-    let old_turned : reverse (before ++ b ∷ []) ≡ b ∷ reverse before = reverse-append before (b ∷ []) in
-    let tail : flat_map whole (reverse new) ≡ flat_map whole wait.branches ++ flat_map whole (reverse before) =
-    ap (flat_map whole) turned ∙ flat_map-append whole wait.branches (reverse before) in
-    let head : map (node_row p) new_nodes ≡ front ++ branch_row p names b ∷ [] =
-    ap (map (node_row p)) more ∙ map-append (node_row p) nodes (node ∷ []) ∙ ap (λ r. front ++ r ∷ []) row in
-    record {
-      rows = (λ i. head i ++ tail i)
-          ∙ append_assoc front (branch_row p names b ∷ []) (flat_map whole wait.branches ++ flat_map whole (reverse before))
-          ∙ ap (λ r. front ++ (branch_row p names b ∷ (r ++ flat_map whole (reverse before)))) (sym wait.rows)
-          ∙ ap (λ r. front ++ r) (sym (ap (flat_map whole) old_turned ∙ flat_map-cons whole b (reverse before)))
-          ∙ so_far.rows;
-      layable = subst (All (IsLayable names most)) (sym wait.added)
-          (All-append (IsLayable names most) before (reverse wait.branches) ((All-pop (IsLayable names most) (before ++ b ∷ []) before (Some b) refl so_far.layable).0) (all_reversed (IsLayable names most) wait.branches wait.layable));
-      keys = subst (All (λ (n : PathNode). IsKeyOf p n.key)) (sym more) (All-push (λ (n : PathNode). IsKeyOf p n.key) nodes node so_far.keys key);
-      sizes = omega (
-        arith,
-        so_far.sizes,
-        wait.sizes,
-        ap (λ (r : TreeRow Written). nat_abs r.flat) row,
-        ap nat_abs flat_is,
-        ap (sum_by (λ (n : PathNode). nat_abs n.flat)) more ∙ sum_by_push (λ (n : PathNode). nat_abs n.flat) nodes node,
-        sum_by_push (λ (x : Branch). absolute (branch_samples x)) before b,
-        ap (sum_by (λ (x : Branch). absolute (branch_samples x))) wait.added ∙ sum_by-append (λ (x : Branch). absolute (branch_samples x)) before (reverse wait.branches),
-        sum_by-IsPermutation (λ (x : Branch). absolute (branch_samples x)) wait.branches (reverse wait.branches) (IsPermutation-reverse wait.branches),
-      );
-    }
+  abbrev all_rows : List (TreeRow Written)
+  all_rows = tree_rows key_cmp any_row (written_out p names S)
 
--- the branch that was popped
-pub last_layable : (names : List Key) (most : ℕ) (before : List Branch) (b : Branch) → All (IsLayable names most) (before ++ b ∷ []) → IsLayable names most b
-last_layable names most before b all = (All-pop (IsLayable names most) (before ++ b ∷ []) before (Some b) refl all).1
+  abbrev load : Branch → ℕ
+  load b = absolute (branch_samples b)
 
--- the branches of all samples wait
-pub laying_start : (p : Profile) (names : List Key) (most : ℕ) (samples : List (Seen ℕ)) (nodes : List PathNode) (new : List Branch)
-    → WaitBelow p names most 0 most samples [] new → nodes ≡ [] → Laying p names most samples nodes new
-laying_start p names most samples nodes new wait none = record {
-  rows = (λ i. map (node_row p) (none i) ++ flat_map (whole_branch p names most) (turned i)) ∙ sym wait.rows;
-  layable = subst (All (IsLayable names most)) (sym wait.added)
-      (all_reversed (IsLayable names most) wait.branches wait.layable);
-  keys = subst (All (λ (n : PathNode). IsKeyOf p n.key)) (sym none) (All-nil (λ (n : PathNode). IsKeyOf p n.key));
-  sizes = omega (
-    arith,
-    wait.sizes,
-    ap (sum_by (λ (n : PathNode). nat_abs n.flat)) none,
-    ap (sum_by (λ (x : Branch). absolute (branch_samples x))) wait.added,
-    sum_by-IsPermutation (λ (x : Branch). absolute (branch_samples x)) wait.branches (reverse wait.branches) (IsPermutation-reverse wait.branches),
-  );
-} where
-  turned : reverse new ≡ wait.branches
-  turned = ap reverse wait.added ∙ reverse-reverse wait.branches
+  abbrev size : PathNode → ℕ
+  size n = nat_abs n.flat
 
--- a branch is heavier than those below it
-pub lighter_more : (p : Profile) (names : List Key) (most depth left : ℕ) (before new : List Branch) (b : Branch) → WaitBelow p names most depth left (branch_samples b) before new
-    → sum_by weight new < sum_by weight (before ++ b ∷ [])
-lighter_more p names most depth left before new b wait = omega (
-  arith,
-  wait.lighter,
-  sum_by_push weight before b,
-  ap (sum_by weight) wait.added ∙ sum_by-append weight before (reverse wait.branches),
-  sum_by-IsPermutation weight wait.branches (reverse wait.branches) (IsPermutation-reverse wait.branches),
-)
+  -- the branches of all samples wait
+  pub laying_start : (nodes : List NumberedNode) (new : List Branch) → HasRoom names most S → nodes ≡ [] → AddsBranches texts 0 paths [] new → Laying p names S nodes new
+  laying_start nodes new room none adds =
+      let is = laid p names texts can most 0 S adds.branches adds.are adds.sorted most room (omega arith) in
+      let all : rows_below key_cmp any_row most 0 (written_out p names S) ≡ all_rows = ap (λ n. rows_below key_cmp any_row n 0 (written_out p names S)) (sym (all_lengths-renamed (written_key p names) S)) in
+      record {
+        rows = whole_start (IsLayable names most) (flat_map (whole_branch p names most)) all_rows (map (node_row p) (nodes_by names nodes)) new adds.branches
+            (ap (λ ns. map (node_row p) (nodes_by names ns)) none) adds.added (sym is.0 ∙ all) is.1;
+        keys = subst (λ ns. All (λ (n : PathNode). IsKeyOf p n.key) (nodes_by names ns)) (sym none) (All-nil (λ (n : PathNode). IsKeyOf p n.key));
+        sizes = omega (
+          arith,
+          branch_sizes p names texts can most 0 S adds.branches adds.are adds.sorted,
+          ap (λ ns. sum_by size (nodes_by names ns)) none,
+          sum_waiting load [] new adds.branches adds.added,
+        );
+      }
 
--- no branch waits any more
-pub laying_end : (p : Profile) (names : List Key) (most : ℕ) (samples : List (Seen ℕ)) (nodes : List PathNode) (waiting : List Branch)
-    → Laying p names most samples nodes waiting → waiting ≡ []
-    → map (node_row p) nodes ≡ rows_below key_cmp any_row most 0 (written_out p names samples)
-laying_end p names most samples nodes waiting so_far none =
-    sym (append-nil (map (node_row p) nodes)) ∙ (λ i. map (node_row p) nodes ++ flat_map (whole_branch p names most) (reverse (sym none i))) ∙ so_far.rows
+  -- one more node is laid out
+  pub laying_more : (nodes new_nodes : List NumberedNode) (n : NumberedNode) (waiting old new : List Branch) (b : Branch) → All (IsKeyOf p) names → waiting ≡ old ++ b ∷ []
+      → new_nodes ≡ nodes ++ n ∷ [] → n ≡ record { key = b.key; depth = b.depth; flat = b.flat; cum = b.cum } → AddsBranches texts (b.depth + 1) b.paths.now old new
+      → Laying p names S nodes waiting → Laying p names S new_nodes new
+  laying_more nodes new_nodes n waiting old new b names_are taken pushed n_is adds so_far =
+      let whole : Branch → List (TreeRow Written) = whole_branch p names most in
+      let layable : IsLayable names most b = next_holds waiting old b taken (IsLayable names most) so_far.rows.each in
+      let is = laid p names texts can most (b.depth + 1) (branch_samples b) adds.branches adds.are adds.sorted (most - (b.depth + 1)) layable.room (omega (arith, layable.depth_fits)) in
+      let node : PathNode = node_by names n in
+      let front : List (TreeRow Written) = map (node_row p) (nodes_by names nodes) in
+      let row : node_row p node ≡ branch_row p names b = ap (λ m. node_row p (node_by names m)) n_is in
+      let nodes_are : nodes_by names new_nodes ≡ nodes_by names nodes ++ node ∷ [] = ap (nodes_by names) pushed ∙ map-append (node_by names) nodes (n ∷ []) in
+      record {
+        rows = whole_more (IsLayable names most) (flat_map whole) all_rows (flat_map-append whole) front (branch_row p names b ∷ []) (map (node_row p) (nodes_by names new_nodes))
+            waiting old new adds.branches b taken
+            (ap (map (node_row p)) nodes_are ∙ map-append (node_row p) (nodes_by names nodes) (node ∷ []) ∙ ap (λ r. front ++ r ∷ []) row)
+            adds.added (ap (λ r. branch_row p names b ∷ r) (sym is.0) ∙ sym (flat_map-cons whole b [] ∙ append-nil (whole b))) is.1 so_far.rows;
+        keys = subst (All (λ (n : PathNode). IsKeyOf p n.key)) (sym nodes_are) (All-push (λ (n : PathNode). IsKeyOf p n.key) (nodes_by names nodes) node so_far.keys
+            (subst (λ m. IsKeyOf p (node_by names m).key) (sym n_is) (names_are b.key no_key layable.key_below)));
+        sizes = omega (
+          arith,
+          so_far.sizes,
+          branch_sizes p names texts can most (b.depth + 1) (branch_samples b) adds.branches adds.are adds.sorted,
+          ap (λ (r : TreeRow Written). nat_abs r.flat) row,
+          ap nat_abs layable.flat_is,
+          ap (sum_by size) nodes_are ∙ sum_by_push size (nodes_by names nodes) node,
+          ap (sum_by load) taken ∙ sum_by_push load old b,
+          sum_waiting load old new adds.branches adds.added,
+        );
+      }
+
+  -- no branch waits any more
+  pub laying_end : (nodes : List NumberedNode) (waiting : List Branch) → waiting ≡ [] → Laying p names S nodes waiting → map (node_row p) (nodes_by names nodes) ≡ all_rows
+  laying_end nodes waiting none so_far =
+      whole_end (IsLayable names most) (flat_map (whole_branch p names most)) all_rows (map (node_row p) (nodes_by names nodes)) waiting refl none so_far.rows

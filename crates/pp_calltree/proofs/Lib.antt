@@ -10,6 +10,7 @@ pub mod Permuted
 pub mod Naming
 pub mod Under
 pub mod Children
+pub mod Waiting
 pub mod LaidOut
 pub mod Alone
 pub mod ListedPaths

@@ -1,14 +1,12 @@
 -- The paths of a call tree, listed branch by branch.
-use Rattle.std.proofs.Common.{◌≡◌, ℕ, ◌+◌, ◌-◌, ◌<◌, ◌≤◌, Bool, true, false, cond, not, ℤ, pos, List, [], ◌∷◌, ◌++◌, length, take, drop, map, reverse, get_or, All, Some, refl, sym, ap, subst, ◌∙◌, append_assoc, arith}
+use Rattle.std.proofs.Common.{◌≡◌, ℕ, ◌+◌, ◌-◌, ◌<◌, ◌≤◌, true, false, cond, not, pos, List, [], ◌∷◌, ◌++◌, length, take, drop, map, get_or, All, refl, sym, ap, subst, ◌∙◌, arith}
 use Rattle.std.specs.Prelude.{flat_map}
-use Rattle.std.specs.List.{filter, sum_by}
+use Rattle.std.specs.List.{filter}
 use Rattle.std.specs.Ordering.{int_eq}
 use Rattle.std.proofs.lemmas.Grind.{flat_map-append}
-use Rattle.std.proofs.lemmas.List.{append-nil, length-map, map-append, reverse-append, reverse-reverse, take-append-drop}
+use Rattle.std.proofs.lemmas.List.{append-nil, length-map, map-append, take-append-drop}
 use Rattle.std.proofs.lemmas.List.Concat.{flat_map-cons}
-use Rattle.std.proofs.lemmas.List.Elements.{All-nil, All-cons, All-head, All-append, All-pop, filter-append}
-use Rattle.std.proofs.lemmas.List.Sorted.{sum_by-IsPermutation, IsPermutation-reverse}
-use Rattle.std.proofs.lemmas.List.Sums.{sum_by-append, sum_by_push}
+use Rattle.std.proofs.lemmas.List.Elements.{All-nil, All-cons, All-head, All-append, filter-append}
 use Rattle.pp_model.specs.declared.profile.Profile.{Profile}
 use Rattle.pp_model.specs.FrameTexts.{Written}
 use Rattle.pp_grain.specs.declared.key.Key.{Key}
@@ -18,15 +16,18 @@ use Rattle.pp_count.specs.Table.{no_key, written_key}
 use Rattle.pp_calltree.specs.declared.branch.Branch.{Branch}
 use Rattle.pp_calltree.specs.declared.listing.PathSum.{PathSum}
 use Rattle.pp_calltree.specs.declared.path.Path.{Path}
-use Rattle.pp_calltree.specs.Branches.{branch_samples, weight}
-use Rattle.pp_calltree.specs.CallPaths.{CallPath, has_sum, path_written, paths_below, HasKeysOf}
+use Rattle.pp_calltree.specs.declared.texts.Texts.{Texts}
+use Rattle.pp_calltree.specs.Branches.{Said, branch_samples}
+use Rattle.pp_calltree.specs.CallPaths.{CallPath, all_paths, has_sum, path_written, paths_below, HasKeysOf}
 use Rattle.pp_calltree.specs.CallTree.{all_lengths, is_end}
-use Rattle.pp_calltree.specs.Laid.{written_out, IsLayable}
-use Rattle.pp_calltree.specs.Listed.{first_path, trail, branch_paths, summed_paths, unless_zero, HasNumbersBelow, IsTrailed, Listing, PassesOn, WaitBehind}
-use Rattle.pp_calltree.specs.Paths.{below, path_below}
+use Rattle.pp_calltree.specs.Laid.{written_out, CanLay, HasRoom}
+use Rattle.pp_calltree.specs.Listed.{first_path, trail, branch_paths, summed_paths, unless_zero, AddsBranches, BeginsWith, GoesOnFrom, HasNumbersBelow, IsListable, PassesOn}
+use Rattle.pp_calltree.specs.Paths.{below}
 use Rattle.pp_calltree.proofs.Alone.{alone}
-use Rattle.pp_calltree.proofs.LaidOut.{all_reversed}
-use Rattle.pp_calltree.proofs.Under.{sum_where-renamed, is_end-renamed}
+use Rattle.pp_calltree.proofs.LaidOut.{laid, paths_laid}
+use Rattle.pp_calltree.proofs.Trails.{is_trailed, trail_is}
+use Rattle.pp_calltree.proofs.Under.{all_lengths-renamed, is_end-renamed, sum_where-renamed}
+use Rattle.pp_calltree.proofs.Waiting.{next_holds, whole_start, whole_more, whole_end, MakesWhole}
 
 -- what holds of a path holds of it where it is listed
 all_unless : (P : PathSum → Type 0) (path : PathSum) → P path → All P (unless_zero path)
@@ -57,7 +58,7 @@ module _ (p : Profile) (names : List Key) (most : ℕ) where
   ]
 
   -- One path alone goes through the branch, and is listed whole.
-  module _ (b : Branch) (x : Path) (only : b.paths.now ≡ x ∷ []) (layable : IsLayable names most b) (trailed : IsTrailed (length names) b) where
+  module _ (b : Branch) (x : Path) (only : b.paths.now ≡ x ∷ []) (listable : IsListable names most b) where
     abbrev rest : List ℕ
     rest = drop (b.depth + 1) x.keys.now
 
@@ -72,7 +73,7 @@ module _ (p : Profile) (names : List Key) (most : ℕ) where
 
     own_flat : b.flat ≡ sum_where is_end (record { value = x.value; keys = map (written_key p names) rest } ∷ [])
     own_flat =
-        layable.flat_is ∙ ap (sum_where is_end) own_samples
+        listable.layable.flat_is ∙ ap (sum_where is_end) own_samples
         ∙ sym (sum_where-renamed (written_key p names) is_end is_end (is_end-renamed (written_key p names)) (record { value = x.value; keys = rest } ∷ []))
 
     short : length (map (written_key p names) rest) ≤ most - (b.depth + 1)
@@ -80,7 +81,7 @@ module _ (p : Profile) (names : List Key) (most : ℕ) where
       arith,
       length-map rest (written_key p names),
       All-head (λ (s : Seen ℕ). length s.keys ≤ most - (b.depth + 1)) (record { value = x.value; keys = rest }) []
-          (subst (All (λ (s : Seen ℕ). length s.keys ≤ most - (b.depth + 1))) own_samples layable.room.short),
+          (subst (All (λ (s : Seen ℕ). length s.keys ≤ most - (b.depth + 1))) own_samples listable.layable.room.short),
     )
 
     alone_paths : filter has_sum (branch_paths p names most b) ≡ filter has_sum (record { keys = map (written_key p names) x.keys.now; sum = x.value } ∷ [])
@@ -92,9 +93,9 @@ module _ (p : Profile) (names : List Key) (most : ℕ) where
         (sym (map-append (written_key p names) (trail b) rest) ∙ ap (map (written_key p names)) whole)
 
     known : All (λ k. k < length names) x.keys.now
-    known = subst (All (λ k. k < length names)) whole (All-append (λ k. k < length names) (trail b) rest trailed.below
+    known = subst (All (λ k. k < length names)) whole (All-append (λ k. k < length names) (trail b) rest listable.trailed.below
         (All-head (λ (s : Seen ℕ). All (λ k. k < length names) s.keys) (record { value = x.value; keys = rest }) []
-        (subst (All (λ (s : Seen ℕ). All (λ k. k < length names) s.keys)) own_samples layable.room.below)))
+        (subst (All (λ (s : Seen ℕ). All (λ k. k < length names) s.keys)) own_samples listable.layable.room.below)))
 
     pub passes_alone : (path : PathSum) (old new : List Branch) (before after : List PathSum) → path.keys.now ≡ x.keys.now → path.sum ≡ x.value
         → after ≡ before ++ unless_zero path → new ≡ old → PassesOn p names most b old new before after
@@ -106,90 +107,102 @@ module _ (p : Profile) (names : List Key) (most : ℕ) where
       paths = append-nil (map write (unless_zero path)) ∙ write_unless path
           ∙ (λ i. filter has_sum (record { keys = map (written_key p names) (keys_are i); sum = sum_is i } ∷ []))
           ∙ sym (summed_one b ∙ alone_paths);
-      layable = All-nil (IsLayable names most);
-      trailed = All-nil (IsTrailed (length names));
+      listable = All-nil (IsListable names most);
       below = all_unless (HasNumbersBelow (length names)) path (subst (All (λ k. k < length names)) (sym keys_are) known);
       lighter = omega arith;
     }
 
+  -- The branches that are added below these keys: the paths that go on from there, and that they can be listed.
+  module _ (texts : Texts) (can : CanLay p names texts) (depth left : ℕ) (above : List ℕ) (paths : List Path) (old new : List Branch) (room : HasRoom names left (below depth paths))
+      (same : most ≡ depth + left) (deep : length above ≡ depth) (begin : All (BeginsWith above) paths) (known_above : All (λ k. k < length names) above)
+      (adds : AddsBranches texts depth paths old new) where
+    on : All (GoesOnFrom above) adds.branches
+    on = adds.go_on above deep begin
+
+    depths : All (λ (b : Branch). b.depth ≡ length above) adds.branches
+    depths i d here = ap (λ (s : Said). s.depth) (adds.are.are.said_are i d here) ∙ sym deep
+
+    paths_added : paths_below key_cmp left (map (written_key p names) above) (written_out p names (below depth paths)) ≡ flat_map (branch_paths p names most) adds.branches
+    paths_added =
+        paths_laid p names texts can most depth (below depth paths) adds.branches adds.are adds.sorted above
+        (λ i d here. trail_is above (get_or adds.branches i d) (depths i d here) (on i d here)) left room same
+
+    listable_added : All (IsListable names most) adds.branches
+    listable_added i d here =
+        let layable = (laid p names texts can most depth (below depth paths) adds.branches adds.are adds.sorted left room same).1 i d here in
+        record { layable = layable; trailed = is_trailed (length names) above (get_or adds.branches i d) (depths i d here) (on i d here) known_above layable.key_below }
+
   -- The path of the branch is listed, and those below it wait.
-  pub passes_more : (b : Branch) (path : PathSum) (old new : List Branch) (before after : List PathSum) → IsTrailed (length names) b
-      → path.keys.now ≡ trail b → path.sum ≡ b.flat → after ≡ before ++ unless_zero path
-      → WaitBehind p names most (b.depth + 1) (most - (b.depth + 1)) (trail b) (branch_samples b) old new → PassesOn p names most b old new before after
-  passes_more b path old new before after trailed keys_are sum_is lists wait =
+  pub passes_more : (texts : Texts) → CanLay p names texts → (b : Branch) (path : PathSum) (old new : List Branch) (before after : List PathSum) → IsListable names most b
+      → path.keys.now ≡ trail b → path.sum ≡ b.flat → after ≡ before ++ unless_zero path → AddsBranches texts (b.depth + 1) b.paths.now old new
+      → PassesOn p names most b old new before after
+  passes_more texts can b path old new before after listable keys_are sum_is lists adds =
       let own : CallPath Written = record { keys = map (written_key p names) (trail b); sum = b.flat } in
-      let further : List (CallPath Written) =
-      paths_below key_cmp (most - (b.depth + 1)) (map (written_key p names) (trail b)) (written_out p names (branch_samples b)) in
+      let left : ℕ = most - (b.depth + 1) in
+      let further : List (CallPath Written) = paths_below key_cmp left (map (written_key p names) (trail b)) (written_out p names (branch_samples b)) in
+      let room = listable.layable.room in
+      let same : most ≡ (b.depth + 1) + left = omega (arith, listable.layable.depth_fits) in
+      let trailed = listable.trailed in
       record {
         listed = unless_zero path;
-        branches = wait.branches;
+        branches = adds.branches;
         lists = lists;
-        added = wait.added;
-        paths = (λ i. write_unless path i ++ filter has_sum (sym wait.paths i))
+        added = adds.added;
+        paths = (λ i. write_unless path i ++ filter has_sum (sym (paths_added texts can (b.depth + 1) left (trail b) b.paths.now old new room same trailed.long trailed.begin trailed.below adds) i))
             ∙ (λ i. filter has_sum (record { keys = map (written_key p names) (keys_are i); sum = sum_is i } ∷ []) ++ filter has_sum further)
             ∙ sym (summed_one b ∙ filter-append has_sum (own ∷ []) further);
-        layable = wait.layable;
-        trailed = wait.trailed;
+        listable = listable_added texts can (b.depth + 1) left (trail b) b.paths.now old new room same trailed.long trailed.begin trailed.below adds;
         below = all_unless (HasNumbersBelow (length names)) path (subst (All (λ k. k < length names)) (sym keys_are) trailed.below);
-        lighter = omega (arith, wait.lighter);
+        lighter = omega (arith, adds.are.lighter);
       }
 
-  module _ (samples : List (Seen ℕ)) where
-    -- the branches of all samples wait
-    pub listing_start : (new : List Branch) (paths : List PathSum) → WaitBehind p names most 0 most [] samples [] new → paths ≡ [] → Listing p names most samples paths new
-    listing_start new paths wait none = record {
-      are = (λ i. map write (none i) ++ summed ((ap reverse wait.added ∙ reverse-reverse wait.branches) i)) ∙ ap (filter has_sum) (sym wait.paths);
-      layable = subst (All (IsLayable names most)) (sym wait.added) (all_reversed (IsLayable names most) wait.branches wait.layable);
-      trailed = subst (All (IsTrailed (length names))) (sym wait.added) (all_reversed (IsTrailed (length names)) wait.branches wait.trailed);
-      below = subst (All (HasNumbersBelow (length names))) (sym none) (All-nil (HasNumbersBelow (length names)));
-    }
+-- The paths so far, and those of the branches that wait, are those of the samples whose sums aren't 0.
+pub record Listing (p : Profile) (names : List Key) (samples : List (Seen ℕ)) (paths : List PathSum) (waiting : List Branch) : Type 0 where
+  pub are : MakesWhole (IsListable names (all_lengths samples)) (summed_paths p names (all_lengths samples))
+      (filter has_sum (all_paths key_cmp (written_out p names samples))) (map (path_written p names) paths) waiting
+  pub below : All (HasNumbersBelow (length names)) paths
 
-    -- one more branch is passed
-    pub listing_more : (b : Branch) (old new : List Branch) (before after : List PathSum) → Listing p names most samples before (old ++ b ∷ []) → PassesOn p names most b old new before after
-        → Listing p names most samples after new
-    listing_more b old new before after so_far pass =
-        let turned : summed (reverse new) ≡ summed pass.branches ++ summed (reverse old) =
-        ap summed (ap reverse pass.added ∙ reverse-append old (reverse pass.branches) ∙ ap (λ r. r ++ reverse old) (reverse-reverse pass.branches))
-        ∙ summed-append pass.branches (reverse old) in
-        let front : List (CallPath Written) = map write before in
-        let listed : List (CallPath Written) = map write pass.listed in
-        record {
-          are = (λ i. (ap (map write) pass.lists ∙ map-append write before pass.listed) i ++ turned i)
-              ∙ append_assoc front listed (summed pass.branches ++ summed (reverse old))
-              ∙ ap (λ r. front ++ r) (sym (append_assoc listed (summed pass.branches) (summed (reverse old))) ∙ ap (λ r. r ++ summed (reverse old)) pass.paths
-              ∙ sym (summed-append (b ∷ []) (reverse old)))
-              ∙ ap (λ r. front ++ summed r) (sym (reverse-append old (b ∷ [])))
-              ∙ so_far.are;
-          layable = subst (All (IsLayable names most)) (sym pass.added)
-              (All-append (IsLayable names most) old (reverse pass.branches) (All-pop (IsLayable names most) (old ++ b ∷ []) old (Some b) refl so_far.layable).0
-              (all_reversed (IsLayable names most) pass.branches pass.layable));
-          trailed = subst (All (IsTrailed (length names))) (sym pass.added)
-              (All-append (IsTrailed (length names)) old (reverse pass.branches) (All-pop (IsTrailed (length names)) (old ++ b ∷ []) old (Some b) refl so_far.trailed).0
-              (all_reversed (IsTrailed (length names)) pass.branches pass.trailed));
-          below = subst (All (HasNumbersBelow (length names))) (sym pass.lists) (All-append (HasNumbersBelow (length names)) before pass.listed so_far.below pass.below);
-        }
+module _ (p : Profile) (names : List Key) (all : List Path) where
+  abbrev S : List (Seen ℕ)
+  S = below 0 all
 
-    pub next_layable : (b : Branch) (old : List Branch) (before : List PathSum) → Listing p names most samples before (old ++ b ∷ []) → IsLayable names most b
-    next_layable b old before so_far = (All-pop (IsLayable names most) (old ++ b ∷ []) old (Some b) refl so_far.layable).1
+  abbrev most : ℕ
+  most = all_lengths S
 
-    pub next_trailed : (b : Branch) (old : List Branch) (before : List PathSum) → Listing p names most samples before (old ++ b ∷ []) → IsTrailed (length names) b
-    next_trailed b old before so_far = (All-pop (IsTrailed (length names)) (old ++ b ∷ []) old (Some b) refl so_far.trailed).1
+  abbrev all_summed : List (CallPath Written)
+  all_summed = filter has_sum (all_paths key_cmp (written_out p names S))
 
-    -- no branch waits any more
-    pub listing_end : (paths : List PathSum) (waiting : List Branch) → Listing p names most samples paths waiting → waiting ≡ []
-        → map write paths ≡ filter has_sum (paths_below key_cmp most [] (written_out p names samples))
-    listing_end paths waiting so_far none =
-        sym (append-nil (map write paths)) ∙ (λ i. map write paths ++ summed (reverse (sym none i))) ∙ so_far.are
+  -- the branches of all samples wait
+  pub listing_start : (texts : Texts) → CanLay p names texts → (new : List Branch) (paths : List PathSum) → HasRoom names most S → paths ≡ [] → AddsBranches texts 0 all [] new
+      → Listing p names S paths new
+  listing_start texts can new paths room none adds =
+      let same : most ≡ 0 + most = omega arith in
+      let known : All (λ k. k < length names) [] = All-nil (λ k. k < length names) in
+      record {
+        are = whole_start (IsListable names most) (summed_paths p names most) all_summed (map (path_written p names) paths) new adds.branches (ap (map (path_written p names)) none) adds.added
+            (ap (filter has_sum) (sym (paths_added p names most texts can 0 most [] all [] new room same refl (λ i d here. refl) known adds)
+            ∙ ap (λ n. paths_below key_cmp n [] (written_out p names S)) (sym (all_lengths-renamed (written_key p names) S))))
+            (listable_added p names most texts can 0 most [] all [] new room same refl (λ i d here. refl) known adds);
+        below = subst (All (HasNumbersBelow (length names))) (sym none) (All-nil (HasNumbersBelow (length names)));
+      }
 
-  -- branches are lighter than the one that they stand for
-  pub lighter_passed : (b : Branch) (old new : List Branch) (before after : List PathSum) → PassesOn p names most b old new before after → sum_by weight new < sum_by weight (old ++ b ∷ [])
-  lighter_passed b old new before after pass = omega (
-    arith,
-    pass.lighter,
-    sum_by_push weight old b,
-    ap (sum_by weight) pass.added ∙ sum_by-append weight old (reverse pass.branches),
-    sum_by-IsPermutation weight pass.branches (reverse pass.branches) (IsPermutation-reverse pass.branches),
-  )
+  -- one more branch is passed
+  pub listing_more : (waiting old new : List Branch) (b : Branch) (before after : List PathSum) → waiting ≡ old ++ b ∷ [] → PassesOn p names most b old new before after
+      → Listing p names S before waiting → Listing p names S after new
+  listing_more waiting old new b before after taken pass so_far = record {
+    are = whole_more (IsListable names most) (summed_paths p names most) all_summed (summed-append p names most) (map (path_written p names) before) (map (path_written p names) pass.listed)
+        (map (path_written p names) after) waiting old new pass.branches b taken (ap (map (path_written p names)) pass.lists ∙ map-append (path_written p names) before pass.listed)
+        pass.added pass.paths pass.listable so_far.are;
+    below = subst (All (HasNumbersBelow (length names))) (sym pass.lists) (All-append (HasNumbersBelow (length names)) before pass.listed so_far.below pass.below);
+  }
+
+  pub next_listable : (waiting old : List Branch) (b : Branch) (paths : List PathSum) → waiting ≡ old ++ b ∷ [] → Listing p names S paths waiting → IsListable names most b
+  next_listable waiting old b paths taken so_far = next_holds waiting old b taken (IsListable names most) so_far.are.each
+
+  -- no branch waits any more
+  pub listing_end : (paths : List PathSum) (waiting : List Branch) → waiting ≡ [] → Listing p names S paths waiting → map (path_written p names) paths ≡ all_summed
+  listing_end paths waiting none so_far =
+      whole_end (IsListable names most) (summed_paths p names most) all_summed (map (path_written p names) paths) waiting refl none so_far.are
 
 -- numbers of names are those of keys
 pub known_keys : (p : Profile) (names : List Key) (paths : List PathSum) → All (IsKeyOf p) names → All (HasNumbersBelow (length names)) paths → All (HasKeysOf p names) paths

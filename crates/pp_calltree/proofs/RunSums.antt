@@ -33,7 +33,8 @@ own_is zero (k ∷ ks) v = refl
 own_is (suc n) [] v = refl
 own_is (suc n) (k ∷ ks) v = own_is n ks v
 
-read_back : (z : ℤ) → nat_abs z < 2 ^ 63 → to_z w64 (of_z w64 z) ≡ z
+-- a number that fits is read as it was written
+pub read_back : (z : ℤ) → nat_abs z < 2 ^ 63 → to_z w64 (of_z w64 z) ≡ z
 read_back z small = to_z-of_z w64 z (fits_signed_from_abs w64 z small)
 
 -- The sums over the first paths.

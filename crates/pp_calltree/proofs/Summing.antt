@@ -1,7 +1,6 @@
 -- Sums of flats, and lines of nodes, one after the other.
 use Rattle.std.proofs.Common.{◌≡◌, ℕ, zero, suc, ◌+◌, ◌<◌, ◌≤◌, ◌^◌, ℤ, pos, ◌+ℤ◌, nat_abs, w64, to_z, of_z, List, ◌++◌, length, map, drop, get_or, refl, sym, ap, ◌∙◌, append_assoc, arith}
 use Rattle.std.specs.List.{repeat}
-use Rattle.std.proofs.lemmas.Int.{fits_signed_from_abs, to_z-of_z}
 use Rattle.std.proofs.Math.IntN.{+ℤ_assoc, +ℤ_idl, +ℤ_idr}
 use Rattle.std.proofs.lemmas.List.{drop_more, drop_all, append-nil}
 use Rattle.std.proofs.lemmas.List.Sums.{sum_by-cons}
@@ -12,6 +11,7 @@ use Rattle.pp_calltree.specs.declared.tree.PathNode.{PathNode}
 use Rattle.pp_calltree.specs.Laid.{node_row}
 use Rattle.pp_calltree.specs.Shown.{flat_sizes}
 use Rattle.pp_calltree.specs.Text.{flats_sum, node_line, node_lines}
+use Rattle.pp_calltree.proofs.RunSums.{read_back}
 
 -- The sum of the first flats, and with those that are left that of all.
 pub record SumTo (nodes : List PathNode) (i : ℕ) (sum : ℤ) : Type 0 where
@@ -34,9 +34,6 @@ has_place nodes i d sum here small fits = omega (arith, small, fits, next_size n
 still_small : (nodes : List PathNode) (i : ℕ) (d : PathNode) (sum : ℤ) → i < length nodes → nat_abs sum + flat_sizes (drop i nodes) ≤ flat_sizes nodes
     → nat_abs (sum +ℤ (get_or nodes i d).flat) + flat_sizes (drop (i + 1) nodes) ≤ flat_sizes nodes
 still_small nodes i d sum here small = omega (arith, small, next_size nodes i d here, triangle sum (get_or nodes i d).flat)
-
-read_back : (z : ℤ) → nat_abs z < 2 ^ 63 → to_z w64 (of_z w64 z) ≡ z
-read_back z small = to_z-of_z w64 z (fits_signed_from_abs w64 z small)
 
 -- the next sum, as the machine has it
 pub next_is : (nodes : List PathNode) (i : ℕ) (d : PathNode) (sum result : ℤ) → i < length nodes → nat_abs sum + flat_sizes (drop i nodes) ≤ flat_sizes nodes → flat_sizes nodes < 2 ^ 63

@@ -1,19 +1,18 @@
 -- Nodes with their keys written out, which public clauses cite (`node_row`), and how nodes are laid out.
-use Rattle.std.specs.Prelude.{◌≡◌, ℕ, ◌+◌, ◌-◌, ◌<◌, ◌≤◌, ◌^◌, nat_abs, List, ◌∷◌, ◌++◌, length, map, flat_map, reverse, All}
-use Rattle.std.specs.List.{sum_by}
+use Rattle.std.specs.Prelude.{◌≡◌, ℕ, ◌+◌, ◌-◌, ◌<◌, ◌≤◌, ◌^◌, List, ◌∷◌, length, map, All}
 use Rattle.std.specs.Ordering.{nat_cmp, eq_by_cmp}
 use Rattle.pp_model.specs.declared.profile.Profile.{Profile}
 use Rattle.pp_model.specs.FrameTexts.{Written}
 use Rattle.pp_grain.specs.declared.key.Key.{Key}
-use Rattle.pp_grain.specs.Keys.{key_cmp, key_written, IsKeyOf}
+use Rattle.pp_grain.specs.Keys.{key_cmp, key_written}
 use Rattle.pp_count.specs.Sums.{Seen, absolute, renamed, sum_where}
 use Rattle.pp_count.specs.Parts.{HasBelow}
 use Rattle.pp_count.specs.Table.{written_key}
 use Rattle.pp_calltree.specs.declared.branch.Branch.{Branch}
 use Rattle.pp_calltree.specs.declared.texts.Texts.{Texts}
 use Rattle.pp_calltree.specs.declared.tree.PathNode.{PathNode}
-use Rattle.pp_calltree.specs.Branches.{branch_samples, weight}
-use Rattle.pp_calltree.specs.CallTree.{TreeRow, all_lengths, any_row, is_end, rows_below}
+use Rattle.pp_calltree.specs.Branches.{branch_samples}
+use Rattle.pp_calltree.specs.CallTree.{TreeRow, any_row, is_end, rows_below}
 use Rattle.pp_calltree.specs.Paths.{IsRising}
 use Rattle.pp_calltree.specs.Siblings.{texts_at}
 
@@ -57,25 +56,3 @@ pub record IsLayable (names : List Key) (most : ℕ) (b : Branch) : Type 0 where
   pub room : HasRoom names (most - (b.depth + 1)) (branch_samples b)
   pub flat_is : b.flat ≡ sum_where is_end (branch_samples b)
   pub rises : IsRising (branch_samples b)
-
--- The branches of the samples below so many keys wait in the place of the samples, the last of them first.
-pub record WaitBelow (p : Profile) (names : List Key) (most depth left : ℕ)
-    (samples : List (Seen ℕ)) (old new : List Branch) : Type 0 where
-  pub branches : List Branch
-  pub added : new ≡ old ++ reverse branches
-  pub rows : rows_below key_cmp any_row left depth (written_out p names samples)
-      ≡ flat_map (whole_branch p names most) branches
-  pub layable : All (IsLayable names most) branches
-  pub sizes : sum_by (λ b. absolute (branch_samples b)) branches + nat_abs (sum_where is_end samples)
-      ≤ absolute samples
-  pub lighter : sum_by weight branches ≤ all_lengths samples
-
--- The nodes so far, and those of the branches that wait, are those of the samples.
-pub record Laying (p : Profile) (names : List Key) (most : ℕ) (samples : List (Seen ℕ))
-    (nodes : List PathNode) (waiting : List Branch) : Type 0 where
-  pub rows : map (node_row p) nodes ++ flat_map (whole_branch p names most) (reverse waiting)
-      ≡ rows_below key_cmp any_row most 0 (written_out p names samples)
-  pub layable : All (IsLayable names most) waiting
-  pub keys : All (λ n. IsKeyOf p n.key) nodes
-  pub sizes : sum_by (λ n. nat_abs n.flat) nodes + sum_by (λ b. absolute (branch_samples b)) waiting
-      ≤ absolute samples

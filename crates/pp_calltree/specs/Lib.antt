@@ -4,6 +4,7 @@ pub mod Paths
 pub mod Branches
 pub mod Siblings
 pub mod Laid
+pub mod Gathered
 pub mod Listed
 pub mod Tree
 pub mod Walk

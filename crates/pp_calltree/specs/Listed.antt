@@ -1,5 +1,5 @@
 -- Paths of a call tree that are listed branch by branch, without its nodes. No public clause cites it.
-use Rattle.std.specs.Prelude.{◌≡◌, ℕ, ◌+◌, ◌-◌, ◌<◌, ◌≤◌, ℤ, pos, List, [], ◌∷◌, ◌++◌, length, take, map, reverse, All, if◌then◌else◌}
+use Rattle.std.specs.Prelude.{◌≡◌, ℕ, ◌+◌, ◌-◌, ◌<◌, pos, List, [], ◌∷◌, ◌++◌, length, take, map, reverse, All, if◌then◌else◌}
 use Rattle.std.specs.List.{filter, flat_map, sum_by}
 use Rattle.std.specs.List.Sorted.{IsSorted}
 use Rattle.std.specs.Ordering.{int_eq}
@@ -7,7 +7,6 @@ use Rattle.pp_model.specs.declared.profile.Profile.{Profile}
 use Rattle.pp_model.specs.FrameTexts.{Written}
 use Rattle.pp_grain.specs.declared.key.Key.{Key}
 use Rattle.pp_grain.specs.Keys.{key_cmp}
-use Rattle.pp_count.specs.Sums.{Seen}
 use Rattle.pp_count.specs.Table.{written_key}
 use Rattle.pp_calltree.specs.declared.branch.Branch.{Branch}
 use Rattle.pp_calltree.specs.declared.listing.PathSum.{PathSum}
@@ -15,7 +14,6 @@ use Rattle.pp_calltree.specs.declared.path.Path.{Path}
 use Rattle.pp_calltree.specs.declared.texts.Texts.{Texts}
 use Rattle.pp_calltree.specs.Branches.{branch_samples, weight, HasBranches}
 use Rattle.pp_calltree.specs.CallPaths.{CallPath, has_sum, path_written, paths_below}
-use Rattle.pp_calltree.specs.CallTree.{all_lengths}
 use Rattle.pp_calltree.specs.Laid.{written_out, IsLayable}
 use Rattle.pp_calltree.specs.Siblings.{branch_cmp}
 
@@ -58,6 +56,11 @@ pub record IsTrailed (n : ℕ) (b : Branch) : Type 0 where
   pub begin : All (BeginsWith (trail b)) b.paths.now
   pub below : All (λ k. k < n) (trail b)
 
+-- The branch can be laid out, and all its paths begin with its trail.
+pub record IsListable (names : List Key) (most : ℕ) (b : Branch) : Type 0 where
+  pub layable : IsLayable names most b
+  pub trailed : IsTrailed (length names) b
+
 -- the path of the branch and those that go on from it, where no path has more keys than this in all
 abbrev pub branch_paths : Profile → List Key → ℕ → Branch → List (CallPath Written)
 branch_paths p names most b =
@@ -77,17 +80,6 @@ unless_zero path = if int_eq path.sum (pos 0) then [] else path ∷ []
 abbrev pub HasNumbersBelow : ℕ → PathSum → Type 0
 HasNumbersBelow n path = All (λ k. k < n) path.keys.now
 
--- Branches wait in the place of the samples below these keys, the last of them first.
-pub record WaitBehind (p : Profile) (names : List Key) (most depth left : ℕ) (above : List ℕ)
-    (samples : List (Seen ℕ)) (old new : List Branch) : Type 0 where
-  pub branches : List Branch
-  pub added : new ≡ old ++ reverse branches
-  pub paths : paths_below key_cmp left (map (written_key p names) above) (written_out p names samples)
-      ≡ flat_map (branch_paths p names most) branches
-  pub layable : All (IsLayable names most) branches
-  pub trailed : All (IsTrailed (length names)) branches
-  pub lighter : sum_by weight branches ≤ all_lengths samples
-
 -- In the place of the branch, paths are listed and branches wait, the last of them first.
 pub record PassesOn (p : Profile) (names : List Key) (most : ℕ) (b : Branch)
     (old new : List Branch) (before after : List PathSum) : Type 0 where
@@ -97,16 +89,6 @@ pub record PassesOn (p : Profile) (names : List Key) (most : ℕ) (b : Branch)
   pub added : new ≡ old ++ reverse branches
   pub paths : map (path_written p names) listed ++ summed_paths p names most branches
       ≡ summed_paths p names most (b ∷ [])
-  pub layable : All (IsLayable names most) branches
-  pub trailed : All (IsTrailed (length names)) branches
+  pub listable : All (IsListable names most) branches
   pub below : All (HasNumbersBelow (length names)) listed
   pub lighter : sum_by weight branches < weight b
-
--- The paths so far, and those of the branches that wait, are those of the samples whose sums aren't 0.
-pub record Listing (p : Profile) (names : List Key) (most : ℕ) (samples : List (Seen ℕ))
-    (paths : List PathSum) (waiting : List Branch) : Type 0 where
-  pub are : map (path_written p names) paths ++ summed_paths p names most (reverse waiting)
-      ≡ filter has_sum (paths_below key_cmp most [] (written_out p names samples))
-  pub layable : All (IsLayable names most) waiting
-  pub trailed : All (IsTrailed (length names)) waiting
-  pub below : All (HasNumbersBelow (length names)) paths

@@ -1,18 +1,14 @@
--- The paths of samples as the code holds them. Of it, public clauses cite `AreGathered` and `IsScopeOf`.
-use Rattle.std.specs.Prelude.{◌≡◌, ℕ, suc, ◌<◌, ◌^◌, ◌==◌, Bool, false, ℤ, pos, List, [], ◌∷◌, length, take, drop, map, Option, if◌then◌else◌}
+-- The paths of samples as the code holds them. No public clause cites it.
+use Rattle.std.specs.Prelude.{◌≡◌, ℕ, suc, ◌==◌, Bool, false, ℤ, pos, List, [], ◌∷◌, length, take, drop, map, if◌then◌else◌}
 use Rattle.std.specs.Cmp.Lexicographic.{slice_cmp}
 use Rattle.std.specs.List.{AllByRecursion, slice_get, sum_by}
 use Rattle.std.specs.Option.{option_map_or}
 use Rattle.std.specs.Ordering.{int_eq, is_lt, nat_cmp}
 use Rattle.std.specs.declared.cmp.Ordering.{Ordering}
-use Rattle.pp_model.specs.declared.config.Config.{Config}
-use Rattle.pp_model.specs.declared.loaded.Loaded.{Loaded}
 use Rattle.pp_model.specs.declared.profile.Sample.{Sample}
-use Rattle.pp_model.specs.declared.verdicts.Verdicts.{Verdicts}
 use Rattle.pp_count.specs.declared.scope.Scope.{Scope}
 use Rattle.pp_count.specs.Sums.{Seen, weighed}
-use Rattle.pp_count.specs.Scope.{profile_in_scope, size_of, AreSeen, IsSoundScope}
-use Rattle.pp_calltree.specs.declared.building.ReportPaths.{ReportPaths}
+use Rattle.pp_count.specs.Scope.{AreSeen}
 use Rattle.pp_calltree.specs.declared.path.Part.{Part}
 use Rattle.pp_calltree.specs.declared.path.Path.{Path}
 use Rattle.pp_calltree.specs.declared.paths.Paths.{Paths}
@@ -34,25 +30,11 @@ pub record AreKeptAs (paths : Paths) (samples : List (Seen ℕ)) : Type 0 where
   pub are : parts_of paths.keys.items paths.parts.items ≡ samples
   pub whole : sum_by (λ (s : Part). s.len) paths.parts.items ≡ length paths.keys.items
 
--- The scope is of this profile with its verdicts, and of this column.
-pub record IsScopeOf (l : Loaded) (v : Verdicts) (config : Config) (column : Option ℕ)
-    (scope : Scope) : Type 0 where
-  pub l_is : scope.l.now ≡ l
-  pub v_is : scope.v.now ≡ v
-  pub config_is : scope.config.now ≡ config
-  pub column_is : scope.column ≡ column
-
 -- The paths are those of what the report sees of the samples, by key numbers.
 pub record HasPaths (scope : Scope) (samples : List Sample) (paths : Paths) : Type 0 where
   pub seen : List (Seen ℕ)
   pub are : AreSeen scope samples seen
   pub stands : AreKeptAs paths (map rooted (weighed seen))
-
--- They are the paths of all samples of the profile, whose values can be added up.
-pub record AreGathered (gathered : ReportPaths) : Type 0 where
-  pub sound : IsSoundScope gathered.scope
-  pub fits : size_of gathered.scope (profile_in_scope gathered.scope).sample < 2 ^ 63
-  pub paths : HasPaths gathered.scope (profile_in_scope gathered.scope).sample gathered.paths
 
 -- the sample of a path
 abbrev pub path_of : Path → Seen ℕ

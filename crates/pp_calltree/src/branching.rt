@@ -126,7 +126,8 @@ fn own_value(path: &Path, depth: usize) -> i64
     }
 }
 
-fn plus(sum: i64, value: i64) -> i64
+/// The sum with one value more.
+pub fn plus(sum: i64, value: i64) -> i64
     requires { nat_abs sum + nat_abs value < 2 ^ 63 }
     ensures { result ≡ sum +ℤ value }
 {

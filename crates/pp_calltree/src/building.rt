@@ -1,6 +1,7 @@
 //! The call tree of a report's samples, and its paths with sums.
 ghost use Rattle.std.specs.Prelude.{◌≡◌, ℕ, List as Seq, map, Option, IfOk};
 ghost use Rattle.std.specs.List.Sorted.{IsPermutation};
+ghost use Rattle.std.proofs.Props.{props};
 ghost use Rattle.pp_model.specs.declared.config.Config.{Config as Options};
 ghost use Rattle.pp_model.specs.declared.loaded.Loaded.{Loaded as Read};
 ghost use Rattle.pp_model.specs.declared.verdicts.Verdicts.{Verdicts as Found};
@@ -10,8 +11,9 @@ ghost use Rattle.pp_count.specs.Scope.{IsSoundScope};
 ghost use Rattle.pp_count.specs.Counts.{written_names};
 ghost use Rattle.pp_count.specs.Counted.{CanCount, IsCountedOf};
 ghost use Rattle.pp_calltree.specs.CallPaths.{ArePathsOf};
+ghost use Rattle.pp_calltree.specs.Gathered.{samples_of_paths, AreGathered, IsScopeOf};
 ghost use Rattle.pp_calltree.specs.Links.{nodes_by};
-ghost use Rattle.pp_calltree.specs.Paths.{below, parts_of, AreGathered, IsRising, IsScopeOf};
+ghost use Rattle.pp_calltree.specs.Paths.{below, IsRising};
 ghost use Rattle.pp_calltree.specs.Tree.{IsTreeOf, flats_at};
 ghost use Rattle.pp_calltree.specs.Walk.{IsWalkOf};
 
@@ -33,6 +35,7 @@ pub struct ReportPaths<'a> {
     // How the samples are seen.
     scope: Scope<'a>,
     paths: Paths,
+    ghost gathered: { AreGathered scope paths } by { Prim.hlevel props },
 }
 
 /// The paths of a call tree whose sums aren't 0.
@@ -47,7 +50,6 @@ pub struct PathSums<'a> {
 impl<'a> ReportPaths<'a> {
     /// Gathers the paths of the counted samples. `Err` is want of memory.
     pub fn gather(alloc: Global, survey: &Survey<'a>) -> Result<ReportPaths<'a>, Memory>
-        ensures gathered { IfOk result AreGathered }
         ensures same { IfOk result (λ r. IsScopeOf survey.now.l.now survey.now.v.now
             survey.now.config.now survey.now.column r.scope) }
     {
@@ -61,7 +63,6 @@ impl<'a> ReportPaths<'a> {
     /// as roots, by absolute cum falling, then by absolute flat falling, then by the order of keys. `Err` is want of
     /// memory.
     pub fn sums(&self, alloc: Global) -> Result<PathSums<'_>, Memory>
-        requires { AreGathered self.now }
         ensures { (l : Read) (v : Found) (config : Options) (column : Option ℕ) →
             IsScopeOf l v config column self.now.scope →
             IfOk result (λ r. ArePathsOf l v config column r.names.now r.paths.items) }
@@ -75,10 +76,9 @@ impl<'a> ReportPaths<'a> {
 
     // The paths in the order of their keys.
     fn sorted(&self, alloc: Global) -> Result<Vec<Path<'_>>, Memory>
-        requires { AreGathered self.now }
         ensures rises { IfOk result (λ paths. IsRising (below 0 paths.items)) }
         ensures same { IfOk result (λ paths. IsPermutation
-            (parts_of self.now.paths.keys.items self.now.paths.parts.items) (below 0 paths.items)) }
+            (samples_of_paths self.now.paths) (below 0 paths.items)) }
     {
         let mut paths = cut_paths(alloc, &self.paths.keys, &self.paths.parts)?;
         sort_paths(&mut paths)?;

@@ -9,8 +9,8 @@ ghost use Rattle.pp_count.specs.Sums.{absolute};
 ghost use Rattle.pp_calltree.specs.Branches.{branch_samples};
 ghost use Rattle.pp_calltree.specs.CallPaths.{all_paths, has_sum, path_written, HasKeysOf};
 ghost use Rattle.pp_calltree.specs.CallTree.{all_lengths};
-ghost use Rattle.pp_calltree.specs.Laid.{written_out, CanLay, HasRoom, IsLayable};
-ghost use Rattle.pp_calltree.specs.Listed.{trail, unless_zero, IsTrailed, PassesOn};
+ghost use Rattle.pp_calltree.specs.Laid.{written_out, CanLay, HasRoom};
+ghost use Rattle.pp_calltree.specs.Listed.{trail, unless_zero, IsListable, PassesOn};
 ghost use Rattle.pp_calltree.specs.Paths.{below, IsRising};
 
 use crate::branch::Branch;
@@ -71,8 +71,8 @@ fn pass_on<'p, 'k>(
     requires fits { absolute (branch_samples branch.now) < 2 ^ 63 }
     requires long { length (trail branch.now) ≡ branch.now.depth + 1 }
     ensures { (p : Tables) (names : Seq Key) (most : ℕ) →
-        CanLay p names texts.now → IsLayable names most branch.now →
-        IsTrailed (length names) branch.now → IfOk result (λ _. PassesOn p names most branch.now
+        CanLay p names texts.now → IsListable names most branch.now →
+        IfOk result (λ _. PassesOn p names most branch.now
         waiting.old.items waiting.new.items sums.old.items sums.new.items) }
 {
     if branch.paths.len() == 1 {
@@ -94,8 +94,8 @@ fn pass_shared<'p, 'k>(
     requires fits { absolute (branch_samples branch.now) < 2 ^ 63 }
     requires long { length (trail branch.now) ≡ branch.now.depth + 1 }
     ensures { (p : Tables) (names : Seq Key) (most : ℕ) →
-        CanLay p names texts.now → IsLayable names most branch.now →
-        IsTrailed (length names) branch.now → IfOk result (λ _. PassesOn p names most branch.now
+        CanLay p names texts.now → IsListable names most branch.now →
+        IfOk result (λ _. PassesOn p names most branch.now
         waiting.old.items waiting.new.items sums.old.items sums.new.items) }
 {
     let depth = branch.depth as usize + 1;

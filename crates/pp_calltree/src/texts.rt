@@ -1,7 +1,9 @@
 //! The texts of keys, by key number.
-ghost use Rattle.std.specs.Prelude.{◌≡◌, map, All, IfOk, slice_index_or};
-ghost use Rattle.pp_grain.specs.Keys.{IsKeyOf, key_written};
+ghost use Rattle.std.specs.Prelude.{◌≡◌, ◌≢◌, All, AllPairs, IfOk};
+ghost use Rattle.pp_model.specs.Rules.{IsCompact};
+ghost use Rattle.pp_grain.specs.Keys.{IsKeyOf};
 ghost use Rattle.pp_grain.specs.Told.{written_texts};
+ghost use Rattle.pp_calltree.specs.Laid.{CanLay};
 ghost use Rattle.pp_calltree.specs.Siblings.{texts_at};
 
 use pp_base::Memory;
@@ -21,9 +23,10 @@ pub struct Texts<'a> {
 impl<'a> Texts<'a> {
     /// The texts of the names.
     pub fn new(alloc: Global, p: &'a Profile, names: &Names) -> Result<Texts<'a>, Memory>
-        requires { All (IsKeyOf p.now) names.now }
-        ensures { IfOk result (λ texts.
-            map written_texts texts.all.items ≡ map (key_written p.now) names.now) }
+        requires compact { IsCompact p.now }
+        requires keys { All (IsKeyOf p.now) names.now }
+        requires distinct { AllPairs (λ a b. a ≢ b) names.now }
+        ensures { IfOk result (CanLay p.now names.now) }
     {
         let mut all = Vec::new(alloc);
         for number in 0..names.len() {

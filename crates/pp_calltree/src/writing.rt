@@ -1,5 +1,5 @@
 //! The text of a call tree.
-ghost use Rattle.std.specs.Prelude.{◌≡◌, ◌++◌, ◌+◌, ◌+ℤ◌, ◌<◌, ◌^◌, ℕ, ℤ, nat_abs, pos, codes, length, map, All, Option, IfOk, OnOk, OnErr};
+ghost use Rattle.std.specs.Prelude.{◌≡◌, ◌++◌, ◌<◌, ◌^◌, ℕ, pos, codes, length, map, All, Option, IfOk, OnOk, OnErr};
 ghost use Rattle.std.specs.List.{repeat};
 ghost use Rattle.pp_model.specs.declared.profile.Profile.{Profile as Tables};
 ghost use Rattle.pp_model.specs.declared.verdicts.Verdicts.{Verdicts};
@@ -14,6 +14,7 @@ ghost use Rattle.pp_calltree.specs.Shown.{flat_sizes};
 ghost use Rattle.pp_calltree.specs.Text.{calltree_text, flats_sum, indented, node_line, node_lines, path_nodes_text};
 ghost use Rattle.pp_calltree.specs.Tree.{IsTreeOf};
 
+use crate::branching::plus;
 use crate::shown::shown_nodes;
 use crate::tree::{CallTree, PathNode};
 use pp_base::{Memory, Text};
@@ -95,13 +96,6 @@ fn sum_flats(nodes: &[PathNode]) -> i64
         sum = plus(sum, node.flat);
     }
     sum
-}
-
-fn plus(sum: i64, flat: i64) -> i64
-    requires { nat_abs sum + nat_abs flat < 2 ^ 63 }
-    ensures { result ≡ sum +ℤ flat }
-{
-    sum + flat
 }
 
 // A line for each node.

@@ -5,12 +5,9 @@ use Rattle.pp_model.specs.FrameTexts.{Written}
 use Rattle.pp_grain.specs.declared.key.Key.{Key}
 use Rattle.pp_grain.specs.Naming.{name_text}
 use Rattle.pp_count.specs.Table.{written_key}
-use Rattle.pp_calltree.specs.declared.listing.PathSum.{PathSum}
-use Rattle.pp_calltree.specs.CallPaths.{path_written}
 use Rattle.pp_export.specs.declared.path_names.Place.{Place}
 use Rattle.pp_export.specs.declared.path_names.PathNames.{PathNames}
 use Rattle.pp_export.specs.Escaped.{semicolon, escaped_name}
-use Rattle.pp_export.specs.Folded.{path_line}
 
 -- no name stands there
 abbrev pub no_name_place : Place
@@ -40,14 +37,6 @@ numbered_name p names number = path_name (written_key p names number)
 -- the name with a `;` behind it
 abbrev pub name_and_separator : List ℕ → List ℕ
 name_and_separator name = name ++ semicolon ∷ []
-
--- the name of the key with the number, and a `;`
-abbrev pub separated_name : Profile → List Key → ℕ → List ℕ
-separated_name p names number = name_and_separator (numbered_name p names number)
-
--- the line of the path
-abbrev pub written_line : Profile → List Key → PathSum → List ℕ
-written_line p names path = path_line (path_written p names path)
 
 -- What is made are the names of the numbers.
 pub record ArePathNames (name : ℕ → List ℕ) (path_names : PathNames) : Type 0 where

@@ -9,7 +9,7 @@ ghost use Rattle.pp_count.specs.Seeing.{HoldsFilters};
 ghost use Rattle.pp_count.specs.Table.{key_numbered, written_key};
 ghost use Rattle.pp_calltree.specs.CallPaths.{path_written, ArePathsOf, HasKeysOf};
 ghost use Rattle.pp_export.specs.Folded.{folded_text, names_joined, path_line};
-ghost use Rattle.pp_export.specs.PathNames.{numbered_name, separated_name, written_line, ArePathNames};
+ghost use Rattle.pp_export.specs.PathNames.{numbered_name, ArePathNames};
 
 use crate::path_names::PathNames;
 use itoa::Buffer;
@@ -44,8 +44,8 @@ fn put_paths(
     out: &mut Text,
 ) -> Result<(), Memory>
     requires { All (HasKeysOf l.now.profile names.now) paths.now }
-    ensures { IfOk result (λ _.
-        out.new ≡ out.old ++ flat_map (written_line l.now.profile names.now) paths.now) }
+    ensures { IfOk result (λ _. out.new ≡ out.old
+        ++ flat_map path_line (map (path_written l.now.profile names.now) paths.now)) }
 {
     let mut path_names = PathNames::new(alloc);
     for path in paths {
@@ -90,29 +90,10 @@ fn put_keys(
         ≡ out.old ++ names_joined (map (written_key l.now.profile names.now) keys.now)) }
 {
     let start = out.len();
-    put_names(l, names, keys, path_names, out)?;
-    let end = out.len().saturating_sub(1).max(start);
-    out.truncate(end);
-    Ok(())
-}
-
-// The names of the keys, each with a `;` behind it.
-fn put_names(
-    l: &Loaded,
-    names: &Names,
-    keys: &[u32],
-    path_names: &mut PathNames,
-    out: &mut Text,
-) -> Result<(), Memory>
-    requires keys { All (λ k. IsKeyOf l.now.profile (key_numbered names.now k)) keys.now }
-    requires names { ArePathNames (numbered_name l.now.profile names.now) path_names.old }
-    ensures names { IfOk result (λ _.
-        ArePathNames (numbered_name l.now.profile names.now) path_names.new) }
-    ensures text { IfOk result (λ _.
-        out.new ≡ out.old ++ flat_map (separated_name l.now.profile names.now) keys.now) }
-{
     for key in keys {
         path_names.put_name(l, names, *key, out)?;
     }
+    let end = out.len().saturating_sub(1).max(start);
+    out.truncate(end);
     Ok(())
 }

@@ -3,7 +3,7 @@ ghost use Rattle.std.specs.Prelude.{◌≡◌, ◌≢◌, ◌++◌, ◌<◌, ℕ
 ghost use Rattle.pp_grain.specs.Keys.{IsKeyOf};
 ghost use Rattle.pp_count.specs.Table.{key_numbered};
 ghost use Rattle.pp_export.specs.Escaped.{escaped_name};
-ghost use Rattle.pp_export.specs.PathNames.{no_name_place, at_place, name_place, name_and_separator, numbered_name, separated_name, ArePathNames, GivesName};
+ghost use Rattle.pp_export.specs.PathNames.{no_name_place, at_place, name_place, name_and_separator, numbered_name, ArePathNames, GivesName};
 
 use crate::escaped::put_frame_name;
 use pp_base::{Memory, Text};
@@ -56,8 +56,8 @@ impl PathNames {
         requires names { ArePathNames (numbered_name l.now.profile names.now) self.old }
         ensures names { IfOk result (λ _.
             ArePathNames (numbered_name l.now.profile names.now) self.new) }
-        ensures text { IfOk result (λ _.
-            out.new ≡ out.old ++ separated_name l.now.profile names.now number) }
+        ensures text { IfOk result (λ _. out.new ≡ out.old
+            ++ name_and_separator (numbered_name l.now.profile names.now number)) }
     {
         let place = self.place_of(l, names, number)?;
         out.extend(part(&self.text, place))

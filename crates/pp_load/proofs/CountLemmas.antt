@@ -20,7 +20,7 @@ use Rattle.pp_merge.proofs.NormalizingLemmas.{wide_samples}
 use Rattle.pp_share.proofs.NumberedLemmas.{all_both}
 use Rattle.pp_share.proofs.SampleKeyLemmas.{sum_by-map}
 use Rattle.pp_merge.proofs.MergeLemmas.{none_passes}
-use Rattle.pp_load.specs.Joining.{kinds, AreOf, AreFew, IsOneOf}
+use Rattle.pp_load.specs.Joining.{kinds, AreOf, AreCountableProfiles, IsOneOf}
 use Rattle.pp_load.proofs.KindLemmas.{merged_kinds}
 use Rattle.pp_load.proofs.StartLemmas.{merged_alone, merged_starts}
 
@@ -29,7 +29,7 @@ pub as_many : (p q : Profile) → kinds p ≡ kinds q → length p.sample_type �
 as_many p q same =
     sym (length-map p.sample_type (type_text p)) ∙ ap (λ k. length k.columns) same ∙ length-map q.sample_type (type_text q)
 
-module _ (p : Profile) (ps : List Profile) (few : AreFew (p ∷ ps)) (alike : AreOf (kinds p) (p ∷ ps)) (small : too_large (length p.sample_type) (p ∷ ps) ≡ None) where
+module _ (p : Profile) (ps : List Profile) (few : AreCountableProfiles (p ∷ ps)) (alike : AreOf (kinds p) (p ∷ ps)) (small : too_large (length p.sample_type) (p ∷ ps) ≡ None) where
   -- each sample has a value per column
   wide : AllByRecursion (λ q. AllByRecursion (λ s. length s.value ≡ length p.sample_type) q.sample) (p ∷ ps)
   wide =
@@ -65,23 +65,19 @@ module _ (p : Profile) (ps : List Profile) (few : AreFew (p ∷ ps)) (alike : Ar
         few = lengths.samples;
       }
 
+abs-neg : (m : ℕ) → nat_abs (neg_ℤ (pos m)) ≡ m
+abs-neg zero = refl
+abs-neg (suc m) = refl
+
 -- the size of a product
 abs-times : (z : ℤ) (n : ℕ) → nat_abs (z *ℤ pos n) ≡ nat_abs z * n
 abs-times (pos a) n = refl
 abs-times (negsuc a) n = abs-neg (suc a * n)
-  where
-    abs-neg : (m : ℕ) → nat_abs (neg_ℤ (pos m)) ≡ m
-    abs-neg zero = refl
-    abs-neg (suc m) = refl
 
 -- the size of a quotient
 abs-divided : (z : ℤ) (d : ℕ) → nat_abs (int_div z (pos d)) ≡ nat_abs z / d
 abs-divided (pos a) d = refl
 abs-divided (negsuc a) d = abs-neg (suc a / d)
-  where
-    abs-neg : (m : ℕ) → nat_abs (neg_ℤ (pos m)) ≡ m
-    abs-neg zero = refl
-    abs-neg (suc m) = refl
 
 -- a value that is scaled and scaled back has grown no larger
 scaled_back : (num den : ℕ) (v : ℤ) → nat_abs (scaled_value num den v) * den ≤ nat_abs v * num

@@ -20,7 +20,7 @@ use Rattle.pp_load.specs.declared.refusal.LoadRefusal.{LoadRefusal}
 use Rattle.pp_load.specs.declared.refusal.LoadRefusal.TheVariants as refusals
 use Rattle.pp_load.specs.Steps.{unless, Loads}
 use Rattle.pp_load.specs.Combine.{merging}
-use Rattle.pp_load.specs.Joining.{Kinds, kinds, first_kinds, AreOf, AreFew, AreMergeable, IsOneOf, CanTakeOff, IsPair, HasStarts, halt_of}
+use Rattle.pp_load.specs.Joining.{Kinds, kinds, first_kinds, AreOf, AreCountableProfiles, AreMergeable, IsOneOf, CanTakeOff, IsPair, HasStarts, halt_of}
 use Rattle.pp_load.proofs.KindLemmas.{kinds_agree, agreed_kinds, none_disagree, nothing_found}
 use Rattle.pp_load.proofs.CountLemmas.{as_many, merged_is_one, normalized_countable}
 
@@ -39,7 +39,7 @@ module _ {A : Type 0} (P : A → Type 0) where
   all_rest (suc n) [] all = tt
   all_rest (suc n) (x ∷ xs) all = all_rest n xs all.1
 
-few_front : (n : ℕ) (list : List Profile) → AreFew list → AreFew (take n list)
+few_front : (n : ℕ) (list : List Profile) → AreCountableProfiles list → AreCountableProfiles (take n list)
 few_front n list few = record {
   valid = all_front NoRuleFails n list few.valid;
   starts = all_front HasStarts n list few.starts;
@@ -48,7 +48,7 @@ few_front n list few = record {
   samples = omega (arith, few.samples, sum_by-take-drop (λ (p : Profile). length p.sample) list n);
 }
 
-few_rest : (n : ℕ) (list : List Profile) → AreFew list → AreFew (drop n list)
+few_rest : (n : ℕ) (list : List Profile) → AreCountableProfiles list → AreCountableProfiles (drop n list)
 few_rest n list few = record {
   valid = all_rest NoRuleFails n list few.valid;
   starts = all_rest HasStarts n list few.starts;
@@ -68,7 +68,7 @@ first_of own [] same some = absurd (omega (arith, some))
 first_of own (p ∷ ps) same some = same.0
 
 -- the first profiles can be merged
-pub front_joins : (n : ℕ) (list : List Profile) → AreFew list → AreOf (first_kinds list) list → 0 < n → n ≤ length list → AreMergeable (take n list)
+pub front_joins : (n : ℕ) (list : List Profile) → AreCountableProfiles list → AreOf (first_kinds list) list → 0 < n → n ≤ length list → AreMergeable (take n list)
 front_joins n list few alike some within = record {
   some = omega (arith, some, within, length-take n list);
   few = few_front n list few;
@@ -76,7 +76,7 @@ front_joins n list few alike some within = record {
 }
 
 -- what they were merged to can have the others taken off
-pub rest_taken : (n : ℕ) (list : List Profile) (source : Profile) → AreFew list → AreOf (first_kinds list) list → 0 < n → n < length list → IsOneOf (take n list) source
+pub rest_taken : (n : ℕ) (list : List Profile) (source : Profile) → AreCountableProfiles list → AreOf (first_kinds list) list → 0 < n → n < length list → IsOneOf (take n list) source
     → CanTakeOff source (drop n list)
 rest_taken n list source few alike some within one =
     let front = all_front (λ p. kinds p ≡ first_kinds list) n list alike in
@@ -92,7 +92,7 @@ rest_taken n list source few alike some within one =
     }
 
 -- where there are bases, they can be taken off
-pub bases_taken : (kind : Option BaseKind) (n : ℕ) (list : List Profile) (source : Profile) → AreFew list → AreOf (first_kinds list) list → 0 < n
+pub bases_taken : (kind : Option BaseKind) (n : ℕ) (list : List Profile) (source : Profile) → AreCountableProfiles list → AreOf (first_kinds list) list → 0 < n
     → is_some kind ≡ nat_lt n (length list) → IsOneOf (take n list) source → IfSome kind (λ _. CanTakeOff source (drop n list))
 bases_taken None n list source few alike some bases one = tt
 bases_taken (Some kind) n list source few alike some bases one = rest_taken n list source few alike some (ltb-true n (length list) (sym bases)) one

@@ -49,7 +49,7 @@ pub record IsReady (p : Profile) : Type 0 where
   pub alone : merged p [] ≡ p
 
 -- The profiles are valid, their mappings lie in the address space, and what they have can be counted.
-pub record AreFew (list : List Profile) : Type 0 where
+pub record AreCountableProfiles (list : List Profile) : Type 0 where
   pub valid : AllByRecursion NoRuleFails list
   pub starts : AllByRecursion HasStarts list
   pub long : length list < 2 ^ 32
@@ -59,7 +59,7 @@ pub record AreFew (list : List Profile) : Type 0 where
 -- The profiles can be merged, unless the sum of a column is too large.
 pub record AreMergeable (list : List Profile) : Type 0 where
   pub some : 0 < length list
-  pub few : AreFew list
+  pub few : AreCountableProfiles list
   pub alike : AreOf (first_kinds list) list
 
 -- The profile is what such profiles were merged to.

@@ -2,7 +2,7 @@
 ghost use Rattle.std.specs.Prelude.{◌≡◌, ◌+◌, ◌<◌, ◌≤◌, ◌^◌, [], ◌∷◌, Ok, take, drop, length, IfOk, IfSome, is_some, nat_lt};
 ghost use Rattle.pp_merge.specs.Scale.{negated};
 ghost use Rattle.pp_load.specs.Steps.{Loads};
-ghost use Rattle.pp_load.specs.Joining.{AreFew, AreMergeable, IsOneOf, CanTakeOff, IsPair, IsReady, halt_of};
+ghost use Rattle.pp_load.specs.Joining.{AreCountableProfiles, AreMergeable, IsOneOf, CanTakeOff, IsPair, IsReady, halt_of};
 ghost use Rattle.pp_load.specs.Combine.{agreeing, agreeing_with, merging, scaling_if, subtracting, less_bases, joining, combined};
 
 use crate::refusal::LoadRefusal;
@@ -22,7 +22,7 @@ pub fn combine(
     normalize: bool,
     profiles: List<Valid>,
 ) -> Result<Compact, Halt<LoadRefusal>>
-    requires few { AreFew profiles }
+    requires few { AreCountableProfiles profiles }
     requires some { 0 < sources }
     requires all { sources ≤ length profiles }
     requires bases { is_some kind ≡ nat_lt sources (length profiles) }
@@ -69,7 +69,7 @@ fn join(
     normalize: bool,
     profiles: List<Valid>,
 ) -> Result<Compact, Halt<LoadRefusal>>
-    requires few { AreFew profiles }
+    requires few { AreCountableProfiles profiles }
     requires agree { agreeing profiles ≡ Ok tt }
     requires some { 0 < sources }
     requires all { sources ≤ length profiles }

@@ -1,4 +1,6 @@
 // Labels that a builder is given, and labels that are set on all samples of a profile.
+ghost use Rattle.std.specs.Prelude.{◌≡◌};
+ghost use Rattle.pp_build.specs.Adding.{no_entries};
 
 use pp_base::Memory;
 use pp_build::{Builder, LabelValue, SampleLabel};
@@ -17,9 +19,16 @@ fn samples_have_the_hour(rt: HostRuntime) -> Result<(), Fail> {
     Ok(())
 }
 
-// Two samples of a stack, one of them with a number label.
 fn allocations(alloc: Global) -> Result<Valid, Memory> {
     let mut b = Builder::new(alloc)?;
+    record(&mut b)?;
+    Ok(b.finish())
+}
+
+// Two samples of a stack, one of them with a number label.
+fn record(b: &mut Builder) -> Result<(), Memory>
+    requires { b.old ≡ no_entries }
+{
     b.column(b"alloc_space", b"bytes")?;
     let parse = b.frame(b"json.parse", b"parse.go", 7)?;
     let bytes = b.text(b"bytes")?;
@@ -28,8 +37,7 @@ fn allocations(alloc: Global) -> Result<Valid, Memory> {
         value: LabelValue::Number(4096, bytes),
     };
     b.sample(&[parse], &[4096], &[block])?;
-    b.sample(&[parse], &[1024], &[])?;
-    Ok(b.finish())
+    b.sample(&[parse], &[1024], &[])
 }
 
 // How many samples have the label of the hour.

@@ -1,14 +1,12 @@
 use Rattle.std.specs.List.{sum_by}
 use Rattle.pp_calltree.specs.Branches.{weight}
-use Rattle.pp_calltree.specs.CallTree.{all_lengths}
-use Rattle.pp_calltree.specs.Laid.{Laying}
-use Rattle.pp_calltree.specs.Links.{nodes_by}
 use Rattle.pp_calltree.specs.Paths.{below}
+use Rattle.pp_calltree.proofs.LaidOut.{Laying}
 use Rattle.pp_calltree.proofs.laying.lay_out.Given as goal
 
 -- the nodes so far, and the branches that wait
 abbrev pub invariant-loop-branch : goal.invariant-loop-branch
-invariant-loop-branch l = Laying l.p l.names (all_lengths (below 0 l.fn.paths)) (below 0 l.fn.paths) (nodes_by l.names l.nodes) l.waiting.items
+invariant-loop-branch l = Laying l.p l.names (below 0 l.fn.paths) l.nodes l.waiting.items
 
 abbrev pub decreases-loop-branch : goal.decreases-loop-branch
 decreases-loop-branch l = sum_by weight l.waiting.items
