@@ -1,7 +1,6 @@
 -- Where the source of a file text is looked for.
 use Rattle.std.specs.Prelude.{ℕ, Bool, true, false, ◌==◌, List, [], ◌∷◌, ◌++◌, codes, map, Option, Some, None, if◌then◌else◌}
 use Rattle.std.specs.List.{filter, slice_split}
-use Rattle.std.specs.Option.{option_or}
 
 -- a colon parts the entries of a list of paths
 abbrev pub is_list_colon : ℕ → Bool
@@ -26,11 +25,16 @@ after_front [] text = Some text
 after_front (a ∷ front) [] = None
 after_front (a ∷ front) (b ∷ text) = if a == b then after_front front text else None
 
+-- the first, and where there is none the second
+abbrev pub first_path : Option (List ℕ) → Option (List ℕ) → Option (List ℕ)
+first_path (Some text) other = Some text
+first_path None other = other
+
 -- what the first of the folders that the file lies in leaves of the file's path, if it lies in one
 abbrev pub without_folder : List ℕ → List (List ℕ) → Option (List ℕ)
 without_folder file [] = None
 without_folder file (folder ∷ folders) =
-    option_or (after_front (folder ++ codes "/") file) (without_folder file folders)
+    first_path (after_front (folder ++ codes "/") file) (without_folder file folders)
 
 -- a path from the root begins with a slash
 abbrev pub is_absolute : List ℕ → Bool
