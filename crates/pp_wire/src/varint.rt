@@ -50,7 +50,6 @@ fn two_groups(first: u8, second: u8) -> u64
 
 // The same for a varint of any length. Most that take more than two bytes take three.
 #[inline(always)]
-#[tactic(auto, using(crate::proofs::Varints::three_bytes))]
 fn wide_varint_of(bytes: &[u8]) -> Result<(u64, &[u8]), WireKind>
     ensures read { Gives (λ x. (x.0, x.1.now)) result (varint bytes.now) }
     ensures shorter { IfOk result (λ x. length x.1.now < length bytes.now) }
