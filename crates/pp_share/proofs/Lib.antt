@@ -7,9 +7,6 @@ pub mod Tables
 pub mod Lists
 pub mod Ready
 pub mod EntryLemmas
-pub mod TableWalks
-pub mod WalkedTables
-pub mod WalkedTexts
 pub mod WalkedLemmas
 pub mod Renaming
 pub mod Once
@@ -23,6 +20,7 @@ pub mod KnownIds
 pub mod SumLemmas
 pub mod Grouping
 pub mod Prefix
+pub mod Pairs
 pub mod Agreement
 pub mod SummedLemmas
 pub mod SampleKeyLemmas
