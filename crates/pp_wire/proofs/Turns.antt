@@ -44,6 +44,12 @@ pub numbers_end : (bytes : List ℕ) (at : ℕ) (kind : WireKind) → 0 < length
     → numbers bytes at ≡ record { items = []; fault = Some (record { kind = kind; at = at }) }
 numbers_end bytes at kind some e = walk_fails (λ rest. placed at (varint rest)) bytes _ some (ap (placed at) e)
 
+-- where no number is at the front, there is none
+pub numbers_stop : (bytes : List ℕ) (at : ℕ) (kind : WireKind) → varint bytes ≡ Err kind → (numbers bytes at).items ≡ []
+unfolding walk_in
+numbers_stop [] at kind e = refl
+numbers_stop (b ∷ bytes) at kind e = ap (λ (w : Walk ℕ). w.items) (numbers_end (b ∷ bytes) at kind (omega arith) e)
+
 -- a number at the front comes first
 pub numbers_more : (bytes rest : List ℕ) (at n : ℕ) → varint bytes ≡ Ok (n, rest) → numbers bytes at ≡ more n (numbers rest at)
 numbers_more bytes rest at n e =

@@ -1,5 +1,5 @@
 -- Items that are read one after another: a list of them and an end, which is whole or one fault.
-use Rattle.std.specs.Prelude.{ℕ, zero, suc, List, [], ◌∷◌, drop, length, Option, Some, None, Result, Ok, Err}
+use Rattle.std.specs.Prelude.{ℕ, zero, suc, List, [], ◌∷◌, ◌++◌, drop, length, Option, Some, None, Result, Ok, Err}
 use Rattle.pp_wire.specs.declared.fault.WireKind.{WireKind}
 use Rattle.pp_wire.specs.declared.fault.WireFault.{WireFault}
 use Rattle.pp_wire.specs.Reading.{Read}
@@ -26,6 +26,10 @@ rest_of walk = record { items = drop 1 walk.items; fault = walk.fault }
 -- one item in front of others
 abbrev pub more : {A : Type 0} → A → Walk A → Walk A
 more x walk = record { items = x ∷ walk.items; fault = walk.fault }
+
+-- items in front of others
+abbrev pub in_front : {A : Type 0} → List A → Walk A → Walk A
+in_front items walk = record { items = items ++ walk.items; fault = walk.fault }
 
 -- the item that was read, and those that a walk finds in the bytes after it
 abbrev pub and_then : {A : Type 0} → Read A WireFault → (List ℕ → Walk A) → Walk A

@@ -1,7 +1,7 @@
 //! The varints of a packed payload, one after another.
 
-ghost use Rattle.std.specs.Prelude.{◌≡◌, ◌≤◌, length};
-ghost use Rattle.pp_wire.specs.Walk.{first, rest_of};
+ghost use Rattle.std.specs.Prelude.{◌≡◌, ◌≤◌, [], ℕ, length, take};
+ghost use Rattle.pp_wire.specs.Walk.{first, rest_of, in_front};
 ghost use Rattle.pp_wire.specs.Fields.{numbers};
 
 use crate::WireFault;
@@ -52,4 +52,35 @@ impl<'a> Packed<'a> {
             Err(kind) => Some(Err(WireFault { kind, at: self.at })),
         }
     }
+
+    /// Puts the next numbers to the front of the block, and gives how many: 0 exactly where `next` gives no number.
+    pub fn next_block(&mut self, block: &mut [u64; 32]) -> usize
+        ensures most { result ≤ 32 }
+        ensures given { self.old ≡ in_front (take result block.new) self.new }
+        ensures end { result ≡ 0 → self.new.items ≡ [] }
+    {
+        let (count, rest) = fill_block(block, self.rest);
+        self.rest = rest;
+        count
+    }
+}
+
+// The numbers at the front of the bytes, at the front of the block: how many they are, and the bytes after them.
+fn fill_block<'a>(block: &mut [u64; 32], bytes: &'a [u8]) -> (usize, &'a [u8])
+    ensures most { result.0 ≤ 32 }
+    ensures given { (at : ℕ) → numbers bytes.now at
+        ≡ in_front (take result.0 block.new) (numbers result.1.now at) }
+    ensures end { (at : ℕ) → result.0 ≡ 0 → (numbers result.1.now at).items ≡ [] }
+{
+    let mut rest = bytes;
+    for count in 0..32_usize {
+        match varint_of(rest) {
+            Ok((number, after)) => {
+                block[count] = number;
+                rest = after;
+            }
+            Err(_) => return (count, rest),
+        }
+    }
+    (32, rest)
 }
