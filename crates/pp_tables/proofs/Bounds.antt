@@ -23,7 +23,7 @@ pub all_few : {A : Type 0} (read : Item → List A) (n : ℕ) → ((i : Item) �
 all_few read n few [] = omega arith
 all_few read n few (i ∷ items) = case_few (eqb i.number n) read i (filter (λ item. eqb item.number n) items) (total size_of items) (few i) (all_few read n few items)
 
-pub payload_few : {A : Type 0} (read : List ℕ → ℕ → List A) → ((bytes : List ℕ) (place : ℕ) → length (read bytes place) ≤ 1) → (content : Content) → length (of_payload read content) ≤ suc (run_length content)
+payload_few : {A : Type 0} (read : List ℕ → ℕ → List A) → ((bytes : List ℕ) (place : ℕ) → length (read bytes place) ≤ 1) → (content : Content) → length (of_payload read content) ≤ suc (run_length content)
 payload_few read one (Varint n) = omega arith
 payload_few read one (Eight n) = omega arith
 payload_few read one (Four n) = omega arith

@@ -7,5 +7,5 @@ pub mod Followed
 pub mod Payloads
 pub mod Ranges
 pub mod Numbers
-pub mod Extents
+pub mod Places
 pub mod Apart

@@ -1,43 +1,56 @@
--- Samples that are read in pieces, by their payloads. No public clause cites these.
-use Rattle.std.specs.Prelude.{◌≡◌, ℕ, ◌*◌, List, [], ◌∷◌, ◌++◌, map, take, drop, Option, Some, None, Result, Ok, Err, ⊤}
-use Rattle.std.specs.List.{AllByRecursion}
+-- Samples that are read in pieces, each by the place of its field. No public clause cites these.
+use Rattle.std.specs.Prelude.{◌≡◌, ℕ, ◌*◌, List, [], ◌∷◌, ◌++◌, take, drop, Option, Some, None, Result, Ok, Err, ⊤}
+use Rattle.std.specs.List.{flat_map, AllByRecursion}
+use Rattle.pp_wire.specs.declared.fault.WireFault.{WireFault}
+use Rattle.pp_wire.specs.Walk.{first}
+use Rattle.pp_wire.specs.Fields.{Item, fields}
 use Rattle.pp_model.specs.declared.profile.Sample.{Sample}
 use Rattle.pp_model.specs.declared.profile.Profile.{Profile}
 use Rattle.pp_tables.specs.declared.decoding.TheConstants.{PIECE}
 use Rattle.pp_tables.specs.declared.refusal.ReadRefusal.{ReadRefusal}
-use Rattle.pp_tables.specs.Message.{fault_in}
+use Rattle.pp_tables.specs.Message.{Nested, fault_by, fault_in}
+use Rattle.pp_tables.specs.Select.{messages_in}
 use Rattle.pp_tables.specs.Tables.{no_sample, sample_rules, sample_after}
 use Rattle.pp_tables.specs.Read.{Answers}
-use Rattle.pp_tables.specs.Joined.{PayloadAt, fields_at}
 
--- taken for a sample, the payload has no fault
-abbrev pub IsSoundSample : PayloadAt → Type 0
-IsSoundSample payload = fault_in sample_rules payload.bytes payload.at ≡ None
+-- the field that a walker gave, if it gave one
+abbrev pub given : Option (Result Item WireFault) → List Item
+given (Some (Ok item)) = item ∷ []
+given (Some (Err fault)) = []
+given None = []
 
--- the sample that the payload is
-abbrev pub sample_at : PayloadAt → Sample
-sample_at payload = sample_after no_sample (fields_at payload)
+-- the fields of the file at these places
+abbrev pub fields_from : List ℕ → List ℕ → List Item
+fields_from bytes places = flat_map (λ place. given (first (fields (drop place bytes) place))) places
 
--- the payloads have no fault, and their samples come behind those that were there
-pub record AddsSamples (payloads : List PayloadAt) (old new : List Sample) : Type 0 where
-  pub sound : AllByRecursion IsSoundSample payloads
-  pub added : new ≡ old ++ map sample_at payloads
+-- taken for a sample, the field has no fault
+abbrev pub IsSoundSample : Item → Type 0
+IsSoundSample item = fault_by (Nested (fault_in sample_rules)) item.content item.at ≡ None
 
--- the samples of payloads without a fault, or nothing
-abbrev pub AreSamples : List PayloadAt → Option (List Sample) → Type 0
-AreSamples payloads None = ⊤
-AreSamples payloads (Some samples) = AddsSamples payloads [] samples
+-- the samples of these fields
+abbrev pub given_samples : List Item → List Sample
+given_samples items = flat_map (messages_in (sample_after no_sample)) items
 
--- the payloads of a piece
-abbrev pub piece_of : List PayloadAt → ℕ → List PayloadAt
-piece_of payloads piece = take PIECE (drop (PIECE * piece) payloads)
+-- the fields have no fault, and their samples come behind those that were there
+pub record AddsSamples (bytes places : List ℕ) (old new : List Sample) : Type 0 where
+  pub sound : AllByRecursion IsSoundSample (fields_from bytes places)
+  pub added : new ≡ old ++ given_samples (fields_from bytes places)
 
--- the samples of pieces into which the payloads are cut, one after another
-abbrev pub AreSampleParts : List PayloadAt → List (Option (List Sample)) → Type 0
-AreSampleParts payloads [] = payloads ≡ []
-AreSampleParts payloads (part ∷ parts) =
-    (front : List PayloadAt) × (rest : List PayloadAt) × (payloads ≡ front ++ rest)
-    × AreSamples front part × AreSampleParts rest parts
+-- the samples of fields without a fault, or nothing
+abbrev pub AreSamples : List ℕ → List ℕ → Option (List Sample) → Type 0
+AreSamples bytes places None = ⊤
+AreSamples bytes places (Some samples) = AddsSamples bytes places [] samples
+
+-- the places of a piece
+abbrev pub piece_of : List ℕ → ℕ → List ℕ
+piece_of places piece = take PIECE (drop (PIECE * piece) places)
+
+-- the samples of pieces into which the places are cut, one after another
+abbrev pub AreSampleParts : List ℕ → List ℕ → List (Option (List Sample)) → Type 0
+AreSampleParts bytes places [] = places ≡ []
+AreSampleParts bytes places (part ∷ parts) =
+    (front : List ℕ) × (rest : List ℕ) × (places ≡ front ++ rest)
+    × AreSamples bytes front part × AreSampleParts bytes rest parts
 
 -- what was answered is that, unless memory ran out, or nothing was answered
 abbrev pub AnswersIfAny : Result (Option Profile) ReadRefusal → Result Profile ReadRefusal → Type 0

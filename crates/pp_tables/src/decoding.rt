@@ -3,14 +3,14 @@ ghost use Rattle.std.specs.Prelude.{◌+◌, ◌*◌, ◌<◌, ◌≤◌, length
 ghost use Rattle.pp_tables.specs.declared.decoding.TheConstants.{PIECE};
 
 use crate::decoded::decode;
-use crate::extent::Extent;
 use pp_base::{List, Memory};
 use pp_model::Sample;
 use pp_steal::Job;
 use std::alloc::Global;
 
-/// How many samples a piece has. The last piece may have fewer.
-pub const PIECE: usize = 1024;
+/// How many samples a piece has. The last piece may have fewer. A list of so many has a block of the system's own, which
+/// goes back once they are joined.
+pub const PIECE: usize = 2048;
 
 /// The samples of a file, to be read on any thread.
 #[derive(Drop)]
@@ -19,31 +19,28 @@ pub(crate) struct Decoding<'a> {
     pub(crate) alloc: Global,
     /// The bytes of the file.
     pub(crate) bytes: &'a [u8],
-    /// Where all samples lie, in order.
-    pub(crate) extents: &'a [Extent],
+    /// The places of all samples' fields, in order.
+    pub(crate) places: &'a [u32],
     /// How many pieces they make.
     pub(crate) pieces: u32,
-    pub ghost within: { PIECE * pieces < length extents.now + PIECE },
-    pub ghost whole: { length extents.now ≤ PIECE * pieces },
+    pub ghost within: { PIECE * pieces < length places.now + PIECE },
+    pub ghost whole: { length places.now ≤ PIECE * pieces },
 }
 
 impl Job for Decoding<'_> {
     /// The samples of a piece, or `None` where one has a fault.
     type Out = Option<List<Sample>>;
 
-    ghost use Rattle.std.specs.Prelude.{map};
-    ghost use Rattle.pp_tables.specs.Skim.{payload_of};
     ghost use Rattle.pp_tables.specs.Apart.{piece_of, AreSamples};
 
     ghost pieces = { λ job. job.pieces };
 
-    ghost right = { λ job piece part.
-        AreSamples (piece_of (map (payload_of job.bytes.now) job.extents.now) piece) part };
+    ghost right = { λ job piece part. AreSamples job.bytes.now (piece_of job.places.now piece) part };
 
     fn run(&self, piece: u32) -> Result<Option<List<Sample>>, Memory> {
         let start = piece as usize * PIECE;
-        let count = (self.extents.len() - start).min(PIECE);
-        let rest = &self.extents[start..];
+        let count = (self.places.len() - start).min(PIECE);
+        let rest = &self.places[start..];
         decode(self.alloc, self.bytes, &rest[..count])
     }
 }

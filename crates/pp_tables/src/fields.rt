@@ -1,13 +1,13 @@
 //! What one field gives to a message: a scalar, numbers, a text or a message.
-ghost use Rattle.std.specs.Prelude.{◌≡◌, ◌+◌, ◌<◌, ◌^◌, ◌++◌, [], ◌∷◌, length, IfOk, IfErr, Some};
-ghost use Rattle.pp_wire.specs.Fields.{Varint, Bytes, item, content_of, fields};
+ghost use Rattle.std.specs.Prelude.{◌≡◌, ◌+◌, ◌<◌, ◌^◌, ◌++◌, length, IfOk, IfErr, Some};
+ghost use Rattle.pp_wire.specs.Fields.{Varint, Bytes, item, content_of};
 ghost use Rattle.pp_tables.specs.Message.{Scalar, Numbers, Run, Nested, fault_by, fault_in};
-ghost use Rattle.pp_tables.specs.Select.{last_or, uints_in, ints_in, bools_in, listed, texts_in, messages_in, fields_in};
+ghost use Rattle.pp_tables.specs.Select.{last_or, uints_in, ints_in, bools_in, uint_list_in, int_list_in, texts_in, messages_in, fields_in};
 ghost use Rattle.pp_tables.specs.Takes.{TakesField};
 
 use crate::ReadRefusal;
 use crate::message::{Message, fill};
-use crate::packed::{Packable, push_packed};
+use crate::packed::{push_packed_ints, push_packed_uints};
 use pp_base::{List, Text};
 use pp_wire::{Field, Payload, WireFault, WireKind};
 use std::alloc::Global;
@@ -56,7 +56,7 @@ pub(crate) fn set_bool(flag: &mut bool, field: &Field<'_>) -> Result<(), ReadRef
     Ok(())
 }
 
-pub(crate) fn run_of<'a>(field: &Field<'a>) -> Result<(&'a [u8], u64), WireFault>
+fn run_of<'a>(field: &Field<'a>) -> Result<(&'a [u8], u64), WireFault>
     ensures ok { IfOk result (λ run. content_of field.now.payload ≡ Bytes run.0.now run.1) }
     ensures within { IfOk result (λ run. run.1 + length run.0.now < 2 ^ 64) }
     ensures err { IfErr result (λ fault. fault_by Run (content_of field.now.payload) field.now.at
@@ -104,37 +104,38 @@ pub(crate) fn push_message<M: Message>(
         (list.new ≡ list.old ++ messages_in (M.filled M.empty) (item field.now)) }
 {
     let (bytes, at) = run_of(field)?;
-    push_filled(alloc, list, bytes, at)
-}
-
-/// Adds the message of these bytes, of which the first is at the place `at`.
-pub(crate) fn push_filled<M: Message>(
-    alloc: Global,
-    list: &mut List<M>,
-    bytes: &[u8],
-    at: u64,
-) -> Result<(), ReadRefusal>
-    requires { at + length bytes.now < 2 ^ 64 }
-    ensures { TakesField result (fault_in M.rules bytes.now at)
-        (list.new ≡ list.old ++ M.filled M.empty (fields bytes.now at).items ∷ []) }
-{
     let mut message = M::none(alloc);
     fill(alloc, &mut message, bytes, at)?;
     list.push(message)?;
     Ok(())
 }
 
-pub(crate) fn push_numbers<N: Packable>(
+pub(crate) fn push_uints(
     alloc: Global,
-    list: &mut List<N>,
+    list: &mut List<u64>,
     field: &Field<'_>,
 ) -> Result<(), ReadRefusal>
     ensures { TakesField result (fault_by Numbers (content_of field.now.payload) field.now.at)
-        (list.new ≡ list.old ++ N.numbers (listed (content_of field.now.payload) field.now.at)) }
+        (list.new ≡ list.old ++ uint_list_in (item field.now)) }
 {
     match field.payload {
-        Payload::Varint(n) => Ok(N::add(list, &[n])?),
-        Payload::Bytes(bytes, _) => push_packed(alloc, list, bytes, field.at),
+        Payload::Varint(n) => Ok(list.push(n)?),
+        Payload::Bytes(bytes, _) => push_packed_uints(alloc, list, bytes, field.at),
+        _ => Err(ReadRefusal::Wire(wrong_kind(field))),
+    }
+}
+
+pub(crate) fn push_ints(
+    alloc: Global,
+    list: &mut List<i64>,
+    field: &Field<'_>,
+) -> Result<(), ReadRefusal>
+    ensures { TakesField result (fault_by Numbers (content_of field.now.payload) field.now.at)
+        (list.new ≡ list.old ++ int_list_in (item field.now)) }
+{
+    match field.payload {
+        Payload::Varint(n) => Ok(list.push(n.cast_signed())?),
+        Payload::Bytes(bytes, _) => push_packed_ints(alloc, list, bytes, field.at),
         _ => Err(ReadRefusal::Wire(wrong_kind(field))),
     }
 }

@@ -1,16 +1,17 @@
 //! The profile that a file's bytes are, of which workers read the samples.
-ghost use Rattle.std.specs.Prelude.{◌≡◌, ◌++◌, ◌<◌, ◌≤◌, ◌^◌, List as Seq, Ok, length, map, IfOk, IfSome, OnOk};
+ghost use Rattle.std.specs.Prelude.{◌≡◌, ◌++◌, ◌<◌, ◌≤◌, ◌^◌, ℕ, List as Seq, None, Ok, length, IfOk, IfSome, OnOk};
+ghost use Rattle.pp_wire.specs.Fields.{fields};
 ghost use Rattle.pp_model.specs.Sizes.{HasAtMost};
-ghost use Rattle.pp_tables.specs.Joined.{PayloadAt};
+ghost use Rattle.pp_tables.specs.Message.{fault_in};
 ghost use Rattle.pp_tables.specs.Read.{Answers, read, read_message};
-ghost use Rattle.pp_tables.specs.Skim.{payload_of, IsSkimmed};
+ghost use Rattle.pp_tables.specs.Skim.{skim_rules, no_skim, skim_after};
 ghost use Rattle.pp_tables.specs.Apart.{AreSamples, AreSampleParts, AnswersIfAny};
 
 use crate::ReadRefusal;
 use crate::decoding::{Decoding, PIECE};
-use crate::packed::with_room;
+use crate::message::{Message, fill};
 use crate::reading::{is_compressed, read_profile, with_a_text};
-use crate::skim::{Skimmed, skim};
+use crate::skim::Skimmed;
 use pp_base::{Gate, List, Memory};
 use pp_model::{Profile, Sample};
 use pp_steal::{Deal, run_pieces};
@@ -18,7 +19,7 @@ use std::alloc::Global;
 use std::mem;
 use std::thread::Threads;
 
-/// Reads the message `Profile` as `read_profile` does, with the samples in pieces of 1,024 on so many lanes, from 1 to
+/// Reads the message `Profile` as `read_profile` does, with the samples in pieces of 2,048 on so many lanes, from 1 to
 /// 64. The answer does not tell how many there were. With one lane, above 4 GiB, and where the bytes have a fault, it is
 /// `read_profile`.
 pub fn read_profile_on<R: Threads + Sync, G: Gate>(
@@ -57,16 +58,17 @@ fn message_on<R: Threads + Sync, G: Gate>(
     requires short { length bytes.now < 2 ^ 32 }
     ensures { AnswersIfAny result (read_message bytes.now) }
 {
-    match skim(alloc, bytes) {
-        Ok(skimmed) => Ok(finish(rt, alloc, bytes, skimmed, workers, gate)?),
+    let mut skimmed = Skimmed::none(alloc);
+    match fill(alloc, &mut skimmed, bytes, 0) {
+        Ok(()) => Ok(with_samples(rt, alloc, bytes, skimmed, workers, gate)?),
         Err(ReadRefusal::Memory) => Err(ReadRefusal::Memory),
         // A sample in front of this fault may have one too.
         Err(_) => Ok(None),
     }
 }
 
-// Reads the samples, and puts them into the profile.
-fn finish<R: Threads + Sync, G: Gate>(
+// The profile with its samples, or `None` where one has a fault.
+fn with_samples<R: Threads + Sync, G: Gate>(
     rt: &R,
     alloc: Global,
     bytes: &[u8],
@@ -77,7 +79,8 @@ fn finish<R: Threads + Sync, G: Gate>(
     requires some { 1 ≤ workers }
     requires most { workers ≤ 64 }
     requires short { length bytes.now < 2 ^ 32 }
-    requires skimmed { IsSkimmed bytes.now skimmed }
+    requires sound { fault_in skim_rules bytes.now 0 ≡ None }
+    requires skimmed { skimmed ≡ skim_after no_skim (fields bytes.now 0).items }
     ensures { IfOk result (λ found. IfSome found (λ p. read_message bytes.now ≡ Ok p)) }
 {
     let Skimmed {
@@ -87,49 +90,34 @@ fn finish<R: Threads + Sync, G: Gate>(
     let job = Decoding {
         alloc,
         bytes,
-        extents: samples.as_slice(),
+        places: samples.as_slice(),
         pieces: samples.len().div_ceil(PIECE) as u32,
     };
-    match read_samples(rt, &job, workers, gate)? {
-        Some(samples) => {
-            profile.sample = samples;
-            Ok(Some(with_a_text(alloc, profile)?))
-        }
-        None => Ok(None),
-    }
-}
-
-// The samples of all pieces, or `None` where one has a fault.
-fn read_samples<R: Threads + Sync, G: Gate>(
-    rt: &R,
-    job: &Decoding<'_>,
-    workers: u32,
-    gate: &G,
-) -> Result<Option<List<Sample>>, Memory>
-    requires some { 1 ≤ workers }
-    requires most { workers ≤ 64 }
-    ensures { IfOk result (AreSamples (map (payload_of job.now.bytes.now) job.now.extents.now)) }
-{
     // Few samples need no further thread.
     let lanes = workers.min(job.pieces.max(1));
-    let parts = run_pieces(rt, job.alloc, job, job.pieces, lanes, Deal::Round, gate)?;
-    join(job.alloc, job.extents.len(), parts)
+    let parts = run_pieces(rt, alloc, &job, job.pieces, lanes, Deal::Round, gate)?;
+    let Some(all) = join(alloc, samples.len(), parts)? else {
+        return Ok(None);
+    };
+    profile.sample = all;
+    Ok(Some(with_a_text(alloc, profile)?))
 }
 
-// The samples of all parts, of which there are so many.
+// The samples of all parts, of which there are so many, or `None` where one has a fault.
 fn join(
     alloc: Global,
     count: usize,
     parts: List<Option<List<Sample>>>,
 ) -> Result<Option<List<Sample>>, Memory>
-    ensures { (payloads : Seq PayloadAt) → AreSampleParts payloads parts → IfOk result (AreSamples payloads) }
+    ensures { (bytes places : Seq ℕ) → AreSampleParts bytes places parts
+        → IfOk result (AreSamples bytes places) }
 {
-    let mut samples = with_room(alloc, count)?;
+    let mut samples = List::from_vec(Vec::with_capacity(alloc, count)?);
     for part in parts.into_vec() {
-        match part {
-            Some(more) => append(alloc, &mut samples, more)?,
-            None => return Ok(None),
-        }
+        let Some(more) = part else {
+            return Ok(None);
+        };
+        append(alloc, &mut samples, more)?;
     }
     Ok(Some(samples))
 }

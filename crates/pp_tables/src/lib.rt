@@ -4,7 +4,6 @@
 mod code;
 mod decoded;
 mod decoding;
-mod extent;
 mod fields;
 mod lanes;
 mod laws;

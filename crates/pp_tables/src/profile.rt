@@ -1,7 +1,7 @@
 //! The message `Profile`, and its value types.
 
 use crate::ReadRefusal;
-use crate::fields::{fill_from, push_message, push_numbers, push_text, set_int};
+use crate::fields::{fill_from, push_ints, push_message, push_text, set_int};
 use crate::message::Message;
 use pp_base::List;
 use pp_model::{Profile, ValueType};
@@ -101,7 +101,7 @@ impl Message for Profile {
             // int64 period = 12;
             12 => set_int(&mut self.period, field),
             // repeated int64 comment = 13;
-            13 => push_numbers(alloc, &mut self.comment, field),
+            13 => push_ints(alloc, &mut self.comment, field),
             // int64 default_sample_type = 14;
             14 => set_int(&mut self.default_sample_type, field),
             // int64 doc_url = 15;

@@ -1,7 +1,7 @@
 //! The messages of a sample.
 
 use crate::ReadRefusal;
-use crate::fields::{push_message, push_numbers, set_int};
+use crate::fields::{push_ints, push_message, push_uints, set_int};
 use crate::message::Message;
 use pp_base::List;
 use pp_model::{Label, Sample};
@@ -74,9 +74,9 @@ impl Message for Sample {
     fn take(&mut self, alloc: Global, field: &Field<'_>) -> Result<(), ReadRefusal> {
         match field.number {
             // repeated uint64 location_id = 1;
-            1 => push_numbers(alloc, &mut self.location_id, field),
+            1 => push_uints(alloc, &mut self.location_id, field),
             // repeated int64 value = 2;
-            2 => push_numbers(alloc, &mut self.value, field),
+            2 => push_ints(alloc, &mut self.value, field),
             // repeated Label label = 3;
             3 => push_message(alloc, &mut self.label, field),
             _ => Ok(()),

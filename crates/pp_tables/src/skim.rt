@@ -1,22 +1,19 @@
 //! A profile without its samples, of which only the places are noted.
-ghost use Rattle.std.specs.Prelude.{◌<◌, ◌^◌, length, IfOk};
-ghost use Rattle.pp_tables.specs.Skim.{IsSkimmed};
 
 use crate::ReadRefusal;
-use crate::extent::{Extent, push_extent};
-use crate::message::{Message, fill};
+use crate::message::Message;
 use pp_base::List;
 use pp_model::Profile;
 use pp_wire::Field;
 use std::alloc::Global;
 
-/// A profile, and where its samples lie.
+/// A profile of a file below 4 GiB, and where its samples lie.
 #[derive(Drop)]
 pub(crate) struct Skimmed {
     /// The profile without its samples.
     pub(crate) profile: Profile,
-    /// The payloads of the samples, in order. Nothing was asked of their bytes.
-    pub(crate) samples: List<Extent>,
+    /// The places of the samples' fields, in order. Nothing was asked of their payloads.
+    pub(crate) samples: List<u32>,
 }
 
 impl Message for Skimmed {
@@ -40,7 +37,7 @@ impl Message for Skimmed {
     fn take(&mut self, alloc: Global, field: &Field<'_>) -> Result<(), ReadRefusal> {
         match field.number {
             // repeated Sample sample = 2;
-            2 => push_extent(&mut self.samples, field),
+            2 => Ok(self.samples.push((field.at % (1 << 32)) as u32)?),
             _ => self.profile.take(alloc, field),
         }
     }
@@ -48,14 +45,4 @@ impl Message for Skimmed {
     ghost filled_none = { skim_none };
 
     ghost filled_more = { skim_more };
-}
-
-/// Reads all fields of a file's bytes but the samples, and notes where these lie.
-pub(crate) fn skim(alloc: Global, bytes: &[u8]) -> Result<Skimmed, ReadRefusal>
-    requires { length bytes.now < 2 ^ 32 }
-    ensures { IfOk result (IsSkimmed bytes.now) }
-{
-    let mut skimmed = Skimmed::none(alloc);
-    fill(alloc, &mut skimmed, bytes, 0)?;
-    Ok(skimmed)
 }

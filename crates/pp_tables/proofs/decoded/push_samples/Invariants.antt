@@ -1,8 +1,7 @@
-use Rattle.std.proofs.Common.{map, take}
-use Rattle.pp_tables.specs.Skim.{payload_of}
+use Rattle.std.proofs.Common.{take}
 use Rattle.pp_tables.specs.Apart.{AddsSamples}
 use Rattle.pp_tables.proofs.decoded.push_samples.Given as goal
 
--- the samples of the extents so far
-abbrev pub invariant-loop-extent : goal.invariant-loop-extent
-invariant-loop-extent l = AddsSamples (map (payload_of l.bytes) (take l.extent-index l.extents)) l.fn.samples l.samples
+-- the samples of the places so far
+abbrev pub invariant-loop-place : goal.invariant-loop-place
+invariant-loop-place l = AddsSamples l.bytes (take l.place-index l.places) l.fn.samples l.samples
