@@ -25,15 +25,18 @@ piece_is samples piece count e =
     let rest = drop (piece * PIECE) samples in
     let long : length rest ≡ length samples - piece * PIECE = length-drop (piece * PIECE) samples in
     ap (take count) (take_all (length samples - piece * PIECE) rest (omega (arith, long)))
-    ∙ ap (λ n. take n rest) (omega (arith, e, long)) ∙ take_min PIECE rest ∙ ap (λ n. take PIECE (drop n samples)) (omega arith)
+    ∙ ap (λ n. take n rest) (omega (arith, e, long)) ∙ take_min PIECE rest
+    ∙ ap (λ n. take PIECE (drop n samples)) (omega arith)
 
 -- a piece of what comes after the first piece
 piece_behind : (samples : List Sample) (k : ℕ) → piece_samples (drop PIECE samples) k ≡ piece_samples samples (suc k)
-piece_behind samples k = ap (take PIECE) (drop-drop (PIECE * k) PIECE samples) ∙ ap (λ n. take PIECE (drop n samples)) (omega arith)
+piece_behind samples k =
+    ap (take PIECE) (drop-drop (PIECE * k) PIECE samples) ∙ ap (λ n. take PIECE (drop n samples)) (omega arith)
 
 -- the flags of the pieces say it of all samples
 flags_are : (test : Sample → Bool) (samples : List Sample) (flags : List Bool)
-    → ((k : ℕ) (d : Bool) → k < length flags → get_or flags k d ≡ list_all test (piece_samples samples k)) → length samples ≤ PIECE * length flags
+    → ((k : ℕ) (d : Bool) → k < length flags → get_or flags k d ≡ list_all test (piece_samples samples k))
+    → length samples ≤ PIECE * length flags
     → list_all (λ flag. flag) flags ≡ list_all test samples
 flags_are test [] [] each whole = refl
 flags_are test (s ∷ samples) [] each whole = absurd (omega arith)
@@ -43,25 +46,34 @@ flags_are test samples (flag ∷ flags) each whole =
     (flags_are test (drop PIECE samples) flags
     (λ k d here. each (suc k) d (omega (arith, here)) ∙ ap (list_all test) (sym (piece_behind samples k)))
     (omega (arith, whole, length-drop PIECE samples)))
-    ∙ sym (list_all-append test (take PIECE samples) (drop PIECE samples)) ∙ ap (list_all test) (take-append-drop PIECE samples)
+    ∙ sym (list_all-append test (take PIECE samples) (drop PIECE samples))
+    ∙ ap (list_all test) (take-append-drop PIECE samples)
 
 -- the outcomes of all pieces
 pub outcomes_are : (test : Sample → Bool) (samples : List Sample) (pieces : ℕ) (flags : List Bool)
-    → AreOutcomes (λ piece flag. flag ≡ list_all test (piece_samples samples piece)) pieces flags → length samples ≤ PIECE * pieces
+    → AreOutcomes (λ piece flag. flag ≡ list_all test (piece_samples samples piece)) pieces flags
+    → length samples ≤ PIECE * pieces
     → list_all (λ flag. flag) flags ≡ list_all test samples
 outcomes_are test samples pieces flags all whole =
     let many = all.many in
     flags_are test samples flags (λ k d here. all.each k d (omega (arith, here, many))) (omega (arith, whole, many))
 
 -- where all samples and the locations' ids are sound
-are_sound : (p : Profile) → first_fault_of (location_faults p) ≡ None → list_all (is_sound p) p.sample ≡ true → AreSound p
+are_sound : (p : Profile) → first_fault_of (location_faults p) ≡ None → list_all (is_sound p) p.sample ≡ true
+    → AreSound p
 are_sound p ids all =
     let parts = both (λ s. list_all (label_has_texts p) s.label) (is_whole p) p.sample all in
     let whole = whole_samples p parts.1 in
-    record { texts = none_fails (λ s. list_all (label_has_texts p) s.label) p.sample parts.0; ids = ids; references = whole.0; values = whole.1 }
+    record {
+      texts = none_fails (λ s. list_all (label_has_texts p) s.label) p.sample parts.0;
+      ids = ids;
+      references = whole.0;
+      values = whole.1;
+    }
 
 -- samples that were asked, with ids that are sound
-pub asked : {E : Type 0} (p : Profile) (r : Result Bool E) → first_fault_of (location_faults p) ≡ None → IfOk r (λ sound. sound ≡ list_all (is_sound p) p.sample)
+pub asked : {E : Type 0} (p : Profile) (r : Result Bool E) → first_fault_of (location_faults p) ≡ None
+    → IfOk r (λ sound. sound ≡ list_all (is_sound p) p.sample)
     → IfOk r (λ sound. IsTrue sound → AreSound p)
 asked p (Ok sound) ids is = λ holds. are_sound p ids (sym is ∙ holds)
 asked p (Err e) ids is = tt
@@ -72,9 +84,11 @@ alone None = refl
 alone (Some f) = refl
 
 -- of rules 8 to 12, rule 10 alone is left
-pub tenth_left : (p : Profile) → AreSound p → first_fault_of (location_faults p ++ reference_faults p) ≡ rule_fault 10 Locations (location_fault p)
+pub tenth_left : (p : Profile) → AreSound p
+    → first_fault_of (location_faults p ++ reference_faults p) ≡ rule_fault 10 Locations (location_fault p)
 tenth_left p sound =
     let tenth = rule_fault 10 Locations (location_fault p) in
+    let others = λ (k : ℕ) (found : Option ℕ). rule_fault k Samples found in
     decided_after (location_faults p) (reference_faults p) sound.ids
-    ∙ (λ j. first_fault_of (tenth ∷ rule_fault 11 Samples (sound.references j) ∷ rule_fault 12 Samples (sound.values j) ∷ []))
+    ∙ (λ j. first_fault_of (tenth ∷ others 11 (sound.references j) ∷ others 12 (sound.values j) ∷ []))
     ∙ alone tenth

@@ -4,6 +4,7 @@ use Rattle.std.specs.Prelude.{None, Some, ◌==◌}
 use Rattle.std.specs.List.{list_all, position_or_len}
 use Rattle.std.proofs.lemmas.Bool.{le-ltb}
 use Rattle.pp_model.specs.declared.profile.Profile.{Profile}
+use Rattle.pp_model.specs.declared.profile.Sample.{Sample}
 use Rattle.pp_model.specs.Rules.{first_failing, stands_in, location_ids, sample_fault, value_fault, location_fault}
 use Rattle.pp_check.specs.declared.fault.Table.TheVariants.{Locations, Samples}
 use Rattle.pp_check.specs.Finds.{rule_fault, first_fault_of}
@@ -36,12 +37,13 @@ both one other (x ∷ xs) all = by (one x) (other x) (both one other xs) all
     by false b rest is = absurd (true≢false (sym is))
 
 -- rules 11 and 12 hold of whole samples
-pub whole_samples : (p : Profile) → list_all (is_whole p) p.sample ≡ true → (sample_fault p ≡ None) × (value_fault p ≡ None)
+pub whole_samples : (p : Profile) → list_all (is_whole p) p.sample ≡ true
+    → (sample_fault p ≡ None) × (value_fault p ≡ None)
 whole_samples p all =
-    let parts = both (λ s. list_all (stands_in (location_ids p)) s.location_id) (λ s. length s.value == length p.sample_type) p.sample all in (
-      none_fails (λ s. list_all (stands_in (location_ids p)) s.location_id) p.sample parts.0,
-      none_fails (λ s. length s.value == length p.sample_type) p.sample parts.1,
-    )
+    let refers : Sample → Bool = λ s. list_all (stands_in (location_ids p)) s.location_id in
+    let is_wide : Sample → Bool = λ s. length s.value == length p.sample_type in
+    let parts = both refers is_wide p.sample all in
+    (none_fails refers p.sample parts.0, none_fails is_wide p.sample parts.1)
 
 -- no rule on references fails
 pub none_refers_wrong : (p : Profile) → rule_fault 10 Locations (location_fault p) ≡ None → list_all (is_whole p) p.sample ≡ true

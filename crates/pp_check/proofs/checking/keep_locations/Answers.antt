@@ -11,24 +11,30 @@ use Rattle.pp_check.proofs.checking.keep_locations.Goals as goal
 pub returns-in_err-refuse : goal.returns-in_err-refuse
 returns-in_err-refuse c =
     let p = c.args.p.now in
+    let found = ap (rule_fault 10 Locations) (sym c.location_fault.ensures.fault) in
     raised_last (location_faults p ++ reference_faults p) _ c.in_err-refuse.field-0.0 c.from_residual.ensures.1
-    (tenth_left p (c.requires.sound c.if-sound.true) ∙ ap (rule_fault 10 Locations) (sym c.location_fault.ensures.fault) ∙ c.in_err-refuse.ensures)
+    (tenth_left p (c.requires.sound c.if-sound.true) ∙ found ∙ c.in_err-refuse.ensures)
 
 -- rule 10 alone is left, and holds
 pub returns-then-sound : goal.returns-then-sound
 returns-then-sound c =
-    tenth_left c.args.p.now (c.requires.sound c.if-sound.true) ∙ ap (rule_fault 10 Locations) (sym c.location_fault.ensures.fault) ∙ c.in_ok-refuse.ensures
+    let found = ap (rule_fault 10 Locations) (sym c.location_fault.ensures.fault) in
+    tenth_left c.args.p.now (c.requires.sound c.if-sound.true) ∙ found ∙ c.in_ok-refuse.ensures
 
 pub returns-in_err-locations : goal.returns-in_err-locations
 returns-in_err-locations c =
     let p = c.args.p.now in
-    passed_on Known (location_faults p) (reference_faults p) _ c.in_err-locations.field-0.0 c.from_residual-in_err-locations.ensures.1 c.in_err-locations.ensures.faults
+    passed_on Known (location_faults p) (reference_faults p) _ c.in_err-locations.field-0.0
+    c.from_residual-in_err-locations.ensures.1 c.in_err-locations.ensures.faults
 
 pub returns-in_err-keep_references : goal.returns-in_err-keep_references
 returns-in_err-keep_references c =
     let p = c.args.p.now in
     later (location_faults p) (reference_faults p) _ c.in_ok-locations.ensures.faults
-    (raised_last (reference_faults p) _ c.in_err-keep_references.field-0.0 c.from_residual-in_err-keep_references.ensures.1 c.in_err-keep_references.ensures)
+    (raised_last (reference_faults p) _ c.in_err-keep_references.field-0.0
+    c.from_residual-in_err-keep_references.ensures.1 c.in_err-keep_references.ensures)
 
 pub returns : goal.returns
-returns c = later_none (location_faults c.args.p.now) (reference_faults c.args.p.now) c.in_ok-locations.ensures.faults c.in_ok-keep_references.ensures
+returns c =
+    let p = c.args.p.now in
+    later_none (location_faults p) (reference_faults p) c.in_ok-locations.ensures.faults c.in_ok-keep_references.ensures
