@@ -6,7 +6,7 @@ ghost use Rattle.pp_dump.specs.Places.{CanCut, AddsSamples, PlacesLeft};
 
 use pp_base::{List, Memory};
 use pp_model::{Label, Loaded, Profile, Sample, Stack, Verdicts};
-use pp_restack::{Places, no_items, place_stack, places_of, same_items};
+use pp_restack::{Places, no_items, place_stack, places_of, sample_with};
 use pp_stack::{VerdictTables, filter_into, keeps_all};
 use pp_tags::show_tags_into;
 use std::alloc::Global;
@@ -113,16 +113,4 @@ fn place_sample(
     let stack = cut.stack.as_slice();
     place_stack(alloc, p, stack, &mut cut.ids, &mut cut.places)?;
     Ok(true)
-}
-
-// The sample with these locations and labels.
-fn sample_with(alloc: Global, s: &Sample, ids: &[u64], labels: &[Label]) -> Result<Sample, Memory>
-    ensures { IfOk result (λ sample.
-        sample ≡ record s.now { location_id = ids.now; label = labels.now }) }
-{
-    Ok(Sample {
-        location_id: same_items(alloc, ids)?,
-        value: same_items(alloc, s.value.as_slice())?,
-        label: same_items(alloc, labels)?,
-    })
 }

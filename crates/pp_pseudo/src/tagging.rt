@@ -14,7 +14,7 @@ use crate::names::FrameNames;
 use pp_base::{List, Memory, Text};
 use pp_merge::merge_alone;
 use pp_model::{Loaded, Profile, Sample, Valid};
-use pp_restack::{no_items, places_of, same_items, with_cut};
+use pp_restack::{no_items, places_of, sample_with, with_cut};
 use std::alloc::Global;
 
 /// The profile with a frame for each listed key of which a sample has a label, at the root for the keys of `roots` and
@@ -80,21 +80,10 @@ fn tag_samples(
     for s in p.sample.as_slice() {
         ids.truncate(0);
         put_frames(alloc, l, keys, s, &mut ids, frames)?;
-        let sample = sample_with(alloc, s, ids.as_slice())?;
+        let sample = sample_with(alloc, s, ids.as_slice(), s.label.as_slice())?;
         samples.push(sample)?;
     }
     Ok(())
-}
-
-// The sample with these locations.
-fn sample_with(alloc: Global, s: &Sample, ids: &[u64]) -> Result<Sample, Memory>
-    ensures { IfOk result (λ sample. sample ≡ record s.now { location_id = ids.now }) }
-{
-    Ok(Sample {
-        location_id: same_items(alloc, ids)?,
-        value: same_items(alloc, s.value.as_slice())?,
-        label: same_items(alloc, s.label.as_slice())?,
-    })
 }
 
 // The profile with these samples and locations, and with the names.

@@ -4,7 +4,7 @@ ghost use Rattle.std.specs.List.{AllByRecursion};
 ghost use Rattle.pp_restack.specs.Places.{with_cut};
 
 use pp_base::{List, Memory, Text};
-use pp_model::{Location, Mapping, Profile, Sample};
+use pp_model::{Label, Location, Mapping, Profile, Sample};
 use std::alloc::Global;
 
 /// The profile with these samples and locations, and without the patterns of functions that are dropped or that stay.
@@ -33,6 +33,23 @@ pub fn with_cut(
         comment: same_items(alloc, p.comment.as_slice())?,
         default_sample_type: p.default_sample_type,
         doc_url: p.doc_url,
+    })
+}
+
+/// The sample with these locations and labels.
+pub fn sample_with(
+    alloc: Global,
+    s: &Sample,
+    ids: &[u64],
+    labels: &[Label],
+) -> Result<Sample, Memory>
+    ensures { IfOk result (λ sample.
+        sample ≡ record s.now { location_id = ids.now; label = labels.now }) }
+{
+    Ok(Sample {
+        location_id: same_items(alloc, ids)?,
+        value: same_items(alloc, s.value.as_slice())?,
+        label: same_items(alloc, labels)?,
     })
 }
 

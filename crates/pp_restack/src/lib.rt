@@ -5,6 +5,6 @@ mod copying;
 mod places;
 mod stacks;
 
-pub use copying::{no_items, same_items, with_cut};
+pub use copying::{no_items, sample_with, with_cut};
 pub use places::{Places, place_line, places_of};
 pub use stacks::place_stack;

@@ -34,4 +34,4 @@ loop-s-preserved c =
     subst (λ (done : List Sample). AreTagged l roots leaves done new.names new.places.locations c.push.new.self) (sym more)
     (tagged_more l roots leaves (subst NoRuleFails same c.get-p.ensures.valid) (subst IsCompact same c.get-p.ensures.compact) (take i items) s c.in_ok-sample.sample
     (placing c.loop-s.frames c.truncate.new.self) (placing new c.put_frames.new.ids) c.loop-s.samples c.push.new.self c.loop-s.invariant member c.truncate.ensures
-    c.in_ok-put_frames.ensures (c.in_ok-sample.ensures ∙ ap (λ (ids : List ℕ). record s { location_id = ids }) c.as_slice.ensures) c.in_ok-push.ensures.ok)
+    c.in_ok-put_frames.ensures (c.in_ok-sample.ensures ∙ (λ j. record s { location_id = c.as_slice.ensures j; label = c.as_slice-2.ensures j })) c.in_ok-push.ensures.ok)
