@@ -4,7 +4,7 @@ use Rattle.std.specs.Prelude.{MatchOption}
 use Rattle.std.proofs.lemmas.Bool.{eq-eqb, eqb-true}
 use Rattle.std.proofs.lemmas.List.{at_drop_more}
 use Rattle.std.specs.Option.{option_and_then, option_copied, option_or}
-use Rattle.pp_source.specs.Paths.{after_front, in_folder, without_folder, under}
+use Rattle.pp_source.specs.Paths.{after_front, in_folder, without_folder, in_each_folder}
 
 -- what stands after a front
 pub after_found : (front rest : List ℕ) → after_front front (front ++ rest) ≡ Some rest
@@ -51,7 +51,7 @@ trimmed_next file folders i folder within is =
 
 -- the path in some folders
 pub in_folders : (folders : List (Bor (List ℕ))) (path : List ℕ) (other : List (List ℕ)) → 0 < length folders
-    → map (λ (f : Bor (List ℕ)). in_folder path f.now) folders ≡ under (map (λ (f : Bor (List ℕ)). f.now) folders) path other
+    → map (λ (f : Bor (List ℕ)). in_folder path f.now) folders ≡ in_each_folder (map (λ (f : Bor (List ℕ)). f.now) folders) path other
 in_folders [] path other some = absurd (omega (arith, some))
 in_folders (folder ∷ folders) path other some = each (folder ∷ folders) where
   each : (fs : List (Bor (List ℕ))) → map (λ (f : Bor (List ℕ)). in_folder path f.now) fs ≡ map (in_folder path) (map (λ (f : Bor (List ℕ)). f.now) fs)
