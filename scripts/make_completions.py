@@ -1,8 +1,8 @@
 #!/usr/bin/env python3
 """Writes completions/: the words of pprof for bash, zsh and fish, and those of its shell for rlwrap.
 
-The words come from the sources. The help of crates/pp_options names each option with its value and what it is for. The tables
-of names beside it must have the same names. With --check nothing is written: status 1 says that completions/ is not current."""
+The words come from the sources: the tables of crates/pp_options have each option with its value and what it is for. With
+--check nothing is written: status 1 says that completions/ is not current."""
 import argparse
 import pathlib
 import re
@@ -40,16 +40,18 @@ def constant(name):
 
 
 def names_in(file, table):
-    """The names of a table of Named entries."""
+    """The names of a table."""
     found = re.search(r"static " + table + r":.*?= \[(.*?)\];", (SOURCES / file).read_text(), re.S)
     return re.findall(r'Named\(\s*b"([^"]*)"', found[1])
 
 
 def described():
-    """Pairs of the words of an option and what it is for, from the help's lines."""
-    for entry in re.findall(r"^  (-.*(?:\n {8,}.*)*)", constant("OPTIONS_HELP"), re.M):
-        words, about = re.split(r"  +", " ".join(entry.split("\n")).strip(), maxsplit=1)
-        yield words, " ".join(about.split())
+    """Pairs of the words of an option and what it is for, in the order of the help."""
+    for file in ("format.rt", "name.rt", "variable.rt"):
+        row = r'Option\(\s*Named\(\s*b"([^"]*)",[^"]*\),\s*b"([^"]+)"'
+        for name, told in re.findall(row, (SOURCES / file).read_text()):
+            words, about = re.split(r"  +", f"-{name}{told}", maxsplit=1)
+            yield words, " ".join(about.split())
 
 
 def option_of(word, about):
@@ -63,15 +65,7 @@ def options():
     found = [option_of(word, about) for words, about in described() for word in words.split(", ")]
     for file, table, what in (("value.rt", "SORTS", "the order"), ("value.rt", "GRAINS", "a row stands for"), ("sample_type.rt", "SAMPLE_TYPES", "the sample type")):
         found += [Option(name, "", f"{what}: {name}") for name in names_in(file, table)]
-    stop_unless_named({it.name for it in found})
     return found
-
-
-def stop_unless_named(found):
-    tables = [("variable.rt", "VARIABLES"), ("format.rt", "FORMATS"), ("name.rt", "OTHERS"), ("value.rt", "SORTS"), ("value.rt", "GRAINS"), ("sample_type.rt", "SAMPLE_TYPES")]
-    named = {name for file, table in tables for name in names_in(file, table)}
-    if found != named:
-        sys.exit(f"make_completions: in the help or in a table alone: {' '.join(sorted(found ^ named))}")
 
 
 def commands():

@@ -12,6 +12,10 @@ use Rattle.pp_model.specs.declared.report.Report.{Report}
 use Rattle.pp_model.specs.declared.report.BaseKind.{BaseKind}
 use Rattle.pp_options.specs.declared.format.Format.{Format as ReportFormat}
 use Rattle.pp_options.specs.declared.format.Format.TheVariants as formats
+use Rattle.pp_options.specs.declared.format.FlagFormat.{FlagFormat}
+use Rattle.pp_options.specs.declared.format.FlagFormat.TheVariants as flags
+use Rattle.pp_options.specs.declared.format.PatternFormat.{PatternFormat}
+use Rattle.pp_options.specs.declared.format.PatternFormat.TheVariants as patterns
 use Rattle.pp_options.specs.declared.item.Item.{Item}
 use Rattle.pp_options.specs.declared.item.Item.TheVariants.{Source, Base, Gen, Normalize, Format, Set}
 use Rattle.pp_options.specs.declared.name.OptionName.{OptionName}
@@ -23,8 +27,8 @@ use Rattle.pp_options.specs.declared.usage.UsageKind.{UsageKind}
 use Rattle.pp_options.specs.declared.usage.UsageKind.TheVariants.{BadValue, MissingValue, NoSource, BaseTwice, NormalizeAlone}
 use Rattle.pp_options.specs.Conditions.{is_fair_number, is_fair, is_patterned, has_pattern}
 use Rattle.pp_options.specs.Drafts.{with_origin, with_item, normalized_first}
-use Rattle.pp_options.specs.Formats.{takes_pattern, report_of_format}
-use Rattle.pp_options.specs.Items.{word_fault, is_true_word, chosen, selected_type, pattern_report, item_with, valued_item, named_item, item_of}
+use Rattle.pp_options.specs.Formats.{flag_report, pattern_report}
+use Rattle.pp_options.specs.Items.{word_fault, is_true_word, chosen, selected_type, report_with, item_with, valued_item, named_item, item_of}
 use Rattle.pp_options.specs.Names.{option_named, needs_value}
 use Rattle.pp_options.specs.Settings.{setting_of}
 use Rattle.pp_options.specs.Spelling.{is_option, name_part, value_part, takes_next}
@@ -60,47 +64,31 @@ or_bad_value None fair = tt
 or_bad_value (Some item) fair = fair
 
 -- a pattern of one byte or more
-with_pattern : (format : ReportFormat) (byte : ℕ) (bytes : List ℕ) → is_patterned (report_of_format format (byte ∷ bytes)) ≡ true
-with_pattern formats.Top byte bytes = refl
-with_pattern formats.Tree byte bytes = refl
-with_pattern formats.Peek byte bytes = lt-ltb 0 (length (byte ∷ bytes)) (omega arith)
-with_pattern formats.Traces byte bytes = refl
-with_pattern formats.Tags byte bytes = refl
-with_pattern formats.Raw byte bytes = refl
-with_pattern formats.Comments byte bytes = refl
-with_pattern formats.Proto byte bytes = refl
-with_pattern formats.Folded byte bytes = refl
-with_pattern formats.Table byte bytes = refl
-with_pattern formats.Compare byte bytes = refl
-with_pattern formats.List byte bytes = lt-ltb 0 (length (byte ∷ bytes)) (omega arith)
+with_pattern : (format : PatternFormat) (byte : ℕ) (bytes : List ℕ) → is_patterned (pattern_report format (byte ∷ bytes)) ≡ true
+with_pattern patterns.Peek byte bytes = lt-ltb 0 (length (byte ∷ bytes)) (omega arith)
+with_pattern patterns.List byte bytes = lt-ltb 0 (length (byte ∷ bytes)) (omega arith)
 
--- a format without a pattern
-without_pattern : (format : ReportFormat) → takes_pattern format ≡ false → is_patterned (report_of_format format []) ≡ true
-without_pattern formats.Top takes = refl
-without_pattern formats.Tree takes = refl
-without_pattern formats.Peek takes = absurd (false≢true (sym takes))
-without_pattern formats.Traces takes = refl
-without_pattern formats.Tags takes = refl
-without_pattern formats.Raw takes = refl
-without_pattern formats.Comments takes = refl
-without_pattern formats.Proto takes = refl
-without_pattern formats.Folded takes = refl
-without_pattern formats.Table takes = refl
-without_pattern formats.Compare takes = refl
-without_pattern formats.List takes = absurd (false≢true (sym takes))
+-- a report without a pattern
+without_pattern : (flag : FlagFormat) → is_patterned (flag_report flag) ≡ true
+without_pattern flags.Top = refl
+without_pattern flags.Tree = refl
+without_pattern flags.Traces = refl
+without_pattern flags.Tags = refl
+without_pattern flags.Raw = refl
+without_pattern flags.Comments = refl
+without_pattern flags.Proto = refl
+without_pattern flags.Folded = refl
+without_pattern flags.Table = refl
+without_pattern flags.Compare = refl
 
-pattern_fair : (format : ReportFormat) (value : List ℕ) → IsFairOption (option_map Format (pattern_report format value))
-pattern_fair format [] = tt
-pattern_fair format (byte ∷ bytes) = with_pattern format byte bytes
+flag_fair : (flag : FlagFormat) (on : Bool) → IsFairOption (option_map Format (if on then Some (flag_report flag) else None))
+flag_fair flag true = without_pattern flag
+flag_fair flag false = tt
 
-flag_fair : (format : ReportFormat) (on : Bool) → takes_pattern format ≡ false → IsFairOption (option_map Format (if on then Some (report_of_format format []) else None))
-flag_fair format true takes = without_pattern format takes
-flag_fair format false takes = tt
-
-report_fair : (format : ReportFormat) (value : List ℕ) (takes : Bool) → takes_pattern format ≡ takes
-    → IsFairOption (option_map Format (if takes then pattern_report format value else if is_true_word value then Some (report_of_format format []) else None))
-report_fair format value true is = pattern_fair format value
-report_fair format value false is = flag_fair format (is_true_word value) is
+report_fair : (format : ReportFormat) (value : List ℕ) → IsFairOption (option_map Format (report_with format value))
+report_fair (formats.Flag flag) value = flag_fair flag (is_true_word value)
+report_fair (formats.Pattern format) [] = tt
+report_fair (formats.Pattern format) (byte ∷ bytes) = with_pattern format byte bytes
 
 -- a number of samples between the limits
 number_fair : (n m : ℕ) (within : Bool) → is_fair_number n ≡ within → (if within then Some n else None) ≡ Some m → is_fair_number m ≡ true
@@ -120,7 +108,7 @@ unfolding item_with
 item_with_fair (names.Variable variable) value = made Set (setting_of variable value) (λ s is. refl)
 item_with_fair (names.Choice choice) value = made Set (chosen choice value) (λ s is. refl)
 item_with_fair (names.SampleType kind) value = made Set (selected_type kind value) (λ s is. refl)
-item_with_fair (names.Format format) value = report_fair format value (takes_pattern format) refl
+item_with_fair (names.Format format) value = report_fair format value
 item_with_fair (names.Base kind) value = refl
 item_with_fair names.Gen value = made Gen (whole_number 1 1000000 value) (samples_fair value)
 item_with_fair names.Normalize value = made Normalize (truth_of value) (λ on is. refl)

@@ -1,5 +1,5 @@
 -- The facts in which reports differ. Each report has a line.
-use Rattle.std.specs.Prelude.{ℕ, Bool, true, false, List, Option, Some, None, codes}
+use Rattle.std.specs.Prelude.{ℕ, Bool, true, false, List, [], Option, Some, None, codes}
 use Rattle.pp_model.specs.declared.report.Report.{Report}
 use Rattle.pp_model.specs.declared.report.Report.TheVariants as reports
 use Rattle.pp_model.specs.declared.verdicts.Slot.{Slot}
@@ -7,8 +7,8 @@ use Rattle.pp_model.specs.declared.verdicts.Slot.TheVariants as slots
 
 -- What is known of a report.
 pub record ReportFacts : Type 0 where
-  -- its name, which is also its command's
-  pub name : List ℕ
+  -- the option whose value is its own pattern, empty where it has none
+  pub own_option : List ℕ
   -- the pattern that it has of its own
   pub own_pattern : Option (List ℕ)
   -- it shows a column of values, which it is refused without
@@ -23,9 +23,9 @@ pub record ReportFacts : Type 0 where
   pub reads_figures : Bool
 
 -- what is known of most reports
-abbrev pub usual : List ℕ → ReportFacts
-usual name = record {
-  name = name;
+abbrev pub usual : ReportFacts
+usual = record {
+  own_option = [];
   own_pattern = None;
   shows_values = true;
   is_counted = true;
@@ -36,24 +36,24 @@ usual name = record {
 
 -- what is known of the report
 abbrev pub facts_of : Report → ReportFacts
-facts_of reports.Top = record (usual (codes "top")) { is_short = true; reads_figures = true }
-facts_of reports.Tree = record (usual (codes "tree")) { reads_figures = true }
+facts_of reports.Top = record usual { is_short = true; reads_figures = true }
+facts_of reports.Tree = record usual { reads_figures = true }
 facts_of (reports.Peek pattern) =
-    record (usual (codes "peek")) { own_pattern = Some pattern; reads_figures = true }
-facts_of reports.Traces = usual (codes "traces")
-facts_of reports.Tags = record (usual (codes "tags")) { is_of_labels = true }
-facts_of reports.Raw = record (usual (codes "raw")) { shows_values = false }
-facts_of reports.Comments =
-    record (usual (codes "comments")) { shows_values = false; is_counted = false }
-facts_of reports.Proto = record (usual (codes "proto")) { shows_values = false }
-facts_of (reports.List pattern) = record (usual (codes "list")) { own_pattern = Some pattern }
-facts_of reports.Folded = usual (codes "folded")
-facts_of reports.Table = usual (codes "table")
-facts_of reports.Compare = record (usual (codes "compare")) { is_short = true }
+    record usual { own_option = codes "peek"; own_pattern = Some pattern; reads_figures = true }
+facts_of reports.Traces = usual
+facts_of reports.Tags = record usual { is_of_labels = true }
+facts_of reports.Raw = record usual { shows_values = false }
+facts_of reports.Comments = record usual { shows_values = false; is_counted = false }
+facts_of reports.Proto = record usual { shows_values = false }
+facts_of (reports.List pattern) =
+    record usual { own_option = codes "list"; own_pattern = Some pattern }
+facts_of reports.Folded = usual
+facts_of reports.Table = usual
+facts_of reports.Compare = record usual { is_short = true }
 
--- its name
-abbrev pub report_name : Report → List ℕ
-report_name report = (facts_of report).name
+-- the option whose value is its own pattern
+abbrev pub own_option : Report → List ℕ
+own_option report = (facts_of report).own_option
 
 -- the pattern that it has of its own
 abbrev pub own_pattern : Report → Option (List ℕ)
@@ -79,16 +79,21 @@ is_of_labels report = (facts_of report).is_of_labels
 abbrev pub reads_figures : Report → Bool
 reads_figures report = (facts_of report).reads_figures
 
--- the variable whose pattern stands in this place, or the report's name for its own
+-- the variable whose pattern stands in this place, empty where it is a report's own
+abbrev pub variable_name : Slot → List ℕ
+variable_name slots.Focus = codes "focus"
+variable_name slots.Ignore = codes "ignore"
+variable_name slots.Hide = codes "hide"
+variable_name slots.Show = codes "show"
+variable_name slots.ShowFrom = codes "show_from"
+variable_name slots.TagFocus = codes "tagfocus"
+variable_name slots.TagIgnore = codes "tagignore"
+variable_name slots.PruneFrom = codes "prune_from"
+variable_name slots.TagShow = codes "tagshow"
+variable_name slots.TagHide = codes "taghide"
+variable_name slots.Own = []
+
+-- the option whose pattern stands in this place
 unfoldable pub option_name : Report → Slot → List ℕ
-option_name report slots.Focus = codes "focus"
-option_name report slots.Ignore = codes "ignore"
-option_name report slots.Hide = codes "hide"
-option_name report slots.Show = codes "show"
-option_name report slots.ShowFrom = codes "show_from"
-option_name report slots.TagFocus = codes "tagfocus"
-option_name report slots.TagIgnore = codes "tagignore"
-option_name report slots.PruneFrom = codes "prune_from"
-option_name report slots.TagShow = codes "tagshow"
-option_name report slots.TagHide = codes "taghide"
-option_name report slots.Own = report_name report
+option_name report slots.Own = own_option report
+option_name report slot = variable_name slot

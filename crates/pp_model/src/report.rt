@@ -1,7 +1,7 @@
 //! What a run is asked for, and the facts in which reports differ.
 ghost use Rattle.std.specs.Prelude.{◌≡◌};
 ghost use Rattle.std.specs.Option.{option_copied};
-ghost use Rattle.pp_model.specs.ReportFacts.{report_name, own_pattern, shows_values, is_counted, is_short, is_of_labels, option_name};
+ghost use Rattle.pp_model.specs.ReportFacts.{own_option, own_pattern, shows_values, is_counted, is_short, is_of_labels, variable_name, option_name};
 
 use crate::verdicts::Slot;
 use pp_base::Text;
@@ -37,23 +37,16 @@ pub enum Report {
 
 // Each fact has a line for each report, so that a new one does not compile before it is thought of.
 impl Report {
-    /// Its name, which is also its command's.
-    pub fn name(&self) -> &'static [u8]
-        ensures { result.now ≡ report_name self.now }
+    /// The option whose value is its own pattern, empty where it has none.
+    fn own_option(&self) -> &'static [u8]
+        ensures { result.now ≡ own_option self.now }
     {
         match self {
-            Report::Top => b"top",
-            Report::Tree => b"tree",
             Report::Peek(_) => b"peek",
-            Report::Traces => b"traces",
-            Report::Tags => b"tags",
-            Report::Raw => b"raw",
-            Report::Comments => b"comments",
-            Report::Proto => b"proto",
             Report::List(_) => b"list",
-            Report::Folded => b"folded",
-            Report::Table => b"table",
-            Report::Compare => b"compare",
+            Report::Top | Report::Tree | Report::Traces | Report::Tags => b"",
+            Report::Raw | Report::Comments | Report::Proto => b"",
+            Report::Folded | Report::Table | Report::Compare => b"",
         }
     }
 
@@ -117,12 +110,24 @@ impl Report {
         }
     }
 
-    /// What the option is called whose pattern stands in this place: a variable's name, or the report's for its own.
+    /// The option whose pattern stands in this place.
     #[tactic(auto, unfolding(crate::specs::ReportFacts::option_name))]
     pub fn option_name(&self, slot: Slot) -> &'static [u8]
         ensures { result.now ≡ option_name self.now slot }
     {
         match slot {
+            Slot::Own => self.own_option(),
+            variable => variable.name(),
+        }
+    }
+}
+
+impl Slot {
+    /// The variable whose pattern stands in this place, empty where it is a report's own.
+    pub fn name(self) -> &'static [u8]
+        ensures { result.now ≡ variable_name self }
+    {
+        match self {
             Slot::Focus => b"focus",
             Slot::Ignore => b"ignore",
             Slot::Hide => b"hide",
@@ -133,7 +138,7 @@ impl Report {
             Slot::PruneFrom => b"prune_from",
             Slot::TagShow => b"tagshow",
             Slot::TagHide => b"taghide",
-            Slot::Own => self.name(),
+            Slot::Own => b"",
         }
     }
 }

@@ -12,7 +12,7 @@ use Rattle.pp_model.specs.Defaults.{defaults}
 use Rattle.pp_options.specs.declared.item.Item.{Item}
 use Rattle.pp_options.specs.declared.item.Item.TheVariants.{Source, Base, Gen, Normalize, Format, Set}
 use Rattle.pp_options.specs.Settings.{assigned}
-use Rattle.pp_options.specs.Words.{Entry, Request, request, all_of, origin_of, base_of, kind_of, normalize_of, report_asked, setting_of, normalizes, normalized_at}
+use Rattle.pp_options.specs.Words.{Entry, Request, request, all_of, origin_of, base_of, kind_of, normalize_of, report_asked, setting_asked, normalizes, normalized_at}
 use Rattle.pp_options.specs.Drafts.{with_item, normalized_first}
 
 -- two requests with the same fields are the same
@@ -51,7 +51,7 @@ pushed r item = record {
   base_kind = option_or r.base_kind (kind_of item);
   normalize = unwrap_or (normalize_of item) r.normalize;
   report = option_or r.report (report_asked item);
-  config = fold assigned r.config (cons_option (setting_of item) []);
+  config = fold assigned r.config (cons_option (setting_asked item) []);
 }
 
 -- no more than was known
@@ -80,7 +80,7 @@ asked_push es at item =
     ∙ ap (λ o. unwrap_or o false) (last_push None (all_of normalize_of es) (normalize_of item))
     ∙ unwrap_push (normalize_of item) (last_or None (all_of normalize_of es)) false)
     (ap (λ rs. slice_get rs 0) (all_of_push report_asked es e) ∙ first_push (all_of report_asked es) (report_asked item))
-    (ap (fold assigned defaults) (all_of_push setting_of es e) ∙ fold-append assigned defaults (all_of setting_of es) _)
+    (ap (fold assigned defaults) (all_of_push setting_asked es e) ∙ fold-append assigned defaults (all_of setting_asked es) _)
 
 -- what entries ask for, with one more that asks for an item
 pub request_push : (es : List Entry) (at : ℕ) (item : Item) → request (es ++ record { at = at; asked = Ok item } ∷ []) ≡ with_item (request es) item

@@ -7,6 +7,7 @@ use Rattle.pp_options.specs.declared.name.Choice.TheVariants as choices
 use Rattle.pp_options.specs.declared.name.OptionName.{OptionName}
 use Rattle.pp_options.specs.declared.name.OptionName.TheVariants as names
 use Rattle.pp_options.specs.declared.format.Format.{Format as ReportFormat}
+use Rattle.pp_options.specs.declared.format.Format.TheVariants.{Flag, Pattern}
 use Rattle.pp_options.specs.declared.sample_type.SampleType.{SampleType}
 use Rattle.pp_options.specs.declared.setting.Setting.{Setting}
 use Rattle.pp_options.specs.declared.setting.Setting.TheVariants as set
@@ -19,7 +20,7 @@ use Rattle.pp_options.specs.declared.usage.UsageRefusal.TheVariants.{Fault, Memo
 use Rattle.pp_options.specs.declared.item.Item.{Item}
 use Rattle.pp_options.specs.declared.item.Item.TheVariants.{Source, Base, Gen, Normalize, Format, Set}
 use Rattle.pp_options.specs.Conditions.{is_fair_number, is_patterned}
-use Rattle.pp_options.specs.Formats.{takes_pattern, report_of_format}
+use Rattle.pp_options.specs.Formats.{flag_report, pattern_report}
 use Rattle.pp_options.specs.Names.{option_named, needs_value}
 use Rattle.pp_options.specs.SampleTypes.{type_name}
 use Rattle.pp_options.specs.Settings.{setting_of, is_fitting}
@@ -62,16 +63,11 @@ chosen choice value = if is_true_word value then Some (setting_of_choice choice)
 abbrev pub selected_type : SampleType → List ℕ → Option Setting
 selected_type kind value = if is_true_word value then Some (set.Text texts.SampleIndex (type_name kind)) else None
 
--- a report with a pattern, which isn't empty
-abbrev pub pattern_report : ReportFormat → List ℕ → Option Report
-pattern_report format [] = None
-pattern_report format (byte ∷ bytes) = Some (report_of_format format (byte ∷ bytes))
-
--- a report with its pattern, or one that as a flag can only be true
+-- a report with its pattern, which isn't empty, or one that as a flag can only be true
 abbrev pub report_with : ReportFormat → List ℕ → Option Report
-report_with format value =
-    if takes_pattern format then pattern_report format value
-    else if is_true_word value then Some (report_of_format format []) else None
+report_with (Flag flag) value = if is_true_word value then Some (flag_report flag) else None
+report_with (Pattern format) [] = None
+report_with (Pattern format) (byte ∷ bytes) = Some (pattern_report format (byte ∷ bytes))
 
 -- what an option asks for with the value, or none where it can't have the value
 unfoldable pub item_with : OptionName → List ℕ → Option Item

@@ -1,5 +1,5 @@
 -- The list of variables with their values.
-use Rattle.std.specs.Prelude.{ℕ, ◌+◌, ◌==◌, Bool, true, false, List, ◌++◌, drop, decimal, codes, if◌then◌else◌}
+use Rattle.std.specs.Prelude.{ℕ, ◌+◌, ◌==◌, Bool, true, false, List, [], ◌++◌, drop, decimal, codes, if◌then◌else◌}
 use Rattle.std.specs.Fmt.{signed_decimal}
 use Rattle.std.specs.List.{flat_map}
 use Rattle.pp_base.specs.declared.fraction.Fraction.{Fraction as BaseFraction}
@@ -8,6 +8,9 @@ use Rattle.pp_model.specs.declared.config.Sort.TheVariants.{Flat, Cum}
 use Rattle.pp_model.specs.declared.config.Grain.{Grain}
 use Rattle.pp_model.specs.declared.config.Grain.TheVariants.{Functions, FileFunctions, Files, Lines, Addresses}
 use Rattle.pp_model.specs.declared.config.Config.{Config}
+use Rattle.pp_options.specs.declared.table.HelpRow.{HelpRow}
+use Rattle.pp_options.specs.declared.table.HelpRow.TheVariants as rows
+use Rattle.pp_options.specs.declared.variable.TheConstants.{VARIABLES}
 use Rattle.pp_options.specs.declared.variable.FlagVariable.{FlagVariable}
 use Rattle.pp_options.specs.declared.variable.FlagVariable.TheVariants as flags
 use Rattle.pp_options.specs.declared.variable.FractionVariable.{FractionVariable}
@@ -17,8 +20,6 @@ use Rattle.pp_options.specs.declared.variable.TextVariable.TheVariants as texts
 use Rattle.pp_options.specs.declared.variable.Variable.{Variable}
 use Rattle.pp_options.specs.declared.variable.Variable.TheVariants.{Sort, Granularity, Flag, Nodecount, Fraction, Text, DivideBy, Workers}
 use Rattle.pp_options.specs.Ends.{without_end}
-use Rattle.pp_options.specs.Tables.{Row}
-use Rattle.pp_options.specs.Variables.{variables}
 
 -- how an order is spelled
 abbrev pub sort_text : Order → List ℕ
@@ -100,10 +101,12 @@ variable_text c (Text which) = text_in c which
 variable_text c DivideBy = decimal c.divide_by
 variable_text c Workers = decimal c.workers
 
--- a line `NAME=VALUE`
-abbrev pub option_line : Config → Row Variable → List ℕ
-option_line c row = row.name ++ codes "=" ++ variable_text c row.value ++ codes "\n"
+-- a line `NAME=VALUE` for the variable of a row, where it is one
+abbrev pub option_line : Config → HelpRow Variable → List ℕ
+option_line c (rows.Lines lines) = []
+option_line c (rows.Option named help) =
+    named.0.now ++ codes "=" ++ variable_text c named.1 ++ codes "\n"
 
 -- a line for each variable, in their order
 unfoldable pub options_text : Config → List ℕ
-options_text c = flat_map (option_line c) variables
+options_text c = flat_map (option_line c) VARIABLES

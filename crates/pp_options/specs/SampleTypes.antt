@@ -1,23 +1,13 @@
 -- The sample types that have a word of their own.
-use Rattle.std.specs.Prelude.{ℕ, List, [], ◌∷◌, Option, codes}
+use Rattle.std.specs.Prelude.{ℕ, List, Option, codes}
+use Rattle.pp_options.specs.declared.sample_type.TheConstants.{SAMPLE_TYPES}
 use Rattle.pp_options.specs.declared.sample_type.SampleType.{SampleType}
 use Rattle.pp_options.specs.declared.sample_type.SampleType.TheVariants.{InuseSpace, InuseObjects, AllocSpace, AllocObjects, Contentions, Delay}
-use Rattle.pp_options.specs.Tables.{Row, row, value_named}
-
--- the words that select a sample type
-abbrev pub sample_types : List (Row SampleType)
-sample_types =
-    row (codes "inuse_space") InuseSpace
-    ∷ row (codes "inuse_objects") InuseObjects
-    ∷ row (codes "alloc_space") AllocSpace
-    ∷ row (codes "alloc_objects") AllocObjects
-    ∷ row (codes "contentions") Contentions
-    ∷ row (codes "total_delay") Delay
-    ∷ []
+use Rattle.pp_options.specs.Tables.{value_named}
 
 -- the sample type that a word selects
 unfoldable pub sample_type_named : List ℕ → Option SampleType
-sample_type_named word = value_named sample_types word
+sample_type_named word = value_named SAMPLE_TYPES word
 
 -- what profiles call it
 abbrev pub type_name : SampleType → List ℕ

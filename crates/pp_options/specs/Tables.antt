@@ -1,21 +1,22 @@
--- Tables of names.
-use Rattle.std.specs.Prelude.{ℕ, List, Option, option_map, find, bytes_eq}
+-- Tables of names, and of the options that the help tells.
+use Rattle.std.specs.Prelude.{ℕ, List, Option, Some, None, option_map, find, bytes_eq}
+use Rattle.std.specs.List.{filter_map}
 use Rattle.pp_options.specs.declared.table.Named.{Named}
+use Rattle.pp_options.specs.declared.table.HelpRow.{HelpRow}
+use Rattle.pp_options.specs.declared.table.HelpRow.TheVariants as rows
 
--- a name and what it stands for
-pub record Row (T : Type 0) : Type 0 where
-  pub name : List ℕ
-  pub value : T
+module _ {T : Type 0} where
+  -- the value of the first entry of the name
+  abbrev pub value_named : List (Named T) → List ℕ → Option T
+  value_named table name =
+      option_map (λ (named : Named T). named.1)
+      (find (λ (named : Named T). bytes_eq named.0.now name) table)
 
--- a row of this name and value
-abbrev pub row : {T : Type 0} → List ℕ → T → Row T
-row name value = record { name = name; value = value }
+  -- the option of a row, where it is one
+  abbrev pub option_of : HelpRow T → Option (Named T)
+  option_of (rows.Lines lines) = None
+  option_of (rows.Option named help) = Some named
 
--- the row that an entry of a table in the code stands for
-abbrev pub row_of : {T : Type 0} → Named T → Row T
-row_of named = record { name = named.0.now; value = named.1 }
-
--- the value of the first row of the name
-abbrev pub value_named : {T : Type 0} → List (Row T) → List ℕ → Option T
-value_named {T} table name =
-    option_map (λ (r : Row T). r.value) (find (λ (r : Row T). bytes_eq r.name name) table)
+  -- what the first option of the name stands for
+  abbrev pub option_in : List (HelpRow T) → List ℕ → Option T
+  option_in rows name = value_named (filter_map option_of rows) name

@@ -1,54 +1,24 @@
 -- The values of variables, as texts spell them.
-use Rattle.std.specs.Prelude.{ℕ, ◌&&◌, ℤ, pos, negsuc, Bool, true, false, List, [], ◌∷◌, length, Option, Some, None, option_map, nat_lt, nat_le, bytes_eq, codes, if◌then◌else◌}
+use Rattle.std.specs.Prelude.{ℕ, ◌&&◌, ℤ, pos, negsuc, Bool, List, length, Option, Some, None, option_map, nat_lt, nat_le, bytes_eq, codes, if◌then◌else◌}
 use Rattle.std.specs.Char.{is_ascii_digit}
 use Rattle.std.specs.List.{list_all}
 use Rattle.std.specs.Str.Parse.{digits_value}
 use Rattle.pp_model.specs.declared.config.Sort.{Sort}
-use Rattle.pp_model.specs.declared.config.Sort.TheVariants.{Flat, Cum}
 use Rattle.pp_model.specs.declared.config.Grain.{Grain}
-use Rattle.pp_model.specs.declared.config.Grain.TheVariants.{Functions, FileFunctions, Files, Lines, Addresses}
-use Rattle.pp_options.specs.Tables.{Row, row, value_named}
-
--- what rows can be sorted by
-abbrev pub sorts : List (Row Sort)
-sorts = row (codes "flat") Flat ∷ row (codes "cum") Cum ∷ []
+use Rattle.pp_options.specs.declared.value.TheConstants.{SORTS, GRAINS, TRUTHS}
+use Rattle.pp_options.specs.Tables.{value_named}
 
 -- the order of the name
 unfoldable pub sort_named : List ℕ → Option Sort
-sort_named name = value_named sorts name
-
--- what one row can stand for
-abbrev pub grains : List (Row Grain)
-grains =
-    row (codes "functions") Functions
-    ∷ row (codes "filefunctions") FileFunctions
-    ∷ row (codes "files") Files
-    ∷ row (codes "lines") Lines
-    ∷ row (codes "addresses") Addresses
-    ∷ []
+sort_named name = value_named SORTS name
 
 -- the granularity of the name
 unfoldable pub grain_named : List ℕ → Option Grain
-grain_named name = value_named grains name
-
--- how a flag is turned on and off
-abbrev pub truths : List (Row Bool)
-truths =
-    row (codes "true") true
-    ∷ row (codes "t") true
-    ∷ row (codes "yes") true
-    ∷ row (codes "y") true
-    ∷ row (codes "1") true
-    ∷ row (codes "false") false
-    ∷ row (codes "f") false
-    ∷ row (codes "no") false
-    ∷ row (codes "n") false
-    ∷ row (codes "0") false
-    ∷ []
+grain_named name = value_named GRAINS name
 
 -- the truth value that a word stands for
 unfoldable pub truth_of : List ℕ → Option Bool
-truth_of word = value_named truths word
+truth_of word = value_named TRUTHS word
 
 -- the text is one or more decimal digits
 abbrev pub is_number : List ℕ → Bool

@@ -75,9 +75,9 @@ report_asked (Format report) = Some report
 report_asked item = None
 
 -- the variable with the value that an item asks for
-abbrev pub setting_of : Item → Option Setting
-setting_of (Set setting) = Some setting
-setting_of item = None
+abbrev pub setting_asked : Item → Option Setting
+setting_asked (Set setting) = Some setting
+setting_asked item = None
 
 -- such parts of all the items, in order
 abbrev pub all_of : {A : Type 0} → (Item → Option A) → List Entry → List A
@@ -101,7 +101,7 @@ request es = record {
   base_kind = slice_get (all_of kind_of es) 0;
   normalize = unwrap_or (last_or None (all_of normalize_of es)) false;
   report = slice_get (all_of report_asked es) 0;
-  config = fold assigned defaults (all_of setting_of es);
+  config = fold assigned defaults (all_of setting_asked es);
 }
 
 -- two kinds of base are the same

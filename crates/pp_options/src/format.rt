@@ -1,43 +1,98 @@
-//! The formats of reports.
-ghost use Rattle.std.specs.Prelude.{◌≡◌};
-ghost use Rattle.pp_options.specs.Formats.{format_named, takes_pattern, report_of_format};
+//! The formats of reports: their words, and what the help tells of them.
+ghost use Rattle.std.specs.Prelude.{◌≡◌, None, Some};
+ghost use Rattle.pp_model.specs.ReportFacts.{own_pattern};
+ghost use Rattle.pp_options.specs.Formats.{format_named, flag_report, pattern_report};
 
-use crate::table::{Named, value_named};
+use crate::table::{HelpRow, Named, option_in};
 use pp_base::Text;
 use pp_model::Report;
 
-/// A format, without the pattern that two of them have.
+/// How a report is asked for.
 #[derive(Clone, Copy, Debug, PartialEq, Eq)]
 pub enum Format {
+    /// By a word alone.
+    Flag(FlagFormat),
+    /// By a word and the pattern that the report has of its own.
+    Pattern(PatternFormat),
+}
+
+/// A report that a word alone asks for.
+#[derive(Clone, Copy, Debug, PartialEq, Eq)]
+pub enum FlagFormat {
     Top,
     Tree,
-    Peek,
     Traces,
     Tags,
     Raw,
     Comments,
     Proto,
-    List,
     Folded,
     Table,
     Compare,
 }
 
-/// The formats by name. `text` and `top` are one.
-pub static FORMATS: [Named<Format>; 13] = [
-    Named(b"text", Format::Top),
-    Named(b"top", Format::Top),
-    Named(b"tree", Format::Tree),
-    Named(b"traces", Format::Traces),
-    Named(b"tags", Format::Tags),
-    Named(b"raw", Format::Raw),
-    Named(b"comments", Format::Comments),
-    Named(b"proto", Format::Proto),
-    Named(b"peek", Format::Peek),
-    Named(b"list", Format::List),
-    Named(b"folded", Format::Folded),
-    Named(b"table", Format::Table),
-    Named(b"compare", Format::Compare),
+/// A report that a word and a pattern ask for.
+#[derive(Clone, Copy, Debug, PartialEq, Eq)]
+pub enum PatternFormat {
+    Peek,
+    List,
+}
+
+/// The formats. `text` and `top` are one.
+pub static FORMATS: [HelpRow<Format>; 15] = [
+    HelpRow::Lines(b"Formats, one at most; without one the shell starts:\n"),
+    HelpRow::Option(
+        Named(b"top", Format::Flag(FlagFormat::Top)),
+        b", -text                  the functions with the largest own values",
+    ),
+    HelpRow::Option(Named(b"text", Format::Flag(FlagFormat::Top)), b""),
+    HelpRow::Option(
+        Named(b"tree", Format::Flag(FlagFormat::Tree)),
+        b"                        each function between its callers and callees",
+    ),
+    HelpRow::Option(
+        Named(b"peek", Format::Pattern(PatternFormat::Peek)),
+        b"=PATTERN                the same for the functions that the pattern finds",
+    ),
+    HelpRow::Option(
+        Named(b"list", Format::Pattern(PatternFormat::List)),
+        b"=PATTERN                values by source line, for the functions that the
+                               pattern finds",
+    ),
+    HelpRow::Option(
+        Named(b"traces", Format::Flag(FlagFormat::Traces)),
+        b"                      each sample with its stack",
+    ),
+    HelpRow::Option(
+        Named(b"tags", Format::Flag(FlagFormat::Tags)),
+        b"                        values by label",
+    ),
+    HelpRow::Option(
+        Named(b"raw", Format::Flag(FlagFormat::Raw)),
+        b"                         the profile as text",
+    ),
+    HelpRow::Option(
+        Named(b"comments", Format::Flag(FlagFormat::Comments)),
+        b"                    the comments of the profile",
+    ),
+    HelpRow::Option(
+        Named(b"proto", Format::Flag(FlagFormat::Proto)),
+        b"                       the profile as it was filtered, as protobuf",
+    ),
+    HelpRow::Option(
+        Named(b"folded", Format::Flag(FlagFormat::Folded)),
+        b"                      the value of each path, for flame graph programs",
+    ),
+    HelpRow::Option(
+        Named(b"table", Format::Flag(FlagFormat::Table)),
+        b"                       the values of each function, divided by tabs",
+    ),
+    HelpRow::Option(
+        Named(b"compare", Format::Flag(FlagFormat::Compare)),
+        b"                     each function before and after the change, of a
+                               profile with -diff_base",
+    ),
+    HelpRow::Lines(b"Example: pprof -top cpu.pb\n\n"),
 ];
 
 /// The format of the name.
@@ -45,39 +100,39 @@ pub static FORMATS: [Named<Format>; 13] = [
 pub fn format_named(name: &[u8]) -> Option<Format>
     ensures { result ≡ format_named name.now }
 {
-    value_named(&FORMATS, name)
+    option_in(&FORMATS, name)
 }
 
-impl Format {
-    /// Whether a pattern belongs to it.
-    pub fn takes_pattern(self) -> bool
-        ensures { result ≡ takes_pattern self }
+impl FlagFormat {
+    /// The report.
+    pub fn report(self) -> Report
+        ensures report { result ≡ flag_report self }
+        ensures plain { own_pattern result ≡ None }
     {
         match self {
-            Format::Peek | Format::List => true,
-            Format::Top | Format::Tree | Format::Traces | Format::Tags => false,
-            Format::Raw | Format::Comments | Format::Proto => false,
-            Format::Folded | Format::Table | Format::Compare => false,
+            FlagFormat::Top => Report::Top,
+            FlagFormat::Tree => Report::Tree,
+            FlagFormat::Traces => Report::Traces,
+            FlagFormat::Tags => Report::Tags,
+            FlagFormat::Raw => Report::Raw,
+            FlagFormat::Comments => Report::Comments,
+            FlagFormat::Proto => Report::Proto,
+            FlagFormat::Folded => Report::Folded,
+            FlagFormat::Table => Report::Table,
+            FlagFormat::Compare => Report::Compare,
         }
     }
+}
 
-    /// The report, of the pattern where one belongs to it.
+impl PatternFormat {
+    /// The report of the pattern.
     pub fn report(self, pattern: Text) -> Report
-        ensures { result ≡ report_of_format self pattern }
+        ensures report { result ≡ pattern_report self pattern }
+        ensures patterned { own_pattern result ≡ Some pattern }
     {
         match self {
-            Format::Top => Report::Top,
-            Format::Tree => Report::Tree,
-            Format::Peek => Report::Peek(pattern),
-            Format::Traces => Report::Traces,
-            Format::Tags => Report::Tags,
-            Format::Raw => Report::Raw,
-            Format::Comments => Report::Comments,
-            Format::Proto => Report::Proto,
-            Format::List => Report::List(pattern),
-            Format::Folded => Report::Folded,
-            Format::Table => Report::Table,
-            Format::Compare => Report::Compare,
+            PatternFormat::Peek => Report::Peek(pattern),
+            PatternFormat::List => Report::List(pattern),
         }
     }
 }

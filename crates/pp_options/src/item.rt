@@ -1,7 +1,7 @@
 //! What one word asks for, or an option together with the word that is its value.
 ghost use Rattle.std.specs.Prelude.{◌≡◌, option_map, Err, IfOk, IfSome, IsTrue};
 ghost use Rattle.pp_options.specs.declared.usage.UsageRefusal.TheVariants as refusals;
-ghost use Rattle.pp_options.specs.Items.{word_fault, AnswersAt, is_fair_item, is_true_word, setting_of_choice, chosen, selected_type, pattern_report, report_with, item_with, valued_item, flag_item, option_item, item_of};
+ghost use Rattle.pp_options.specs.Items.{word_fault, AnswersAt, is_fair_item, is_true_word, setting_of_choice, chosen, selected_type, report_with, item_with, valued_item, flag_item, option_item, item_of};
 ghost use Rattle.pp_options.specs.Conditions.{is_fair_number, has_pattern};
 ghost use Rattle.pp_options.specs.Settings.{is_fitting};
 ghost use Rattle.pp_options.specs.Values.{whole_number};
@@ -157,25 +157,14 @@ fn report_with(alloc: Global, format: Format, value: &[u8]) -> Result<Option<Rep
     ensures report { IfOk result (λ report. report ≡ report_with format value.now) }
     ensures patterned { IfOk result (λ report. IsTrue (has_pattern report)) }
 {
-    if format.takes_pattern() {
-        return pattern_report(alloc, format, value);
+    match format {
+        Format::Flag(flag) if is_true_word(value) => Ok(Some(flag.report())),
+        Format::Pattern(format) if !value.is_empty() => {
+            let pattern = Text::from_slice(alloc, value)?;
+            Ok(Some(format.report(pattern)))
+        }
+        Format::Flag(_) | Format::Pattern(_) => Ok(None),
     }
-    if is_true_word(value) {
-        Ok(Some(format.report(Text::new(alloc))))
-    } else {
-        Ok(None)
-    }
-}
-
-fn pattern_report(alloc: Global, format: Format, pattern: &[u8]) -> Result<Option<Report>, Memory>
-    ensures report { IfOk result (λ report. report ≡ pattern_report format pattern.now) }
-    ensures patterned { IfOk result (λ report. IsTrue (has_pattern report)) }
-{
-    if pattern.is_empty() {
-        return Ok(None);
-    }
-    let pattern = Text::from_slice(alloc, pattern)?;
-    Ok(Some(format.report(pattern)))
 }
 
 // The number of samples that are made.

@@ -25,19 +25,17 @@ mod variable;
 mod words;
 
 pub use assigning::{SetRefusal, set};
-pub use format::{FORMATS, Format, format_named};
+pub use format::{FlagFormat, Format, PatternFormat, format_named};
 pub use help::{SHELL_HELP, Topic, topic_asked, write_topic};
 pub use listing::write_options;
 pub use name::{Choice, OptionName, choice_named, option_named};
 pub use origin::Origin;
 pub use plan::Plan;
-pub use sample_type::{SAMPLE_TYPES, SampleType, sample_type_named};
+pub use sample_type::{SampleType, sample_type_named};
 pub use setting::{Setting, setting_of};
 pub use table::{Named, value_named};
 pub use text::is;
 pub use usage::{UsageFault, UsageKind, UsageRefusal};
 pub use value::whole_number;
-pub use variable::{
-    FlagVariable, FractionVariable, TextVariable, VARIABLES, Variable, variable_named,
-};
+pub use variable::{FlagVariable, FractionVariable, TextVariable, Variable, variable_named};
 pub use words::read_words;

@@ -1,13 +1,13 @@
 //! The list of variables with their values.
-ghost use Rattle.std.specs.Prelude.{◌≡◌, ◌++◌, ◌<◌, map, OnOk, OnErr, decimal};
+ghost use Rattle.std.specs.Prelude.{◌≡◌, ◌++◌, ◌<◌, OnOk, OnErr, decimal};
 ghost use Rattle.std.specs.Fmt.{signed_decimal};
 ghost use Rattle.std.specs.List.{flat_map};
 ghost use Rattle.pp_base.specs.Grew.{Grew};
-ghost use Rattle.pp_options.specs.Tables.{row_of};
 ghost use Rattle.pp_options.specs.Listing.{options_text, option_line, variable_text, sort_text, grain_text, truth_text, flag_in, fraction_in, text_in, fraction_text, decimals_text, without_zeros};
 
-use crate::table::Named;
-use crate::{FlagVariable, FractionVariable, TextVariable, VARIABLES, Variable};
+use crate::table::HelpRow;
+use crate::variable::VARIABLES;
+use crate::{FlagVariable, FractionVariable, TextVariable, Variable};
 use itoa::Buffer;
 use pp_base::{Fraction, Memory, Text, whole_or_nothing};
 use pp_model::{Config, Grain, Sort};
@@ -24,22 +24,24 @@ pub fn write_options(config: &Config, out: &mut Text) -> Result<(), Memory>
 }
 
 // Without memory the text has gained some of it.
-fn put_lines(config: &Config, variables: &[Named<Variable>], out: &mut Text) -> Result<(), Memory>
-    ensures ok { OnOk result
-        (out.new ≡ out.old ++ flat_map (option_line config.now) (map row_of variables.now)) }
+fn put_lines(config: &Config, rows: &[HelpRow<Variable>], out: &mut Text) -> Result<(), Memory>
+    ensures ok { OnOk result (out.new ≡ out.old ++ flat_map (option_line config.now) rows.now) }
     ensures err { OnErr result (Grew out.old out.new) }
 {
-    for variable in variables {
-        put_line(config, variable, out)?;
+    for row in rows {
+        put_line(config, row, out)?;
     }
     Ok(())
 }
 
 // Without memory the text has gained some of it.
-fn put_line(config: &Config, variable: &Named<Variable>, out: &mut Text) -> Result<(), Memory>
-    ensures ok { OnOk result (out.new ≡ out.old ++ option_line config.now (row_of variable.now)) }
+fn put_line(config: &Config, row: &HelpRow<Variable>, out: &mut Text) -> Result<(), Memory>
+    ensures ok { OnOk result (out.new ≡ out.old ++ option_line config.now row.now) }
     ensures err { OnErr result (Grew out.old out.new) }
 {
+    let HelpRow::Option(variable, _) = row else {
+        return Ok(());
+    };
     out.extend(variable.0)?;
     out.extend(b"=")?;
     put_value(config, variable.1, out)?;

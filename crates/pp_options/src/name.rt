@@ -1,8 +1,8 @@
-//! The names of options.
+//! The names of options, and what the help tells of those of sources and bases.
 ghost use Rattle.std.specs.Prelude.{◌≡◌};
 ghost use Rattle.pp_options.specs.Names.{choice_named, option_named, needs_value};
 
-use crate::table::{Named, value_named};
+use crate::table::{HelpRow, Named, option_in};
 use crate::value::{grain_named, sort_named};
 use crate::{Format, SampleType, Variable, format_named, sample_type_named, variable_named};
 use pp_model::{BaseKind, Grain, Sort};
@@ -26,12 +26,26 @@ pub enum OptionName {
     Normalize,
 }
 
-// The names of what is neither a variable nor a choice nor a sample type nor a format.
-static OTHERS: [Named<OptionName>; 4] = [
-    Named(b"base", OptionName::Base(BaseKind::Base)),
-    Named(b"diff_base", OptionName::Base(BaseKind::DiffBase)),
-    Named(b"gen", OptionName::Gen),
-    Named(b"normalize", OptionName::Normalize),
+/// The options that say which profiles are read.
+pub static SOURCES: [HelpRow<OptionName>; 6] = [
+    HelpRow::Lines(b"Sources and bases, 256 at most; each may be repeated:\n"),
+    HelpRow::Option(
+        Named(b"gen", OptionName::Gen),
+        b"=N                       a source that is made, of 1 to 1000000 samples",
+    ),
+    HelpRow::Option(
+        Named(b"base", OptionName::Base(BaseKind::Base)),
+        b"=PATH                   a profile that is subtracted",
+    ),
+    HelpRow::Option(
+        Named(b"diff_base", OptionName::Base(BaseKind::DiffBase)),
+        b"=PATH              the same, and percentages are of the base",
+    ),
+    HelpRow::Option(
+        Named(b"normalize", OptionName::Normalize),
+        b"                   scale the sources to the sums of the bases first",
+    ),
+    HelpRow::Lines(b"Example: pprof -top -diff_base=before.pb after.pb\n\n"),
 ];
 
 /// The choice of the name: an order or a granularity.
@@ -62,7 +76,7 @@ pub fn option_named(name: &[u8]) -> Option<OptionName>
     if let Some(format) = format_named(name) {
         return Some(OptionName::Format(format));
     }
-    value_named(&OTHERS, name)
+    option_in(&SOURCES, name)
 }
 
 impl OptionName {
@@ -74,7 +88,8 @@ impl OptionName {
             OptionName::Variable(Variable::Flag(_)) => false,
             OptionName::Variable(_) => true,
             OptionName::Choice(_) | OptionName::SampleType(_) => false,
-            OptionName::Format(format) => format.takes_pattern(),
+            OptionName::Format(Format::Pattern(_)) => true,
+            OptionName::Format(Format::Flag(_)) => false,
             OptionName::Base(_) | OptionName::Gen => true,
             OptionName::Normalize => false,
         }

@@ -7,9 +7,9 @@ use crate::text::is;
 use pp_model::{Grain, Sort};
 use pp_units::number_within;
 
-static SORTS: [Named<Sort>; 2] = [Named(b"flat", Sort::Flat), Named(b"cum", Sort::Cum)];
+pub static SORTS: [Named<Sort>; 2] = [Named(b"flat", Sort::Flat), Named(b"cum", Sort::Cum)];
 
-static GRAINS: [Named<Grain>; 5] = [
+pub static GRAINS: [Named<Grain>; 5] = [
     Named(b"functions", Grain::Functions),
     Named(b"filefunctions", Grain::FileFunctions),
     Named(b"files", Grain::Files),
@@ -17,7 +17,7 @@ static GRAINS: [Named<Grain>; 5] = [
     Named(b"addresses", Grain::Addresses),
 ];
 
-static TRUTHS: [Named<bool>; 10] = [
+pub static TRUTHS: [Named<bool>; 10] = [
     Named(b"true", true),
     Named(b"t", true),
     Named(b"yes", true),

@@ -5,15 +5,12 @@ use Rattle.pp_model.specs.declared.profile.Profile.{Profile}
 use Rattle.pp_model.specs.declared.verdicts.Slot.{Slot}
 use Rattle.pp_model.specs.declared.verdicts.Slot.TheVariants as slots
 use Rattle.pp_model.specs.Finders.{Finders}
+use Rattle.pp_model.specs.ReportFacts.{variable_name}
 use Rattle.pp_count.specs.Matches.{matches_of}
 
 -- the line on an option without a match
 abbrev pub note : List ℕ → List ℕ
 note option = codes "pprof: " ++ option ++ codes " matched no samples\n"
-
--- the note on the option of this name and value, where it isn't empty and has no match
-unfoldable pub note_unless : Bool → List ℕ → List ℕ → List ℕ
-note_unless matched option value = if length value == 0 || matched then [] else note option
 
 -- the place of a slot in their order
 abbrev pub place_of : Slot → ℕ
@@ -33,22 +30,27 @@ place_of slots.Own = 10
 abbrev pub has_match : List Bool → Slot → Bool
 has_match matched slot = slice_index_or matched (place_of slot) true
 
+-- the note on the variable of this slot and value, where it isn't empty and has no match
+unfoldable pub note_unless : List Bool → Slot → List ℕ → List ℕ
+note_unless matched slot value =
+    if length value == 0 || has_match matched slot then [] else note (variable_name slot)
+
 -- the notes on the patterns of frames, by which options match
 abbrev pub frame_notes : Config → List Bool → List ℕ
 frame_notes config matched =
-    note_unless (has_match matched slots.Focus) (codes "focus") config.focus
-    ++ note_unless (has_match matched slots.Ignore) (codes "ignore") config.ignore
-    ++ note_unless (has_match matched slots.Hide) (codes "hide") config.hide
-    ++ note_unless (has_match matched slots.Show) (codes "show") config.show
-    ++ note_unless (has_match matched slots.ShowFrom) (codes "show_from") config.show_from
+    note_unless matched slots.Focus config.focus
+    ++ note_unless matched slots.Ignore config.ignore
+    ++ note_unless matched slots.Hide config.hide
+    ++ note_unless matched slots.Show config.show
+    ++ note_unless matched slots.ShowFrom config.show_from
 
 -- the notes on the patterns of labels, likewise
 abbrev pub tag_notes : Config → List Bool → List ℕ
 tag_notes config matched =
-    note_unless (has_match matched slots.TagFocus) (codes "tagfocus") config.tagfocus
-    ++ note_unless (has_match matched slots.TagIgnore) (codes "tagignore") config.tagignore
-    ++ note_unless (has_match matched slots.TagShow) (codes "tagshow") config.tagshow
-    ++ note_unless (has_match matched slots.TagHide) (codes "taghide") config.taghide
+    note_unless matched slots.TagFocus config.tagfocus
+    ++ note_unless matched slots.TagIgnore config.tagignore
+    ++ note_unless matched slots.TagShow config.tagshow
+    ++ note_unless matched slots.TagHide config.taghide
 
 -- The notes by which options match: focus, ignore, hide, show, show_from, tagfocus,
 -- tagignore, prune_from (which is never noted), tagshow and taghide.

@@ -20,56 +20,32 @@ pub fn notes_by(alloc: Global, config: &Config, matched: &[bool]) -> Result<Text
 fn put_frame_notes(config: &Config, matched: &[bool], notes: &mut Text) -> Result<(), Memory>
     ensures { IfOk result (λ _. notes.new ≡ notes.old ++ frame_notes config.now matched.now) }
 {
-    put_note(matched, Slot::Focus, b"focus", &config.focus, notes)?;
-    put_note(matched, Slot::Ignore, b"ignore", &config.ignore, notes)?;
-    put_note(matched, Slot::Hide, b"hide", &config.hide, notes)?;
-    put_note(matched, Slot::Show, b"show", &config.show, notes)?;
-    put_note(
-        matched,
-        Slot::ShowFrom,
-        b"show_from",
-        &config.show_from,
-        notes,
-    )
+    put_note(matched, Slot::Focus, &config.focus, notes)?;
+    put_note(matched, Slot::Ignore, &config.ignore, notes)?;
+    put_note(matched, Slot::Hide, &config.hide, notes)?;
+    put_note(matched, Slot::Show, &config.show, notes)?;
+    put_note(matched, Slot::ShowFrom, &config.show_from, notes)
 }
 
 fn put_tag_notes(config: &Config, matched: &[bool], notes: &mut Text) -> Result<(), Memory>
     ensures { IfOk result (λ _. notes.new ≡ notes.old ++ tag_notes config.now matched.now) }
 {
-    put_note(
-        matched,
-        Slot::TagFocus,
-        b"tagfocus",
-        &config.tagfocus,
-        notes,
-    )?;
-    put_note(
-        matched,
-        Slot::TagIgnore,
-        b"tagignore",
-        &config.tagignore,
-        notes,
-    )?;
-    put_note(matched, Slot::TagShow, b"tagshow", &config.tagshow, notes)?;
-    put_note(matched, Slot::TagHide, b"taghide", &config.taghide, notes)
+    put_note(matched, Slot::TagFocus, &config.tagfocus, notes)?;
+    put_note(matched, Slot::TagIgnore, &config.tagignore, notes)?;
+    put_note(matched, Slot::TagShow, &config.tagshow, notes)?;
+    put_note(matched, Slot::TagHide, &config.taghide, notes)
 }
 
-// The note on the option of this name and value, whose pattern has the slot.
+// The note on the variable of this slot and value.
 #[tactic(auto, unfolding(crate::specs::Notes::note_unless))]
-fn put_note(
-    matched: &[bool],
-    slot: Slot,
-    name: &[u8],
-    value: &Text,
-    notes: &mut Text,
-) -> Result<(), Memory>
-    ensures { IfOk result (λ _. notes.new ≡ notes.old
-        ++ note_unless (has_match matched.now slot) name.now value.now) }
+fn put_note(matched: &[bool], slot: Slot, value: &Text, notes: &mut Text) -> Result<(), Memory>
+    ensures { IfOk result
+        (λ _. notes.new ≡ notes.old ++ note_unless matched.now slot value.now) }
 {
     if value.len() == 0 || has_match(matched, slot) {
         return Ok(());
     }
-    put_line(name, notes)
+    put_line(slot.name(), notes)
 }
 
 fn put_line(name: &[u8], notes: &mut Text) -> Result<(), Memory>

@@ -1,41 +1,32 @@
 -- Commands: the words of a line that is no assignment.
-use Rattle.std.specs.Prelude.{ℕ, ℤ, pos, negsuc, Bool, true, false, ◌&&◌, List, [], ◌∷◌, drop, length, Option, Some, None, Result, Ok, Err, codes, if◌then◌else◌}
+use Rattle.std.specs.Prelude.{ℕ, ℤ, pos, negsuc, Bool, true, false, ◌&&◌, List, [], ◌∷◌, drop, length, Option, Some, None, Result, Ok, Err, if◌then◌else◌}
 use Rattle.std.specs.Char.{is_ascii_digit}
 use Rattle.pp_model.specs.declared.config.Sort.TheVariants.{Cum}
 use Rattle.pp_model.specs.declared.config.Config.{Config}
 use Rattle.pp_model.specs.declared.report.Report.{Report}
 use Rattle.pp_model.specs.ReportFacts.{is_short, is_of_labels}
 use Rattle.pp_options.specs.declared.format.Format.{Format}
+use Rattle.pp_options.specs.declared.format.Format.TheVariants.{Flag, Pattern}
 use Rattle.pp_options.specs.declared.setting.Setting.TheVariants as settings
 use Rattle.pp_options.specs.declared.variable.TextVariable.{TextVariable}
 use Rattle.pp_options.specs.declared.variable.TextVariable.TheVariants as texts
 use Rattle.pp_options.specs.Ends.{without_end}
-use Rattle.pp_options.specs.Formats.{format_named, takes_pattern, report_of_format}
+use Rattle.pp_options.specs.Formats.{format_named, flag_report, pattern_report}
 use Rattle.pp_options.specs.Settings.{assigned}
-use Rattle.pp_options.specs.Tables.{Row, row, value_named}
+use Rattle.pp_options.specs.Tables.{value_named}
 use Rattle.pp_shell.specs.declared.command.Command.{Command}
 use Rattle.pp_shell.specs.declared.command.Command.TheVariants as commands
 use Rattle.pp_shell.specs.declared.fault.LineFault.{LineFault}
 use Rattle.pp_shell.specs.declared.fault.LineFault.TheVariants.{UnknownCommand, MissingArgument}
+use Rattle.pp_shell.specs.declared.name.TheConstants.{PLAINS}
 use Rattle.pp_shell.specs.declared.name.Plain.{Plain}
 use Rattle.pp_shell.specs.declared.name.Plain.TheVariants.{Quit, Options, Help}
 use Rattle.pp_shell.specs.declared.narrowing.Narrowing.{Narrowing}
 use Rattle.pp_shell.specs.Arguments.{arguments, together}
 
--- the commands that take no words
-abbrev pub plains : List (Row Plain)
-plains =
-    row (codes "q") Quit
-    ∷ row (codes "quit") Quit
-    ∷ row (codes "exit") Quit
-    ∷ row (codes "o") Options
-    ∷ row (codes "options") Options
-    ∷ row (codes "help") Help
-    ∷ []
-
 -- the command of the name, where it takes no words
 unfoldable pub plain_named : List ℕ → Option Plain
-plain_named name = value_named plains name
+plain_named name = value_named PLAINS name
 
 -- such a command
 abbrev pub plain_command : Plain → Command
@@ -92,16 +83,11 @@ run_with report c (Ok n) = Ok (commands.Run report (narrowed report n c) n.outpu
 abbrev pub run : Report → List (List ℕ) → Config → Result Command LineFault
 run report words c = run_with report c (together (arguments words))
 
--- a report whose pattern is the first of the words
-abbrev pub pattern_command : Format → List ℕ → List (List ℕ) → Config → Result Command LineFault
-pattern_command format name [] c = Err (MissingArgument name)
-pattern_command format name (pattern ∷ words) c = run (report_of_format format pattern) words c
-
--- a report with its words
+-- a report with its words, of which the first is its pattern where it has one
 abbrev pub report : Format → List ℕ → List (List ℕ) → Config → Result Command LineFault
-report format name words c =
-    if takes_pattern format then pattern_command format name words c
-    else run (report_of_format format []) words c
+report (Flag flag) name words c = run (flag_report flag) words c
+report (Pattern format) name [] c = Err (MissingArgument name)
+report (Pattern format) name (pattern ∷ words) c = run (pattern_report format pattern) words c
 
 -- a report, where the name is a format's; `first` is the whole first word
 abbrev pub format_command : List ℕ → List ℕ → Option Format → List (List ℕ) → Config

@@ -142,14 +142,16 @@ fn report(
 ) -> Result<Command, LineRefusal>
     ensures { AnswersLine (report format name.now (map (λ w. w.now) words.now) config.now) result }
 {
-    if !format.takes_pattern() {
-        return run(alloc, format.report(Text::new(alloc)), words, config);
+    match format {
+        Format::Flag(flag) => run(alloc, flag.report(), words, config),
+        Format::Pattern(format) => {
+            let [pattern, rest @ ..] = words else {
+                return missing_argument(alloc, name);
+            };
+            let pattern = Text::from_slice(alloc, pattern)?;
+            run(alloc, format.report(pattern), rest, config)
+        }
     }
-    let [pattern, rest @ ..] = words else {
-        return missing_argument(alloc, name);
-    };
-    let pattern = Text::from_slice(alloc, pattern)?;
-    run(alloc, format.report(pattern), rest, config)
 }
 
 fn unknown_command(alloc: Global, word: &[u8]) -> Result<Command, LineRefusal>

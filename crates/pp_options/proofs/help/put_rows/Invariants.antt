@@ -1,0 +1,7 @@
+use Rattle.std.proofs.Common.{◌≡◌, ◌++◌, take}
+use Rattle.std.specs.List.{flat_map}
+use Rattle.pp_options.specs.Help.{row_text}
+use Rattle.pp_options.proofs.help.put_rows.Given as goal
+
+abbrev pub invariant-loop-row : goal.invariant-loop-row
+invariant-loop-row g l = l.out ≡ l.fn.out ++ flat_map row_text (take l.row-index l.rows)
