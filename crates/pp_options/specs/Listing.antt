@@ -2,14 +2,13 @@
 use Rattle.std.specs.Prelude.{ℕ, ◌+◌, ◌==◌, Bool, true, false, List, [], ◌++◌, drop, decimal, codes, if◌then◌else◌}
 use Rattle.std.specs.Fmt.{signed_decimal}
 use Rattle.std.specs.List.{flat_map}
+use Rattle.std.specs.Option.{option_map_or}
 use Rattle.pp_base.specs.declared.fraction.Fraction.{Fraction as BaseFraction}
 use Rattle.pp_model.specs.declared.config.Sort.{Sort as Order}
 use Rattle.pp_model.specs.declared.config.Sort.TheVariants.{Flat, Cum}
 use Rattle.pp_model.specs.declared.config.Grain.{Grain}
 use Rattle.pp_model.specs.declared.config.Grain.TheVariants.{Functions, FileFunctions, Files, Lines, Addresses}
 use Rattle.pp_model.specs.declared.config.Config.{Config}
-use Rattle.pp_options.specs.declared.table.HelpRow.{HelpRow}
-use Rattle.pp_options.specs.declared.table.HelpRow.TheVariants as rows
 use Rattle.pp_options.specs.declared.variable.TheConstants.{VARIABLES}
 use Rattle.pp_options.specs.declared.variable.FlagVariable.{FlagVariable}
 use Rattle.pp_options.specs.declared.variable.FlagVariable.TheVariants as flags
@@ -20,6 +19,7 @@ use Rattle.pp_options.specs.declared.variable.TextVariable.TheVariants as texts
 use Rattle.pp_options.specs.declared.variable.Variable.{Variable}
 use Rattle.pp_options.specs.declared.variable.Variable.TheVariants.{Sort, Granularity, Flag, Nodecount, Fraction, Text, DivideBy, Workers}
 use Rattle.pp_options.specs.Ends.{without_end}
+use Rattle.pp_options.specs.Tables.{HelpRow}
 
 -- how an order is spelled
 abbrev pub sort_text : Order → List ℕ
@@ -103,9 +103,8 @@ variable_text c Workers = decimal c.workers
 
 -- a line `NAME=VALUE` for the variable of a row, where it is one
 abbrev pub option_line : Config → HelpRow Variable → List ℕ
-option_line c (rows.Lines lines) = []
-option_line c (rows.Option named help) =
-    named.0.now ++ codes "=" ++ variable_text c named.1 ++ codes "\n"
+option_line c row =
+    option_map_or (λ v. v.0.now ++ codes "=" ++ variable_text c v.1 ++ codes "\n") row.0 []
 
 -- a line for each variable, in their order
 unfoldable pub options_text : Config → List ℕ

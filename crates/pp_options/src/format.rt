@@ -3,7 +3,7 @@ ghost use Rattle.std.specs.Prelude.{◌≡◌, None, Some};
 ghost use Rattle.pp_model.specs.ReportFacts.{own_pattern};
 ghost use Rattle.pp_options.specs.Formats.{format_named, flag_report, pattern_report};
 
-use crate::table::{HelpRow, Named, option_in};
+use crate::table::{HelpRow, option_in};
 use pp_base::Text;
 use pp_model::Report;
 
@@ -40,59 +40,62 @@ pub enum PatternFormat {
 
 /// The formats. `text` and `top` are one.
 pub static FORMATS: [HelpRow<Format>; 15] = [
-    HelpRow::Lines(b"Formats, one at most; without one the shell starts:\n"),
-    HelpRow::Option(
-        Named(b"top", Format::Flag(FlagFormat::Top)),
+    (
+        None,
+        b"Formats, one at most; without one the shell starts:\n",
+    ),
+    (
+        Some((b"top", Format::Flag(FlagFormat::Top))),
         b", -text                  the functions with the largest own values",
     ),
-    HelpRow::Option(Named(b"text", Format::Flag(FlagFormat::Top)), b""),
-    HelpRow::Option(
-        Named(b"tree", Format::Flag(FlagFormat::Tree)),
+    (Some((b"text", Format::Flag(FlagFormat::Top))), b""),
+    (
+        Some((b"tree", Format::Flag(FlagFormat::Tree))),
         b"                        each function between its callers and callees",
     ),
-    HelpRow::Option(
-        Named(b"peek", Format::Pattern(PatternFormat::Peek)),
+    (
+        Some((b"peek", Format::Pattern(PatternFormat::Peek))),
         b"=PATTERN                the same for the functions that the pattern finds",
     ),
-    HelpRow::Option(
-        Named(b"list", Format::Pattern(PatternFormat::List)),
+    (
+        Some((b"list", Format::Pattern(PatternFormat::List))),
         b"=PATTERN                values by source line, for the functions that the
                                pattern finds",
     ),
-    HelpRow::Option(
-        Named(b"traces", Format::Flag(FlagFormat::Traces)),
+    (
+        Some((b"traces", Format::Flag(FlagFormat::Traces))),
         b"                      each sample with its stack",
     ),
-    HelpRow::Option(
-        Named(b"tags", Format::Flag(FlagFormat::Tags)),
+    (
+        Some((b"tags", Format::Flag(FlagFormat::Tags))),
         b"                        values by label",
     ),
-    HelpRow::Option(
-        Named(b"raw", Format::Flag(FlagFormat::Raw)),
+    (
+        Some((b"raw", Format::Flag(FlagFormat::Raw))),
         b"                         the profile as text",
     ),
-    HelpRow::Option(
-        Named(b"comments", Format::Flag(FlagFormat::Comments)),
+    (
+        Some((b"comments", Format::Flag(FlagFormat::Comments))),
         b"                    the comments of the profile",
     ),
-    HelpRow::Option(
-        Named(b"proto", Format::Flag(FlagFormat::Proto)),
+    (
+        Some((b"proto", Format::Flag(FlagFormat::Proto))),
         b"                       the profile as it was filtered, as protobuf",
     ),
-    HelpRow::Option(
-        Named(b"folded", Format::Flag(FlagFormat::Folded)),
+    (
+        Some((b"folded", Format::Flag(FlagFormat::Folded))),
         b"                      the value of each path, for flame graph programs",
     ),
-    HelpRow::Option(
-        Named(b"table", Format::Flag(FlagFormat::Table)),
+    (
+        Some((b"table", Format::Flag(FlagFormat::Table))),
         b"                       the values of each function, divided by tabs",
     ),
-    HelpRow::Option(
-        Named(b"compare", Format::Flag(FlagFormat::Compare)),
+    (
+        Some((b"compare", Format::Flag(FlagFormat::Compare))),
         b"                     each function before and after the change, of a
                                profile with -diff_base",
     ),
-    HelpRow::Lines(b"Example: pprof -top cpu.pb\n\n"),
+    (None, b"Example: pprof -top cpu.pb\n\n"),
 ];
 
 /// The format of the name.

@@ -1,7 +1,8 @@
 //! What the program tells of itself.
-ghost use Rattle.std.specs.Prelude.{◌≡◌, ◌++◌, OnOk, OnErr};
+ghost use Rattle.std.specs.Prelude.{◌≡◌, ◌++◌, map, OnOk, OnErr};
 ghost use Rattle.std.specs.List.{flat_map};
 ghost use Rattle.pp_base.specs.Grew.{Grew};
+ghost use Rattle.pp_options.specs.Tables.{row_of};
 ghost use Rattle.pp_options.specs.Help.{topic_asked, topic_text, row_text, option_text};
 ghost use Rattle.pp_options.specs.declared.help.Topic.TheVariants as topics;
 
@@ -20,11 +21,11 @@ pub enum Topic {
 
 /// The words that ask for a topic.
 pub static TOPICS: [Named<Topic>; 5] = [
-    Named(b"--help", Topic::Help),
-    Named(b"-help", Topic::Help),
-    Named(b"-h", Topic::Help),
-    Named(b"--version", Topic::Version),
-    Named(b"-version", Topic::Version),
+    (b"--help", Topic::Help),
+    (b"-help", Topic::Help),
+    (b"-h", Topic::Help),
+    (b"--version", Topic::Version),
+    (b"-version", Topic::Version),
 ];
 
 /// The line that tells the version.
@@ -104,7 +105,7 @@ fn put_help(out: &mut Text) -> Result<(), Memory>
 
 // Without memory the text has gained some of it.
 fn put_rows<T>(rows: &[HelpRow<T>], out: &mut Text) -> Result<(), Memory>
-    ensures ok { OnOk result (out.new ≡ out.old ++ flat_map row_text rows.now) }
+    ensures ok { OnOk result (out.new ≡ out.old ++ flat_map row_text (map row_of rows.now)) }
     ensures err { OnErr result (Grew out.old out.new) }
 {
     for row in rows {
@@ -115,12 +116,12 @@ fn put_rows<T>(rows: &[HelpRow<T>], out: &mut Text) -> Result<(), Memory>
 
 // Without memory the text has gained some of it.
 fn put_row<T>(row: &HelpRow<T>, out: &mut Text) -> Result<(), Memory>
-    ensures ok { OnOk result (out.new ≡ out.old ++ row_text row.now) }
+    ensures ok { OnOk result (out.new ≡ out.old ++ row_text (row_of row.now)) }
     ensures err { OnErr result (Grew out.old out.new) }
 {
     match row {
-        HelpRow::Lines(lines) => out.extend(lines),
-        HelpRow::Option(named, help) => put_option(named.0, help, out),
+        (None, lines) => out.extend(lines),
+        (Some(named), help) => put_option(named.0, help, out),
     }
 }
 

@@ -1,8 +1,9 @@
 //! The list of variables with their values.
-ghost use Rattle.std.specs.Prelude.{◌≡◌, ◌++◌, ◌<◌, OnOk, OnErr, decimal};
+ghost use Rattle.std.specs.Prelude.{◌≡◌, ◌++◌, ◌<◌, map, OnOk, OnErr, decimal};
 ghost use Rattle.std.specs.Fmt.{signed_decimal};
 ghost use Rattle.std.specs.List.{flat_map};
 ghost use Rattle.pp_base.specs.Grew.{Grew};
+ghost use Rattle.pp_options.specs.Tables.{row_of};
 ghost use Rattle.pp_options.specs.Listing.{options_text, option_line, variable_text, sort_text, grain_text, truth_text, flag_in, fraction_in, text_in, fraction_text, decimals_text, without_zeros};
 
 use crate::table::HelpRow;
@@ -25,7 +26,8 @@ pub fn write_options(config: &Config, out: &mut Text) -> Result<(), Memory>
 
 // Without memory the text has gained some of it.
 fn put_lines(config: &Config, rows: &[HelpRow<Variable>], out: &mut Text) -> Result<(), Memory>
-    ensures ok { OnOk result (out.new ≡ out.old ++ flat_map (option_line config.now) rows.now) }
+    ensures ok { OnOk result
+        (out.new ≡ out.old ++ flat_map (option_line config.now) (map row_of rows.now)) }
     ensures err { OnErr result (Grew out.old out.new) }
 {
     for row in rows {
@@ -36,10 +38,10 @@ fn put_lines(config: &Config, rows: &[HelpRow<Variable>], out: &mut Text) -> Res
 
 // Without memory the text has gained some of it.
 fn put_line(config: &Config, row: &HelpRow<Variable>, out: &mut Text) -> Result<(), Memory>
-    ensures ok { OnOk result (out.new ≡ out.old ++ option_line config.now row.now) }
+    ensures ok { OnOk result (out.new ≡ out.old ++ option_line config.now (row_of row.now)) }
     ensures err { OnErr result (Grew out.old out.new) }
 {
-    let HelpRow::Option(variable, _) = row else {
+    let Some(variable) = &row.0 else {
         return Ok(());
     };
     out.extend(variable.0)?;

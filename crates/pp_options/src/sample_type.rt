@@ -17,12 +17,12 @@ pub enum SampleType {
 
 /// The words that select them. The word of `delay` is `total_delay`.
 pub static SAMPLE_TYPES: [Named<SampleType>; 6] = [
-    Named(b"inuse_space", SampleType::InuseSpace),
-    Named(b"inuse_objects", SampleType::InuseObjects),
-    Named(b"alloc_space", SampleType::AllocSpace),
-    Named(b"alloc_objects", SampleType::AllocObjects),
-    Named(b"contentions", SampleType::Contentions),
-    Named(b"total_delay", SampleType::Delay),
+    (b"inuse_space", SampleType::InuseSpace),
+    (b"inuse_objects", SampleType::InuseObjects),
+    (b"alloc_space", SampleType::AllocSpace),
+    (b"alloc_objects", SampleType::AllocObjects),
+    (b"contentions", SampleType::Contentions),
+    (b"total_delay", SampleType::Delay),
 ];
 
 /// The sample type that the word selects.

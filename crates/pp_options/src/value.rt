@@ -7,27 +7,27 @@ use crate::text::is;
 use pp_model::{Grain, Sort};
 use pp_units::number_within;
 
-pub static SORTS: [Named<Sort>; 2] = [Named(b"flat", Sort::Flat), Named(b"cum", Sort::Cum)];
+pub static SORTS: [Named<Sort>; 2] = [(b"flat", Sort::Flat), (b"cum", Sort::Cum)];
 
 pub static GRAINS: [Named<Grain>; 5] = [
-    Named(b"functions", Grain::Functions),
-    Named(b"filefunctions", Grain::FileFunctions),
-    Named(b"files", Grain::Files),
-    Named(b"lines", Grain::Lines),
-    Named(b"addresses", Grain::Addresses),
+    (b"functions", Grain::Functions),
+    (b"filefunctions", Grain::FileFunctions),
+    (b"files", Grain::Files),
+    (b"lines", Grain::Lines),
+    (b"addresses", Grain::Addresses),
 ];
 
 pub static TRUTHS: [Named<bool>; 10] = [
-    Named(b"true", true),
-    Named(b"t", true),
-    Named(b"yes", true),
-    Named(b"y", true),
-    Named(b"1", true),
-    Named(b"false", false),
-    Named(b"f", false),
-    Named(b"no", false),
-    Named(b"n", false),
-    Named(b"0", false),
+    (b"true", true),
+    (b"t", true),
+    (b"yes", true),
+    (b"y", true),
+    (b"1", true),
+    (b"false", false),
+    (b"f", false),
+    (b"no", false),
+    (b"n", false),
+    (b"0", false),
 ];
 
 /// The order of the name: `flat` or `cum`.

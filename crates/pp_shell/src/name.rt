@@ -18,12 +18,12 @@ pub enum Plain {
 
 /// The commands that take no words, by name.
 pub static PLAINS: [Named<Plain>; 6] = [
-    Named(b"q", Plain::Quit),
-    Named(b"quit", Plain::Quit),
-    Named(b"exit", Plain::Quit),
-    Named(b"o", Plain::Options),
-    Named(b"options", Plain::Options),
-    Named(b"help", Plain::Help),
+    (b"q", Plain::Quit),
+    (b"quit", Plain::Quit),
+    (b"exit", Plain::Quit),
+    (b"o", Plain::Options),
+    (b"options", Plain::Options),
+    (b"help", Plain::Help),
 ];
 
 /// The command of the name, where it takes no words.
