@@ -42,13 +42,13 @@ def constant(name):
 def names_in(file, table):
     """The names of a table."""
     found = re.search(r"static " + table + r":.*?= \[(.*?)\];", (SOURCES / file).read_text(), re.S)
-    return re.findall(r'Named\(\s*b"([^"]*)"', found[1])
+    return re.findall(r'\(\s*b"([a-z0-9_]*)",', found[1])
 
 
 def described():
     """Pairs of the words of an option and what it is for, in the order of the help."""
     for file in ("format.rt", "name.rt", "variable.rt"):
-        row = r'Option\(\s*Named\(\s*b"([^"]*)",[^"]*\),\s*b"([^"]+)"'
+        row = r'Option\(\s*\(\s*b"([^"]*)",[^"]*\),\s*b"([^"]+)"'
         for name, told in re.findall(row, (SOURCES / file).read_text()):
             words, about = re.split(r"  +", f"-{name}{told}", maxsplit=1)
             yield words, " ".join(about.split())

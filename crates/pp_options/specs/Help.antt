@@ -1,12 +1,13 @@
 -- What the program tells of itself.
 use Rattle.std.specs.Prelude.{ℕ, ◌==◌, List, [], ◌∷◌, ◌++◌, length, Option, None, codes, if◌then◌else◌}
 use Rattle.std.specs.List.{flat_map}
-use Rattle.std.specs.Option.{option_map_or}
 use Rattle.pp_options.specs.declared.format.TheConstants.{FORMATS}
 use Rattle.pp_options.specs.declared.help.TheConstants.{TOPICS, VERSION, USAGE, SHELL_HEADING, SHELL_HELP, SHELL_EXAMPLE}
 use Rattle.pp_options.specs.declared.help.Topic.{Topic}
 use Rattle.pp_options.specs.declared.help.Topic.TheVariants.{Help, Version}
 use Rattle.pp_options.specs.declared.name.TheConstants.{SOURCES}
+use Rattle.pp_options.specs.declared.table.Row.TheVariants.{Lines}
+use Rattle.pp_options.specs.declared.table.Row.TheVariants as rows
 use Rattle.pp_options.specs.declared.variable.TheConstants.{VARIABLES}
 use Rattle.pp_options.specs.Tables.{HelpRow, value_named}
 
@@ -23,7 +24,8 @@ option_text name help =
 
 -- what the help has of a row
 abbrev pub row_text : {T : Type 0} → HelpRow T → List ℕ
-row_text row = option_map_or (λ named. option_text named.0.now row.1.now) row.0 row.1.now
+row_text (Lines lines) = lines.now
+row_text (rows.Option named help) = option_text named.0.now help.now
 
 -- what is told of a topic
 unfoldable pub topic_text : Topic → List ℕ

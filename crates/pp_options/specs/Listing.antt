@@ -2,13 +2,14 @@
 use Rattle.std.specs.Prelude.{ℕ, ◌+◌, ◌==◌, Bool, true, false, List, [], ◌++◌, drop, decimal, codes, if◌then◌else◌}
 use Rattle.std.specs.Fmt.{signed_decimal}
 use Rattle.std.specs.List.{flat_map}
-use Rattle.std.specs.Option.{option_map_or}
 use Rattle.pp_base.specs.declared.fraction.Fraction.{Fraction as BaseFraction}
 use Rattle.pp_model.specs.declared.config.Sort.{Sort as Order}
 use Rattle.pp_model.specs.declared.config.Sort.TheVariants.{Flat, Cum}
 use Rattle.pp_model.specs.declared.config.Grain.{Grain}
 use Rattle.pp_model.specs.declared.config.Grain.TheVariants.{Functions, FileFunctions, Files, Lines, Addresses}
 use Rattle.pp_model.specs.declared.config.Config.{Config}
+use Rattle.pp_options.specs.declared.table.Row.TheVariants.{Lines}
+use Rattle.pp_options.specs.declared.table.Row.TheVariants as rows
 use Rattle.pp_options.specs.declared.variable.TheConstants.{VARIABLES}
 use Rattle.pp_options.specs.declared.variable.FlagVariable.{FlagVariable}
 use Rattle.pp_options.specs.declared.variable.FlagVariable.TheVariants as flags
@@ -103,8 +104,9 @@ variable_text c Workers = decimal c.workers
 
 -- a line `NAME=VALUE` for the variable of a row, where it is one
 abbrev pub option_line : Config → HelpRow Variable → List ℕ
-option_line c row =
-    option_map_or (λ v. v.0.now ++ codes "=" ++ variable_text c v.1 ++ codes "\n") row.0 []
+option_line c (Lines lines) = []
+option_line c (rows.Option named help) =
+    named.0.now ++ codes "=" ++ variable_text c named.1 ++ codes "\n"
 
 -- a line for each variable, in their order
 unfoldable pub options_text : Config → List ℕ

@@ -3,7 +3,7 @@ ghost use Rattle.std.specs.Prelude.{◌≡◌, None, Some};
 ghost use Rattle.pp_model.specs.ReportFacts.{own_pattern};
 ghost use Rattle.pp_options.specs.Formats.{format_named, flag_report, pattern_report};
 
-use crate::table::{HelpRow, option_in};
+use crate::table::{HelpRow, Row, option_in};
 use pp_base::Text;
 use pp_model::Report;
 
@@ -40,62 +40,59 @@ pub enum PatternFormat {
 
 /// The formats. `text` and `top` are one.
 pub static FORMATS: [HelpRow<Format>; 15] = [
-    (
-        None,
-        b"Formats, one at most; without one the shell starts:\n",
-    ),
-    (
-        Some((b"top", Format::Flag(FlagFormat::Top))),
+    Row::Lines(b"Formats, one at most; without one the shell starts:\n"),
+    Row::Option(
+        (b"top", Format::Flag(FlagFormat::Top)),
         b", -text                  the functions with the largest own values",
     ),
-    (Some((b"text", Format::Flag(FlagFormat::Top))), b""),
-    (
-        Some((b"tree", Format::Flag(FlagFormat::Tree))),
+    Row::Option((b"text", Format::Flag(FlagFormat::Top)), b""),
+    Row::Option(
+        (b"tree", Format::Flag(FlagFormat::Tree)),
         b"                        each function between its callers and callees",
     ),
-    (
-        Some((b"peek", Format::Pattern(PatternFormat::Peek))),
+    Row::Option(
+        (b"peek", Format::Pattern(PatternFormat::Peek)),
         b"=PATTERN                the same for the functions that the pattern finds",
     ),
-    (
-        Some((b"list", Format::Pattern(PatternFormat::List))),
+    Row::Option(
+        (b"list", Format::Pattern(PatternFormat::List)),
         b"=PATTERN                values by source line, for the functions that the
                                pattern finds",
     ),
-    (
-        Some((b"traces", Format::Flag(FlagFormat::Traces))),
+    Row::Option(
+        (b"traces", Format::Flag(FlagFormat::Traces)),
         b"                      each sample with its stack",
     ),
-    (
-        Some((b"tags", Format::Flag(FlagFormat::Tags))),
+    Row::Option(
+        (b"tags", Format::Flag(FlagFormat::Tags)),
         b"                        values by label",
     ),
-    (
-        Some((b"raw", Format::Flag(FlagFormat::Raw))),
+    Row::Option(
+        (b"raw", Format::Flag(FlagFormat::Raw)),
         b"                         the profile as text",
     ),
-    (
-        Some((b"comments", Format::Flag(FlagFormat::Comments))),
+    Row::Option(
+        (b"comments", Format::Flag(FlagFormat::Comments)),
         b"                    the comments of the profile",
     ),
-    (
-        Some((b"proto", Format::Flag(FlagFormat::Proto))),
+    Row::Option(
+        (b"proto", Format::Flag(FlagFormat::Proto)),
         b"                       the profile as it was filtered, as protobuf",
     ),
-    (
-        Some((b"folded", Format::Flag(FlagFormat::Folded))),
+    Row::Option(
+        (b"folded", Format::Flag(FlagFormat::Folded)),
         b"                      the value of each path, for flame graph programs",
     ),
-    (
-        Some((b"table", Format::Flag(FlagFormat::Table))),
+    Row::Option(
+        (b"table", Format::Flag(FlagFormat::Table)),
         b"                       the values of each function, divided by tabs",
     ),
-    (
-        Some((b"compare", Format::Flag(FlagFormat::Compare))),
+    Row::Option(
+        (b"compare", Format::Flag(FlagFormat::Compare)),
         b"                     each function before and after the change, of a
                                profile with -diff_base",
     ),
-    (None, b"Example: pprof -top cpu.pb\n\n"),
+    Row::Lines(b"Example: pprof -top cpu.pb\n\n"),
 ];
 
 /// The format of the name.

@@ -8,7 +8,7 @@ ghost use Rattle.pp_options.specs.declared.help.Topic.TheVariants as topics;
 
 use crate::format::FORMATS;
 use crate::name::SOURCES;
-use crate::table::{HelpRow, Named, value_named};
+use crate::table::{HelpRow, Named, Row, value_named};
 use crate::variable::VARIABLES;
 use pp_base::{Memory, Text, whole_or_nothing};
 
@@ -120,8 +120,8 @@ fn put_row<T>(row: &HelpRow<T>, out: &mut Text) -> Result<(), Memory>
     ensures err { OnErr result (Grew out.old out.new) }
 {
     match row {
-        (None, lines) => out.extend(lines),
-        (Some(named), help) => put_option(named.0, help, out),
+        Row::Lines(lines) => out.extend(lines),
+        Row::Option(named, help) => put_option(named.0, help, out),
     }
 }
 

@@ -6,7 +6,7 @@ ghost use Rattle.pp_base.specs.Grew.{Grew};
 ghost use Rattle.pp_options.specs.Tables.{row_of};
 ghost use Rattle.pp_options.specs.Listing.{options_text, option_line, variable_text, sort_text, grain_text, truth_text, flag_in, fraction_in, text_in, fraction_text, decimals_text, without_zeros};
 
-use crate::table::HelpRow;
+use crate::table::{HelpRow, Row};
 use crate::variable::VARIABLES;
 use crate::{FlagVariable, FractionVariable, TextVariable, Variable};
 use itoa::Buffer;
@@ -41,7 +41,7 @@ fn put_line(config: &Config, row: &HelpRow<Variable>, out: &mut Text) -> Result<
     ensures ok { OnOk result (out.new ≡ out.old ++ option_line config.now (row_of row.now)) }
     ensures err { OnErr result (Grew out.old out.new) }
 {
-    let Some(variable) = &row.0 else {
+    let Row::Option(variable, _) = row else {
         return Ok(());
     };
     out.extend(variable.0)?;

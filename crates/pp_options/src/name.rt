@@ -2,7 +2,7 @@
 ghost use Rattle.std.specs.Prelude.{◌≡◌};
 ghost use Rattle.pp_options.specs.Names.{choice_named, option_named, needs_value};
 
-use crate::table::{HelpRow, option_in};
+use crate::table::{HelpRow, Row, option_in};
 use crate::value::{grain_named, sort_named};
 use crate::{Format, SampleType, Variable, format_named, sample_type_named, variable_named};
 use pp_model::{BaseKind, Grain, Sort};
@@ -28,30 +28,24 @@ pub enum OptionName {
 
 /// The options that say which profiles are read.
 pub static SOURCES: [HelpRow<OptionName>; 6] = [
-    (
-        None,
-        b"Sources and bases, 256 at most; each may be repeated:\n",
-    ),
-    (
-        Some((b"gen", OptionName::Gen)),
+    Row::Lines(b"Sources and bases, 256 at most; each may be repeated:\n"),
+    Row::Option(
+        (b"gen", OptionName::Gen),
         b"=N                       a source that is made, of 1 to 1000000 samples",
     ),
-    (
-        Some((b"base", OptionName::Base(BaseKind::Base))),
+    Row::Option(
+        (b"base", OptionName::Base(BaseKind::Base)),
         b"=PATH                   a profile that is subtracted",
     ),
-    (
-        Some((b"diff_base", OptionName::Base(BaseKind::DiffBase))),
+    Row::Option(
+        (b"diff_base", OptionName::Base(BaseKind::DiffBase)),
         b"=PATH              the same, and percentages are of the base",
     ),
-    (
-        Some((b"normalize", OptionName::Normalize)),
+    Row::Option(
+        (b"normalize", OptionName::Normalize),
         b"                   scale the sources to the sums of the bases first",
     ),
-    (
-        None,
-        b"Example: pprof -top -diff_base=before.pb after.pb\n\n",
-    ),
+    Row::Lines(b"Example: pprof -top -diff_base=before.pb after.pb\n\n"),
 ];
 
 /// The choice of the name: an order or a granularity.

@@ -7,10 +7,18 @@ use crate::text::is;
 /// A name as it is written, and what it stands for. Letters of either case differ.
 pub type Named<T> = (&'static [u8], T);
 
-/// A row of the help. Without an option its text is lines between options. With one it is what stands behind the name:
-/// the default or what stands for the value, and what the option is for, from 28 bytes behind the name's first on.
-/// Where it is empty, another row tells of the option.
-pub type HelpRow<T> = (Option<Named<T>>, &'static [u8]);
+/// A row of the help: lines, or an option with what stands behind its name. Its types are parameters, since definitions
+/// can't name a table of a type that holds references of its own.
+#[derive(Clone, Copy, Debug)]
+pub enum Row<O, T> {
+    Lines(T),
+    Option(O, T),
+}
+
+/// A row of the help on options of this kind. What stands behind a name is the default or what stands for the value, and
+/// then what the option is for, from 28 bytes behind the name's first on. Where it is empty, another row tells of the
+/// option.
+pub type HelpRow<T> = Row<Named<T>, &'static [u8]>;
 
 /// The value that the table has for the name, the first where it has several.
 pub fn value_named<T: Copy>(table: &[Named<T>], name: &[u8]) -> Option<T>
@@ -30,7 +38,7 @@ pub fn option_in<T: Copy>(rows: &[HelpRow<T>], name: &[u8]) -> Option<T>
 {
     for row in rows {
         match row {
-            (Some((known, value)), _) if is(known, name) => return Some(*value),
+            Row::Option((known, value), _) if is(known, name) => return Some(*value),
             _ => {}
         }
     }
