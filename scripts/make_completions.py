@@ -45,13 +45,18 @@ def names_in(file, table):
     return re.findall(r'\(\s*b"([a-z0-9_]*)",', found[1])
 
 
+def told():
+    """What the help has of the tables of options."""
+    code = "".join((SOURCES / file).read_text() for file in ("format.rt", "name.rt", "variable.rt"))
+    rows = re.findall(r'Row::(\w+)\(\s*b"([^"]*)"', code)
+    return "".join({"Option": "  -", "Also": ", -"}.get(kind, "") + text for kind, text in rows).replace("\\n", "\n")
+
+
 def described():
-    """Pairs of the words of an option and what it is for, in the order of the help."""
-    for file in ("format.rt", "name.rt", "variable.rt"):
-        row = r'Option\(\s*\(\s*b"([^"]*)",[^"]*\),\s*b"([^"]+)"'
-        for name, told in re.findall(row, (SOURCES / file).read_text()):
-            words, about = re.split(r"  +", f"-{name}{told}", maxsplit=1)
-            yield words, " ".join(about.split())
+    """Pairs of the words of an option and what it is for, from the help's lines."""
+    for entry in re.findall(r"^  (-.*(?:\n {8,}.*)*)", told(), re.M):
+        words, about = re.split(r"  +", " ".join(entry.split("\n")).strip(), maxsplit=1)
+        yield words, " ".join(about.split())
 
 
 def option_of(word, about):

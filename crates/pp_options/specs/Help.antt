@@ -1,15 +1,14 @@
 -- What the program tells of itself.
-use Rattle.std.specs.Prelude.{ℕ, ◌==◌, List, [], ◌∷◌, ◌++◌, length, Option, None, codes, if◌then◌else◌}
+use Rattle.std.specs.Prelude.{ℕ, List, [], ◌∷◌, ◌++◌, Option, None, codes}
 use Rattle.std.specs.List.{flat_map}
 use Rattle.pp_options.specs.declared.format.TheConstants.{FORMATS}
 use Rattle.pp_options.specs.declared.help.TheConstants.{TOPICS, VERSION, USAGE, SHELL_HEADING, SHELL_HELP, SHELL_EXAMPLE}
 use Rattle.pp_options.specs.declared.help.Topic.{Topic}
 use Rattle.pp_options.specs.declared.help.Topic.TheVariants.{Help, Version}
 use Rattle.pp_options.specs.declared.name.TheConstants.{SOURCES}
-use Rattle.pp_options.specs.declared.table.Row.TheVariants.{Lines}
 use Rattle.pp_options.specs.declared.table.Row.TheVariants as rows
 use Rattle.pp_options.specs.declared.variable.TheConstants.{VARIABLES}
-use Rattle.pp_options.specs.Tables.{HelpRow, value_named}
+use Rattle.pp_options.specs.Tables.{OptionRow, value_named}
 
 -- the topic that the words ask for, where they are one word alone
 unfoldable pub topic_asked : List (List ℕ) → Option Topic
@@ -17,15 +16,11 @@ topic_asked [] = None
 topic_asked (word ∷ []) = value_named TOPICS word
 topic_asked (word ∷ next ∷ words) = None
 
--- an option with what stands behind its name, or nothing where another row tells of it
-abbrev pub option_text : List ℕ → List ℕ → List ℕ
-option_text name help =
-    if length help == 0 then [] else codes "  -" ++ name ++ help ++ codes "\n"
-
 -- what the help has of a row
-abbrev pub row_text : {T : Type 0} → HelpRow T → List ℕ
-row_text (Lines lines) = lines.now
-row_text (rows.Option named help) = option_text named.0.now help.now
+abbrev pub row_text : {T : Type 0} → OptionRow T → List ℕ
+row_text (rows.Text text) = text.now
+row_text (rows.Option name value) = codes "  -" ++ name.now
+row_text (rows.Also name value) = codes ", -" ++ name.now
 
 -- what is told of a topic
 unfoldable pub topic_text : Topic → List ℕ

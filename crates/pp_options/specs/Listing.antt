@@ -8,7 +8,6 @@ use Rattle.pp_model.specs.declared.config.Sort.TheVariants.{Flat, Cum}
 use Rattle.pp_model.specs.declared.config.Grain.{Grain}
 use Rattle.pp_model.specs.declared.config.Grain.TheVariants.{Functions, FileFunctions, Files, Lines, Addresses}
 use Rattle.pp_model.specs.declared.config.Config.{Config}
-use Rattle.pp_options.specs.declared.table.Row.TheVariants.{Lines}
 use Rattle.pp_options.specs.declared.table.Row.TheVariants as rows
 use Rattle.pp_options.specs.declared.variable.TheConstants.{VARIABLES}
 use Rattle.pp_options.specs.declared.variable.FlagVariable.{FlagVariable}
@@ -20,7 +19,7 @@ use Rattle.pp_options.specs.declared.variable.TextVariable.TheVariants as texts
 use Rattle.pp_options.specs.declared.variable.Variable.{Variable}
 use Rattle.pp_options.specs.declared.variable.Variable.TheVariants.{Sort, Granularity, Flag, Nodecount, Fraction, Text, DivideBy, Workers}
 use Rattle.pp_options.specs.Ends.{without_end}
-use Rattle.pp_options.specs.Tables.{HelpRow}
+use Rattle.pp_options.specs.Tables.{OptionRow}
 
 -- how an order is spelled
 abbrev pub sort_text : Order → List ℕ
@@ -102,11 +101,12 @@ variable_text c (Text which) = text_in c which
 variable_text c DivideBy = decimal c.divide_by
 variable_text c Workers = decimal c.workers
 
--- a line `NAME=VALUE` for the variable of a row, where it is one
-abbrev pub option_line : Config → HelpRow Variable → List ℕ
-option_line c (Lines lines) = []
-option_line c (rows.Option named help) =
-    named.0.now ++ codes "=" ++ variable_text c named.1 ++ codes "\n"
+-- a line `NAME=VALUE` for an option, and nothing for another row
+abbrev pub option_line : Config → OptionRow Variable → List ℕ
+option_line c (rows.Option name variable) =
+    name.now ++ codes "=" ++ variable_text c variable ++ codes "\n"
+option_line c (rows.Text text) = []
+option_line c (rows.Also name variable) = []
 
 -- a line for each variable, in their order
 unfoldable pub options_text : Config → List ℕ

@@ -3,7 +3,6 @@ use Rattle.std.specs.Prelude.{ℕ, List, Option, Some, None, option_map, find, b
 use Rattle.std.specs.Borrow.{Bor}
 use Rattle.std.specs.List.{filter_map}
 use Rattle.pp_options.specs.declared.table.Row.{Row}
-use Rattle.pp_options.specs.declared.table.Row.TheVariants.{Lines}
 use Rattle.pp_options.specs.declared.table.Row.TheVariants as rows
 
 -- a text, as a table of the code has it
@@ -14,19 +13,24 @@ Bytes = record { now : List ℕ }
 abbrev pub Named : Type 0 → Type 0
 Named T = Bytes × T
 
--- a row of the help
-abbrev pub HelpRow : Type 0 → Type 0
-HelpRow T = Row (Named T) Bytes
+-- a row of a table of options
+abbrev pub OptionRow : Type 0 → Type 0
+OptionRow T = Row Bytes T
+
+-- a text that a body reads
+abbrev pub bytes_of : Bor (List ℕ) → Bytes
+bytes_of text = record { now = text.now }
 
 module _ {T : Type 0} where
-  -- an entry that a body reads
+  -- an entry of a table that a body reads
   abbrev pub entry_of : Bor (List ℕ) × T → Named T
-  entry_of named = (record { now = named.0.now }, named.1)
+  entry_of named = (bytes_of named.0, named.1)
 
-  -- a row that a body reads
-  abbrev pub row_of : Row (Bor (List ℕ) × T) (Bor (List ℕ)) → HelpRow T
-  row_of (Lines lines) = Lines (record { now = lines.now })
-  row_of (rows.Option named help) = rows.Option (entry_of named) (record { now = help.now })
+  -- a row of a table of options that a body reads
+  abbrev pub row_of : Row (Bor (List ℕ)) T → OptionRow T
+  row_of (rows.Text text) = rows.Text (bytes_of text)
+  row_of (rows.Option name value) = rows.Option (bytes_of name) value
+  row_of (rows.Also name value) = rows.Also (bytes_of name) value
 
   -- the value of the first entry of the name
   abbrev pub value_named : List (Named T) → List ℕ → Option T
@@ -34,11 +38,12 @@ module _ {T : Type 0} where
       option_map (λ (named : Named T). named.1)
       (find (λ (named : Named T). bytes_eq named.0.now name) table)
 
-  -- the option of a row, where it is one
-  abbrev pub option_of : HelpRow T → Option (Named T)
-  option_of (Lines lines) = None
-  option_of (rows.Option named help) = Some named
+  -- the name of a row, and what it stands for
+  abbrev pub named_by : OptionRow T → Option (Named T)
+  named_by (rows.Text text) = None
+  named_by (rows.Option name value) = Some (name, value)
+  named_by (rows.Also name value) = Some (name, value)
 
   -- what the first option of the name stands for
-  abbrev pub option_in : List (HelpRow T) → List ℕ → Option T
-  option_in table name = value_named (filter_map option_of table) name
+  abbrev pub option_in : List (OptionRow T) → List ℕ → Option T
+  option_in table name = value_named (filter_map named_by table) name

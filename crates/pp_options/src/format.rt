@@ -3,7 +3,7 @@ ghost use Rattle.std.specs.Prelude.{◌≡◌, None, Some};
 ghost use Rattle.pp_model.specs.ReportFacts.{own_pattern};
 ghost use Rattle.pp_options.specs.Formats.{format_named, flag_report, pattern_report};
 
-use crate::table::{HelpRow, Row, option_in};
+use crate::table::{OptionRow, Row, option_in};
 use pp_base::Text;
 use pp_model::Report;
 
@@ -39,60 +39,40 @@ pub enum PatternFormat {
 }
 
 /// The formats. `text` and `top` are one.
-pub static FORMATS: [HelpRow<Format>; 15] = [
-    Row::Lines(b"Formats, one at most; without one the shell starts:\n"),
-    Row::Option(
-        (b"top", Format::Flag(FlagFormat::Top)),
-        b", -text                  the functions with the largest own values",
-    ),
-    Row::Option((b"text", Format::Flag(FlagFormat::Top)), b""),
-    Row::Option(
-        (b"tree", Format::Flag(FlagFormat::Tree)),
-        b"                        each function between its callers and callees",
-    ),
-    Row::Option(
-        (b"peek", Format::Pattern(PatternFormat::Peek)),
-        b"=PATTERN                the same for the functions that the pattern finds",
-    ),
-    Row::Option(
-        (b"list", Format::Pattern(PatternFormat::List)),
+pub static FORMATS: [OptionRow<Format>; 27] = [
+    Row::Text(b"Formats, one at most; without one the shell starts:\n"),
+    Row::Option(b"top", Format::Flag(FlagFormat::Top)),
+    Row::Also(b"text", Format::Flag(FlagFormat::Top)),
+    Row::Text(b"                  the functions with the largest own values\n"),
+    Row::Option(b"tree", Format::Flag(FlagFormat::Tree)),
+    Row::Text(b"                        each function between its callers and callees\n"),
+    Row::Option(b"peek", Format::Pattern(PatternFormat::Peek)),
+    Row::Text(b"=PATTERN                the same for the functions that the pattern finds\n"),
+    Row::Option(b"list", Format::Pattern(PatternFormat::List)),
+    Row::Text(
         b"=PATTERN                values by source line, for the functions that the
-                               pattern finds",
+                               pattern finds\n",
     ),
-    Row::Option(
-        (b"traces", Format::Flag(FlagFormat::Traces)),
-        b"                      each sample with its stack",
-    ),
-    Row::Option(
-        (b"tags", Format::Flag(FlagFormat::Tags)),
-        b"                        values by label",
-    ),
-    Row::Option(
-        (b"raw", Format::Flag(FlagFormat::Raw)),
-        b"                         the profile as text",
-    ),
-    Row::Option(
-        (b"comments", Format::Flag(FlagFormat::Comments)),
-        b"                    the comments of the profile",
-    ),
-    Row::Option(
-        (b"proto", Format::Flag(FlagFormat::Proto)),
-        b"                       the profile as it was filtered, as protobuf",
-    ),
-    Row::Option(
-        (b"folded", Format::Flag(FlagFormat::Folded)),
-        b"                      the value of each path, for flame graph programs",
-    ),
-    Row::Option(
-        (b"table", Format::Flag(FlagFormat::Table)),
-        b"                       the values of each function, divided by tabs",
-    ),
-    Row::Option(
-        (b"compare", Format::Flag(FlagFormat::Compare)),
+    Row::Option(b"traces", Format::Flag(FlagFormat::Traces)),
+    Row::Text(b"                      each sample with its stack\n"),
+    Row::Option(b"tags", Format::Flag(FlagFormat::Tags)),
+    Row::Text(b"                        values by label\n"),
+    Row::Option(b"raw", Format::Flag(FlagFormat::Raw)),
+    Row::Text(b"                         the profile as text\n"),
+    Row::Option(b"comments", Format::Flag(FlagFormat::Comments)),
+    Row::Text(b"                    the comments of the profile\n"),
+    Row::Option(b"proto", Format::Flag(FlagFormat::Proto)),
+    Row::Text(b"                       the profile as it was filtered, as protobuf\n"),
+    Row::Option(b"folded", Format::Flag(FlagFormat::Folded)),
+    Row::Text(b"                      the value of each path, for flame graph programs\n"),
+    Row::Option(b"table", Format::Flag(FlagFormat::Table)),
+    Row::Text(b"                       the values of each function, divided by tabs\n"),
+    Row::Option(b"compare", Format::Flag(FlagFormat::Compare)),
+    Row::Text(
         b"                     each function before and after the change, of a
-                               profile with -diff_base",
+                               profile with -diff_base\n",
     ),
-    Row::Lines(b"Example: pprof -top cpu.pb\n\n"),
+    Row::Text(b"Example: pprof -top cpu.pb\n\n"),
 ];
 
 /// The format of the name.

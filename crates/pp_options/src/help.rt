@@ -3,12 +3,13 @@ ghost use Rattle.std.specs.Prelude.{◌≡◌, ◌++◌, map, OnOk, OnErr};
 ghost use Rattle.std.specs.List.{flat_map};
 ghost use Rattle.pp_base.specs.Grew.{Grew};
 ghost use Rattle.pp_options.specs.Tables.{row_of};
-ghost use Rattle.pp_options.specs.Help.{topic_asked, topic_text, row_text, option_text};
+ghost use Rattle.pp_options.specs.Help.{topic_asked, topic_text, row_text};
 ghost use Rattle.pp_options.specs.declared.help.Topic.TheVariants as topics;
 
 use crate::format::FORMATS;
+use crate::listing::put_both;
 use crate::name::SOURCES;
-use crate::table::{HelpRow, Named, Row, value_named};
+use crate::table::{Named, OptionRow, Row, value_named};
 use crate::variable::VARIABLES;
 use pp_base::{Memory, Text, whole_or_nothing};
 
@@ -104,7 +105,7 @@ fn put_help(out: &mut Text) -> Result<(), Memory>
 }
 
 // Without memory the text has gained some of it.
-fn put_rows<T>(rows: &[HelpRow<T>], out: &mut Text) -> Result<(), Memory>
+fn put_rows<T>(rows: &[OptionRow<T>], out: &mut Text) -> Result<(), Memory>
     ensures ok { OnOk result (out.new ≡ out.old ++ flat_map row_text (map row_of rows.now)) }
     ensures err { OnErr result (Grew out.old out.new) }
 {
@@ -115,26 +116,13 @@ fn put_rows<T>(rows: &[HelpRow<T>], out: &mut Text) -> Result<(), Memory>
 }
 
 // Without memory the text has gained some of it.
-fn put_row<T>(row: &HelpRow<T>, out: &mut Text) -> Result<(), Memory>
+fn put_row<T>(row: &OptionRow<T>, out: &mut Text) -> Result<(), Memory>
     ensures ok { OnOk result (out.new ≡ out.old ++ row_text (row_of row.now)) }
     ensures err { OnErr result (Grew out.old out.new) }
 {
     match row {
-        Row::Lines(lines) => out.extend(lines),
-        Row::Option(named, help) => put_option(named.0, help, out),
+        Row::Text(text) => out.extend(text),
+        Row::Option(name, _) => put_both(b"  -", name, out),
+        Row::Also(name, _) => put_both(b", -", name, out),
     }
-}
-
-// Without memory the text has gained some of it.
-fn put_option(name: &[u8], help: &[u8], out: &mut Text) -> Result<(), Memory>
-    ensures ok { OnOk result (out.new ≡ out.old ++ option_text name.now help.now) }
-    ensures err { OnErr result (Grew out.old out.new) }
-{
-    if help.len() == 0 {
-        return Ok(());
-    }
-    out.extend(b"  -")?;
-    out.extend(name)?;
-    out.extend(help)?;
-    out.extend(b"\n")
 }

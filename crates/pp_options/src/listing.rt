@@ -6,7 +6,7 @@ ghost use Rattle.pp_base.specs.Grew.{Grew};
 ghost use Rattle.pp_options.specs.Tables.{row_of};
 ghost use Rattle.pp_options.specs.Listing.{options_text, option_line, variable_text, sort_text, grain_text, truth_text, flag_in, fraction_in, text_in, fraction_text, decimals_text, without_zeros};
 
-use crate::table::{HelpRow, Row};
+use crate::table::{OptionRow, Row};
 use crate::variable::VARIABLES;
 use crate::{FlagVariable, FractionVariable, TextVariable, Variable};
 use itoa::Buffer;
@@ -25,7 +25,7 @@ pub fn write_options(config: &Config, out: &mut Text) -> Result<(), Memory>
 }
 
 // Without memory the text has gained some of it.
-fn put_lines(config: &Config, rows: &[HelpRow<Variable>], out: &mut Text) -> Result<(), Memory>
+fn put_lines(config: &Config, rows: &[OptionRow<Variable>], out: &mut Text) -> Result<(), Memory>
     ensures ok { OnOk result
         (out.new ≡ out.old ++ flat_map (option_line config.now) (map row_of rows.now)) }
     ensures err { OnErr result (Grew out.old out.new) }
@@ -37,16 +37,16 @@ fn put_lines(config: &Config, rows: &[HelpRow<Variable>], out: &mut Text) -> Res
 }
 
 // Without memory the text has gained some of it.
-fn put_line(config: &Config, row: &HelpRow<Variable>, out: &mut Text) -> Result<(), Memory>
+fn put_line(config: &Config, row: &OptionRow<Variable>, out: &mut Text) -> Result<(), Memory>
     ensures ok { OnOk result (out.new ≡ out.old ++ option_line config.now (row_of row.now)) }
     ensures err { OnErr result (Grew out.old out.new) }
 {
-    let Row::Option(variable, _) = row else {
+    let Row::Option(name, variable) = row else {
         return Ok(());
     };
-    out.extend(variable.0)?;
+    out.extend(name)?;
     out.extend(b"=")?;
-    put_value(config, variable.1, out)?;
+    put_value(config, *variable, out)?;
     out.extend(b"\n")
 }
 
@@ -105,8 +105,8 @@ fn put_decimals(billionths: u32, out: &mut Text) -> Result<(), Memory>
     whole_or_nothing(out, start, put)
 }
 
-// Without memory the text has gained some of it.
-fn put_both(first: &[u8], second: &[u8], out: &mut Text) -> Result<(), Memory>
+/// Appends one text and then another. Without memory the text has gained some of it.
+pub fn put_both(first: &[u8], second: &[u8], out: &mut Text) -> Result<(), Memory>
     ensures ok { OnOk result (out.new ≡ out.old ++ (first.now ++ second.now)) }
     ensures err { OnErr result (Grew out.old out.new) }
 {

@@ -2,7 +2,7 @@
 ghost use Rattle.std.specs.Prelude.{◌≡◌};
 ghost use Rattle.pp_options.specs.Names.{choice_named, option_named, needs_value};
 
-use crate::table::{HelpRow, Row, option_in};
+use crate::table::{OptionRow, Row, option_in};
 use crate::value::{grain_named, sort_named};
 use crate::{Format, SampleType, Variable, format_named, sample_type_named, variable_named};
 use pp_model::{BaseKind, Grain, Sort};
@@ -27,25 +27,17 @@ pub enum OptionName {
 }
 
 /// The options that say which profiles are read.
-pub static SOURCES: [HelpRow<OptionName>; 6] = [
-    Row::Lines(b"Sources and bases, 256 at most; each may be repeated:\n"),
-    Row::Option(
-        (b"gen", OptionName::Gen),
-        b"=N                       a source that is made, of 1 to 1000000 samples",
-    ),
-    Row::Option(
-        (b"base", OptionName::Base(BaseKind::Base)),
-        b"=PATH                   a profile that is subtracted",
-    ),
-    Row::Option(
-        (b"diff_base", OptionName::Base(BaseKind::DiffBase)),
-        b"=PATH              the same, and percentages are of the base",
-    ),
-    Row::Option(
-        (b"normalize", OptionName::Normalize),
-        b"                   scale the sources to the sums of the bases first",
-    ),
-    Row::Lines(b"Example: pprof -top -diff_base=before.pb after.pb\n\n"),
+pub static SOURCES: [OptionRow<OptionName>; 10] = [
+    Row::Text(b"Sources and bases, 256 at most; each may be repeated:\n"),
+    Row::Option(b"gen", OptionName::Gen),
+    Row::Text(b"=N                       a source that is made, of 1 to 1000000 samples\n"),
+    Row::Option(b"base", OptionName::Base(BaseKind::Base)),
+    Row::Text(b"=PATH                   a profile that is subtracted\n"),
+    Row::Option(b"diff_base", OptionName::Base(BaseKind::DiffBase)),
+    Row::Text(b"=PATH              the same, and percentages are of the base\n"),
+    Row::Option(b"normalize", OptionName::Normalize),
+    Row::Text(b"                   scale the sources to the sums of the bases first\n"),
+    Row::Text(b"Example: pprof -top -diff_base=before.pb after.pb\n\n"),
 ];
 
 /// The choice of the name: an order or a granularity.

@@ -7,18 +7,21 @@ use crate::text::is;
 /// A name as it is written, and what it stands for. Letters of either case differ.
 pub type Named<T> = (&'static [u8], T);
 
-/// A row of the help: lines, or an option with what stands behind its name. Its types are parameters, since definitions
-/// can't name a table of a type that holds references of its own.
+/// A row of a table of options. All rows in their order are the help. The type of texts is a parameter, since definitions
+/// can't name a table whose type has references of its own.
 #[derive(Clone, Copy, Debug)]
-pub enum Row<O, T> {
-    Lines(T),
-    Option(O, T),
+pub enum Row<S, T> {
+    /// A heading, an example, or what the help has behind the name of an option: the default, or what stands for the value,
+    /// and what the option is for, from 28 bytes after the name's first on.
+    Text(S),
+    /// An option by its name, and what it stands for.
+    Option(S, T),
+    /// Another name of the option before.
+    Also(S, T),
 }
 
-/// A row of the help on options of this kind. What stands behind a name is the default or what stands for the value, and
-/// then what the option is for, from 28 bytes behind the name's first on. Where it is empty, another row tells of the
-/// option.
-pub type HelpRow<T> = Row<Named<T>, &'static [u8]>;
+/// A row of a table of options of this kind.
+pub type OptionRow<T> = Row<&'static [u8], T>;
 
 /// The value that the table has for the name, the first where it has several.
 pub fn value_named<T: Copy>(table: &[Named<T>], name: &[u8]) -> Option<T>
@@ -33,12 +36,13 @@ pub fn value_named<T: Copy>(table: &[Named<T>], name: &[u8]) -> Option<T>
 }
 
 /// What the option of the name stands for, the first where there are several.
-pub fn option_in<T: Copy>(rows: &[HelpRow<T>], name: &[u8]) -> Option<T>
+pub fn option_in<T: Copy>(rows: &[OptionRow<T>], name: &[u8]) -> Option<T>
     ensures { result ≡ option_in (map row_of rows.now) name.now }
 {
     for row in rows {
         match row {
-            Row::Option((known, value), _) if is(known, name) => return Some(*value),
+            Row::Option(known, value) if is(known, name) => return Some(*value),
+            Row::Also(known, value) if is(known, name) => return Some(*value),
             _ => {}
         }
     }
