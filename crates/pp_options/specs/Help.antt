@@ -8,7 +8,7 @@ use Rattle.pp_options.specs.declared.help.Topic.TheVariants.{Help, Version}
 use Rattle.pp_options.specs.declared.name.TheConstants.{SOURCES}
 use Rattle.pp_options.specs.declared.table.Row.TheVariants as rows
 use Rattle.pp_options.specs.declared.variable.TheConstants.{VARIABLES}
-use Rattle.pp_options.specs.Tables.{OptionRow, value_named}
+use Rattle.pp_options.specs.Tables.{TableRow, value_named}
 
 -- the topic that the words ask for, where they are one word alone
 unfoldable pub topic_asked : List (List ℕ) → Option Topic
@@ -17,7 +17,7 @@ topic_asked (word ∷ []) = value_named TOPICS word
 topic_asked (word ∷ next ∷ words) = None
 
 -- what the help has of a row
-abbrev pub row_text : {T : Type 0} → OptionRow T → List ℕ
+abbrev pub row_text : {T : Type 0} → TableRow T → List ℕ
 row_text (rows.Text text) = text.now
 row_text (rows.Option name value) = codes "  -" ++ name.now
 row_text (rows.Also name value) = codes ", -" ++ name.now

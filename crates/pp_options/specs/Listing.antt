@@ -19,7 +19,7 @@ use Rattle.pp_options.specs.declared.variable.TextVariable.TheVariants as texts
 use Rattle.pp_options.specs.declared.variable.Variable.{Variable}
 use Rattle.pp_options.specs.declared.variable.Variable.TheVariants.{Sort, Granularity, Flag, Nodecount, Fraction, Text, DivideBy, Workers}
 use Rattle.pp_options.specs.Ends.{without_end}
-use Rattle.pp_options.specs.Tables.{OptionRow}
+use Rattle.pp_options.specs.Tables.{TableRow}
 
 -- how an order is spelled
 abbrev pub sort_text : Order → List ℕ
@@ -102,7 +102,7 @@ variable_text c DivideBy = decimal c.divide_by
 variable_text c Workers = decimal c.workers
 
 -- a line `NAME=VALUE` for an option, and nothing for another row
-abbrev pub option_line : Config → OptionRow Variable → List ℕ
+abbrev pub option_line : Config → TableRow Variable → List ℕ
 option_line c (rows.Option name variable) =
     name.now ++ codes "=" ++ variable_text c variable ++ codes "\n"
 option_line c (rows.Text text) = []
