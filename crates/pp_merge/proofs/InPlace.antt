@@ -1,11 +1,10 @@
 -- A profile whose references are by place stays as it is where it stands first.
-use Rattle.std.proofs.Common.{◌≡◌, ℕ, ◌+◌, ◌<◌, ◌&&◌, Bool, true, false, ℤ, List, map, length, None, refl, sym, ap, ◌∙◌, inl, inr, arith}
+use Rattle.std.proofs.Common.{◌≡◌, ℕ, ◌+◌, ◌<◌, ◌&&◌, Bool, true, ℤ, List, map, length, None, sym, ap, ◌∙◌, inl, inr, arith}
 use Rattle.std.specs.Prelude.{◌==◌}
 use Rattle.std.specs.List.{All, list_all}
 use Rattle.std.proofs.lemmas.Bool.{and_parts, eqb-true, or_cases}
 use Rattle.std.proofs.lemmas.List.{length-map}
 use Rattle.std.proofs.lemmas.List.Sums.{AllPass-from_list_all}
-use Rattle.std.proofs.lemmas.Option.{none-some}
 use Rattle.pp_model.specs.declared.profile.ValueType.{ValueType}
 use Rattle.pp_model.specs.declared.profile.Label.{Label}
 use Rattle.pp_model.specs.declared.profile.Sample.{Sample}
@@ -15,8 +14,9 @@ use Rattle.pp_model.specs.declared.profile.Location.{Location}
 use Rattle.pp_model.specs.declared.profile.Function.{Function}
 use Rattle.pp_model.specs.declared.profile.Profile.{Profile}
 use Rattle.pp_model.specs.Lookup.{text_number}
-use Rattle.pp_model.specs.Rules.{NoRuleFails, AreNumbered, is_text, is_zero_or_in, stands_in, first_failing, zero_unless, header_texts, type_has_texts, label_has_texts, mapping_has_texts, function_has_texts, location_refers, mapping_ids, function_ids, location_ids}
+use Rattle.pp_model.specs.Rules.{NoRuleFails, AreNumbered, is_text, is_zero_or_in, stands_in, first_failing, header_texts, type_has_texts, label_has_texts, mapping_has_texts, function_has_texts, location_refers, mapping_ids, function_ids, location_ids}
 use Rattle.pp_model.proofs.CompactLemmas.{place_of, id_at}
+use Rattle.pp_model.proofs.FirstText.{no_fault}
 use Rattle.pp_model.proofs.RuleLemmas.{passes, contains_from, text_below, text_is}
 use Rattle.pp_share.specs.Behind.{behind_id}
 use Rattle.pp_share.specs.Ids.{place_id, index_of_id}
@@ -157,10 +157,6 @@ module _ (p : Profile) (valid : NoRuleFails p) (placed : IsInPlace p) where
   list_stays : {A : Type 0} (f : A → A) (test : A → Bool) → ((a : A) → test a ≡ true → f a ≡ a) → (xs : List A) → first_failing test xs ≡ None → map f xs ≡ xs
   list_stays f test agree xs none = stay f (λ x. test x ≡ true) agree xs (passes test xs none)
 
-  header_kept : (b : Bool) → zero_unless b ≡ None → b ≡ true
-  header_kept true h = refl
-  header_kept false h = absurd (none-some 0 (sym h))
-
   samples_stay : map (renumbered_sample by) p.sample ≡ p.sample
   samples_stay =
       stay (renumbered_sample by) IsKnown sample_stays p.sample
@@ -196,4 +192,4 @@ module _ (p : Profile) (valid : NoRuleFails p) (placed : IsInPlace p) where
         function = functions_stay j;
         comment = list_stays by.text (is_text p) text_stays p.comment valid.comment_text j;
       }))
-      ∙ header_stays (header_kept _ valid.header_text))
+      ∙ header_stays (no_fault _ valid.header_text))

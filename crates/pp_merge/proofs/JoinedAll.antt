@@ -236,7 +236,8 @@ module _ (get : Profile → ℤ)
       first_from (moved_behind no_sizes p) ps is ids.1 (subst (λ i. text_number i < length p.text) (sym moved) (omega (arith, below)))
       ∙ (λ j. first_nonempty ((ap (text_of final) moved ∙ words no_sizes p final (subst (Holds no_sizes p) is (holds_first p ps)) ids.0 empty few (get p)) j ∷ map (λ q. text_of q (get q)) ps))
 
-saturated_again : (z : ℤ) → saturate_to_bits 63 (saturate_to_bits 63 z) ≡ saturate_to_bits 63 z
+-- numbers that were brought into 64 bits with a sign stay as they are
+pub saturated_again : (z : ℤ) → saturate_to_bits 63 (saturate_to_bits 63 z) ≡ saturate_to_bits 63 z
 saturated_again (pos n) = let same : min (min n 9223372036854775807) 9223372036854775807 ≡ min n 9223372036854775807 = omega arith in ap pos same
 saturated_again (negsuc n) = let same : min (min n 9223372036854775807) 9223372036854775807 ≡ min n 9223372036854775807 = omega arith in ap negsuc same
 

@@ -6,7 +6,7 @@ use Rattle.std.specs.Option.{option_map, option_or}
 use Rattle.std.specs.Cmp.Lexicographic.{pointwise}
 use Rattle.std.proofs.lemmas.Bool.{eq-eqb, eqb-true, ne_eqb, cases_eq, cond-false, ltb-true, ltb-false}
 use Rattle.std.proofs.lemmas.List.{length-map}
-use Rattle.std.proofs.lemmas.List.Elements.{All-from_recursion}
+use Rattle.std.proofs.lemmas.List.Elements.{All-from_recursion, filter_passes, recursion_from_All}
 use Rattle.std.proofs.lemmas.List.FromFn.{get_or-range_with_len, length-range_with_len}
 use Rattle.std.proofs.lemmas.List.Sums.{sum_by-append, sum_by-cons, fails_before_first}
 use Rattle.std.proofs.lemmas.Option.{none-some}
@@ -47,7 +47,7 @@ use Rattle.pp_share.proofs.JoinLemmas.{behind_in}
 use Rattle.pp_merge.proofs.JoinedTables.{HasIds, Holds}
 use Rattle.pp_merge.proofs.JoinedAll.{AllHaveIds, holds_next, holds_first, whole, whole_some, whole_empty, whole_gist, whole_duration, whole_rows, whole_types}
 use Rattle.pp_share.proofs.ShareLemmas.{rows}
-use Rattle.pp_merge.proofs.SettledLemmas.{no_column}
+use Rattle.pp_merge.proofs.SettledLemmas.{each_passes, no_column}
 use Rattle.pp_merge.proofs.WrittenValid.{valid_written}
 use Rattle.pp_merge.proofs.WrittenCompact.{compact_written}
 
@@ -142,14 +142,6 @@ any_nonzero (x ∷ xs) id none is = elim (cases_eq x id) as (λ _. id ≢ 0) [
   | inr other ↦ any_nonzero xs id none.1 (ap (λ b. b || list_any (λ other. other == id) xs) (sym (ne_eqb x id other)) ∙ is)
 ]
 
-all_listed : {A : Type 0} (test : A → Bool) (xs : List A) → list_all test xs ≡ true → AllByRecursion (λ x. test x ≡ true) xs
-all_listed test [] is = tt
-all_listed test (x ∷ xs) is = by (test x) refl (all_listed test xs) is
-  where
-    by : (b : Bool) → test x ≡ b → (list_all test xs ≡ true → AllByRecursion (λ x. test x ≡ true) xs) → (b && list_all test xs) ≡ true → AllByRecursion (λ x. test x ≡ true) (x ∷ xs)
-    by true e rest h = (e, rest h)
-    by false e rest h = absurd (true≢false (sym h))
-
 module _ (final : Profile) where
   -- the samples of a profile that is joined name locations that are there
   own_refs : (after : Sizes) (q : Profile) → Holds after q final → NoRuleFails q
@@ -157,7 +149,7 @@ module _ (final : Profile) where
   own_refs after q holds valid =
       all_mapped (NamesLocations (length final.location)) (renumbered_sample (behind_ids after q)) (λ (s : Sample). list_all (stands_in (location_ids q)) s.location_id ≡ true)
       (λ s is. all_mapped (λ id. (1 ≤ id) × (id ≤ length final.location)) (behind_ids after q).location (λ id. stands_in (location_ids q) id ≡ true) here s.location_id
-      (all_listed (stands_in (location_ids q)) s.location_id is))
+      (each_passes (stands_in (location_ids q)) s.location_id is))
       q.sample (by_recursion (λ (s : Sample). list_all (stands_in (location_ids q)) s.location_id ≡ true) q.sample
       (passes (λ (s : Sample). list_all (stands_in (location_ids q)) s.location_id) q.sample valid.sample_reference))
     where
@@ -216,15 +208,7 @@ fits_contents p ps = record { rows = long; typed = λ none. no_column (contents 
     zero_long none = subst (λ n. AllByRecursion (λ s. length s.1 ≡ n) (contents p ps).samples) none long
 
     counted : AllByRecursion (λ s. counts s ≡ true) (contents p ps).samples
-    counted = passing items
-      where
-        passing : (xs : List (SampleText × List ℤ)) → AllByRecursion (λ s. counts s ≡ true) (filter counts xs)
-        passing [] = tt
-        passing (x ∷ xs) = by (counts x) refl (passing xs)
-          where
-            by : (b : Bool) → counts x ≡ b → AllByRecursion (λ s. counts s ≡ true) (filter counts xs) → AllByRecursion (λ s. counts s ≡ true) (if b then x ∷ filter counts xs else filter counts xs)
-            by true e rest = (e, rest)
-            by false e rest = rest
+    counted = recursion_from_All (λ s. counts s ≡ true) (filter counts items) (filter_passes counts items)
 
 -- Profiles that can be merged.
 module _ (p : Profile) (ps : List Profile) (valid : AllByRecursion NoRuleFails (p ∷ ps)) (agree : disagreeing p 1 ps ≡ None)

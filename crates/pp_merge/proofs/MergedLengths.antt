@@ -8,7 +8,7 @@ use Rattle.std.proofs.lemmas.Bool.{and_parts, ltb-true}
 use Rattle.std.proofs.lemmas.List.{length-map}
 use Rattle.std.proofs.lemmas.List.Concat.{length-flat_map}
 use Rattle.std.proofs.lemmas.List.Elements.{recursion_from_All, All-from_recursion}
-use Rattle.std.proofs.lemmas.List.Sums.{AllPass-from_list_all, sum_by-cons}
+use Rattle.std.proofs.lemmas.List.Sums.{sum_by-cons}
 use Rattle.std.proofs.lemmas.Option.{none-some, same_Some}
 use Rattle.std.proofs.lemmas.Slice.Eq.{bytes_eq-Decides}
 use Rattle.pp_base.proofs.Lists.{all_by}
@@ -20,6 +20,7 @@ use Rattle.pp_model.specs.declared.profile.Sample.{Sample}
 use Rattle.pp_model.specs.declared.profile.Profile.{Profile}
 use Rattle.pp_model.specs.Lookup.{text_of, location_with}
 use Rattle.pp_model.specs.Rules.{NoRuleFails, begins_empty, zero_unless, is_text, header_texts, type_has_texts, label_has_texts, mapping_has_texts, function_has_texts, stands_in, location_ids}
+use Rattle.pp_model.proofs.FirstText.{no_fault}
 use Rattle.pp_model.proofs.RuleLemmas.{passes}
 use Rattle.pp_model.specs.FirstSight.{distinct}
 use Rattle.pp_share.specs.Described.{FunctionText, MappingText, LocationText, LabelText, SampleText, function_text, mapping_text, function_found, mapping_found, line_text, label_text, location_text, location_found, sample_text, samples_found, nowhere}
@@ -35,13 +36,9 @@ use Rattle.pp_share.proofs.DistinctLemmas.{deciding_laws}
 use Rattle.pp_merge.proofs.LengthLemmas.{self_seen, distinct_within, parts_seen}
 use Rattle.pp_share.proofs.MergedMapping.{IsFound}
 use Rattle.pp_share.proofs.NumberedLemmas.{all_parts, all_both, all_mapped}
-use Rattle.pp_merge.proofs.SettledLemmas.{self_found, all_join, all_flat, all_any, all_distinct, all_some, all_filtered, all_unmapped, found_holds}
+use Rattle.pp_merge.proofs.SettledLemmas.{each_passes, self_found, all_join, all_flat, all_any, all_distinct, all_some, all_filtered, all_unmapped, found_holds}
 use Rattle.pp_merge.proofs.WrittenAgain.{at_seen}
 use Rattle.pp_merge.proofs.WrittenCompact.{location_walk, mapping_walk, function_walk}
-
--- a test that all pass, item by item
-each_passes : {A : Type 0} (test : A → Bool) (xs : List A) → list_all test xs ≡ true → AllByRecursion (λ x. test x ≡ true) xs
-each_passes test xs all = recursion_from_All (λ x. test x ≡ true) xs (AllPass-from_list_all test xs all)
 
 -- an id that stands among those of the locations is found
 is_found : (id : ℕ) (ls : List Location) → stands_in (map (λ (l : Location). l.id) ls) id ≡ true → find (λ (l : Location). l.id == id) ls ≡ None → ⊥
@@ -233,10 +230,6 @@ module _ (p : Profile) (ps : List Profile) (valid : AllByRecursion NoRuleFails (
   -- the texts of a header
   header_inside : (q : Profile) → Own q → AllByRecursion (λ i. is_text q i ≡ true) (header_texts q)
   header_inside q own = each_passes (is_text q) (header_texts q) (no_fault (list_all (is_text q) (header_texts q)) own.rules.header_text)
-    where
-      no_fault : (b : Bool) → zero_unless b ≡ None → b ≡ true
-      no_fault true h = refl
-      no_fault false h = absurd (none-some 0 (sym h))
 
   empty_there : IsOne []
   empty_there = by p.text p.text owns.0.rules.text_zero refl

@@ -1,13 +1,13 @@
 -- What merging gives is settled: nothing of it is left to be merged.
 use Rattle.std.proofs.Common.{◌≡◌, ℕ, ◌<◌, ◌^◌, Bool, true, false, true≢false, List, [], ◌∷◌, ◌++◌, map, length, get_or, refl, sym, ap, ◌∙◌, subst, arith}
-use Rattle.std.specs.Prelude.{Option, None, Some, ◌||◌, ◌==◌, find, filter, slice_get, if◌then◌else◌, ℤ, pos, negsuc}
-use Rattle.std.specs.Int.{saturate_to_bits}
-use Rattle.std.specs.List.{AllByRecursion, IsDistinct, flat_map, filter_map, cons_option, list_any}
+use Rattle.std.specs.Prelude.{Option, None, Some, ◌||◌, ◌==◌, find, filter, slice_get, if◌then◌else◌, ℤ}
+use Rattle.std.specs.List.{AllByRecursion, IsDistinct, flat_map, filter_map, cons_option, list_all, list_any}
 use Rattle.std.specs.Option.{option_map, option_map_or, option_to_list, unwrap_or}
 use Rattle.std.specs.Str.{bytes_eq}
 use Rattle.std.proofs.lemmas.List.{length-map}
 use Rattle.std.proofs.lemmas.List.Elements.{recursion_from_All, filter_passes}
 use Rattle.std.proofs.lemmas.List.Folds.{list_any_at}
+use Rattle.std.proofs.lemmas.List.Sums.{AllPass-from_list_all}
 use Rattle.std.proofs.lemmas.Map.Keys.{IsDistinct-cons, IsDistinct-head, IsDistinct-tail}
 use Rattle.std.proofs.lemmas.Map.Made.{IsDistinct-keys_filter}
 use Rattle.std.proofs.lemmas.Option.{none-some, same_Some}
@@ -31,6 +31,7 @@ use Rattle.pp_share.proofs.DistinctLemmas.{deciding_laws}
 use Rattle.pp_share.proofs.MergedMapping.{mapping_laws, IsFound, find_congr, alike_tells}
 use Rattle.pp_share.proofs.NumberedLemmas.{all_parts, all_both, all_mapped}
 use Rattle.pp_share.proofs.SumLemmas.{length-total_of}
+use Rattle.pp_merge.proofs.JoinedAll.{saturated_again}
 use Rattle.pp_merge.proofs.WrittenAgain.{map_back}
 use Rattle.pp_merge.proofs.WrittenCompact.{mapping_walk}
 
@@ -171,10 +172,9 @@ no_first : (all : List MappingText) → slice_get all 0 ≡ None → all ≡ []
 no_first [] is = refl
 no_first (m ∷ ms) is = absurd (none-some m (sym is))
 
--- numbers that were brought into 64 bits with a sign stay as they are
-saturated_again : (z : ℤ) → saturate_to_bits 63 (saturate_to_bits 63 z) ≡ saturate_to_bits 63 z
-saturated_again (pos n) = ap pos (omega arith)
-saturated_again (negsuc n) = ap negsuc (omega arith)
+-- a test that all pass, item by item
+pub each_passes : {A : Type 0} (test : A → Bool) (xs : List A) → list_all test xs ≡ true → AllByRecursion (λ x. test x ≡ true) xs
+each_passes test xs all = recursion_from_All (λ x. test x ≡ true) xs (AllPass-from_list_all test xs all)
 
 -- samples of no column don't count
 pub no_column : (samples : List (SampleText × List ℤ)) → AllByRecursion (λ s. length s.1 ≡ 0) samples → AllByRecursion (λ s. counts s ≡ true) samples → length samples ≡ 0
