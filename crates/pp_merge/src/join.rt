@@ -1,5 +1,5 @@
 //! Profiles one behind the other, as one.
-ghost use Rattle.std.specs.Prelude.{◌≡◌, ℕ, ◌+◌, ◌<◌, ◌^◌, ◌++◌, None, length, IfOk, OnOk};
+ghost use Rattle.std.specs.Prelude.{◌≡◌, ℕ, ◌+◌, ◌<◌, ◌^◌, None, length, IfOk};
 ghost use Rattle.std.specs.Bool.{OnTrue};
 ghost use Rattle.std.specs.List.{AllByRecursion};
 ghost use Rattle.pp_model.specs.Rules.{NoRuleFails, first_repeated, mapping_ids, function_ids, location_ids};
@@ -9,11 +9,10 @@ ghost use Rattle.pp_share.specs.Renumbered.{new_ids};
 ghost use Rattle.pp_merge.specs.Joined.{behind_ids, moved_behind, chained, with_header_of, first_text, no_sizes, sizes_of, joined, AreFew, IsInPlace};
 ghost use Rattle.pp_share.specs.Header.{greater, earlier};
 
-use pp_base::{List, Memory};
+use pp_base::Memory;
 use pp_model::{Profile, Valid, text_of};
 use pp_share::{Behind, Ids, Known, Renumbering, are_numbered, known_ids, renumber};
 use std::alloc::Global;
-use std::mem;
 
 /// The profiles as one, each behind those before it: their tables and comments one after the other, and the header by
 /// the rules of merging, but for the duration, which stays the first one's. References are by place.
@@ -72,7 +71,7 @@ fn joined_behind(alloc: Global, joined: Profile, p: Profile) -> Result<Profile, 
 {
     let sizes = sizes_of(&joined);
     let moved = moved_behind(alloc, &sizes, p)?;
-    let both = chain(alloc, joined, moved)?;
+    let both = chain(joined, moved)?;
     Ok(both)
 }
 
@@ -174,16 +173,16 @@ fn location_ids(alloc: Global, p: &Profile) -> Result<Vec<u64>, Memory>
 }
 
 // The tables of both, and the header of both.
-fn chain(alloc: Global, mut joined: Profile, p: Profile) -> Result<Profile, Memory>
+fn chain(mut joined: Profile, p: Profile) -> Result<Profile, Memory>
     ensures { IfOk result (λ r. r ≡ chained joined p) }
 {
     chain_header(&mut joined, &p);
-    append(alloc, &mut joined.sample, p.sample)?;
-    append(alloc, &mut joined.mapping, p.mapping)?;
-    append(alloc, &mut joined.location, p.location)?;
-    append(alloc, &mut joined.function, p.function)?;
-    append(alloc, &mut joined.text, p.text)?;
-    append(alloc, &mut joined.comment, p.comment)?;
+    joined.sample.append(p.sample)?;
+    joined.mapping.append(p.mapping)?;
+    joined.location.append(p.location)?;
+    joined.function.append(p.function)?;
+    joined.text.append(p.text)?;
+    joined.comment.append(p.comment)?;
     Ok(joined)
 }
 
@@ -233,15 +232,4 @@ fn keep_earlier(number: &mut i64, other: i64)
     if *number == 0 || other != 0 && other < *number {
         *number = other;
     }
-}
-
-// Puts the items behind those that are there.
-fn append<T: Drop>(alloc: Global, items: &mut List<T>, more: List<T>) -> Result<(), Memory>
-    ensures { OnOk result (items.new ≡ items.old ++ more) }
-{
-    let mut all = mem::replace(items, List::new(alloc)).into_vec();
-    let mut more = more.into_vec();
-    all.append(&mut more)?;
-    *items = List::from_vec(all);
-    Ok(())
 }
