@@ -18,6 +18,7 @@ use Rattle.pp_model.specs.declared.profile.Sample.{Sample}
 use Rattle.pp_model.specs.declared.profile.Profile.{Profile}
 use Rattle.pp_model.specs.Rules.{NoRuleFails, IsCompact, first_failing, begins_empty, zero_unless, stands_in, location_ids}
 use Rattle.pp_model.specs.Sizes.{absolute_sum, value_in}
+use Rattle.pp_model.proofs.FirstText.{first_empty, no_fault, some_text}
 use Rattle.pp_model.proofs.RuleLemmas.{passes}
 use Rattle.pp_merge.specs.declared.refusal.What.{What}
 use Rattle.pp_merge.specs.declared.refusal.What.TheVariants.{SampleTypes, PeriodType}
@@ -70,9 +71,7 @@ all_have_ids [] valid = tt
 all_have_ids (q ∷ qs) valid = (has_ids q valid.0, all_have_ids qs valid.1)
 
 text_start : (ts : List (List ℕ)) → zero_unless (begins_empty ts) ≡ None → (1 ≤ length ts) × (get_or ts 0 [] ≡ [])
-text_start [] is = absurd (none-some 0 (sym is))
-text_start ([] ∷ ts) is = (omega arith, refl)
-text_start ((b ∷ bs) ∷ ts) is = absurd (none-some 0 (sym is))
+text_start ts is = let begins = no_fault (begins_empty ts) is in (omega (arith, some_text ts begins), first_empty ts begins)
 
 -- Columns.
 pointwise_long : {A : Type 0} (same : A → A → Bool) (xs ys : List A) → pointwise same xs ys ≡ true → length xs ≡ length ys
