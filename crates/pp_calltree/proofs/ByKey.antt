@@ -28,7 +28,7 @@ use Rattle.pp_count.specs.Ranks.{set_entry}
 use Rattle.pp_count.specs.declared.sums.Sums.{Sums}
 use Rattle.pp_count.specs.Counts.{AreSumsOf, written_names}
 use Rattle.pp_count.proofs.EachOnce.{keys-items}
-use Rattle.pp_calltree.specs.CallTree.{TreeRow, rooted, any_row, is_end, first_key, first_keys, below_key, under, path_flat, siblings, sibling_order, row_of, rows_below, tree_rows, all_lengths}
+use Rattle.pp_calltree.specs.CallTree.{TreeRow, rooted, any_row, is_end, first_key, first_keys, below_key, under, path_flat, siblings, sibling_order, tree_row, rows_below, tree_rows, all_lengths}
 use Rattle.pp_calltree.specs.declared.tree.PathNode.{PathNode}
 use Rattle.pp_calltree.specs.Laid.{node_row}
 use Rattle.pp_calltree.specs.Tree.{flats_with, flats_at}
@@ -215,7 +215,7 @@ by_key_below : (t : Written → Bool) (most depth : ℕ) (S : List (Seen Written
     → flats_where t (rows_below key_cmp any_row most depth S) ≡ last_sum t S
 by_key_below t zero depth S short = sym (no_last t S short)
 by_key_below t (suc most) depth S short =
-    let F : Written → List (TreeRow Written) = λ q. row_of key_cmp depth S q ∷ rows_below key_cmp any_row most (depth + 1) (under key_cmp q S) in
+    let F : Written → List (TreeRow Written) = λ q. tree_row key_cmp depth S q ∷ rows_below key_cmp any_row most (depth + 1) (under key_cmp q S) in
     flats_where-all t F (siblings key_cmp S)
     ∙ total_same (λ q. flats_where t (F q)) (part t S)
     (λ q. ap (λ z. cond (t q) (path_flat key_cmp S q) (pos 0) +ℤ z) (by_key_below t most (depth + 1) (under key_cmp q S) (under_short most q S short)))

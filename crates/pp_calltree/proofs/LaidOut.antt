@@ -23,7 +23,7 @@ use Rattle.pp_calltree.specs.declared.tree.NumberedNode.{NumberedNode}
 use Rattle.pp_calltree.specs.declared.tree.PathNode.{PathNode}
 use Rattle.pp_calltree.specs.declared.path.Path.{Path}
 use Rattle.pp_calltree.specs.CallPaths.{path_by, paths_below}
-use Rattle.pp_calltree.specs.CallTree.{TreeRow, all_lengths, any_row, is_end, under, path_cum, path_flat, row_of, rows_below, tree_rows}
+use Rattle.pp_calltree.specs.CallTree.{TreeRow, all_lengths, any_row, is_end, under, path_cum, path_flat, tree_row, rows_below, tree_rows}
 use Rattle.pp_calltree.specs.Branches.{Said, branch_samples, branch_said, branch_of, AreBranches, AreOrdered}
 use Rattle.pp_calltree.specs.Links.{node_by, nodes_by}
 use Rattle.pp_calltree.specs.Listed.{trail, branch_paths, AddsBranches}
@@ -114,7 +114,7 @@ module _ (p : Profile) (names : List Key) (texts : Texts) (can : CanLay p names 
         }
 
     branch_at : (left : ℕ) → HasRoom names (suc left) S → most ≡ depth + suc left
-        → All (λ (b : Branch). (row_of key_cmp depth (written_out p names S) (name b.key) ∷ rows_below key_cmp any_row left (depth + 1) (under key_cmp (name b.key) (written_out p names S))) ≡ whole_branch p names most b) list
+        → All (λ (b : Branch). (tree_row key_cmp depth (written_out p names S) (name b.key) ∷ rows_below key_cmp any_row left (depth + 1) (under key_cmp (name b.key) (written_out p names S))) ≡ whole_branch p names most b) list
     branch_at left room same i d here =
         let b : Branch = get_or list i d in
         let child : IsChild left b = child_at left room same i d here in
@@ -128,9 +128,9 @@ module _ (p : Profile) (names : List Key) (texts : Texts) (can : CanLay p names 
         let none : list ≡ [] = no_branches depth S list room.short are in
         (sym (ap (flat_map (whole_branch p names most)) none), subst (All (IsLayable names most)) (sym none) (All-nil (IsLayable names most)))
     laid (suc left) room same = (
-      ap (flat_map (λ k. row_of key_cmp depth (written_out p names S) k ∷ rows_below key_cmp any_row left (depth + 1) (under key_cmp k (written_out p names S))))
+      ap (flat_map (λ k. tree_row key_cmp depth (written_out p names S) k ∷ rows_below key_cmp any_row left (depth + 1) (under key_cmp k (written_out p names S))))
           (siblings_are texts name (length names) can.apart can.texts_are depth S room.below list are sorted)
-          ∙ flat_map-mapped (λ k. row_of key_cmp depth (written_out p names S) k ∷ rows_below key_cmp any_row left (depth + 1) (under key_cmp k (written_out p names S)))
+          ∙ flat_map-mapped (λ k. tree_row key_cmp depth (written_out p names S) k ∷ rows_below key_cmp any_row left (depth + 1) (under key_cmp k (written_out p names S)))
           (λ (b : Branch). name b.key) (whole_branch p names most) list (branch_at left room same),
       layable_at left room same,
     )

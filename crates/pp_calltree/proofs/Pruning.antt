@@ -15,7 +15,7 @@ use Rattle.pp_grain.specs.Keys.{IsKeyOf}
 use Rattle.pp_count.specs.Ranks.{is_heavy}
 use Rattle.pp_count.specs.Sums.{Seen}
 use Rattle.pp_calltree.specs.declared.tree.PathNode.{PathNode}
-use Rattle.pp_calltree.specs.CallTree.{TreeRow, any_row, under, siblings, row_of, rows_below}
+use Rattle.pp_calltree.specs.CallTree.{TreeRow, any_row, under, siblings, tree_row, rows_below}
 use Rattle.pp_calltree.specs.Laid.{node_row}
 use Rattle.pp_calltree.specs.Shown.{is_cut, pruned, is_heavy_row, flat_sizes, ShownTo, AreShown}
 
@@ -33,7 +33,7 @@ module _ {K : Type 0} (order : K → K → Ordering) (keep : TreeRow K → Bool)
 
   -- the nodes of one key and of all below it
   abbrev one : (TreeRow K → Bool) → ℕ → ℕ → List (Seen K) → K → List (TreeRow K)
-  one test most depth S k = cond (test (row_of order depth S k)) (row_of order depth S k ∷ rows_below order test most (depth + 1) (under order k S)) []
+  one test most depth S k = cond (test (tree_row order depth S k)) (tree_row order depth S k ∷ rows_below order test most (depth + 1) (under order k S)) []
 
   -- the nodes below so many keys begin with one of that depth
   ends_with : (most depth : ℕ) (S : List (Seen K)) (ks : List K) (tail : List (TreeRow K)) → Ends depth tail → Ends depth (flat_map (one any_row most depth S) ks ++ tail)
@@ -51,7 +51,7 @@ module _ {K : Type 0} (order : K → K → Ordering) (keep : TreeRow K → Bool)
   mutual_cut most depth above deeper S (k ∷ ks) tail below =
       ap (λ r. pruned keep (Some above) (r ++ tail)) (flat_map-cons (one any_row most depth S) k ks)
       ∙ ap (pruned keep (Some above)) (append_assoc (one any_row most depth S k) (flat_map (one any_row most depth S) ks) tail)
-      ∙ ap (λ b. cond b (pruned keep (Some above) (rows_below order any_row most (depth + 1) (under order k S) ++ rest)) (cond (keep (row_of order depth S k)) (row_of order depth S k ∷ pruned keep None (rows_below order any_row most (depth + 1) (under order k S) ++ rest)) (pruned keep (Some depth) (rows_below order any_row most (depth + 1) (under order k S) ++ rest)))) (lt-ltb above depth deeper)
+      ∙ ap (λ b. cond b (pruned keep (Some above) (rows_below order any_row most (depth + 1) (under order k S) ++ rest)) (cond (keep (tree_row order depth S k)) (tree_row order depth S k ∷ pruned keep None (rows_below order any_row most (depth + 1) (under order k S) ++ rest)) (pruned keep (Some depth) (rows_below order any_row most (depth + 1) (under order k S) ++ rest)))) (lt-ltb above depth deeper)
       ∙ below k rest ∙ mutual_cut most depth above deeper S ks tail below where
         rest : List (TreeRow K)
         rest = flat_map (one any_row most depth S) ks ++ tail
@@ -69,7 +69,7 @@ module _ {K : Type 0} (order : K → K → Ordering) (keep : TreeRow K → Bool)
       → pruned keep None (flat_map (one any_row most depth S) ks ++ tail) ≡ flat_map (one keep most depth S) ks ++ pruned keep None tail
   pruned_all most depth S [] tail ends below = refl
   pruned_all most depth S (k ∷ ks) tail ends below =
-      let row : TreeRow K = row_of order depth S k in
+      let row : TreeRow K = tree_row order depth S k in
       let inner : List (TreeRow K) = rows_below order any_row most (depth + 1) (under order k S) in
       let kept : List (TreeRow K) = rows_below order keep most (depth + 1) (under order k S) in
       let rest : List (TreeRow K) = flat_map (one any_row most depth S) ks ++ tail in

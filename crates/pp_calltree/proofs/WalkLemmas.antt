@@ -11,7 +11,7 @@ use Rattle.pp_model.specs.FrameTexts.{Written}
 use Rattle.pp_grain.specs.Keys.{key_cmp}
 use Rattle.pp_count.specs.Sums.{Seen}
 use Rattle.pp_calltree.specs.declared.tree.PathNode.{PathNode}
-use Rattle.pp_calltree.specs.CallTree.{TreeRow, any_row, under, siblings, row_of, rows_below}
+use Rattle.pp_calltree.specs.CallTree.{TreeRow, any_row, under, siblings, tree_row, rows_below}
 use Rattle.pp_calltree.specs.Laid.{node_row}
 use Rattle.pp_calltree.specs.Tree.{first_root, depth_at, first_child, sibling_in, next_sibling, above_in, parent}
 use Rattle.pp_calltree.specs.Walk.{Links, links_of, LeadsOver, WalksOver}
@@ -111,7 +111,7 @@ above_same depth before rows above is deep =
 
 -- the rows of a branch
 abbrev branch : ℕ → ℕ → List (Seen Written) → Written → List Row
-branch most depth samples k = row_of key_cmp depth samples k ∷ rows_below key_cmp any_row most (depth + 1) (under key_cmp k samples)
+branch most depth samples k = tree_row key_cmp depth samples k ∷ rows_below key_cmp any_row most (depth + 1) (under key_cmp k samples)
 
 starts_keys : (most depth : ℕ) (samples : List (Seen Written)) (ks : List Written) → Starts depth (flat_map (branch most depth samples) ks)
 starts_keys most depth samples [] = tt
@@ -199,7 +199,7 @@ between rows before below after post depth above r are at up first deep starts e
 -- what is known of the place of a key
 abbrev IsAt : List Row → ℕ → ℕ → List (Seen Written) → Option ℕ → Written → ℕ → Type 0
 IsAt rows most depth samples above k n =
-    ((row_links rows).says n ≡ Some (row_of key_cmp depth samples k))
+    ((row_links rows).says n ≡ Some (tree_row key_cmp depth samples k))
     × (((row_links rows).parent n ≡ above)
     × WalksOver (row_links rows) most (depth + 1) (under key_cmp k samples) (Some n) ((row_links rows).child n))
 
@@ -216,7 +216,7 @@ over : (rows : List Row) (most depth : ℕ) (samples : List (Seen Written)) (pos
     → LeadsOver (row_links rows).next (IsAt rows most depth samples above) (start_of (length before) (flat_map (branch most depth samples) ks)) ks
 over rows most depth samples post above end below_walked [] before are up = refl
 over rows most depth samples post above end below_walked (k ∷ ks) before are up =
-    let r : Row = row_of key_cmp depth samples k in
+    let r : Row = tree_row key_cmp depth samples k in
     let below : List Row = rows_below key_cmp any_row most (depth + 1) (under key_cmp k samples) in
     let after : List Row = flat_map (branch most depth samples) ks in
     let n : ℕ = length before in

@@ -75,8 +75,8 @@ module _ {K : Type 0} (order : K → K → Ordering) where
   siblings samples = each_once (sibling_order samples) (first_keys samples)
 
   -- the node of the key, below so many others
-  abbrev pub row_of : ℕ → List (Seen K) → K → TreeRow K
-  row_of depth samples k =
+  abbrev pub tree_row : ℕ → List (Seen K) → K → TreeRow K
+  tree_row depth samples k =
       record { depth = depth; key = k; flat = path_flat samples k; cum = path_cum samples k }
 
   -- The nodes of the paths that are left below so many keys, parents before children, with as many keys on each path as
@@ -84,8 +84,8 @@ module _ {K : Type 0} (order : K → K → Ordering) where
   abbrev pub rows_below : (TreeRow K → Bool) → ℕ → ℕ → List (Seen K) → List (TreeRow K)
   rows_below keep zero depth samples = []
   rows_below keep (suc most) depth samples =
-      flat_map (λ k. if keep (row_of depth samples k)
-      then row_of depth samples k ∷ rows_below keep most (depth + 1) (under k samples)
+      flat_map (λ k. if keep (tree_row depth samples k)
+      then tree_row depth samples k ∷ rows_below keep most (depth + 1) (under k samples)
       else []) (siblings samples)
 
   -- the nodes of paths that are kept

@@ -8,7 +8,7 @@ use Rattle.pp_model.specs.FrameTexts.{Written}
 use Rattle.pp_grain.specs.Keys.{key_cmp}
 use Rattle.pp_count.specs.Sums.{Seen}
 use Rattle.pp_calltree.specs.declared.tree.PathNode.{PathNode}
-use Rattle.pp_calltree.specs.CallTree.{TreeRow, all_lengths, under, siblings, row_of, path_samples}
+use Rattle.pp_calltree.specs.CallTree.{TreeRow, all_lengths, under, siblings, tree_row, path_samples}
 use Rattle.pp_calltree.specs.Laid.{node_row}
 use Rattle.pp_calltree.specs.Tree.{first_root, first_child, next_sibling, parent}
 
@@ -40,7 +40,7 @@ abbrev pub WalksOver : Links → ℕ → ℕ → List (Seen Written) → Option 
 WalksOver links zero depth samples above node = node ≡ None
 WalksOver links (suc most) depth samples above node =
     LeadsOver links.next
-    (λ k n. (links.says n ≡ Some (row_of key_cmp depth samples k))
+    (λ k n. (links.says n ≡ Some (tree_row key_cmp depth samples k))
     × ((links.parent n ≡ above)
     × WalksOver links most (depth + 1) (under key_cmp k samples) (Some n) (links.child n)))
     node (siblings key_cmp samples)

@@ -77,27 +77,8 @@ fn pass_on<'p, 'k>(
 {
     if branch.paths.len() == 1 {
         let path = branch.paths[0];
-        push_sum(path.keys, path.value, sums)
-    } else {
-        pass_shared(texts, branch, found, waiting, sums)
+        return push_sum(path.keys, path.value, sums);
     }
-}
-
-fn pass_shared<'p, 'k>(
-    texts: &Texts,
-    branch: &Branch<'p, 'k>,
-    found: &mut Vec<Branch<'p, 'k>>,
-    waiting: &mut Vec<Branch<'p, 'k>>,
-    sums: &mut Vec<PathSum<'k>>,
-) -> Result<(), Memory>
-    requires rises { IsRising (branch_samples branch.now) }
-    requires fits { absolute (branch_samples branch.now) < 2 ^ 63 }
-    requires long { length (trail branch.now) ≡ branch.now.depth + 1 }
-    ensures { (p : Tables) (names : Seq Key) (most : ℕ) →
-        CanLay p names texts.now → IsListable names most branch.now →
-        IfOk result (λ _. PassesOn p names most branch.now
-        waiting.old.items waiting.new.items sums.old.items sums.new.items) }
-{
     let depth = branch.depth as usize + 1;
     let keys = &branch.paths[0].keys[..depth];
     push_sum(keys, branch.flat, sums)?;

@@ -12,7 +12,7 @@ use Rattle.pp_model.specs.Finders.{Finders}
 use Rattle.pp_model.specs.FrameTexts.{Written}
 use Rattle.pp_grain.specs.Keys.{key_cmp}
 use Rattle.pp_calltree.specs.CallPaths.{CallPath, has_sum, path_by, paths_below, report_paths}
-use Rattle.pp_calltree.specs.CallTree.{TreeRow, all_lengths, any_row, path_flat, path_samples, row_of, rows_below, siblings, under}
+use Rattle.pp_calltree.specs.CallTree.{TreeRow, all_lengths, any_row, path_flat, path_samples, tree_row, rows_below, siblings, under}
 use Rattle.pp_count.specs.Counted.{report_samples}
 use Rattle.pp_count.specs.Seeing.{seen_samples}
 use Rattle.pp_count.specs.Sums.{Seen, leads, sum_where, weighed}
@@ -64,7 +64,7 @@ module _ (t : Written → Bool) (of_path : CallPath Written → Bool) (last : (k
   tree_sum zero depth above samples = refl
   tree_sum (suc most) depth above samples =
       keys_sum (λ k. path_by key_cmp above samples k ∷ paths_below key_cmp most (above ++ k ∷ []) (under key_cmp k samples))
-      (λ k. row_of key_cmp depth samples k ∷ rows_below key_cmp any_row most (depth + 1) (under key_cmp k samples))
+      (λ k. tree_row key_cmp depth samples k ∷ rows_below key_cmp any_row most (depth + 1) (under key_cmp k samples))
       (λ k i. cond (last above k (path_flat key_cmp samples k) i) (path_flat key_cmp samples k) (pos 0) +ℤ tree_sum most (depth + 1) (above ++ k ∷ []) (under key_cmp k samples) i)
       (siblings key_cmp samples)
 

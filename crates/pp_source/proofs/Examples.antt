@@ -5,8 +5,8 @@ use Rattle.pp_source.specs.Paths.{paths_to_try}
 use Rattle.pp_source.specs.SourceText.{file_lines, is_near}
 
 -- a relative path in each folder, and alone where all folders are empty
-in_each_folder : paths_to_try (codes "a:b") [] (codes "work.c") ≡ codes "a/work.c" ∷ codes "b/work.c" ∷ []
-in_each_folder = refl
+two_folders : paths_to_try (codes "a:b") [] (codes "work.c") ≡ codes "a/work.c" ∷ codes "b/work.c" ∷ []
+two_folders = refl
 
 alone : paths_to_try (codes ":") (codes "::") (codes "work.c") ≡ codes "work.c" ∷ []
 alone = refl

@@ -30,7 +30,7 @@ use Rattle.pp_source.specs.declared.found.KeyPart.TheVariants.{Routine, Line}
 use Rattle.pp_source.specs.declared.tallies.KeyTallies.{KeyTallies}
 use Rattle.pp_source.specs.Found.{IsFoundOf, is_among_keys, has_own_function, part_key, part_of}
 use Rattle.pp_source.specs.Ledgers.{AreAdded, HasKey, HasKeyTallies, by_lines}
-use Rattle.pp_source.specs.Tally.{renumbered, IsTallyBy}
+use Rattle.pp_source.specs.Tally.{new_number, IsTallyBy}
 use Rattle.pp_source.proofs.Parts.{part_of_profile, part_told, ties_none, ties_there}
 use Rattle.pp_source.proofs.Retelling.{no_tally_of, renamed_twice, tally_same}
 use Rattle.pp_source.proofs.Tallying.{added_by}
@@ -98,7 +98,7 @@ module _ (p : Profile) (compact : IsCompact p) (zero_text : (text_at p 0 ≡ [])
             → IsTallyBy key_cmp (map (renamed told) (weighed seen)) (key_written p k) (cond (is_among_keys k t.names.keys) (tally_at t.sums (place_of same_key t.names.keys k)) no_tally)
         by k of_k own_k true there ss_below =
             rw (names_are, there)
-            (tally_same key_cmp nat_cmp told (renumbered found.numbers.items) (key_written p k) (place_of same_key found.names.keys k) (length keys)
+            (tally_same key_cmp nat_cmp told (new_number found.numbers.items) (key_written p k) (place_of same_key found.names.keys k) (length keys)
             (λ n within. ties_there p zero_text own part keys of_p found is k n compact of_k there within) (weighed seen) _ ss_below (added_by found turn seen t.sums added (place_of same_key found.names.keys k)))
         by k of_k own_k false there ss_below =
             rw (names_are, there)

@@ -28,7 +28,7 @@ use Rattle.pp_source.specs.declared.found.KeyPart.{KeyPart}
 use Rattle.pp_source.specs.declared.found.KeyPart.TheVariants.{Routine, Line}
 use Rattle.pp_source.specs.Found.{IsFoundOf, is_among_keys, has_own_function, part_key, part_number, part_of, found_parts}
 use Rattle.pp_source.specs.Ledgers.{AreFound}
-use Rattle.pp_source.specs.Tally.{renumbered}
+use Rattle.pp_source.specs.Tally.{new_number}
 
 pub same_self : (k : Key) → same_key k k ≡ true
 same_self k = (key_decides k k).1 refl
@@ -167,7 +167,7 @@ module _ (p : Profile) (zero_text : (text_at p 0 ≡ []) × (0 < length p.text))
     abbrev told : ℕ → Written
     told n = part_of part (written_key p keys n)
 
-    number_is : (n : ℕ) → n < length keys → renumbered found.numbers.items n ≡ part_number part found.names.keys (get_or keys n no_key)
+    number_is : (n : ℕ) → n < length keys → new_number found.numbers.items n ≡ part_number part found.names.keys (get_or keys n no_key)
     number_is n within = ap (λ ns. get_or ns n 0) is.numbers ∙ get_or-map (part_number part found.names.keys) keys n no_key 0 within
 
     told_same : (k : Key) (n : ℕ) → IsCompact p → IsKeyOf p k → n < length keys → eq_by_cmp key_cmp (key_written p k) (told n) ≡ same_key k (part_key part (get_or keys n no_key))
@@ -177,16 +177,16 @@ module _ (p : Profile) (zero_text : (text_at p 0 ≡ []) × (0 < length p.text))
 
     -- a key that is found ties with what has its number
     pub ties_there : (k : Key) (n : ℕ) → IsCompact p → IsKeyOf p k → is_among_keys k found.names.keys ≡ true → n < length keys
-        → eq_by_cmp key_cmp (key_written p k) (told n) ≡ eq_by_cmp nat_cmp (place_of same_key found.names.keys k) (renumbered found.numbers.items n)
+        → eq_by_cmp key_cmp (key_written p k) (told n) ≡ eq_by_cmp nat_cmp (place_of same_key found.names.keys k) (new_number found.numbers.items n)
     ties_there k n compact of_k there within =
         let q : Key = part_key part (get_or keys n no_key) in
         let names : List Key = found.names.keys in
         let here : IsPlaced k names (place_of same_key names k) = placed k names there in
         told_same k n compact of_k within
         ∙ same_bool _ _
-        (λ same. tied_with (place_of same_key names k) (renumbered found.numbers.items n) (ap (place_of same_key names) ((key_decides k q).0 same) ∙ sym (number_is n within)))
+        (λ same. tied_with (place_of same_key names k) (new_number found.numbers.items n) (ap (place_of same_key names) ((key_decides k q).0 same) ∙ sym (number_is n within)))
         (λ tie.
-        let at : place_of same_key names k ≡ place_of same_key names q = tied_is (place_of same_key names k) (renumbered found.numbers.items n) tie ∙ number_is n within in
+        let at : place_of same_key names k ≡ place_of same_key names q = tied_is (place_of same_key names k) (new_number found.numbers.items n) tie ∙ number_is n within in
         let other : IsPlaced q names (place_of same_key names q) = placed q names (placed_has q names (omega (arith, at, here.within))) in
         (key_decides k q).1 (sym here.there ∙ ap (λ m. get_or names m no_key) at ∙ other.there))
 

@@ -3,8 +3,8 @@ use Rattle.std.proofs.Common.{◌≡◌, ◌≢◌, ℕ, ◌==◌, true, false, 
 use Rattle.std.specs.Prelude.{MatchOption}
 use Rattle.std.proofs.lemmas.Bool.{eq-eqb, eqb-true}
 use Rattle.std.proofs.lemmas.List.{at_drop_more}
-use Rattle.std.specs.Option.{option_and_then, option_copied}
-use Rattle.pp_source.specs.Paths.{after_front, first_path, in_folder, without_folder, under}
+use Rattle.std.specs.Option.{option_and_then, option_copied, option_or}
+use Rattle.pp_source.specs.Paths.{after_front, in_folder, without_folder, in_each_folder}
 
 -- what stands after a front
 pub after_found : (front rest : List ℕ) → after_front front (front ++ rest) ≡ Some rest
@@ -44,14 +44,14 @@ stripped front text (Some x) is = after_some front text x.now is
 -- what the next folder leaves of a file, and else the others
 pub trimmed_next : (file : List ℕ) (folders : List (Bor (List ℕ))) (i : ℕ) (folder : Bor (List ℕ)) → i < length folders → folder ≡ get_or folders i folder
     → without_folder file (map (λ (f : Bor (List ℕ)). f.now) (drop i folders))
-    ≡ first_path (after_front (folder.now ++ 47 ∷ []) file) (without_folder file (map (λ (f : Bor (List ℕ)). f.now) (drop (i + 1) folders)))
+    ≡ option_or (after_front (folder.now ++ 47 ∷ []) file) (without_folder file (map (λ (f : Bor (List ℕ)). f.now) (drop (i + 1) folders)))
 trimmed_next file folders i folder within is =
     at_drop_more (λ (fs : List (Bor (List ℕ))). without_folder file (map (λ (f : Bor (List ℕ)). f.now) fs)) folders i folder within
-    ∙ ap (λ (f : Bor (List ℕ)). first_path (after_front (f.now ++ 47 ∷ []) file) (without_folder file (map (λ (f : Bor (List ℕ)). f.now) (drop (i + 1) folders)))) (sym is)
+    ∙ ap (λ (f : Bor (List ℕ)). option_or (after_front (f.now ++ 47 ∷ []) file) (without_folder file (map (λ (f : Bor (List ℕ)). f.now) (drop (i + 1) folders)))) (sym is)
 
 -- the path in some folders
 pub in_folders : (folders : List (Bor (List ℕ))) (path : List ℕ) (other : List (List ℕ)) → 0 < length folders
-    → map (λ (f : Bor (List ℕ)). in_folder path f.now) folders ≡ under (map (λ (f : Bor (List ℕ)). f.now) folders) path other
+    → map (λ (f : Bor (List ℕ)). in_folder path f.now) folders ≡ in_each_folder (map (λ (f : Bor (List ℕ)). f.now) folders) path other
 in_folders [] path other some = absurd (omega (arith, some))
 in_folders (folder ∷ folders) path other some = each (folder ∷ folders) where
   each : (fs : List (Bor (List ℕ))) → map (λ (f : Bor (List ℕ)). in_folder path f.now) fs ≡ map (in_folder path) (map (λ (f : Bor (List ℕ)). f.now) fs)

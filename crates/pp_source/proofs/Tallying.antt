@@ -10,7 +10,7 @@ use Rattle.pp_count.proofs.Adding.{sum_bound, added_more as more_added}
 use Rattle.pp_count.proofs.CallerLemmas.{weighed-renamed}
 use Rattle.pp_source.specs.declared.found.FoundKeys.{FoundKeys}
 use Rattle.pp_source.specs.Ledgers.{AreAdded}
-use Rattle.pp_source.specs.Tally.{AddsKeys, IsReadyFor, IsTallyBy, renumbered}
+use Rattle.pp_source.specs.Tally.{AddsKeys, IsReadyFor, IsTallyBy, new_number}
 
 absolute_renamed : (f : ℕ → ℕ) (ss : List (Seen ℕ)) → absolute (map (renamed f) ss) ≡ absolute ss
 absolute_renamed f [] = refl
@@ -20,7 +20,7 @@ absolute_renamed f (s ∷ ss) =
 
 module _ (found : FoundKeys) (turn : ℕ) (seen : List (Seen ℕ)) (old : Tallies) (added : AreAdded found turn seen old) where
   abbrev number : ℕ → ℕ
-  number = renumbered found.numbers.items
+  number = new_number found.numbers.items
 
   -- what each number has, by the samples that weigh
   pub added_by : (k : ℕ) → IsTallyBy nat_cmp (map (renamed number) (weighed seen)) k (tally_at old k)

@@ -26,7 +26,7 @@ use Rattle.pp_source.specs.declared.walk.WalkSums.{WalkSums}
 use Rattle.pp_source.specs.declared.walk.Walk.{Walk}
 use Rattle.pp_source.specs.Amounts.{source_line, routine_of}
 use Rattle.pp_source.specs.Found.{IsFoundOf, is_among_keys, has_own_function}
-use Rattle.pp_source.specs.Tally.{renumbered, IsTallyBy}
+use Rattle.pp_source.specs.Tally.{new_number, IsTallyBy}
 
 -- the configuration under which the lines of frames are counted
 abbrev pub by_lines : Config → Config
@@ -43,7 +43,7 @@ pub record IsSoundWalk (walk : Walk) : Type 0 where
 pub record AreAdded (found : FoundKeys) (turn : ℕ) (seen : List (Seen ℕ)) (tallies : Tallies)
     : Type 0 where
   pub each : (k : ℕ)
-      → IsTallyOf (weighed (map (renamed (renumbered found.numbers.items)) seen)) k (tally_at tallies k)
+      → IsTallyOf (weighed (map (renamed (new_number found.numbers.items)) seen)) k (tally_at tallies k)
   pub earlier : (k : ℕ) → (tally_at tallies k).last ≤ turn
 
 -- These samples are added to the sums.

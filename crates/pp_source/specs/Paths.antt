@@ -1,6 +1,7 @@
 -- Where the source of a file text is looked for.
 use Rattle.std.specs.Prelude.{ℕ, Bool, true, false, ◌==◌, List, [], ◌∷◌, ◌++◌, codes, map, Option, Some, None, if◌then◌else◌}
 use Rattle.std.specs.List.{filter, slice_split}
+use Rattle.std.specs.Option.{option_or}
 
 -- a colon parts the entries of a list of paths
 abbrev pub is_list_colon : ℕ → Bool
@@ -25,16 +26,11 @@ after_front [] text = Some text
 after_front (a ∷ front) [] = None
 after_front (a ∷ front) (b ∷ text) = if a == b then after_front front text else None
 
--- the first, and where there is none the second
-abbrev pub first_path : Option (List ℕ) → Option (List ℕ) → Option (List ℕ)
-first_path (Some text) other = Some text
-first_path None other = other
-
 -- what the first of the folders that the file lies in leaves of the file's path, if it lies in one
 abbrev pub without_folder : List ℕ → List (List ℕ) → Option (List ℕ)
 without_folder file [] = None
 without_folder file (folder ∷ folders) =
-    first_path (after_front (folder ++ codes "/") file) (without_folder file folders)
+    option_or (after_front (folder ++ codes "/") file) (without_folder file folders)
 
 -- a path from the root begins with a slash
 abbrev pub is_absolute : List ℕ → Bool
@@ -51,16 +47,16 @@ abbrev pub in_folder : List ℕ → List ℕ → List ℕ
 in_folder path folder = folder ++ codes "/" ++ path
 
 -- the path in each of the folders, in order, and this instead where there is none
-abbrev pub under : List (List ℕ) → List ℕ → List (List ℕ) → List (List ℕ)
-under [] path alone = alone
-under (folder ∷ folders) path alone = map (in_folder path) (folder ∷ folders)
+abbrev pub in_each_folder : List (List ℕ) → List ℕ → List (List ℕ) → List (List ℕ)
+in_each_folder [] path alone = alone
+in_each_folder (folder ∷ folders) path alone = map (in_folder path) (folder ∷ folders)
 
 -- the paths of a file of which the front was taken off, or else of the whole file
 abbrev pub paths_of : List (List ℕ) → List ℕ → Option (List ℕ) → List (List ℕ)
-paths_of folders file (Some rest) = under folders (from_name rest) (from_name rest ∷ [])
+paths_of folders file (Some rest) = in_each_folder folders (from_name rest) (from_name rest ∷ [])
 paths_of folders file None =
-    if is_absolute file then file ∷ under folders (from_name file) []
-    else under folders (from_name file) (from_name file ∷ [])
+    if is_absolute file then file ∷ in_each_folder folders (from_name file) []
+    else in_each_folder folders (from_name file) (from_name file ∷ [])
 
 -- The paths at which a file's source is looked for, in order. The first folder of trim_path that the file lies in is
 -- taken off. A file from the root that lies in none is looked for as it is. What is left, without the slashes at its

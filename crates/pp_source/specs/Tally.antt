@@ -14,13 +14,13 @@ pub record IsReadyFor (value : ℤ) (turn : ℕ) (tallies : Tallies) : Type 0 wh
   pub flats : (k : ℕ) → nat_abs (tally_at tallies k).flat + nat_abs value < 2 ^ 63
 
 -- the number that stands for another one
-abbrev pub renumbered : List ℕ → ℕ → ℕ
-renumbered numbers key = slice_index_or numbers key 0
+abbrev pub new_number : List ℕ → ℕ → ℕ
+new_number numbers key = slice_index_or numbers key 0
 
 -- A sample with these keys is added to the tallies of their numbers.
 abbrev pub AddsKeys : List ℕ → ℤ → ℕ → List ℕ → Tallies → Tallies → Type 0
 AddsKeys numbers value turn keys old new =
-    (k : ℕ) → tally_at new k ≡ with_seen value turn (map (renumbered numbers) keys) k (tally_at old k)
+    (k : ℕ) → tally_at new k ≡ with_seen value turn (map (new_number numbers) keys) k (tally_at old k)
 
 -- the sums of a tally, as a report prints them
 abbrev pub amounts_of_tally : Tally → Amounts

@@ -1,7 +1,7 @@
 //! Where the source of a file is looked for.
 ghost use Rattle.std.specs.Prelude.{◌≡◌, ◌++◌, ◌∷◌, [], codes, map, Bool, if◌then◌else◌, IfOk};
 ghost use Rattle.std.specs.Option.{option_copied};
-ghost use Rattle.pp_source.specs.Paths.{after_front, path_entries, from_name, is_absolute, paths_of, paths_to_try, without_folder, under, in_folder};
+ghost use Rattle.pp_source.specs.Paths.{after_front, path_entries, from_name, is_absolute, paths_of, paths_to_try, without_folder, in_each_folder, in_folder};
 
 use pp_base::{List, Memory, Text};
 use std::alloc::Global;
@@ -114,7 +114,7 @@ fn put_under(
     paths: &mut List<Text>,
 ) -> Result<(), Memory>
     ensures { IfOk result (λ _. paths.new ≡ paths.old
-        ++ under (map (λ folder. folder.now) folders.now) path.now
+        ++ in_each_folder (map (λ folder. folder.now) folders.now) path.now
         (if alone then path.now ∷ [] else [])) }
 {
     if folders.is_empty() {

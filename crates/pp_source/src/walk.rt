@@ -3,7 +3,7 @@ ghost use Rattle.std.specs.Prelude.{◌≡◌, ◌<◌, [], length, map, All, If
 ghost use Rattle.pp_count.specs.Column.{selected};
 ghost use Rattle.pp_count.specs.Scope.{chosen_of, samples_in_scope};
 ghost use Rattle.pp_source.specs.Ledgers.{IsSoundWalk, HasWalkedTo};
-ghost use Rattle.pp_source.specs.Tally.{AddsKeys, IsReadyFor, renumbered};
+ghost use Rattle.pp_source.specs.Tally.{AddsKeys, IsReadyFor, new_number};
 
 use crate::found::FoundKeys;
 use pp_base::{List, Memory};
@@ -109,7 +109,7 @@ fn add_found(
 // Makes the numbers that stand for the keys the content of `room`.
 fn put_numbers(numbers: &[u64], keys: &[u64], room: &mut Vec<u64>) -> Result<(), Memory>
     requires { All (λ k. k < length numbers.now) keys.now }
-    ensures { IfOk result (λ _. room.new.items ≡ map (renumbered numbers.now) keys.now) }
+    ensures { IfOk result (λ _. room.new.items ≡ map (new_number numbers.now) keys.now) }
 {
     room.clear();
     for key in keys {
