@@ -1,15 +1,18 @@
 -- What one more item does to the sums per key.
-use Rattle.std.proofs.Common.{◌≡◌, ℕ, suc, ◌+◌, ◌<◌, ◌≤◌, Bool, true, false, true≢false, cond, not, ◌||◌, ℤ, pos, nat_abs, List, [], ◌∷◌, ◌++◌, length, map, filter, get_or, set, sum_by, refl, sym, ap, subst, ◌∙◌, if◌then◌else◌, arith}
-use Rattle.std.proofs.lemmas.List.{map-append, append-nil, get_or-map}
+use Rattle.std.proofs.Common.{◌≡◌, ℕ, ◌+◌, ◌<◌, ◌≤◌, Bool, true, false, true≢false, ◌||◌, ℤ, pos, nat_abs, List, [], ◌∷◌, ◌++◌, Some, length, map, filter, get_or, sum_by, refl, sym, ap, ◌∙◌, if◌then◌else◌, arith}
+use Rattle.std.proofs.lemmas.List.{map-append, append-nil}
 use Rattle.std.proofs.lemmas.List.Sums.{sum_by-cons}
 use Rattle.std.specs.List.{list_any, All, AllByRecursion, IsDistinct}
+use Rattle.std.specs.Map.{lookup}
+use Rattle.std.specs.Option.{unwrap_or}
 use Rattle.std.specs.Cmp.{IsEquivalence}
+use Rattle.indexmap.specs.IndexMap.{insert_entry}
 use Rattle.pp_base.proofs.Lists.{all_by, map_agree}
-use Rattle.pp_model.specs.FirstSight.{seen_with, distinct, place_of}
-use Rattle.pp_share.specs.Sums.{added, column_totals, keys_of, rows_of, sum_of, rows_with}
-use Rattle.pp_model.proofs.FirstSightLemmas.{IsSeen, all_seen, distinct_push}
+use Rattle.pp_model.specs.FirstSight.{seen_with, distinct}
+use Rattle.pp_share.specs.Sums.{added, sum_with, column_totals, keys_of, rows_of, sum_of, summed, sum_at, sums_with, CanAdd}
+use Rattle.pp_model.proofs.FirstSightLemmas.{IsSeen, all_seen, distinct_push, distinct_apart}
 use Rattle.pp_share.proofs.Prefix.{IsNext, next_holds, seen_all, next_weight}
-use Rattle.pp_share.proofs.SumLemmas.{added-zeros, total_push, length-total_of, abs-total_of, weight}
+use Rattle.pp_share.proofs.SumLemmas.{added-zeros, sum_with_row, total_push, length-total_of, abs-total_of, weight}
 
 module _ {K : Type 0} (same : K → K → Bool) (laws : IsEquivalence same) where
   any-congr : (k x : K) → same k x ≡ true → (zs : List K) → list_any (same k) zs ≡ list_any (same x) zs
@@ -68,6 +71,10 @@ module _ {K : Type 0} (same : K → K → Bool) (laws : IsEquivalence same) wher
       by true rest h = absurd (true≢false h)
       by false rest h = rest h
 
+  -- the key with its sum
+  abbrev with_sum : ℕ → List (K × List ℤ) → K → K × List ℤ
+  with_sum columns items key = (key, sum_of same columns items key)
+
   module _ (columns : ℕ) (items : List (K × List ℤ)) (k : K) (row : List ℤ) where
     -- a key that is another's keeps its sum
     sum_other : (q : K) → same q k ≡ false → sum_of same columns (items ++ (k, row) ∷ []) q ≡ sum_of same columns items q
@@ -80,65 +87,53 @@ module _ {K : Type 0} (same : K → K → Bool) (laws : IsEquivalence same) wher
     pub keys_push : distinct same (keys_of same (items ++ (k, row) ∷ [])) ≡ seen_with same (distinct same (keys_of same items)) k
     keys_push = ap (distinct same) (map-append (λ (item : K × List ℤ). item.0) items ((k, row) ∷ [])) ∙ distinct_push same laws.refl (keys_of same items) k
 
-    -- A new key's sum is its row, at the end.
-    pub sums_new : length row ≡ columns → list_any (same k) (distinct same (keys_of same items)) ≡ false
-        → map (sum_of same columns (items ++ (k, row) ∷ [])) (distinct same (keys_of same (items ++ (k, row) ∷ [])))
-        ≡ map (sum_of same columns items) (distinct same (keys_of same items)) ++ row ∷ []
-    sums_new wide new =
-        let sum = sum_of same columns (items ++ (k, row) ∷ []) in
-        let keys = distinct same (keys_of same items) in
-        let own : sum k ≡ row = sum_own k (laws.refl k)
-        ∙ ap (λ rows. added (column_totals columns rows) row) (no_rows items k (not_among k (keys_of same items) new)) ∙ added-zeros columns row wide in
-        let others : map sum keys ≡ map (sum_of same columns items) keys =
-        map_agree sum (sum_of same columns items) keys (all_by (λ q. same q k ≡ false) (λ q. sum q ≡ sum_of same columns items q) sum_other keys (none_is k keys new)) in
-        ap (map sum) (keys_push ∙ ap (λ b. if b then keys else keys ++ k ∷ []) new)
-        ∙ map-append sum keys (k ∷ []) ∙ (λ j. others j ++ own j ∷ [])
+    abbrev before : K → K × List ℤ
+    before = with_sum columns items
 
-  -- where a key stands alone, only its place changes
-  map_at : {B : Type 0} (f g : K → B) (change : B → B) (k : K) → ((q : K) → same q k ≡ true → g q ≡ change (f q)) → ((q : K) → same q k ≡ false → g q ≡ f q)
-      → (keys : List K) (d : B) → IsDistinct same keys → IsSeen same keys k
-      → map g keys ≡ set (map f keys) (place_of same keys k) (change (get_or (map f keys) (place_of same keys k) d))
-  unfolding IsDistinct
-  map_at f g change k own other [] d apart seen = absurd (true≢false (sym seen))
-  map_at {B} f g change k own other (y ∷ ys) d apart seen =
-      by (same k y) refl (map_at f g change k own other ys d apart.1) seen
-    where
-      rest_same : same k y ≡ true → map g ys ≡ map f ys
-      rest_same is = map_agree g f ys (all_by (λ z. same y z ≡ false) (λ z. g z ≡ f z) (λ z no. other z (laws.symm z k ∙ laws.congr k y z is ∙ no)) ys apart.0)
+    abbrev after : K → K × List ℤ
+    after = with_sum columns (items ++ (k, row) ∷ [])
 
-      by : (c : Bool) → same k y ≡ c
-          → (IsSeen same ys k → map g ys ≡ set (map f ys) (place_of same ys k) (change (get_or (map f ys) (place_of same ys k) d)))
-          → (c || list_any (same k) ys) ≡ true
-          → map g (y ∷ ys) ≡ set (map f (y ∷ ys)) (cond (not c) (1 + place_of same ys k) 0) (change (get_or (map f (y ∷ ys)) (cond (not c) (1 + place_of same ys k) 0) d))
-      by true is rest seen = (λ j. own y (laws.symm y k ∙ is) j ∷ rest_same is j)
-      by false is rest seen =
-          let next : suc (place_of same ys k) ≡ 1 + place_of same ys k = omega arith in
-          subst (λ m. map g (y ∷ ys) ≡ set (map f (y ∷ ys)) m (change (get_or (map f (y ∷ ys)) m d))) next
-          (λ j. other y (laws.symm y k ∙ is) j ∷ rest seen j)
+    -- the sums from y on, where y is the key or another
+    abbrev put : K → List K → Bool → List ℤ → List (K × List ℤ)
+    put y ys b sum = if b then (y, sum) ∷ map before ys else before y ∷ insert_entry same (map before ys) k sum
 
-  module _ (columns : ℕ) (items : List (K × List ℤ)) (k : K) (row : List ℤ) where
-    -- One more item: a new key's row goes last, and a known key's sum has the row added, at its place.
-    pub sums_push : length row ≡ columns → IsDistinct same (distinct same (keys_of same items))
-        → (is_new : Bool) → is_new ≡ not (list_any (same k) (distinct same (keys_of same items)))
-        → (place : ℕ) → place ≡ place_of same (distinct same (keys_of same items)) k
-        → map (sum_of same columns (items ++ (k, row) ∷ [])) (distinct same (keys_of same (items ++ (k, row) ∷ [])))
-        ≡ rows_with (map (sum_of same columns items) (distinct same (keys_of same items))) place is_new row
-    sums_push wide apart is_new tells place at = by is_new (sym (ap not tells ∙ not_not _))
+    -- The item's row is added to the sum of its key, and goes last with a new one.
+    sums_at : length row ≡ columns → (keys : List K) → IsDistinct same keys → (list_any (same k) keys ≡ false → after k ≡ (k, row))
+        → map after (seen_with same keys k) ≡ sums_with same (map before keys) k row
+    unfolding IsDistinct
+    sums_at wide [] apart new = ap (λ e. e ∷ []) (new refl)
+    sums_at wide (y ∷ ys) apart new = by (same k y) refl (sums_at wide ys apart.1) new
       where
-        not_not : (b : Bool) → not (not b) ≡ b
-        not_not true = refl
-        not_not false = refl
+        others : same k y ≡ true → map after ys ≡ map before ys
+        others is =
+            map_agree after before ys
+            (all_by (λ z. same y z ≡ false) (λ z. after z ≡ before z) (λ z no. ap (λ sum. (z, sum)) (sum_other z (laws.symm z k ∙ laws.congr k y z is ∙ no))) ys apart.0)
 
-        by : (b : Bool) → list_any (same k) (distinct same (keys_of same items)) ≡ not b
-            → map (sum_of same columns (items ++ (k, row) ∷ [])) (distinct same (keys_of same (items ++ (k, row) ∷ [])))
-            ≡ rows_with (map (sum_of same columns items) (distinct same (keys_of same items))) place b row
-        by true new = sums_new columns items k row wide new
-        by false seen =
-            let keys = distinct same (keys_of same items) in
-            ap (map (sum_of same columns (items ++ (k, row) ∷ []))) (keys_push columns items k row ∙ ap (λ b. if b then keys else keys ++ k ∷ []) seen)
-            ∙ map_at (sum_of same columns items) (sum_of same columns (items ++ (k, row) ∷ [])) (λ xs. added xs row) k
-            (sum_own columns items k row) (sum_other columns items k row) keys [] apart seen
-            ∙ ap (λ i. set (map (sum_of same columns items) keys) i (added (get_or (map (sum_of same columns items) keys) i []) row)) (sym at)
+        own : same k y ≡ true → after y ≡ (y, sum_with (sum_of same columns items y) row)
+        own is =
+            ap (λ sum. (y, sum)) (sum_own y (laws.symm y k ∙ is)
+            ∙ sym (sum_with_row (sum_of same columns items y) row (wide ∙ sym (length-total_of columns (rows_of same items y)))))
+
+        rest : (c : Bool) → same k y ≡ false → map after (if c then ys else ys ++ k ∷ []) ≡ sums_with same (map before ys) k row
+            → map after (if c then y ∷ ys else y ∷ (ys ++ k ∷ [])) ≡ before y ∷ sums_with same (map before ys) k row
+        rest true other is = (λ j. (y, sum_other y (laws.symm y k ∙ other) j) ∷ is j)
+        rest false other is = (λ j. (y, sum_other y (laws.symm y k ∙ other) j) ∷ is j)
+
+        by : (b : Bool) → same k y ≡ b
+            → ((list_any (same k) ys ≡ false → after k ≡ (k, row)) → map after (seen_with same ys k) ≡ sums_with same (map before ys) k row)
+            → ((b || list_any (same k) ys) ≡ false → after k ≡ (k, row))
+            → map after (if b || list_any (same k) ys then y ∷ ys else y ∷ (ys ++ k ∷ []))
+            ≡ put y ys b (sum_with (unwrap_or (if b then Some (sum_of same columns items y) else lookup (same k) (map before ys)) []) row)
+        by true is rest_is new = (λ j. own is j ∷ others is j)
+        by false is rest_is new = rest (list_any (same k) ys) is (rest_is new)
+
+    pub summed_push : length row ≡ columns → summed same columns (items ++ (k, row) ∷ []) ≡ sums_with same (summed same columns items) k row
+    summed_push wide =
+        let keys = distinct same (keys_of same items) in
+        ap (map after) keys_push
+        ∙ sums_at wide keys (distinct_apart same laws (keys_of same items))
+        (λ new. ap (λ sum. (k, sum)) (sum_own k (laws.refl k)
+        ∙ ap (λ rows. added (column_totals columns rows) row) (no_rows items k (not_among k (keys_of same items) new)) ∙ added-zeros columns row wide))
 
   rows_wide : (columns : ℕ) (items : List (K × List ℤ)) (q : K) → AllByRecursion (λ item. length item.1 ≡ columns) items → AllByRecursion (λ row. length row ≡ columns) (rows_of same items q)
   rows_wide columns [] q wide = tt
@@ -162,39 +157,40 @@ module _ {K : Type 0} (same : K → K → Bool) (laws : IsEquivalence same) wher
       by true rest = omega (arith, rest, sum_by-cons (item_weight column) x xs, sum_by-cons (λ (r : List ℤ). nat_abs (get_or r column (pos 0))) x.1 (rows_of same xs q))
       by false rest = omega (arith, rest, sum_by-cons (item_weight column) x xs)
 
-  -- A known key's sum is as wide as a row, and within the absolute values so far.
-  pub known_row : (columns : ℕ) (items : List (K × List ℤ)) (k : K) (place : ℕ) → AllByRecursion (λ item. length item.1 ≡ columns) items
-      → place < length (distinct same (keys_of same items))
-      → (length (get_or (map (sum_of same columns items) (distinct same (keys_of same items))) place []) ≡ columns)
-      × ((column : ℕ) → column < columns
-      → nat_abs (get_or (get_or (map (sum_of same columns items) (distinct same (keys_of same items))) place []) column (pos 0)) ≤ sum_by (item_weight column) items)
-  known_row columns items k place wide within =
-      let keys = distinct same (keys_of same items) in
-      let is = get_or-map (sum_of same columns items) keys place k [] within in (
-        ap length is ∙ length-total_of columns (rows_of same items (get_or keys place k)),
-        λ column lower.
-            let size = abs-total_of columns (rows_of same items (get_or keys place k)) column lower (rows_wide columns items (get_or keys place k) wide) in
-            omega (arith, ap (λ row. nat_abs (get_or row column (pos 0))) is, size, rows_weight column items (get_or keys place k)),
-      )
+  -- the sum of a key is one that was made of its values, or empty
+  at_key : (columns : ℕ) (items : List (K × List ℤ)) (k : K) (P : List ℤ → Type 0) → P [] → ((q : K) → P (sum_of same columns items q)) → (keys : List K)
+      → P (sum_at same (map (with_sum columns items) keys) k)
+  at_key columns items k P none each [] = none
+  at_key columns items k P none each (y ∷ ys) = by (same k y) (at_key columns items k P none each ys)
+    where
+      by : (b : Bool) → P (sum_at same (map (with_sum columns items) ys) k)
+          → P (unwrap_or (if b then Some (sum_of same columns items y) else lookup (same k) (map (with_sum columns items) ys)) [])
+      by true rest = each y
+      by false rest = rest
 
--- What the row of a known key and the row that is added to it keep to, at a loop over all items.
+-- At a loop over all items, the row of the next one can be added to the sum of its key.
 module _ {K : Type 0} (same : K → K → Bool) (laws : IsEquivalence same) (columns : ℕ) (all seen : List (K × List ℤ)) (k : K) (row : List ℤ)
-    (next : IsNext all seen (k, row)) (wide : All (λ item. length item.1 ≡ columns) all) (rows : List (List ℤ))
-    (are : rows ≡ map (sum_of same columns seen) (distinct same (keys_of same seen))) (place : ℕ) (within : place < length (distinct same (keys_of same seen))) where
-  row_wide : length row ≡ columns
+    (next : IsNext all seen (k, row)) (wide : All (λ item. length item.1 ≡ columns) all) where
+  pub row_wide : length row ≡ columns
   row_wide = next_holds all seen (k, row) next (λ item. length item.1 ≡ columns) wide
 
-  known : (length (get_or rows place []) ≡ columns) × ((column : ℕ) → column < columns → nat_abs (get_or (get_or rows place []) column (pos 0)) ≤ sum_by (item_weight same laws column) seen)
-  known =
-      subst (λ l. (length (get_or l place []) ≡ columns) × ((column : ℕ) → column < columns → nat_abs (get_or (get_or l place []) column (pos 0)) ≤ sum_by (item_weight same laws column) seen)) (sym are)
-      (known_row same laws columns seen k place (seen_all all seen (k, row) next (λ item. length item.1 ≡ columns) wide) within)
-
-  pub put_wide : length row ≡ length (get_or rows place [])
-  put_wide = row_wide ∙ sym known.0
-
-  pub put_fits : ((column : ℕ) → column < columns → sum_by (item_weight same laws column) all ≤ 9223372036854775807)
-      → (column : ℕ) → column < length (get_or rows place []) → nat_abs (get_or (get_or rows place []) column (pos 0)) + nat_abs (get_or row column (pos 0)) ≤ 9223372036854775807
-  put_fits fits column lower =
-      let width = known.0 in
-      let here : column < columns = omega arith in
-      omega (arith, known.1 column here, fits column here, next_weight all seen (k, row) next (item_weight same laws column))
+  pub can_add : ((column : ℕ) → column < columns → sum_by (item_weight same laws column) all ≤ 9223372036854775807) → CanAdd (sum_at same (summed same columns seen) k) row
+  can_add fits =
+      at_key same laws columns seen k (λ sum. CanAdd sum row)
+      (record { wide = λ some. absurd (omega arith); fits = λ column lower. absurd (omega arith) })
+      (λ q.
+      let rows = rows_of same seen q in
+      let long = length-total_of columns rows in
+      record {
+        wide = λ some. row_wide ∙ sym long;
+        fits = λ column lower.
+            let here : column < columns = omega (arith, lower, long) in
+            omega (
+              arith,
+              abs-total_of columns rows column here (rows_wide same laws columns seen q (seen_all all seen (k, row) next (λ item. length item.1 ≡ columns) wide)),
+              rows_weight same laws column seen q,
+              fits column here,
+              next_weight all seen (k, row) next (item_weight same laws column),
+            );
+      })
+      (distinct same (keys_of same seen))

@@ -7,6 +7,9 @@ pub mod Tables
 pub mod Lists
 pub mod Ready
 pub mod EntryLemmas
+pub mod TableWalks
+pub mod WalkedTables
+pub mod WalkedTexts
 pub mod WalkedLemmas
 pub mod Renaming
 pub mod Once
@@ -20,7 +23,6 @@ pub mod KnownIds
 pub mod SumLemmas
 pub mod Grouping
 pub mod Prefix
-pub mod Pairs
 pub mod Agreement
 pub mod SummedLemmas
 pub mod SampleKeyLemmas

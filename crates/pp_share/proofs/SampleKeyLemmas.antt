@@ -1,25 +1,21 @@
 -- The sums of samples per key, where a loop takes one sample after another.
-use Rattle.std.proofs.Common.{◌≡◌, ℕ, ◌+◌, ◌<◌, ◌≤◌, Bool, not, ℤ, pos, nat_abs, List, [], ◌∷◌, ◌++◌, length, map, get_or, take, sum_by, refl, sym, ap, subst, ◌∙◌, arith}
-use Rattle.std.specs.Prelude.{◌==◌}
-use Rattle.std.specs.Bool.{Decides}
-use Rattle.std.specs.List.{All, list_any, zip}
+use Rattle.std.proofs.Common.{◌≡◌, ℕ, ◌+◌, ◌<◌, ◌≤◌, Bool, true, false, ℤ, pos, nat_abs, List, [], ◌∷◌, ◌++◌, Some, length, map, get_or, take, sum_by, refl, sym, ap, subst, ◌∙◌, if◌then◌else◌, arith}
+use Rattle.std.specs.List.{All}
+use Rattle.std.specs.Map.{lookup}
+use Rattle.std.specs.Option.{unwrap_or}
 use Rattle.std.specs.Cmp.{IsEquivalence, decided}
-use Rattle.std.specs.Cmp.Lexicographic.{pointwise}
-use Rattle.std.proofs.lemmas.Bool.Decides.{Decides-and, Decides-like, Decides-eqb, Decides-int_eq}
 use Rattle.std.proofs.lemmas.List.{length-map, map-append, get_or-map, take-map}
 use Rattle.std.proofs.lemmas.List.Elements.{All-map}
 use Rattle.std.proofs.lemmas.List.Sums.{sum_by-cons}
-use Rattle.std.proofs.lemmas.Slice.Eq.{slice_eq-Decides}
+use Rattle.indexmap.specs.IndexMap.{insert_entry}
 use Rattle.pp_model.specs.declared.profile.Label.{Label}
 use Rattle.pp_model.specs.declared.profile.Sample.{Sample}
-use Rattle.pp_model.specs.FirstSight.{seen_with, distinct, place_of}
-use Rattle.pp_model.proofs.FirstSightLemmas.{any-map, place-map, seen_with-map, distinct_apart}
-use Rattle.pp_share.specs.declared.samples.SampleKey.{SampleKey}
-use Rattle.pp_share.specs.Sums.{keys_of, sum_of, summed, rows_with}
-use Rattle.pp_share.specs.SampleKeys.{sample_item, key_lists, item_of_key, equal_label, same_stack, AreSums}
-use Rattle.pp_share.proofs.Prefix.{map_same, all_tt, IsNext, next_holds}
-use Rattle.pp_share.proofs.Pairs.{zip-map}
-use Rattle.pp_share.proofs.Grouping.{keys_push, sums_push, put_wide, put_fits}
+use Rattle.pp_share.specs.declared.sample_key.SampleKey.{SampleKey}
+use Rattle.pp_share.specs.Sums.{sum_with, summed, sum_at, sums_with, CanAdd}
+use Rattle.pp_share.specs.SampleStacks.{same_stack, stack_decides}
+use Rattle.pp_share.specs.SampleKeys.{sample_item, key_lists, same_key, item_of_key}
+use Rattle.pp_share.proofs.Prefix.{map_same, IsNext, next_holds}
+use Rattle.pp_share.proofs.Grouping.{summed_push, can_add}
 
 pub sum_by-map : {A B : Type 0} (weight : B → ℕ) (f : A → B) (xs : List A) → sum_by weight (map f xs) ≡ sum_by (λ x. weight (f x)) xs
 sum_by-map weight f [] = refl
@@ -40,99 +36,68 @@ next_described f all seen x next =
           ∙ ap (λ n. get_or (map f all) n (f x)) (sym long);
     }
 
--- keys that are described beside their values
-zip-described : {K D X : Type 0} (f : K → D) (keys : List K) (xs : List X) → map (λ pair. (f pair.0, pair.1)) (zip keys xs) ≡ zip (map f keys) xs
-zip-described f [] xs = refl
-zip-described f (k ∷ ks) [] = refl
-zip-described f (k ∷ ks) (x ∷ xs) = ap (λ l. (f k, x) ∷ l) (zip-described f ks xs)
+-- sums whose keys are described
+module _ {K D : Type 0} (same : D → D → Bool) (describe : K → D) where
+  abbrev same_described : K → K → Bool
+  same_described a b = same (describe a) (describe b)
 
-label_decides : (a b : Label) → Decides (equal_label a b) (a ≡ b)
-label_decides a b =
-    Decides-like (equal_label a b)
-    (λ p i. record { key = p.0 i; text = p.1.0 i; num = p.1.1.0 i; num_unit = p.1.1.1 i })
-    (λ e. (ap (λ l. l.key) e, (ap (λ l. l.text) e, (ap (λ l. l.num) e, ap (λ l. l.num_unit) e))))
-    (Decides-and _ _ (Decides-int_eq a.key b.key) (Decides-and _ _ (Decides-int_eq a.text b.text)
-    (Decides-and _ _ (Decides-int_eq a.num b.num) (Decides-int_eq a.num_unit b.num_unit))))
+  abbrev with_text : K × List ℤ → D × List ℤ
+  with_text entry = (describe entry.0, entry.1)
 
-stack_decides : (a b : List ℕ × List Label) → Decides (same_stack a b) (a ≡ b)
-stack_decides a b =
-    Decides-like (same_stack a b)
-    (λ p i. (p.0 i, p.1 i))
-    (λ e. (ap (λ s. s.0) e, ap (λ s. s.1) e))
-    (Decides-and _ _ (slice_eq-Decides (λ i j. Decides-eqb i j) a.0 b.0 (pointwise (λ i j. i == j) a.0 b.0) refl)
-    (slice_eq-Decides label_decides a.1 b.1 (pointwise equal_label a.1 b.1) refl))
+  sum_at-described : (sums : List (K × List ℤ)) (k : K) → sum_at same_described sums k ≡ sum_at same (map with_text sums) (describe k)
+  sum_at-described sums k = ap (λ o. unwrap_or o []) (found sums)
+    where
+      found : (es : List (K × List ℤ)) → lookup (same_described k) es ≡ lookup (same (describe k)) (map with_text es)
+      found [] = refl
+      found (e ∷ es) = ap (λ o. if same (describe k) (describe e.0) then Some e.1 else o) (found es)
 
--- keys are one where the locations and the labels are
-abbrev pub same_key : SampleKey → SampleKey → Bool
-same_key a b = same_stack (key_lists a) (key_lists b)
+  insert-described : (sums : List (K × List ℤ)) (k : K) (sum : List ℤ)
+      → map with_text (insert_entry same_described sums k sum) ≡ insert_entry same (map with_text sums) (describe k) sum
+  insert-described [] k sum = refl
+  insert-described (e ∷ es) k sum = by (same (describe k) (describe e.0)) (insert-described es k sum)
+    where
+      by : (b : Bool) → map with_text (insert_entry same_described es k sum) ≡ insert_entry same (map with_text es) (describe k) sum
+          → map with_text (if b then (e.0, sum) ∷ es else e ∷ insert_entry same_described es k sum)
+          ≡ (if b then (describe e.0, sum) ∷ map with_text es else with_text e ∷ insert_entry same (map with_text es) (describe k) sum)
+      by true rest = refl
+      by false rest = ap (λ l. with_text e ∷ l) rest
 
 stack_laws : IsEquivalence same_stack
 stack_laws = decided same_stack stack_decides
 
--- keys beside their sums are the summed items
-pub paired_sums : (columns : ℕ) (items : List ((List ℕ × List Label) × List ℤ)) (keys : List SampleKey) (sums : List (List ℤ)) → AreSums columns items keys sums
-    → map item_of_key (zip keys sums) ≡ summed same_stack columns items
-paired_sums columns items keys sums are =
-    zip-described key_lists keys sums ∙ (λ i. zip (are.once i) (are.added_up i))
-    ∙ zip-map (sum_of same_stack columns items) (distinct same_stack (keys_of same_stack items))
-
+-- One sample more, whose key this is.
 module _ (columns : ℕ) (samples seen : List Sample) (s : Sample) (next : IsNext samples seen s)
     (wide : All (λ (s : Sample). length s.value ≡ columns) samples)
-    (keys : List SampleKey) (sums : List (List ℤ)) (so_far : AreSums columns (map sample_item seen) keys sums)
+    (sums : List (SampleKey × List ℤ)) (so_far : map item_of_key sums ≡ summed same_stack columns (map sample_item seen))
     (key : SampleKey) (is : key_lists key ≡ (s.location_id, s.label)) where
-  abbrev all_items : List ((List ℕ × List Label) × List ℤ)
-  all_items = map sample_item samples
+  abbrev Item : Type 0
+  Item = (List ℕ × List Label) × List ℤ
 
-  abbrev items : List ((List ℕ × List Label) × List ℤ)
-  items = map sample_item seen
-
-  abbrev stack : List ℕ × List Label
-  stack = (s.location_id, s.label)
-
-  next_item : IsNext all_items items (stack, s.value)
+  next_item : IsNext (map sample_item samples) (map sample_item seen) (sample_item s)
   next_item = next_described sample_item samples seen s next
 
-  wide_items : All (λ (item : (List ℕ × List Label) × List ℤ). length item.1 ≡ columns) all_items
-  wide_items = All-map (λ (item : (List ℕ × List Label) × List ℤ). length item.1 ≡ columns) sample_item samples wide
+  wide_items : All (λ (item : Item). length item.1 ≡ columns) (map sample_item samples)
+  wide_items = All-map (λ (item : Item). length item.1 ≡ columns) sample_item samples wide
 
-  long : length keys ≡ length (distinct same_stack (keys_of same_stack items))
-  long = sym (length-map keys key_lists) ∙ ap length so_far.once
-
-  -- the row of a known key and the sample's values are as wide, and do not add up to too much
-  pub sample_wide : (place : ℕ) → place < length keys → length s.value ≡ length (get_or sums place [])
-  sample_wide place within =
-      put_wide same_stack stack_laws columns all_items items stack s.value next_item wide_items sums so_far.added_up place (omega (arith, within, long))
-
-  pub sample_fits : ((column : ℕ) → column < columns → sum_by (λ (s : Sample). nat_abs (get_or s.value column (pos 0))) samples ≤ 9223372036854775807)
-      → (place : ℕ) → place < length keys → (column : ℕ) → column < length (get_or sums place [])
-      → nat_abs (get_or (get_or sums place []) column (pos 0)) + nat_abs (get_or s.value column (pos 0)) ≤ 9223372036854775807
-  sample_fits fits place within =
-      put_fits same_stack stack_laws columns all_items items stack s.value next_item wide_items sums so_far.added_up place (omega (arith, within, long))
+  -- its values can be added to the sum of its key
+  pub sample_adds : ((column : ℕ) → column < columns → sum_by (λ (s : Sample). nat_abs (get_or s.value column (pos 0))) samples ≤ 9223372036854775807)
+      → CanAdd (sum_at same_key sums key) s.value
+  sample_adds fits =
+      subst (λ sum. CanAdd sum s.value)
+      (sym (sum_at-described same_stack key_lists sums key ∙ (λ i. sum_at same_stack (so_far i) (is i))))
+      (can_add same_stack stack_laws columns (map sample_item samples) (map sample_item seen) (s.location_id, s.label) s.value next_item wide_items
       (λ column lower. omega (
         arith,
         fits column lower,
-        sum_by-map (λ (item : (List ℕ × List Label) × List ℤ). nat_abs (get_or item.1 column (pos 0))) sample_item samples,
-      ))
+        sum_by-map (λ (item : Item). nat_abs (get_or item.1 column (pos 0))) sample_item samples,
+      )))
 
-  -- the sums after the sample
-  pub sums_with : (is_new : Bool) → is_new ≡ not (list_any (same_key key) keys) → (place : ℕ) → place ≡ place_of same_key keys key
-      → AreSums columns (map sample_item (seen ++ s ∷ [])) (seen_with same_key keys key) (rows_with sums place is_new s.value)
-  sums_with is_new tells place at =
-      let agree : (a b : SampleKey) → Unit {0} → Unit {0} → same_stack (key_lists a) (key_lists b) ≡ same_key a b = λ a b _ _. refl in
-      let more = map-append sample_item seen (s ∷ []) in
-      subst (λ l. AreSums columns l (seen_with same_key keys key) (rows_with sums place is_new s.value)) (sym more) (record {
-        once =
-            sym (seen_with-map same_key same_stack key_lists (λ _. Unit {0}) agree key tt keys (all_tt keys))
-            ∙ (λ i. seen_with same_stack (so_far.once i) (is i))
-            ∙ sym (keys_push same_stack stack_laws columns items stack s.value);
-        added_up =
-            ap (λ l. rows_with l place is_new s.value) so_far.added_up
-            ∙ sym (sums_push same_stack stack_laws columns items stack s.value
-            (next_holds all_items items (stack, s.value) next_item (λ item. length item.1 ≡ columns) wide_items)
-            (distinct_apart same_stack stack_laws (keys_of same_stack items)) is_new
-            (tells ∙ ap not (sym (any-map same_key same_stack key_lists (λ _. Unit {0}) agree key tt keys (all_tt keys)))
-            ∙ (λ i. not (list_any (same_stack (is i)) (so_far.once i))))
-            place
-            (at ∙ sym (place-map same_key same_stack key_lists (λ _. Unit {0}) agree key tt keys (all_tt keys))
-            ∙ (λ i. place_of same_stack (so_far.once i) (is i))));
-      })
+  -- the sums after it
+  pub sums_after : map item_of_key (sums_with same_key sums key s.value) ≡ summed same_stack columns (map sample_item (seen ++ s ∷ []))
+  sums_after =
+      insert-described same_stack key_lists sums key (sum_with (sum_at same_key sums key) s.value)
+      ∙ ap (λ sum. insert_entry same_stack (map item_of_key sums) (key_lists key) (sum_with sum s.value)) (sum_at-described same_stack key_lists sums key)
+      ∙ (λ i. sums_with same_stack (so_far i) (is i) s.value)
+      ∙ sym (summed_push same_stack stack_laws columns (map sample_item seen) (s.location_id, s.label) s.value
+      (next_holds (map sample_item samples) (map sample_item seen) (sample_item s) next_item (λ item. length item.1 ≡ columns) wide_items))
+      ∙ ap (summed same_stack columns) (sym (map-append sample_item seen (s ∷ [])))

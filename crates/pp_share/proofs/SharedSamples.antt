@@ -18,7 +18,8 @@ use Rattle.pp_share.specs.Alike.{same_location, same_label, same_sample}
 use Rattle.pp_share.specs.Header.{header_of}
 use Rattle.pp_share.specs.Placed.{function_placed, mapping_placed, locations_of, location_placed, plain, totalled}
 use Rattle.pp_share.specs.Sums.{counts, keys_of, sum_of, summed}
-use Rattle.pp_share.specs.SampleKeys.{sample_item, sample_of, equal_label, same_stack, summed_samples}
+use Rattle.pp_share.specs.SampleStacks.{equal_label, same_stack}
+use Rattle.pp_share.specs.SampleKeys.{sample_item, sample_of, summed_samples}
 use Rattle.pp_model.proofs.FirstSightLemmas.{all-seen_after}
 use Rattle.pp_share.proofs.Deciding.{location_decides}
 use Rattle.pp_share.proofs.SummedLemmas.{summed-map}

@@ -1,22 +1,17 @@
 -- Tables whose entries are distinct, and ids as places in them plus 1.
-use Rattle.std.proofs.Common.{◌≡◌, ℕ, zero, suc, ◌+◌, ◌-◌, ◌<◌, ◌≤◌, Bool, true, false, true≢false, not, nat_eq, List, [], ◌∷◌, ◌++◌, map, length, get_or, filter, None, Some, refl, sym, ap, subst, ◌∙◌, inl, inr, if◌then◌else◌, arith}
+use Rattle.std.proofs.Common.{◌≡◌, ℕ, zero, suc, ◌+◌, ◌-◌, ◌<◌, ◌≤◌, Bool, true, false, true≢false, not, nat_eq, List, [], ◌∷◌, map, length, get_or, filter, None, Some, refl, sym, ap, ◌∙◌, inl, inr, if◌then◌else◌, arith}
 use Rattle.std.specs.Prelude.{◌==◌, slice_get}
-use Rattle.std.specs.List.{AllByRecursion, IsDistinct, filter_map, cons_option}
-use Rattle.std.specs.Option.{option_map, option_map_or, option_to_list}
+use Rattle.std.specs.List.{AllByRecursion, IsDistinct}
+use Rattle.std.specs.Option.{option_map}
 use Rattle.std.specs.Cmp.{IsEquivalence}
-use Rattle.std.proofs.Math.ListN.{get_or-map}
 use Rattle.std.proofs.Math.Dec.{eqb-suc-zero, eqb-zero-suc, eqb-suc-suc}
 use Rattle.std.proofs.lemmas.Bool.{eq-eqb, ne_eqb, cases_eq, cond-true, cond-false}
-use Rattle.std.proofs.lemmas.List.{length-map}
 use Rattle.std.proofs.lemmas.List.Elements.{All-from_recursion}
 use Rattle.std.proofs.lemmas.Map.Keys.{IsDistinct-head}
 use Rattle.std.proofs.lemmas.Option.{slice_get-get_or, slice_get-map}
 use Rattle.pp_model.specs.Lookup.{place_read}
-use Rattle.pp_model.specs.FirstSight.{seen_with, seen_after, distinct, place_of}
-use Rattle.pp_share.specs.Ids.{place_id}
+use Rattle.pp_model.specs.FirstSight.{seen_with, seen_after}
 use Rattle.pp_share.specs.Walk.{met_after}
-use Rattle.pp_share.specs.Gathered.{gathered}
-use Rattle.pp_model.proofs.FirstSightLemmas.{distinct-map, place-map, all-seen_after}
 
 -- ids compared
 abbrev pub same_id : ℕ → ℕ → Bool
@@ -92,7 +87,7 @@ met_distinct met (id ∷ ids) = by (id == 0) (λ m. met_distinct m ids)
     by true rest = rest met
     by false rest = rest (seen_with same_id met id)
 
-names_nonzero : (n : ℕ) (ids : List ℕ) → AllByRecursion (IsRef n) ids → AllByRecursion (Names n) (nonzero ids)
+pub names_nonzero : (n : ℕ) (ids : List ℕ) → AllByRecursion (IsRef n) ids → AllByRecursion (Names n) (nonzero ids)
 names_nonzero n [] refs = tt
 names_nonzero n (id ∷ ids) refs = by (id == 0) refl (names_nonzero n ids refs.1)
   where
@@ -105,73 +100,3 @@ names_nonzero n (id ∷ ids) refs = by (id == 0) refl (names_nonzero n ids refs.
           | inl none ↦ absurd (true≢false (sym (eq-eqb id 0 none) ∙ is))
           | inr other ↦ omega (arith, other)
         ]
-
--- A walk over references to a table of entries, of which this is said, and of no two the same.
-module _ {A B : Type 0} (same : B → B → Bool) (laws : IsEquivalence same) (say : A → B) (items : List A) (none : A) (apart : IsDistinct same (map say items)) where
-  -- what is said of the entry that the id names
-  abbrev pub said : ℕ → B
-  said id = say (named items none id)
-
-  pub read_said : (id : ℕ) → Names (length items) id → place_read (map say items) id ≡ Some (said id)
-  read_said id is = read-map say items id ∙ ap (option_map say) (read_named items none id is)
-
-  said_tell : (a b : ℕ) → Names (length items) a → Names (length items) b → same (said a) (said b) ≡ same_id a b
-  said_tell a b na nb =
-      let long = sym (length-map items say) in
-      (λ j. same (sym (get_or-map say items (a - 1) none) j) (sym (get_or-map say items (b - 1) none) j))
-      ∙ ids_tell same laws (map say items) (say none) a b apart (subst (λ n. Names n a) long na) (subst (λ n. Names n b) long nb)
-
-  -- what is said of entries that ids name is what is read there
-  pub said_each : (ids : List ℕ) → AllByRecursion (Names (length items)) ids → map said ids ≡ filter_map (place_read (map say items)) ids
-  said_each [] all = refl
-  said_each (id ∷ ids) all = (λ j. cons_option (sym (read_said id all.0) j) (said_each ids all.1 j))
-
-  read_each : (ids : List ℕ) → AllByRecursion (IsRef (length items)) ids → filter_map (place_read (map say items)) ids ≡ map said (nonzero ids)
-  read_each [] refs = refl
-  read_each (id ∷ ids) refs = elim (cases_eq id 0) as (λ _. filter_map (place_read (map say items)) (id ∷ ids) ≡ map said (nonzero (id ∷ ids))) [
-    | inl none_is ↦
-        (λ j. cons_option (read_none (map say items) id none_is j) (read_each ids refs.1 j))
-        ∙ ap (λ b. map said (if not b then id ∷ nonzero ids else nonzero ids)) (sym (eq-eqb id 0 none_is))
-    | inr other ↦
-        (λ j. cons_option (read_said id (omega (arith, other), refs.0) j) (read_each ids refs.1 j))
-        ∙ ap (λ b. map said (if not b then id ∷ nonzero ids else nonzero ids)) (sym (ne_eqb id 0 other))
-  ]
-
-  -- the distinct entries that are met are those of the ids that are met
-  pub walk_entries : (ids : List ℕ) → AllByRecursion (IsRef (length items)) ids → distinct same (filter_map (place_read (map say items)) ids) ≡ map said (met_after [] ids)
-  walk_entries ids refs =
-      ap (distinct same) (read_each ids refs)
-      ∙ distinct-map same_id same said (Names (length items)) said_tell (nonzero ids) (names_nonzero (length items) ids refs)
-      ∙ ap (map said) (sym (met_distinct [] ids))
-
-  -- the ids that are met name entries
-  pub walk_names : (ids : List ℕ) → AllByRecursion (IsRef (length items)) ids → AllByRecursion (Names (length items)) (met_after [] ids)
-  walk_names ids refs =
-      subst (AllByRecursion (Names (length items))) (sym (met_distinct [] ids))
-      (all-seen_after same_id same said (Names (length items)) said_tell [] (nonzero ids) tt (names_nonzero (length items) ids refs))
-
-  -- an entry's id among those met is that of its id
-  pub walk_place : (met : List ℕ) → AllByRecursion (Names (length items)) met → (id : ℕ) → Names (length items) id
-      → place_id met id ≡ place_of same (map said met) (said id) + 1
-  walk_place met all id is =
-      cond-false _ _ _ (ne_eqb id 0 (λ e. let zero_is : id ≡ 0 = e in omega (arith, zero_is, is.0)))
-      ∙ ap (λ n. n + 1) (sym (place-map same_id same said (Names (length items)) said_tell id is met all))
-
-  -- the same of a reference, which may be none
-  pub walk_ref : (met : List ℕ) → AllByRecursion (Names (length items)) met → (id : ℕ) → IsRef (length items) id
-      → place_id met id ≡ option_map_or (λ x. place_of same (map said met) x + 1) (place_read (map say items) id) 0
-  walk_ref met all id is = elim (cases_eq id 0) as (λ _. place_id met id ≡ option_map_or (λ x. place_of same (map said met) x + 1) (place_read (map say items) id) 0) [
-    | inl none_is ↦
-        cond-true _ _ _ (eq-eqb id 0 none_is)
-        ∙ ap (λ o. option_map_or (λ x. place_of same (map said met) x + 1) o 0) (sym (read_none (map say items) id none_is))
-    | inr other ↦
-        walk_place met all id (omega (arith, other), is)
-        ∙ ap (λ o. option_map_or (λ x. place_of same (map said met) x + 1) o 0) (sym (read_said id (omega (arith, other), is)))
-  ]
-
--- what is gathered are the entries that the ids name
-pub gathered_is : {T : Type 0} (entry : T → ℕ → T) (items : List T) (d : T) (ids : List ℕ) → AllByRecursion (Names (length items)) ids
-    → gathered entry items ids ≡ map (λ id. entry (named items d id) id) ids
-gathered_is entry items d [] all = refl
-gathered_is entry items d (id ∷ ids) all =
-    (λ j. option_to_list (option_map (λ item. entry item id) (read_named items d id all.0 j)) ++ gathered_is entry items d ids all.1 j)

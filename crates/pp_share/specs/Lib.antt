@@ -9,8 +9,8 @@ pub mod Ids
 pub mod Renumbered
 pub mod FunctionKeys
 pub mod PlaceKeys
+pub mod SampleStacks
 pub mod SampleKeys
-pub mod Stacks
 pub mod Shared
 pub mod Walk
 pub mod Gathered

@@ -1,26 +1,18 @@
 //! Samples that stand once, with their values added up.
-ghost use Rattle.std.specs.Prelude.{◌≡◌, ℕ, ◌-◌, ◌^◌, ◌<◌, ◌≤◌, ◌++◌, [], ◌∷◌, pos, nat_abs, length, map, filter, slice_index_or, All, IfOk, OnOk};
-ghost use Rattle.std.specs.List.{sum_by, list_all, zip};
+ghost use Rattle.std.specs.Prelude.{◌≡◌, ℕ, ◌+◌, ◌-◌, ◌^◌, ◌<◌, ◌≤◌, ◌++◌, [], ◌∷◌, pos, nat_abs, length, map, filter, vec_len, vec_capacity, All, IfOk, OnOk};
+ghost use Rattle.std.specs.List.{sum_by, list_all};
 ghost use Rattle.std.specs.Ordering.{int_eq};
 ghost use Rattle.pp_model.specs.Sizes.{value_in};
-ghost use Rattle.pp_share.specs.Sums.{counts};
-ghost use Rattle.pp_share.specs.SampleKeys.{sample_item, key_lists, item_of_key, sample_of, AreSums, summed_samples};
+ghost use Rattle.pp_share.specs.Sums.{counts, summed, sum_at, sums_with, CanAdd};
+ghost use Rattle.pp_share.specs.SampleStacks.{same_stack};
+ghost use Rattle.pp_share.specs.SampleKeys.{sample_item, key_lists, same_key, item_of_key, sample_of, summed_samples};
 
-use crate::stack::Stack;
-use crate::sums::put;
-use indexmap::IndexSet;
+use crate::sample_key::SampleKey;
+use crate::sums::add_row;
+use indexmap::IndexMap;
 use pp_base::{List, Memory};
 use pp_model::{Label, Sample};
 use std::alloc::Global;
-
-/// What tells a sample apart where texts and locations stand once: its locations, leaf first, and its labels, in order.
-#[derive(Debug, Drop, PartialEq, Eq, Hash)]
-pub struct SampleKey {
-    /// The ids of its locations, leaf first.
-    pub locations: Stack,
-    /// Its labels. The same labels in another order are another key.
-    pub labels: Vec<Label>,
-}
 
 /// The samples with different locations or labels, each at the place of the first of its kind, with the values of all
 /// of its kind added up. Those whose values are all 0 are left out.
@@ -34,8 +26,8 @@ pub fn sum_samples(
         → sum_by (λ s. nat_abs (value_in s column)) samples ≤ 2 ^ 63 - 1 }
     ensures { IfOk result (λ r. r ≡ summed_samples columns samples) }
 {
-    let (keys, sums) = sum_each(alloc, columns, samples)?;
-    kept_samples(alloc, keys, sums)
+    let sums = sum_each(alloc, columns, samples)?;
+    kept_samples(alloc, sums)
 }
 
 // The keys of the samples without repeats, in the order of first sight, and for each the sum of its values in each
@@ -44,20 +36,19 @@ fn sum_each(
     alloc: Global,
     columns: usize,
     samples: List<Sample>,
-) -> Result<(IndexSet<SampleKey>, List<List<i64>>), Memory>
+) -> Result<IndexMap<SampleKey, List<i64>>, Memory>
     requires wide { All (λ s. length s.value ≡ columns) samples }
     requires fits { (column : ℕ) → column < columns
         → sum_by (λ s. nat_abs (value_in s column)) samples ≤ 2 ^ 63 - 1 }
-    ensures { IfOk result (λ r. AreSums columns (map sample_item samples) r.0.keys r.1) }
+    ensures { IfOk result (λ sums. map item_of_key sums.entries
+        ≡ summed same_stack columns (map sample_item samples)) }
 {
-    let mut keys = IndexSet::with_capacity(alloc, samples.len())?;
-    let mut sums = List::from_vec(Vec::with_capacity(alloc, samples.len())?);
+    let mut sums = IndexMap::with_capacity(alloc, samples.len())?;
     for sample in samples.into_vec() {
         let key = key_of(sample.location_id, sample.label);
-        let (place, is_new) = keys.insert_full(key)?;
-        put(&mut sums, place, is_new, sample.value)?;
+        add(alloc, &mut sums, key, sample.value)?;
     }
-    Ok((keys, sums))
+    Ok(sums)
 }
 
 // The key of these locations and labels.
@@ -65,42 +56,53 @@ fn key_of(locations: List<u64>, labels: List<Label>) -> SampleKey
     ensures { key_lists result ≡ (locations, labels) }
 {
     SampleKey {
-        locations: Stack {
-            ids: locations.into_vec(),
-        },
+        locations: locations.into_vec(),
         labels: labels.into_vec(),
     }
 }
 
-// The samples of the keys with these values, but for those whose values are all 0.
-fn kept_samples(
+// Adds the row to the sum of its key.
+fn add(
     alloc: Global,
-    keys: IndexSet<SampleKey>,
-    sums: List<List<i64>>,
-) -> Result<List<Sample>, Memory>
-    ensures { IfOk result (λ samples. samples
-        ≡ map sample_of (filter counts (map item_of_key (zip keys.keys sums)))) }
+    sums: &mut IndexMap<SampleKey, List<i64>>,
+    key: SampleKey,
+    row: List<i64>,
+) -> Result<(), Memory>
+    requires { CanAdd (sum_at same_key sums.old.entries key) row }
+    ensures { OnOk result (sums.new.entries ≡ sums_with same_key sums.old.entries key row) }
 {
-    let mut samples = List::from_vec(Vec::with_capacity(alloc, sums.len())?);
-    for (key, value) in keys.into_iter().zip(sums.into_vec()) {
-        push_counting(&mut samples, key, value)?;
+    add_row(sums.entry(key)?.or_insert(List::new(alloc)), row);
+    Ok(())
+}
+
+// The samples of the keys with these values, but for those whose values are all 0.
+fn kept_samples(alloc: Global, sums: IndexMap<SampleKey, List<i64>>) -> Result<List<Sample>, Memory>
+    ensures { IfOk result (λ samples. samples
+        ≡ map sample_of (filter counts (map item_of_key sums.entries))) }
+{
+    let mut samples = Vec::with_capacity(alloc, sums.len())?;
+    for (key, value) in sums {
+        push_counting(&mut samples, key, value);
     }
-    Ok(samples)
+    Ok(List::from_vec(samples))
 }
 
 // Adds the sample at the end where some value isn't 0.
-fn push_counting(samples: &mut List<Sample>, key: SampleKey, value: List<i64>) -> Result<(), Memory>
-    ensures { OnOk result (samples.new
-        ≡ samples.old ++ map sample_of (filter counts (item_of_key (key, value) ∷ []))) }
+fn push_counting(samples: &mut Vec<Sample>, key: SampleKey, value: List<i64>)
+    requires { vec_len samples.old < vec_capacity samples.old }
+    ensures items { samples.new.items
+        ≡ samples.old.items ++ map sample_of (filter counts (item_of_key (key, value) ∷ [])) }
+    ensures len { vec_len samples.new ≤ vec_len samples.old + 1 }
+    ensures capacity { vec_capacity samples.new ≡ vec_capacity samples.old }
 {
     if is_zero(value.as_slice()) {
-        return Ok(());
+        return;
     }
-    samples.push(Sample {
-        location_id: List::from_vec(key.locations.ids),
+    samples.push_reserved(Sample {
+        location_id: List::from_vec(key.locations),
         value,
         label: List::from_vec(key.labels),
-    })
+    });
 }
 
 // Whether all values are 0.

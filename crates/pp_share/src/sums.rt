@@ -1,27 +1,19 @@
-//! Values added up per key.
-ghost use Rattle.std.specs.Prelude.{◌≡◌, ℕ, ◌+◌, ◌-◌, ◌^◌, ◌<◌, ◌≤◌, pos, nat_abs, false, [], length, slice_index_or, OnOk};
-ghost use Rattle.pp_share.specs.Sums.{added, rows_with};
+//! Values added up.
+ghost use Rattle.std.specs.Prelude.{◌≡◌, ℕ, ◌+◌, ◌-◌, ◌^◌, ◌<◌, ◌≤◌, pos, nat_abs, length, slice_index_or};
+ghost use Rattle.pp_share.specs.Sums.{added, sum_with, CanAdd};
 
-use pp_base::{List, Memory};
+use pp_base::List;
 
-/// Puts the row of a new key last, and adds that of a known one to the row at its place.
-pub fn put(
-    sums: &mut List<List<i64>>,
-    place: usize,
-    is_new: bool,
-    row: List<i64>,
-) -> Result<(), Memory>
-    requires within { is_new ≡ false → place < length sums.old }
-    requires wide { is_new ≡ false → length row ≡ length (slice_index_or sums.old place []) }
-    requires fits { is_new ≡ false → (column : ℕ) → column < length (slice_index_or sums.old place [])
-        → nat_abs (slice_index_or (slice_index_or sums.old place []) column (pos 0)) + nat_abs (slice_index_or row column (pos 0)) ≤ 2 ^ 63 - 1 }
-    ensures { OnOk result (sums.new ≡ rows_with sums.old place is_new row) }
+/// Adds the row to the sum of the rows before, column by column. An empty sum has none before it, and becomes the row.
+pub fn add_row(sum: &mut List<i64>, row: List<i64>)
+    requires { CanAdd sum.old row }
+    ensures { sum.new ≡ sum_with sum.old row }
 {
-    if is_new {
-        return sums.push(row);
+    if sum.len() == 0 {
+        *sum = row;
+        return;
     }
-    add_to(sums.item_mut(place), row.as_slice());
-    Ok(())
+    add_to(sum, row.as_slice());
 }
 
 // Adds the values to the sums, column by column.

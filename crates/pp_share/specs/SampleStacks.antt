@@ -1,0 +1,63 @@
+-- The locations and labels by which samples are told apart where texts and locations stand once, and the number that a
+-- hasher takes of them.
+use Rattle.std.specs.Prelude.{◌≡◌, ℕ, ◌*◌, ◌/◌, ◌%◌, ◌^◌, ◌==◌, Bool, ◌&&◌, true, ℤ, List, fold, bit_xor}
+use Rattle.std.specs.Bool.{Decides}
+use Rattle.std.specs.Hash.{u64}
+use Rattle.std.specs.Int.{w64, cast_unsigned}
+use Rattle.std.specs.Ordering.{int_eq}
+use Rattle.std.specs.Cmp.Lexicographic.{pointwise}
+use Rattle.std.proofs.Common.{refl, ap}
+use Rattle.std.proofs.lemmas.Bool.Decides.{Decides-and, Decides-like, Decides-eqb, Decides-int_eq}
+use Rattle.std.proofs.lemmas.Slice.Eq.{slice_eq-Decides}
+use Rattle.pp_model.specs.declared.profile.Label.{Label}
+
+-- labels have the same fields
+abbrev pub equal_label : Label → Label → Bool
+equal_label a b =
+    int_eq a.key b.key
+    && (int_eq a.text b.text && (int_eq a.num b.num && int_eq a.num_unit b.num_unit))
+
+-- the locations and the labels are equal, in order
+abbrev pub same_stack : List ℕ × List Label → List ℕ × List Label → Bool
+same_stack a b = pointwise (λ i j. i == j) a.0 b.0 && pointwise equal_label a.1 b.1
+
+-- the upper half of the number's bits folded into the lower one
+abbrev pub folded : ℕ → ℕ
+folded number = bit_xor number (number / 2 ^ 32)
+
+-- the number of what was taken before, with one number more
+abbrev pub with_number : ℕ → ℕ → ℕ
+with_number number more = folded (bit_xor number more * 11400714819323198485 % 2 ^ 64)
+
+-- the same, with a signed number
+abbrev pub with_int : ℕ → ℤ → ℕ
+with_int number more = with_number number (cast_unsigned w64 more)
+
+-- the same, with each field of a label
+abbrev pub with_label : ℕ → Label → ℕ
+with_label number l = with_int (with_int (with_int (with_int number l.key) l.text) l.num) l.num_unit
+
+-- A number in which each location and each field of each label counts, and its place.
+abbrev pub stack_number : List ℕ × List Label → ℕ
+stack_number stack = fold with_label (fold with_number 0 stack.0) stack.1
+
+label_decides : (a b : Label) → Decides (equal_label a b) (a ≡ b)
+label_decides a b =
+    Decides-like (equal_label a b)
+    (λ p i. record { key = p.0 i; text = p.1.0 i; num = p.1.1.0 i; num_unit = p.1.1.1 i })
+    (λ e. (ap (λ l. l.key) e, (ap (λ l. l.text) e, (ap (λ l. l.num) e, ap (λ l. l.num_unit) e))))
+    (Decides-and _ _ (Decides-int_eq a.key b.key) (Decides-and _ _ (Decides-int_eq a.text b.text)
+    (Decides-and _ _ (Decides-int_eq a.num b.num) (Decides-int_eq a.num_unit b.num_unit))))
+
+-- stacks are the same exactly where they are equal
+pub stack_decides : (a b : List ℕ × List Label) → Decides (same_stack a b) (a ≡ b)
+stack_decides a b =
+    Decides-like (same_stack a b)
+    (λ p i. (p.0 i, p.1 i))
+    (λ e. (ap (λ s. s.0) e, ap (λ s. s.1) e))
+    (Decides-and _ _ (slice_eq-Decides (λ i j. Decides-eqb i j) a.0 b.0 (pointwise (λ i j. i == j) a.0 b.0) refl)
+    (slice_eq-Decides label_decides a.1 b.1 (pointwise equal_label a.1 b.1) refl))
+
+-- and then they have the same number
+pub same_number : (a b : List ℕ × List Label) → same_stack a b ≡ true → u64 (stack_number a) ≡ u64 (stack_number b)
+same_number a b same = ap (λ stack. u64 (stack_number stack)) ((stack_decides a b).0 same)
