@@ -225,7 +225,6 @@ module _ (p : Profile) (ps : List Profile) (valid : AllByRecursion NoRuleFails (
   one_joined = record {
     some = whole_some p ps ids start.0 start.1 few;
     empty = whole_empty p ps ids start.0 start.1 few;
-    few = few;
     samples = refs_all (join_from (moved_behind no_sizes p) ps) p ps refl valid;
     duration = whole_duration p ps ids start.0 start.1 few;
   }

@@ -2,7 +2,7 @@
 use Rattle.std.proofs.Common.{◌≡◌, ℕ, ◌+◌, ◌-◌, ◌<◌, ◌≤◌, Bool, true, false, not, ◌||◌, nat_le, pos, List, [], ◌∷◌, length, None, Some, refl, sym, ap, subst, ◌∙◌, arith, if◌then◌else◌}
 use Rattle.std.specs.Prelude.{◌==◌, slice_get}
 use Rattle.std.specs.Bool.{Decides}
-use Rattle.std.specs.List.{AllByRecursion, flat_map}
+use Rattle.std.specs.List.{AllByRecursion}
 use Rattle.std.specs.Option.{unwrap_or}
 use Rattle.std.specs.Str.{bytes_eq}
 use Rattle.std.proofs.lemmas.Bool.{ne_eqb, cond-false, lt-leb}
@@ -56,11 +56,6 @@ nonempty_same t = by (bytes_eq [] t) (bytes_eq-Decides [] t)
 pub refs_named : (n : ℕ) (ids : List ℕ) → AllByRecursion (Names n) ids → AllByRecursion (IsRef n) ids
 refs_named n [] all = tt
 refs_named n (id ∷ ids) all = (all.0.1, refs_named n ids all.1)
-
--- ids put one behind the other
-pub singles : (ids : List ℕ) → flat_map (λ id. id ∷ []) ids ≡ ids
-singles [] = refl
-singles (id ∷ ids) = ap (λ l. id ∷ l) (singles ids)
 
 -- a function of which nothing is known
 pub none_text : FunctionText

@@ -7,7 +7,6 @@ pub mod Tables
 pub mod Lists
 pub mod Ready
 pub mod EntryLemmas
-pub mod TableWalks
 pub mod WalkedTables
 pub mod WalkedTexts
 pub mod WalkedLemmas

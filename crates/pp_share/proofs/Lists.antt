@@ -1,40 +1,49 @@
 -- Lists that are mapped, filtered and put together in two ways.
-use Rattle.std.proofs.Common.{◌≡◌, ℕ, Bool, true, false, ◌&&◌, if◌then◌else◌, filter, List, [], ◌∷◌, ◌++◌, map, length, Option, None, Some, refl, sym, ap, ◌∙◌, arith}
+use Rattle.std.proofs.Common.{◌≡◌, Bool, true, false, ◌&&◌, if◌then◌else◌, filter, List, [], ◌∷◌, ◌++◌, map, Option, None, Some, refl, sym, ap, ◌∙◌}
 use Rattle.std.specs.List.{AllByRecursion, filter_map, flat_map, cons_option}
 use Rattle.std.specs.Option.{option_map, option_to_list}
 use Rattle.std.specs.Cmp.Lexicographic.{pointwise}
 use Rattle.std.proofs.lemmas.List.{map-append}
-use Rattle.std.proofs.lemmas.List.Elements.{filter_map-append, All-from_recursion}
-use Rattle.pp_share.proofs.Tables.{Names, named}
+use Rattle.std.proofs.lemmas.List.Elements.{filter_map-append}
 
 pub map_as : {A B : Type 0} (f g : A → B) (P : A → Type 0) → ((a : A) → P a → f a ≡ g a) → (xs : List A) → AllByRecursion P xs → map f xs ≡ map g xs
 map_as f g P agree [] all = refl
 map_as f g P agree (x ∷ xs) all = (λ j. agree x all.0 j ∷ map_as f g P agree xs all.1 j)
 
+-- what is made of items is made of what is said of them
+pub map_described : {A B C : Type 0} (f : A → C) (write : B → C) (say : A → B) (P : A → Type 0) → ((a : A) → P a → f a ≡ write (say a)) → (xs : List A) → AllByRecursion P xs
+    → map f xs ≡ map write (map say xs)
+map_described f write say P agree [] all = refl
+map_described f write say P agree (x ∷ xs) all = (λ j. agree x all.0 j ∷ map_described f write say P agree xs all.1 j)
+
+-- what is read of what is said of items is what their names stand for
+pub flat_map_described : {A B X Y : Type 0} (read : B → List Y) (name : X → Y) (say : A → B) (names : A → List X) → ((a : A) → read (say a) ≡ map name (names a)) → (xs : List A)
+    → flat_map read (map say xs) ≡ map name (flat_map names xs)
+flat_map_described read name say names agree [] = refl
+flat_map_described read name say names agree (x ∷ xs) =
+    (λ j. agree x j ++ flat_map_described read name say names agree xs j) ∙ sym (map-append name (names x) (flat_map names xs))
+
 pub flat_map-map : {A B C : Type 0} (f : B → List C) (u : A → B) (xs : List A) → flat_map f (map u xs) ≡ flat_map (λ x. f (u x)) xs
 flat_map-map f u [] = refl
 flat_map-map f u (x ∷ xs) = ap (λ l. f (u x) ++ l) (flat_map-map f u xs)
 
-pub flat_map_as : {A X Y : Type 0} (f : A → List Y) (h : X → Y) (g : A → List X) (P : A → Type 0) → ((a : A) → P a → f a ≡ map h (g a))
-    → (xs : List A) → AllByRecursion P xs → flat_map f xs ≡ map h (flat_map g xs)
-flat_map_as f h g P agree [] all = refl
-flat_map_as f h g P agree (x ∷ xs) all =
-    (λ j. agree x all.0 j ++ flat_map_as f h g P agree xs all.1 j) ∙ sym (map-append h (g x) (flat_map g xs))
+-- entries that are read of what is said of items are those that their references name
+pub filter_map_described : {A B X Y : Type 0} (f : B → Option Y) (read : X → Option Y) (say : A → B) (ref : A → X) → ((a : A) → f (say a) ≡ read (ref a)) → (xs : List A)
+    → filter_map f (map say xs) ≡ filter_map read (flat_map (λ a. ref a ∷ []) xs)
+filter_map_described f read say ref agree [] = refl
+filter_map_described f read say ref agree (x ∷ xs) = (λ j. cons_option (agree x j) (filter_map_described f read say ref agree xs j))
 
-pub filter_map_as : {A X Y : Type 0} (f : A → Option Y) (read : X → Option Y) (g : A → X) (P : A → Type 0) → ((a : A) → P a → f a ≡ read (g a))
-    → (xs : List A) → AllByRecursion P xs → filter_map f xs ≡ filter_map read (flat_map (λ a. g a ∷ []) xs)
-filter_map_as f read g P agree [] all = refl
-filter_map_as f read g P agree (x ∷ xs) all = (λ j. cons_option (agree x all.0 j) (filter_map_as f read g P agree xs all.1 j))
+pub flat_filter_described : {A B X Y : Type 0} (f : B → List Y) (read : X → Option Y) (say : A → B) (refs : A → List X) (P : A → Type 0) → ((a : A) → P a → f (say a) ≡ filter_map read (refs a))
+    → (xs : List A) → AllByRecursion P xs → flat_map f (map say xs) ≡ filter_map read (flat_map refs xs)
+flat_filter_described f read say refs P agree [] all = refl
+flat_filter_described f read say refs P agree (x ∷ xs) all =
+    (λ j. agree x all.0 j ++ flat_filter_described f read say refs P agree xs all.1 j) ∙ sym (filter_map-append read (refs x) (flat_map refs xs))
 
-pub flat_filter_as : {A X Y : Type 0} (f : A → List Y) (read : X → Option Y) (g : A → List X) (P : A → Type 0) → ((a : A) → P a → f a ≡ filter_map read (g a))
-    → (xs : List A) → AllByRecursion P xs → flat_map f xs ≡ filter_map read (flat_map g xs)
-flat_filter_as f read g P agree [] all = refl
-flat_filter_as f read g P agree (x ∷ xs) all =
-    (λ j. agree x all.0 j ++ flat_filter_as f read g P agree xs all.1 j) ∙ sym (filter_map-append read (g x) (flat_map g xs))
-
-pub filter_map-map : {A B C : Type 0} (f : B → Option C) (u : A → B) (xs : List A) → filter_map f (map u xs) ≡ filter_map (λ x. f (u x)) xs
-filter_map-map f u [] = refl
-filter_map-map f u (x ∷ xs) = ap (cons_option (f (u x))) (filter_map-map f u xs)
+-- entries that references name one by one
+pub each_read : {X Y : Type 0} (f : X → Y) (read : X → Option Y) (P : X → Type 0) → ((x : X) → P x → read x ≡ Some (f x)) → (xs : List X) → AllByRecursion P xs
+    → map f xs ≡ filter_map read (flat_map (λ x. x ∷ []) xs)
+each_read f read P agree [] all = refl
+each_read f read P agree (x ∷ xs) all = (λ j. cons_option (sym (agree x all.0) j) (each_read f read P agree xs all.1 j))
 
 pub all_mapped : {A B : Type 0} (Q : B → Type 0) (f : A → B) (P : A → Type 0) → ((a : A) → P a → Q (f a)) → (xs : List A) → AllByRecursion P xs → AllByRecursion Q (map f xs)
 all_mapped Q f P holds [] all = tt
@@ -47,10 +56,6 @@ all_both Q (x ∷ xs) ys first second = (first.0, all_both Q xs ys first.1 secon
 pub all_flat : {A B : Type 0} (Q : B → Type 0) (g : A → List B) (P : A → Type 0) → ((a : A) → P a → AllByRecursion Q (g a)) → (xs : List A) → AllByRecursion P xs → AllByRecursion Q (flat_map g xs)
 all_flat Q g P holds [] all = tt
 all_flat Q g P holds (x ∷ xs) all = all_both Q (g x) (flat_map g xs) (holds x all.0) (all_flat Q g P holds xs all.1)
-
--- what holds of each entry holds of the one that an id names
-pub all_named : {A : Type 0} (P : A → Type 0) (xs : List A) (d : A) (id : ℕ) → AllByRecursion P xs → Names (length xs) id → P (named xs d id)
-all_named P xs d id all is = All-from_recursion P xs all _ d (omega (arith, is.0, is.1))
 
 pub option_map-same : {A : Type 0} (o : Option A) → option_map (λ x. x) o ≡ o
 option_map-same None = refl

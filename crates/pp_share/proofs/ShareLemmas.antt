@@ -49,7 +49,7 @@ weight_from p q column same =
     let weight : List ℤ → ℕ = λ row. nat_abs (get_or row column (pos 0)) in
     sym (sum_by-map weight (λ (s : Sample). s.value) q.sample) ∙ ap (sum_by weight) same ∙ sum_by-map weight (λ (s : Sample). s.value) p.sample
 
-module _ (p : Profile) (joined : IsJoined p) where
+module _ (p : Profile) where
   abbrev pub worded : Profile
   worded = with_shared_texts p
 
@@ -65,100 +65,98 @@ module _ (p : Profile) (joined : IsJoined p) where
   abbrev pub summed_up : Profile
   summed_up = with_samples_once placed
 
-  has_texts : HasTexts p
-  has_texts = record { empty = joined.empty; some = joined.some; few = joined.few }
-
-  texts_apart : IsDistinct bytes_eq worded.text
-  texts_apart = distinct_apart bytes_eq (lists_equiv nat_eq_equiv) p.text
-
-  header_worded : HeaderIn (length worded.text) worded
-  header_worded = header_in p has_texts
-
-  noted_gist : gist noted ≡ gist worded
-  noted_gist = (λ j. record {
-    header = record (header_of worded []) { comments = comments_same worded texts_apart header_worded.comments j };
-    samples = samples_placed (first_alike (mappings_of worded)) worded;
-    first_mapping = (gist worded).first_mapping;
-  })
-
-  samples_noted : AllByRecursion (SampleIn (length worded.text) (length worded.location)) noted.sample
-  samples_noted =
-      all_mapped (SampleIn (length worded.text) (length worded.location)) (renumbered_sample (by_texts (ids bytes_eq p.text))) (NamesLocations (length p.location))
-      (λ s is. record {
-        locations =
-            all_mapped (Names (length worded.location)) (λ id. id) (Names (length p.location))
-            (λ id n. subst (λ k. Names k id) long n) s.location_id is;
-        labels =
-            all_mapped (LabelIn (length worded.text)) (renumbered_label (by_texts (ids bytes_eq p.text))) (λ _. Unit {0})
-            (λ l _. record { key = in_range p has_texts l.key; text = in_range p has_texts l.text; num_unit = in_range p has_texts l.num_unit }) s.label (all_tt s.label);
-      })
-      p.sample joined.samples
-    where
-      long : length p.location ≡ length worded.location
-      long = sym (length-map p.location (renumbered_location (by_texts (ids bytes_eq p.text))))
-
-  has_functions : HasFunctions called
-  has_functions = record {
-    texts_apart = texts_apart;
-    empty = shared_empty p has_texts;
-    some = shared_some p has_texts;
-    functions_apart = functions_apart noted texts_apart (functions_in p has_texts);
-    mappings = mappings_in p has_texts;
-    lines = lines_in noted texts_apart (functions_in p has_texts);
-    samples = subst (λ k. AllByRecursion (SampleIn (length worded.text) k) noted.sample) long samples_noted;
-  }
-    where
-      long : length noted.location ≡ length called.location
-      long = sym (length-map noted.location (renumbered_location (by_functions (ids alike_functions noted.function))))
-
-  -- samples name locations of the table until those stand once
-  pub called_names : AllByRecursion (NamesLocations (length called.location)) called.sample
-  called_names =
-      all_by (SampleIn (length called.text) (length called.location)) (NamesLocations (length called.location)) (λ s is. is.locations)
-      called.sample has_functions.samples
-
-  columns : ℕ
-  columns = length p.sample_type
-
   pub same_columns : length placed.sample_type ≡ length p.sample_type
   same_columns = length-map p.sample_type (renumbered_type (by_texts (ids bytes_eq p.text)))
-
-  -- What is left says what the profile said, added up.
-  pub shared_plain : plain summed_up ≡ totalled (length p.sample_type) (gist p)
-  shared_plain =
-      samples_plain placed texts_apart (locations_apart called has_functions) (samples_in called has_functions) (length placed.sample_type)
-      ∙ (λ j. totalled (same_columns j) ((places_plain called has_functions ∙ functions_gist noted texts_apart (functions_in p has_texts) ∙ noted_gist ∙ texts_gist p has_texts) j))
-
-  pub shared_ready : IsReady summed_up
-  shared_ready = record {
-    texts_apart = texts_apart;
-    empty = shared_empty p has_texts;
-    some = shared_some p has_texts;
-    functions_apart = functions_apart noted texts_apart (functions_in p has_texts);
-    mappings_apart = mappings_apart called has_functions;
-    locations_apart = locations_apart called has_functions;
-    header = record {
-      types = header_worded.types;
-      drop_frames = header_worded.drop_frames;
-      keep_frames = header_worded.keep_frames;
-      period_type = header_worded.period_type;
-      comments = comments_in worded texts_apart header_worded.comments;
-      default_sample_type = header_worded.default_sample_type;
-      doc_url = header_worded.doc_url;
-    };
-    mappings = mappings_kept called has_functions;
-    functions = functions_kept noted texts_apart (functions_in p has_texts);
-    locations = locations_in called has_functions;
-    samples = sums_in placed texts_apart (locations_apart called has_functions) (samples_in called has_functions) (length placed.sample_type);
-    comments_once = comments_once worded texts_apart header_worded.comments;
-    duration = joined.duration;
-  }
-
-  pub shared_written : length (walked_texts_of summed_up) < 4611686018427387904 → walked summed_up ≡ written (totalled (length p.sample_type) (gist p))
-  shared_written few = walked_is summed_up shared_ready few ∙ ap written shared_plain
 
   -- Values stay as they are until they are added up.
   pub placed_rows : rows placed ≡ rows p
   placed_rows =
       maps_agree (λ s. s.value) (renumbered_sample (by_locations (ids same_place (distant_locations called)))) (λ s. s.value) (λ s. refl) called.sample
       ∙ maps_agree (λ s. s.value) (renumbered_sample (by_texts (ids bytes_eq p.text))) (λ s. s.value) (λ s. refl) p.sample
+
+  module _ (joined : IsJoined p) (few : length p.text < 4611686018427387904) where
+    has_texts : HasTexts p
+    has_texts = record { empty = joined.empty; some = joined.some; few = few }
+
+    texts_apart : IsDistinct bytes_eq worded.text
+    texts_apart = distinct_apart bytes_eq (lists_equiv nat_eq_equiv) p.text
+
+    header_worded : HeaderIn (length worded.text) worded
+    header_worded = header_in p has_texts
+
+    noted_gist : gist noted ≡ gist worded
+    noted_gist = (λ j. record {
+      header = record (header_of worded []) { comments = comments_same worded texts_apart header_worded.comments j };
+      samples = samples_placed (first_alike (mappings_of worded)) worded;
+      first_mapping = (gist worded).first_mapping;
+    })
+
+    samples_noted : AllByRecursion (SampleIn (length worded.text) (length worded.location)) noted.sample
+    samples_noted =
+        all_mapped (SampleIn (length worded.text) (length worded.location)) (renumbered_sample (by_texts (ids bytes_eq p.text))) (NamesLocations (length p.location))
+        (λ s is. record {
+          locations =
+              all_mapped (Names (length worded.location)) (λ id. id) (Names (length p.location))
+              (λ id n. subst (λ k. Names k id) long n) s.location_id is;
+          labels =
+              all_mapped (LabelIn (length worded.text)) (renumbered_label (by_texts (ids bytes_eq p.text))) (λ _. Unit {0})
+              (λ l _. record { key = in_range p has_texts l.key; text = in_range p has_texts l.text; num_unit = in_range p has_texts l.num_unit }) s.label (all_tt s.label);
+        })
+        p.sample joined.samples
+      where
+        long : length p.location ≡ length worded.location
+        long = sym (length-map p.location (renumbered_location (by_texts (ids bytes_eq p.text))))
+
+    has_functions : HasFunctions called
+    has_functions = record {
+      texts_apart = texts_apart;
+      empty = shared_empty p has_texts;
+      some = shared_some p has_texts;
+      functions_apart = functions_apart noted texts_apart (functions_in p has_texts);
+      mappings = mappings_in p has_texts;
+      lines = lines_in noted texts_apart (functions_in p has_texts);
+      samples = subst (λ k. AllByRecursion (SampleIn (length worded.text) k) noted.sample) long samples_noted;
+    }
+      where
+        long : length noted.location ≡ length called.location
+        long = sym (length-map noted.location (renumbered_location (by_functions (ids alike_functions noted.function))))
+
+    -- samples name locations of the table until those stand once
+    pub called_names : AllByRecursion (NamesLocations (length called.location)) called.sample
+    called_names =
+        all_by (SampleIn (length called.text) (length called.location)) (NamesLocations (length called.location)) (λ s is. is.locations)
+        called.sample has_functions.samples
+
+    -- What is left says what the profile said, added up.
+    pub shared_plain : plain summed_up ≡ totalled (length p.sample_type) (gist p)
+    shared_plain =
+        samples_plain placed texts_apart (locations_apart called has_functions) (samples_in called has_functions) (length placed.sample_type)
+        ∙ (λ j. totalled (same_columns j) ((places_plain called has_functions ∙ functions_gist noted texts_apart (functions_in p has_texts) ∙ noted_gist ∙ texts_gist p has_texts) j))
+
+    pub shared_ready : IsReady summed_up
+    shared_ready = record {
+      texts_apart = texts_apart;
+      empty = shared_empty p has_texts;
+      some = shared_some p has_texts;
+      functions_apart = functions_apart noted texts_apart (functions_in p has_texts);
+      mappings_apart = mappings_apart called has_functions;
+      locations_apart = locations_apart called has_functions;
+      header = record {
+        types = header_worded.types;
+        drop_frames = header_worded.drop_frames;
+        keep_frames = header_worded.keep_frames;
+        period_type = header_worded.period_type;
+        comments = comments_in worded texts_apart header_worded.comments;
+        default_sample_type = header_worded.default_sample_type;
+        doc_url = header_worded.doc_url;
+      };
+      mappings = mappings_kept called has_functions;
+      functions = functions_kept noted texts_apart (functions_in p has_texts);
+      locations = locations_in called has_functions;
+      samples = sums_in placed texts_apart (locations_apart called has_functions) (samples_in called has_functions) (length placed.sample_type);
+      comments_once = comments_once worded texts_apart header_worded.comments;
+      duration = joined.duration;
+    }
+
+    pub shared_written : length (walked_texts_of summed_up) < 4611686018427387904 → walked summed_up ≡ written (totalled (length p.sample_type) (gist p))
+    shared_written few_walked = walked_is summed_up shared_ready few_walked ∙ ap written shared_plain

@@ -3,7 +3,6 @@ use Rattle.std.proofs.Common.{◌≡◌, ℕ, ◌+◌, ◌<◌, ℤ, List, [], �
 use Rattle.std.specs.Option.{option_map_or}
 use Rattle.std.specs.Str.{bytes_eq}
 use Rattle.std.proofs.lemmas.List.{length-map, map-id}
-use Rattle.std.proofs.lemmas.Simd.{map-map}
 use Rattle.pp_model.specs.declared.profile.ValueType.{ValueType}
 use Rattle.pp_model.specs.declared.profile.Label.{Label}
 use Rattle.pp_model.specs.declared.profile.Sample.{Sample}
@@ -12,19 +11,17 @@ use Rattle.pp_model.specs.declared.profile.Profile.{Profile}
 use Rattle.pp_model.specs.Lookup.{text_number, text_of}
 use Rattle.pp_model.specs.FirstSight.{place_of}
 use Rattle.pp_share.specs.Described.{less, plus, function_text, mapping_text, line_text, label_text, sample_text}
-use Rattle.pp_share.specs.Alike.{equal_mapping, same_location}
 use Rattle.pp_share.specs.Header.{type_text, first_nonempty}
 use Rattle.pp_share.specs.Ids.{place_id, index_of_id}
 use Rattle.pp_share.specs.Gathered.{location_entry, mapping_entry, function_entry}
 use Rattle.pp_share.specs.Renumbered.{NewIds, renumbered_type, renumbered_label, renumbered_line, renumbered_function, renumbered_mapping, renumbered_location, renumbered_sample}
 use Rattle.pp_share.specs.Walked.{locations_met, mappings_met, functions_met, with_locations, with_mappings, by_places, walked_texts_of, walked}
 use Rattle.pp_share.specs.Placed.{function_placed, mapping_placed, location_placed, plain}
-use Rattle.pp_share.specs.Written.{Contents, written, locations, mappings, texts, index_of, written_type, written_label, written_line, written_function, written_mapping, written_location, written_sample}
+use Rattle.pp_share.specs.Written.{Contents, written, texts, index_of, location_id, mapping_id, written_type, written_label, written_line, written_function, written_mapping, written_location, written_sample}
 use Rattle.pp_model.proofs.LookupLemmas.{no_function, no_mapping}
 use Rattle.pp_share.proofs.IdLemmas.{place_within}
-use Rattle.pp_share.proofs.Tables.{Names, IsRef, named}
-use Rattle.pp_share.proofs.TableWalks.{walk_told, walk_place, walk_ref, walk_written}
-use Rattle.pp_share.proofs.Lists.{map_as, option_map-same}
+use Rattle.pp_share.proofs.Tables.{Names, IsRef, named, walk_told, walk_place, walk_ref, walk_written}
+use Rattle.pp_share.proofs.Lists.{map_described, option_map-same}
 use Rattle.pp_share.proofs.Ready.{InTexts, TypeIn, LabelIn, SampleIn, IsReady}
 use Rattle.pp_share.proofs.EntryLemmas.{index_next, plus_less, nonempty_same}
 use Rattle.pp_share.proofs.WalkedTables.{say_location, location_at, location_said, location_in, walk_L, walk_M, walk_F}
@@ -61,12 +58,10 @@ module _ (p : Profile) (ready : IsReady p) (few : length (walked_texts_of p) < 4
   same_sample_written : (s : Sample) → SampleIn (length p.text) (length p.location) s
       → renumbered_sample by s ≡ written_sample c (sample_text (location_placed (λ m. m) p) (text_of p) s)
   same_sample_written s is = (λ j. record {
-    location_id = (map_as (place_id (locations_met p)) (λ id. place_of same_location (locations c) (location_placed (λ m. m) p id) + 1) (Names (length p.location))
-        (λ id n. walk_place (walk_L p ready) id n ∙ (λ i. place_of same_location (locations c) (sym (location_said p ready id n) i) + 1)) s.location_id is.locations
-        ∙ sym (map-map (λ l. place_of same_location (locations c) l + 1) (location_placed (λ m. m) p) s.location_id)) j;
+    location_id = map_described (place_id (locations_met p)) (location_id c) (location_placed (λ m. m) p) (Names (length p.location))
+        (λ id n. walk_place (walk_L p ready) id n ∙ ap (location_id c) (sym (location_said p ready id n))) s.location_id is.locations j;
     value = s.value;
-    label = (map_as (renumbered_label by) (λ l. written_label c (label_text (text_of p) l)) (LabelIn (length p.text)) same_label_written s.label is.labels
-        ∙ sym (map-map (written_label c) (label_text (text_of p)) s.label)) j;
+    label = map_described (renumbered_label by) (written_label c) (label_text (text_of p)) (LabelIn (length p.text)) same_label_written s.label is.labels j;
   })
 
   same_mapping_written : (id : ℕ) → Names (length p.mapping) id
@@ -105,29 +100,12 @@ module _ (p : Profile) (ready : IsReady p) (few : length (walked_texts_of p) < 4
       let own_mapping = option_map-same (mapping_placed p l.mapping_id) in
       (λ j. record {
         id = walk_place (walk_L p ready) id n j;
-        mapping_id = (walk_ref (walk_M p ready) l.mapping_id is.mapping
-            ∙ (λ i. option_map_or (λ x. place_of equal_mapping (mappings c) x + 1) (sym own_mapping i) 0)) j;
+        mapping_id = (walk_ref (walk_M p ready) l.mapping_id is.mapping ∙ ap (λ m. option_map_or (mapping_id c) m 0) (sym own_mapping)) j;
         address = (sym (plus_less l.address start is.address)
             ∙ (λ i. plus (less l.address start) (option_map_or (λ m. m.start) (sym own_mapping i) 0))) j;
-        line = (map_as (renumbered_line by) (λ line. written_line c (line_text (function_placed p) line)) (λ line. IsRef (length p.function) line.function_id) same_line_written l.line is.lines
-            ∙ sym (map-map (written_line c) (line_text (function_placed p)) l.line)) j;
+        line = map_described (renumbered_line by) (written_line c) (line_text (function_placed p)) (λ line. IsRef (length p.function) line.function_id) same_line_written l.line is.lines j;
         folded = l.folded;
       })
-
-  types_written : map (renumbered_type by) p.sample_type ≡ map (written_type c) c.header.types
-  types_written =
-      map_as (renumbered_type by) (λ t. written_type c (type_text p t)) (TypeIn (length p.text)) same_type_written p.sample_type ready.header.types
-      ∙ sym (map-map (written_type c) (type_text p) p.sample_type)
-
-  samples_written : map (renumbered_sample by) p.sample ≡ map (written_sample c) c.samples
-  samples_written =
-      map_as (renumbered_sample by) (λ s. written_sample c (sample_text (location_placed (λ m. m) p) (text_of p) s)) (SampleIn (length p.text) (length p.location)) same_sample_written p.sample ready.samples
-      ∙ sym (map-map (written_sample c) (sample_text (location_placed (λ m. m) p) (text_of p)) p.sample)
-
-  comments_written : map by.text p.comment ≡ map (index_of c) c.header.comments
-  comments_written =
-      map_as by.text (λ i. index_of c (text_of p i)) (InTexts (length p.text)) same_index p.comment ready.header.comments
-      ∙ sym (map-map (index_of c) (text_of p) p.comment) ∙ ap (map (index_of c)) (sym (comments_are p ready))
 
   -- an index of the header, of a text that is the first of itself
   first_index : (i : ℤ) → InTexts (length p.text) i → by.text i ≡ index_of c (first_nonempty (text_of p i ∷ []))
@@ -136,8 +114,9 @@ module _ (p : Profile) (ready : IsReady p) (few : length (walked_texts_of p) < 4
   -- The profile in the order of the walk is what is written of what it says.
   pub walked_is : walked p ≡ written (plain p)
   walked_is = (λ j. record {
-    sample_type = types_written j;
-    sample = samples_written j;
+    sample_type = map_described (renumbered_type by) (written_type c) (type_text p) (TypeIn (length p.text)) same_type_written p.sample_type ready.header.types j;
+    sample = map_described (renumbered_sample by) (written_sample c) (sample_text (location_placed (λ m. m) p) (text_of p)) (SampleIn (length p.text) (length p.location)) same_sample_written
+        p.sample ready.samples j;
     mapping = walk_written (walk_M p ready) mapping_entry (renumbered_mapping by) (written_mapping c) same_mapping_written j;
     location = walk_written (walk_L p ready) location_entry (renumbered_location by) (written_location c) same_location_written j;
     function = walk_written (walk_F p ready) function_entry (renumbered_function by) (written_function c) same_function_written j;
@@ -148,7 +127,8 @@ module _ (p : Profile) (ready : IsReady p) (few : length (walked_texts_of p) < 4
     duration_nanos = sym ready.duration j;
     period_type = same_type_written p.period_type ready.header.period_type j;
     period = p.period;
-    comment = comments_written j;
+    comment = (map_described by.text (index_of c) (text_of p) (InTexts (length p.text)) same_index p.comment ready.header.comments
+        ∙ ap (map (index_of c)) (sym (comments_are p ready))) j;
     default_sample_type = first_index p.default_sample_type ready.header.default_sample_type j;
     doc_url = first_index p.doc_url ready.header.doc_url j;
   })

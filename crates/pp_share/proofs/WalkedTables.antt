@@ -1,5 +1,5 @@
 -- The walk over a profile whose tables stand once meets the locations, mappings and functions that are written of what it says.
-use Rattle.std.proofs.Common.{◌≡◌, ℕ, List, ◌∷◌, ◌++◌, map, length, refl, sym, ap, subst, ◌∙◌}
+use Rattle.std.proofs.Common.{◌≡◌, ℕ, List, [], ◌∷◌, ◌++◌, Some, length, refl, sym, ap, subst, ◌∙◌}
 use Rattle.std.specs.Prelude.{slice_get}
 use Rattle.std.specs.List.{AllByRecursion, filter_map, flat_map, cons_option}
 use Rattle.std.specs.Option.{option_to_list, unwrap_or}
@@ -18,13 +18,11 @@ use Rattle.pp_share.specs.Walked.{first_id, with_locations}
 use Rattle.pp_share.specs.Placed.{functions_of, mappings_of, function_placed, mapping_placed, locations_of, location_placed, plain}
 use Rattle.pp_share.specs.Written.{locations, mappings, functions}
 use Rattle.pp_model.proofs.LookupLemmas.{no_function, no_mapping}
-use Rattle.pp_share.proofs.Prefix.{all_tt}
 use Rattle.pp_share.proofs.Deciding.{function_decides, mapping_decides, location_decides}
-use Rattle.pp_share.proofs.Tables.{Names, IsRef, named}
-use Rattle.pp_share.proofs.TableWalks.{IsWalk, said, read_said, said_each, walk_names, walk_told, walk_each}
-use Rattle.pp_share.proofs.Lists.{map_as, flat_map-map, filter_map_as, flat_filter_as, filter_map-map, all_flat, all_named, option_map-same, option_cons}
+use Rattle.pp_share.proofs.Tables.{Names, IsRef, named, IsWalk, said, read_said, walk_names, walk_told, walk_each, all_named}
+use Rattle.pp_share.proofs.Lists.{filter_map_described, flat_filter_described, each_read, all_flat, option_map-same, option_cons}
 use Rattle.pp_share.proofs.Ready.{LocationIn, SampleIn, IsReady}
-use Rattle.pp_share.proofs.EntryLemmas.{first_read, first_within, singles}
+use Rattle.pp_share.proofs.EntryLemmas.{first_read, first_within}
 
 -- what is said of a location
 abbrev pub say_location : Profile → Location → LocationText
@@ -58,12 +56,11 @@ module _ (p : Profile) (ready : IsReady p) where
 
   locations_read : flat_map (λ s. s.0.locations) (plain p).samples ≡ filter_map (place_read (locations_of (λ m. m) p)) (location_walk p)
   locations_read =
-      flat_map-map (λ s. s.0.locations) (sample_text (location_placed (λ m. m) p) (text_of p)) p.sample
-      ∙ flat_filter_as (λ s. map (location_placed (λ m. m) p) s.location_id) (place_read (locations_of (λ m. m) p)) location_refs (SampleIn (length p.text) (length p.location))
+      flat_filter_described (λ s. s.0.locations) (place_read (locations_of (λ m. m) p)) (sample_text (location_placed (λ m. m) p) (text_of p)) location_refs
+      (SampleIn (length p.text) (length p.location))
       (λ s is.
-      map_as (location_placed (λ m. m) p) (said say p.location no_location) (Names (length p.location)) location_said s.location_id is.locations
-      ∙ said_each say p.location no_location s.location_id is.locations
-      ∙ ap (filter_map (place_read (locations_of (λ m. m) p))) (sym (singles s.location_id)))
+      each_read (location_placed (λ m. m) p) (place_read (locations_of (λ m. m) p)) (Names (length p.location))
+      (λ id n. read_said say p.location no_location id n ∙ ap Some (sym (location_said id n))) s.location_id is.locations)
       p.sample ready.samples
 
   pub walk_L : IsWalk same_location say p.location no_location (location_walk p) (locations (plain p))
@@ -91,9 +88,9 @@ module _ (p : Profile) (ready : IsReady p) where
     where
       others : filter_map (λ l. l.mapping) (locations (plain p)) ≡ filter_map (place_read (mappings_of p)) (flat_map mapping_ref (with_locations p).location)
       others =
-          ap (filter_map (λ (l : LocationText). l.mapping)) (walk_told walk_L) ∙ filter_map-map (λ l. l.mapping) (said say p.location no_location) _
-          ∙ filter_map_as (λ id. (say (location_at p id)).mapping) (place_read (mappings_of p)) (λ id. (location_at p id).mapping_id) (λ _. Unit {0})
-          (λ id _. option_map-same (mapping_placed p (location_at p id).mapping_id)) _ (all_tt _)
+          ap (filter_map (λ (l : LocationText). l.mapping)) (walk_told walk_L)
+          ∙ filter_map_described (λ l. l.mapping) (place_read (mappings_of p)) (said say p.location no_location) (λ id. (location_at p id).mapping_id)
+          (λ id. option_map-same (mapping_placed p (location_at p id).mapping_id)) _
           ∙ ap (filter_map (place_read (mappings_of p))) (sym (walk_each walk_L location_entry mapping_ref))
 
   pub walk_M : IsWalk equal_mapping (mapping_text p) p.mapping no_mapping (mapping_walk p) (mappings (plain p))
@@ -107,12 +104,10 @@ module _ (p : Profile) (ready : IsReady p) where
   functions_read : flat_map (λ l. filter_map (λ line. line.function) l.lines) (locations (plain p)) ≡ filter_map (place_read (functions_of p)) (function_walk p)
   functions_read =
       ap (flat_map (λ (l : LocationText). filter_map (λ line. line.function) l.lines)) (walk_told walk_L)
-      ∙ flat_map-map (λ l. filter_map (λ line. line.function) l.lines) (said say p.location no_location) _
-      ∙ flat_filter_as (λ id. filter_map (λ line. line.function) (say (location_at p id)).lines) (place_read (functions_of p)) (λ id. function_refs (location_at p id)) (λ _. Unit {0})
-      (λ id _.
-      filter_map-map (λ line. line.function) (line_text (function_placed p)) (location_at p id).line
-      ∙ filter_map_as (λ line. function_placed p line.function_id) (place_read (functions_of p)) (λ line. line.function_id) (λ _. Unit {0}) (λ line _. refl) (location_at p id).line (all_tt _))
-      _ (all_tt _)
+      ∙ flat_filter_described (λ l. filter_map (λ line. line.function) l.lines) (place_read (functions_of p)) (said say p.location no_location) (λ id. function_refs (location_at p id))
+      (Names (length p.location))
+      (λ id _. filter_map_described (λ line. line.function) (place_read (functions_of p)) (line_text (function_placed p)) (λ line. line.function_id) (λ line. refl) (location_at p id).line)
+      _ (walk_names walk_L)
       ∙ ap (filter_map (place_read (functions_of p))) (sym (walk_each walk_L location_entry function_refs))
 
   pub walk_F : IsWalk same_function (function_text p) p.function no_function (function_walk p) (functions (plain p))

@@ -19,10 +19,8 @@ use Rattle.pp_share.specs.Walked.{with_tables}
 use Rattle.pp_share.specs.Placed.{location_placed, plain}
 use Rattle.pp_share.specs.Written.{Contents, mappings, functions, walked_texts, texts, type_texts, label_texts}
 use Rattle.pp_model.proofs.LookupLemmas.{no_function, no_mapping}
-use Rattle.pp_share.proofs.Prefix.{all_tt}
-use Rattle.pp_share.proofs.Tables.{Names, named}
-use Rattle.pp_share.proofs.TableWalks.{IsWalk, said_each, walk_names, walk_each, walk_read}
-use Rattle.pp_share.proofs.Lists.{flat_map-map, flat_map_as, all_both, all_flat, all_named}
+use Rattle.pp_share.proofs.Tables.{Names, named, IsWalk, said_each, walk_names, walk_each, walk_read, all_named}
+use Rattle.pp_share.proofs.Lists.{flat_map_described, all_both, all_flat}
 use Rattle.pp_share.proofs.Ready.{InTexts, TypeIn, LabelIn, MappingIn, FunctionIn, SampleIn, IsReady}
 use Rattle.pp_share.proofs.EntryLemmas.{nonempty_same, refs_named}
 use Rattle.pp_share.proofs.WalkedTables.{walk_M, walk_F}
@@ -55,19 +53,12 @@ module _ (p : Profile) (ready : IsReady p) where
   both a b xs ys first second = (λ j. first j ++ second j) ∙ sym (map-append h xs ys)
 
   type_words : flat_map type_texts c.header.types ≡ map h (flat_map type_text_ids p.sample_type)
-  type_words =
-      flat_map-map type_texts (type_text p) p.sample_type
-      ∙ flat_map_as (λ t. type_texts (type_text p t)) h type_text_ids (λ _. Unit {0}) (λ t _ j. word t.kind j ∷ word t.unit j ∷ []) p.sample_type (all_tt p.sample_type)
+  type_words = flat_map_described type_texts h (type_text p) type_text_ids (λ t j. word t.kind j ∷ word t.unit j ∷ []) p.sample_type
 
   sample_words : flat_map (λ s. flat_map label_texts s.0.labels) c.samples ≡ map h (flat_map sample_text_ids p.sample)
   sample_words =
-      flat_map-map (λ s. flat_map label_texts s.0.labels) (sample_text (location_placed (λ m. m) p) (text_of p)) p.sample
-      ∙ flat_map_as (λ s. flat_map label_texts (map (label_text (text_of p)) s.label)) h sample_text_ids (λ _. Unit {0})
-      (λ s _.
-      flat_map-map label_texts (label_text (text_of p)) s.label
-      ∙ flat_map_as (λ l. label_texts (label_text (text_of p) l)) h label_text_ids (λ _. Unit {0})
-      (λ l _ j. word l.key j ∷ word l.text j ∷ word l.num_unit j ∷ []) s.label (all_tt s.label))
-      p.sample (all_tt p.sample)
+      flat_map_described (λ s. flat_map label_texts s.0.labels) h (sample_text (location_placed (λ m. m) p) (text_of p)) sample_text_ids
+      (λ s. flat_map_described label_texts h (label_text (text_of p)) label_text_ids (λ l j. word l.key j ∷ word l.text j ∷ word l.num_unit j ∷ []) s.label) p.sample
 
   abbrev M : ℕ → Mapping
   M id = named p.mapping no_mapping id

@@ -1,5 +1,5 @@
 -- A joined profile, and the steps on its comments and samples by which each comes to stand once.
-use Rattle.std.specs.Prelude.{◌≡◌, ℕ, ◌<◌, ◌≤◌, ◌^◌, [], length, slice_index_or}
+use Rattle.std.specs.Prelude.{◌≡◌, ℕ, ◌≤◌, [], length, slice_index_or}
 use Rattle.std.specs.List.{AllByRecursion}
 use Rattle.std.specs.Int.{saturate_to_bits}
 use Rattle.std.specs.Ordering.{int_eq}
@@ -12,12 +12,10 @@ use Rattle.pp_share.specs.SampleKeys.{summed_samples}
 abbrev pub NamesLocations : ℕ → Sample → Type 0
 NamesLocations n s = AllByRecursion (λ id. (1 ≤ id) × (id ≤ n)) s.location_id
 
--- A joined profile: text 0 is empty, texts can be counted, samples name locations that are there, and
--- the duration is in its range.
+-- A joined profile: text 0 is empty, samples name locations that are there, and the duration is in its range.
 pub record IsJoined (p : Profile) : Type 0 where
   pub some : 1 ≤ length p.text
   pub empty : slice_index_or p.text 0 [] ≡ []
-  pub few : length p.text < 2 ^ 62
   pub samples : AllByRecursion (NamesLocations (length p.location)) p.sample
   pub duration : saturate_to_bits 63 p.duration_nanos ≡ p.duration_nanos
 
