@@ -18,7 +18,7 @@ use Rattle.pp_share.specs.Written.{written}
 use Rattle.pp_share.specs.Renumbered.{renumbered_type, renumbered_location, renumbered_sample, renumbered_label}
 use Rattle.pp_share.specs.Shared.{by_texts, by_functions, by_locations, alike_functions, distant_locations, with_shared_texts, with_shared_functions, with_shared_places}
 use Rattle.pp_share.specs.PlaceKeys.{same_place}
-use Rattle.pp_share.specs.Share.{NamesLocations, IsJoined, with_comments_once, with_samples_once}
+use Rattle.pp_share.specs.Share.{NamesLocations, IsJoined, with_comments_once, with_tables_once, with_samples_once}
 use Rattle.pp_share.specs.Walked.{walked_texts_of, walked}
 use Rattle.pp_share.proofs.Prefix.{all_tt}
 use Rattle.pp_model.proofs.FirstSightLemmas.{distinct_apart}
@@ -37,126 +37,101 @@ use Rattle.pp_share.proofs.WalkedLemmas.{walked_is}
 abbrev pub rows : Profile → List (List ℤ)
 rows p = map (λ s. s.value) p.sample
 
-pub wide_from : (p q : Profile) (columns : ℕ) → rows q ≡ rows p → All (λ (s : Sample). length s.value ≡ columns) p.sample → All (λ (s : Sample). length s.value ≡ columns) q.sample
-wide_from p q columns same wide =
-    all_of_map (λ (row : List ℤ). length row ≡ columns) (λ (s : Sample). s.value) q.sample
-    (subst (All (λ (row : List ℤ). length row ≡ columns)) (sym same)
-    (All-map (λ (row : List ℤ). length row ≡ columns) (λ (s : Sample). s.value) p.sample wide))
+pub same_columns : (p : Profile) → length (with_tables_once p).sample_type ≡ length p.sample_type
+same_columns p = length-map p.sample_type (renumbered_type (by_texts (ids bytes_eq p.text)))
 
-pub weight_from : (p q : Profile) (column : ℕ) → rows q ≡ rows p
-    → sum_by (λ (s : Sample). nat_abs (value_in s column)) q.sample ≡ sum_by (λ (s : Sample). nat_abs (value_in s column)) p.sample
-weight_from p q column same =
-    let weight : List ℤ → ℕ = λ row. nat_abs (get_or row column (pos 0)) in
-    sym (sum_by-map weight (λ (s : Sample). s.value) q.sample) ∙ ap (sum_by weight) same ∙ sum_by-map weight (λ (s : Sample). s.value) p.sample
-
-module _ (p : Profile) where
-  abbrev pub worded : Profile
+module _ (p : Profile) (joined : IsJoined p) (few : length p.text < 4611686018427387904) where
+  abbrev worded : Profile
   worded = with_shared_texts p
 
-  abbrev pub noted : Profile
+  abbrev noted : Profile
   noted = with_comments_once worded
 
-  abbrev pub called : Profile
+  abbrev called : Profile
   called = with_shared_functions noted
 
-  abbrev pub placed : Profile
+  abbrev placed : Profile
   placed = with_shared_places called
 
-  abbrev pub summed_up : Profile
+  abbrev summed_up : Profile
   summed_up = with_samples_once placed
 
-  pub same_columns : length placed.sample_type ≡ length p.sample_type
-  same_columns = length-map p.sample_type (renumbered_type (by_texts (ids bytes_eq p.text)))
+  has_texts : HasTexts p
+  has_texts = record { empty = joined.empty; some = joined.some; few = few }
 
-  -- Values stay as they are until they are added up.
-  pub placed_rows : rows placed ≡ rows p
-  placed_rows =
-      maps_agree (λ s. s.value) (renumbered_sample (by_locations (ids same_place (distant_locations called)))) (λ s. s.value) (λ s. refl) called.sample
-      ∙ maps_agree (λ s. s.value) (renumbered_sample (by_texts (ids bytes_eq p.text))) (λ s. s.value) (λ s. refl) p.sample
+  texts_apart : IsDistinct bytes_eq worded.text
+  texts_apart = distinct_apart bytes_eq (lists_equiv nat_eq_equiv) p.text
 
-  module _ (joined : IsJoined p) (few : length p.text < 4611686018427387904) where
-    has_texts : HasTexts p
-    has_texts = record { empty = joined.empty; some = joined.some; few = few }
+  header_worded : HeaderIn (length worded.text) worded
+  header_worded = header_in p has_texts
 
-    texts_apart : IsDistinct bytes_eq worded.text
-    texts_apart = distinct_apart bytes_eq (lists_equiv nat_eq_equiv) p.text
+  noted_gist : gist noted ≡ gist worded
+  noted_gist = (λ j. record {
+    header = record (header_of worded []) { comments = comments_same worded texts_apart header_worded.comments j };
+    samples = samples_placed (first_alike (mappings_of worded)) worded;
+    first_mapping = (gist worded).first_mapping;
+  })
 
-    header_worded : HeaderIn (length worded.text) worded
-    header_worded = header_in p has_texts
+  samples_noted : AllByRecursion (SampleIn (length worded.text) (length worded.location)) noted.sample
+  samples_noted =
+      all_mapped (SampleIn (length worded.text) (length worded.location)) (renumbered_sample (by_texts (ids bytes_eq p.text))) (NamesLocations (length p.location))
+      (λ s is. record {
+        locations =
+            all_mapped (Names (length worded.location)) (λ id. id) (Names (length p.location))
+            (λ id n. subst (λ k. Names k id) long n) s.location_id is;
+        labels =
+            all_mapped (LabelIn (length worded.text)) (renumbered_label (by_texts (ids bytes_eq p.text))) (λ _. Unit {0})
+            (λ l _. record { key = in_range p has_texts l.key; text = in_range p has_texts l.text; num_unit = in_range p has_texts l.num_unit }) s.label (all_tt s.label);
+      })
+      p.sample joined.samples
+    where
+      long : length p.location ≡ length worded.location
+      long = sym (length-map p.location (renumbered_location (by_texts (ids bytes_eq p.text))))
 
-    noted_gist : gist noted ≡ gist worded
-    noted_gist = (λ j. record {
-      header = record (header_of worded []) { comments = comments_same worded texts_apart header_worded.comments j };
-      samples = samples_placed (first_alike (mappings_of worded)) worded;
-      first_mapping = (gist worded).first_mapping;
-    })
+  has_functions : HasFunctions called
+  has_functions = record {
+    texts_apart = texts_apart;
+    empty = shared_empty p has_texts;
+    some = shared_some p has_texts;
+    functions_apart = functions_apart noted texts_apart (functions_in p has_texts);
+    mappings = mappings_in p has_texts;
+    lines = lines_in noted texts_apart (functions_in p has_texts);
+    samples = subst (λ k. AllByRecursion (SampleIn (length worded.text) k) noted.sample) long samples_noted;
+  }
+    where
+      long : length noted.location ≡ length called.location
+      long = sym (length-map noted.location (renumbered_location (by_functions (ids alike_functions noted.function))))
 
-    samples_noted : AllByRecursion (SampleIn (length worded.text) (length worded.location)) noted.sample
-    samples_noted =
-        all_mapped (SampleIn (length worded.text) (length worded.location)) (renumbered_sample (by_texts (ids bytes_eq p.text))) (NamesLocations (length p.location))
-        (λ s is. record {
-          locations =
-              all_mapped (Names (length worded.location)) (λ id. id) (Names (length p.location))
-              (λ id n. subst (λ k. Names k id) long n) s.location_id is;
-          labels =
-              all_mapped (LabelIn (length worded.text)) (renumbered_label (by_texts (ids bytes_eq p.text))) (λ _. Unit {0})
-              (λ l _. record { key = in_range p has_texts l.key; text = in_range p has_texts l.text; num_unit = in_range p has_texts l.num_unit }) s.label (all_tt s.label);
-        })
-        p.sample joined.samples
-      where
-        long : length p.location ≡ length worded.location
-        long = sym (length-map p.location (renumbered_location (by_texts (ids bytes_eq p.text))))
+  -- What is left says what the profile said, added up.
+  pub shared_plain : plain summed_up ≡ totalled (length p.sample_type) (gist p)
+  shared_plain =
+      samples_plain placed texts_apart (locations_apart called has_functions) (samples_in called has_functions) (length placed.sample_type)
+      ∙ (λ j. totalled (same_columns p j) ((places_plain called has_functions ∙ functions_gist noted texts_apart (functions_in p has_texts) ∙ noted_gist ∙ texts_gist p has_texts) j))
 
-    has_functions : HasFunctions called
-    has_functions = record {
-      texts_apart = texts_apart;
-      empty = shared_empty p has_texts;
-      some = shared_some p has_texts;
-      functions_apart = functions_apart noted texts_apart (functions_in p has_texts);
-      mappings = mappings_in p has_texts;
-      lines = lines_in noted texts_apart (functions_in p has_texts);
-      samples = subst (λ k. AllByRecursion (SampleIn (length worded.text) k) noted.sample) long samples_noted;
-    }
-      where
-        long : length noted.location ≡ length called.location
-        long = sym (length-map noted.location (renumbered_location (by_functions (ids alike_functions noted.function))))
+  pub shared_ready : IsReady summed_up
+  shared_ready = record {
+    texts_apart = texts_apart;
+    empty = shared_empty p has_texts;
+    some = shared_some p has_texts;
+    functions_apart = functions_apart noted texts_apart (functions_in p has_texts);
+    mappings_apart = mappings_apart called has_functions;
+    locations_apart = locations_apart called has_functions;
+    header = record {
+      types = header_worded.types;
+      drop_frames = header_worded.drop_frames;
+      keep_frames = header_worded.keep_frames;
+      period_type = header_worded.period_type;
+      comments = comments_in worded texts_apart header_worded.comments;
+      default_sample_type = header_worded.default_sample_type;
+      doc_url = header_worded.doc_url;
+    };
+    mappings = mappings_kept called has_functions;
+    functions = functions_kept noted texts_apart (functions_in p has_texts);
+    locations = locations_in called has_functions;
+    samples = sums_in placed texts_apart (locations_apart called has_functions) (samples_in called has_functions) (length placed.sample_type);
+    comments_once = comments_once worded texts_apart header_worded.comments;
+    duration = joined.duration;
+  }
 
-    -- samples name locations of the table until those stand once
-    pub called_names : AllByRecursion (NamesLocations (length called.location)) called.sample
-    called_names =
-        all_by (SampleIn (length called.text) (length called.location)) (NamesLocations (length called.location)) (λ s is. is.locations)
-        called.sample has_functions.samples
-
-    -- What is left says what the profile said, added up.
-    pub shared_plain : plain summed_up ≡ totalled (length p.sample_type) (gist p)
-    shared_plain =
-        samples_plain placed texts_apart (locations_apart called has_functions) (samples_in called has_functions) (length placed.sample_type)
-        ∙ (λ j. totalled (same_columns j) ((places_plain called has_functions ∙ functions_gist noted texts_apart (functions_in p has_texts) ∙ noted_gist ∙ texts_gist p has_texts) j))
-
-    pub shared_ready : IsReady summed_up
-    shared_ready = record {
-      texts_apart = texts_apart;
-      empty = shared_empty p has_texts;
-      some = shared_some p has_texts;
-      functions_apart = functions_apart noted texts_apart (functions_in p has_texts);
-      mappings_apart = mappings_apart called has_functions;
-      locations_apart = locations_apart called has_functions;
-      header = record {
-        types = header_worded.types;
-        drop_frames = header_worded.drop_frames;
-        keep_frames = header_worded.keep_frames;
-        period_type = header_worded.period_type;
-        comments = comments_in worded texts_apart header_worded.comments;
-        default_sample_type = header_worded.default_sample_type;
-        doc_url = header_worded.doc_url;
-      };
-      mappings = mappings_kept called has_functions;
-      functions = functions_kept noted texts_apart (functions_in p has_texts);
-      locations = locations_in called has_functions;
-      samples = sums_in placed texts_apart (locations_apart called has_functions) (samples_in called has_functions) (length placed.sample_type);
-      comments_once = comments_once worded texts_apart header_worded.comments;
-      duration = joined.duration;
-    }
-
-    pub shared_written : length (walked_texts_of summed_up) < 4611686018427387904 → walked summed_up ≡ written (totalled (length p.sample_type) (gist p))
-    shared_written few_walked = walked_is summed_up shared_ready few_walked ∙ ap written shared_plain
+  pub shared_written : length (walked_texts_of summed_up) < 4611686018427387904 → walked (with_samples_once (with_tables_once p)) ≡ written (totalled (length p.sample_type) (gist p))
+  shared_written few_walked = walked_is summed_up shared_ready few_walked ∙ ap written shared_plain

@@ -1,5 +1,5 @@
 -- Ids of a table's entries, and what they become. An id is a place plus 1, and 0 stands for none.
-use Rattle.std.specs.Prelude.{ℕ, ◌+◌, ◌-◌, ◌^◌, ◌==◌, ◌||◌, nat_le, ℤ, pos, List, slice_index_or, if◌then◌else◌}
+use Rattle.std.specs.Prelude.{◌≡◌, ℕ, ◌+◌, ◌-◌, ◌^◌, ◌≤◌, ◌==◌, ◌||◌, nat_le, ℤ, pos, List, slice_index_or, if◌then◌else◌}
 use Rattle.pp_model.specs.Lookup.{text_number}
 use Rattle.pp_share.specs.Behind.{behind_id}
 pub use Rattle.pp_share.specs.MetPlaces.{place_id}
@@ -23,6 +23,10 @@ new_id Same id = id
 new_id (Moved known behind) id = behind_id behind.after behind.len (known_id known id)
 new_id (Listed ids) id = place_id ids id
 new_id (By ids) id = listed_id ids id
+
+-- each of so many ids becomes the one at its place among these
+abbrev pub GivesIds : ℕ → Ids → List ℕ → Type 0
+GivesIds count by ids = (id : ℕ) → 1 ≤ id → id ≤ count → new_id by id ≡ listed_id ids id
 
 -- the index of the text with the id, and 0 where there is none
 abbrev pub index_of_id : ℕ → ℤ

@@ -7,6 +7,7 @@ use Rattle.pp_model.specs.declared.profile.Sample.{Sample}
 use Rattle.pp_model.specs.declared.profile.Profile.{Profile}
 use Rattle.pp_model.specs.FirstSight.{distinct}
 use Rattle.pp_share.specs.SampleKeys.{summed_samples}
+use Rattle.pp_share.specs.Shared.{with_shared_texts, with_shared_functions, with_shared_places}
 
 -- the sample's locations are some of n
 abbrev pub NamesLocations : ℕ → Sample → Type 0
@@ -22,6 +23,10 @@ pub record IsJoined (p : Profile) : Type 0 where
 -- the profile with each comment once
 abbrev pub with_comments_once : Profile → Profile
 with_comments_once p = record p { comment = distinct int_eq p.comment }
+
+-- the profile with each entry of its tables once; a sample may still stand in several
+abbrev pub with_tables_once : Profile → Profile
+with_tables_once p = with_shared_places (with_shared_functions (with_comments_once (with_shared_texts p)))
 
 -- the profile with equal samples added up
 abbrev pub with_samples_once : Profile → Profile

@@ -1,9 +1,8 @@
 -- The steps by which a profile's tables come to have each thing once. Each table is made on the ones
 -- before it.
-use Rattle.std.specs.Prelude.{ℕ, ◌+◌, ◌&&◌, ◌==◌, nat_lt, Bool, ℤ, pos, int_le, List, map}
+use Rattle.std.specs.Prelude.{ℕ, ◌+◌, ◌&&◌, ◌==◌, Bool, List, map}
 use Rattle.std.specs.Ordering.{int_eq}
 use Rattle.std.specs.Str.{bytes_eq}
-use Rattle.pp_model.specs.declared.profile.Label.{Label}
 use Rattle.pp_model.specs.declared.profile.Mapping.{Mapping}
 use Rattle.pp_model.specs.declared.profile.Location.{Location}
 use Rattle.pp_model.specs.declared.profile.Function.{Function}
@@ -41,14 +40,6 @@ by_locations ids = record {
   function = λ id. id;
   location = listed_id ids;
 }
-
--- the index is that of one of so many texts
-abbrev pub is_text : ℕ → ℤ → Bool
-is_text texts index = int_le (pos 0) index && nat_lt (text_number index) texts
-
--- the label names some of so many texts
-abbrev pub names_texts : ℕ → Label → Bool
-names_texts texts l = is_text texts l.key && (is_text texts l.text && is_text texts l.num_unit)
 
 -- The profile with each text once.
 abbrev pub with_shared_texts : Profile → Profile

@@ -1,19 +1,15 @@
 //! Mappings and locations that stand once.
 ghost use Rattle.std.specs.Prelude.{◌≡◌, map, length, IfOk};
-ghost use Rattle.std.specs.List.{AllByRecursion};
 ghost use Rattle.pp_model.specs.FirstSight.{distinct, ids};
-ghost use Rattle.pp_share.specs.Shared.{with_shared_places, by_locations};
-ghost use Rattle.pp_share.specs.Renumbered.{renumbered_sample};
+ghost use Rattle.pp_share.specs.Shared.{with_shared_places, distant_locations};
+ghost use Rattle.pp_share.specs.Ids.{GivesIds};
 ghost use Rattle.pp_share.specs.PlaceKeys.{mapping_key, start_at, distant, near, same_place, place_of_key};
-ghost use Rattle.pp_share.specs.Share.{NamesLocations};
 
-use crate::change::change_each;
 use crate::first_sight::{Keyed, keep_firsts, number_each};
 use crate::ids::Ids;
 use crate::known::are_numbered;
-use crate::renumbering::Renumbering;
 use pp_base::{List, Memory};
-use pp_model::{Line, Location, Mapping, Profile, Sample};
+use pp_model::{Line, Location, Mapping, Profile};
 use std::alloc::Global;
 use std::mem;
 
@@ -59,10 +55,10 @@ pub struct LocationKey {
 }
 
 /// The profile, whose texts and functions stand once, with each mapping and each location once, in the order of first
-/// sight.
-pub fn share_places(alloc: Global, mut p: Profile) -> Result<Profile, Memory>
-    requires { AllByRecursion (NamesLocations (length p.location)) p.sample }
-    ensures { IfOk result (λ r. r ≡ with_shared_places p) }
+/// sight, and what the ids of locations become. Its samples stay as they are.
+pub fn share_places(alloc: Global, mut p: Profile) -> Result<(Profile, Ids), Memory>
+    ensures tables { IfOk result (λ r. r.0 ≡ record (with_shared_places p) { sample = p.sample }) }
+    ensures ids { IfOk result (λ r. GivesIds (length p.location) r.1 (ids same_place (distant_locations p))) }
 {
     let (mappings, mapping_ids) = keep_firsts(alloc, p.mapping.as_slice())?;
     let old = mem::replace(&mut p.mapping, mappings);
@@ -70,8 +66,19 @@ pub fn share_places(alloc: Global, mut p: Profile) -> Result<Profile, Memory>
     let keys = location_keys(alloc, locations, old.as_slice(), &Ids::By(mapping_ids))?;
     let (locations, ids) = share_locations(alloc, keys, p.mapping.as_slice())?;
     p.location = locations;
-    move_samples(&mut p.sample, ids);
-    Ok(p)
+    Ok((p, ids_by(ids)))
+}
+
+// What ids become that get these. Where no location repeats, all stay: samples name many, so they are not gone through
+// then.
+fn ids_by(ids: List<u64>) -> Ids
+    ensures { GivesIds (length ids) result ids }
+{
+    if are_numbered(ids.as_slice()) {
+        Ids::Same
+    } else {
+        Ids::By(ids)
+    }
 }
 
 // The locations without repeats, in the order of first sight, and the id of each. Their mappings are these.
@@ -87,24 +94,6 @@ fn share_locations(
     let (keys, ids) = number_each(alloc, keys)?;
     let locations = locations_of(alloc, keys, mappings)?;
     Ok((locations, ids))
-}
-
-// Gives the samples these ids of their locations. Where no location repeats, all ids stay: samples name many, so they
-// are not gone through then.
-fn move_samples(samples: &mut List<Sample>, ids: List<u64>)
-    requires { AllByRecursion (NamesLocations (length ids)) samples.old }
-    ensures { samples.new ≡ map (renumbered_sample (by_locations ids)) samples.old }
-{
-    if are_numbered(ids.as_slice()) {
-        return;
-    }
-    let by = Renumbering {
-        text: Ids::Same,
-        mapping: Ids::Same,
-        function: Ids::Same,
-        location: Ids::By(ids),
-    };
-    change_each(samples, &by);
 }
 
 // The keys of the locations, whose mappings are these and get new ids.

@@ -1,20 +1,23 @@
 //! A profile with each thing once, in the order of a walk over its samples.
-ghost use Rattle.std.specs.Prelude.{◌≡◌, ℕ, ◌-◌, ◌^◌, ◌<◌, ◌≤◌, nat_abs, length, All, IfOk};
-ghost use Rattle.std.specs.List.{sum_by};
-ghost use Rattle.std.specs.Ordering.{int_eq};
+ghost use Rattle.std.specs.Prelude.{◌≡◌, ℕ, ◌-◌, ◌^◌, ◌<◌, ◌≤◌, [], nat_abs, length, map, All, IfOk, OnOk};
+ghost use Rattle.std.specs.List.{AllByRecursion, sum_by};
 ghost use Rattle.pp_model.specs.Sizes.{value_in};
-ghost use Rattle.pp_model.specs.FirstSight.{distinct};
 ghost use Rattle.pp_share.specs.Placed.{gist, totalled};
+ghost use Rattle.pp_share.specs.Renumbered.{new_ids, renumbered_sample};
 ghost use Rattle.pp_share.specs.Written.{written};
-ghost use Rattle.pp_share.specs.SampleKeys.{summed_samples};
-ghost use Rattle.pp_share.specs.Share.{IsJoined, with_comments_once, with_samples_once};
+ghost use Rattle.pp_share.specs.SampleKeys.{kept_samples, summed_samples};
+ghost use Rattle.pp_share.specs.Share.{NamesLocations, IsJoined, with_comments_once, with_tables_once};
 
 use crate::first_sight::number_each;
 use crate::functions::share_functions;
+use crate::ids::Ids;
 use crate::places::share_places;
+use crate::renumbering::Renumbering;
+use crate::sample_key::SampleKey;
 use crate::samples::sum_samples;
 use crate::texts::share_texts;
 use crate::write::write;
+use indexmap::IndexMap;
 use pp_base::{List, Memory};
 use pp_model::Profile;
 use std::alloc::Global;
@@ -29,12 +32,31 @@ pub fn share(alloc: Global, p: Profile) -> Result<Profile, Memory>
         → sum_by (λ s. nat_abs (value_in s column)) p.sample ≤ 2 ^ 63 - 1 }
     ensures { IfOk result (λ r. r ≡ written (totalled (length p.sample_type) (gist p))) }
 {
-    let worded = share_texts(alloc, p)?;
+    let (mut shared, by) = share_tables(alloc, p)?;
+    let sums = share_samples(alloc, &mut shared, &by)?;
+    write(alloc, shared, sums)
+}
+
+// The profile with each entry of its tables once, and what the references of its samples become, which stay as they
+// are: samples are many, so they get their new ids while they are added up.
+fn share_tables(alloc: Global, p: Profile) -> Result<(Profile, Renumbering), Memory>
+    requires { AllByRecursion (NamesLocations (length p.location)) p.sample }
+    ensures tables { IfOk result (λ r. r.0 ≡ record (with_tables_once p) { sample = p.sample }) }
+    ensures samples { IfOk result (λ r.
+        map (renumbered_sample (new_ids r.1)) p.sample ≡ (with_tables_once p).sample) }
+    ensures few { OnOk result (length p.text < 2 ^ 62) }
+{
+    let (worded, text) = share_texts(alloc, p)?;
     let noted = share_comments(alloc, worded)?;
     let called = share_functions(alloc, noted)?;
-    let placed = share_places(alloc, called)?;
-    let summed = share_samples(alloc, placed)?;
-    write(alloc, summed)
+    let (shared, location) = share_places(alloc, called)?;
+    let by = Renumbering {
+        text,
+        mapping: Ids::Same,
+        function: Ids::Same,
+        location,
+    };
+    Ok((shared, by))
 }
 
 // The profile, whose texts stand once, with each comment once.
@@ -47,14 +69,19 @@ fn share_comments(alloc: Global, mut p: Profile) -> Result<Profile, Memory>
     Ok(p)
 }
 
-// The profile, whose texts and locations stand once, with equal samples added up.
-fn share_samples(alloc: Global, mut p: Profile) -> Result<Profile, Memory>
-    requires wide { All (λ s. length s.value ≡ length p.sample_type) p.sample }
-    requires fits { (column : ℕ) → column < length p.sample_type
-        → sum_by (λ s. nat_abs (value_in s column)) p.sample ≤ 2 ^ 63 - 1 }
-    ensures { IfOk result (λ r. r ≡ with_samples_once p) }
+// Takes the samples out of the profile and adds up those that are equal once they are renumbered.
+fn share_samples(
+    alloc: Global,
+    p: &mut Profile,
+    by: &Renumbering,
+) -> Result<IndexMap<SampleKey, List<i64>>, Memory>
+    requires wide { All (λ s. length s.value ≡ length p.old.sample_type) p.old.sample }
+    requires fits { (column : ℕ) → column < length p.old.sample_type
+        → sum_by (λ s. nat_abs (value_in s column)) p.old.sample ≤ 2 ^ 63 - 1 }
+    ensures taken { OnOk result (p.new ≡ record p.old { sample = [] }) }
+    ensures sums { IfOk result (λ sums. kept_samples sums.entries
+        ≡ summed_samples (length p.old.sample_type) (map (renumbered_sample (new_ids by.now)) p.old.sample)) }
 {
     let samples = mem::replace(&mut p.sample, List::new(alloc));
-    p.sample = sum_samples(alloc, p.sample_type.len(), samples)?;
-    Ok(p)
+    sum_samples(alloc, p.sample_type.len(), samples, by)
 }
