@@ -29,8 +29,11 @@ use Rattle.pp_share.proofs.Renaming.{maps_agree, same_type_text}
 use Rattle.pp_share.proofs.JoinLemmas.{get_or-front, behind_in, behind_past}
 use Rattle.pp_merge.proofs.JoinedTables.{HasIds, Holds, words, own_samples, own_mappings}
 use Rattle.pp_share.proofs.EntryLemmas.{index_next}
-use Rattle.pp_share.proofs.ShareLemmas.{rows}
 use Rattle.pp_share.proofs.SharedFunctions.{text_laws}
+
+-- the values of the samples
+abbrev pub rows : Profile → List (List ℤ)
+rows p = map (λ s. s.value) p.sample
 
 -- one profile more behind the others
 pub join_from-append : (a : Profile) (qs : List Profile) (q : Profile)

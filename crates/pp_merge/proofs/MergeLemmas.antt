@@ -46,8 +46,7 @@ use Rattle.pp_share.proofs.SumLemmas.{length-total_of}
 use Rattle.pp_share.proofs.SampleKeyLemmas.{sum_by-map}
 use Rattle.pp_share.proofs.JoinLemmas.{behind_in}
 use Rattle.pp_merge.proofs.JoinedTables.{HasIds, Holds}
-use Rattle.pp_merge.proofs.JoinedAll.{AllHaveIds, holds_next, holds_first, whole, whole_some, whole_empty, whole_gist, whole_duration, whole_rows, whole_types}
-use Rattle.pp_share.proofs.ShareLemmas.{rows}
+use Rattle.pp_merge.proofs.JoinedAll.{rows, AllHaveIds, holds_next, holds_first, whole, whole_some, whole_empty, whole_gist, whole_duration, whole_rows, whole_types}
 use Rattle.pp_merge.proofs.SettledLemmas.{each_passes, no_column}
 use Rattle.pp_merge.proofs.WrittenValid.{valid_written}
 use Rattle.pp_merge.proofs.WrittenCompact.{compact_written}

@@ -1,41 +1,30 @@
 -- A joined profile of which each thing is kept once, step by step, says what it said, added up.
-use Rattle.std.proofs.Common.{◌≡◌, ℕ, ◌<◌, ℤ, nat_abs, pos, List, [], map, length, get_or, sum_by, refl, sym, ap, subst, ◌∙◌}
-use Rattle.std.specs.List.{All, AllByRecursion, IsDistinct}
+use Rattle.std.proofs.Common.{◌≡◌, ◌<◌, [], length, sym, ap, subst, ◌∙◌}
+use Rattle.std.specs.List.{AllByRecursion, IsDistinct}
 use Rattle.std.specs.Str.{bytes_eq}
 use Rattle.std.specs.Cmp.{nat_eq_equiv}
 use Rattle.std.specs.Cmp.Lexicographic.{lists_equiv}
 use Rattle.std.proofs.lemmas.List.{length-map}
-use Rattle.std.proofs.lemmas.List.Elements.{All-map}
-use Rattle.pp_base.proofs.Lists.{all_by, all_of_map}
-use Rattle.pp_model.specs.declared.profile.Sample.{Sample}
 use Rattle.pp_model.specs.declared.profile.Profile.{Profile}
-use Rattle.pp_model.specs.Sizes.{value_in}
 use Rattle.pp_model.specs.FirstSight.{ids}
 use Rattle.pp_share.specs.Header.{header_of}
 use Rattle.pp_share.specs.Placed.{gist, plain, totalled, samples_placed, mappings_of}
 use Rattle.pp_share.specs.Alike.{first_alike}
 use Rattle.pp_share.specs.Written.{written}
 use Rattle.pp_share.specs.Renumbered.{renumbered_type, renumbered_location, renumbered_sample, renumbered_label}
-use Rattle.pp_share.specs.Shared.{by_texts, by_functions, by_locations, alike_functions, distant_locations, with_shared_texts, with_shared_functions, with_shared_places}
-use Rattle.pp_share.specs.PlaceKeys.{same_place}
+use Rattle.pp_share.specs.Shared.{by_texts, by_functions, alike_functions, with_shared_texts, with_shared_functions, with_shared_places}
 use Rattle.pp_share.specs.Share.{NamesLocations, IsJoined, with_comments_once, with_tables_once, with_samples_once}
 use Rattle.pp_share.specs.Walked.{walked_texts_of, walked}
 use Rattle.pp_share.proofs.Prefix.{all_tt}
 use Rattle.pp_model.proofs.FirstSightLemmas.{distinct_apart}
-use Rattle.pp_share.proofs.SampleKeyLemmas.{sum_by-map}
 use Rattle.pp_share.proofs.Tables.{Names}
 use Rattle.pp_share.proofs.Lists.{all_mapped}
-use Rattle.pp_share.proofs.Renaming.{maps_agree}
 use Rattle.pp_share.proofs.Ready.{LabelIn, SampleIn, HeaderIn, IsReady}
 use Rattle.pp_share.proofs.SharedTexts.{HasTexts, shared_empty, shared_some, texts_gist, in_range, functions_in, mappings_in, header_in}
 use Rattle.pp_share.proofs.SharedFunctions.{functions_gist, functions_apart, functions_kept, lines_in, comments_once, comments_same, comments_in}
 use Rattle.pp_share.proofs.SharedPlaces.{HasFunctions, places_plain, mappings_apart, mappings_kept, locations_apart, locations_in, samples_in}
 use Rattle.pp_share.proofs.SharedSamples.{samples_plain, sums_in}
 use Rattle.pp_share.proofs.WalkedLemmas.{walked_is}
-
--- the values of the samples
-abbrev pub rows : Profile → List (List ℤ)
-rows p = map (λ s. s.value) p.sample
 
 pub same_columns : (p : Profile) → length (with_tables_once p).sample_type ≡ length p.sample_type
 same_columns p = length-map p.sample_type (renumbered_type (by_texts (ids bytes_eq p.text)))

@@ -2,7 +2,7 @@ use Rattle.std.proofs.Common.{◌≡◌, [], map, ap, ◌∙◌}
 use Rattle.std.specs.List.{flat_map}
 use Rattle.pp_share.specs.SampleKeys.{kept_samples}
 use Rattle.pp_share.specs.Walk.{met_after, location_refs}
-use Rattle.pp_share.specs.Walked.{placed_sample, locations_met}
+use Rattle.pp_share.specs.Walked.{placed_sample}
 use Rattle.pp_share.specs.Gathered.{gathered, location_entry}
 use Rattle.pp_share.proofs.write.keep_locations.Goals as goal
 
