@@ -1,7 +1,6 @@
 -- What the program tells of itself.
-use Rattle.std.specs.Prelude.{ℕ, nat_eq, Bool, List, [], ◌∷◌, ◌++◌, drop, zip, Option, None, codes}
-use Rattle.std.specs.List.{flat_map, list_all, starts_with}
-use Rattle.pp_model.specs.Defaults.{defaults}
+use Rattle.std.specs.Prelude.{ℕ, List, [], ◌∷◌, ◌++◌, Option, None, codes}
+use Rattle.std.specs.List.{flat_map}
 use Rattle.pp_options.specs.declared.format.TheConstants.{FORMATS}
 use Rattle.pp_options.specs.declared.help.TheConstants.{TOPICS, VERSION, USAGE, SHELL_HEADING, SHELL_HELP, SHELL_EXAMPLE}
 use Rattle.pp_options.specs.declared.help.Topic.{Topic}
@@ -9,9 +8,6 @@ use Rattle.pp_options.specs.declared.help.Topic.TheVariants.{Help, Version}
 use Rattle.pp_options.specs.declared.name.TheConstants.{SOURCES}
 use Rattle.pp_options.specs.declared.table.Row.TheVariants as rows
 use Rattle.pp_options.specs.declared.variable.TheConstants.{VARIABLES}
-use Rattle.pp_options.specs.declared.variable.Variable.{Variable}
-use Rattle.pp_options.specs.declared.variable.Variable.TheVariants.{Text}
-use Rattle.pp_options.specs.Listing.{variable_text}
 use Rattle.pp_options.specs.Tables.{TableRow, value_named}
 
 -- the topic that the words ask for, where they are one word alone
@@ -32,17 +28,3 @@ topic_text Help =
     USAGE.now ++ flat_map row_text FORMATS ++ flat_map row_text SOURCES ++ flat_map row_text VARIABLES
     ++ SHELL_HEADING.now ++ SHELL_HELP.now ++ SHELL_EXAMPLE.now
 topic_text Version = VERSION.now
-
--- what stands behind the name of a variable that is no text: its default
-abbrev pub default_text : TableRow Variable → List ℕ
-default_text (rows.Option name (Text which)) = []
-default_text (rows.Option name variable) = codes "=" ++ variable_text defaults variable ++ codes " "
-default_text row = []
-
--- the second row begins with the default of the first
-abbrev pub tells_default : TableRow Variable × TableRow Variable → Bool
-tells_default pair = starts_with nat_eq (row_text pair.1) (default_text pair.0)
-
--- The help tells each default behind the variable's name.
-abbrev pub tells_defaults : List (TableRow Variable) → Bool
-tells_defaults table = list_all tells_default (zip table (drop 1 table))

@@ -1,9 +1,9 @@
 //! What the program tells of itself.
-ghost use Rattle.std.specs.Prelude.{◌≡◌, ◌++◌, map, OnOk, OnErr, IsTrue};
+ghost use Rattle.std.specs.Prelude.{◌≡◌, ◌++◌, map, OnOk, OnErr};
 ghost use Rattle.std.specs.List.{flat_map};
 ghost use Rattle.pp_base.specs.Grew.{Grew};
 ghost use Rattle.pp_options.specs.Tables.{row_of};
-ghost use Rattle.pp_options.specs.Help.{topic_asked, topic_text, row_text, tells_defaults};
+ghost use Rattle.pp_options.specs.Help.{topic_asked, topic_text, row_text};
 ghost use Rattle.pp_options.specs.declared.help.Topic.TheVariants as topics;
 
 use crate::format::FORMATS;
@@ -126,8 +126,3 @@ fn put_row<T>(row: &OptionRow<T>, out: &mut Text) -> Result<(), Memory>
         Row::Also(name, _) => put_both(b", -", name, out),
     }
 }
-
-/// A law: the help tells the default of each variable but of texts, which are empty.
-pub fn defaults_are_told()
-    ensures { IsTrue (tells_defaults VARIABLES) }
-{}

@@ -26,7 +26,7 @@ mod words;
 
 pub use assigning::{SetRefusal, set};
 pub use format::{FlagFormat, Format, PatternFormat, format_named};
-pub use help::{SHELL_HELP, Topic, defaults_are_told, topic_asked, write_topic};
+pub use help::{SHELL_HELP, Topic, topic_asked, write_topic};
 pub use listing::write_options;
 pub use name::{Choice, OptionName, choice_named, option_named};
 pub use origin::Origin;
