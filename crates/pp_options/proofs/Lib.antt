@@ -2,3 +2,4 @@ pub mod RequestLemmas
 mod ReadingLemmas
 pub mod EndLemmas
 pub mod SettingLemmas
+pub mod GrewLemmas

@@ -22,9 +22,15 @@ row_text (rows.Text text) = text.now
 row_text (rows.Option name value) = codes "  -" ++ name.now
 row_text (rows.Also name value) = codes ", -" ++ name.now
 
+-- the formats, the options of sources and the variables
+abbrev pub options_text : List ℕ
+options_text = flat_map row_text FORMATS ++ flat_map row_text SOURCES ++ flat_map row_text VARIABLES
+
+-- what is told of the shell
+abbrev pub shell_text : List ℕ
+shell_text = SHELL_HEADING.now ++ SHELL_HELP.now ++ SHELL_EXAMPLE.now
+
 -- what is told of a topic
 unfoldable pub topic_text : Topic → List ℕ
-topic_text Help =
-    USAGE.now ++ flat_map row_text FORMATS ++ flat_map row_text SOURCES ++ flat_map row_text VARIABLES
-    ++ SHELL_HEADING.now ++ SHELL_HELP.now ++ SHELL_EXAMPLE.now
+topic_text Help = USAGE.now ++ options_text ++ shell_text
 topic_text Version = VERSION.now

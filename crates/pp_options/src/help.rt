@@ -3,7 +3,7 @@ ghost use Rattle.std.specs.Prelude.{◌≡◌, ◌++◌, map, OnOk, OnErr};
 ghost use Rattle.std.specs.List.{flat_map};
 ghost use Rattle.pp_base.specs.Grew.{Grew};
 ghost use Rattle.pp_options.specs.Tables.{row_of};
-ghost use Rattle.pp_options.specs.Help.{topic_asked, topic_text, row_text};
+ghost use Rattle.pp_options.specs.Help.{topic_asked, topic_text, row_text, options_text, shell_text};
 ghost use Rattle.pp_options.specs.declared.help.Topic.TheVariants as topics;
 
 use crate::format::FORMATS;
@@ -90,15 +90,33 @@ fn write_help(out: &mut Text) -> Result<(), Memory>
 }
 
 // Without memory the text has gained some of it.
-#[tactic(auto, unfolding(crate::specs::Help::topic_text))]
+#[tactic(auto, using(crate::proofs::GrewLemmas::grew_from_less), unfolding(crate::specs::Help::topic_text))]
 fn put_help(out: &mut Text) -> Result<(), Memory>
     ensures ok { OnOk result (out.new ≡ out.old ++ topic_text topics.Help) }
     ensures err { OnErr result (Grew out.old out.new) }
 {
     out.extend(USAGE)?;
+    put_options(out)?;
+    put_shell(out)
+}
+
+// Without memory the text has gained some of it.
+#[tactic(auto, using(crate::proofs::GrewLemmas::grew_from_less))]
+fn put_options(out: &mut Text) -> Result<(), Memory>
+    ensures ok { OnOk result (out.new ≡ out.old ++ options_text) }
+    ensures err { OnErr result (Grew out.old out.new) }
+{
     put_rows(&FORMATS, out)?;
     put_rows(&SOURCES, out)?;
-    put_rows(&VARIABLES, out)?;
+    put_rows(&VARIABLES, out)
+}
+
+// Without memory the text has gained some of it.
+#[tactic(auto, using(crate::proofs::GrewLemmas::grew_from_less))]
+fn put_shell(out: &mut Text) -> Result<(), Memory>
+    ensures ok { OnOk result (out.new ≡ out.old ++ shell_text) }
+    ensures err { OnErr result (Grew out.old out.new) }
+{
     out.extend(SHELL_HEADING)?;
     out.extend(SHELL_HELP)?;
     out.extend(SHELL_EXAMPLE)
