@@ -9,6 +9,6 @@ pub grew_from_less : (old more new : List ℕ) → Grew (old ++ more) new → Gr
 grew_from_less old more new grew =
     ap (take (length old)) (sym (take-append-drop (length (old ++ more)) new))
     ∙ take-append-le (length old) (take (length (old ++ more)) new) (drop (length (old ++ more)) new)
-        (omega (arith, ap length grew, length-append old more))
+    (omega (arith, ap length grew, length-append old more))
     ∙ ap (take (length old)) grew
     ∙ take-append_seam old more
