@@ -1,5 +1,5 @@
 //! What one field gives to a message: a scalar, numbers, a text or a message.
-ghost use Rattle.std.specs.Prelude.{◌≡◌, ◌+◌, ◌<◌, ◌^◌, ◌++◌, [], ◌∷◌, length, IfOk, IfErr, Some};
+ghost use Rattle.std.specs.Prelude.{◌≡◌, ◌+◌, ◌<◌, ◌^◌, ◌++◌, [], ◌∷◌, length, IfOk, IfErr, OnOk, Some};
 ghost use Rattle.pp_wire.specs.Fields.{Varint, Bytes, item, content_of, fields};
 ghost use Rattle.pp_tables.specs.Message.{Scalar, Numbers, Run, Nested, fault_by, fault_in};
 ghost use Rattle.pp_tables.specs.Select.{last_or, uints_in, ints_in, bools_in, listed, texts_in, messages_in, fields_in};
@@ -8,9 +8,13 @@ ghost use Rattle.pp_tables.specs.Takes.{TakesField};
 use crate::ReadRefusal;
 use crate::message::{Message, fill};
 use crate::packed::{Packable, push_packed};
-use pp_base::{List, Text};
+use pp_base::{List, Memory, Text};
 use pp_wire::{Field, Payload, WireFault, WireKind};
 use std::alloc::Global;
+use std::mem;
+
+/// A list with fewer items gets room for one more at a time.
+const SHORT: usize = 4;
 
 fn wrong_kind(field: &Field<'_>) -> WireFault
     ensures { result ≡ record { kind = WireKind.WrongKind; at = field.now.at } }
@@ -120,7 +124,22 @@ pub(crate) fn push_filled<M: Message>(
 {
     let mut message = M::none(alloc);
     fill(alloc, &mut message, bytes, at)?;
+    make_room_for_one(alloc, list)?;
     list.push(message)?;
+    Ok(())
+}
+
+// Makes room for just one more in a short list. Most messages have few of a kind, and room that is never used adds up
+// over many messages.
+fn make_room_for_one<T: Drop>(alloc: Global, list: &mut List<T>) -> Result<(), Memory>
+    ensures { OnOk result (list.new ≡ list.old) }
+{
+    if list.len() >= SHORT {
+        return Ok(());
+    }
+    let mut items = mem::replace(list, List::new(alloc)).into_vec();
+    items.reserve_exact(1)?;
+    *list = List::from_vec(items);
     Ok(())
 }
 

@@ -1,5 +1,5 @@
 //! The profile that a file's bytes are, of which workers read the samples.
-ghost use Rattle.std.specs.Prelude.{◌≡◌, ◌++◌, ◌<◌, ◌≤◌, ◌^◌, List as Seq, Ok, length, map, IfOk, IfSome, OnOk};
+ghost use Rattle.std.specs.Prelude.{◌≡◌, ◌<◌, ◌≤◌, ◌^◌, List as Seq, Ok, length, map, IfOk, IfSome};
 ghost use Rattle.pp_model.specs.Sizes.{HasAtMost};
 ghost use Rattle.pp_tables.specs.Joined.{PayloadAt};
 ghost use Rattle.pp_tables.specs.Read.{Answers, read, read_message};
@@ -15,7 +15,6 @@ use pp_base::{Gate, List, Memory};
 use pp_model::{Profile, Sample};
 use pp_steal::{Deal, run_pieces};
 use std::alloc::Global;
-use std::mem;
 use std::thread::Threads;
 
 /// Reads the message `Profile` as `read_profile` does, with the samples in pieces of 1,024 on so many lanes, from 1 to
@@ -127,20 +126,9 @@ fn join(
     let mut samples = with_room(alloc, count)?;
     for part in parts.into_vec() {
         match part {
-            Some(more) => append(alloc, &mut samples, more)?,
+            Some(more) => samples.append(more)?,
             None => return Ok(None),
         }
     }
     Ok(Some(samples))
-}
-
-// Puts the items behind those that are there.
-fn append<T: Drop>(alloc: Global, items: &mut List<T>, more: List<T>) -> Result<(), Memory>
-    ensures { OnOk result (items.new ≡ items.old ++ more) }
-{
-    let mut all = mem::replace(items, List::new(alloc)).into_vec();
-    let mut more = more.into_vec();
-    all.append(&mut more)?;
-    *items = List::from_vec(all);
-    Ok(())
 }

@@ -24,4 +24,4 @@ returns c = λ p names most can listable.
     let b : Branch = c.args.branch.now in
     IfOk-weaker c.push_branches.result _ _
     (λ _ adds. passes_more p names most c.args.texts.now can b _ c.args.waiting.now.items c.push_branches.new.waiting.items c.args.sums.now.items c.push_sum-2.new.sums.items listable
-    (ap (take (b.depth + 1)) (first_is b.paths.now _ (trail_some b listable.trailed.long))) (to_z-of_z w64 b.flat (search rules)) c.in_ok-push_sum-2.ensures adds) c.push_branches.ensures
+    (ap (take (b.depth + 1)) (first_is b.paths.now _ (trail_some b listable.trailed.long))) (to_z-of_z w64 b.flat (search rules)) c.in_ok-push_sum.ensures adds) c.push_branches.ensures
