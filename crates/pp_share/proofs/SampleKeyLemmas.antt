@@ -1,6 +1,8 @@
 -- The sums of samples per key, where a loop takes one sample after another.
 use Rattle.std.proofs.Common.{◌≡◌, ℕ, ◌+◌, ◌<◌, ◌≤◌, Bool, true, false, ℤ, pos, nat_abs, List, [], ◌∷◌, ◌++◌, Some, length, map, filter, get_or, take, sum_by, refl, sym, ap, subst, ◌∙◌, if◌then◌else◌, arith}
-use Rattle.std.specs.List.{All}
+use Rattle.std.specs.List.{list_all, All}
+use Rattle.std.specs.Prelude.{not}
+use Rattle.std.specs.Ordering.{int_eq}
 use Rattle.std.specs.Map.{lookup}
 use Rattle.std.specs.Option.{unwrap_or}
 use Rattle.std.specs.Cmp.{IsEquivalence, decided}
@@ -107,9 +109,13 @@ module _ (by : NewIds) (columns : ℕ) (samples seen : List Sample) (s : Sample)
         (next_holds (map item samples) (map item seen) (item s) next_item (λ i. length i.1 ≡ columns) wide_items))
         ∙ ap (summed same_stack columns) (sym (map-append item seen (s ∷ [])))
 
--- samples that are kept of more sums
-pub kept_more : (sums : List (SampleKey × List ℤ)) (entry : SampleKey × List ℤ) → kept_samples (sums ++ entry ∷ []) ≡ kept_samples sums ++ kept_samples (entry ∷ [])
-kept_more sums entry =
-    ap (λ l. map sample_of (filter counts l)) (map-append item_of_key sums (entry ∷ []))
-    ∙ ap (map sample_of) (filter-append counts (map item_of_key sums) (item_of_key entry ∷ []))
-    ∙ map-append sample_of (filter counts (map item_of_key sums)) (filter counts (item_of_key entry ∷ []))
+-- samples that are kept of sums and of more
+pub kept_both : (sums more : List (SampleKey × List ℤ)) → kept_samples (sums ++ more) ≡ kept_samples sums ++ kept_samples more
+kept_both sums more =
+    ap (λ l. map sample_of (filter counts l)) (map-append item_of_key sums more)
+    ∙ ap (map sample_of) (filter-append counts (map item_of_key sums) (map item_of_key more))
+    ∙ map-append sample_of (filter counts (map item_of_key sums)) (filter counts (map item_of_key more))
+
+-- a sum that isn't 0 in each column is a sample
+pub kept_one : (entry : SampleKey × List ℤ) → list_all (int_eq (pos 0)) entry.1 ≡ false → kept_samples (entry ∷ []) ≡ sample_of (item_of_key entry) ∷ []
+kept_one entry some = ap (λ b. map sample_of (if not b then item_of_key entry ∷ [] else [])) some

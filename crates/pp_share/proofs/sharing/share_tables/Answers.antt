@@ -3,6 +3,7 @@ use Rattle.std.specs.Str.{bytes_eq}
 use Rattle.std.proofs.lemmas.List.{length-map}
 use Rattle.pp_model.specs.declared.profile.Profile.{Profile}
 use Rattle.pp_model.specs.FirstSight.{ids}
+use Rattle.pp_share.specs.declared.ids.Ids.TheVariants.{Same}
 use Rattle.pp_share.specs.Ids.{GivesIds}
 use Rattle.pp_share.specs.PlaceKeys.{same_place}
 use Rattle.pp_share.specs.Shared.{distant_locations, with_shared_texts, with_shared_functions, with_shared_places}
@@ -26,5 +27,5 @@ returns-clause-samples c =
     let new = ids same_place (distant_locations called) in
     let given : GivesIds (length called.location) c.in_ok-shared.location new =
     subst (λ (q : Profile). GivesIds (length q.location) c.in_ok-shared.location (ids same_place (distant_locations q))) is c.in_ok-shared.ensures.ids in
-    moved_samples c.by.result (ids bytes_eq p.text) new c.in_ok-worded.ensures.ids (length p.location)
+    moved_samples (record { text = c.in_ok-worded.text; mapping = Same; function = Same; location = c.in_ok-shared.location }) (ids bytes_eq p.text) new c.in_ok-worded.ensures.ids (length p.location)
     (subst (λ n. GivesIds n c.in_ok-shared.location new) (length-map (with_shared_texts p).location _ ∙ length-map p.location _) given) p.sample c.requires
