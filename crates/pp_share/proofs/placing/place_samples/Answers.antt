@@ -1,6 +1,6 @@
 use Rattle.std.proofs.Common.{◌≡◌, List, ◌++◌, ℤ, [], ◌∷◌, length, map, sym, ap, ◌∙◌, arith}
 use Rattle.std.specs.List.{flat_map}
-use Rattle.std.proofs.lemmas.List.{append-nil, map-append}
+use Rattle.std.proofs.lemmas.List.{append-nil, append_assoc, map-append}
 use Rattle.pp_model.specs.declared.profile.Sample.{Sample}
 use Rattle.pp_share.specs.declared.sample_key.SampleKey.{SampleKey}
 use Rattle.pp_share.specs.SampleKeys.{kept_samples}
@@ -36,6 +36,7 @@ loop-key-preserved c =
           ap (λ (l : List Sample). l ++ map placed zs)
           (step.placed (flat_map location_refs zs ++ more) (flat_map sample_text_ids zs ++ said)
           ∙ (λ j. c.loop-key.samples.items ++ map (placed_sample (met_later now last (flat_map location_refs zs) more (sym met) j) (met_later then words (flat_map sample_text_ids zs) said (sym worded) j)) ys))
+          ∙ append_assoc c.loop-key.samples.items (map placed ys) (map placed zs)
           ∙ ap (λ l. c.loop-key.samples.items ++ l) (sym (map-append placed ys zs) ∙ ap (map placed) (sym are))
           ∙ so_far.left more said;
       room = omega (arith, so_far.room, step.len, step.capacity, ap length c.in-Some.ensures.steps);
