@@ -54,7 +54,7 @@ outcomes_are test samples pieces flags all whole =
     flags_are test samples flags (λ k d here. all.each k d (omega (arith, here, many))) (omega (arith, whole, many))
 
 -- where all samples and the locations' ids are sound
-are_sound : (p : Profile) → first_fault_of (location_faults p) ≡ None → list_all (is_sound p) p.sample ≡ true → AreSound p
+pub are_sound : (p : Profile) → first_fault_of (location_faults p) ≡ None → list_all (is_sound p) p.sample ≡ true → AreSound p
 are_sound p ids all =
     let parts = both (λ s. list_all (label_has_texts p) s.label) (is_whole p) p.sample all in
     let whole = whole_samples p parts.1 in

@@ -4,10 +4,7 @@ use Rattle.std.specs.Prelude.{None, Some, ◌==◌}
 use Rattle.std.specs.List.{list_all, position_or_len}
 use Rattle.std.proofs.lemmas.Bool.{le-ltb}
 use Rattle.pp_model.specs.declared.profile.Profile.{Profile}
-use Rattle.pp_model.specs.Rules.{first_failing, stands_in, location_ids, sample_fault, value_fault, location_fault}
-use Rattle.pp_check.specs.declared.fault.Table.TheVariants.{Locations, Samples}
-use Rattle.pp_check.specs.Finds.{rule_fault, first_fault_of}
-use Rattle.pp_check.specs.FirstFault.{reference_faults}
+use Rattle.pp_model.specs.Rules.{first_failing, stands_in, location_ids, sample_fault, value_fault}
 use Rattle.pp_check.specs.Whole.{is_whole}
 
 -- a test that all items pass
@@ -42,10 +39,3 @@ whole_samples p all =
       none_fails (λ s. list_all (stands_in (location_ids p)) s.location_id) p.sample parts.0,
       none_fails (λ s. length s.value == length p.sample_type) p.sample parts.1,
     )
-
--- no rule on references fails
-pub none_refers_wrong : (p : Profile) → rule_fault 10 Locations (location_fault p) ≡ None → list_all (is_whole p) p.sample ≡ true
-    → first_fault_of (reference_faults p) ≡ None
-none_refers_wrong p tenth all =
-    let samples = whole_samples p all in
-    (λ j. first_fault_of (tenth j ∷ rule_fault 11 Samples (samples.0 j) ∷ rule_fault 12 Samples (samples.1 j) ∷ []))

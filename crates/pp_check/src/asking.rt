@@ -51,8 +51,8 @@ impl Job for Asking<'_> {
     }
 }
 
-// Whether all of these samples are sound.
-fn are_sound(p: &Profile, locations: &Known, samples: &[Sample]) -> bool
+/// Whether all of these samples are sound.
+pub(crate) fn are_sound(p: &Profile, locations: &Known, samples: &[Sample]) -> bool
     requires { Knows locations.now (location_ids p.now) }
     ensures { result ≡ list_all (is_sound p.now) samples.now }
 {

@@ -7,10 +7,11 @@ ghost use Rattle.pp_check.specs.Known.{Knows};
 ghost use Rattle.pp_check.specs.Sound.{AreSound};
 ghost use Rattle.pp_model.specs.Rules.{mapping_ids, function_ids, location_ids};
 
+use crate::asking::are_sound;
 use crate::fault::{CheckRefusal, Table, TableFault, refuse};
 use crate::ids::known_ids;
 use crate::known::Known;
-use crate::references::{are_whole, location_fault, sample_fault, value_fault};
+use crate::references::{location_fault, sample_fault, value_fault};
 use crate::texts::{
     comment_text_fault, function_text_fault, header_text_fault, mapping_text_fault,
     sample_text_fault, text_zero_fault, type_text_fault, untyped_fault,
@@ -38,8 +39,22 @@ pub fn check(alloc: Global, p: Profile) -> Result<Valid, CheckRefusal>
     requires { IsIndexed p }
     ensures { Checks p result }
 {
-    keep_rules(alloc, &p, false)?;
+    let sound = ask_ahead(alloc, &p)?;
+    keep_rules(alloc, &p, sound)?;
     Ok(Valid::claim(p))
+}
+
+// Whether the ids of the locations and all samples are sound. Samples are many, so one walk asks them ahead of the
+// other rules.
+fn ask_ahead(alloc: Global, p: &Profile) -> Result<bool, Memory>
+    requires { IsIndexed p.now }
+    ensures { IfOk result (λ sound. IsTrue sound → AreSound p.now) }
+{
+    match known_locations(alloc, p) {
+        Ok(locations) => Ok(are_sound(p, &locations, p.sample.as_slice())),
+        Err(CheckRefusal::Fault(_)) => Ok(false),
+        Err(CheckRefusal::Memory) => Err(Memory),
+    }
 }
 
 /// Asks all rules, in their order. Where it is known that samples and the locations' ids are sound, they are not asked.
@@ -134,9 +149,6 @@ fn keep_references(
     ensures { FindsFault (first_fault_of (reference_faults p.now)) result }
 {
     refuse(10, Table::Locations, location_fault(p, mappings, functions))?;
-    if are_whole(p, locations) {
-        return Ok(());
-    }
     refuse(11, Table::Samples, sample_fault(p, locations))?;
     refuse(12, Table::Samples, value_fault(p))
 }

@@ -88,17 +88,6 @@ pub fn is_whole(p: &Profile, locations: &Known, sample: &Sample) -> bool
     sample_refers(p, locations, sample) && sample.value.len() == p.sample_type.len()
 }
 
-/// Whether no sample breaks rule 11 or rule 12. Samples are many, so they are gone through once for both.
-pub fn are_whole(p: &Profile, locations: &Known) -> bool
-    requires { Knows locations.now (rules.location_ids p.now) }
-    ensures { result ≡ list_all (is_whole p.now) p.now.sample }
-{
-    p.sample
-        .as_slice()
-        .iter()
-        .all(|sample| is_whole(p, locations, sample))
-}
-
 /// Rule 11: the least index of a sample with a location that isn't there.
 pub fn sample_fault(p: &Profile, locations: &Known) -> Option<usize>
     requires { Knows locations.now (rules.location_ids p.now) }
