@@ -64,7 +64,8 @@ fn show(alloc: Global, l: &Loaded, c: &pp_count::Counted, r: &pp_graph::Ranked) 
     for number in r.order.as_slice() {
         let own = c.sums.flat.as_slice()[*number as usize];
         let cum = c.sums.cum.as_slice()[*number as usize];
-        text.extend(format!(in alloc; "\n{own:>9}  {cum:>12}  ")?.as_bytes())?;
+        text.extend(format!(in alloc; "\n{own:>9}")?.as_bytes())?;
+        text.extend(format!(in alloc; "  {cum:>12}  ")?.as_bytes())?;
         pp_grain::write_name(l, &c.sums.names.key(*number), &mut text)?;
     }
     text.extend(b"\n\n")?;
