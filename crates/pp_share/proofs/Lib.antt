@@ -25,6 +25,7 @@ pub mod Prefix
 pub mod Agreement
 pub mod SummedLemmas
 pub mod SampleKeyLemmas
+pub mod Apart
 pub mod Deciding
 pub mod MergedMapping
 pub mod DistinctLemmas

@@ -1,8 +1,8 @@
 -- The sums of samples per key, where a loop takes one sample after another.
 use Rattle.std.proofs.Common.{◌≡◌, ℕ, ◌+◌, ◌<◌, ◌≤◌, Bool, true, false, ℤ, pos, nat_abs, List, [], ◌∷◌, ◌++◌, Some, length, map, filter, get_or, take, sum_by, refl, sym, ap, subst, ◌∙◌, if◌then◌else◌, arith}
-use Rattle.std.specs.List.{list_all, All}
 use Rattle.std.specs.Prelude.{not}
 use Rattle.std.specs.Ordering.{int_eq}
+use Rattle.std.specs.List.{list_all, All}
 use Rattle.std.specs.Map.{lookup}
 use Rattle.std.specs.Option.{unwrap_or}
 use Rattle.std.specs.Cmp.{IsEquivalence, decided}
@@ -13,7 +13,6 @@ use Rattle.indexmap.specs.IndexMap.{insert_entry}
 use Rattle.pp_model.specs.declared.profile.Label.{Label}
 use Rattle.pp_model.specs.declared.profile.Sample.{Sample}
 use Rattle.pp_share.specs.declared.sample_key.SampleKey.{SampleKey}
-use Rattle.pp_share.specs.Renumbered.{NewIds, renumbered_sample}
 use Rattle.pp_share.specs.Sums.{sum_with, counts, summed, sum_at, sums_with, CanAdd}
 use Rattle.pp_share.specs.SampleStacks.{same_stack, stack_decides}
 use Rattle.pp_share.specs.SampleKeys.{sample_item, sample_of, key_lists, same_key, item_of_key, kept_samples}
@@ -65,49 +64,45 @@ module _ {K D : Type 0} (same : D → D → Bool) (describe : K → D) where
       by true rest = refl
       by false rest = ap (λ l. with_text e ∷ l) rest
 
-stack_laws : IsEquivalence same_stack
+pub stack_laws : IsEquivalence same_stack
 stack_laws = decided same_stack stack_decides
 
--- One sample more, renumbered so, of this key with these values.
-module _ (by : NewIds) (columns : ℕ) (samples seen : List Sample) (s : Sample) (next : IsNext samples seen s)
+-- One sample more, whose key this is.
+module _ (columns : ℕ) (samples seen : List Sample) (s : Sample) (next : IsNext samples seen s)
     (wide : All (λ (s : Sample). length s.value ≡ columns) samples)
-    (sums : List (SampleKey × List ℤ)) (entry : SampleKey × List ℤ) where
+    (sums : List (SampleKey × List ℤ)) (so_far : map item_of_key sums ≡ summed same_stack columns (map sample_item seen))
+    (key : SampleKey) (is : key_lists key ≡ (s.location_id, s.label)) where
   abbrev Item : Type 0
   Item = (List ℕ × List Label) × List ℤ
 
-  -- the sample as it is told apart, with its values
-  abbrev pub item : Sample → Item
-  item s = sample_item (renumbered_sample by s)
+  next_item : IsNext (map sample_item samples) (map sample_item seen) (sample_item s)
+  next_item = next_described sample_item samples seen s next
 
-  next_item : IsNext (map item samples) (map item seen) (item s)
-  next_item = next_described item samples seen s next
+  wide_items : All (λ (item : Item). length item.1 ≡ columns) (map sample_item samples)
+  wide_items = All-map (λ (item : Item). length item.1 ≡ columns) sample_item samples wide
 
-  wide_items : All (λ (i : Item). length i.1 ≡ columns) (map item samples)
-  wide_items = All-map (λ (i : Item). length i.1 ≡ columns) item samples wide
+  -- its values can be added to the sum of its key
+  pub sample_adds : ((column : ℕ) → column < columns → sum_by (λ (s : Sample). nat_abs (get_or s.value column (pos 0))) samples ≤ 9223372036854775807)
+      → CanAdd (sum_at same_key sums key) s.value
+  sample_adds fits =
+      subst (λ sum. CanAdd sum s.value)
+      (sym (sum_at-described same_stack key_lists sums key ∙ (λ i. sum_at same_stack (so_far i) (is i))))
+      (can_add same_stack stack_laws columns (map sample_item samples) (map sample_item seen) (s.location_id, s.label) s.value next_item wide_items
+      (λ column lower. omega (
+        arith,
+        fits column lower,
+        sum_by-map (λ (item : Item). nat_abs (get_or item.1 column (pos 0))) sample_item samples,
+      )))
 
-  module _ (so_far : map item_of_key sums ≡ summed same_stack columns (map item seen)) (is : item_of_key entry ≡ item s) where
-    -- its values can be added to the sum of its key
-    pub sample_adds : ((column : ℕ) → column < columns → sum_by (λ (s : Sample). nat_abs (get_or s.value column (pos 0))) samples ≤ 9223372036854775807)
-        → CanAdd (sum_at same_key sums entry.0) entry.1
-    sample_adds fits =
-        subst (λ (rows : List ℤ × List ℤ). CanAdd rows.0 rows.1)
-        (sym (λ i. ((sum_at-described same_stack key_lists sums entry.0 ∙ (λ j. sum_at same_stack (so_far j) (is j).0)) i, (is i).1)))
-        (can_add same_stack stack_laws columns (map item samples) (map item seen) (item s).0 s.value next_item wide_items
-        (λ column lower. omega (
-          arith,
-          fits column lower,
-          sum_by-map (λ (i : Item). nat_abs (get_or i.1 column (pos 0))) item samples,
-        )))
-
-    -- the sums after it
-    pub sums_after : map item_of_key (sums_with same_key sums entry.0 entry.1) ≡ summed same_stack columns (map item (seen ++ s ∷ []))
-    sums_after =
-        insert-described same_stack key_lists sums entry.0 (sum_with (sum_at same_key sums entry.0) entry.1)
-        ∙ ap (λ sum. insert_entry same_stack (map item_of_key sums) (key_lists entry.0) (sum_with sum entry.1)) (sum_at-described same_stack key_lists sums entry.0)
-        ∙ (λ i. sums_with same_stack (so_far i) (is i).0 (is i).1)
-        ∙ sym (summed_push same_stack stack_laws columns (map item seen) (item s).0 s.value
-        (next_holds (map item samples) (map item seen) (item s) next_item (λ i. length i.1 ≡ columns) wide_items))
-        ∙ ap (summed same_stack columns) (sym (map-append item seen (s ∷ [])))
+  -- the sums after it
+  pub sums_after : map item_of_key (sums_with same_key sums key s.value) ≡ summed same_stack columns (map sample_item (seen ++ s ∷ []))
+  sums_after =
+      insert-described same_stack key_lists sums key (sum_with (sum_at same_key sums key) s.value)
+      ∙ ap (λ sum. insert_entry same_stack (map item_of_key sums) (key_lists key) (sum_with sum s.value)) (sum_at-described same_stack key_lists sums key)
+      ∙ (λ i. sums_with same_stack (so_far i) (is i) s.value)
+      ∙ sym (summed_push same_stack stack_laws columns (map sample_item seen) (s.location_id, s.label) s.value
+      (next_holds (map sample_item samples) (map sample_item seen) (sample_item s) next_item (λ item. length item.1 ≡ columns) wide_items))
+      ∙ ap (summed same_stack columns) (sym (map-append sample_item seen (s ∷ [])))
 
 -- samples that are kept of sums and of more
 pub kept_both : (sums more : List (SampleKey × List ℤ)) → kept_samples (sums ++ more) ≡ kept_samples sums ++ kept_samples more

@@ -11,15 +11,6 @@ pub met_both : (met after last xs ys : List ℕ) → after ≡ met_after met xs 
 met_both met after last xs ys first second =
     second ∙ ap (λ m. met_after m ys) first ∙ sym (fold-append met_with met xs ys)
 
--- what is met by the end, after the first of two lists
-pub met_rest : {A : Type 0} (refs : A → List ℕ) (items xs ys : List A) (met now last : List ℕ) → items ≡ xs ++ ys → met_after met (flat_map refs items) ≡ last
-    → now ≡ met_after met (flat_map refs xs) → met_after now (flat_map refs ys) ≡ last
-met_rest refs items xs ys met now last are by_end step =
-    ap (λ m. met_after m (flat_map refs ys)) step
-    ∙ sym (fold-append met_with met (flat_map refs xs) (flat_map refs ys))
-    ∙ ap (met_after met) (sym (flat_map-append refs xs ys) ∙ ap (flat_map refs) (sym are))
-    ∙ by_end
-
 -- what is met later, after these
 pub met_later : (met now ids more : List ℕ) → now ≡ met_after met ids → met_after met (ids ++ more) ≡ met_after now more
 met_later met now ids more is = fold-append met_with met ids more ∙ ap (λ m. met_after m more) (sym is)

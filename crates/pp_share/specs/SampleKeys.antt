@@ -3,12 +3,24 @@ use Rattle.std.specs.Prelude.{ℕ, Bool, ℤ, List, map, filter}
 use Rattle.pp_model.specs.declared.profile.Label.{Label}
 use Rattle.pp_model.specs.declared.profile.Sample.{Sample}
 use Rattle.pp_share.specs.declared.sample_key.SampleKey.{SampleKey}
-use Rattle.pp_share.specs.SampleStacks.{same_stack}
+use Rattle.pp_share.specs.SampleStacks.{same_stack, stack_number}
 use Rattle.pp_share.specs.Sums.{counts, summed}
 
--- the sample's locations and labels, and its values
+-- the sample's locations and labels
+abbrev pub sample_stack : Sample → List ℕ × List Label
+sample_stack s = (s.location_id, s.label)
+
+-- the same, and its values
 abbrev pub sample_item : Sample → (List ℕ × List Label) × List ℤ
-sample_item s = ((s.location_id, s.label), s.value)
+sample_item s = (sample_stack s, s.value)
+
+-- the number of its locations and labels
+abbrev pub sample_number : Sample → ℕ
+sample_number s = stack_number (sample_stack s)
+
+-- some value of it isn't 0
+abbrev pub has_values : Sample → Bool
+has_values s = counts (sample_item s)
 
 -- the sample with these locations, labels and values
 abbrev pub sample_of : (List ℕ × List Label) × List ℤ → Sample

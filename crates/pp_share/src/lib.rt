@@ -3,6 +3,7 @@
 
 mod behind;
 mod change;
+mod distinct;
 mod first_sight;
 mod functions;
 mod gather;

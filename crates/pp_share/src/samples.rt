@@ -1,52 +1,79 @@
 //! Samples that stand once, with their values added up.
-ghost use Rattle.std.specs.Prelude.{◌≡◌, ℕ, ◌-◌, ◌^◌, ◌<◌, ◌≤◌, nat_abs, length, map, All, IfOk, OnOk};
-ghost use Rattle.std.specs.List.{sum_by};
+ghost use Rattle.std.specs.Prelude.{◌≡◌, ℕ, ◌+◌, ◌-◌, ◌^◌, ◌<◌, ◌≤◌, ◌++◌, [], ◌∷◌, pos, nat_abs, length, map, filter, vec_len, vec_capacity, All, IfOk, OnOk};
+ghost use Rattle.std.specs.List.{sum_by, list_all};
+ghost use Rattle.std.specs.Ordering.{int_eq};
 ghost use Rattle.pp_model.specs.Sizes.{value_in};
-ghost use Rattle.pp_share.specs.Renumbered.{new_ids, renumbered_sample};
-ghost use Rattle.pp_share.specs.Sums.{sum_at, sums_with, CanAdd};
-ghost use Rattle.pp_share.specs.SampleKeys.{sample_item, same_key, item_of_key, kept_samples, summed_samples};
+ghost use Rattle.pp_share.specs.Sums.{summed, sum_at, sums_with, CanAdd};
+ghost use Rattle.pp_share.specs.SampleStacks.{same_stack};
+ghost use Rattle.pp_share.specs.SampleKeys.{sample_item, key_lists, same_key, item_of_key, has_values, kept_samples, summed_samples};
 
-use crate::change::Change;
-use crate::renumbering::Renumbering;
+use crate::distinct::stand_once;
 use crate::sample_key::SampleKey;
 use crate::sums::add_row;
 use indexmap::IndexMap;
 use pp_base::{List, Memory};
-use pp_model::Sample;
+use pp_model::{Label, Sample};
 use std::alloc::Global;
 
-/// The keys of the samples, which are renumbered first, without repeats, in the order of first sight, and for each the
-/// sum of its values in each column. The first row of a key is kept and added to in place.
+/// The samples with different locations or labels, each at the place of the first of its kind, with the values of all
+/// of its kind added up. Those whose values are all 0 are left out. Most profiles have each sample once. To ask that
+/// first takes far less time than to look each sample up.
 pub fn sum_samples(
     alloc: Global,
     columns: usize,
     samples: List<Sample>,
-    by: &Renumbering,
+) -> Result<List<Sample>, Memory>
+    requires wide { All (λ s. length s.value ≡ columns) samples }
+    requires fits { (column : ℕ) → column < columns
+        → sum_by (λ s. nat_abs (value_in s column)) samples ≤ 2 ^ 63 - 1 }
+    ensures { IfOk result (λ r. r ≡ summed_samples columns samples) }
+{
+    let once = stand_once(alloc, samples.as_slice())?;
+    if once {
+        return Ok(counting(samples));
+    }
+    let sums = sum_each(alloc, columns, samples)?;
+    kept_samples(alloc, sums)
+}
+
+// The samples of which some value isn't 0. It takes no memory.
+fn counting(samples: List<Sample>) -> List<Sample>
+    ensures { result ≡ filter has_values samples }
+{
+    let mut kept = samples.into_vec();
+    kept.retain(|sample| !is_zero(sample.value.as_slice()));
+    List::from_vec(kept)
+}
+
+// The keys of the samples without repeats, in the order of first sight, and for each the sum of its values in each
+// column. The first row of a key is kept and added to in place.
+fn sum_each(
+    alloc: Global,
+    columns: usize,
+    samples: List<Sample>,
 ) -> Result<IndexMap<SampleKey, List<i64>>, Memory>
     requires wide { All (λ s. length s.value ≡ columns) samples }
     requires fits { (column : ℕ) → column < columns
         → sum_by (λ s. nat_abs (value_in s column)) samples ≤ 2 ^ 63 - 1 }
-    ensures { IfOk result (λ sums. kept_samples sums.entries
-        ≡ summed_samples columns (map (renumbered_sample (new_ids by.now)) samples)) }
+    ensures { IfOk result (λ sums. map item_of_key sums.entries
+        ≡ summed same_stack columns (map sample_item samples)) }
 {
     let mut sums = IndexMap::with_capacity(alloc, samples.len())?;
     for sample in samples.into_vec() {
-        let (key, row) = keyed(sample, by);
-        add(alloc, &mut sums, key, row)?;
+        let key = key_of(sample.location_id, sample.label);
+        add(alloc, &mut sums, key, sample.value)?;
     }
     Ok(sums)
 }
 
-// The key of the sample, which is renumbered first, and its values.
-fn keyed(mut sample: Sample, by: &Renumbering) -> (SampleKey, List<i64>)
-    ensures { item_of_key result ≡ sample_item (renumbered_sample (new_ids by.now) sample) }
+// The key of these locations and labels.
+fn key_of(locations: List<u64>, labels: List<Label>) -> SampleKey
+    ensures { key_lists result ≡ (locations, labels) }
 {
-    by.change(&mut sample);
-    let key = SampleKey {
-        locations: sample.location_id.into_vec(),
-        labels: sample.label.into_vec(),
-    };
-    (key, sample.value)
+    SampleKey {
+        locations: locations.into_vec(),
+        labels: labels.into_vec(),
+    }
 }
 
 // Adds the row to the sum of its key.
@@ -61,4 +88,40 @@ fn add(
 {
     add_row(sums.entry(key)?.or_insert(List::new(alloc)), row);
     Ok(())
+}
+
+// The samples of the keys with these values, but for those whose values are all 0.
+fn kept_samples(alloc: Global, sums: IndexMap<SampleKey, List<i64>>) -> Result<List<Sample>, Memory>
+    ensures { IfOk result (λ samples. samples
+        ≡ kept_samples sums.entries) }
+{
+    let mut samples = Vec::with_capacity(alloc, sums.len())?;
+    for (key, value) in sums {
+        push_counting(&mut samples, key, value);
+    }
+    Ok(List::from_vec(samples))
+}
+
+// Adds the sample at the end where some value isn't 0.
+fn push_counting(samples: &mut Vec<Sample>, key: SampleKey, value: List<i64>)
+    requires { vec_len samples.old < vec_capacity samples.old }
+    ensures items { samples.new.items ≡ samples.old.items ++ kept_samples ((key, value) ∷ []) }
+    ensures len { vec_len samples.new ≤ vec_len samples.old + 1 }
+    ensures capacity { vec_capacity samples.new ≡ vec_capacity samples.old }
+{
+    if is_zero(value.as_slice()) {
+        return;
+    }
+    samples.push_reserved(Sample {
+        location_id: List::from_vec(key.locations),
+        value,
+        label: List::from_vec(key.labels),
+    });
+}
+
+// Whether all values are 0.
+fn is_zero(values: &[i64]) -> bool
+    ensures { result ≡ list_all (int_eq (pos 0)) values.now }
+{
+    values.iter().all(|v| 0 == *v)
 }

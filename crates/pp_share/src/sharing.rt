@@ -1,23 +1,22 @@
 //! A profile with each thing once, in the order of a walk over its samples.
-ghost use Rattle.std.specs.Prelude.{◌≡◌, ℕ, ◌-◌, ◌^◌, ◌<◌, ◌≤◌, [], nat_abs, length, map, All, IfOk, OnOk};
+ghost use Rattle.std.specs.Prelude.{◌≡◌, ℕ, ◌-◌, ◌^◌, ◌<◌, ◌≤◌, nat_abs, length, map, All, IfOk, OnOk};
 ghost use Rattle.std.specs.List.{AllByRecursion, sum_by};
 ghost use Rattle.pp_model.specs.Sizes.{value_in};
 ghost use Rattle.pp_share.specs.Placed.{gist, totalled};
 ghost use Rattle.pp_share.specs.Renumbered.{new_ids, renumbered_sample};
 ghost use Rattle.pp_share.specs.Written.{written};
-ghost use Rattle.pp_share.specs.SampleKeys.{kept_samples, summed_samples};
+ghost use Rattle.pp_share.specs.SampleKeys.{summed_samples};
 ghost use Rattle.pp_share.specs.Share.{NamesLocations, IsJoined, with_comments_once, with_tables_once};
 
+use crate::change::change_each;
 use crate::first_sight::number_each;
 use crate::functions::share_functions;
 use crate::ids::Ids;
 use crate::places::share_places;
 use crate::renumbering::Renumbering;
-use crate::sample_key::SampleKey;
 use crate::samples::sum_samples;
 use crate::texts::share_texts;
 use crate::write::write;
-use indexmap::IndexMap;
 use pp_base::{List, Memory};
 use pp_model::Profile;
 use std::alloc::Global;
@@ -33,12 +32,12 @@ pub fn share(alloc: Global, p: Profile) -> Result<Profile, Memory>
     ensures { IfOk result (λ r. r ≡ written (totalled (length p.sample_type) (gist p))) }
 {
     let (mut shared, by) = share_tables(alloc, p)?;
-    let sums = share_samples(alloc, &mut shared, &by)?;
-    write(alloc, shared, sums)
+    share_samples(alloc, &mut shared, &by)?;
+    write(alloc, shared)
 }
 
 // The profile with each entry of its tables once, and what the references of its samples become, which stay as they
-// are: samples are many, so they get their new ids while they are added up.
+// are: samples are many, so they get new texts and new locations at once.
 fn share_tables(alloc: Global, p: Profile) -> Result<(Profile, Renumbering), Memory>
     requires { AllByRecursion (NamesLocations (length p.location)) p.sample }
     ensures tables { IfOk result (λ r. r.0 ≡ record (with_tables_once p) { sample = p.sample }) }
@@ -69,19 +68,18 @@ fn share_comments(alloc: Global, mut p: Profile) -> Result<Profile, Memory>
     Ok(p)
 }
 
-// Takes the samples out of the profile and adds up those that are equal once they are renumbered.
-fn share_samples(
-    alloc: Global,
-    p: &mut Profile,
-    by: &Renumbering,
-) -> Result<IndexMap<SampleKey, List<i64>>, Memory>
+// Gives the samples their new ids, and adds up those that are equal then.
+fn share_samples(alloc: Global, p: &mut Profile, by: &Renumbering) -> Result<(), Memory>
     requires wide { All (λ s. length s.value ≡ length p.old.sample_type) p.old.sample }
     requires fits { (column : ℕ) → column < length p.old.sample_type
         → sum_by (λ s. nat_abs (value_in s column)) p.old.sample ≤ 2 ^ 63 - 1 }
-    ensures taken { OnOk result (p.new ≡ record p.old { sample = [] }) }
-    ensures sums { IfOk result (λ sums. kept_samples sums.entries
-        ≡ summed_samples (length p.old.sample_type) (map (renumbered_sample (new_ids by.now)) p.old.sample)) }
+    ensures { OnOk result (p.new ≡ record p.old {
+      sample = summed_samples (length p.old.sample_type)
+          (map (renumbered_sample (new_ids by.now)) p.old.sample);
+    }) }
 {
-    let samples = mem::replace(&mut p.sample, List::new(alloc));
-    sum_samples(alloc, p.sample_type.len(), samples, by)
+    let mut samples = mem::replace(&mut p.sample, List::new(alloc));
+    change_each(&mut samples, by);
+    p.sample = sum_samples(alloc, p.sample_type.len(), samples)?;
+    Ok(())
 }

@@ -1,7 +1,6 @@
 //! A profile's tables in the order in which a walk over its samples meets their entries.
 ghost use Rattle.std.specs.Prelude.{◌≡◌, ◌<◌, ◌^◌, [], length, IfOk, OnOk};
 ghost use Rattle.std.specs.List.{flat_map};
-ghost use Rattle.pp_share.specs.SampleKeys.{kept_samples};
 ghost use Rattle.pp_share.specs.Walked.{locations_met, with_placed_samples, first_id, mappings_met, with_mappings, functions_met, with_functions, with_texts, IsWalked};
 ghost use Rattle.pp_share.specs.Walk.{met_after, IsPlaced, first_text_ids, sample_text_ids, table_text_ids, header_text_ids};
 
@@ -10,25 +9,18 @@ use crate::ids::Ids;
 use crate::met::Met;
 use crate::placing::place_samples;
 use crate::renumbering::{Renumbering, renumber_tables};
-use crate::sample_key::SampleKey;
 use crate::walk::{Functions, Mappings, Refers, Texts, meet_each};
-use indexmap::IndexMap;
-use pp_base::{List, Memory};
+use pp_base::Memory;
 use pp_model::{Function, Location, Mapping, Profile, ValueType};
 use std::alloc::Global;
 
-/// The profile with the samples of these sums and with what they name, in the order in which a walk over them meets it:
-/// mappings after the first one, locations, functions, and texts after text 0. Ids are places plus 1, and all else is
-/// left out.
-pub fn write(
-    alloc: Global,
-    mut p: Profile,
-    sums: IndexMap<SampleKey, List<i64>>,
-) -> Result<Profile, Memory>
-    ensures { IfOk result (λ r. IsWalked (record p { sample = kept_samples sums.entries }) r) }
+/// The profile with what its samples name, in the order in which a walk over them meets it: mappings after the first
+/// one, locations, functions, and texts after text 0. Ids are places plus 1, and all else is left out.
+pub fn write(alloc: Global, mut p: Profile) -> Result<Profile, Memory>
+    ensures { IfOk result (λ r. IsWalked p r) }
 {
     let mut texts = first_texts(alloc, &p)?;
-    let location = Ids::Listed(keep_locations(alloc, &mut p, sums, &mut texts)?);
+    let location = Ids::Listed(keep_locations(alloc, &mut p, &mut texts)?);
     let mapping = Ids::Listed(keep_mappings(alloc, &mut p)?);
     let function = Ids::Listed(keep_functions(alloc, &mut p)?);
     keep_texts(alloc, &mut p, &mut texts)?;
@@ -52,22 +44,14 @@ fn first_texts(alloc: Global, p: &Profile) -> Result<Met, Memory>
     Ok(met)
 }
 
-// Puts in the samples of the sums, with their new ids, keeps their locations, and gives the ids of those in order.
-fn keep_locations(
-    alloc: Global,
-    p: &mut Profile,
-    sums: IndexMap<SampleKey, List<i64>>,
-    texts: &mut Met,
-) -> Result<Met, Memory>
-    ensures met { IfOk result (λ met. met
-        ≡ locations_met (record p.old { sample = kept_samples sums.entries })) }
-    ensures texts { OnOk result (texts.new
-        ≡ met_after texts.old (flat_map sample_text_ids (kept_samples sums.entries))) }
-    ensures kept { OnOk result (IsPlaced with_placed_samples texts.new
-        (record p.old { sample = kept_samples sums.entries }) p.new) }
+// Keeps the locations of the samples, and gives their ids in order. The samples get their new ids.
+fn keep_locations(alloc: Global, p: &mut Profile, texts: &mut Met) -> Result<Met, Memory>
+    ensures met { IfOk result (λ met. met ≡ locations_met p.old) }
+    ensures texts { OnOk result (texts.new ≡ met_after texts.old (flat_map sample_text_ids p.old.sample)) }
+    ensures kept { OnOk result (IsPlaced with_placed_samples texts.new p.old p.new) }
 {
     let mut met = Met::new(alloc, p.location.len().saturating_add(1))?;
-    p.sample = place_samples(alloc, sums, &mut met, texts)?;
+    place_samples(&mut p.sample, &mut met, texts)?;
     p.location = gather(alloc, p.location.as_slice(), met.as_slice())?;
     Ok(met)
 }

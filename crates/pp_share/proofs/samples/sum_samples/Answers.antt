@@ -1,42 +1,23 @@
-use Rattle.std.proofs.Common.{◌∙◌, length, map, filter, sym, ap}
-use Rattle.std.proofs.lemmas.Iterator.Adapters.{YieldsList-from_vec}
-use Rattle.std.proofs.lemmas.Iterator.Consumers.{YieldsList-so_far, YieldsList-turn, YieldsList-end}
-use Rattle.std.proofs.lemmas.Simd.{map-map}
-use Rattle.pp_share.specs.Renumbered.{new_ids, renumbered_sample}
-use Rattle.pp_share.specs.Sums.{counts, summed}
+use Rattle.std.proofs.Common.{map, filter, ap, subst, ◌∙◌}
+use Rattle.std.specs.List.{IsDistinct}
+use Rattle.std.proofs.lemmas.Result.{IfOk-weaker}
+use Rattle.pp_share.specs.Sums.{counts}
 use Rattle.pp_share.specs.SampleStacks.{same_stack}
-use Rattle.pp_share.specs.SampleKeys.{sample_item, sample_of, item_of_key}
-use Rattle.pp_share.proofs.Prefix.{IsNext, map_same}
-use Rattle.pp_share.proofs.SampleKeyLemmas.{sample_adds, sums_after}
+use Rattle.pp_share.specs.SampleKeys.{sample_stack, sample_of}
+use Rattle.pp_share.proofs.Prefix.{by_recursion}
+use Rattle.pp_share.proofs.Apart.{counting_alone}
 use Rattle.pp_share.proofs.samples.sum_samples.Goals as goal
 
-pub add-requires : goal.add-requires
-add-requires c =
-    let gives = c.into_iter-sample-iterator.ensures.into_iter_gives in
-    let road = YieldsList-from_vec {s = c.into_iter-sample-iterator.result} c.args.samples (gives.0 ∙ c.into_vec-sample-items.ensures) (gives.1 ∙ c.into_vec-sample-items.result.ok.0 ∙ ap length c.into_vec-sample-items.ensures) in
-    let turn = YieldsList-turn road c.loop-sample.yielded c.loop-sample.sample-iterator c.loop-sample.yielded_by c.next.result c.next.new.self c.in-Some.sample c.in-Some.is c.next.ensures.steps in
-    let front = YieldsList-so_far road c.loop-sample.yielded c.loop-sample.sample-iterator c.loop-sample.yielded_by in
-    let next : IsNext c.args.samples c.loop-sample.yielded c.in-Some.sample = record { front = front; within = turn.0; here = turn.1 } in
-    sample_adds (new_ids c.args.by.now) c.args.columns c.args.samples c.loop-sample.yielded c.in-Some.sample next c.requires.wide c.loop-sample.sums.entries c.keyed-key.result
-    c.loop-sample.invariant c.keyed-key.ensures c.requires.fits
-
-pub loop-sample-preserved : goal.loop-sample-preserved
-loop-sample-preserved c =
-    let gives = c.into_iter-sample-iterator.ensures.into_iter_gives in
-    let road = YieldsList-from_vec {s = c.into_iter-sample-iterator.result} c.args.samples (gives.0 ∙ c.into_vec-sample-items.ensures) (gives.1 ∙ c.into_vec-sample-items.result.ok.0 ∙ ap length c.into_vec-sample-items.ensures) in
-    let turn = YieldsList-turn road c.loop-sample.yielded c.loop-sample.sample-iterator c.loop-sample.yielded_by c.next.result c.next.new.self c.in-Some.sample c.in-Some.is c.next.ensures.steps in
-    let front = YieldsList-so_far road c.loop-sample.yielded c.loop-sample.sample-iterator c.loop-sample.yielded_by in
-    let next : IsNext c.args.samples c.loop-sample.yielded c.in-Some.sample = record { front = front; within = turn.0; here = turn.1 } in
-    ap (map item_of_key) c.in_ok-add.ensures
-    ∙ sums_after (new_ids c.args.by.now) c.args.columns c.args.samples c.loop-sample.yielded c.in-Some.sample next c.requires.wide c.loop-sample.sums.entries c.keyed-key.result
-    c.loop-sample.invariant c.keyed-key.ensures
+-- samples that differ are their own sums
+pub returns-then-once : goal.returns-then-once
+returns-then-once c =
+    c.counting.ensures
+    ∙ counting_alone c.args.columns c.args.samples
+    (subst (λ samples. IsDistinct same_stack (map sample_stack samples)) c.as_slice.ensures (c.in_ok-once.ensures c.if-once.true))
+    (by_recursion _ c.args.samples c.requires.wide)
 
 pub returns : goal.returns
 returns c =
-    let gives = c.into_iter-sample-iterator.ensures.into_iter_gives in
-    let road = YieldsList-from_vec {s = c.into_iter-sample-iterator.result} c.args.samples (gives.0 ∙ c.into_vec-sample-items.ensures) (gives.1 ∙ c.into_vec-sample-items.result.ok.0 ∙ ap length c.into_vec-sample-items.ensures) in
-    let end = YieldsList-end road c.loop-sample.yielded c.loop-sample.sample-iterator c.loop-sample.yielded_by c.next.result c.next.new.self c.in-None.is c.next.ensures.steps in
-    let moved = renumbered_sample (new_ids c.args.by.now) in
-    ap (λ items. map sample_of (filter counts items))
-    (c.loop-sample.invariant ∙ ap (λ l. summed same_stack c.args.columns (map (λ s. sample_item (moved s)) l)) (sym (map_same c.loop-sample.yielded) ∙ end.0)
-    ∙ ap (summed same_stack c.args.columns) (sym (map-map sample_item moved c.args.samples)))
+    IfOk-weaker c.kept_samples.result _ _
+    (λ r is. is ∙ ap (λ items. map sample_of (filter counts items)) c.in_ok-sums.ensures)
+    c.kept_samples.ensures

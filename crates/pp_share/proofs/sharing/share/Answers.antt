@@ -5,7 +5,7 @@ use Rattle.pp_model.specs.declared.profile.Profile.{Profile}
 use Rattle.pp_model.specs.declared.profile.Sample.{Sample}
 use Rattle.pp_model.specs.Sizes.{value_in}
 use Rattle.pp_share.specs.Renumbered.{new_ids, renumbered_sample}
-use Rattle.pp_share.specs.SampleKeys.{kept_samples, summed_samples}
+use Rattle.pp_share.specs.SampleKeys.{summed_samples}
 use Rattle.pp_share.specs.Share.{with_tables_once, with_samples_once}
 use Rattle.pp_share.specs.Walked.{walked, walked_texts_of}
 use Rattle.pp_share.proofs.ShareLemmas.{same_columns, shared_written}
@@ -27,10 +27,10 @@ returns c =
     let p = c.args.p in
     let tables = c.in_ok-shared.ensures.tables in
     let moved = renumbered_sample (new_ids c.in_ok-shared.by) in
-    let is : record c.share_samples.new.p { sample = kept_samples c.in_ok-sums.sums.entries } ≡ with_samples_once (with_tables_once p) =
-    (λ i. record (c.in_ok-sums.ensures.taken i) { sample = kept_samples c.in_ok-sums.sums.entries })
+    let is : c.share_samples.new.p ≡ with_samples_once (with_tables_once p) =
+    c.in_ok-share_samples.ensures
     ∙ (λ i. record (tables i) {
-      sample = (c.in_ok-sums.ensures.sums ∙ (λ j. summed_samples (length (tables j).sample_type) (map moved (tables j).sample))
+      sample = ((λ j. summed_samples (length (tables j).sample_type) (map moved (tables j).sample))
           ∙ ap (summed_samples (length (with_tables_once p).sample_type)) c.in_ok-shared.ensures.samples) i;
     }) in
     IfOk-weaker c.write.result _ _

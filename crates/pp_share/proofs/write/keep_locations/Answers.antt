@@ -1,8 +1,7 @@
 use Rattle.std.proofs.Common.{◌≡◌, [], map, ap, ◌∙◌}
 use Rattle.std.specs.List.{flat_map}
-use Rattle.pp_share.specs.SampleKeys.{kept_samples}
 use Rattle.pp_share.specs.Walk.{met_after, location_refs}
-use Rattle.pp_share.specs.Walked.{placed_sample}
+use Rattle.pp_share.specs.Walked.{placed_sample, locations_met}
 use Rattle.pp_share.specs.Gathered.{gathered, location_entry}
 use Rattle.pp_share.proofs.write.keep_locations.Goals as goal
 
@@ -10,11 +9,10 @@ use Rattle.pp_share.proofs.write.keep_locations.Goals as goal
 pub returns-clause-kept : goal.returns-clause-kept
 returns-clause-kept c = λ more.
     let p = c.args.p.now in
-    let kept = kept_samples c.args.sums.entries in
-    let placed = c.in_ok-p.ensures in
+    let placed = c.in_ok-place_samples.ensures in
     let texts = met_after c.place_samples.new.texts more in
-    let met : c.place_samples.new.locations ≡ met_after [] (flat_map location_refs kept) = placed.locations ∙ ap (λ m. met_after m (flat_map location_refs kept)) c.in_ok-met.ensures in
+    let met : c.place_samples.new.locations ≡ locations_met p = placed.locations ∙ ap (λ m. met_after m (flat_map location_refs p.sample)) c.in_ok-met.ensures in
     (λ j. record p {
-      sample = (placed.placed [] more ∙ ap (λ m. map (placed_sample m texts) kept) met) j;
-      location = (c.in_ok-p-2.ensures ∙ (λ i. gathered location_entry (c.as_slice.ensures i) ((c.as_slice-2.ensures ∙ met) i))) j;
+      sample = (placed.placed [] more ∙ ap (λ m. map (placed_sample m texts) p.sample) met) j;
+      location = (c.in_ok-p.ensures ∙ (λ i. gathered location_entry (c.as_slice.ensures i) ((c.as_slice-2.ensures ∙ met) i))) j;
     })

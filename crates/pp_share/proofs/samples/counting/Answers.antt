@@ -1,0 +1,12 @@
+use Rattle.std.proofs.Common.{◌∙◌, ap, rules}
+use Rattle.std.specs.List.{filter}
+use Rattle.std.proofs.lemmas.Fn.{filter_same}
+use Rattle.pp_share.specs.SampleKeys.{has_values}
+use Rattle.pp_share.proofs.samples.counting.Goals as goal
+
+-- the samples that the closure keeps
+pub returns : goal.returns
+returns c =
+    c.from_vec.ensures
+    ∙ filter_same _ has_values _ (λ x b f' k. search rules) _ _ c.retain.ensures.filtered
+    ∙ ap (filter has_values) c.into_vec-kept.ensures
