@@ -5,9 +5,9 @@ ghost use Rattle.std.specs.Ordering.{int_eq};
 ghost use Rattle.pp_model.specs.Sizes.{value_in};
 ghost use Rattle.pp_share.specs.Sums.{summed, sum_at, sums_with, CanAdd};
 ghost use Rattle.pp_share.specs.SampleStacks.{same_stack};
-ghost use Rattle.pp_share.specs.SampleKeys.{sample_item, key_lists, same_key, item_of_key, has_values, kept_samples, summed_samples};
+ghost use Rattle.pp_share.specs.SampleKeys.{sample_item, key_lists, same_key, item_of_key, has_values, sample_number, kept_samples, summed_samples};
 
-use crate::distinct::stand_once;
+use crate::distinct::are_distinct;
 use crate::sample_key::SampleKey;
 use crate::sums::add_row;
 use indexmap::IndexMap;
@@ -17,19 +17,20 @@ use std::alloc::Global;
 
 /// The samples with different locations or labels, each at the place of the first of its kind, with the values of all
 /// of its kind added up. Those whose values are all 0 are left out. Most profiles have each sample once. To ask that
-/// first takes far less time than to look each sample up.
+/// first, by their numbers, takes far less time than to look each sample up.
 pub fn sum_samples(
     alloc: Global,
     columns: usize,
     samples: List<Sample>,
+    numbers: Vec<u64>,
 ) -> Result<List<Sample>, Memory>
+    requires numbers { numbers.items ≡ map sample_number samples }
     requires wide { All (λ s. length s.value ≡ columns) samples }
     requires fits { (column : ℕ) → column < columns
         → sum_by (λ s. nat_abs (value_in s column)) samples ≤ 2 ^ 63 - 1 }
     ensures { IfOk result (λ r. r ≡ summed_samples columns samples) }
 {
-    let once = stand_once(alloc, samples.as_slice())?;
-    if once {
+    if are_distinct(numbers) {
         return Ok(counting(samples));
     }
     let sums = sum_each(alloc, columns, samples)?;

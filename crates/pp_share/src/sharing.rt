@@ -8,7 +8,7 @@ ghost use Rattle.pp_share.specs.Written.{written};
 ghost use Rattle.pp_share.specs.SampleKeys.{summed_samples};
 ghost use Rattle.pp_share.specs.Share.{NamesLocations, IsJoined, with_comments_once, with_tables_once};
 
-use crate::change::change_each;
+use crate::distinct::renumber_each;
 use crate::first_sight::number_each;
 use crate::functions::share_functions;
 use crate::ids::Ids;
@@ -79,7 +79,7 @@ fn share_samples(alloc: Global, p: &mut Profile, by: &Renumbering) -> Result<(),
     }) }
 {
     let mut samples = mem::replace(&mut p.sample, List::new(alloc));
-    change_each(&mut samples, by);
-    p.sample = sum_samples(alloc, p.sample_type.len(), samples)?;
+    let numbers = renumber_each(alloc, &mut samples, by)?;
+    p.sample = sum_samples(alloc, p.sample_type.len(), samples, numbers)?;
     Ok(())
 }

@@ -1,20 +1,24 @@
-use Rattle.std.proofs.Common.{map, filter, ap, subst, ◌∙◌}
+use Rattle.std.proofs.Common.{sym, map, filter, ap, subst, ◌∙◌}
 use Rattle.std.specs.List.{IsDistinct}
+use Rattle.std.specs.Ordering.{nat_cmp, eq_by_cmp}
+use Rattle.std.proofs.lemmas.Simd.{map-map}
 use Rattle.std.proofs.lemmas.Result.{IfOk-weaker}
 use Rattle.pp_share.specs.Sums.{counts}
-use Rattle.pp_share.specs.SampleStacks.{same_stack}
+use Rattle.pp_share.specs.SampleStacks.{stack_number}
 use Rattle.pp_share.specs.SampleKeys.{sample_stack, sample_of}
 use Rattle.pp_share.proofs.Prefix.{by_recursion}
-use Rattle.pp_share.proofs.Apart.{counting_alone}
+use Rattle.pp_share.proofs.Apart.{counting_alone, stacks_apart}
 use Rattle.pp_share.proofs.samples.sum_samples.Goals as goal
 
 -- samples that differ are their own sums
-pub returns-then-once : goal.returns-then-once
-returns-then-once c =
+pub returns-then-are_distinct : goal.returns-then-are_distinct
+returns-then-are_distinct c =
+    let samples = c.args.samples in
     c.counting.ensures
-    ∙ counting_alone c.args.columns c.args.samples
-    (subst (λ samples. IsDistinct same_stack (map sample_stack samples)) c.as_slice.ensures (c.in_ok-once.ensures c.if-once.true))
-    (by_recursion _ c.args.samples c.requires.wide)
+    ∙ counting_alone c.args.columns samples
+    (stacks_apart (map sample_stack samples)
+    (subst (IsDistinct (eq_by_cmp nat_cmp)) (c.requires.numbers ∙ sym (map-map stack_number sample_stack samples)) c.if-are_distinct.ensures))
+    (by_recursion _ samples c.requires.wide)
 
 pub returns : goal.returns
 returns c =
