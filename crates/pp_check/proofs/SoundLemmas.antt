@@ -14,7 +14,7 @@ use Rattle.pp_check.specs.declared.fault.TableFault.{TableFault}
 use Rattle.pp_check.specs.Finds.{rule_fault, first_fault_of}
 use Rattle.pp_check.specs.FirstFault.{location_faults, reference_faults}
 use Rattle.pp_check.specs.Whole.{is_whole}
-use Rattle.pp_check.specs.Sound.{is_sound, piece_samples, AreSound}
+use Rattle.pp_check.specs.Sound.{is_sound, piece_samples, HasSoundSamples}
 use Rattle.pp_check.proofs.Order.{decided_after}
 use Rattle.pp_check.proofs.WholeLemmas.{none_fails, both, whole_samples}
 
@@ -54,7 +54,7 @@ outcomes_are test samples pieces flags all whole =
     flags_are test samples flags (λ k d here. all.each k d (omega (arith, here, many))) (omega (arith, whole, many))
 
 -- where all samples and the locations' ids are sound
-pub are_sound : (p : Profile) → first_fault_of (location_faults p) ≡ None → list_all (is_sound p) p.sample ≡ true → AreSound p
+pub are_sound : (p : Profile) → first_fault_of (location_faults p) ≡ None → list_all (is_sound p) p.sample ≡ true → HasSoundSamples p
 are_sound p ids all =
     let parts = both (λ s. list_all (label_has_texts p) s.label) (is_whole p) p.sample all in
     let whole = whole_samples p parts.1 in
@@ -62,7 +62,7 @@ are_sound p ids all =
 
 -- samples that were asked, with ids that are sound
 pub asked : {E : Type 0} (p : Profile) (r : Result Bool E) → first_fault_of (location_faults p) ≡ None → IfOk r (λ sound. sound ≡ list_all (is_sound p) p.sample)
-    → IfOk r (λ sound. IsTrue sound → AreSound p)
+    → IfOk r (λ sound. IsTrue sound → HasSoundSamples p)
 asked p (Ok sound) ids is = λ holds. are_sound p ids (sym is ∙ holds)
 asked p (Err e) ids is = tt
 
@@ -72,7 +72,7 @@ alone None = refl
 alone (Some f) = refl
 
 -- of rules 8 to 12, rule 10 alone is left
-pub tenth_left : (p : Profile) → AreSound p → first_fault_of (location_faults p ++ reference_faults p) ≡ rule_fault 10 Locations (location_fault p)
+pub tenth_left : (p : Profile) → HasSoundSamples p → first_fault_of (location_faults p ++ reference_faults p) ≡ rule_fault 10 Locations (location_fault p)
 tenth_left p sound =
     let tenth = rule_fault 10 Locations (location_fault p) in
     decided_after (location_faults p) (reference_faults p) sound.ids

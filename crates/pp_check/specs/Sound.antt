@@ -1,4 +1,4 @@
--- Samples that break no rule, as lanes ask for them piece by piece. No public clause cites these.
+-- Samples that break no rule, as they are asked ahead of the others, on lanes piece by piece. No public clause cites these.
 use Rattle.std.specs.Prelude.{◌≡◌, ℕ, ◌*◌, Bool, ◌&&◌, List, take, drop, None}
 use Rattle.std.specs.List.{list_all}
 use Rattle.pp_model.specs.declared.profile.Sample.{Sample}
@@ -18,7 +18,7 @@ abbrev pub piece_samples : List Sample → ℕ → List Sample
 piece_samples samples piece = take PIECE (drop (PIECE * piece) samples)
 
 -- No rule of samples fails, and no rule of the locations' ids, by which samples refer to locations.
-pub record AreSound (p : Profile) : Type 0 where
+pub record HasSoundSamples (p : Profile) : Type 0 where
   pub texts : sample_text_fault p ≡ None
   pub ids : first_fault_of (location_faults p) ≡ None
   pub references : sample_fault p ≡ None

@@ -4,7 +4,7 @@ ghost use Rattle.pp_check.specs.FirstFault.{first_fault, text_faults, mapping_fa
 ghost use Rattle.pp_check.specs.Finds.{first_fault_of, AnswersFault, FindsFault};
 ghost use Rattle.pp_check.specs.Checks.{Checks};
 ghost use Rattle.pp_check.specs.Known.{Knows};
-ghost use Rattle.pp_check.specs.Sound.{AreSound};
+ghost use Rattle.pp_check.specs.Sound.{HasSoundSamples};
 ghost use Rattle.pp_model.specs.Rules.{mapping_ids, function_ids, location_ids};
 
 use crate::asking::are_sound;
@@ -48,7 +48,7 @@ pub fn check(alloc: Global, p: Profile) -> Result<Valid, CheckRefusal>
 // other rules.
 fn ask_ahead(alloc: Global, p: &Profile) -> Result<bool, Memory>
     requires { IsIndexed p.now }
-    ensures { IfOk result (λ sound. IsTrue sound → AreSound p.now) }
+    ensures { IfOk result (λ sound. IsTrue sound → HasSoundSamples p.now) }
 {
     match known_locations(alloc, p) {
         Ok(locations) => Ok(are_sound(p, &locations, p.sample.as_slice())),
@@ -60,7 +60,7 @@ fn ask_ahead(alloc: Global, p: &Profile) -> Result<bool, Memory>
 /// Asks all rules, in their order. Where it is known that samples and the locations' ids are sound, they are not asked.
 pub(crate) fn keep_rules(alloc: Global, p: &Profile, sound: bool) -> Result<(), CheckRefusal>
     requires indexed { IsIndexed p.now }
-    requires sound { IsTrue sound → AreSound p.now }
+    requires sound { IsTrue sound → HasSoundSamples p.now }
     ensures { AnswersFault (first_fault p.now) result }
 {
     keep_texts(p, sound)?;
@@ -72,7 +72,7 @@ pub(crate) fn keep_rules(alloc: Global, p: &Profile, sound: bool) -> Result<(), 
 // Asks rules 1 to 3.
 fn keep_texts(p: &Profile, sound: bool) -> Result<(), TableFault>
     requires indexed { IsIndexed p.now }
-    requires sound { IsTrue sound → AreSound p.now }
+    requires sound { IsTrue sound → HasSoundSamples p.now }
     ensures { FindsFault (first_fault_of (text_faults p.now)) result }
 {
     refuse(1, Table::Texts, text_zero_fault(p))?;
@@ -114,7 +114,7 @@ fn keep_locations(
     requires indexed { IsIndexed p.now }
     requires mappings { Knows mappings.now (mapping_ids p.now) }
     requires functions { Knows functions.now (function_ids p.now) }
-    requires sound { IsTrue sound → AreSound p.now }
+    requires sound { IsTrue sound → HasSoundSamples p.now }
     ensures { AnswersFault (first_fault_of (location_faults p.now ++ reference_faults p.now)) result }
 {
     if sound {

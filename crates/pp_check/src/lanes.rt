@@ -5,7 +5,7 @@ ghost use Rattle.pp_model.specs.Rules.{location_ids};
 ghost use Rattle.pp_check.specs.Checks.{Checks};
 ghost use Rattle.pp_check.specs.FirstFault.{IsIndexed};
 ghost use Rattle.pp_check.specs.Known.{Knows};
-ghost use Rattle.pp_check.specs.Sound.{is_sound, AreSound};
+ghost use Rattle.pp_check.specs.Sound.{is_sound, HasSoundSamples};
 
 use crate::asking::{Asking, PIECE};
 use crate::checking::{check, keep_rules, known_locations};
@@ -51,7 +51,7 @@ fn ask_ahead<R: Threads + Sync, G: Gate>(
     requires some { 1 ≤ workers }
     requires most { workers ≤ 64 }
     requires indexed { IsIndexed p.now }
-    ensures { IfOk result (λ sound. IsTrue sound → AreSound p.now) }
+    ensures { IfOk result (λ sound. IsTrue sound → HasSoundSamples p.now) }
 {
     match known_locations(alloc, p) {
         Ok(locations) => ask_samples(rt, alloc, p, &locations, workers, gate),

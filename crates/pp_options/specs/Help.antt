@@ -17,20 +17,20 @@ topic_asked (word ∷ []) = value_named TOPICS word
 topic_asked (word ∷ next ∷ words) = None
 
 -- what the help has of a row
-abbrev pub row_text : {T : Type 0} → TableRow T → List ℕ
-row_text (rows.Text text) = text.now
-row_text (rows.Option name value) = codes "  -" ++ name.now
-row_text (rows.Also name value) = codes ", -" ++ name.now
+abbrev pub help_row : {T : Type 0} → TableRow T → List ℕ
+help_row (rows.Text text) = text.now
+help_row (rows.Option name value) = codes "  -" ++ name.now
+help_row (rows.Also name value) = codes ", -" ++ name.now
 
 -- the formats, the options of sources and the variables
-abbrev pub options_text : List ℕ
-options_text = flat_map row_text FORMATS ++ flat_map row_text SOURCES ++ flat_map row_text VARIABLES
+abbrev pub help_options : List ℕ
+help_options = flat_map help_row FORMATS ++ flat_map help_row SOURCES ++ flat_map help_row VARIABLES
 
 -- what is told of the shell
-abbrev pub shell_text : List ℕ
-shell_text = SHELL_HEADING.now ++ SHELL_HELP.now ++ SHELL_EXAMPLE.now
+abbrev pub help_shell : List ℕ
+help_shell = SHELL_HEADING.now ++ SHELL_HELP.now ++ SHELL_EXAMPLE.now
 
 -- what is told of a topic
 unfoldable pub topic_text : Topic → List ℕ
-topic_text Help = USAGE.now ++ options_text ++ shell_text
+topic_text Help = USAGE.now ++ help_options ++ help_shell
 topic_text Version = VERSION.now

@@ -3,7 +3,7 @@ ghost use Rattle.std.specs.Prelude.{◌≡◌, ◌++◌, map, OnOk, OnErr};
 ghost use Rattle.std.specs.List.{flat_map};
 ghost use Rattle.pp_base.specs.Grew.{Grew};
 ghost use Rattle.pp_options.specs.Tables.{row_of};
-ghost use Rattle.pp_options.specs.Help.{topic_asked, topic_text, row_text, options_text, shell_text};
+ghost use Rattle.pp_options.specs.Help.{topic_asked, topic_text, help_row, help_options, help_shell};
 ghost use Rattle.pp_options.specs.declared.help.Topic.TheVariants as topics;
 
 use crate::format::FORMATS;
@@ -103,7 +103,7 @@ fn put_help(out: &mut Text) -> Result<(), Memory>
 // Without memory the text has gained some of it.
 #[tactic(auto, using(crate::proofs::GrewLemmas::grew_from_less))]
 fn put_options(out: &mut Text) -> Result<(), Memory>
-    ensures ok { OnOk result (out.new ≡ out.old ++ options_text) }
+    ensures ok { OnOk result (out.new ≡ out.old ++ help_options) }
     ensures err { OnErr result (Grew out.old out.new) }
 {
     put_rows(&FORMATS, out)?;
@@ -114,7 +114,7 @@ fn put_options(out: &mut Text) -> Result<(), Memory>
 // Without memory the text has gained some of it.
 #[tactic(auto, using(crate::proofs::GrewLemmas::grew_from_less))]
 fn put_shell(out: &mut Text) -> Result<(), Memory>
-    ensures ok { OnOk result (out.new ≡ out.old ++ shell_text) }
+    ensures ok { OnOk result (out.new ≡ out.old ++ help_shell) }
     ensures err { OnErr result (Grew out.old out.new) }
 {
     out.extend(SHELL_HEADING)?;
@@ -124,7 +124,7 @@ fn put_shell(out: &mut Text) -> Result<(), Memory>
 
 // Without memory the text has gained some of it.
 fn put_rows<T>(rows: &[OptionRow<T>], out: &mut Text) -> Result<(), Memory>
-    ensures ok { OnOk result (out.new ≡ out.old ++ flat_map row_text (map row_of rows.now)) }
+    ensures ok { OnOk result (out.new ≡ out.old ++ flat_map help_row (map row_of rows.now)) }
     ensures err { OnErr result (Grew out.old out.new) }
 {
     for row in rows {
@@ -135,7 +135,7 @@ fn put_rows<T>(rows: &[OptionRow<T>], out: &mut Text) -> Result<(), Memory>
 
 // Without memory the text has gained some of it.
 fn put_row<T>(row: &OptionRow<T>, out: &mut Text) -> Result<(), Memory>
-    ensures ok { OnOk result (out.new ≡ out.old ++ row_text (row_of row.now)) }
+    ensures ok { OnOk result (out.new ≡ out.old ++ help_row (row_of row.now)) }
     ensures err { OnErr result (Grew out.old out.new) }
 {
     match row {

@@ -18,7 +18,7 @@ use Rattle.pp_tables.specs.Tables.{no_sample, sample_rules, sample_after, no_pro
 use Rattle.pp_tables.specs.Read.{read_message, profile_of, profile_unless, with_a_text}
 use Rattle.pp_tables.specs.Joined.{PayloadAt, payloads_in}
 use Rattle.pp_tables.specs.Skim.{skim_rules, extents_in, payload_of, others_after, no_skim, skim_after, IsSkimmed}
-use Rattle.pp_tables.specs.Apart.{IsSoundSample, sample_at, AddsSamples, AreSamples, piece_of, AreSampleParts}
+use Rattle.pp_tables.specs.Apart.{IsSoundSample, sample_at, ReadsSamples, AreSamples, piece_of, AreSampleParts}
 use Rattle.pp_tables.proofs.Payloads.{both_none}
 use Rattle.pp_tables.proofs.Bounds.{all_few, payload_few}
 use Rattle.pp_tables.proofs.Extents.{all_mapped, extents_are}
@@ -66,7 +66,7 @@ outcomes_are payloads pieces parts all whole =
 -- ---- samples of payloads
 
 -- more payloads behind others
-pub adds_more : (front more : List PayloadAt) (old before after : List Sample) → AddsSamples front old before → AddsSamples more before after → AddsSamples (front ++ more) old after
+pub adds_more : (front more : List PayloadAt) (old before after : List Sample) → ReadsSamples front old before → ReadsSamples more before after → ReadsSamples (front ++ more) old after
 adds_more front more old before after a b = record {
   sound = all_append IsSoundSample front more a.sound b.sound;
   added = b.added ∙ ap (λ l. l ++ map sample_at more) a.added ∙ append_assoc old (map sample_at front) (map sample_at more) ∙ ap (λ l. old ++ l) (sym (map-append sample_at front more));
@@ -77,7 +77,7 @@ pub record AreJoined (payloads : List PayloadAt) (samples : List Sample) (parts 
   pub front : List PayloadAt
   pub rest : List PayloadAt
   pub cut : payloads ≡ front ++ rest
-  pub joined : AddsSamples front [] samples
+  pub joined : ReadsSamples front [] samples
   pub are : AreSampleParts rest parts
 
 pub none_joined : (payloads : List PayloadAt) (samples : List Sample) (parts : List (Option (List Sample))) → samples ≡ [] → AreSampleParts payloads parts → AreJoined payloads samples parts
@@ -94,9 +94,9 @@ part_joined payloads before after more parts j is =
       are = are;
     }
 
-pub all_joined : (payloads : List PayloadAt) (samples : List Sample) → AreJoined payloads samples [] → AddsSamples payloads [] samples
+pub all_joined : (payloads : List PayloadAt) (samples : List Sample) → AreJoined payloads samples [] → ReadsSamples payloads [] samples
 all_joined payloads samples j =
-    subst (λ l. AddsSamples l [] samples) (sym (j.cut ∙ ap (λ l. j.front ++ l) j.are ∙ append-nil j.front)) j.joined
+    subst (λ l. ReadsSamples l [] samples) (sym (j.cut ∙ ap (λ l. j.front ++ l) j.are ∙ append-nil j.front)) j.joined
 
 -- ---- the message
 
@@ -153,7 +153,7 @@ module _ (bytes : List ℕ) (s : Skimmed) (short : length bytes < 2 ^ 32) (skimm
       )
 
   -- with the samples, it is the profile
-  pub message_whole : (samples : List Sample) (p q : Profile) → AddsSamples payloads [] samples → p ≡ record s.profile { sample = samples } → q ≡ with_a_text p → read_message bytes ≡ Ok q
+  pub message_whole : (samples : List Sample) (p q : Profile) → ReadsSamples payloads [] samples → p ≡ record s.profile { sample = samples } → q ≡ with_a_text p → read_message bytes ≡ Ok q
   message_whole samples p q adds is with_text =
       let items = (fields bytes 0).items in
       let sound : fault_in profile_rules bytes 0 ≡ None = all_sound items (fields bytes 0).fault skimmed.sound (subst (AllByRecursion IsSoundSample) payloads_are adds.sound) in

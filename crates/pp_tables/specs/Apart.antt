@@ -19,14 +19,14 @@ abbrev pub sample_at : PayloadAt → Sample
 sample_at payload = sample_after no_sample (fields_at payload)
 
 -- the payloads have no fault, and their samples come behind those that were there
-pub record AddsSamples (payloads : List PayloadAt) (old new : List Sample) : Type 0 where
+pub record ReadsSamples (payloads : List PayloadAt) (old new : List Sample) : Type 0 where
   pub sound : AllByRecursion IsSoundSample payloads
   pub added : new ≡ old ++ map sample_at payloads
 
 -- the samples of payloads without a fault, or nothing
 abbrev pub AreSamples : List PayloadAt → Option (List Sample) → Type 0
 AreSamples payloads None = ⊤
-AreSamples payloads (Some samples) = AddsSamples payloads [] samples
+AreSamples payloads (Some samples) = ReadsSamples payloads [] samples
 
 -- the payloads of a piece
 abbrev pub piece_of : List PayloadAt → ℕ → List PayloadAt

@@ -1,7 +1,7 @@
 //! The samples of a piece.
 ghost use Rattle.std.specs.Prelude.{◌≡◌, ◌++◌, map, IfOk, OnOk};
 ghost use Rattle.pp_tables.specs.Skim.{payload_of};
-ghost use Rattle.pp_tables.specs.Apart.{AddsSamples, AreSamples};
+ghost use Rattle.pp_tables.specs.Apart.{ReadsSamples, AreSamples};
 
 use crate::ReadRefusal;
 use crate::extent::Extent;
@@ -35,7 +35,7 @@ fn push_samples(
     extents: &[Extent],
 ) -> Result<(), ReadRefusal>
     ensures { OnOk result
-        (AddsSamples (map (payload_of bytes.now) extents.now) samples.old samples.new) }
+        (ReadsSamples (map (payload_of bytes.now) extents.now) samples.old samples.new) }
 {
     for extent in extents {
         push_filled(alloc, samples, extent.cut(bytes), u64::from(extent.start))?;
