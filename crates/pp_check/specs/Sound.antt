@@ -1,10 +1,9 @@
--- Samples that break no rule, as they are asked ahead of the others, on lanes piece by piece. No public clause cites these.
-use Rattle.std.specs.Prelude.{◌≡◌, ℕ, ◌*◌, Bool, ◌&&◌, List, take, drop, None}
+-- Samples that break no rule, as they are asked ahead of the others. No public clause cites these.
+use Rattle.std.specs.Prelude.{◌≡◌, Bool, ◌&&◌, None}
 use Rattle.std.specs.List.{list_all}
 use Rattle.pp_model.specs.declared.profile.Sample.{Sample}
 use Rattle.pp_model.specs.declared.profile.Profile.{Profile}
 use Rattle.pp_model.specs.Rules.{label_has_texts, sample_text_fault, sample_fault, value_fault}
-use Rattle.pp_check.specs.declared.asking.TheConstants.{PIECE}
 use Rattle.pp_check.specs.Finds.{first_fault_of}
 use Rattle.pp_check.specs.FirstFault.{location_faults}
 use Rattle.pp_check.specs.Whole.{is_whole}
@@ -12,10 +11,6 @@ use Rattle.pp_check.specs.Whole.{is_whole}
 -- the texts of the sample's labels are there, and it is whole
 abbrev pub is_sound : Profile → Sample → Bool
 is_sound p s = list_all (label_has_texts p) s.label && is_whole p s
-
--- the samples of a piece
-abbrev pub piece_samples : List Sample → ℕ → List Sample
-piece_samples samples piece = take PIECE (drop (PIECE * piece) samples)
 
 -- No rule of samples fails, and no rule of the locations' ids, by which samples refer to locations.
 pub record HasSoundSamples (p : Profile) : Type 0 where

@@ -2,7 +2,7 @@
 ghost use Rattle.std.specs.Prelude.{◌≡◌, ◌+◌, ◌*◌, ◌<◌, ◌≤◌, length};
 ghost use Rattle.std.specs.List.{list_all};
 ghost use Rattle.pp_model.specs.Rules.{location_ids};
-ghost use Rattle.pp_check.specs.declared.asking.TheConstants.{PIECE};
+ghost use Rattle.pp_steal.specs.declared.piece.TheConstants.{PIECE};
 ghost use Rattle.pp_check.specs.Known.{Knows};
 ghost use Rattle.pp_check.specs.Sound.{is_sound};
 
@@ -11,10 +11,7 @@ use crate::references::is_whole;
 use crate::texts::sample_has_texts;
 use pp_base::Memory;
 use pp_model::{Profile, Sample};
-use pp_steal::Job;
-
-/// How many samples a piece has. The last piece may have fewer.
-pub const PIECE: usize = 1024;
+use pp_steal::{Job, piece_of};
 
 /// The samples of a profile, to be asked on any thread.
 #[derive(Drop)]
@@ -35,19 +32,17 @@ impl Job for Asking<'_> {
 
     ghost use Rattle.std.specs.Prelude.{◌≡◌};
     ghost use Rattle.std.specs.List.{list_all};
-    ghost use Rattle.pp_check.specs.Sound.{is_sound, piece_samples};
+    ghost use Rattle.pp_steal.specs.Pieces.{piece_of};
+    ghost use Rattle.pp_check.specs.Sound.{is_sound};
 
     ghost pieces = { λ job. job.pieces };
 
     ghost right = { λ job piece sound. sound
-        ≡ list_all (is_sound job.p.now) (piece_samples job.p.now.sample piece) };
+        ≡ list_all (is_sound job.p.now) (piece_of job.p.now.sample piece) };
 
     fn run(&self, piece: u32) -> Result<bool, Memory> {
-        let samples = self.p.sample.as_slice();
-        let start = piece as usize * PIECE;
-        let count = (samples.len() - start).min(PIECE);
-        let rest = &samples[start..];
-        Ok(are_sound(self.p, self.locations, &rest[..count]))
+        let samples = piece_of(self.p.sample.as_slice(), piece);
+        Ok(are_sound(self.p, self.locations, samples))
     }
 }
 

@@ -7,13 +7,13 @@ ghost use Rattle.pp_check.specs.FirstFault.{IsIndexed};
 ghost use Rattle.pp_check.specs.Known.{Knows};
 ghost use Rattle.pp_check.specs.Sound.{is_sound, HasSoundSamples};
 
-use crate::asking::{Asking, PIECE};
+use crate::asking::Asking;
 use crate::checking::{check, keep_rules, known_locations};
 use crate::fault::CheckRefusal;
 use crate::known::Known;
 use pp_base::{Gate, Memory};
 use pp_model::{Profile, Valid};
-use pp_steal::{Deal, run_pieces};
+use pp_steal::{Deal, PIECE, pieces_of, run_pieces};
 use std::alloc::Global;
 use std::thread::Threads;
 
@@ -78,7 +78,7 @@ fn ask_samples<'x, R: Threads + Sync, G: Gate>(
     let job = Asking {
         p,
         locations,
-        pieces: p.sample.len().div_ceil(PIECE) as u32,
+        pieces: pieces_of(p.sample.len()),
     };
     let lanes = workers.min(job.pieces.max(1));
     let parts = run_pieces(rt, alloc, &job, job.pieces, lanes, Deal::Round, gate)?;

@@ -1,10 +1,10 @@
 -- The samples of the pieces so far, and what they come to with one more piece.
-use Rattle.std.proofs.Common.{◌≡◌, ℕ, ◌+◌, ◌-◌, ◌*◌, ◌<◌, ◌≤◌, ◌^◌, Bool, true, false, cond, min, nat_abs, List, [], ◌∷◌, ◌++◌, length, take, drop, get_or, map, All, sym, ap, ◌∙◌, subst, arith, length-append, length-drop}
+use Rattle.std.proofs.Common.{◌≡◌, ℕ, ◌+◌, ◌-◌, ◌*◌, ◌<◌, ◌≤◌, ◌^◌, Bool, true, false, cond, nat_abs, List, [], ◌∷◌, ◌++◌, length, take, get_or, map, All, sym, ap, ◌∙◌, subst, arith, length-append}
 use Rattle.std.specs.List.{sum_by}
 use Rattle.std.specs.Option.{is_some}
 use Rattle.std.specs.Ordering.{nat_cmp}
 use Rattle.std.proofs.Math.Seq.{take-add}
-use Rattle.std.proofs.lemmas.List.{map-append, take_min, length-take-le}
+use Rattle.std.proofs.lemmas.List.{map-append, length-take-le}
 use Rattle.std.proofs.lemmas.List.Elements.{filter-append, filter_map-append, All-append, All-from_get_or}
 use Rattle.std.proofs.lemmas.List.Sums.{sum_by-cons, sum_by-append, sum_by-take-le}
 use Rattle.pp_model.specs.declared.profile.Sample.{Sample}
@@ -19,14 +19,15 @@ use Rattle.pp_count.specs.declared.tally.Tally.{Tally}
 use Rattle.pp_count.specs.declared.part.KeySum.{KeySum}
 use Rattle.pp_count.specs.declared.part.Part.{Part}
 use Rattle.pp_count.specs.declared.counting.Counting.{Counting}
-use Rattle.pp_count.specs.declared.counting.TheConstants.{PIECE}
+use Rattle.pp_steal.specs.declared.piece.TheConstants.{PIECE}
 use Rattle.pp_count.specs.declared.sofar.Sofar.{Sofar}
 use Rattle.pp_count.specs.Matches.{no_matches, either}
 use Rattle.pp_count.specs.Column.{selected}
 use Rattle.pp_count.specs.Sums.{Seen, weighed, renamed, has, leads, occurs}
 use Rattle.pp_count.specs.Seeing.{filtered_stack, seen}
 use Rattle.pp_count.specs.Tally.{tally_added, tally_plus, no_tally, tally_at, IsTallyOf}
-use Rattle.pp_count.specs.Parts.{piece_samples, sums_of, key_sum, flat_size, cum_size, HasBelow}
+use Rattle.pp_steal.specs.Pieces.{piece_of}
+use Rattle.pp_count.specs.Parts.{sums_of, key_sum, flat_size, cum_size, HasBelow}
 use Rattle.pp_count.specs.Scope.{profile_in_scope, config_of, size_of, counted_as, samples_in_scope, AreSeen, IsPartOf, CountedTo, AreCounted}
 use Rattle.pp_count.proofs.Adding.{sum_bound}
 use Rattle.pp_count.proofs.Joining.{tallies_joined}
@@ -34,14 +35,6 @@ use Rattle.pp_count.specs.Rising.{AreRisingBetween}
 use Rattle.pp_count.proofs.Rising.{rising_high, rising-append}
 use Rattle.pp_count.proofs.Matching.{none_match, matches_more}
 use Rattle.pp_count.proofs.Ranges.{name_of, numbers-append, counted_size, counted_none}
-
--- so many samples from the piece's first on are the piece
-pub piece_is : (samples : List Sample) (piece count : ℕ) → count ≡ min (length samples - piece * PIECE) PIECE
-    → take count (drop (piece * PIECE) samples) ≡ piece_samples samples piece
-piece_is samples piece count e =
-    ap (λ n. take n (drop (piece * PIECE) samples)) (omega (arith, e, length-drop (piece * PIECE) samples))
-    ∙ take_min PIECE (drop (piece * PIECE) samples)
-    ∙ ap (λ n. take PIECE (drop n samples)) (omega arith)
 
 -- the samples refer to locations of their profile
 pub all_refer : (p q : Profile) → q ≡ p → NoRuleFails q → All (RefersTo p) q.sample
@@ -141,40 +134,40 @@ part_room scope number m a b at kept part fits before is k =
 abbrev pub front_of : List Sample → ℕ → List Sample
 front_of samples pieces = take (PIECE * pieces) samples
 
-pub front_more : (samples : List Sample) (j : ℕ) → front_of samples (j + 1) ≡ front_of samples j ++ piece_samples samples j
+pub front_more : (samples : List Sample) (j : ℕ) → front_of samples (j + 1) ≡ front_of samples j ++ piece_of samples j
 front_more samples j = ap (λ n. take n samples) (omega arith) ∙ take-add (PIECE * j) PIECE samples
 
 -- the values of the pieces so far and of the next one are within those of all samples
-pub front_within : (scope : Scope) (samples : List Sample) (j : ℕ) → size_of scope (front_of samples j) + size_of scope (piece_samples samples j) ≤ size_of scope samples
+pub front_within : (scope : Scope) (samples : List Sample) (j : ℕ) → size_of scope (front_of samples j) + size_of scope (piece_of samples j) ≤ size_of scope samples
 front_within scope samples j =
     let f : Sample → ℕ = λ x. nat_abs (selected scope.column (config_of scope).divide_by x) in
     omega (
       arith,
       sum_by-take-le f samples (PIECE * (j + 1)),
-      ap (sum_by f) (front_more samples j) ∙ sum_by-append f (front_of samples j) (piece_samples samples j),
+      ap (sum_by f) (front_more samples j) ∙ sum_by-append f (front_of samples j) (piece_of samples j),
     )
 
 -- with the part of the next piece
 pub piece_more : (scope : Scope) (samples : List Sample) (j : ℕ) (sofar new : Sofar) (part : Part)
-    → PIECE * j ≤ length samples → AreCounted scope (front_of samples j) sofar → IsPartOf scope (j * PIECE) (piece_samples samples j) part
+    → PIECE * j ≤ length samples → AreCounted scope (front_of samples j) sofar → IsPartOf scope (j * PIECE) (piece_of samples j) part
     → new.kept ≡ sofar.kept ++ part.kept → ((k : ℕ) → tally_at new.tallies k ≡ tally_added (tally_at sofar.tallies k) (sums_of k part.sums))
     → new.matched.slots ≡ either sofar.matched.slots part.matched.slots
     → AreCounted scope (front_of samples (j + 1)) new
 piece_more scope samples j sofar new part here before is kept each matched =
     subst (λ (r : List Sample). AreCounted scope r new) (sym (front_more samples j))
     (record {
-      counted = counted_more scope 0 (j * PIECE) (front_of samples j) (piece_samples samples j) (tally_at sofar.tallies) (tally_at new.tallies) sofar.kept new.kept part
+      counted = counted_more scope 0 (j * PIECE) (front_of samples j) (piece_of samples j) (tally_at sofar.tallies) (tally_at new.tallies) sofar.kept new.kept part
           (omega (arith, length-take-le (PIECE * j) samples here)) before.counted is kept each;
-      matched = matches_more scope (front_of samples j) (piece_samples samples j) sofar.matched.slots part.matched.slots new.matched.slots matched before.matched is.matched;
+      matched = matches_more scope (front_of samples j) (piece_of samples j) sofar.matched.slots part.matched.slots new.matched.slots matched before.matched is.matched;
     })
 
 -- The outcome of a piece of the wave is the part of its samples.
 pub part_at : (job : Counting) (outcomes items : List Part) (i : ℕ) (part : Part)
-    → AreOutcomes (λ piece. IsPartOf job.scope ((job.first + piece) * PIECE) (piece_samples (samples_in_scope job.scope) (job.first + piece))) job.pieces outcomes
+    → AreOutcomes (λ piece. IsPartOf job.scope ((job.first + piece) * PIECE) (piece_of (samples_in_scope job.scope) (job.first + piece))) job.pieces outcomes
     → items ≡ outcomes → i < length items → part ≡ get_or items i part
-    → IsPartOf job.scope ((job.first + i) * PIECE) (piece_samples (samples_in_scope job.scope) (job.first + i)) part
+    → IsPartOf job.scope ((job.first + i) * PIECE) (piece_of (samples_in_scope job.scope) (job.first + i)) part
 part_at job outcomes items i part all same here is =
-    subst (λ (p : Part). IsPartOf job.scope ((job.first + i) * PIECE) (piece_samples (samples_in_scope job.scope) (job.first + i)) p)
+    subst (λ (p : Part). IsPartOf job.scope ((job.first + i) * PIECE) (piece_of (samples_in_scope job.scope) (job.first + i)) p)
     (sym (is ∙ ap (λ ps. get_or ps i part) same)) (all.each i part (omega (arith, here, ap length same, all.many)))
 
 -- each piece of the wave has a sample

@@ -1,13 +1,11 @@
 -- What a range of samples comes to.
-use Rattle.std.specs.Prelude.{◌≡◌, ℕ, ◌*◌, ◌<◌, ◌==◌, List, [], ◌∷◌, take, drop, nat_abs, All, slice_index_or, if◌then◌else◌}
+use Rattle.std.specs.Prelude.{◌≡◌, ℕ, ◌<◌, ◌==◌, List, [], ◌∷◌, nat_abs, All, slice_index_or, if◌then◌else◌}
 use Rattle.std.specs.List.{filter, sum_by}
 use Rattle.std.specs.Ordering.{nat_cmp}
-use Rattle.pp_model.specs.declared.profile.Sample.{Sample}
 use Rattle.pp_count.specs.Sums.{Seen, flat, cum, occurs}
 use Rattle.pp_grain.specs.declared.key.Key.{Key}
 use Rattle.pp_count.specs.Table.{no_key}
 use Rattle.pp_count.specs.declared.part.KeySum.{KeySum}
-use Rattle.pp_count.specs.declared.counting.TheConstants.{PIECE}
 
 -- the entries of the key number
 abbrev pub sums_of : ℕ → List KeySum → List KeySum
@@ -31,10 +29,6 @@ abbrev pub AreKeySums : List (Seen ℕ) → List KeySum → Type 0
 AreKeySums samples sums =
     (k : ℕ) → sums_of k sums
     ≡ (if occurs nat_cmp samples k then key_sum samples k ∷ [] else [])
-
--- the samples of the piece
-abbrev pub piece_samples : List Sample → ℕ → List Sample
-piece_samples samples piece = take PIECE (drop (PIECE * piece) samples)
 
 -- the sample's key numbers are below n
 abbrev pub HasBelow : ℕ → Seen ℕ → Type 0

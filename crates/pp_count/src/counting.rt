@@ -1,18 +1,15 @@
 //! Counting as a job in pieces.
 ghost use Rattle.std.specs.Prelude.{◌≡◌, ◌+◌, ◌*◌, ◌<◌, ◌^◌, length, IfOk};
 ghost use Rattle.std.proofs.Props.{props};
-ghost use Rattle.pp_count.specs.declared.counting.TheConstants.{PIECE};
-ghost use Rattle.pp_count.specs.Parts.{piece_samples};
+ghost use Rattle.pp_steal.specs.declared.piece.TheConstants.{PIECE};
+ghost use Rattle.pp_steal.specs.Pieces.{piece_of};
 ghost use Rattle.pp_count.specs.Scope.{samples_in_scope, IsSoundScope, AreCountable, IsPartOf};
 
 use crate::part::{Part, count_range};
 use crate::scope::{Scope, count_of};
 use pp_base::Memory;
-use pp_steal::Job;
+use pp_steal::{Job, PIECE};
 use std::alloc::Global;
-
-/// How many samples a piece has. The last piece may have fewer.
-pub const PIECE: usize = 1024;
 
 /// A wave of pieces, to be counted on any thread.
 #[derive(Drop)]
@@ -34,14 +31,14 @@ impl Job for Counting<'_> {
     type Out = Part;
 
     ghost use Rattle.std.specs.Prelude.{◌+◌, ◌*◌};
-    ghost use Rattle.pp_count.specs.declared.counting.TheConstants.{PIECE};
-    ghost use Rattle.pp_count.specs.Parts.{piece_samples};
+    ghost use Rattle.pp_steal.specs.declared.piece.TheConstants.{PIECE};
+    ghost use Rattle.pp_steal.specs.Pieces.{piece_of};
     ghost use Rattle.pp_count.specs.Scope.{samples_in_scope, IsPartOf};
 
     ghost pieces = { λ job. job.pieces };
 
     ghost right = { λ job piece part. IsPartOf job.scope ((job.first + piece) * PIECE)
-        (piece_samples (samples_in_scope job.scope) (job.first + piece)) part };
+        (piece_of (samples_in_scope job.scope) (job.first + piece)) part };
 
     fn run(&self, piece: u32) -> Result<Part, Memory> {
         count_piece_of(self.alloc, &self.scope, self.first + piece)
@@ -54,7 +51,7 @@ pub fn count_piece_of(alloc: Global, scope: &Scope, piece: u32) -> Result<Part, 
     requires countable { AreCountable scope.now (samples_in_scope scope.now) }
     requires starts { PIECE * piece < length (samples_in_scope scope.now) }
     ensures { IfOk result (IsPartOf scope.now (piece * PIECE)
-        (piece_samples (samples_in_scope scope.now) piece)) }
+        (piece_of (samples_in_scope scope.now) piece)) }
 {
     let start = piece as usize * PIECE;
     let count = (count_of(scope) - start).min(PIECE);

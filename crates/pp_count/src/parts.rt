@@ -1,9 +1,9 @@
 //! The part of one piece, and the part of pieces joined, for callers that run the pieces themselves.
 ghost use Rattle.std.specs.Prelude.{◌≡◌, ◌*◌, ◌<◌, length, IfOk};
-ghost use Rattle.pp_count.specs.declared.counting.TheConstants.{PIECE};
+ghost use Rattle.pp_steal.specs.declared.piece.TheConstants.{PIECE};
 ghost use Rattle.pp_count.specs.Counted.{CanCount};
 ghost use Rattle.pp_count.specs.Joined.{IsRangePart, CanJoin, IsJoinedPart};
-ghost use Rattle.pp_count.specs.Parts.{piece_samples};
+ghost use Rattle.pp_steal.specs.Pieces.{piece_of};
 ghost use Rattle.pp_count.specs.Table.{IsKeyTable};
 
 use crate::counting::count_piece_of;
@@ -31,7 +31,7 @@ pub fn count_piece(
     requires table { IsKeyTable l.now.profile config.now table.now }
     requires starts { PIECE * piece < length l.now.profile.sample }
     ensures { IfOk result (IsRangePart l.now v.now config.now column table.now.names
-        (PIECE * piece) (piece_samples l.now.profile.sample piece)) }
+        (PIECE * piece) (piece_of l.now.profile.sample piece)) }
 {
     let _compact = l.profile.get();
     let filters = Filters::without_tables(alloc, l, v, config)?;

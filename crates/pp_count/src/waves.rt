@@ -1,13 +1,13 @@
 //! All samples, or chosen ones, counted in waves of pieces on the lanes.
 ghost use Rattle.std.specs.Prelude.{◌≡◌, ◌+◌, ◌*◌, ◌<◌, take, IfOk};
-ghost use Rattle.pp_count.specs.declared.counting.TheConstants.{PIECE};
+ghost use Rattle.pp_steal.specs.declared.piece.TheConstants.{PIECE};
 ghost use Rattle.pp_count.specs.Scope.{samples_in_scope, IsSoundScope, AreCountable, AreCounted};
 
-use crate::counting::{Counting, PIECE};
+use crate::counting::Counting;
 use crate::scope::{Scope, count_of};
 use crate::sofar::Sofar;
 use pp_base::{Gate, Memory};
-use pp_steal::{Deal, run_pieces};
+use pp_steal::{Deal, pieces_of, run_pieces};
 use std::alloc::Global;
 use std::thread::Threads;
 
@@ -25,7 +25,7 @@ pub fn count_all<'x, R: Threads + Sync, G: Gate>(
     requires countable { AreCountable scope.now (samples_in_scope scope.now) }
     ensures { IfOk result (AreCounted scope.now (samples_in_scope scope.now)) }
 {
-    let pieces = count_of(scope).div_ceil(PIECE) as u32;
+    let pieces = pieces_of(count_of(scope));
     let mut sofar = Sofar::new(alloc, scope.numbers())?;
     for wave in 0..pieces.div_ceil(WAVE) {
         let first = wave * WAVE;

@@ -10,3 +10,4 @@ pub mod Gathering
 pub mod Laws
 pub mod Placing
 pub mod Whole
+pub mod PieceLemmas

@@ -1,67 +1,26 @@
 -- Samples that are read apart from the other fields, in pieces, make the same profile.
-use Rattle.std.proofs.Common.{◌≡◌, ℕ, suc, ◌+◌, ◌-◌, ◌*◌, ◌%◌, ◌^◌, ◌<◌, ◌≤◌, Bool, true, false, cond, eqb, min, map, List, [], ◌∷◌, ◌++◌, length, filter, take, drop, get_or, Option, Some, None, Ok, refl, sym, ap, subst, ◌∙◌, append_assoc, arith}
-use Rattle.std.specs.Prelude.{IfOk, IfSome}
+use Rattle.std.proofs.Common.{◌≡◌, ℕ, ◌%◌, ◌^◌, ◌<◌, ◌≤◌, Bool, true, false, cond, eqb, map, List, [], ◌∷◌, ◌++◌, length, filter, Option, Some, None, Ok, refl, sym, ap, subst, ◌∙◌, append_assoc, arith}
 use Rattle.std.specs.List.{flat_map, AllByRecursion}
 use Rattle.std.proofs.lemmas.Bool.{eqb-true}
-use Rattle.std.proofs.lemmas.List.{append-nil, drop-drop, drop-map, length-drop, length-map, map-append, take-append-drop, take-map, take_all, take_min}
+use Rattle.std.proofs.lemmas.List.{append-nil, map-append}
 use Rattle.pp_base.proofs.Lists.{all_append}
 use Rattle.pp_wire.specs.declared.fault.WireFault.{WireFault}
 use Rattle.pp_wire.specs.Fields.{Content, Varint, Eight, Four, Bytes, Item, fields}
 use Rattle.pp_model.specs.declared.profile.Sample.{Sample}
 use Rattle.pp_model.specs.declared.profile.Profile.{Profile}
-use Rattle.pp_tables.specs.declared.decoding.TheConstants.{PIECE}
-use Rattle.pp_tables.specs.declared.extent.Extent.{Extent}
 use Rattle.pp_tables.specs.declared.skim.Skimmed.{Skimmed}
-use Rattle.pp_tables.specs.Message.{Rule, Run, Nested, fault_by, fault_of, or_else, first_item_fault, fault_in}
-use Rattle.pp_tables.specs.Select.{all, of_payload, messages_in}
+use Rattle.pp_tables.specs.Message.{Run, Nested, fault_by, fault_of, or_else, first_item_fault, fault_in}
+use Rattle.pp_tables.specs.Select.{all, messages_in}
 use Rattle.pp_tables.specs.Tables.{no_sample, sample_rules, sample_after, no_profile, profile_rules, profile_after}
 use Rattle.pp_tables.specs.Read.{read_message, profile_of, profile_unless, with_a_text}
 use Rattle.pp_tables.specs.Joined.{PayloadAt, payloads_in}
-use Rattle.pp_tables.specs.Skim.{skim_rules, extents_in, payload_of, others_after, no_skim, skim_after, IsSkimmed}
-use Rattle.pp_tables.specs.Apart.{IsSoundSample, sample_at, ReadsSamples, AreSamples, piece_of, AreSampleParts}
+use Rattle.pp_tables.specs.Skim.{skim_rules, extents_in, payload_of, IsSkimmed}
+use Rattle.pp_tables.specs.Apart.{IsSoundSample, sample_at, ReadsSamples, AreSamples}
 use Rattle.pp_tables.proofs.Payloads.{both_none}
 use Rattle.pp_tables.proofs.Bounds.{all_few, payload_few}
 use Rattle.pp_tables.proofs.Extents.{all_mapped, extents_are}
-use Rattle.pp_wire.proofs.CallerLemmas.{size_of, total, total-fields}
-use Rattle.pp_steal.specs.Running.{AreOutcomes}
-
--- ---- pieces
-
--- so many extents from the piece's first on are the piece
-pub piece_is : {A : Type 0} (xs : List A) (f : A → PayloadAt) (piece count : ℕ) → count ≡ min (length xs - piece * PIECE) PIECE
-    → map f (take count (take (length xs - piece * PIECE) (drop (piece * PIECE) xs))) ≡ piece_of (map f xs) piece
-piece_is xs f piece count e =
-    let rest = drop (piece * PIECE) xs in
-    let long : length rest ≡ length xs - piece * PIECE = length-drop (piece * PIECE) xs in
-    let whole : take (length xs - piece * PIECE) rest ≡ rest = take_all (length xs - piece * PIECE) rest (omega (arith, long)) in
-    let first : take count rest ≡ take PIECE rest = ap (λ n. take n rest) (omega (arith, e, long)) ∙ take_min PIECE rest in
-    ap (λ l. map f (take count l)) whole ∙ ap (map f) first ∙ sym (take-map f PIECE rest)
-    ∙ ap (take PIECE) (sym (drop-map f (piece * PIECE) xs) ∙ ap (λ n. drop n (map f xs)) (omega arith))
-
--- a piece of what comes after the first piece
-piece_behind : (payloads : List PayloadAt) (k : ℕ) → piece_of (drop PIECE payloads) k ≡ piece_of payloads (suc k)
-piece_behind payloads k = ap (take PIECE) (drop-drop (PIECE * k) PIECE payloads) ∙ ap (λ n. take PIECE (drop n payloads)) (omega arith)
-
-parts_are : (payloads : List PayloadAt) (parts : List (Option (List Sample))) → ((k : ℕ) (d : Option (List Sample)) → k < length parts → AreSamples (piece_of payloads k) (get_or parts k d)) → length payloads ≤ PIECE * length parts
-    → AreSampleParts payloads parts
-parts_are [] [] each whole = refl
-parts_are (p ∷ payloads) [] each whole = absurd (omega arith)
-parts_are payloads (part ∷ parts) each whole = (
-  take PIECE payloads,
-  drop PIECE payloads,
-  sym (take-append-drop PIECE payloads),
-  each 0 part (omega arith),
-  parts_are (drop PIECE payloads) parts
-      (λ k d here. subst (λ (l : List PayloadAt). AreSamples l (get_or parts k d)) (sym (piece_behind payloads k)) (each (suc k) d (omega (arith, here))))
-      (omega (arith, whole, length-drop PIECE payloads)),
-)
-
--- the outcomes of all pieces
-pub outcomes_are : (payloads : List PayloadAt) (pieces : ℕ) (parts : List (Option (List Sample))) → AreOutcomes (λ piece. AreSamples (piece_of payloads piece)) pieces parts → length payloads ≤ PIECE * pieces
-    → AreSampleParts payloads parts
-outcomes_are payloads pieces parts all whole =
-    let many = all.many in
-    parts_are payloads parts (λ k d here. all.each k d (omega (arith, here, many))) (omega (arith, whole, many))
+use Rattle.pp_wire.proofs.CallerLemmas.{total-fields}
+use Rattle.pp_steal.specs.Pieces.{AreParts}
 
 -- ---- samples of payloads
 
@@ -78,9 +37,9 @@ pub record AreJoined (payloads : List PayloadAt) (samples : List Sample) (parts 
   pub rest : List PayloadAt
   pub cut : payloads ≡ front ++ rest
   pub joined : ReadsSamples front [] samples
-  pub are : AreSampleParts rest parts
+  pub are : AreParts AreSamples rest parts
 
-pub none_joined : (payloads : List PayloadAt) (samples : List Sample) (parts : List (Option (List Sample))) → samples ≡ [] → AreSampleParts payloads parts → AreJoined payloads samples parts
+pub none_joined : (payloads : List PayloadAt) (samples : List Sample) (parts : List (Option (List Sample))) → samples ≡ [] → AreParts AreSamples payloads parts → AreJoined payloads samples parts
 none_joined payloads samples parts none are = record { front = []; rest = payloads; cut = refl; joined = record { sound = tt; added = none }; are = are }
 
 pub part_joined : (payloads : List PayloadAt) (before after more : List Sample) (parts : List (Option (List Sample))) → AreJoined payloads before (Some more ∷ parts) → after ≡ before ++ more → AreJoined payloads after parts

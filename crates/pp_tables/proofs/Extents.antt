@@ -2,7 +2,7 @@
 use Rattle.std.proofs.Common.{◌≡◌, ℕ, zero, suc, ◌+◌, ◌-◌, ◌*◌, ◌%◌, ◌^◌, ◌<◌, ◌≤◌, Bool, true, false, cond, min, ltb, eqb, List, [], ◌∷◌, ◌++◌, length, map, filter, take, drop, Result, Ok, Err, refl, sym, ap, subst, ◌∙◌, append_assoc, arith}
 use Rattle.std.specs.List.{flat_map, AllByRecursion}
 use Rattle.std.specs.Int.{w32, w64, from_le_bytes}
-use Rattle.std.proofs.lemmas.List.{append-nil, drop_at, length-append, length-drop, length-take, map-append, take-append-drop, take_min}
+use Rattle.std.proofs.lemmas.List.{drop_at, length-append, length-take, map-append, take-append-drop, take_min}
 use Rattle.pp_base.specs.Results.{◌>>=◌}
 use Rattle.pp_wire.specs.declared.fault.WireKind.{WireKind}
 use Rattle.pp_wire.specs.declared.fault.WireKind.TheVariants.{Truncated, BadKind}
@@ -11,9 +11,8 @@ use Rattle.pp_wire.specs.Reading.{Read, EndsWith}
 use Rattle.pp_wire.specs.Varint.{groups, varint}
 use Rattle.pp_wire.specs.Walk.{Walk, and_then, walk_in, walk_of, placed}
 use Rattle.pp_wire.specs.Fields.{Content, Varint, Eight, Four, Bytes, Item, number_in, eight, four, length_delimited, number, content, field_in, field, fields}
-use Rattle.pp_tables.specs.declared.extent.Extent.{Extent}
 use Rattle.pp_tables.specs.Select.{all}
-use Rattle.pp_tables.specs.Joined.{PayloadAt, payloads_in}
+use Rattle.pp_tables.specs.Joined.{payloads_in}
 use Rattle.pp_tables.specs.Skim.{extents_in, payload_of}
 
 -- a run lies in the file at its place

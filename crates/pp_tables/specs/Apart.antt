@@ -1,9 +1,8 @@
 -- Samples that are read in pieces, by their payloads. No public clause cites these.
-use Rattle.std.specs.Prelude.{◌≡◌, ℕ, ◌*◌, List, [], ◌∷◌, ◌++◌, map, take, drop, Option, Some, None, Result, Ok, Err, ⊤}
+use Rattle.std.specs.Prelude.{◌≡◌, List, [], ◌++◌, map, Option, Some, None, Result, Ok, Err, ⊤}
 use Rattle.std.specs.List.{AllByRecursion}
 use Rattle.pp_model.specs.declared.profile.Sample.{Sample}
 use Rattle.pp_model.specs.declared.profile.Profile.{Profile}
-use Rattle.pp_tables.specs.declared.decoding.TheConstants.{PIECE}
 use Rattle.pp_tables.specs.declared.refusal.ReadRefusal.{ReadRefusal}
 use Rattle.pp_tables.specs.Message.{fault_in}
 use Rattle.pp_tables.specs.Tables.{no_sample, sample_rules, sample_after}
@@ -27,17 +26,6 @@ pub record ReadsSamples (payloads : List PayloadAt) (old new : List Sample) : Ty
 abbrev pub AreSamples : List PayloadAt → Option (List Sample) → Type 0
 AreSamples payloads None = ⊤
 AreSamples payloads (Some samples) = ReadsSamples payloads [] samples
-
--- the payloads of a piece
-abbrev pub piece_of : List PayloadAt → ℕ → List PayloadAt
-piece_of payloads piece = take PIECE (drop (PIECE * piece) payloads)
-
--- the samples of pieces into which the payloads are cut, one after another
-abbrev pub AreSampleParts : List PayloadAt → List (Option (List Sample)) → Type 0
-AreSampleParts payloads [] = payloads ≡ []
-AreSampleParts payloads (part ∷ parts) =
-    (front : List PayloadAt) × (rest : List PayloadAt) × (payloads ≡ front ++ rest)
-    × AreSamples front part × AreSampleParts rest parts
 
 -- what was answered is that, unless memory ran out, or nothing was answered
 abbrev pub AnswersIfAny : Result (Option Profile) ReadRefusal → Result Profile ReadRefusal → Type 0

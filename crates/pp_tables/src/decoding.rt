@@ -1,16 +1,13 @@
 //! Reading samples as a job in pieces.
 ghost use Rattle.std.specs.Prelude.{◌+◌, ◌*◌, ◌<◌, ◌≤◌, length};
-ghost use Rattle.pp_tables.specs.declared.decoding.TheConstants.{PIECE};
+ghost use Rattle.pp_steal.specs.declared.piece.TheConstants.{PIECE};
 
 use crate::decoded::decode;
 use crate::extent::Extent;
 use pp_base::{List, Memory};
 use pp_model::Sample;
-use pp_steal::Job;
+use pp_steal::{Job, piece_of};
 use std::alloc::Global;
-
-/// How many samples a piece has. The last piece may have fewer.
-pub const PIECE: usize = 1024;
 
 /// The samples of a file, to be read on any thread.
 #[derive(Drop)]
@@ -33,7 +30,8 @@ impl Job for Decoding<'_> {
 
     ghost use Rattle.std.specs.Prelude.{map};
     ghost use Rattle.pp_tables.specs.Skim.{payload_of};
-    ghost use Rattle.pp_tables.specs.Apart.{piece_of, AreSamples};
+    ghost use Rattle.pp_steal.specs.Pieces.{piece_of};
+    ghost use Rattle.pp_tables.specs.Apart.{AreSamples};
 
     ghost pieces = { λ job. job.pieces };
 
@@ -41,9 +39,6 @@ impl Job for Decoding<'_> {
         AreSamples (piece_of (map (payload_of job.bytes.now) job.extents.now) piece) part };
 
     fn run(&self, piece: u32) -> Result<Option<List<Sample>>, Memory> {
-        let start = piece as usize * PIECE;
-        let count = (self.extents.len() - start).min(PIECE);
-        let rest = &self.extents[start..];
-        decode(self.alloc, self.bytes, &rest[..count])
+        decode(self.alloc, self.bytes, piece_of(self.extents, piece))
     }
 }

@@ -4,16 +4,17 @@ ghost use Rattle.pp_model.specs.Sizes.{HasAtMost};
 ghost use Rattle.pp_tables.specs.Joined.{PayloadAt};
 ghost use Rattle.pp_tables.specs.Read.{Answers, read, read_message};
 ghost use Rattle.pp_tables.specs.Skim.{payload_of, IsSkimmed};
-ghost use Rattle.pp_tables.specs.Apart.{AreSamples, AreSampleParts, AnswersIfAny};
+ghost use Rattle.pp_steal.specs.Pieces.{AreParts};
+ghost use Rattle.pp_tables.specs.Apart.{AreSamples, AnswersIfAny};
 
 use crate::ReadRefusal;
-use crate::decoding::{Decoding, PIECE};
+use crate::decoding::Decoding;
 use crate::packed::with_room;
 use crate::reading::{is_compressed, read_profile, with_a_text};
 use crate::skim::{Skimmed, skim};
 use pp_base::{Gate, List, Memory};
 use pp_model::{Profile, Sample};
-use pp_steal::{Deal, run_pieces};
+use pp_steal::{Deal, pieces_of, run_pieces};
 use std::alloc::Global;
 use std::thread::Threads;
 
@@ -87,7 +88,7 @@ fn finish<R: Threads + Sync, G: Gate>(
         alloc,
         bytes,
         extents: samples.as_slice(),
-        pieces: samples.len().div_ceil(PIECE) as u32,
+        pieces: pieces_of(samples.len()),
     };
     match read_samples(rt, &job, workers, gate)? {
         Some(samples) => {
@@ -121,7 +122,7 @@ fn join(
     count: usize,
     parts: List<Option<List<Sample>>>,
 ) -> Result<Option<List<Sample>>, Memory>
-    ensures { (payloads : Seq PayloadAt) → AreSampleParts payloads parts → IfOk result (AreSamples payloads) }
+    ensures { (payloads : Seq PayloadAt) → AreParts AreSamples payloads parts → IfOk result (AreSamples payloads) }
 {
     let mut samples = with_room(alloc, count)?;
     for part in parts.into_vec() {

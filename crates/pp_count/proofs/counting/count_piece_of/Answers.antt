@@ -1,6 +1,6 @@
 use Rattle.std.proofs.Common.{arith}
 use Rattle.pp_count.specs.Scope.{samples_in_scope}
-use Rattle.pp_count.proofs.Pieces.{piece_is}
+use Rattle.pp_steal.proofs.PieceLemmas.{piece_is}
 use Rattle.pp_count.proofs.counting.count_piece_of.Goals as goal
 
 pub returns : goal.returns

@@ -1,7 +1,7 @@
 use Rattle.std.proofs.Common.{◌*◌, refl, subst, sym, arith}
 use Rattle.pp_model.specs.Rules.{IsCompact}
-use Rattle.pp_count.specs.declared.counting.TheConstants.{PIECE}
-use Rattle.pp_count.specs.Parts.{piece_samples}
+use Rattle.pp_steal.specs.declared.piece.TheConstants.{PIECE}
+use Rattle.pp_steal.specs.Pieces.{piece_of}
 use Rattle.pp_count.specs.Scope.{IsSoundScope, AreCountable, IsPartOf, samples_in_scope}
 use Rattle.pp_count.proofs.Joined.{range_part}
 use Rattle.pp_count.proofs.Kept.{values_fit}
@@ -21,4 +21,4 @@ count_piece_of-requires-clause-countable c = subst (λ scope. AreCountable scope
 pub returns : goal.returns
 returns c =
     range_part _ (c.args.piece * PIECE) (PIECE * c.args.piece) _ c.in_ok-part.part refl refl (subst IsCompact c.get-compact.ensures.same c.get-compact.ensures.compact) c.requires.table (omega arith)
-    (subst (λ scope. IsPartOf scope (c.args.piece * PIECE) (piece_samples (samples_in_scope scope) c.args.piece) c.in_ok-part.part) c.whole-scope.ensures c.in_ok-part.ensures)
+    (subst (λ scope. IsPartOf scope (c.args.piece * PIECE) (piece_of (samples_in_scope scope) c.args.piece) c.in_ok-part.part) c.whole-scope.ensures c.in_ok-part.ensures)

@@ -1,14 +1,13 @@
-use Rattle.std.proofs.Common.{rules, ◌≡◌, ◌≤◌, length, map, ap, subst, refl}
+use Rattle.std.proofs.Common.{map, subst, refl, arith}
 use Rattle.pp_tables.specs.Skim.{payload_of}
-use Rattle.pp_tables.specs.Apart.{ReadsSamples, AreSamples}
+use Rattle.pp_tables.specs.Apart.{ReadsSamples}
 use Rattle.pp_tables.proofs.Apart.{extents_few, message_whole}
 use Rattle.pp_tables.proofs.lanes.finish.Goals as goal
 
 -- no more samples than bytes
-pub overflow_cast-job : goal.overflow_cast-job
-overflow_cast-job g c =
-    let few : length c.args.skimmed.samples ≤ length c.args.bytes.now = extents_few c.args.bytes.now c.args.skimmed c.requires.short c.requires.skimmed in
-    search rules
+pub pieces_of-requires : goal.pieces_of-requires
+pieces_of-requires g c =
+    omega (arith, extents_few c.args.bytes.now c.args.skimmed c.requires.short c.requires.skimmed, c.requires.short, c.len.ensures)
 
 pub returns-in_ok-with_a_text-in-Some : goal.returns-in_ok-with_a_text-in-Some
 returns-in_ok-with_a_text-in-Some g c =

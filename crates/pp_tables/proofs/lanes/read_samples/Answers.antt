@@ -1,7 +1,8 @@
 use Rattle.std.proofs.Common.{map, arith}
 use Rattle.std.proofs.lemmas.List.{length-map}
 use Rattle.pp_tables.specs.Skim.{payload_of}
-use Rattle.pp_tables.proofs.Apart.{outcomes_are}
+use Rattle.pp_tables.specs.Apart.{AreSamples}
+use Rattle.pp_steal.proofs.PieceLemmas.{outcomes_are}
 use Rattle.pp_tables.proofs.lanes.read_samples.Goals as goal
 
 -- what the lanes gave are all pieces
@@ -9,4 +10,4 @@ pub returns : goal.returns
 returns g c =
     let job = c.args.job.now in
     let payloads = map (payload_of job.bytes.now) job.extents.now in
-    c.join.ensures payloads (outcomes_are payloads job.pieces c.in_ok-parts.parts c.in_ok-parts.ensures (omega (arith, length-map job.extents.now (payload_of job.bytes.now), job.whole)))
+    c.join.ensures payloads (outcomes_are AreSamples payloads job.pieces c.in_ok-parts.parts c.in_ok-parts.ensures (omega (arith, length-map job.extents.now (payload_of job.bytes.now), job.whole)))
