@@ -6,17 +6,19 @@ ghost use Rattle.pp_load.specs.Joining.{AreCountableProfiles, AreMergeable, IsOn
 ghost use Rattle.pp_load.specs.Combine.{agreeing, agreeing_with, merging, scaling_if, subtracting, less_bases, joining, combined};
 
 use crate::refusal::LoadRefusal;
-use pp_base::{List, Memory};
+use crate::resources::Resources;
+use pp_base::{List, Memory, OpenGate};
 use pp_desk::{Halt, Stop};
-use pp_merge::{MergeRefusal, NothingToScale, agree, merge, normalize, subtract};
+use pp_merge::{MergeRefusal, NothingToScale, agree, merge_on, normalize, subtract};
 use pp_model::{BaseKind, Compact, Valid};
 use std::alloc::Global;
+use std::thread::Threads;
 
 /// The profiles, of which so many are sources and the others bases, as one. All are compared with the first source,
 /// then the sources are merged, then the bases, which are taken off the sources at last.
 #[tactic(auto, using(crate::proofs::Giving::giving), unfolding(crate::specs::Combine::combined))]
-pub fn combine(
-    alloc: Global,
+pub fn combine<R: Threads + Sync>(
+    with: &Resources<'_, R>,
     sources: usize,
     kind: Option<BaseKind>,
     normalize: bool,
@@ -30,7 +32,7 @@ pub fn combine(
     ensures ready { IfOk result IsReady }
 {
     compare(profiles.as_slice())?;
-    join(alloc, sources, kind, normalize, profiles)
+    join(with, sources, kind, normalize, profiles)
 }
 
 // All profiles agree with the first.
@@ -62,8 +64,8 @@ fn compare_with(first: &Valid, others: &[Valid]) -> Result<(), Halt<LoadRefusal>
 
 // Profiles that agree become one.
 #[tactic(auto, using(crate::proofs::Giving::giving), unfolding(crate::specs::Combine::joining))]
-fn join(
-    alloc: Global,
+fn join<R: Threads + Sync>(
+    with: &Resources<'_, R>,
     sources: usize,
     kind: Option<BaseKind>,
     normalize: bool,
@@ -78,8 +80,8 @@ fn join(
     ensures ready { IfOk result IsReady }
 {
     let (sources, bases) = split(profiles, sources)?;
-    let source = merge_all(alloc, sources)?;
-    less_bases(alloc, kind, normalize, source, bases)
+    let source = merge_all(with, sources)?;
+    less_bases(with, kind, normalize, source, bases)
 }
 
 // The profiles before the place, and those from it on.
@@ -95,12 +97,15 @@ fn split(profiles: List<Valid>, place: usize) -> Result<(List<Valid>, List<Valid
 
 // The profiles as one.
 #[tactic(auto, using(crate::proofs::JoiningLemmas::joins))]
-fn merge_all(alloc: Global, profiles: List<Valid>) -> Result<Compact, Halt<LoadRefusal>>
+fn merge_all<R: Threads + Sync>(
+    with: &Resources<'_, R>,
+    profiles: List<Valid>,
+) -> Result<Compact, Halt<LoadRefusal>>
     requires { AreMergeable profiles }
     ensures is { Loads (merging profiles) result }
     ensures one { IfOk result (IsOneOf profiles) }
 {
-    match merge(alloc, profiles) {
+    match merge_on(with.rt, with.alloc, profiles, with.workers, &OpenGate) {
         Ok(merged) => Ok(merged),
         Err(refusal) => Err(halt_of(refusal)),
     }
@@ -123,8 +128,8 @@ fn halt_of(refusal: MergeRefusal) -> Halt<LoadRefusal>
 
 // The source without the bases, where there are any.
 #[tactic(auto, using(crate::proofs::Giving::giving), unfolding(crate::specs::Combine::less_bases))]
-fn less_bases(
-    alloc: Global,
+fn less_bases<R: Threads + Sync>(
+    with: &Resources<'_, R>,
     kind: Option<BaseKind>,
     normalize: bool,
     source: Compact,
@@ -137,14 +142,14 @@ fn less_bases(
 {
     match kind {
         None => Ok(source),
-        Some(kind) => take_off(alloc, kind, normalize, source, bases),
+        Some(kind) => take_off(with, kind, normalize, source, bases),
     }
 }
 
 // The bases become one, which is taken off the source.
 #[tactic(auto, using(crate::proofs::Giving::giving), unfolding(crate::specs::Combine::subtracting))]
-fn take_off(
-    alloc: Global,
+fn take_off<R: Threads + Sync>(
+    with: &Resources<'_, R>,
     kind: BaseKind,
     normalize: bool,
     source: Compact,
@@ -154,9 +159,9 @@ fn take_off(
     ensures is { Loads (subtracting kind normalize source bases) result }
     ensures ready { IfOk result IsReady }
 {
-    let base = merge_all(alloc, bases)?;
+    let base = merge_all(with, bases)?;
     let source = scale_if(normalize, source, &base)?;
-    subtract_base(alloc, source, base, kind)
+    subtract_base(with.alloc, source, base, kind)
 }
 
 // The source scaled to the base, where that is asked for.

@@ -65,12 +65,16 @@ fn load_plan<R: Threads + Sync, D: Desk>(
         workers: plan.config.workers,
     };
     let read = read_plan(&with, plan, desk)?;
-    let profile = combine_read(alloc, plan, read)?;
+    let profile = combine_read(&with, plan, read)?;
     judge(alloc, profile, desk)
 }
 
 // The profiles of a plan as one.
-fn combine_read(alloc: Global, plan: &Plan, read: Read) -> Result<Compact, Halt<LoadRefusal>>
+fn combine_read<R: Threads + Sync>(
+    with: &Resources<'_, R>,
+    plan: &Plan,
+    read: Read,
+) -> Result<Compact, Halt<LoadRefusal>>
     requires few { IsCountableRead read }
     requires all { length read.profiles ≡ length plan.now.origins + length plan.now.bases }
     ensures is { Loads (combined (length plan.now.origins) plan.now.base_kind
@@ -78,13 +82,7 @@ fn combine_read(alloc: Global, plan: &Plan, read: Read) -> Result<Compact, Halt<
     ensures ready { IfOk result IsReady }
 {
     let sources = plan.origins.len();
-    combine(
-        alloc,
-        sources,
-        plan.base_kind,
-        plan.normalize,
-        read.profiles,
-    )
+    combine(with, sources, plan.base_kind, plan.normalize, read.profiles)
 }
 
 // The profile with what its own patterns find.

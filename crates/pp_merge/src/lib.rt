@@ -19,7 +19,7 @@ pub use laws::{
     absolute_sums_are_within, merged_is_again, merged_is_settled, sums_are_kept,
     tables_are_no_longer, written_is_again, written_is_compact, written_is_valid,
 };
-pub use merging::merge;
+pub use merging::{merge, merge_on};
 pub use normalizing::normalize;
 pub use refusal::{MergeRefusal, NothingToScale, What};
 pub use scaling::scale;

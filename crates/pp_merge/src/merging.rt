@@ -1,5 +1,5 @@
 //! Several profiles become one.
-ghost use Rattle.std.specs.Prelude.{◌≡◌, ◌+◌, ◌<◌, ◌^◌, ◌∷◌, length, IfOk};
+ghost use Rattle.std.specs.Prelude.{◌≡◌, ◌+◌, ◌<◌, ◌≤◌, ◌^◌, ◌∷◌, length, IfOk};
 ghost use Rattle.std.specs.List.{AllByRecursion, sum_by};
 ghost use Rattle.pp_merge.specs.Merge.{Merges, merged};
 ghost use Rattle.pp_merge.specs.Merging.{Admits, CanMerge, IsWhole};
@@ -9,10 +9,11 @@ use crate::durations::total_duration;
 use crate::join::{join, set};
 use crate::refusal::MergeRefusal;
 use crate::totals::too_large_column;
-use pp_base::{List, Memory};
+use pp_base::{Gate, List, Memory};
 use pp_model::{Compact, Profile, Valid};
-use pp_share::share;
+use pp_share::{share, share_on};
 use std::alloc::Global;
+use std::thread::Threads;
 
 /// The profiles as one. Functions, mappings, locations, samples and comments that are equal become one, in the order of
 /// first sight, and the values of equal samples are added up. What no sample with a value names is left out. The first
@@ -31,6 +32,30 @@ pub fn merge(alloc: Global, list: List<Valid>) -> Result<Compact, MergeRefusal>
     let duration = admit(&first, others.as_slice())?;
     let merged = merge_admitted(alloc, first, others, duration)?;
     Ok(merged)
+}
+
+/// The same profile or refusal. The samples are numbered in pieces of 1,024 on so many lanes, from 1 to 64, and the answer
+/// does not tell how many there were.
+pub fn merge_on<R: Threads + Sync, G: Gate>(
+    rt: &R,
+    alloc: Global,
+    list: List<Valid>,
+    workers: u32,
+    gate: &G,
+) -> Result<Compact, MergeRefusal>
+    requires behind { 0 < length list }
+    requires few { length list < 2 ^ 32 }
+    requires columns { AllByRecursion (λ p. length p.sample_type < 2 ^ 32) list }
+    requires samples { sum_by (λ p. length p.sample) list < 2 ^ 32 }
+    requires some { 1 ≤ workers }
+    requires most { workers ≤ 64 }
+    ensures { Merges list result }
+{
+    let (first, others) = split(list);
+    let duration = admit(&first, others.as_slice())?;
+    let whole = join_whole(alloc, first, others, duration)?;
+    let merged = share_on(rt, alloc, whole, workers, gate)?;
+    Ok(Compact::claim(Valid::claim(merged)))
 }
 
 // The first of the profiles, and those behind it.

@@ -1,14 +1,12 @@
 -- Samples that differ: each is its own sum.
-use Rattle.std.proofs.Common.{◌≡◌, ℕ, Bool, true, false, true≢false, ◌||◌, ℤ, List, [], ◌∷◌, ◌++◌, length, map, filter, refl, sym, ap, subst, ◌∙◌, if◌then◌else◌}
-use Rattle.std.specs.List.{list_any, AllByRecursion, IsDistinct}
-use Rattle.std.specs.Cmp.{IsEquivalence}
+use Rattle.std.proofs.Common.{◌≡◌, ℕ, Bool, true, false, true≢false, ℤ, List, [], ◌∷◌, length, map, filter, refl, sym, ap, subst, ◌∙◌, if◌then◌else◌}
+use Rattle.std.specs.List.{AllByRecursion, IsDistinct}
 use Rattle.std.specs.Ordering.{nat_cmp, eq_by_cmp}
 use Rattle.std.proofs.lemmas.Simd.{map-map}
 use Rattle.pp_base.proofs.Orders.{tied_with}
 use Rattle.pp_model.specs.declared.profile.Label.{Label}
 use Rattle.pp_model.specs.declared.profile.Sample.{Sample}
-use Rattle.pp_model.specs.FirstSight.{seen_after, distinct}
-use Rattle.pp_share.specs.Sums.{counts, column_totals, keys_of, sum_of, summed}
+use Rattle.pp_share.specs.Sums.{counts}
 use Rattle.pp_share.specs.SampleStacks.{same_stack, stack_number, stack_decides}
 use Rattle.pp_share.specs.SampleKeys.{sample_stack, sample_item, sample_of, has_values, summed_samples}
 use Rattle.pp_share.proofs.Lists.{all_mapped}

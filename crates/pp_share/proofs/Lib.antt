@@ -26,6 +26,7 @@ pub mod Agreement
 pub mod SummedLemmas
 pub mod SampleKeyLemmas
 pub mod Apart
+pub mod NumberLemmas
 pub mod Deciding
 pub mod MergedMapping
 pub mod DistinctLemmas

@@ -1,5 +1,5 @@
 -- A joined profile of which each thing is kept once, step by step, says what it said, added up.
-use Rattle.std.proofs.Common.{◌≡◌, ◌<◌, [], length, sym, ap, subst, ◌∙◌}
+use Rattle.std.proofs.Common.{◌≡◌, ◌<◌, [], length, map, sym, ap, subst, ◌∙◌}
 use Rattle.std.specs.List.{AllByRecursion, IsDistinct}
 use Rattle.std.specs.Str.{bytes_eq}
 use Rattle.std.specs.Cmp.{nat_eq_equiv}
@@ -11,10 +11,12 @@ use Rattle.pp_share.specs.Header.{header_of}
 use Rattle.pp_share.specs.Placed.{gist, plain, totalled, samples_placed, mappings_of}
 use Rattle.pp_share.specs.Alike.{first_alike}
 use Rattle.pp_share.specs.Written.{written}
-use Rattle.pp_share.specs.Renumbered.{renumbered_type, renumbered_location, renumbered_sample, renumbered_label}
+use Rattle.pp_share.specs.Numbers.{with_sums}
+use Rattle.pp_share.specs.SampleKeys.{summed_samples}
+use Rattle.pp_share.specs.Renumbered.{NewIds, renumbered_type, renumbered_location, renumbered_sample, renumbered_label}
 use Rattle.pp_share.specs.Shared.{by_texts, by_functions, alike_functions, with_shared_texts, with_shared_functions, with_shared_places}
 use Rattle.pp_share.specs.Share.{NamesLocations, IsJoined, with_comments_once, with_tables_once, with_samples_once}
-use Rattle.pp_share.specs.Walked.{walked_texts_of, walked}
+use Rattle.pp_share.specs.Walked.{walked_texts_of, walked, IsWalked}
 use Rattle.pp_share.proofs.Prefix.{all_tt}
 use Rattle.pp_model.proofs.FirstSightLemmas.{distinct_apart}
 use Rattle.pp_share.proofs.Tables.{Names}
@@ -124,3 +126,15 @@ module _ (p : Profile) (joined : IsJoined p) (few : length p.text < 461168601842
 
   pub shared_written : length (walked_texts_of summed_up) < 4611686018427387904 → walked (with_samples_once (with_tables_once p)) ≡ written (totalled (length p.sample_type) (gist p))
   shared_written few_walked = walked_is summed_up shared_ready few_walked ∙ ap written shared_plain
+
+  -- What is written of the shared tables, with samples added up, is what is written of what the profile says.
+  pub shared_is : (shared r : Profile) (by : NewIds) → shared ≡ record (with_tables_once p) { sample = p.sample } → map (renumbered_sample by) p.sample ≡ (with_tables_once p).sample
+      → IsWalked (with_sums by shared) r → r ≡ written (totalled (length p.sample_type) (gist p))
+  shared_is shared r by tables samples done =
+      let moved = renumbered_sample by in
+      let is : with_sums by shared ≡ with_samples_once (with_tables_once p) =
+      (λ i. record (tables i) {
+        sample = ((λ j. summed_samples (length (tables j).sample_type) (map moved (tables j).sample))
+            ∙ ap (summed_samples (length (with_tables_once p).sample_type)) samples) i;
+      }) in
+      done.same ∙ ap walked is ∙ shared_written (subst (λ q. length (walked_texts_of q) < 4611686018427387904) is done.few)

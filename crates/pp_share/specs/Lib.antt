@@ -11,6 +11,7 @@ pub mod FunctionKeys
 pub mod PlaceKeys
 pub mod SampleStacks
 pub mod SampleKeys
+pub mod Numbers
 pub mod Shared
 pub mod Walk
 pub mod Gathered

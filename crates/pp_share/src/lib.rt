@@ -3,13 +3,13 @@
 
 mod behind;
 mod change;
-mod distinct;
 mod first_sight;
 mod functions;
 mod gather;
 mod ids;
 mod known;
 mod met;
+mod numbers;
 mod places;
 mod placing;
 mod renumbering;
@@ -26,4 +26,4 @@ pub use change::{Change, change_each};
 pub use ids::{Ids, Known};
 pub use known::{are_numbered, known_ids};
 pub use renumbering::{Renumbering, renumber};
-pub use sharing::share;
+pub use sharing::{share, share_on};

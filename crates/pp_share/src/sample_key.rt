@@ -1,8 +1,14 @@
 //! What tells samples apart.
-ghost use Rattle.std.specs.Prelude.{◌≡◌};
+ghost use Rattle.std.specs.Prelude.{◌≡◌, fold};
+ghost use Rattle.pp_share.specs.Ids.{new_id};
+ghost use Rattle.pp_share.specs.Numbers.{number_by};
+ghost use Rattle.pp_share.specs.Renumbered.{new_ids, renumbered_label};
 ghost use Rattle.pp_share.specs.SampleStacks.{with_number, with_int, with_label, stack_number};
 
-use pp_model::Label;
+use crate::change::Change;
+use crate::ids::Ids;
+use crate::renumbering::Renumbering;
+use pp_model::{Label, Sample};
 use std::hash::{Hash, Hasher};
 
 /// What tells a sample apart where texts and locations stand once: its locations, leaf first, and its labels, in order.
@@ -40,6 +46,50 @@ pub fn number_of(ids: &[u64], labels: &[Label]) -> u64
     }
     for label in labels {
         number = with_label(number, label);
+    }
+    number
+}
+
+/// The number of the sample as it is once it has its new ids. It stays as it is.
+pub fn number_by(by: &Renumbering, sample: &Sample) -> u64
+    ensures { result ≡ number_by (new_ids by.now) sample.now }
+{
+    let located = number_locations(by, sample.location_id.as_slice());
+    number_labels(by, located, sample.label.as_slice())
+}
+
+// The number of the locations by their new ids. Samples name many, so the way that ids change is asked once a list.
+fn number_locations(by: &Renumbering, ids: &[u64]) -> u64
+    ensures { result ≡ fold (λ number id. with_number number (new_id by.now.location id)) 0 ids.now }
+{
+    match &by.location {
+        Ids::By(list) => number_changed(ids, list),
+        _ => number_changed(ids, by),
+    }
+}
+
+fn number_changed<C: Change<u64>>(ids: &[u64], change: &C) -> u64
+    ensures { result ≡ fold (λ number id. with_number number (C.changed change.now id)) 0 ids.now }
+{
+    let mut number = 0;
+    for id in ids {
+        let mut new = *id;
+        change.change(&mut new);
+        number = with_number(number, new);
+    }
+    number
+}
+
+// The number before, with the labels by their new texts.
+fn number_labels(by: &Renumbering, before: u64, labels: &[Label]) -> u64
+    ensures { result
+        ≡ fold (λ number label. with_label number (renumbered_label (new_ids by.now) label)) before labels.now }
+{
+    let mut number = before;
+    for label in labels {
+        let mut new = *label;
+        by.change(&mut new);
+        number = with_label(number, &new);
     }
     number
 }

@@ -5,9 +5,8 @@ ghost use Rattle.std.specs.Ordering.{int_eq};
 ghost use Rattle.pp_model.specs.Sizes.{value_in};
 ghost use Rattle.pp_share.specs.Sums.{summed, sum_at, sums_with, CanAdd};
 ghost use Rattle.pp_share.specs.SampleStacks.{same_stack};
-ghost use Rattle.pp_share.specs.SampleKeys.{sample_item, key_lists, same_key, item_of_key, has_values, sample_number, kept_samples, summed_samples};
+ghost use Rattle.pp_share.specs.SampleKeys.{sample_item, key_lists, same_key, item_of_key, has_values, kept_samples, summed_samples};
 
-use crate::distinct::are_distinct;
 use crate::sample_key::SampleKey;
 use crate::sums::add_row;
 use indexmap::IndexMap;
@@ -16,33 +15,31 @@ use pp_model::{Label, Sample};
 use std::alloc::Global;
 
 /// The samples with different locations or labels, each at the place of the first of its kind, with the values of all
-/// of its kind added up. Those whose values are all 0 are left out. Most profiles have each sample once. To ask that
-/// first, by their numbers, takes far less time than to look each sample up.
+/// of its kind added up. Those whose values are all 0 are left out.
 pub fn sum_samples(
     alloc: Global,
     columns: usize,
     samples: List<Sample>,
-    numbers: Vec<u64>,
 ) -> Result<List<Sample>, Memory>
-    requires numbers { numbers.items ≡ map sample_number samples }
     requires wide { All (λ s. length s.value ≡ columns) samples }
     requires fits { (column : ℕ) → column < columns
         → sum_by (λ s. nat_abs (value_in s column)) samples ≤ 2 ^ 63 - 1 }
     ensures { IfOk result (λ r. r ≡ summed_samples columns samples) }
 {
-    if are_distinct(numbers) {
-        return Ok(counting(samples));
-    }
     let sums = sum_each(alloc, columns, samples)?;
     kept_samples(alloc, sums)
 }
 
-// The samples of which some value isn't 0. It takes no memory.
-fn counting(samples: List<Sample>) -> List<Sample>
+/// The samples of which some value isn't 0. Where all are such, they are not gone through. It takes no memory.
+pub fn counting(samples: List<Sample>, have_values: bool) -> List<Sample>
+    requires { have_values ≡ list_all has_values samples }
     ensures { result ≡ filter has_values samples }
 {
+    if have_values {
+        return samples;
+    }
     let mut kept = samples.into_vec();
-    kept.retain(|sample| !is_zero(sample.value.as_slice()));
+    kept.retain(|sample| has_values(sample));
     List::from_vec(kept)
 }
 
@@ -118,6 +115,13 @@ fn push_counting(samples: &mut Vec<Sample>, key: SampleKey, value: List<i64>)
         value,
         label: List::from_vec(key.labels),
     });
+}
+
+/// Whether some value of the sample isn't 0.
+pub fn has_values(sample: &Sample) -> bool
+    ensures { result ≡ has_values sample.now }
+{
+    !is_zero(sample.value.as_slice())
 }
 
 // Whether all values are 0.

@@ -2,6 +2,8 @@
 ghost use Rattle.std.specs.Prelude.{◌≡◌, ◌<◌, ◌^◌, [], length, IfOk, OnOk};
 ghost use Rattle.std.specs.List.{flat_map};
 ghost use Rattle.pp_share.specs.Walked.{locations_met, with_placed_samples, first_id, mappings_met, with_mappings, functions_met, with_functions, with_texts, IsWalked};
+ghost use Rattle.pp_share.specs.Numbers.{with_new_samples};
+ghost use Rattle.pp_share.specs.Renumbered.{new_ids};
 ghost use Rattle.pp_share.specs.Walk.{met_after, IsPlaced, first_text_ids, sample_text_ids, table_text_ids, header_text_ids};
 
 use crate::gather::gather;
@@ -14,13 +16,14 @@ use pp_base::Memory;
 use pp_model::{Function, Location, Mapping, Profile, ValueType};
 use std::alloc::Global;
 
-/// The profile with what its samples name, in the order in which a walk over them meets it: mappings after the first
-/// one, locations, functions, and texts after text 0. Ids are places plus 1, and all else is left out.
-pub fn write(alloc: Global, mut p: Profile) -> Result<Profile, Memory>
-    ensures { IfOk result (λ r. IsWalked p r) }
+/// The profile, whose samples still get new ids, with what these name, in the order in which a walk over them meets it:
+/// mappings after the first one, locations, functions, and texts after text 0. Ids are places plus 1, and all else is
+/// left out.
+pub fn write(alloc: Global, mut p: Profile, samples: &Renumbering) -> Result<Profile, Memory>
+    ensures { IfOk result (λ r. IsWalked (with_new_samples (new_ids samples.now) p) r) }
 {
     let mut texts = first_texts(alloc, &p)?;
-    let location = Ids::Listed(keep_locations(alloc, &mut p, &mut texts)?);
+    let location = Ids::Listed(keep_locations(alloc, &mut p, samples, &mut texts)?);
     let mapping = Ids::Listed(keep_mappings(alloc, &mut p)?);
     let function = Ids::Listed(keep_functions(alloc, &mut p)?);
     keep_texts(alloc, &mut p, &mut texts)?;
@@ -44,14 +47,21 @@ fn first_texts(alloc: Global, p: &Profile) -> Result<Met, Memory>
     Ok(met)
 }
 
-// Keeps the locations of the samples, and gives their ids in order. The samples get their new ids.
-fn keep_locations(alloc: Global, p: &mut Profile, texts: &mut Met) -> Result<Met, Memory>
-    ensures met { IfOk result (λ met. met ≡ locations_met p.old) }
-    ensures texts { OnOk result (texts.new ≡ met_after texts.old (flat_map sample_text_ids p.old.sample)) }
-    ensures kept { OnOk result (IsPlaced with_placed_samples texts.new p.old p.new) }
+// Keeps the locations of the samples, which get their new ids, and gives the ids of what is kept in order.
+fn keep_locations(
+    alloc: Global,
+    p: &mut Profile,
+    by: &Renumbering,
+    texts: &mut Met,
+) -> Result<Met, Memory>
+    ensures met { IfOk result (λ met. met ≡ locations_met (with_new_samples (new_ids by.now) p.old)) }
+    ensures texts { OnOk result (texts.new ≡ met_after texts.old
+        (flat_map sample_text_ids (with_new_samples (new_ids by.now) p.old).sample)) }
+    ensures kept { OnOk result
+        (IsPlaced with_placed_samples texts.new (with_new_samples (new_ids by.now) p.old) p.new) }
 {
     let mut met = Met::new(alloc, p.location.len().saturating_add(1))?;
-    place_samples(&mut p.sample, &mut met, texts)?;
+    place_samples(&mut p.sample, by, &mut met, texts)?;
     p.location = gather(alloc, p.location.as_slice(), met.as_slice())?;
     Ok(met)
 }

@@ -6,4 +6,4 @@ use Rattle.pp_load.proofs.combine.combine.Goals as goal
 -- all profiles agree with the first
 pub join-requires-clause-agree : goal.join-requires-clause-agree
 unfolding Loads
-join-requires-clause-agree c = ap agreeing (sym c.as_slice.ensures) ∙ c.in_ok-compare.ensures
+join-requires-clause-agree g c = λ _ _. ap agreeing (sym c.as_slice.ensures) ∙ c.in_ok-compare.ensures

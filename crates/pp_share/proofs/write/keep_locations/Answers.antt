@@ -1,5 +1,8 @@
 use Rattle.std.proofs.Common.{◌≡◌, [], map, ap, ◌∙◌}
 use Rattle.std.specs.List.{flat_map}
+use Rattle.pp_model.specs.declared.profile.Profile.{Profile}
+use Rattle.pp_share.specs.Numbers.{with_new_samples}
+use Rattle.pp_share.specs.Renumbered.{new_ids}
 use Rattle.pp_share.specs.Walk.{met_after, location_refs}
 use Rattle.pp_share.specs.Walked.{placed_sample, locations_met}
 use Rattle.pp_share.specs.Gathered.{gathered, location_entry}
@@ -8,7 +11,7 @@ use Rattle.pp_share.proofs.write.keep_locations.Goals as goal
 -- no location is met later
 pub returns-clause-kept : goal.returns-clause-kept
 returns-clause-kept c = λ more.
-    let p = c.args.p.now in
+    let p : Profile = with_new_samples (new_ids c.args.by.now) c.args.p.now in
     let placed = c.in_ok-place_samples.ensures in
     let texts = met_after c.place_samples.new.texts more in
     let met : c.place_samples.new.locations ≡ locations_met p = placed.locations ∙ ap (λ m. met_after m (flat_map location_refs p.sample)) c.in_ok-met.ensures in

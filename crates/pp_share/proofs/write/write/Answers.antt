@@ -3,13 +3,15 @@ use Rattle.std.specs.List.{flat_map}
 use Rattle.std.proofs.lemmas.List.Sums.{fold-append}
 use Rattle.pp_share.specs.Walk.{met_with, met_after, first_text_ids, sample_text_ids, table_text_ids}
 use Rattle.pp_share.specs.Walked.{locations_met, with_locations, with_placed_samples, mappings_met, with_mappings, functions_met, with_functions, with_tables, with_texts, walked_texts_of, by_places}
-use Rattle.pp_share.specs.Renumbered.{renumbered_tables}
+use Rattle.pp_model.specs.declared.profile.Profile.{Profile}
+use Rattle.pp_share.specs.Numbers.{with_new_samples}
+use Rattle.pp_share.specs.Renumbered.{new_ids, renumbered_tables}
 use Rattle.pp_share.proofs.write.write.Goals as goal
 
 -- The texts of the tables are met behind those of the samples, whose places stay.
 pub returns : goal.returns
 returns c =
-    let p = c.args.p in
+    let p : Profile = with_new_samples (new_ids c.args.samples.now) c.args.p in
     let all = c.keep_texts.new.met in
     let samples = flat_map sample_text_ids p.sample in
     let tables = table_text_ids (with_tables p) in

@@ -1,5 +1,5 @@
 use Rattle.std.proofs.Common.{ℕ, ◌+◌, ◌<◌, get_or}
-use Rattle.pp_share.proofs.distinct.are_rising.Given as goal
+use Rattle.pp_share.proofs.numbers.are_rising.Given as goal
 
 -- the numbers so far rise
 abbrev pub invariant-loop-index : goal.invariant-loop-index

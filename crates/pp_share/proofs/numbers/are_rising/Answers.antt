@@ -2,7 +2,7 @@ use Rattle.std.proofs.Common.{Less, sym, arith}
 use Rattle.std.proofs.lemmas.Cmp.{nat_cmp_total}
 use Rattle.std.proofs.lemmas.Map.Keys.{sorted_from_all_adjacent}
 use Rattle.std.specs.Cmp.{nat_cmp_is}
-use Rattle.pp_share.proofs.distinct.are_rising.Goals as goal
+use Rattle.pp_share.proofs.numbers.are_rising.Goals as goal
 
 -- each is greater than the one before it
 pub returns : goal.returns

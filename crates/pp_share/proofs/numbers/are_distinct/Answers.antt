@@ -5,7 +5,7 @@ use Rattle.std.proofs.lemmas.Bool.{OnTrue_at, OnTrue_from}
 use Rattle.std.proofs.lemmas.Cmp.{nat_cmp_total, eq_by_cmp_equiv}
 use Rattle.std.proofs.lemmas.List.Sorted.{IsPermutation-sym}
 use Rattle.std.proofs.lemmas.Map.Keys.{IsDistinct-from_sorted, IsDistinct-IsPermutation}
-use Rattle.pp_share.proofs.distinct.are_distinct.Goals as goal
+use Rattle.pp_share.proofs.numbers.are_distinct.Goals as goal
 
 -- numbers that rise once they are sorted
 pub returns : goal.returns
