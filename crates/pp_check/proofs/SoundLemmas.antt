@@ -6,7 +6,7 @@ use Rattle.std.proofs.lemmas.List.Folds.{list_all-append}
 use Rattle.pp_model.specs.declared.profile.Sample.{Sample}
 use Rattle.pp_model.specs.declared.profile.Profile.{Profile}
 use Rattle.pp_model.specs.Rules.{label_has_texts, location_fault}
-use Rattle.pp_steal.specs.Pieces.{AreParts}
+use Rattle.pp_steal.specs.Pieces.{IsCutInto}
 use Rattle.pp_check.specs.declared.fault.Table.TheVariants.{Locations, Samples}
 use Rattle.pp_check.specs.declared.fault.TableFault.{TableFault}
 use Rattle.pp_check.specs.Finds.{rule_fault, first_fault_of}
@@ -17,7 +17,7 @@ use Rattle.pp_check.proofs.Order.{decided_after}
 use Rattle.pp_check.proofs.WholeLemmas.{none_fails, both, whole_samples}
 
 -- the flags of the parts say it of all samples
-pub flags_are : (test : Sample → Bool) (samples : List Sample) (flags : List Bool) → AreParts (λ part flag. flag ≡ list_all test part) samples flags
+pub flags_are : (test : Sample → Bool) (samples : List Sample) (flags : List Bool) → IsCutInto (λ part flag. flag ≡ list_all test part) samples flags
     → list_all (λ flag. flag) flags ≡ list_all test samples
 flags_are test samples [] none = sym (ap (list_all test) none)
 flags_are test samples (flag ∷ flags) parts =

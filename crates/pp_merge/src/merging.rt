@@ -43,11 +43,11 @@ pub fn merge_on<R: Threads + Sync, G: Gate>(
     workers: u32,
     gate: &G,
 ) -> Result<Compact, MergeRefusal>
-    requires behind { 0 < length list }
+    requires some { 0 < length list }
     requires few { length list < 2 ^ 32 }
     requires columns { AllByRecursion (λ p. length p.sample_type < 2 ^ 32) list }
     requires samples { sum_by (λ p. length p.sample) list < 2 ^ 32 }
-    requires some { 1 ≤ workers }
+    requires lanes { 1 ≤ workers }
     requires most { workers ≤ 64 }
     ensures { Merges list result }
 {

@@ -5,10 +5,10 @@ use Rattle.std.specs.Ordering.{nat_cmp, eq_by_cmp}
 use Rattle.std.proofs.lemmas.List.{map-append, map-id}
 use Rattle.std.proofs.lemmas.List.Folds.{list_all-append}
 use Rattle.std.proofs.lemmas.Simd.{map-map}
-use Rattle.pp_steal.specs.Pieces.{AreParts}
+use Rattle.pp_steal.specs.Pieces.{IsCutInto}
 use Rattle.pp_model.specs.declared.profile.Sample.{Sample}
 use Rattle.pp_share.specs.declared.numbers.Numbers.{Numbers}
-use Rattle.pp_share.specs.Numbers.{number_by, AreNumbers, AreJoined}
+use Rattle.pp_share.specs.Numbers.{number_by, AreNumbers, JoinsNumbers}
 use Rattle.pp_share.specs.Renumbered.{NewIds, new_ids, renumbered_sample, stays}
 use Rattle.pp_share.specs.SampleKeys.{sample_stack, sample_number, has_values, summed_samples}
 use Rattle.pp_share.specs.SampleStacks.{stack_number}
@@ -16,13 +16,13 @@ use Rattle.pp_share.proofs.Apart.{stacks_apart, counting_alone}
 use Rattle.pp_share.proofs.Lists.{all_mapped, filter_kept}
 
 -- the numbers of the parts are those of all samples
-pub all_numbers : (by : NewIds) (samples : List Sample) (parts : List Numbers) (all : Numbers) → AreParts (AreNumbers by) samples parts → AreJoined parts all → AreNumbers by samples all
+pub all_numbers : (by : NewIds) (samples : List Sample) (parts : List Numbers) (all : Numbers) → IsCutInto (AreNumbers by) samples parts → JoinsNumbers parts all → AreNumbers by samples all
 all_numbers by samples parts all are is = record {
   numbers = is.numbers ∙ (joined samples parts are).0;
   values = is.values ∙ (joined samples parts are).1;
 }
   where
-    joined : (samples : List Sample) (parts : List Numbers) → AreParts (AreNumbers by) samples parts
+    joined : (samples : List Sample) (parts : List Numbers) → IsCutInto (AreNumbers by) samples parts
         → (flat_map (λ (part : Numbers). part.numbers.items) parts ≡ map (number_by by) samples) × (list_all (λ (part : Numbers). part.have_values) parts ≡ list_all has_values samples)
     joined samples [] none = (sym (ap (map (number_by by)) none), sym (ap (list_all has_values) none))
     joined samples (part ∷ parts) are =

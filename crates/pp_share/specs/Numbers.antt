@@ -17,7 +17,7 @@ pub record AreNumbers (by : NewIds) (samples : List Sample) (n : Numbers) : Type
   pub values : n.have_values ≡ list_all has_values samples
 
 -- the numbers of all parts, one after another
-pub record AreJoined (parts : List Numbers) (all : Numbers) : Type 0 where
+pub record JoinsNumbers (parts : List Numbers) (all : Numbers) : Type 0 where
   pub numbers : all.numbers.items ≡ flat_map (λ part. part.numbers.items) parts
   pub values : all.have_values ≡ list_all (λ part. part.have_values) parts
 

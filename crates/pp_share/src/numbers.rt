@@ -6,7 +6,7 @@ ghost use Rattle.std.specs.List.Sorted.{IsStrictlySortedBy};
 ghost use Rattle.std.specs.Ordering.{nat_cmp, eq_by_cmp};
 ghost use Rattle.pp_steal.specs.declared.piece.TheConstants.{PIECE};
 ghost use Rattle.pp_share.specs.Renumbered.{new_ids};
-ghost use Rattle.pp_share.specs.Numbers.{AreNumbers, AreJoined};
+ghost use Rattle.pp_share.specs.Numbers.{AreNumbers, JoinsNumbers};
 
 use crate::renumbering::Renumbering;
 use crate::sample_key::number_by;
@@ -104,7 +104,7 @@ impl Job for Pieces<'_> {
 
 // The numbers of all parts as one list, of so many.
 fn join(alloc: Global, len: usize, parts: List<Numbers>) -> Result<Numbers, Memory>
-    ensures { IfOk result (AreJoined parts) }
+    ensures { IfOk result (JoinsNumbers parts) }
 {
     let have_values = all_have_values(parts.as_slice());
     let mut numbers = Vec::with_capacity(alloc, len)?;

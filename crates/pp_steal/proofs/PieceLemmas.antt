@@ -2,7 +2,7 @@
 use Rattle.std.proofs.Common.{◌≡◌, ℕ, suc, ◌-◌, ◌*◌, ◌<◌, ◌≤◌, min, map, List, [], ◌∷◌, length, take, drop, get_or, refl, sym, ap, subst, ◌∙◌, arith}
 use Rattle.std.proofs.lemmas.List.{drop-drop, drop-map, length-drop, take-append-drop, take-map, take_all, take_min}
 use Rattle.pp_steal.specs.declared.piece.TheConstants.{PIECE}
-use Rattle.pp_steal.specs.Pieces.{piece_of, AreParts}
+use Rattle.pp_steal.specs.Pieces.{piece_of, IsCutInto}
 use Rattle.pp_steal.specs.Running.{AreOutcomes}
 
 -- so many items from the piece's first on are the piece
@@ -29,7 +29,7 @@ piece_behind items k = ap (take PIECE) (drop-drop (PIECE * k) PIECE items) ∙ a
 
 module _ {A T : Type 0} (right : List A → T → Type 0) where
   parts_are : (items : List A) (parts : List T) → ((k : ℕ) (d : T) → k < length parts → right (piece_of items k) (get_or parts k d)) → length items ≤ PIECE * length parts
-      → AreParts right items parts
+      → IsCutInto right items parts
   parts_are [] [] each whole = refl
   parts_are (x ∷ items) [] each whole = absurd (omega arith)
   parts_are items (part ∷ parts) each whole = (
@@ -44,7 +44,7 @@ module _ {A T : Type 0} (right : List A → T → Type 0) where
 
   -- The outcomes of all pieces are right for the parts of the list.
   pub outcomes_are : (items : List A) (pieces : ℕ) (parts : List T) → AreOutcomes (λ piece. right (piece_of items piece)) pieces parts → length items ≤ PIECE * pieces
-      → AreParts right items parts
+      → IsCutInto right items parts
   outcomes_are items pieces parts all whole =
       let many = all.many in
       parts_are items parts (λ k d here. all.each k d (omega (arith, here, many))) (omega (arith, whole, many))

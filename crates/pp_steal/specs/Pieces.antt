@@ -7,8 +7,8 @@ abbrev pub piece_of : {A : Type 0} → List A → ℕ → List A
 piece_of items piece = take PIECE (drop (PIECE * piece) items)
 
 -- what is right for the parts into which the items are cut, one after another
-abbrev pub AreParts : {A T : Type 0} → (List A → T → Type 0) → List A → List T → Type 0
-AreParts right items [] = items ≡ []
-AreParts {A} right items (part ∷ parts) =
+abbrev pub IsCutInto : {A T : Type 0} → (List A → T → Type 0) → List A → List T → Type 0
+IsCutInto right items [] = items ≡ []
+IsCutInto {A} right items (part ∷ parts) =
     (front : List A) × (rest : List A) × (items ≡ front ++ rest)
-    × right front part × AreParts right rest parts
+    × right front part × IsCutInto right rest parts

@@ -20,7 +20,7 @@ use Rattle.pp_tables.proofs.Payloads.{both_none}
 use Rattle.pp_tables.proofs.Bounds.{all_few, payload_few}
 use Rattle.pp_tables.proofs.Extents.{all_mapped, extents_are}
 use Rattle.pp_wire.proofs.CallerLemmas.{total-fields}
-use Rattle.pp_steal.specs.Pieces.{AreParts}
+use Rattle.pp_steal.specs.Pieces.{IsCutInto}
 
 -- ---- samples of payloads
 
@@ -37,9 +37,9 @@ pub record AreJoined (payloads : List PayloadAt) (samples : List Sample) (parts 
   pub rest : List PayloadAt
   pub cut : payloads ≡ front ++ rest
   pub joined : ReadsSamples front [] samples
-  pub are : AreParts AreSamples rest parts
+  pub are : IsCutInto AreSamples rest parts
 
-pub none_joined : (payloads : List PayloadAt) (samples : List Sample) (parts : List (Option (List Sample))) → samples ≡ [] → AreParts AreSamples payloads parts → AreJoined payloads samples parts
+pub none_joined : (payloads : List PayloadAt) (samples : List Sample) (parts : List (Option (List Sample))) → samples ≡ [] → IsCutInto AreSamples payloads parts → AreJoined payloads samples parts
 none_joined payloads samples parts none are = record { front = []; rest = payloads; cut = refl; joined = record { sound = tt; added = none }; are = are }
 
 pub part_joined : (payloads : List PayloadAt) (before after more : List Sample) (parts : List (Option (List Sample))) → AreJoined payloads before (Some more ∷ parts) → after ≡ before ++ more → AreJoined payloads after parts

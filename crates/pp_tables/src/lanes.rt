@@ -4,7 +4,7 @@ ghost use Rattle.pp_model.specs.Sizes.{HasAtMost};
 ghost use Rattle.pp_tables.specs.Joined.{PayloadAt};
 ghost use Rattle.pp_tables.specs.Read.{Answers, read, read_message};
 ghost use Rattle.pp_tables.specs.Skim.{payload_of, IsSkimmed};
-ghost use Rattle.pp_steal.specs.Pieces.{AreParts};
+ghost use Rattle.pp_steal.specs.Pieces.{IsCutInto};
 ghost use Rattle.pp_tables.specs.Apart.{AreSamples, AnswersIfAny};
 
 use crate::ReadRefusal;
@@ -122,7 +122,7 @@ fn join(
     count: usize,
     parts: List<Option<List<Sample>>>,
 ) -> Result<Option<List<Sample>>, Memory>
-    ensures { (payloads : Seq PayloadAt) → AreParts AreSamples payloads parts → IfOk result (AreSamples payloads) }
+    ensures { (payloads : Seq PayloadAt) → IsCutInto AreSamples payloads parts → IfOk result (AreSamples payloads) }
 {
     let mut samples = with_room(alloc, count)?;
     for part in parts.into_vec() {
