@@ -1,11 +1,13 @@
 -- A joined profile of which each thing is kept once, step by step, says what it said, added up.
-use Rattle.std.proofs.Common.{◌≡◌, ◌<◌, [], length, map, sym, ap, subst, ◌∙◌}
-use Rattle.std.specs.List.{AllByRecursion, IsDistinct}
+use Rattle.std.proofs.Common.{◌≡◌, ℕ, ◌<◌, ◌≤◌, [], nat_abs, length, map, sum_by, sym, ap, subst, ◌∙◌}
+use Rattle.std.specs.List.{All, AllByRecursion, IsDistinct}
 use Rattle.std.specs.Str.{bytes_eq}
 use Rattle.std.specs.Cmp.{nat_eq_equiv}
 use Rattle.std.specs.Cmp.Lexicographic.{lists_equiv}
 use Rattle.std.proofs.lemmas.List.{length-map}
+use Rattle.pp_model.specs.declared.profile.Sample.{Sample}
 use Rattle.pp_model.specs.declared.profile.Profile.{Profile}
+use Rattle.pp_model.specs.Sizes.{value_in}
 use Rattle.pp_model.specs.FirstSight.{ids}
 use Rattle.pp_share.specs.Header.{header_of}
 use Rattle.pp_share.specs.Placed.{gist, plain, totalled, samples_placed, mappings_of}
@@ -30,6 +32,19 @@ use Rattle.pp_share.proofs.WalkedLemmas.{walked_is}
 
 pub same_columns : (p : Profile) → length (with_tables_once p).sample_type ≡ length p.sample_type
 same_columns p = length-map p.sample_type (renumbered_type (by_texts (ids bytes_eq p.text)))
+
+-- values stay as they are
+module _ (p q : Profile) (is : q ≡ record (with_tables_once p) { sample = p.sample }) where
+  pub still_wide : All (λ (s : Sample). length s.value ≡ length p.sample_type) p.sample → All (λ (s : Sample). length s.value ≡ length q.sample_type) q.sample
+  still_wide wide =
+      subst (λ (q : Profile). All (λ (s : Sample). length s.value ≡ length q.sample_type) q.sample) (sym is)
+      (subst (λ n. All (λ (s : Sample). length s.value ≡ n) p.sample) (sym (same_columns p)) wide)
+
+  pub still_fits : ((column : ℕ) → column < length p.sample_type → sum_by (λ (s : Sample). nat_abs (value_in s column)) p.sample ≤ 9223372036854775807)
+      → (column : ℕ) → column < length q.sample_type → sum_by (λ (s : Sample). nat_abs (value_in s column)) q.sample ≤ 9223372036854775807
+  still_fits fits =
+      subst (λ (q : Profile). (column : ℕ) → column < length q.sample_type → sum_by (λ (s : Sample). nat_abs (value_in s column)) q.sample ≤ 9223372036854775807) (sym is)
+      (subst (λ n. (column : ℕ) → column < n → sum_by (λ (s : Sample). nat_abs (value_in s column)) p.sample ≤ 9223372036854775807) (sym (same_columns p)) fits)
 
 module _ (p : Profile) (joined : IsJoined p) (few : length p.text < 4611686018427387904) where
   abbrev worded : Profile

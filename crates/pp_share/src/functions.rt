@@ -10,6 +10,7 @@ use crate::renumbering::Renumbering;
 use pp_base::Memory;
 use pp_model::{Function, Profile};
 use std::alloc::Global;
+use std::mem;
 
 /// What tells a function apart where texts stand once: three text indices, and the first line.
 #[derive(Clone, Copy, Debug, PartialEq, Eq, Hash)]
@@ -50,5 +51,6 @@ pub fn share_functions(alloc: Global, mut p: Profile) -> Result<Profile, Memory>
         location: Ids::Same,
     };
     change_each(&mut p.location, &by);
+    mem::drop(by);
     Ok(p)
 }

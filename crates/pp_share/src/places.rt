@@ -1,5 +1,5 @@
 //! Mappings and locations that stand once.
-ghost use Rattle.std.specs.Prelude.{◌≡◌, map, length, IfOk};
+ghost use Rattle.std.specs.Prelude.{◌≡◌, map, length, IfOk, OnOk};
 ghost use Rattle.pp_model.specs.FirstSight.{distinct, ids};
 ghost use Rattle.pp_share.specs.Shared.{with_shared_places, distant_locations};
 ghost use Rattle.pp_share.specs.Ids.{GivesIds};
@@ -60,13 +60,38 @@ pub fn share_places(alloc: Global, mut p: Profile) -> Result<(Profile, Ids), Mem
     ensures tables { IfOk result (λ r. r.0 ≡ record (with_shared_places p) { sample = p.sample }) }
     ensures ids { IfOk result (λ r. GivesIds (length p.location) r.1 (ids same_place (distant_locations p))) }
 {
+    let ids = keep_places(alloc, &mut p)?;
+    Ok((p, ids))
+}
+
+// Leaves each mapping and each location once, and gives what the ids of locations become.
+fn keep_places(alloc: Global, p: &mut Profile) -> Result<Ids, Memory>
+    ensures tables { OnOk result (p.new ≡ record (with_shared_places p.old) { sample = p.old.sample }) }
+    ensures ids { IfOk result (λ r. GivesIds (length p.old.location) r (ids same_place (distant_locations p.old))) }
+{
     let (mappings, mapping_ids) = keep_firsts(alloc, p.mapping.as_slice())?;
     let old = mem::replace(&mut p.mapping, mappings);
     let locations = mem::replace(&mut p.location, List::new(alloc));
-    let keys = location_keys(alloc, locations, old.as_slice(), &Ids::By(mapping_ids))?;
+    let keys = keys_by(alloc, locations, old.as_slice(), mapping_ids)?;
     let (locations, ids) = share_locations(alloc, keys, p.mapping.as_slice())?;
     p.location = locations;
-    Ok((p, ids_by(ids)))
+    Ok(ids_by(ids))
+}
+
+// The keys of the locations, whose mappings are these and get these ids.
+fn keys_by(
+    alloc: Global,
+    locations: List<Location>,
+    mappings: &[Mapping],
+    ids: List<u64>,
+) -> Result<Vec<LocationKey>, Memory>
+    ensures { IfOk result (λ keys. map place_of_key keys.items
+        ≡ map (distant mappings.now (Ids.By ids)) locations) }
+{
+    let by = Ids::By(ids);
+    let keys = location_keys(alloc, locations, mappings, &by);
+    mem::drop(by);
+    keys
 }
 
 // What ids become that get these. Where no location repeats, all stay: samples name many, so they are not gone through

@@ -1,10 +1,15 @@
 //! A profile with each thing once, in the order of a walk over its samples.
 ghost use Rattle.std.specs.Prelude.{◌≡◌, ℕ, ◌-◌, ◌^◌, ◌<◌, ◌≤◌, nat_abs, length, map, All, IfOk, OnOk};
-ghost use Rattle.std.specs.List.{AllByRecursion, sum_by};
+ghost use Rattle.std.specs.List.{AllByRecursion, filter, list_all, sum_by};
 ghost use Rattle.pp_model.specs.Sizes.{value_in};
 ghost use Rattle.pp_share.specs.Placed.{gist, totalled};
 ghost use Rattle.pp_share.specs.Renumbered.{new_ids, renumbered_sample, stays};
-ghost use Rattle.pp_share.specs.Numbers.{AreNumbers, with_new_samples, with_sums};
+ghost use Rattle.pp_model.specs.FirstSight.{ids};
+ghost use Rattle.pp_share.specs.Ids.{GivesIds};
+ghost use Rattle.pp_share.specs.Numbers.{AreNumbers, with_sums};
+ghost use Rattle.pp_share.specs.PlaceKeys.{same_place};
+ghost use Rattle.pp_share.specs.SampleKeys.{has_values};
+ghost use Rattle.pp_share.specs.Shared.{distant_locations, with_shared_functions, with_shared_places};
 ghost use Rattle.pp_share.specs.Walked.{IsWalked};
 ghost use Rattle.pp_share.specs.Written.{written};
 ghost use Rattle.pp_share.specs.Share.{NamesLocations, IsJoined, with_comments_once, with_tables_once};
@@ -34,9 +39,10 @@ pub fn share(alloc: Global, p: Profile) -> Result<Profile, Memory>
         → sum_by (λ s. nat_abs (value_in s column)) p.sample ≤ 2 ^ 63 - 1 }
     ensures { IfOk result (λ r. r ≡ written (totalled (length p.sample_type) (gist p))) }
 {
-    let shared = share_tables(alloc, p)?;
-    let numbers = number_samples(alloc, shared.profile.sample.as_slice(), &shared.by)?;
-    write_shared(alloc, shared, numbers)
+    let (profile, by) = share_tables(alloc, p)?;
+    let shared = share_samples(alloc, profile, &by);
+    mem::drop(by);
+    shared
 }
 
 /// The same, with the samples numbered in pieces of 1,024 on so many lanes, from 1 to 64. The profile does not tell how
@@ -56,55 +62,136 @@ pub fn share_on<R: Threads + Sync, G: Gate>(
     requires most { workers ≤ 64 }
     ensures { IfOk result (λ r. r ≡ written (totalled (length p.sample_type) (gist p))) }
 {
-    let shared = share_tables(alloc, p)?;
-    let samples = shared.profile.sample.as_slice();
-    let numbers = number_samples_on(rt, alloc, samples, &shared.by, workers, gate)?;
-    write_shared(alloc, shared, numbers)
+    let (profile, by) = share_tables(alloc, p)?;
+    let shared = share_samples_on(rt, alloc, profile, &by, workers, gate);
+    mem::drop(by);
+    shared
 }
 
-// A profile with each entry of its tables once. Its samples are as they were: they are many, so they get new texts and
-// new locations at once.
-#[derive(Drop)]
-struct Shared {
-    profile: Profile,
-    // What the references of its samples become.
-    by: Renumbering,
-    ghost wide: { All (λ s. length s.value ≡ length profile.sample_type) profile.sample },
-    ghost fits: { (column : ℕ) → column < length profile.sample_type
-        → sum_by (λ s. nat_abs (value_in s column)) profile.sample ≤ 2 ^ 63 - 1 },
-}
-
-// The profile with each entry of its tables once.
-fn share_tables(alloc: Global, p: Profile) -> Result<Shared, Memory>
+// The profile with each entry of its tables once, and what the references of its samples become. The samples stay: they
+// are many, so they get new texts and new locations at once.
+fn share_tables(alloc: Global, p: Profile) -> Result<(Profile, Renumbering), Memory>
     requires names { AllByRecursion (NamesLocations (length p.location)) p.sample }
-    requires wide { All (λ s. length s.value ≡ length p.sample_type) p.sample }
-    requires fits { (column : ℕ) → column < length p.sample_type
-        → sum_by (λ s. nat_abs (value_in s column)) p.sample ≤ 2 ^ 63 - 1 }
-    ensures tables { IfOk result (λ r. r.profile ≡ record (with_tables_once p) { sample = p.sample }) }
+    ensures tables { IfOk result (λ r. r.0 ≡ record (with_tables_once p) { sample = p.sample }) }
     ensures samples { IfOk result (λ r.
-        map (renumbered_sample (new_ids r.by)) p.sample ≡ (with_tables_once p).sample) }
+        map (renumbered_sample (new_ids r.1)) p.sample ≡ (with_tables_once p).sample) }
     ensures few { OnOk result (length p.text < 2 ^ 62) }
 {
     let (worded, text) = share_texts(alloc, p)?;
-    let noted = share_comments(alloc, worded)?;
-    let called = share_functions(alloc, noted)?;
-    let (profile, location) = share_places(alloc, called)?;
+    let (profile, location) = share_entries(alloc, worded)?;
     let by = Renumbering {
         text,
         mapping: Ids::Same,
         function: Ids::Same,
         location,
     };
-    Ok(Shared { profile, by })
+    Ok((profile, by))
 }
 
-// The profile with each sample once, in the order of a walk over them.
-fn write_shared(alloc: Global, shared: Shared, numbers: Numbers) -> Result<Profile, Memory>
-    requires { AreNumbers (new_ids shared.by) shared.profile.sample numbers }
-    ensures { IfOk result (IsWalked (with_sums (new_ids shared.by) shared.profile)) }
+// The profile, whose texts stand once, with each comment, function, mapping and location once, and what the ids of
+// locations become.
+fn share_entries(alloc: Global, p: Profile) -> Result<(Profile, Ids), Memory>
+    ensures tables { IfOk result (λ r.
+        r.0 ≡ record (with_shared_places (with_shared_functions (with_comments_once p))) { sample = p.sample }) }
+    ensures ids { IfOk result (λ r. GivesIds (length p.location) r.1
+        (ids same_place (distant_locations (with_shared_functions (with_comments_once p))))) }
 {
-    let (summed, left) = share_samples(alloc, shared, numbers)?;
-    write(alloc, summed, &left)
+    let noted = share_comments(alloc, p)?;
+    let called = share_functions(alloc, noted)?;
+    share_places(alloc, called)
+}
+
+// The profile, whose tables stand once, with each sample once, in the order of a walk over them.
+fn share_samples(alloc: Global, p: Profile, by: &Renumbering) -> Result<Profile, Memory>
+    requires wide { All (λ s. length s.value ≡ length p.sample_type) p.sample }
+    requires fits { (column : ℕ) → column < length p.sample_type
+        → sum_by (λ s. nat_abs (value_in s column)) p.sample ≤ 2 ^ 63 - 1 }
+    ensures { IfOk result (IsWalked (with_sums (new_ids by.now) p)) }
+{
+    let numbers = number_samples(alloc, p.sample.as_slice(), by)?;
+    write_shared(alloc, p, by, numbers)
+}
+
+// The same, with the samples numbered on so many lanes.
+fn share_samples_on<R: Threads + Sync, G: Gate>(
+    rt: &R,
+    alloc: Global,
+    p: Profile,
+    by: &Renumbering,
+    workers: u32,
+    gate: &G,
+) -> Result<Profile, Memory>
+    requires wide { All (λ s. length s.value ≡ length p.sample_type) p.sample }
+    requires fits { (column : ℕ) → column < length p.sample_type
+        → sum_by (λ s. nat_abs (value_in s column)) p.sample ≤ 2 ^ 63 - 1 }
+    requires some { 1 ≤ workers }
+    requires most { workers ≤ 64 }
+    ensures { IfOk result (IsWalked (with_sums (new_ids by.now) p)) }
+{
+    let numbers = number_samples_on(rt, alloc, p.sample.as_slice(), by, workers, gate)?;
+    write_shared(alloc, p, by, numbers)
+}
+
+// The same, where the samples are numbered. Most profiles have each sample once. To ask that first, by their numbers,
+// takes far less time than to look each sample up, and the samples then get their new ids where they are gone through
+// next.
+fn write_shared(
+    alloc: Global,
+    mut p: Profile,
+    by: &Renumbering,
+    numbers: Numbers,
+) -> Result<Profile, Memory>
+    requires wide { All (λ s. length s.value ≡ length p.sample_type) p.sample }
+    requires fits { (column : ℕ) → column < length p.sample_type
+        → sum_by (λ s. nat_abs (value_in s column)) p.sample ≤ 2 ^ 63 - 1 }
+    requires numbers { AreNumbers (new_ids by.now) p.sample numbers }
+    ensures { IfOk result (IsWalked (with_sums (new_ids by.now) p)) }
+{
+    let Numbers {
+        numbers,
+        have_values,
+    } = numbers;
+    if !are_distinct(numbers) {
+        return write_summed(alloc, p, by);
+    }
+    keep_counting(alloc, &mut p, have_values);
+    write(alloc, p, by)
+}
+
+// Leaves out the samples without any value. Where all have values, they are not gone through.
+fn keep_counting(alloc: Global, p: &mut Profile, have_values: bool)
+    requires { have_values ≡ list_all has_values p.old.sample }
+    ensures { p.new ≡ record p.old { sample = filter has_values p.old.sample } }
+{
+    let samples = mem::replace(&mut p.sample, List::new(alloc));
+    p.sample = counting(samples, have_values);
+}
+
+// The profile, whose tables stand once, with its samples added up, in the order of a walk over them.
+fn write_summed(alloc: Global, mut p: Profile, by: &Renumbering) -> Result<Profile, Memory>
+    requires wide { All (λ s. length s.value ≡ length p.sample_type) p.sample }
+    requires fits { (column : ℕ) → column < length p.sample_type
+        → sum_by (λ s. nat_abs (value_in s column)) p.sample ≤ 2 ^ 63 - 1 }
+    ensures { IfOk result (IsWalked (with_sums (new_ids by.now) p)) }
+{
+    sum_equal(alloc, &mut p, by)?;
+    let stays = stays();
+    let summed = write(alloc, p, &stays);
+    mem::drop(stays);
+    summed
+}
+
+// Gives the samples their new ids, and adds up those that are equal then.
+fn sum_equal(alloc: Global, p: &mut Profile, by: &Renumbering) -> Result<(), Memory>
+    requires wide { All (λ s. length s.value ≡ length p.old.sample_type) p.old.sample }
+    requires fits { (column : ℕ) → column < length p.old.sample_type
+        → sum_by (λ s. nat_abs (value_in s column)) p.old.sample ≤ 2 ^ 63 - 1 }
+    ensures { OnOk result (p.new ≡ with_sums (new_ids by.now) p.old) }
+{
+    let mut samples = mem::replace(&mut p.sample, List::new(alloc));
+    change_each(&mut samples, by);
+    p.sample = sum_samples(alloc, p.sample_type.len(), samples)?;
+    Ok(())
 }
 
 // The profile, whose texts stand once, with each comment once.
@@ -115,32 +202,6 @@ fn share_comments(alloc: Global, mut p: Profile) -> Result<Profile, Memory>
     let (kept, _) = number_each(alloc, comments.into_vec())?;
     p.comment = List::from_vec(kept);
     Ok(p)
-}
-
-// Adds up the samples that are equal once they have their new ids, and tells which of these are still to be given. Most
-// profiles have each sample once. To ask that first, by their numbers, takes far less time than to look each sample up,
-// and the samples then get their new ids where they are gone through next.
-fn share_samples(
-    alloc: Global,
-    shared: Shared,
-    numbers: Numbers,
-) -> Result<(Profile, Renumbering), Memory>
-    requires { AreNumbers (new_ids shared.by) shared.profile.sample numbers }
-    ensures { IfOk result (λ r. with_new_samples (new_ids r.1) r.0 ≡ with_sums (new_ids shared.by) shared.profile) }
-{
-    let Shared { mut profile, by } = shared;
-    let mut samples = mem::replace(&mut profile.sample, List::new(alloc));
-    let Numbers {
-        numbers,
-        have_values,
-    } = numbers;
-    if are_distinct(numbers) {
-        profile.sample = counting(samples, have_values);
-        return Ok((profile, by));
-    }
-    change_each(&mut samples, &by);
-    profile.sample = sum_samples(alloc, profile.sample_type.len(), samples)?;
-    Ok((profile, stays()))
 }
 
 // All ids stay.

@@ -24,14 +24,16 @@ pub fn share_texts(alloc: Global, mut p: Profile) -> Result<(Profile, Ids), Memo
     let texts = mem::replace(&mut p.text, List::new(alloc));
     let (texts, ids) = number_texts(alloc, texts)?;
     p.text = texts;
-    let by = Renumbering {
+    let mut by = Renumbering {
         text: Ids::By(ids),
         mapping: Ids::Same,
         function: Ids::Same,
         location: Ids::Same,
     };
     renumber_tables(&mut p, &by);
-    Ok((p, by.text))
+    let text = mem::replace(&mut by.text, Ids::Same);
+    mem::drop(by);
+    Ok((p, text))
 }
 
 // The texts without repeats, and the id of each: its place among them plus 1.

@@ -3,7 +3,7 @@ ghost use Rattle.std.specs.Prelude.{◌≡◌, ◌<◌, ◌^◌, [], length, IfO
 ghost use Rattle.std.specs.List.{flat_map};
 ghost use Rattle.pp_share.specs.Walked.{locations_met, with_placed_samples, first_id, mappings_met, with_mappings, functions_met, with_functions, with_texts, IsWalked};
 ghost use Rattle.pp_share.specs.Numbers.{with_new_samples};
-ghost use Rattle.pp_share.specs.Renumbered.{new_ids};
+ghost use Rattle.pp_share.specs.Renumbered.{new_ids, renumbered_tables};
 ghost use Rattle.pp_share.specs.Walk.{met_after, IsPlaced, first_text_ids, sample_text_ids, table_text_ids, header_text_ids};
 
 use crate::gather::gather;
@@ -15,6 +15,7 @@ use crate::walk::{Functions, Mappings, Refers, Texts, meet_each};
 use pp_base::Memory;
 use pp_model::{Function, Location, Mapping, Profile, ValueType};
 use std::alloc::Global;
+use std::mem;
 
 /// The profile, whose samples still get new ids, with what these name, in the order in which a walk over them meets it:
 /// mappings after the first one, locations, functions, and texts after text 0. Ids are places plus 1, and all else is
@@ -22,19 +23,41 @@ use std::alloc::Global;
 pub fn write(alloc: Global, mut p: Profile, samples: &Renumbering) -> Result<Profile, Memory>
     ensures { IfOk result (λ r. IsWalked (with_new_samples (new_ids samples.now) p) r) }
 {
-    let mut texts = first_texts(alloc, &p)?;
-    let location = Ids::Listed(keep_locations(alloc, &mut p, samples, &mut texts)?);
-    let mapping = Ids::Listed(keep_mappings(alloc, &mut p)?);
-    let function = Ids::Listed(keep_functions(alloc, &mut p)?);
-    keep_texts(alloc, &mut p, &mut texts)?;
-    let by = Renumbering {
-        text: Ids::Listed(texts),
-        mapping,
-        function,
-        location,
-    };
+    let by = keep_named(alloc, &mut p, samples)?;
     renumber_tables(&mut p, &by);
+    mem::drop(by);
     Ok(p)
+}
+
+// Keeps what the samples name, and gives what the references of all tables become.
+fn keep_named(alloc: Global, p: &mut Profile, samples: &Renumbering) -> Result<Renumbering, Memory>
+    ensures { IfOk result (λ by.
+        IsWalked (with_new_samples (new_ids samples.now) p.old) (renumbered_tables (new_ids by) p.new)) }
+{
+    let mut texts = first_texts(alloc, p)?;
+    let locations = keep_locations(alloc, p, samples, &mut texts)?;
+    let (mappings, functions) = keep_entries(alloc, p, &mut texts)?;
+    Ok(Renumbering {
+        text: Ids::Listed(texts),
+        mapping: Ids::Listed(mappings),
+        function: Ids::Listed(functions),
+        location: Ids::Listed(locations),
+    })
+}
+
+// Keeps the mappings and the functions of the locations, and the texts of all, and gives the ids of the former in order.
+fn keep_entries(alloc: Global, p: &mut Profile, texts: &mut Met) -> Result<(Met, Met), Memory>
+    ensures mappings { IfOk result (λ met. met.0 ≡ mappings_met p.old) }
+    ensures functions { IfOk result (λ met. met.1 ≡ functions_met (with_mappings p.old)) }
+    ensures met { OnOk result (texts.new
+        ≡ met_after texts.old (table_text_ids (with_functions (with_mappings p.old)))) }
+    ensures few { OnOk result (length texts.new < 2 ^ 62) }
+    ensures kept { OnOk result (p.new ≡ with_texts texts.new (with_functions (with_mappings p.old))) }
+{
+    let mappings = keep_mappings(alloc, p)?;
+    let functions = keep_functions(alloc, p)?;
+    keep_texts(alloc, p, texts)?;
+    Ok((mappings, functions))
 }
 
 // Meets the texts that are numbered before those of samples.

@@ -16,4 +16,4 @@ returns-clause-tables c =
     c.renumber_tables.ensures ∙ (λ i. renumbered_tables (by_texts (given i)) (record p { text = table i }))
 
 pub returns-clause-ids : goal.returns-clause-ids
-returns-clause-ids c = ap By (c.in_ok-texts.ensures.ids ∙ ap (ids bytes_eq) c.replace-texts.ensures.value)
+returns-clause-ids c = c.replace-text.ensures.value ∙ ap By (c.in_ok-texts.ensures.ids ∙ ap (ids bytes_eq) c.replace-texts.ensures.value)

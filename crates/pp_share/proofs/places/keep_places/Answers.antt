@@ -8,11 +8,11 @@ use Rattle.pp_share.specs.PlaceKeys.{distant, near, same_place, place_of_key}
 use Rattle.pp_share.specs.Shared.{alike_mappings, distant_locations, with_shared_places}
 use Rattle.pp_share.proofs.Once.{length-ids}
 use Rattle.pp_share.proofs.SharedPlaces.{place_self}
-use Rattle.pp_share.proofs.places.share_places.Goals as goal
+use Rattle.pp_share.proofs.places.keep_places.Goals as goal
 
 pub returns-clause-tables : goal.returns-clause-tables
 returns-clause-tables c =
-    let p = c.args.p in
+    let p = c.args.p.now in
     let items = c.as_slice.ensures in
     let table : c.replace-old.new.dest ≡ distinct alike_mappings p.mapping =
     c.replace-old.ensures.after ∙ c.in_ok-mappings.ensures.kept ∙ ap (distinct alike_mappings) items in
@@ -28,7 +28,7 @@ returns-clause-tables c =
 
 pub returns-clause-ids : goal.returns-clause-ids
 returns-clause-ids c = λ id some within.
-    let p = c.args.p in
+    let p = c.args.p.now in
     let keys : map place_of_key c.in_ok-keys.keys.items ≡ distant_locations p =
     c.in_ok-keys.ensures
     ∙ (λ i. map (distant ((c.as_slice-2.ensures ∙ c.replace-old.ensures.value) i) (By ((c.in_ok-mappings.ensures.ids ∙ ap (ids alike_mappings) c.as_slice.ensures) i))) (c.replace-locations.ensures.value i)) in
