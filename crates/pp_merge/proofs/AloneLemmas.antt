@@ -15,7 +15,7 @@ none_past place size same =
     ap (λ (b : Bool). cond b (Some place) None) (false_from_ne_true (nat_lt place size) (λ less. absurd (omega (arith, ltb-true place size less, same))))
 
 -- a test that fails for each number finds none
-none_found : (test : ℕ → Bool) (n : ℕ) → ((k : ℕ) → k < n → test k ≡ false) → position test (range_with_len 0 n) ≡ None
+pub none_found : (test : ℕ → Bool) (n : ℕ) → ((k : ℕ) → k < n → test k ≡ false) → position test (range_with_len 0 n) ≡ None
 none_found test n fails =
     let numbers = range_with_len 0 n in
     let size : length numbers ≡ n = length-range_with_len 0 n in

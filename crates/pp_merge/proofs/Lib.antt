@@ -21,3 +21,4 @@ pub mod SmallLemmas
 pub mod KeptSums
 pub mod WrittenPlaces
 pub mod AloneLemmas
+pub mod TogetherLemmas

@@ -65,11 +65,10 @@ with_header_of a b =
       doc_url = first_text a a.doc_url b.doc_url;
     }
 
--- The tables of both, the first one's types and patterns, and what the header of both says. The
--- duration stays the first one's.
-abbrev pub chained : Profile → Profile → Profile
-chained a b =
-    record (with_header_of a b) {
+-- the first profile, with the tables of both
+abbrev pub with_tables_of : Profile → Profile → Profile
+with_tables_of a b =
+    record a {
       sample = a.sample ++ b.sample;
       mapping = a.mapping ++ b.mapping;
       location = a.location ++ b.location;
@@ -77,6 +76,11 @@ chained a b =
       text = a.text ++ b.text;
       comment = a.comment ++ b.comment;
     }
+
+-- The tables of both, the first one's types and patterns, and what the header of both says. The
+-- duration stays the first one's.
+abbrev pub chained : Profile → Profile → Profile
+chained a b = with_tables_of (with_header_of a b) b
 
 -- the profiles behind the first ones, which are joined
 abbrev pub join_from : Profile → List Profile → Profile

@@ -4,4 +4,5 @@ pub mod Settled
 pub mod Joined
 pub mod Merging
 pub mod Totals
+pub mod Together
 pub mod Lengths

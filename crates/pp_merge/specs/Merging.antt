@@ -1,5 +1,5 @@
 -- The stages of merging the profile p and the profiles ps behind it.
-use Rattle.std.specs.Prelude.{◌≡◌, ◌<◌, ◌^◌, ℤ, List, ◌∷◌, length, Some, None, Result, Ok, Err}
+use Rattle.std.specs.Prelude.{◌≡◌, ◌<◌, ◌^◌, ℤ, List, ◌∷◌, length, Some, None, Result, Ok, Err, ⊤}
 use Rattle.std.specs.List.{AllByRecursion}
 use Rattle.pp_model.specs.declared.profile.Profile.{Profile}
 use Rattle.pp_model.specs.Rules.{NoRuleFails}
@@ -24,6 +24,11 @@ Admits p ps (Err (Incompatible source what)) = disagreeing p 1 ps ≡ Some (sour
 Admits p ps (Err (TotalTooLarge column)) =
     (disagreeing p 1 ps ≡ None) × (too_large (length p.sample_type) (p ∷ ps) ≡ Some column)
 Admits p ps (Err Memory) = ⊥
+
+-- The same where that may want memory.
+abbrev pub AdmitsOrStops : Profile → List Profile → Result ℤ MergeRefusal → Type 0
+AdmitsOrStops p ps (Err Memory) = ⊤
+AdmitsOrStops p ps result = Admits p ps result
 
 -- The profiles one behind the other, with the duration of all.
 abbrev pub whole_of : Profile → List Profile → Profile

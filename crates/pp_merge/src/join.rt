@@ -1,18 +1,19 @@
 //! Profiles one behind the other, as one.
-ghost use Rattle.std.specs.Prelude.{◌≡◌, ℕ, ◌+◌, ◌<◌, ◌^◌, None, length, IfOk};
+ghost use Rattle.std.specs.Prelude.{◌≡◌, ℕ, ◌+◌, ◌<◌, ◌^◌, ◌++◌, None, length, IfOk, OnOk};
 ghost use Rattle.std.specs.Bool.{OnTrue};
 ghost use Rattle.std.specs.List.{AllByRecursion};
 ghost use Rattle.pp_model.specs.Rules.{NoRuleFails, first_repeated, mapping_ids, function_ids, location_ids};
 ghost use Rattle.pp_share.specs.Behind.{behind_id};
-ghost use Rattle.pp_share.specs.Ids.{place_id, new_id};
+ghost use Rattle.pp_share.specs.Ids.{known_id, place_id};
 ghost use Rattle.pp_share.specs.Renumbered.{new_ids};
-ghost use Rattle.pp_merge.specs.Joined.{behind_ids, moved_behind, chained, with_header_of, first_text, no_sizes, sizes_of, joined, AreFew, IsInPlace};
+ghost use Rattle.pp_merge.specs.Joined.{behind_ids, moved_behind, chained, with_header_of, with_tables_of, first_text, no_sizes, sizes_of, joined, AreFew, IsInPlace};
 ghost use Rattle.pp_share.specs.Header.{greater, earlier};
 
-use pp_base::Memory;
+use pp_base::{List, Memory};
 use pp_model::{Profile, Valid, text_of};
 use pp_share::{Behind, Ids, Known, Renumbering, are_numbered, known_ids, renumber};
 use std::alloc::Global;
+use std::mem;
 
 /// The profiles as one, each behind those before it: their tables and comments one after the other, and the header by
 /// the rules of merging, but for the duration, which stays the first one's. References are by place.
@@ -71,7 +72,7 @@ fn joined_behind(alloc: Global, joined: Profile, p: Profile) -> Result<Profile, 
 {
     let sizes = sizes_of(&joined);
     let moved = moved_behind(alloc, &sizes, p)?;
-    let both = chain(joined, moved)?;
+    let both = chain(alloc, joined, moved)?;
     Ok(both)
 }
 
@@ -114,9 +115,20 @@ fn moved_behind(alloc: Global, after: &Sizes, mut p: Profile) -> Result<Profile,
     requires few { AreFew after.now }
     ensures { IfOk result (λ r. r ≡ moved_behind after.now p) }
 {
-    let by = behind(alloc, after, &p)?;
-    renumber(&mut p, &by);
+    move_behind(alloc, after, &mut p)?;
     Ok(p)
+}
+
+// Gives the profile's references their places behind tables of these sizes.
+fn move_behind(alloc: Global, after: &Sizes, p: &mut Profile) -> Result<(), Memory>
+    requires valid { NoRuleFails p.old }
+    requires few { AreFew after.now }
+    ensures { OnOk result (p.new ≡ moved_behind after.now p.old) }
+{
+    let by = behind(alloc, after, p)?;
+    renumber(p, &by);
+    mem::drop(by);
+    Ok(())
 }
 
 // What the profile's references become.
@@ -126,29 +138,27 @@ fn behind(alloc: Global, after: &Sizes, p: &Profile) -> Result<Renumbering, Memo
     ensures { IfOk result (λ by. new_ids by ≡ behind_ids after.now p.now) }
 {
     let texts = Behind::new(after.text, p.text.as_slice().len());
-    let mappings = mapping_ids(alloc, p)?;
-    let mapping = ids_behind(alloc, after.mapping, mappings.as_slice())?;
-    let functions = function_ids(alloc, p)?;
-    let function = ids_behind(alloc, after.function, functions.as_slice())?;
-    let locations = location_ids(alloc, p)?;
-    let location = ids_behind(alloc, after.location, locations.as_slice())?;
+    let mappings = Behind::new(after.mapping, p.mapping.as_slice().len());
+    let functions = Behind::new(after.function, p.function.as_slice().len());
+    let locations = Behind::new(after.location, p.location.as_slice().len());
+    let mapping = known_once(alloc, mapping_ids(alloc, p)?)?;
+    let function = known_once(alloc, function_ids(alloc, p)?)?;
+    let location = known_once(alloc, location_ids(alloc, p)?)?;
     Ok(Renumbering {
         text: Ids::Moved(Known::InOrder, texts),
-        mapping,
-        function,
-        location,
+        mapping: Ids::Moved(mapping, mappings),
+        function: Ids::Moved(function, functions),
+        location: Ids::Moved(location, locations),
     })
 }
 
-// What ids become where their table goes behind others.
-fn ids_behind(alloc: Global, after: usize, ids: &[u64]) -> Result<Ids, Memory>
-    requires apart { first_repeated ids.now ≡ None }
-    requires few { after < 2 ^ 60 }
-    ensures { IfOk result (λ r. (id : ℕ) → new_id r id ≡ behind_id after (length ids.now) (place_id ids.now id)) }
+// How the entries of a table with these ids are found.
+fn known_once(alloc: Global, ids: Vec<u64>) -> Result<Known, Memory>
+    requires { first_repeated ids.items ≡ None }
+    ensures { IfOk result (λ known. (after : ℕ) → (id : ℕ) → behind_id after (length ids.items) (known_id known id)
+        ≡ behind_id after (length ids.items) (place_id ids.items id)) }
 {
-    let known = known_ids(alloc, ids)?;
-    let behind = Behind::new(after, ids.len());
-    Ok(Ids::Moved(known, behind))
+    known_ids(alloc, ids.as_slice())
 }
 
 fn mapping_ids(alloc: Global, p: &Profile) -> Result<Vec<u64>, Memory>
@@ -173,17 +183,35 @@ fn location_ids(alloc: Global, p: &Profile) -> Result<Vec<u64>, Memory>
 }
 
 // The tables of both, and the header of both.
-fn chain(mut joined: Profile, p: Profile) -> Result<Profile, Memory>
+fn chain(alloc: Global, mut joined: Profile, mut p: Profile) -> Result<Profile, Memory>
     ensures { IfOk result (λ r. r ≡ chained joined p) }
 {
     chain_header(&mut joined, &p);
-    joined.sample.append(p.sample)?;
-    joined.mapping.append(p.mapping)?;
-    joined.location.append(p.location)?;
-    joined.function.append(p.function)?;
-    joined.text.append(p.text)?;
-    joined.comment.append(p.comment)?;
+    chain_tables(alloc, &mut joined, &mut p)?;
     Ok(joined)
+}
+
+// Moves the other profile's tables behind those of the first.
+fn chain_tables(alloc: Global, joined: &mut Profile, p: &mut Profile) -> Result<(), Memory>
+    ensures { OnOk result (joined.new ≡ with_tables_of joined.old p.old) }
+{
+    chain_list(alloc, &mut joined.sample, &mut p.sample)?;
+    chain_list(alloc, &mut joined.mapping, &mut p.mapping)?;
+    chain_list(alloc, &mut joined.location, &mut p.location)?;
+    chain_list(alloc, &mut joined.function, &mut p.function)?;
+    chain_list(alloc, &mut joined.text, &mut p.text)?;
+    chain_list(alloc, &mut joined.comment, &mut p.comment)
+}
+
+// Moves the other items to the end.
+fn chain_list<T: Drop>(
+    alloc: Global,
+    items: &mut List<T>,
+    others: &mut List<T>,
+) -> Result<(), Memory>
+    ensures { OnOk result (items.new ≡ items.old ++ others.old) }
+{
+    items.append(mem::replace(others, List::new(alloc)))
 }
 
 // The header of both.

@@ -11,6 +11,7 @@ mod normalizing;
 mod refusal;
 mod scaling;
 mod subtracting;
+mod together;
 mod totals;
 
 pub use alone::merge_alone;

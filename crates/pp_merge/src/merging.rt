@@ -1,13 +1,16 @@
 //! Several profiles become one.
-ghost use Rattle.std.specs.Prelude.{◌≡◌, ◌+◌, ◌<◌, ◌≤◌, ◌^◌, ◌∷◌, length, IfOk};
+ghost use Rattle.std.specs.Prelude.{◌≡◌, ◌+◌, ◌-◌, ◌<◌, ◌≤◌, ◌^◌, ◌∷◌, length, IfOk, IfSome};
+ghost use Rattle.std.specs.Bool.{OnTrue};
 ghost use Rattle.std.specs.List.{AllByRecursion, sum_by};
-ghost use Rattle.pp_merge.specs.Merge.{Merges, merged};
-ghost use Rattle.pp_merge.specs.Merging.{Admits, CanMerge, IsWhole};
+ghost use Rattle.pp_merge.specs.Merge.{Merges, merged, too_large};
+ghost use Rattle.pp_merge.specs.Merging.{Admits, AdmitsOrStops, CanMerge, IsWhole};
+ghost use Rattle.pp_merge.specs.Together.{sum_of_all};
 
 use crate::compatible::first_disagreeing;
 use crate::durations::total_duration;
 use crate::join::{join, set};
 use crate::refusal::MergeRefusal;
+use crate::together::are_small_together;
 use crate::totals::too_large_column;
 use pp_base::{Gate, List, Memory};
 use pp_model::{Compact, Profile, Valid};
@@ -29,7 +32,7 @@ pub fn merge(alloc: Global, list: List<Valid>) -> Result<Compact, MergeRefusal>
     ensures { Merges list result }
 {
     let (first, others) = split(list);
-    let duration = admit(&first, others.as_slice())?;
+    let duration = admit(&first, others.as_slice(), false)?;
     let merged = merge_admitted(alloc, first, others, duration)?;
     Ok(merged)
 }
@@ -52,7 +55,7 @@ pub fn merge_on<R: Threads + Sync, G: Gate>(
     ensures { Merges list result }
 {
     let (first, others) = split(list);
-    let duration = admit(&first, others.as_slice())?;
+    let duration = admit_on(rt, alloc, &first, others.as_slice(), workers, gate)?;
     let whole = join_whole(alloc, first, others, duration)?;
     let merged = share_on(rt, alloc, whole, workers, gate)?;
     Ok(Compact::claim(Valid::claim(merged)))
@@ -68,22 +71,54 @@ fn split(list: List<Valid>) -> (Valid, Vec<Valid>)
     (first, others)
 }
 
-// The duration of profiles that can be merged. No memory is needed to find out whether they can.
-fn admit(first: &Valid, others: &[Valid]) -> Result<i64, MergeRefusal>
+// The same as `admit` answers. Most profiles' values are small together, which workers find out.
+fn admit_on<R: Threads + Sync, G: Gate>(
+    rt: &R,
+    alloc: Global,
+    first: &Valid,
+    others: &[Valid],
+    workers: u32,
+    gate: &G,
+) -> Result<i64, MergeRefusal>
     requires few { length others.now + 1 < 2 ^ 32 }
     requires columns { length first.now.sample_type < 2 ^ 32 }
+    requires some { 1 ≤ workers }
+    requires most { workers ≤ 64 }
+    ensures { AdmitsOrStops first.now others.now result }
+{
+    let are_small = are_small_together(rt, alloc, first, others, workers, gate)?;
+    admit(first, others, are_small)
+}
+
+// The duration of profiles that can be merged. No memory is needed to find out whether they can. Where all values are
+// known to be small together, no column is added up.
+fn admit(first: &Valid, others: &[Valid], are_small: bool) -> Result<i64, MergeRefusal>
+    requires few { length others.now + 1 < 2 ^ 32 }
+    requires columns { length first.now.sample_type < 2 ^ 32 }
+    requires small { OnTrue are_small (sum_of_all (first.now ∷ others.now) ≤ 2 ^ 63 - 1) }
     ensures { Admits first.now others.now result }
 {
     if let Some((source, what)) = first_disagreeing(first, others) {
         return Err(MergeRefusal::Incompatible { source, what });
     }
-    let columns = first.get().sample_type.len();
-    if let Some(column) = too_large_column(columns, first, others) {
+    if let Some(column) = large_column(first, others, are_small) {
         return Err(MergeRefusal::TotalTooLarge {
             column: column as u32,
         });
     }
     Ok(total_duration(first, others))
+}
+
+// The least column that is too large.
+fn large_column(first: &Valid, others: &[Valid], are_small: bool) -> Option<usize>
+    requires { OnTrue are_small (sum_of_all (first.now ∷ others.now) ≤ 2 ^ 63 - 1) }
+    ensures least { result ≡ too_large (length first.now.sample_type) (first.now ∷ others.now) }
+    ensures bound { IfSome result (λ column. column < length first.now.sample_type) }
+{
+    if are_small {
+        return None;
+    }
+    too_large_column(first.get().sample_type.len(), first, others)
 }
 
 // The profiles as one, where they can be merged and have this duration together.

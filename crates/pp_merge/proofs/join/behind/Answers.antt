@@ -1,16 +1,34 @@
-use Rattle.std.proofs.Common.{◌+◌, length, ap, ◌∙◌}
+use Rattle.std.proofs.Common.{◌≡◌, ℕ, ◌+◌, List, map, length, ap, sym, ◌∙◌}
+use Rattle.std.proofs.lemmas.List.{length-map}
 use Rattle.pp_model.specs.Lookup.{text_number}
+use Rattle.pp_model.specs.declared.profile.Mapping.{Mapping}
+use Rattle.pp_model.specs.declared.profile.Function.{Function}
+use Rattle.pp_model.specs.declared.profile.Location.{Location}
 use Rattle.pp_share.specs.Behind.{behind_id}
-use Rattle.pp_share.specs.Ids.{place_id, index_of_id}
+use Rattle.pp_share.specs.Ids.{known_id, place_id, index_of_id}
+use Rattle.pp_share.specs.declared.ids.Known.{Known}
 use Rattle.pp_merge.proofs.join.behind.Goals as goal
 
+-- the place of an id behind others, by the ids as they were taken from the table
+place_behind : {A : Type 0} (id_of : A → ℕ) (table : List A) (ids : List ℕ) (after len : ℕ) (known : Known) → ids ≡ map id_of table → len ≡ length table
+    → ((after : ℕ) → (id : ℕ) → behind_id after (length ids) (known_id known id) ≡ behind_id after (length ids) (place_id ids id))
+    → (id : ℕ) → behind_id after len (known_id known id) ≡ behind_id after (length (map id_of table)) (place_id (map id_of table) id)
+place_behind id_of table ids after len known taken long told id =
+    ap (λ n. behind_id after n (known_id known id)) (long ∙ sym (length-map table id_of) ∙ sym (ap length taken)) ∙ told after id ∙ ap (λ l. behind_id after (length l) (place_id l id)) taken
+
 pub returns : goal.returns
-returns c = (λ j. record {
-  text = λ index. index_of_id (behind_id (c.new-texts.ensures.after j) ((c.new-texts.ensures.len ∙ ap length c.as_slice.ensures) j) (text_number index + 1));
-  mapping = λ id. (c.in_ok-mapping.ensures id
-      ∙ ap (λ ids. behind_id c.args.after.now.mapping (length ids) (place_id ids id)) (c.as_slice-2.ensures.value ∙ c.in_ok-mappings.ensures)) j;
-  function = λ id. (c.in_ok-function.ensures id
-      ∙ ap (λ ids. behind_id c.args.after.now.function (length ids) (place_id ids id)) (c.as_slice-3.ensures.value ∙ c.in_ok-functions.ensures)) j;
-  location = λ id. (c.in_ok-location.ensures id
-      ∙ ap (λ ids. behind_id c.args.after.now.location (length ids) (place_id ids id)) (c.as_slice-4.ensures.value ∙ c.in_ok-locations.ensures)) j;
-})
+returns c =
+    let p = c.args.p.now in
+    let after = c.args.after.now in
+    (λ j. record {
+      text = λ index. index_of_id (behind_id (c.new-texts.ensures.after j) ((c.new-texts.ensures.len ∙ ap length c.as_slice.ensures) j) (text_number index + 1));
+      mapping = λ id. (ap (λ n. behind_id n c.new-mappings.result.len (known_id c.in_ok-mapping.mapping id)) c.new-mappings.ensures.after
+          ∙ place_behind (λ (m : Mapping). m.id) p.mapping c.in_ok-mapping_ids.field-0.items after.mapping c.new-mappings.result.len c.in_ok-mapping.mapping
+          c.in_ok-mapping_ids.ensures (c.new-mappings.ensures.len ∙ ap length c.as_slice-2.ensures) c.in_ok-mapping.ensures id) j;
+      function = λ id. (ap (λ n. behind_id n c.new-functions.result.len (known_id c.in_ok-function.function id)) c.new-functions.ensures.after
+          ∙ place_behind (λ (f : Function). f.id) p.function c.in_ok-function_ids.field-0.items after.function c.new-functions.result.len c.in_ok-function.function
+          c.in_ok-function_ids.ensures (c.new-functions.ensures.len ∙ ap length c.as_slice-3.ensures) c.in_ok-function.ensures id) j;
+      location = λ id. (ap (λ n. behind_id n c.new-locations.result.len (known_id c.in_ok-location.location id)) c.new-locations.ensures.after
+          ∙ place_behind (λ (l : Location). l.id) p.location c.in_ok-location_ids.field-0.items after.location c.new-locations.result.len c.in_ok-location.location
+          c.in_ok-location_ids.ensures (c.new-locations.ensures.len ∙ ap length c.as_slice-4.ensures) c.in_ok-location.ensures id) j;
+    })

@@ -8,8 +8,8 @@ use Rattle.pp_merge.proofs.MergeLemmas.{whole_shareable, whole_left}
 use Rattle.pp_merge.proofs.merging.merge_on.Goals as goal
 
 -- the first profile has few columns, as each has
-pub admit-requires-clause-columns : goal.admit-requires-clause-columns
-admit-requires-clause-columns g c =
+pub admit_on-requires-clause-columns : goal.admit_on-requires-clause-columns
+admit_on-requires-clause-columns g c = λ _ _.
     (subst (AllByRecursion (λ (p : Profile). length p.sample_type < 2 ^ 32)) c.split-first.ensures c.requires.columns).0
 
 -- the whole can be shared
