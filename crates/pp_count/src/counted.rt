@@ -4,7 +4,7 @@ ghost use Rattle.pp_model.specs.Finders.{Finders};
 ghost use Rattle.pp_count.specs.Seeing.{filtered_from, absolute_all};
 ghost use Rattle.pp_count.specs.Counts.{total_of};
 ghost use Rattle.pp_count.specs.Counted.{CanCount, AreKeyed, IsCountedOf};
-ghost use Rattle.pp_count.specs.Scope.{IsSoundScope, CountedTo, size_of};
+ghost use Rattle.pp_count.specs.Scope.{IsSoundScope, AreCountable, AreCounted, CountedTo, samples_in_scope, size_of};
 ghost use Rattle.pp_count.specs.Tally.{tally_at};
 
 use crate::filters::Filters;
@@ -58,10 +58,30 @@ pub fn count<R: Threads + Sync, G: Gate>(
     let table = key_table(alloc, l, config)?;
     let filters = Filters::new(alloc, l, v, config)?;
     let scope = Scope::whole(l, v, config, &filters, column, &table);
-    let sofar = count_all(rt, alloc, &scope, gate)?;
-    let keyed = sums_so_far(alloc, &scope, &sofar)?;
-    let total = report_total(l, config, column, sofar.kept.as_slice());
-    Ok(Counted {
+    let whole = count_whole(rt, alloc, &scope, gate)?;
+    let total = report_total(l, config, column, whole.0.kept.as_slice());
+    Ok(counted_of(whole, total, table, filters))
+}
+
+// What the samples come to, beside the total and what they were counted by.
+fn counted_of(
+    whole: (Sofar, NumberedSums),
+    total: u64,
+    table: KeyTable,
+    filters: Filters,
+) -> Counted
+    ensures { result ≡ record {
+      kept = whole.0.kept;
+      sums = whole.1.sums;
+      matched = whole.0.matched;
+      total = total;
+      table = table;
+      filters = filters;
+      numbers = whole.1.numbers;
+    } }
+{
+    let (sofar, keyed) = whole;
+    Counted {
         kept: sofar.kept,
         sums: keyed.sums,
         matched: sofar.matched,
@@ -69,7 +89,27 @@ pub fn count<R: Threads + Sync, G: Gate>(
         table,
         filters,
         numbers: keyed.numbers,
-    })
+    }
+}
+
+// What all samples come to, and their sums by keys.
+fn count_whole<R: Threads + Sync, G: Gate>(
+    rt: &R,
+    alloc: Global,
+    scope: &Scope,
+    gate: &G,
+) -> Result<(Sofar, NumberedSums), Memory>
+    requires sound { IsSoundScope scope.now }
+    requires countable { AreCountable scope.now (samples_in_scope scope.now) }
+    requires keys { scope.now.over ≡ None }
+    requires whole { scope.now.chosen ≡ None }
+    ensures counted { IfOk result (λ all.
+        AreCounted scope.now (samples_in_scope scope.now) all.0) }
+    ensures keyed { IfOk result (λ all. AreKeyed scope.now all.1) }
+{
+    let sofar = count_all(rt, alloc, scope, gate)?;
+    let keyed = sums_so_far(alloc, scope, &sofar)?;
+    Ok((sofar, keyed))
 }
 
 // What percentages are taken of, where these are the numbers of the samples that the filters leave.
