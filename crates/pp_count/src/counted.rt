@@ -1,6 +1,10 @@
 //! What a report's samples come to.
 ghost use Rattle.std.specs.Prelude.{◌≡◌, ◌<◌, ◌^◌, None, IfOk};
+ghost use Rattle.pp_model.specs.Conditions.{HasVerdicts};
 ghost use Rattle.pp_model.specs.Finders.{Finders};
+ghost use Rattle.pp_tags.specs.TagFilters.{HasItsTags, filter_in_force};
+ghost use Rattle.pp_count.specs.Filters.{AreFilters};
+ghost use Rattle.pp_count.specs.Table.{IsKeyTable};
 ghost use Rattle.pp_count.specs.Seeing.{filtered_from, absolute_all};
 ghost use Rattle.pp_count.specs.Counts.{total_of};
 ghost use Rattle.pp_count.specs.Counted.{CanCount, AreKeyed, IsCountedOf};
@@ -55,28 +59,40 @@ pub fn count<R: Threads + Sync, G: Gate>(
     requires { CanCount l.now.profile v.now config.now column }
     ensures { IfOk result (IsCountedOf l.now v.now config.now column) }
 {
-    let table = key_table(alloc, l, config)?;
-    let filters = Filters::new(alloc, l, v, config)?;
-    let scope = Scope::whole(l, v, config, &filters, column, &table);
+    let by = table_and_filters(alloc, l, v, config)?;
+    let scope = Scope::whole(l, v, config, &by.1, column, &by.0);
     let whole = count_whole(rt, alloc, &scope, gate)?;
     let total = report_total(l, config, column, whole.0.kept.as_slice());
-    Ok(counted_of(whole, total, table, filters))
+    Ok(counted_of(whole, total, by))
+}
+
+// What samples are counted by.
+fn table_and_filters(
+    alloc: Global,
+    l: &Loaded,
+    v: &Verdicts,
+    config: &Config,
+) -> Result<(KeyTable, Filters), Memory>
+    requires verdicts { HasVerdicts l.now.profile v.now }
+    requires focus { HasItsTags l.now.profile v.now.tag (filter_in_force config.now.tagfocus) }
+    requires ignore { HasItsTags l.now.profile v.now.tag (filter_in_force config.now.tagignore) }
+    ensures table { IfOk result (λ by. IsKeyTable l.now.profile config.now by.0) }
+    ensures filters { IfOk result (λ by. AreFilters l.now.profile v.now config.now by.1) }
+{
+    let table = key_table(alloc, l, config)?;
+    let filters = Filters::new(alloc, l, v, config)?;
+    Ok((table, filters))
 }
 
 // What the samples come to, beside the total and what they were counted by.
-fn counted_of(
-    whole: (Sofar, NumberedSums),
-    total: u64,
-    table: KeyTable,
-    filters: Filters,
-) -> Counted
+fn counted_of(whole: (Sofar, NumberedSums), total: u64, by: (KeyTable, Filters)) -> Counted
     ensures { result ≡ record {
       kept = whole.0.kept;
       sums = whole.1.sums;
       matched = whole.0.matched;
       total = total;
-      table = table;
-      filters = filters;
+      table = by.0;
+      filters = by.1;
       numbers = whole.1.numbers;
     } }
 {
@@ -86,8 +102,8 @@ fn counted_of(
         sums: keyed.sums,
         matched: sofar.matched,
         total,
-        table,
-        filters,
+        table: by.0,
+        filters: by.1,
         numbers: keyed.numbers,
     }
 }

@@ -151,8 +151,7 @@ fn pair_sums<'x, R: Threads + Sync, G: Gate>(
         chosen: Some(kept),
     };
     let sofar = count_all(rt, alloc, &scope, gate)?;
-    let sums = entries(alloc, &sofar.tallies)?;
-    Ok(sums)
+    entries(alloc, &sofar.tallies)
 }
 
 // The numbers of the names that are kept.

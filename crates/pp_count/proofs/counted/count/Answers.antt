@@ -7,7 +7,7 @@ use Rattle.pp_count.proofs.counted.count.Goals as goal
 
 pub count_whole-requires-clause-sound : goal.count_whole-requires-clause-sound
 count_whole-requires-clause-sound g c = λ _ _. subst IsSoundScope (sym c.whole-scope.ensures)
-    (record { filters = c.in_ok-filters.ensures; verdicts = c.requires.verdicts; table = c.in_ok-table.ensures; few_kept = tt; chosen = tt })
+    (record { filters = c.in_ok-by.ensures.filters; verdicts = c.requires.verdicts; table = c.in_ok-by.ensures.table; few_kept = tt; chosen = tt })
 
 pub count_whole-requires-clause-countable : goal.count_whole-requires-clause-countable
 count_whole-requires-clause-countable g c = λ _ _. subst (λ scope. AreCountable scope (samples_in_scope scope)) (sym c.whole-scope.ensures)
@@ -32,8 +32,8 @@ returns g c =
       fits = keyed.fits;
       of_profile = keyed.of_profile;
       rising = subst (λ n. AreRisingBetween 0 n c.in_ok-whole.whole.0.kept) (omega arith) all.counted.rising;
-      table = c.in_ok-table.ensures;
-      filters = c.in_ok-filters.ensures;
+      table = c.in_ok-by.ensures.table;
+      filters = c.in_ok-by.ensures.filters;
       names = keyed.names;
       numbered = keyed.numbered;
     })
