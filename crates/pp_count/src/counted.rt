@@ -1,11 +1,12 @@
 //! What a report's samples come to.
-ghost use Rattle.std.specs.Prelude.{◌≡◌, ◌<◌, ◌^◌, None, IfOk};
+ghost use Rattle.std.specs.Prelude.{◌≡◌, ◌<◌, ◌^◌, None, Ok, IfOk};
+ghost use Rattle.pp_count.specs.declared.counted.Whole.{Whole};
 ghost use Rattle.pp_model.specs.Conditions.{HasVerdicts};
 ghost use Rattle.pp_model.specs.Finders.{Finders};
 ghost use Rattle.pp_tags.specs.TagFilters.{HasItsTags, filter_in_force};
 ghost use Rattle.pp_count.specs.Filters.{AreFilters};
 ghost use Rattle.pp_count.specs.Table.{IsKeyTable};
-ghost use Rattle.pp_count.specs.Seeing.{filtered_from, absolute_all};
+ghost use Rattle.pp_count.specs.Seeing.{HoldsFilters, filtered_from, absolute_all};
 ghost use Rattle.pp_count.specs.Counts.{total_of};
 ghost use Rattle.pp_count.specs.Counted.{CanCount, AreKeyed, IsCountedOf};
 ghost use Rattle.pp_count.specs.Scope.{IsSoundScope, AreCountable, AreCounted, CountedTo, samples_in_scope, size_of};
@@ -61,9 +62,8 @@ pub fn count<R: Threads + Sync, G: Gate>(
 {
     let by = table_and_filters(alloc, l, v, config)?;
     let scope = Scope::whole(l, v, config, &by.1, column, &by.0);
-    let whole = count_whole(rt, alloc, &scope, gate)?;
-    let total = report_total(l, config, column, whole.0.kept.as_slice());
-    Ok(counted_of(whole, total, by))
+    let whole = count_whole(rt, alloc, &scope, gate);
+    counted_with(whole, by)
 }
 
 // What samples are counted by.
@@ -84,48 +84,82 @@ fn table_and_filters(
     Ok((table, filters))
 }
 
-// What the samples come to, beside the total and what they were counted by.
-fn counted_of(whole: (Sofar, NumberedSums), total: u64, by: (KeyTable, Filters)) -> Counted
-    ensures { result ≡ record {
-      kept = whole.0.kept;
-      sums = whole.1.sums;
-      matched = whole.0.matched;
-      total = total;
+// What all samples come to, where memory sufficed, with what they were counted by.
+fn counted_with(whole: Result<Whole, Memory>, by: (KeyTable, Filters)) -> Result<Counted, Memory>
+    ensures { IfOk result (λ counted. (w : Whole) × (whole ≡ Ok w) × (counted ≡ record {
+      kept = w.sofar.kept;
+      sums = w.keyed.sums;
+      matched = w.sofar.matched;
+      total = w.total;
       table = by.0;
       filters = by.1;
-      numbers = whole.1.numbers;
+      numbers = w.keyed.numbers;
+    })) }
+{
+    let whole = whole?;
+    Ok(counted_of(whole, by))
+}
+
+fn counted_of(whole: Whole, by: (KeyTable, Filters)) -> Counted
+    ensures { result ≡ record {
+      kept = whole.sofar.kept;
+      sums = whole.keyed.sums;
+      matched = whole.sofar.matched;
+      total = whole.total;
+      table = by.0;
+      filters = by.1;
+      numbers = whole.keyed.numbers;
     } }
 {
-    let (sofar, keyed) = whole;
+    let sofar = whole.sofar;
+    let keyed = whole.keyed;
     Counted {
         kept: sofar.kept,
         sums: keyed.sums,
         matched: sofar.matched,
-        total,
+        total: whole.total,
         table: by.0,
         filters: by.1,
         numbers: keyed.numbers,
     }
 }
 
-// What all samples come to, and their sums by keys.
+// What all samples come to, by key numbers and by keys.
+#[derive(Drop)]
+struct Whole {
+    sofar: Sofar,
+    keyed: NumberedSums,
+    // What percentages are taken of.
+    total: u64,
+}
+
+// Counts all samples of the scope.
 fn count_whole<R: Threads + Sync, G: Gate>(
     rt: &R,
     alloc: Global,
     scope: &Scope,
     gate: &G,
-) -> Result<(Sofar, NumberedSums), Memory>
+) -> Result<Whole, Memory>
     requires sound { IsSoundScope scope.now }
     requires countable { AreCountable scope.now (samples_in_scope scope.now) }
     requires keys { scope.now.over ≡ None }
     requires whole { scope.now.chosen ≡ None }
-    ensures counted { IfOk result (λ all.
-        AreCounted scope.now (samples_in_scope scope.now) all.0) }
-    ensures keyed { IfOk result (λ all. AreKeyed scope.now all.1) }
+    ensures counted { IfOk result (λ whole.
+        AreCounted scope.now (samples_in_scope scope.now) whole.sofar) }
+    ensures keyed { IfOk result (λ whole. AreKeyed scope.now whole.keyed) }
+    ensures total { (f : Finders) →
+        HoldsFilters scope.now.l.now scope.now.v.now scope.now.config.now f →
+        IfOk result (λ whole. whole.total
+        ≡ total_of scope.now.l.now.profile f scope.now.config.now scope.now.column) }
 {
     let sofar = count_all(rt, alloc, scope, gate)?;
     let keyed = sums_so_far(alloc, scope, &sofar)?;
-    Ok((sofar, keyed))
+    let total = report_total(scope.l, scope.config, scope.column, sofar.kept.as_slice());
+    Ok(Whole {
+        sofar,
+        keyed,
+        total,
+    })
 }
 
 // What percentages are taken of, where these are the numbers of the samples that the filters leave.
