@@ -1,6 +1,5 @@
 //! What a report's samples come to.
-ghost use Rattle.std.specs.Prelude.{◌≡◌, ◌<◌, ◌^◌, None, Ok, IfOk};
-ghost use Rattle.pp_count.specs.declared.counted.Whole.{Whole};
+ghost use Rattle.std.specs.Prelude.{◌≡◌, ◌<◌, ◌^◌, None, IfOk};
 ghost use Rattle.pp_model.specs.Conditions.{HasVerdicts};
 ghost use Rattle.pp_model.specs.Finders.{Finders};
 ghost use Rattle.pp_tags.specs.TagFilters.{HasItsTags, filter_in_force};
@@ -62,8 +61,10 @@ pub fn count<R: Threads + Sync, G: Gate>(
 {
     let by = table_and_filters(alloc, l, v, config)?;
     let scope = Scope::whole(l, v, config, &by.1, column, &by.0);
-    let whole = count_whole(rt, alloc, &scope, gate);
-    counted_with(whole, by)
+    match count_whole(rt, alloc, &scope, gate) {
+        Err(memory) => Err(memory),
+        Ok(whole) => Ok(counted_of(whole, by)),
+    }
 }
 
 // What samples are counted by.
@@ -84,22 +85,7 @@ fn table_and_filters(
     Ok((table, filters))
 }
 
-// What all samples come to, where memory sufficed, with what they were counted by.
-fn counted_with(whole: Result<Whole, Memory>, by: (KeyTable, Filters)) -> Result<Counted, Memory>
-    ensures { IfOk result (λ counted. (w : Whole) × (whole ≡ Ok w) × (counted ≡ record {
-      kept = w.sofar.kept;
-      sums = w.keyed.sums;
-      matched = w.sofar.matched;
-      total = w.total;
-      table = by.0;
-      filters = by.1;
-      numbers = w.keyed.numbers;
-    })) }
-{
-    let whole = whole?;
-    Ok(counted_of(whole, by))
-}
-
+// What all samples come to, with what they were counted by.
 fn counted_of(whole: Whole, by: (KeyTable, Filters)) -> Counted
     ensures { result ≡ record {
       kept = whole.sofar.kept;
