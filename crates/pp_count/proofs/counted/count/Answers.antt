@@ -1,10 +1,10 @@
-use Rattle.std.proofs.Common.{◌≡◌, ◌<◌, ◌^◌, ◌∙◌, refl, subst, sym, arith}
+use Rattle.std.proofs.Common.{◌≡◌, refl, subst, sym, arith}
 use Rattle.pp_model.specs.Finders.{Finders}
 use Rattle.pp_count.specs.Counts.{total_of}
 use Rattle.pp_count.specs.Seeing.{HoldsFilters}
 use Rattle.pp_count.specs.Counted.{AreKeyed, IsCountedOf}
 use Rattle.pp_count.specs.Rising.{AreRisingBetween}
-use Rattle.pp_count.specs.Scope.{IsSoundScope, AreCountable, AreCounted, samples_in_scope, size_of}
+use Rattle.pp_count.specs.Scope.{IsSoundScope, AreCountable, AreCounted, samples_in_scope}
 use Rattle.pp_count.proofs.Kept.{values_fit}
 use Rattle.pp_count.proofs.counted.count.Goals as goal
 
