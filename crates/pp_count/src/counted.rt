@@ -61,10 +61,8 @@ pub fn count<R: Threads + Sync, G: Gate>(
 {
     let by = table_and_filters(alloc, l, v, config)?;
     let scope = Scope::whole(l, v, config, &by.1, column, &by.0);
-    match count_whole(rt, alloc, &scope, gate) {
-        Err(memory) => Err(memory),
-        Ok(whole) => Ok(counted_of(whole, by)),
-    }
+    let whole = count_whole(rt, alloc, &scope, gate)?;
+    Ok(counted_of(whole, by))
 }
 
 // What samples are counted by.
