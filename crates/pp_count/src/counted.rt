@@ -1,10 +1,14 @@
 //! What a report's samples come to.
 ghost use Rattle.std.specs.Prelude.{◌≡◌, ◌<◌, ◌^◌, None, IfOk};
+ghost use Rattle.pp_model.specs.Conditions.{HasVerdicts};
 ghost use Rattle.pp_model.specs.Finders.{Finders};
-ghost use Rattle.pp_count.specs.Seeing.{filtered_from, absolute_all};
+ghost use Rattle.pp_tags.specs.TagFilters.{HasItsTags, filter_in_force};
+ghost use Rattle.pp_count.specs.Filters.{AreFilters};
+ghost use Rattle.pp_count.specs.Table.{IsKeyTable};
+ghost use Rattle.pp_count.specs.Seeing.{HoldsFilters, filtered_from, absolute_all};
 ghost use Rattle.pp_count.specs.Counts.{total_of};
 ghost use Rattle.pp_count.specs.Counted.{CanCount, AreKeyed, IsCountedOf};
-ghost use Rattle.pp_count.specs.Scope.{IsSoundScope, CountedTo, size_of};
+ghost use Rattle.pp_count.specs.Scope.{IsSoundScope, AreCountable, AreCounted, CountedTo, samples_in_scope, size_of};
 ghost use Rattle.pp_count.specs.Tally.{tally_at};
 
 use crate::filters::Filters;
@@ -55,20 +59,90 @@ pub fn count<R: Threads + Sync, G: Gate>(
     requires { CanCount l.now.profile v.now config.now column }
     ensures { IfOk result (IsCountedOf l.now v.now config.now column) }
 {
+    let by = table_and_filters(alloc, l, v, config)?;
+    let scope = Scope::whole(l, v, config, &by.1, column, &by.0);
+    let whole = count_whole(rt, alloc, &scope, gate)?;
+    Ok(counted_of(whole, by))
+}
+
+// What samples are counted by.
+fn table_and_filters(
+    alloc: Global,
+    l: &Loaded,
+    v: &Verdicts,
+    config: &Config,
+) -> Result<(KeyTable, Filters), Memory>
+    requires verdicts { HasVerdicts l.now.profile v.now }
+    requires focus { HasItsTags l.now.profile v.now.tag (filter_in_force config.now.tagfocus) }
+    requires ignore { HasItsTags l.now.profile v.now.tag (filter_in_force config.now.tagignore) }
+    ensures table { IfOk result (λ by. IsKeyTable l.now.profile config.now by.0) }
+    ensures filters { IfOk result (λ by. AreFilters l.now.profile v.now config.now by.1) }
+{
     let table = key_table(alloc, l, config)?;
     let filters = Filters::new(alloc, l, v, config)?;
-    let scope = Scope::whole(l, v, config, &filters, column, &table);
-    let sofar = count_all(rt, alloc, &scope, gate)?;
-    let keyed = sums_so_far(alloc, &scope, &sofar)?;
-    let total = report_total(l, config, column, sofar.kept.as_slice());
-    Ok(Counted {
+    Ok((table, filters))
+}
+
+// What all samples come to, with what they were counted by.
+fn counted_of(whole: Whole, by: (KeyTable, Filters)) -> Counted
+    ensures { result ≡ record {
+      kept = whole.sofar.kept;
+      sums = whole.keyed.sums;
+      matched = whole.sofar.matched;
+      total = whole.total;
+      table = by.0;
+      filters = by.1;
+      numbers = whole.keyed.numbers;
+    } }
+{
+    let sofar = whole.sofar;
+    let keyed = whole.keyed;
+    Counted {
         kept: sofar.kept,
         sums: keyed.sums,
         matched: sofar.matched,
-        total,
-        table,
-        filters,
+        total: whole.total,
+        table: by.0,
+        filters: by.1,
         numbers: keyed.numbers,
+    }
+}
+
+// What all samples come to, by key numbers and by keys.
+#[derive(Drop)]
+struct Whole {
+    sofar: Sofar,
+    keyed: NumberedSums,
+    // What percentages are taken of.
+    total: u64,
+}
+
+// Counts all samples of the scope.
+fn count_whole<R: Threads + Sync, G: Gate>(
+    rt: &R,
+    alloc: Global,
+    scope: &Scope,
+    gate: &G,
+) -> Result<Whole, Memory>
+    requires sound { IsSoundScope scope.now }
+    requires countable { AreCountable scope.now (samples_in_scope scope.now) }
+    requires keys { scope.now.over ≡ None }
+    requires whole { scope.now.chosen ≡ None }
+    ensures counted { IfOk result (λ whole.
+        AreCounted scope.now (samples_in_scope scope.now) whole.sofar) }
+    ensures keyed { IfOk result (λ whole. AreKeyed scope.now whole.keyed) }
+    ensures total { (f : Finders) →
+        HoldsFilters scope.now.l.now scope.now.v.now scope.now.config.now f →
+        IfOk result (λ whole. whole.total
+        ≡ total_of scope.now.l.now.profile f scope.now.config.now scope.now.column) }
+{
+    let sofar = count_all(rt, alloc, scope, gate)?;
+    let keyed = sums_so_far(alloc, scope, &sofar)?;
+    let total = report_total(scope.l, scope.config, scope.column, sofar.kept.as_slice());
+    Ok(Whole {
+        sofar,
+        keyed,
+        total,
     })
 }
 

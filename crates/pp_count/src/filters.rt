@@ -51,9 +51,9 @@ impl Filters {
         requires ignore { HasItsTags l.now.profile v.now.tag (filter_in_force config.now.tagignore) }
         ensures { IfOk result (AreFilters l.now.profile v.now config.now) }
     {
+        let tags = tag_filters(alloc, config)?;
         let tables = VerdictTables::new(alloc, l, v)?;
-        let filters = with_tables(alloc, config, tables)?;
-        Ok(filters)
+        Ok(with_tables(tags, tables))
     }
 
     /// The filters without tables, which are not worth their making for a few samples. `Err` is want of memory.
@@ -67,28 +67,39 @@ impl Filters {
         requires ignore { HasItsTags l.now.profile v.now.tag (filter_in_force config.now.tagignore) }
         ensures { IfOk result (AreFilters l.now.profile v.now config.now) }
     {
-        let filters = with_tables(alloc, config, VerdictTables::none())?;
-        Ok(filters)
+        let tags = tag_filters(alloc, config)?;
+        Ok(with_tables(tags, VerdictTables::none()))
     }
 }
 
-// The configuration's tag filters with these tables.
-fn with_tables(alloc: Global, config: &Config, tables: VerdictTables) -> Result<Filters, Memory>
-    ensures focus { IfOk result (λ filters. filters.tagfocus ≡ filter_in_force config.now.tagfocus) }
-    ensures ignore { IfOk result (λ filters. filters.tagignore ≡ filter_in_force config.now.tagignore) }
-    ensures tables { IfOk result (λ filters. filters.tables ≡ tables) }
-    ensures reach { (p : Profile) → (v : Verdicts) → AreTables p v tables →
-        IfOk result (λ filters. AreReached p v filters.reach) }
+// The filters of `tagfocus` and of `tagignore`.
+type TagFilters = (Option<TagFilter>, Option<TagFilter>);
+
+// The configuration's tag filters, each where it is in force.
+fn tag_filters(alloc: Global, config: &Config) -> Result<TagFilters, Memory>
+    ensures focus { IfOk result (λ tags. tags.0 ≡ filter_in_force config.now.tagfocus) }
+    ensures ignore { IfOk result (λ tags. tags.1 ≡ filter_in_force config.now.tagignore) }
 {
-    let reach = reach_of(&tables);
     let tagfocus = TagFilter::in_force(alloc, config.tagfocus.as_slice())?;
     let tagignore = TagFilter::in_force(alloc, config.tagignore.as_slice())?;
-    Ok(Filters {
-        tagfocus,
-        tagignore,
+    Ok((tagfocus, tagignore))
+}
+
+// The tag filters with these tables.
+fn with_tables(tags: TagFilters, tables: VerdictTables) -> Filters
+    ensures focus { result.tagfocus ≡ tags.0 }
+    ensures ignore { result.tagignore ≡ tags.1 }
+    ensures tables { result.tables ≡ tables }
+    ensures reach { (p : Profile) → (v : Verdicts) → AreTables p v tables →
+        AreReached p v result.reach }
+{
+    let reach = reach_of(&tables);
+    Filters {
+        tagfocus: tags.0,
+        tagignore: tags.1,
         tables,
         reach,
-    })
+    }
 }
 
 // Which of the patterns may find a line, by these tables.

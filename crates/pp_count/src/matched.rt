@@ -34,11 +34,21 @@ impl Matched {
     pub(crate) fn none(alloc: Global) -> Result<Matched, Memory>
         ensures { IfOk result (λ none. none.slots ≡ no_matches) }
     {
-        let mut slots = List::new(alloc);
-        slots.extend(&[
-            false, false, false, false, false, false, false, true, false, false,
-        ])?;
-        Ok(Matched { slots })
+        Matched::of(
+            alloc,
+            &[
+                false, false, false, false, false, false, false, true, false, false,
+            ],
+        )
+    }
+
+    // The matches in these slots.
+    fn of(alloc: Global, slots: &[bool]) -> Result<Matched, Memory>
+        ensures { IfOk result (λ m. m.slots ≡ slots.now) }
+    {
+        let mut list = List::new(alloc);
+        list.extend(slots)?;
+        Ok(Matched { slots: list })
     }
 
     /// The matches of two ranges of samples.
@@ -102,25 +112,28 @@ fn matches(alloc: Global, scope: &Scope, samples: &[Sample]) -> Result<Matched, 
     let (l, v) = (scope.l, scope.v);
     let filters = scope.filters;
     let (tables, reach) = (&filters.tables, &filters.reach);
-    let mut slots = List::new(alloc);
-    slots.push(some_frame(alloc, l, &v.focus, &tables.focus, reach.focus, samples)?)?;
-    slots.push(some_frame(alloc, l, &v.ignore, &tables.ignore, reach.ignore, samples)?)?;
-    slots.push(some_frame(alloc, l, &v.hide, &tables.hide, reach.hide, samples)?)?;
-    slots.push(some_frame(alloc, l, &v.show, &tables.show, reach.show, samples)?)?;
-    slots.push(some_frame(
+    let focus = some_frame(alloc, l, &v.focus, &tables.focus, reach.focus, samples)?;
+    let ignore = some_frame(alloc, l, &v.ignore, &tables.ignore, reach.ignore, samples)?;
+    let hide = some_frame(alloc, l, &v.hide, &tables.hide, reach.hide, samples)?;
+    let show = some_frame(alloc, l, &v.show, &tables.show, reach.show, samples)?;
+    let show_from = some_frame(
         alloc,
         l,
         &v.show_from,
         &tables.show_from,
         reach.show_from,
         samples,
-    )?)?;
-    slots.push(some_selected(l, &filters.tagfocus, &v.tag, &v.tagfocus, samples))?;
-    slots.push(some_selected(l, &filters.tagignore, &v.tag, &v.tagignore, samples))?;
-    slots.push(true)?;
-    slots.push(some_key(l, &v.tagshow, samples))?;
-    slots.push(some_key(l, &v.taghide, samples))?;
-    Ok(Matched { slots })
+    )?;
+    let tagfocus = some_selected(l, &filters.tagfocus, &v.tag, &v.tagfocus, samples);
+    let tagignore = some_selected(l, &filters.tagignore, &v.tag, &v.tagignore, samples);
+    let tagshow = some_key(l, &v.tagshow, samples);
+    let taghide = some_key(l, &v.taghide, samples);
+    Matched::of(
+        alloc,
+        &[
+            focus, ignore, hide, show, show_from, tagfocus, tagignore, true, tagshow, taghide,
+        ],
+    )
 }
 
 // Whether the pattern, where it is in force, finds a frame that load pruning left of some sample.

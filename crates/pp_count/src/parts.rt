@@ -36,8 +36,7 @@ pub fn count_piece(
     let _compact = l.profile.get();
     let filters = Filters::without_tables(alloc, l, v, config)?;
     let scope = Scope::whole(l, v, config, &filters, column, table);
-    let part = count_piece_of(alloc, &scope, piece)?;
-    Ok(part)
+    count_piece_of(alloc, &scope, piece)
 }
 
 /// Joins the parts of consecutive ranges of samples, in order. They are spent, also where memory is wanting. `Err` is

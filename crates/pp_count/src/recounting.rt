@@ -122,8 +122,7 @@ pub fn edges_about<R: Threads + Sync, G: Gate>(
     let over = pairing(alloc, counted, names, ends.marked)?;
     let list = pair_sums(rt, alloc, survey, &over, gate)?;
     let sums = list.as_slice();
-    let edges = edges_of(alloc, sums, names)?;
-    Ok(edges)
+    edges_of(alloc, sums, names)
 }
 
 // The sums of the pairs, by their numbers. The samples that the filters leave are gone over.
@@ -152,8 +151,7 @@ fn pair_sums<'x, R: Threads + Sync, G: Gate>(
         chosen: Some(kept),
     };
     let sofar = count_all(rt, alloc, &scope, gate)?;
-    let sums = entries(alloc, &sofar.tallies)?;
-    Ok(sums)
+    entries(alloc, &sofar.tallies)
 }
 
 // The numbers of the names that are kept.

@@ -1,11 +1,12 @@
 //! The sums of a report, by keys.
 ghost use Rattle.std.specs.Prelude.{◌≡◌, ◌≢◌, [], ◌∷◌, ◌++◌, ℕ, ◌≤◌, ◌<◌, length, map, slice_index_or, All, AllPairs, IfOk};
+ghost use Rattle.pp_grain.specs.Sight.{with_key};
 ghost use Rattle.pp_count.specs.Table.{no_key};
 ghost use Rattle.pp_count.specs.Parts.{sums_of, key_at_sum};
 
 use crate::part::KeySum;
 use pp_base::{List, Memory};
-use pp_grain::Names;
+use pp_grain::{Key, Names};
 use std::alloc::Global;
 
 /// The sums of each key that occurs.
@@ -43,35 +44,43 @@ pub(crate) fn sums_by_keys(
     ensures numbers { IfOk result (λ r. r.numbers ≡ map (λ e. e.key) sums.now) }
     ensures once { IfOk result (λ r. AllPairs (λ a b. a ≢ b) r.sums.names) }
 {
-    let mut keys = Names::new(alloc)?;
-    let mut flat = List::new(alloc);
-    let mut cum = List::new(alloc);
-    let mut numbers = List::new(alloc);
+    let mut all = no_sums(alloc)?;
     for sum in sums {
         let key = names.key(sum.key);
-        keys.number(key)?;
-        push_sum(&mut flat, &mut cum, sum)?;
-        push_number(&mut numbers, sum)?;
+        add_sum(&mut all, key, sum)?;
     }
-    let _distinct = keys.len();
+    let _distinct = all.sums.names.len();
+    Ok(all)
+}
+
+// The sums of no key.
+fn no_sums(alloc: Global) -> Result<NumberedSums, Memory>
+    ensures names { IfOk result (λ r. r.sums.names ≡ []) }
+    ensures flat { IfOk result (λ r. r.sums.flat ≡ []) }
+    ensures cum { IfOk result (λ r. r.sums.cum ≡ []) }
+    ensures numbers { IfOk result (λ r. r.numbers ≡ []) }
+{
+    let names = Names::new(alloc)?;
     let sums = Sums {
-        names: keys,
-        flat,
-        cum,
+        names,
+        flat: List::new(alloc),
+        cum: List::new(alloc),
     };
-    Ok(NumberedSums { sums, numbers })
+    Ok(NumberedSums {
+        sums,
+        numbers: List::new(alloc),
+    })
 }
 
-fn push_sum(flat: &mut List<i64>, cum: &mut List<i64>, sum: &KeySum) -> Result<(), Memory>
-    ensures flat { IfOk result (λ _. flat.new ≡ flat.old ++ sum.now.flat ∷ []) }
-    ensures cum { IfOk result (λ _. cum.new ≡ cum.old ++ sum.now.cum ∷ []) }
+// Adds the sum, under this key.
+fn add_sum(all: &mut NumberedSums, key: Key, sum: &KeySum) -> Result<(), Memory>
+    ensures names { IfOk result (λ _. all.new.sums.names ≡ with_key all.old.sums.names key) }
+    ensures flat { IfOk result (λ _. all.new.sums.flat ≡ all.old.sums.flat ++ sum.now.flat ∷ []) }
+    ensures cum { IfOk result (λ _. all.new.sums.cum ≡ all.old.sums.cum ++ sum.now.cum ∷ []) }
+    ensures numbers { IfOk result (λ _. all.new.numbers ≡ all.old.numbers ++ sum.now.key ∷ []) }
 {
-    flat.push(sum.flat)?;
-    cum.push(sum.cum)
-}
-
-fn push_number(numbers: &mut List<u64>, sum: &KeySum) -> Result<(), Memory>
-    ensures { IfOk result (λ _. numbers.new ≡ numbers.old ++ sum.now.key ∷ []) }
-{
-    numbers.push(sum.key)
+    all.sums.names.number(key)?;
+    all.sums.flat.push(sum.flat)?;
+    all.sums.cum.push(sum.cum)?;
+    all.numbers.push(sum.key)
 }

@@ -1,4 +1,5 @@
 use Rattle.std.proofs.Common.{◌*◌, refl, subst, sym, arith}
+use Rattle.std.proofs.lemmas.Result.{IfOk-weaker}
 use Rattle.pp_model.specs.Rules.{IsCompact}
 use Rattle.pp_steal.specs.declared.piece.TheConstants.{PIECE}
 use Rattle.pp_steal.specs.Pieces.{piece_of}
@@ -19,6 +20,6 @@ count_piece_of-requires-clause-countable c = subst (λ scope. AreCountable scope
     })
 
 pub returns : goal.returns
-returns c =
-    range_part _ (c.args.piece * PIECE) (PIECE * c.args.piece) _ c.in_ok-part.part refl refl (subst IsCompact c.get-compact.ensures.same c.get-compact.ensures.compact) c.requires.table (omega arith)
-    (subst (λ scope. IsPartOf scope (c.args.piece * PIECE) (piece_of (samples_in_scope scope) c.args.piece) c.in_ok-part.part) c.whole-scope.ensures c.in_ok-part.ensures)
+returns c = IfOk-weaker c.count_piece_of.result _ _ (λ part is.
+    range_part _ (c.args.piece * PIECE) (PIECE * c.args.piece) _ part refl refl (subst IsCompact c.get-compact.ensures.same c.get-compact.ensures.compact) c.requires.table (omega arith)
+    (subst (λ scope. IsPartOf scope (c.args.piece * PIECE) (piece_of (samples_in_scope scope) c.args.piece) part) c.whole-scope.ensures is)) c.count_piece_of.ensures

@@ -1,5 +1,6 @@
 use Rattle.std.proofs.Common.{◌<◌, All, length, get_or, map, sym, ap, ◌∙◌, subst, arith}
 use Rattle.std.proofs.lemmas.List.{length-map}
+use Rattle.std.proofs.lemmas.Result.{IfOk-weaker}
 use Rattle.pp_model.specs.Rules.{IsCompact}
 use Rattle.pp_count.specs.Edges.{AreOnce, is_marked}
 use Rattle.pp_count.proofs.Edged.{HasEdges, pair_numbers, ends_within, edges_are, all_edges, names_within, kept_apart}
@@ -47,15 +48,18 @@ edges_of-requires g c = rw c.as_slice-sums.ensures (pair_numbers c.args.survey.n
 
 pub returns-clause-edges : goal.returns-clause-edges
 returns-clause-edges g c = λ f holds.
-    edges_are c.args.survey.now c.args.ends.now c.as_slice-names.result.now c.in_ok-over.over c.in_ok-list.list (made g (goal.at.returns-clause-edges g c).After-as_slice-sums)
-    f holds c.in_ok-edges.edges (rw c.as_slice-sums.ensures at c.in_ok-edges.ensures)
+    IfOk-weaker c.edges_of.result _ _
+    (edges_are c.args.survey.now c.args.ends.now c.as_slice-names.result.now c.in_ok-over.over c.in_ok-list.list (made g (goal.at.returns-clause-edges g c).After-as_slice-sums) f holds)
+    (rw c.as_slice-sums.ensures at c.edges_of.ensures)
 
 pub returns-clause-all : goal.returns-clause-all
-returns-clause-all g c = λ f holds.
-    all_edges c.args.survey.now c.args.ends.now c.as_slice-names.result.now c.in_ok-over.over c.in_ok-list.list (made g (goal.at.returns-clause-all g c).After-as_slice-sums)
-    f holds c.in_ok-edges.edges (rw c.as_slice-sums.ensures at c.in_ok-edges.ensures)
+returns-clause-all g c = λ f holds same.
+    IfOk-weaker c.edges_of.result _ _
+    (λ edges is. all_edges c.args.survey.now c.args.ends.now c.as_slice-names.result.now c.in_ok-over.over c.in_ok-list.list (made g (goal.at.returns-clause-all g c).After-as_slice-sums) f holds edges is same)
+    (rw c.as_slice-sums.ensures at c.edges_of.ensures)
 
 pub returns-clause-within : goal.returns-clause-within
 returns-clause-within g c =
-    ends_within c.args.survey.now c.args.ends.now c.as_slice-names.result.now c.in_ok-over.over c.in_ok-list.list (made g (goal.at.returns-clause-within g c).After-as_slice-sums)
-    c.in_ok-edges.edges (rw c.as_slice-sums.ensures at c.in_ok-edges.ensures)
+    IfOk-weaker c.edges_of.result _ _
+    (ends_within c.args.survey.now c.args.ends.now c.as_slice-names.result.now c.in_ok-over.over c.in_ok-list.list (made g (goal.at.returns-clause-within g c).After-as_slice-sums))
+    (rw c.as_slice-sums.ensures at c.edges_of.ensures)

@@ -1,4 +1,5 @@
 use Rattle.std.proofs.Common.{ℕ, List, length, map, ap, sym, ◌∙◌, subst}
+use Rattle.std.proofs.lemmas.Result.{IfOk-weaker}
 use Rattle.pp_count.specs.Sums.{weighed}
 use Rattle.pp_count.specs.Counts.{samples_at}
 use Rattle.pp_count.specs.Edges.{paired}
@@ -30,12 +31,12 @@ count_all-requires-clause-countable g c = λ _ _.
 pub returns : goal.returns
 returns g c =
     let counted = c.in_ok-sofar.ensures.counted in
-    record {
+    IfOk-weaker c.entries.result _ _ (λ sums is. record {
       seen = counted.seen;
       below = counted.are.below;
       are = λ f holds.
           counted.are.are f holds
           ∙ ap (λ (ns : List ℕ). seen_samples c.args.survey.now.l.now.profile f c.args.survey.now.config.now c.args.survey.now.column (samples_at c.args.survey.now.l.now.profile ns)) c.as_slice-kept.ensures
           ∙ kept_seen c.args.survey.now.l.now.profile f c.args.survey.now.config.now c.args.survey.now.column c.args.survey.now.counted.now.kept (c.args.survey.now.counts.kept f holds);
-      listed = λ k. c.in_ok-sums.ensures k ∙ listed_as (weighed (map (paired c.args.over.now) counted.seen)) k (tally_at c.in_ok-sofar.sofar.tallies k) (counted.tallies k);
-    }
+      listed = λ k. is k ∙ listed_as (weighed (map (paired c.args.over.now) counted.seen)) k (tally_at c.in_ok-sofar.sofar.tallies k) (counted.tallies k);
+    }) c.entries.ensures
