@@ -21,6 +21,7 @@ use pp_desk::{Desk, Stop};
 use pp_model::{Config, Loaded, Report};
 use pp_report::{Prepared, ReportRefusal, Resources, finish, prepare, refusal_line};
 use std::alloc::Global;
+use std::mem;
 use std::thread::Threads;
 
 /// The report that the words ask for. Its text is whole before its first byte goes out.
@@ -99,8 +100,13 @@ fn note_and_finish<R: Threads + Sync, D: Desk, G: Gate>(
     ensures { Went (D.world desk.old) (D.world desk.new)
         (note_and_finish D.finds l.now report.now config.now (Ok (settled_by prepared))) result }
 {
-    desk.write_err(prepared.notes.as_slice())?;
-    finish(with, l, report, config, prepared, desk)
+    match desk.write_err(prepared.notes.as_slice()) {
+        Ok(()) => finish(with, l, report, config, prepared, desk),
+        Err(stop) => {
+            mem::drop(prepared);
+            Err(stop)
+        }
+    }
 }
 
 #[tactic(auto, using(pp_desk::proofs::Going::going), unfolding(crate::specs::Reporting::end_report))]

@@ -20,6 +20,7 @@ use pp_model::{Config, Loaded, Report};
 use pp_options::{Plan, Topic, UsageFault, UsageRefusal, read_words, topic_asked, write_topic};
 use pp_report::Resources;
 use std::alloc::Global;
+use std::mem;
 use std::thread::Threads;
 
 /// The session of these words.
@@ -59,7 +60,11 @@ fn perform_words<R: Threads + Sync, D: Desk, G: Gate>(
         (perform_words D.finds (planned words.now)) result }
 {
     match read_words(with.alloc, words) {
-        Ok(plan) => perform(with, &plan, desk),
+        Ok(plan) => {
+            let done = perform(with, &plan, desk);
+            mem::drop(plan);
+            done
+        }
         Err(UsageRefusal::Fault(fault)) => refuse_words(with.alloc, fault, desk),
         Err(UsageRefusal::Memory) => Err(Stop::Memory),
     }
@@ -85,7 +90,9 @@ fn perform<R: Threads + Sync, D: Desk, G: Gate>(
     ensures { Went (D.world desk.old) (D.world desk.new) (perform D.finds plan.now) result }
 {
     let loaded = load(with.rt, with.alloc, plan, desk)?;
-    serve_loaded(with, plan, &loaded, desk)
+    let done = serve_loaded(with, plan, &loaded, desk);
+    mem::drop(loaded);
+    done
 }
 
 #[tactic(auto, using(pp_desk::proofs::Going::going), unfolding(crate::specs::Session::serve_loaded))]

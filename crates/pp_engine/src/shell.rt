@@ -1,5 +1,5 @@
 // The shell: lines that are read one by one, each obeyed before the next is read.
-ghost use Rattle.std.specs.Prelude.{◌≡◌, ◌+◌, ℕ, List, IfOk};
+ghost use Rattle.std.specs.Prelude.{◌≡◌, ◌+◌, ℕ, List, IfOk, OnOk, OnErr};
 ghost use Rattle.pp_desk.specs.Lines.{lines_of};
 ghost use Rattle.pp_desk.specs.Script.{write_out};
 ghost use Rattle.pp_desk.specs.Went.{Goes, Went, beside};
@@ -25,6 +25,7 @@ use pp_options::{SHELL_HELP, write_options};
 use pp_report::Resources;
 use pp_shell::{Command, LineFault, LineRefusal, read_line};
 use std::alloc::Global;
+use std::mem;
 use std::thread::Threads;
 
 /// The most lines of an input, with the answer that it has ended: each line takes a byte of at most 16,777,216.
@@ -42,7 +43,9 @@ pub fn shell<R: Threads + Sync, D: Desk, G: Gate>(
     ensures { Went (D.world desk.old) (D.world desk.new) (shell D.finds l.now config.now) result }
 {
     let mut config = config.copy(with.alloc)?;
-    take_turns(with, l, &mut config, desk)
+    let done = take_turns(with, l, &mut config, desk);
+    mem::drop(config);
+    done
 }
 
 #[tactic(auto, using(crate::proofs::Turning::turning))]
@@ -103,7 +106,9 @@ fn follow<R: Threads + Sync, D: Desk, G: Gate>(
     match line {
         InputLine::Line(bytes) => {
             let said = command_of(with.alloc, without_return(bytes.as_slice()), config)?;
-            obey_or_complain(with, l, &said, config, desk)
+            let cause = obey_or_complain(with, l, &said, config, desk);
+            mem::drop(said);
+            cause
         }
         InputLine::TooLong => {
             complain(with.alloc, &LineFault::LineTooLong, desk)?;
@@ -199,7 +204,7 @@ fn obey<R: Threads + Sync, D: Desk, G: Gate>(
             Ok(None)
         }
         Command::Set(changed) => {
-            *config = changed.copy(with.alloc)?;
+            keep_changed(with.alloc, config, changed)?;
             Ok(None)
         }
         Command::Run {
@@ -211,6 +216,16 @@ fn obey<R: Threads + Sync, D: Desk, G: Gate>(
             Ok(None)
         }
     }
+}
+
+// The configuration is this one from here on.
+fn keep_changed(alloc: Global, config: &mut Config, changed: &Config) -> Result<(), Memory>
+    ensures ok { OnOk result (config.new ≡ changed.now) }
+    ensures err { OnErr result (config.new ≡ config.old) }
+{
+    let copy = changed.copy(alloc)?;
+    mem::drop(mem::replace(config, copy));
+    Ok(())
 }
 
 // The variables and their values, on standard output.

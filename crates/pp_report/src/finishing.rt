@@ -29,6 +29,7 @@ use pp_model::{Config, Loaded, Report};
 use pp_pseudo::basis;
 use pp_source::write_list_of;
 use std::alloc::Global;
+use std::mem;
 use std::thread::Threads;
 
 /// The text of a report that was prepared, `NoMatch` where the pattern of a peek or list report finds nothing, or
@@ -59,27 +60,30 @@ pub fn finish<R: Threads + Sync, D: Desk, G: Gate>(
         report,
         config,
     };
-    finish_on(with, &task, shows, counts, desk)
+    let text = finish_on(with, &task, shows, &counts, desk);
+    mem::drop(counts);
+    mem::drop(tagged);
+    text
 }
 
 // The text of a report that shows this.
 #[tactic(auto, using(pp_desk::proofs::Going::going), unfolding(crate::specs::Reports::finish_on))]
-fn finish_on<R: Threads + Sync, D: Desk, G: Gate>(
+fn finish_on<'x, R: Threads + Sync, D: Desk, G: Gate>(
     with: &Resources<'_, R, G>,
-    task: &Task<'_>,
+    task: &Task<'x>,
     shows: Shows,
-    counts: Option<Counts>,
+    counts: &'x Option<Counts>,
     desk: &mut D,
 ) -> Result<Result<Text, ReportRefusal>, Stop>
     requires { HasCounts D.finds task.now.l.now task.now.report.now task.now.config.now
-        shows.column counts }
+        shows.column counts.now }
     ensures went { let t = task.now in Went (D.world desk.old) (D.world desk.new)
         (finish_on D.finds t.l.now t.report.now t.config.now (showing shows)) result }
     ensures saved { let t = task.now in t.report.now ≡ Proto →
         OnText result (IsProtoBy D.finds t.l.now t.config.now) }
 {
     match counts {
-        Some(counts) => finish_counts(with, task, shows, &counts, desk),
+        Some(counts) => finish_counts(with, task, shows, counts, desk),
         None => Ok(Ok(comments(with.alloc, task.l)?)),
     }
 }

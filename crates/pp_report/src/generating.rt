@@ -14,10 +14,11 @@ use crate::ReportRefusal;
 use crate::finishing::finish;
 use crate::preparing::prepare;
 use crate::resources::Resources;
-use pp_base::{Gate, Text};
+use pp_base::{Gate, Memory, Text};
 use pp_desk::{Desk, Stop};
 use pp_model::{Config, Loaded, Report};
 use std::alloc::Global;
+use std::mem;
 use std::thread::Threads;
 
 /// Makes a report: its text, or why there is none. Its notes are appended to `notes`, also where the answer is
@@ -62,9 +63,12 @@ pub fn generate<'x, R: Threads + Sync, D: Desk, G: Gate>(
     let with = Resources { rt, alloc, gate };
     match prepare(&with, l, report, config, desk)? {
         Err(refusal) => Ok(Err(refusal)),
-        Ok(prepared) => {
-            notes.extend(prepared.notes.as_slice())?;
-            finish(&with, l, report, config, prepared, desk)
-        }
+        Ok(prepared) => match notes.extend(prepared.notes.as_slice()) {
+            Ok(()) => finish(&with, l, report, config, prepared, desk),
+            Err(Memory) => {
+                mem::drop(prepared);
+                Err(Stop::Memory)
+            }
+        },
     }
 }

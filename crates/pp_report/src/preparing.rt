@@ -3,7 +3,8 @@ ghost use Rattle.std.specs.Prelude.{◌≡◌, [], None, IfOk};
 ghost use Rattle.pp_desk.specs.Went.{Went};
 ghost use Rattle.pp_model.specs.Conditions.{IsColumnOf};
 ghost use Rattle.pp_model.specs.Sizes.{IsCountable};
-ghost use Rattle.pp_count.specs.Counted.{CanCount};
+ghost use Rattle.pp_count.specs.Counted.{CanCount, IsCountedOf};
+ghost use Rattle.pp_report.specs.Notes.{notes_by};
 ghost use Rattle.pp_report.specs.Prepared.{prepare, prepare_showing, prepare_counts, showing, answered, IsPrepared, IsCounted, IsCountedBy, IsCountedOver};
 ghost use Rattle.pp_report.specs.Tagged.{basis_of};
 
@@ -15,11 +16,12 @@ use crate::resources::Resources;
 use crate::shows::{Shows, shows_for};
 use crate::tagging::tagged_of;
 use pp_base::{Gate, Memory, Text};
-use pp_count::count;
+use pp_count::{Counted, count};
 use pp_desk::{Desk, Stop};
 use pp_model::{Config, Loaded, Report, Verdicts};
 use pp_pseudo::basis;
 use std::alloc::Global;
+use std::mem;
 use std::thread::Threads;
 
 /// What is done before the text of a report is made: its column and unit are looked up, frames are made from labels,
@@ -73,21 +75,11 @@ fn prepare_over<R: Threads + Sync, D: Desk, G: Gate>(
 }
 
 // The same, with the profile that it was made of.
-fn made_of(prepared: Prepared, tagged: Option<Loaded>) -> Prepared
+fn made_of(mut prepared: Prepared, tagged: Option<Loaded>) -> Prepared
     ensures { result ≡ record prepared { tagged = tagged } }
 {
-    let Prepared {
-        notes,
-        shows,
-        counts,
-        ..
-    } = prepared;
-    Prepared {
-        notes,
-        shows,
-        counts,
-        tagged,
-    }
+    mem::drop(mem::replace(&mut prepared.tagged, tagged));
+    prepared
 }
 
 // What is done before the text of a report is made that shows this.
@@ -158,13 +150,38 @@ fn counted<R: Threads + Sync, G: Gate>(
     requires { CanCount l.now.profile verdicts config.now shows.column }
     ensures { IfOk result (IsCountedBy l.now config.now shows verdicts) }
 {
-    let (alloc, column) = (with.alloc, shows.column);
-    let counted = count(with.rt, alloc, l, &verdicts, config, column, with.gate)?;
-    let notes = notes_by(alloc, config, counted.matched.slots.as_slice())?;
-    Ok(Prepared {
-        notes,
-        shows,
-        counts: Some(Counts { verdicts, counted }),
-        tagged: None,
-    })
+    match counted_by(with, l, config, shows.column, &verdicts) {
+        Ok((counted, notes)) => Ok(Prepared {
+            notes,
+            shows,
+            counts: Some(Counts { verdicts, counted }),
+            tagged: None,
+        }),
+        Err(Memory) => {
+            mem::drop(verdicts);
+            Err(Memory)
+        }
+    }
+}
+
+// The same, and the notes, as they are.
+fn counted_by<R: Threads + Sync, G: Gate>(
+    with: &Resources<'_, R, G>,
+    l: &Loaded,
+    config: &Config,
+    column: Option<u32>,
+    verdicts: &Verdicts,
+) -> Result<(Counted, Text), Memory>
+    requires { CanCount l.now.profile verdicts.now config.now column }
+    ensures counted { IfOk result (λ r. IsCountedOf l.now verdicts.now config.now column r.0) }
+    ensures notes { IfOk result (λ r. r.1 ≡ notes_by config.now r.0.matched.slots) }
+{
+    let counted = count(with.rt, with.alloc, l, verdicts, config, column, with.gate)?;
+    match notes_by(with.alloc, config, counted.matched.slots.as_slice()) {
+        Ok(notes) => Ok((counted, notes)),
+        Err(Memory) => {
+            mem::drop(counted);
+            Err(Memory)
+        }
+    }
 }

@@ -1,6 +1,6 @@
 use Rattle.std.proofs.Common.{◌++◌, ap, ◌∙◌, subst}
 use Rattle.std.specs.Prelude.{Ok, Result}
-use Rattle.std.proofs.lemmas.Result.{err_from_is_err_and, IfOk-at_ok}
+use Rattle.std.proofs.lemmas.Result.{err_from_is_err_and}
 use Rattle.pp_base.proofs.TextLemmas.{on_err}
 use Rattle.pp_desk.specs.Went.{Went}
 use Rattle.pp_report.specs.declared.refusal.ReportRefusal.{ReportRefusal}
@@ -22,16 +22,14 @@ pub returns-in_err-refusal-clause-stopped : goal.returns-in_err-refusal-clause-s
 returns-in_err-refusal-clause-stopped g c = on_err c.from_residual.result (none_front c.args.notes.now _)
 
 -- memory was wanting for the notes
-pub returns-in_err-extend-in-Ok-clause-went : goal.returns-in_err-extend-in-Ok-clause-went
-returns-in_err-extend-in-Ok-clause-went g c =
-    let p = err_from_is_err_and c.from_residual-in_err-extend-in-Ok.result c.from_residual-in_err-extend-in-Ok.ensures.1 in
-    rw (p.1, p.2) (report_wants g.D.Desk.finds c.args.l.now c.args.report.now c.args.config.now _ _ (settled_by c.in-Ok.prepared)
+pub returns-in-Err-extend-clause-went : goal.returns-in-Err-extend-clause-went
+returns-in-Err-extend-clause-went g c =
+    report_wants g.D.Desk.finds c.args.l.now c.args.report.now c.args.config.now _ _ (settled_by c.in-Ok.prepared)
     (subst (λ answer. Went {T = Result Settled ReportRefusal} (g.D.Desk.world c.args.desk.now) (g.D.Desk.world c.prepare.new.desk)
-    (prepare g.D.Desk.finds c.args.l.now c.args.report.now c.args.config.now) (answered (Ok answer))) c.in-Ok.is c.in_ok-refusal.ensures.went))
+    (prepare g.D.Desk.finds c.args.l.now c.args.report.now c.args.config.now) (answered (Ok answer))) c.in-Ok.is c.in_ok-refusal.ensures.went)
 
-pub returns-in_err-extend-in-Ok-clause-stopped : goal.returns-in_err-extend-in-Ok-clause-stopped
-returns-in_err-extend-in-Ok-clause-stopped g c =
-    on_err c.from_residual-in_err-extend-in-Ok.result (rw c.in_err-extend-in-Ok.ensures.err (none_front c.args.notes.now _))
+pub returns-in-Err-extend-clause-stopped : goal.returns-in-Err-extend-clause-stopped
+returns-in-Err-extend-clause-stopped g c = rw c.in-Err-extend.ensures.err (none_front c.args.notes.now _)
 
 -- it was refused before the text
 pub returns-in-Err-clause-went : goal.returns-in-Err-clause-went
@@ -41,25 +39,18 @@ returns-in-Err-clause-went g c =
     (prepare g.D.Desk.finds c.args.l.now c.args.report.now c.args.config.now) (answered (Ok answer))) c.in-Err.is c.in_ok-refusal.ensures.went))
 
 -- the text went some way
-pub returns-in_ok-extend-in-Ok-clause-went : goal.returns-in_ok-extend-in-Ok-clause-went
-returns-in_ok-extend-in-Ok-clause-went g c =
+pub returns-in-Ok-extend-clause-went : goal.returns-in-Ok-extend-clause-went
+returns-in-Ok-extend-clause-went g c =
     let notes = added_some c.args.notes.now c.extend.new.self c.in-Ok.prepared.notes
-    (c.in_ok-extend-in-Ok.ensures.ok ∙ ap (λ more. c.args.notes.now ++ more) c.as_slice.ensures) in
+    (c.in-Ok-extend.ensures.ok ∙ ap (λ more. c.args.notes.now ++ more) c.as_slice.ensures) in
     rw notes (report_finished g.D.Desk.finds c.args.l.now c.args.report.now c.args.config.now _ _ (settled_by c.in-Ok.prepared)
     (subst (λ answer. Went {T = Result Settled ReportRefusal} (g.D.Desk.world c.args.desk.now) (g.D.Desk.world c.prepare.new.desk)
     (prepare g.D.Desk.finds c.args.l.now c.args.report.now c.args.config.now) (answered (Ok answer))) c.in-Ok.is c.in_ok-refusal.ensures.went)
     _ c.finish.result c.finish.ensures.went)
 
-pub returns-in_ok-extend-in-Ok-clause-stopped : goal.returns-in_ok-extend-in-Ok-clause-stopped
-returns-in_ok-extend-in-Ok-clause-stopped g c =
-    let notes = added_some c.args.notes.now c.extend.new.self c.in-Ok.prepared.notes
-    (c.in_ok-extend-in-Ok.ensures.ok ∙ ap (λ more. c.args.notes.now ++ more) c.as_slice.ensures) in
-    let prepared = IfOk-at_ok _ c.in-Ok.is c.in_ok-refusal.ensures.prepared in
-    on_err c.finish.result (rw notes prepared.settled.notes_front)
-
 -- the text of a proto report
-pub returns-in_ok-extend-in-Ok-clause-saved : goal.returns-in_ok-extend-in-Ok-clause-saved
-returns-in_ok-extend-in-Ok-clause-saved g c proto keyless =
+pub returns-in-Ok-extend-clause-saved : goal.returns-in-Ok-extend-clause-saved
+returns-in-Ok-extend-clause-saved g c proto keyless =
     let finds = g.D.Desk.finds in
     let l = c.args.l.now in
     let config = c.args.config.now in
