@@ -51,7 +51,9 @@ fn report<R: std::thread::Threads + Sync>(rt: &R, alloc: Global, l: &Loaded) -> 
     let config = Config::standard(alloc)?;
     let column = pp_count::column_of(l, &config)?;
     let verdicts = pp_edit::no_verdicts(alloc);
-    let counted = pp_count::count(rt, alloc, l, &verdicts, &config, column, &OpenGate)?;
+    let counted = pp_count::count(rt, alloc, l, &verdicts, &config, column, &OpenGate);
+    drop(verdicts);
+    let counted = counted?;
     let ranked = pp_graph::rank(alloc, l, &counted, &config, 0)?;
     show(alloc, l, &counted, &ranked)
 }
