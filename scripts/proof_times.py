@@ -1,7 +1,7 @@
 #!/usr/bin/env python3
 """Times the proof of each function of some crates, from nothing, and lists the slowest.
 
-usage: proof_times.py [--keep FILE] [--most N] [--before FILE] CRATE..
+usage: proof_times.py [--keep FILE] [--most N] [--before FILE] [--modules] CRATE..
 
 Each crate is proved on a copy of the repository, one module at a time, so that a function's time is the processor time
 between the line that `rt check` prints for it and the line before. That takes in the lemma files that it is first to
@@ -10,6 +10,10 @@ cite. The libraries below a crate are taken as they were built, or are built fir
 It prints each crate's seconds, and then its slowest functions, 50 or as many as --most says. --keep writes a line for
 each function, `seconds crate function`, the slowest first. --before reads such a list, and prints its slowest too. The
 status is 0 where each crate was proved, else 1.
+
+--modules lists the slowest modules too. A function has several: `Lts` is what it owns and gives up on each of its ways
+out, and `Proof` is its contract. A check writes each module as soon as it is proved, so a module's seconds are those
+since the one before it, by the clock: they say something only where the machine has nothing else to do.
 """
 
 import argparse
@@ -100,6 +104,14 @@ def timed(crate):
     return not run.wait(), found
 
 
+def modules(crate):
+    """The modules that a check from nothing proved, with their seconds."""
+    kept = crate / "out" / "incremental"
+    files = (it for it in kept.rglob(f"Rattle-{crate.name}*.oantt") if "records" not in it.parts)
+    proved = sorted((it.stat().st_mtime, it.stem.removeprefix(f"Rattle-{crate.name}-")) for it in files)
+    return [(end - start, crate.name, name) for (start, _), (end, name) in zip(proved, proved[1:])]
+
+
 def read(file):
     """The functions of a kept list."""
     words = (line.split() for line in pathlib.Path(file).read_text().splitlines())
@@ -116,9 +128,10 @@ def main():
     parser.add_argument("--keep", metavar="FILE")
     parser.add_argument("--most", type=int, default=50)
     parser.add_argument("--before", metavar="FILE")
+    parser.add_argument("--modules", action="store_true")
     parser.add_argument("crates", nargs="+", metavar="CRATE")
     given = parser.parse_args()
-    functions, is_proved = [], True
+    functions, parts, is_proved = [], [], True
     with tempfile.TemporaryDirectory(prefix="proof-times-") as room:
         copied(room)
         for name in given.crates:
@@ -127,11 +140,15 @@ def main():
                 proved, found = timed(crate)
             is_proved = is_proved and proved
             functions += found
+            parts += modules(crate)
             print(f"{sum(it[0] for it in found):8.1f} {name}{'' if proved else ': not proved'}", flush=True)
             if given.keep:
                 lines = (f"{seconds:.1f} {crate} {function}\n" for seconds, crate, function in sorted(functions, reverse=True))
                 pathlib.Path(given.keep).write_text("".join(lines))
     shown(functions, given.most)
+    if given.modules:
+        print("Modules:")
+        shown(parts, given.most)
     if given.before:
         print("Before:")
         shown((it for it in read(given.before) if it[1] in given.crates), given.most)
