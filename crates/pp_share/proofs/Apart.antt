@@ -1,9 +1,8 @@
 -- Samples that differ: each is its own sum.
-use Rattle.std.proofs.Common.{◌≡◌, ℕ, Bool, true, false, true≢false, ℤ, List, [], ◌∷◌, length, map, filter, refl, sym, ap, subst, ◌∙◌, if◌then◌else◌}
+use Rattle.std.proofs.Common.{◌≡◌, ℕ, ◌==◌, Bool, true, false, true≢false, ℤ, List, [], ◌∷◌, length, map, filter, refl, sym, ap, subst, ◌∙◌, if◌then◌else◌}
 use Rattle.std.specs.List.{AllByRecursion, IsDistinct}
-use Rattle.std.specs.Ordering.{nat_cmp, eq_by_cmp}
 use Rattle.std.proofs.lemmas.Simd.{map-map}
-use Rattle.pp_base.proofs.Orders.{tied_with}
+use Rattle.std.proofs.lemmas.Bool.Decides.{Decides-eqb}
 use Rattle.pp_model.specs.declared.profile.Label.{Label}
 use Rattle.pp_model.specs.declared.profile.Sample.{Sample}
 use Rattle.pp_share.specs.Sums.{counts}
@@ -29,10 +28,10 @@ apart_by f other same keeps (x ∷ xs) apart = (each xs apart.0, apart_by f othe
         by false is = refl
 
 -- locations and labels whose numbers differ
-pub stacks_apart : (stacks : List (List ℕ × List Label)) → IsDistinct (eq_by_cmp nat_cmp) (map stack_number stacks) → IsDistinct same_stack stacks
+pub stacks_apart : (stacks : List (List ℕ × List Label)) → IsDistinct (λ a b. a == b) (map stack_number stacks) → IsDistinct same_stack stacks
 stacks_apart stacks apart =
-    apart_by stack_number (eq_by_cmp nat_cmp) same_stack
-    (λ x y same. tied_with (stack_number x) (stack_number y) (ap stack_number ((stack_decides x y).0 same))) stacks apart
+    apart_by stack_number (λ a b. a == b) same_stack
+    (λ x y same. (Decides-eqb (stack_number x) (stack_number y)).1 (ap stack_number ((stack_decides x y).0 same))) stacks apart
 
 kept_are : (samples : List Sample) → map sample_of (filter counts (map sample_item samples)) ≡ filter has_values samples
 kept_are [] = refl

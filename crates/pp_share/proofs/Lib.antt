@@ -24,7 +24,9 @@ pub mod Grouping
 pub mod Prefix
 pub mod Agreement
 pub mod SummedLemmas
+pub mod RepeatLemmas
 pub mod SampleKeyLemmas
+pub mod WovenLemmas
 pub mod Apart
 pub mod NumberLemmas
 pub mod Deciding

@@ -1,7 +1,6 @@
 -- Numbers of samples that are asked in parts, and samples that get their new ids later.
-use Rattle.std.proofs.Common.{◌≡◌, ℕ, Bool, true, false, true≢false, ◌&&◌, List, [], ◌∷◌, ◌++◌, length, map, filter, refl, sym, ap, subst, ◌∙◌, if◌then◌else◌}
+use Rattle.std.proofs.Common.{◌≡◌, ℕ, ◌==◌, Bool, true, false, true≢false, ◌&&◌, List, [], ◌∷◌, ◌++◌, length, map, filter, refl, sym, ap, subst, ◌∙◌, if◌then◌else◌}
 use Rattle.std.specs.List.{flat_map, list_all, AllByRecursion, IsDistinct}
-use Rattle.std.specs.Ordering.{nat_cmp, eq_by_cmp}
 use Rattle.std.proofs.lemmas.List.{map-append, map-id}
 use Rattle.std.proofs.lemmas.List.Folds.{list_all-append}
 use Rattle.std.proofs.lemmas.Simd.{map-map}
@@ -47,12 +46,12 @@ samples_stay [] = refl
 samples_stay (s ∷ samples) = (λ j. record s { location_id = map-id s.location_id j; label = map-id s.label j } ∷ samples_stay samples j)
 
 -- samples that differ once they have their new ids are their own sums
-pub kept_apart : (by : NewIds) (columns : ℕ) (samples : List Sample) → IsDistinct (eq_by_cmp nat_cmp) (map (number_by by) samples) → AllByRecursion (λ (s : Sample). length s.value ≡ columns) samples
+pub kept_apart : (by : NewIds) (columns : ℕ) (samples : List Sample) → IsDistinct (λ a b. a == b) (map (number_by by) samples) → AllByRecursion (λ (s : Sample). length s.value ≡ columns) samples
     → map (renumbered_sample by) (filter has_values samples) ≡ summed_samples columns (map (renumbered_sample by) samples)
 kept_apart by columns samples apart wide =
     let moved = map (renumbered_sample by) samples in
     sym (filter_kept has_values has_values (renumbered_sample by) (λ s. refl) samples)
     ∙ counting_alone columns moved
     (stacks_apart (map sample_stack moved)
-    (subst (IsDistinct (eq_by_cmp nat_cmp)) (sym (map-map sample_number (renumbered_sample by) samples) ∙ sym (map-map stack_number sample_stack moved)) apart))
+    (subst (IsDistinct (λ a b. a == b)) (sym (map-map sample_number (renumbered_sample by) samples) ∙ sym (map-map stack_number sample_stack moved)) apart))
     (all_mapped (λ (s : Sample). length s.value ≡ columns) (renumbered_sample by) (λ (s : Sample). length s.value ≡ columns) (λ s is. is) samples wide)

@@ -11,6 +11,8 @@ pub mod FunctionKeys
 pub mod PlaceKeys
 pub mod SampleStacks
 pub mod SampleKeys
+pub mod Repeats
+pub mod Woven
 pub mod Numbers
 pub mod Shared
 pub mod Walk

@@ -38,10 +38,6 @@ item_of_key item = (key_lists item.0, item.1)
 abbrev pub same_key : SampleKey → SampleKey → Bool
 same_key a b = same_stack (key_lists a) (key_lists b)
 
--- the samples of the keys with these sums, but for those whose values are all 0
-abbrev pub kept_samples : List (SampleKey × List ℤ) → List Sample
-kept_samples sums = map sample_of (filter counts (map item_of_key sums))
-
 -- The samples with different locations or labels, with the sums of their values, but for those whose
 -- values are all 0.
 abbrev pub summed_samples : ℕ → List Sample → List Sample

@@ -1,16 +1,15 @@
-//! The numbers of samples, and whether they differ.
+//! The numbers of samples, and those that stand more than once.
 ghost use Rattle.std.specs.Prelude.{◌≡◌, ◌+◌, ◌*◌, ◌<◌, ◌≤◌, IfOk, length};
-ghost use Rattle.std.specs.Bool.{OnTrue};
-ghost use Rattle.std.specs.List.{list_all, IsDistinct};
-ghost use Rattle.std.specs.List.Sorted.{IsStrictlySortedBy};
-ghost use Rattle.std.specs.Ordering.{nat_cmp, eq_by_cmp};
+ghost use Rattle.std.specs.List.{list_all};
 ghost use Rattle.pp_steal.specs.declared.piece.TheConstants.{PIECE};
 ghost use Rattle.pp_share.specs.Renumbered.{new_ids};
 ghost use Rattle.pp_share.specs.Numbers.{AreNumbers, JoinsNumbers};
+ghost use Rattle.pp_share.specs.Repeats.{HoldsNext, HoldsRepeated};
 
 use crate::renumbering::Renumbering;
 use crate::sample_key::number_by;
 use crate::samples::has_values;
+use indexmap::IndexSet;
 use pp_base::{Gate, List, Memory};
 use pp_model::Sample;
 use pp_steal::{Deal, Job, PIECE, piece_of, pieces_of, run_pieces};
@@ -124,22 +123,23 @@ fn all_have_values(parts: &[Numbers]) -> bool
     parts.iter().all(|part| part.have_values)
 }
 
-/// Whether the numbers differ from each other.
-pub fn are_distinct(mut numbers: Vec<u64>) -> bool
-    ensures { OnTrue result (IsDistinct (eq_by_cmp nat_cmp) numbers.items) }
+/// The numbers that stand more than once.
+pub fn repeated(alloc: Global, mut numbers: Vec<u64>) -> Result<IndexSet<u64>, Memory>
+    ensures { IfOk result (λ r. HoldsRepeated numbers.items r.keys) }
 {
     numbers.sort_unstable();
-    are_rising(numbers.as_slice())
+    repeated_next(alloc, numbers.as_slice())
 }
 
-// Whether each number is greater than the one before it.
-fn are_rising(numbers: &[u64]) -> bool
-    ensures { OnTrue result (IsStrictlySortedBy nat_cmp numbers.now) }
+// The numbers that stand next to themselves.
+fn repeated_next(alloc: Global, numbers: &[u64]) -> Result<IndexSet<u64>, Memory>
+    ensures { IfOk result (λ r. HoldsNext numbers.now r.keys) }
 {
+    let mut repeated = IndexSet::new(alloc);
     for index in 1..numbers.len() {
-        if numbers[index - 1] >= numbers[index] {
-            return false;
+        if numbers[index - 1] == numbers[index] {
+            repeated.insert(numbers[index])?;
         }
     }
-    true
+    Ok(repeated)
 }

@@ -1,33 +1,48 @@
 //! Samples that stand once, with their values added up.
-ghost use Rattle.std.specs.Prelude.{◌≡◌, ℕ, ◌+◌, ◌-◌, ◌^◌, ◌<◌, ◌≤◌, ◌++◌, [], ◌∷◌, pos, nat_abs, length, map, filter, vec_len, vec_capacity, All, IfOk, OnOk};
-ghost use Rattle.std.specs.List.{sum_by, list_all};
+ghost use Rattle.std.specs.Prelude.{◌≡◌, ℕ, ◌+◌, ◌-◌, ◌^◌, ◌<◌, ◌≤◌, ◌++◌, [], ◌∷◌, Bool, false, pos, nat_abs, length, map, filter, vec_len, vec_capacity, All, IfOk, OnOk};
+ghost use Rattle.std.specs.List.{sum_by, list_all, list_any};
 ghost use Rattle.std.specs.Ordering.{int_eq};
 ghost use Rattle.pp_model.specs.Sizes.{value_in};
-ghost use Rattle.pp_share.specs.Sums.{summed, sum_at, sums_with, CanAdd};
+ghost use Rattle.pp_share.specs.Sums.{sum_at, sums_with, CanAdd, counts, keys_of};
 ghost use Rattle.pp_share.specs.SampleStacks.{same_stack};
-ghost use Rattle.pp_share.specs.SampleKeys.{sample_item, key_lists, same_key, item_of_key, has_values, kept_samples, summed_samples};
+ghost use Rattle.pp_share.specs.SampleKeys.{sample_number, sample_stack, sample_of, key_lists, same_key, item_of_key, has_values, summed_samples};
+ghost use Rattle.pp_share.specs.Repeats.{is_among, HoldsRepeated};
+ghost use Rattle.pp_share.specs.Woven.{woven, woven_samples, IsWoven};
 
-use crate::sample_key::SampleKey;
+use crate::sample_key::{SampleKey, number_of};
 use crate::sums::add_row;
-use indexmap::IndexMap;
+use indexmap::{IndexMap, IndexSet};
 use pp_base::{List, Memory};
 use pp_model::{Label, Sample};
 use std::alloc::Global;
 
+// Sums of samples, each at the place of the first of its kind.
+#[derive(Drop)]
+struct Sums {
+    // The samples whose number no other has, and `None` where the next of `sums` stands.
+    order: Vec<Option<Sample>>,
+    // The keys of the other samples without repeats, in the order of first sight, and for each the sum of its values in
+    // each column.
+    sums: IndexMap<SampleKey, List<i64>>,
+}
+
 /// The samples with different locations or labels, each at the place of the first of its kind, with the values of all
-/// of its kind added up. Those whose values are all 0 are left out.
-pub fn sum_samples(
+/// of its kind added up. Those whose values are all 0 are left out. Only samples whose number is among `repeated` are
+/// looked up: no other sample equals one of the rest.
+pub fn sum_repeated(
     alloc: Global,
     columns: usize,
     samples: List<Sample>,
+    repeated: &IndexSet<u64>,
 ) -> Result<List<Sample>, Memory>
     requires wide { All (λ s. length s.value ≡ columns) samples }
     requires fits { (column : ℕ) → column < columns
         → sum_by (λ s. nat_abs (value_in s column)) samples ≤ 2 ^ 63 - 1 }
+    requires repeated { HoldsRepeated (map sample_number samples) repeated.now.keys }
     ensures { IfOk result (λ r. r ≡ summed_samples columns samples) }
 {
-    let sums = sum_each(alloc, columns, samples)?;
-    kept_samples(alloc, sums)
+    let sums = sum_each(alloc, columns, samples, repeated)?;
+    kept(alloc, sums)
 }
 
 /// The samples of which some value isn't 0. Where all are such, they are not gone through. It takes no memory.
@@ -43,25 +58,63 @@ pub fn counting(samples: List<Sample>, have_values: bool) -> List<Sample>
     List::from_vec(kept)
 }
 
-// The keys of the samples without repeats, in the order of first sight, and for each the sum of its values in each
-// column. The first row of a key is kept and added to in place.
+// The sums of the samples.
 fn sum_each(
     alloc: Global,
     columns: usize,
     samples: List<Sample>,
-) -> Result<IndexMap<SampleKey, List<i64>>, Memory>
+    repeated: &IndexSet<u64>,
+) -> Result<Sums, Memory>
     requires wide { All (λ s. length s.value ≡ columns) samples }
     requires fits { (column : ℕ) → column < columns
         → sum_by (λ s. nat_abs (value_in s column)) samples ≤ 2 ^ 63 - 1 }
-    ensures { IfOk result (λ sums. map item_of_key sums.entries
-        ≡ summed same_stack columns (map sample_item samples)) }
+    requires repeated { HoldsRepeated (map sample_number samples) repeated.now.keys }
+    ensures { IfOk result (λ sums. woven_samples sums.order.items sums.sums.entries ≡ summed_samples columns samples) }
 {
-    let mut sums = IndexMap::with_capacity(alloc, samples.len())?;
+    let mut sums = Sums {
+        order: Vec::with_capacity(alloc, samples.len())?,
+        sums: IndexMap::new(alloc),
+    };
     for sample in samples.into_vec() {
-        let key = key_of(sample.location_id, sample.label);
-        add(alloc, &mut sums, key, sample.value)?;
+        take(alloc, &mut sums, repeated, sample)?;
     }
     Ok(sums)
+}
+
+// Adds the sample to the sum of its kind. Where no other has its number, it stands alone.
+fn take(
+    alloc: Global,
+    sums: &mut Sums,
+    repeated: &IndexSet<u64>,
+    sample: Sample,
+) -> Result<(), Memory>
+    requires adds { CanAdd (sum_at same_stack (woven sums.old.order.items sums.old.sums.entries) (sample_stack sample)) sample.value }
+    requires alone { is_among repeated.now.keys (sample_number sample) ≡ false
+        → list_any (same_stack (sample_stack sample)) (keys_of same_stack (woven sums.old.order.items sums.old.sums.entries)) ≡ false }
+    requires state { IsWoven repeated.now.keys sums.old.order.items sums.old.sums.entries }
+    ensures state { OnOk result (IsWoven repeated.now.keys sums.new.order.items sums.new.sums.entries) }
+    ensures sums { OnOk result (woven sums.new.order.items sums.new.sums.entries
+        ≡ sums_with same_stack (woven sums.old.order.items sums.old.sums.entries) (sample_stack sample) sample.value) }
+{
+    if !is_repeated(repeated, &sample) {
+        sums.order.push(Some(sample))?;
+        return Ok(());
+    }
+    let known = sums.sums.len();
+    let key = key_of(sample.location_id, sample.label);
+    add(alloc, &mut sums.sums, key, sample.value)?;
+    if sums.sums.len() > known {
+        sums.order.push(None)?;
+    }
+    Ok(())
+}
+
+// Whether the sample's number is among these.
+fn is_repeated(repeated: &IndexSet<u64>, sample: &Sample) -> bool
+    ensures { result ≡ is_among repeated.now.keys (sample_number sample.now) }
+{
+    let number = number_of(sample.location_id.as_slice(), sample.label.as_slice());
+    repeated.contains(&number)
 }
 
 // The key of these locations and labels.
@@ -88,33 +141,47 @@ fn add(
     Ok(())
 }
 
-// The samples of the keys with these values, but for those whose values are all 0.
-fn kept_samples(alloc: Global, sums: IndexMap<SampleKey, List<i64>>) -> Result<List<Sample>, Memory>
-    ensures { IfOk result (λ samples. samples
-        ≡ kept_samples sums.entries) }
+// The samples with these sums, but for those whose values are all 0.
+fn kept(alloc: Global, sums: Sums) -> Result<List<Sample>, Memory>
+    ensures { IfOk result (λ samples. samples ≡ woven_samples sums.order.items sums.sums.entries) }
 {
-    let mut samples = Vec::with_capacity(alloc, sums.len())?;
-    for (key, value) in sums {
-        push_counting(&mut samples, key, value);
+    let Sums { order, sums } = sums;
+    let mut samples = Vec::with_capacity(alloc, order.len())?;
+    let mut sums = sums.into_iter();
+    for slot in order {
+        match slot {
+            Some(sample) => push_counting(&mut samples, sample),
+            None => {
+                if let Some((key, value)) = sums.next() {
+                    push_counting(&mut samples, sample_of(key, value));
+                }
+            }
+        }
     }
     Ok(List::from_vec(samples))
 }
 
-// Adds the sample at the end where some value isn't 0.
-fn push_counting(samples: &mut Vec<Sample>, key: SampleKey, value: List<i64>)
-    requires { vec_len samples.old < vec_capacity samples.old }
-    ensures items { samples.new.items ≡ samples.old.items ++ kept_samples ((key, value) ∷ []) }
-    ensures len { vec_len samples.new ≤ vec_len samples.old + 1 }
-    ensures capacity { vec_capacity samples.new ≡ vec_capacity samples.old }
+// The sample of the key with these values.
+fn sample_of(key: SampleKey, value: List<i64>) -> Sample
+    ensures { result ≡ sample_of (item_of_key (key, value)) }
 {
-    if is_zero(value.as_slice()) {
-        return;
-    }
-    samples.push_reserved(Sample {
+    Sample {
         location_id: List::from_vec(key.locations),
         value,
         label: List::from_vec(key.labels),
-    });
+    }
+}
+
+// Adds the sample at the end where some value isn't 0.
+fn push_counting(samples: &mut Vec<Sample>, sample: Sample)
+    requires { vec_len samples.old < vec_capacity samples.old }
+    ensures items { samples.new.items ≡ samples.old.items ++ filter has_values (sample ∷ []) }
+    ensures len { vec_len samples.new ≤ vec_len samples.old + 1 }
+    ensures capacity { vec_capacity samples.new ≡ vec_capacity samples.old }
+{
+    if has_values(&sample) {
+        samples.push_reserved(sample);
+    }
 }
 
 /// Whether some value of the sample isn't 0.

@@ -6,7 +6,8 @@ ghost use Rattle.pp_share.specs.Placed.{gist, totalled};
 ghost use Rattle.pp_share.specs.Renumbered.{new_ids, renumbered_sample, stays};
 ghost use Rattle.pp_model.specs.FirstSight.{ids};
 ghost use Rattle.pp_share.specs.Ids.{GivesIds};
-ghost use Rattle.pp_share.specs.Numbers.{AreNumbers, with_sums};
+ghost use Rattle.pp_share.specs.Numbers.{AreNumbers, number_by, with_sums};
+ghost use Rattle.pp_share.specs.Repeats.{HoldsRepeated};
 ghost use Rattle.pp_share.specs.PlaceKeys.{same_place};
 ghost use Rattle.pp_share.specs.SampleKeys.{has_values};
 ghost use Rattle.pp_share.specs.Shared.{distant_locations, with_shared_functions, with_shared_places};
@@ -18,12 +19,13 @@ use crate::change::change_each;
 use crate::first_sight::number_each;
 use crate::functions::share_functions;
 use crate::ids::Ids;
-use crate::numbers::{Numbers, are_distinct, number_samples, number_samples_on};
+use crate::numbers::{Numbers, number_samples, number_samples_on, repeated};
 use crate::places::share_places;
 use crate::renumbering::Renumbering;
-use crate::samples::{counting, sum_samples};
+use crate::samples::{counting, sum_repeated};
 use crate::texts::share_texts;
 use crate::write::write;
+use indexmap::IndexSet;
 use pp_base::{Gate, List, Memory};
 use pp_model::Profile;
 use std::alloc::Global;
@@ -134,7 +136,7 @@ fn share_samples_on<R: Threads + Sync, G: Gate>(
 
 // The same, where the samples are numbered. Most profiles have each sample once. To ask that first, by their numbers,
 // takes far less time than to look each sample up, and the samples then get their new ids where they are gone through
-// next.
+// next. Where some are equal, only those whose number stands more than once are looked up.
 fn write_shared(
     alloc: Global,
     mut p: Profile,
@@ -151,8 +153,9 @@ fn write_shared(
         numbers,
         have_values,
     } = numbers;
-    if !are_distinct(numbers) {
-        return write_summed(alloc, p, by);
+    let repeated = repeated(alloc, numbers)?;
+    if !repeated.is_empty() {
+        return write_summed(alloc, p, by, &repeated);
     }
     keep_counting(alloc, &mut p, have_values);
     write(alloc, p, by)
@@ -168,13 +171,19 @@ fn keep_counting(alloc: Global, p: &mut Profile, have_values: bool)
 }
 
 // The profile, whose tables stand once, with its samples added up, in the order of a walk over them.
-fn write_summed(alloc: Global, mut p: Profile, by: &Renumbering) -> Result<Profile, Memory>
+fn write_summed(
+    alloc: Global,
+    mut p: Profile,
+    by: &Renumbering,
+    repeated: &IndexSet<u64>,
+) -> Result<Profile, Memory>
     requires wide { All (λ s. length s.value ≡ length p.sample_type) p.sample }
     requires fits { (column : ℕ) → column < length p.sample_type
         → sum_by (λ s. nat_abs (value_in s column)) p.sample ≤ 2 ^ 63 - 1 }
+    requires repeated { HoldsRepeated (map (number_by (new_ids by.now)) p.sample) repeated.now.keys }
     ensures { IfOk result (IsWalked (with_sums (new_ids by.now) p)) }
 {
-    sum_equal(alloc, &mut p, by)?;
+    sum_equal(alloc, &mut p, by, repeated)?;
     let stays = stays();
     let summed = write(alloc, p, &stays);
     mem::drop(stays);
@@ -182,15 +191,21 @@ fn write_summed(alloc: Global, mut p: Profile, by: &Renumbering) -> Result<Profi
 }
 
 // Gives the samples their new ids, and adds up those that are equal then.
-fn sum_equal(alloc: Global, p: &mut Profile, by: &Renumbering) -> Result<(), Memory>
+fn sum_equal(
+    alloc: Global,
+    p: &mut Profile,
+    by: &Renumbering,
+    repeated: &IndexSet<u64>,
+) -> Result<(), Memory>
     requires wide { All (λ s. length s.value ≡ length p.old.sample_type) p.old.sample }
     requires fits { (column : ℕ) → column < length p.old.sample_type
         → sum_by (λ s. nat_abs (value_in s column)) p.old.sample ≤ 2 ^ 63 - 1 }
+    requires repeated { HoldsRepeated (map (number_by (new_ids by.now)) p.old.sample) repeated.now.keys }
     ensures { OnOk result (p.new ≡ with_sums (new_ids by.now) p.old) }
 {
     let mut samples = mem::replace(&mut p.sample, List::new(alloc));
     change_each(&mut samples, by);
-    p.sample = sum_samples(alloc, p.sample_type.len(), samples)?;
+    p.sample = sum_repeated(alloc, p.sample_type.len(), samples, repeated)?;
     Ok(())
 }
 

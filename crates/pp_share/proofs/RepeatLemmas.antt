@@ -1,0 +1,135 @@
+-- Numbers that stand more than once in a list.
+use Rattle.std.proofs.Common.{◌≡◌, ℕ, zero, suc, ◌+◌, ◌-◌, ◌<◌, ◌≤◌, ◌==◌, Bool, true, false, true≢false, cond, ◌||◌, List, [], ◌∷◌, ◌++◌, length, get_or, ⊎_elim, refl, sym, ap, subst, ◌∙◌, if◌then◌else◌, arith}
+use Rattle.std.specs.Ordering.{nat_cmp}
+use Rattle.std.specs.Prelude.{nat_eq}
+use Rattle.std.specs.List.{list_any, AllByRecursion, IsDistinct}
+use Rattle.std.specs.List.Sorted.{IsPermutation, IsSorted}
+use Rattle.std.proofs.lemmas.Bool.{cases_lt}
+use Rattle.std.proofs.lemmas.List.Folds.{list_any-append}
+use Rattle.std.proofs.lemmas.List.Sorted.{IsNonDecreasingBy-from_sort, all_adjacent_from_non_decreasing, sum_by-IsPermutation}
+use Rattle.indexmap.specs.IndexSet.{insert_key}
+use Rattle.std.proofs.lemmas.Bool.Decides.{Decides-eqb}
+use Rattle.std.proofs.lemmas.List.Sums.{sum_by-cons, sum_by-append}
+use Rattle.pp_share.specs.Repeats.{is_among, times, HoldsRepeated, HoldsNext}
+
+-- one number more
+pub times-cons : (x n : ℕ) (ns : List ℕ) → times x (n ∷ ns) ≡ cond (x == n) 1 0 + times x ns
+times-cons x n ns = sum_by-cons (λ m. cond (x == m) 1 0) n ns
+
+pub times-append : (x : ℕ) (ns ms : List ℕ) → times x (ns ++ ms) ≡ times x ns + times x ms
+times-append x ns ms = sum_by-append (λ m. cond (x == m) 1 0) ns ms
+
+-- a number is itself
+pub itself : (x : ℕ) → (x == x) ≡ true
+itself x = (Decides-eqb x x).1 refl
+
+-- a number that stands nowhere differs from each
+pub never : (x : ℕ) (ns : List ℕ) → times x ns ≡ 0 → AllByRecursion (λ n. (x == n) ≡ false) ns
+never x [] none = tt
+never x (n ∷ ns) none = by (x == n) refl (never x ns) (sym (times-cons x n ns) ∙ none)
+  where
+    by : (b : Bool) → (x == n) ≡ b → (times x ns ≡ 0 → AllByRecursion (λ n. (x == n) ≡ false) ns) → cond b 1 0 + times x ns ≡ 0 → AllByRecursion (λ n. (x == n) ≡ false) (n ∷ ns)
+    by true is rest none = absurd (omega (arith, none))
+    by false is rest none = (is, rest (omega (arith, none)))
+
+-- numbers of which none stands more than once differ
+pub distinct_numbers : (ns : List ℕ) → ((x : ℕ) → times x ns ≤ 1) → IsDistinct (λ a b. a == b) ns
+unfolding IsDistinct
+distinct_numbers [] once = tt
+distinct_numbers (n ∷ ns) once = (
+  never n ns (omega (arith, once n, times-cons n n ns, ap {B = ℕ} (λ b. cond b 1 0) (itself n))),
+  distinct_numbers ns (λ x. omega (arith, once x, times-cons x n ns)),
+)
+
+-- where none is repeated, all differ
+pub none_repeated : (ns : List ℕ) → HoldsRepeated ns [] → IsDistinct (λ a b. a == b) ns
+none_repeated ns none = distinct_numbers ns (λ x. by x (times x ns) refl)
+  where
+    by : (x k : ℕ) → times x ns ≡ k → k ≤ 1
+    by x zero is = omega arith
+    by x (suc zero) is = omega arith
+    by x (suc (suc k)) is = absurd (true≢false (sym (none x (omega (arith, is)))))
+
+-- no number is less than the one before it
+abbrev pub Rises : List ℕ → Type 0
+Rises ns = (k : ℕ) → suc k < length ns → get_or ns k 0 ≤ get_or ns (suc k) 0
+
+-- each number that stands next to itself is among the repeated ones
+abbrev HoldsNeighbours : List ℕ → List ℕ → Type 0
+HoldsNeighbours ns repeated = (k : ℕ) → suc k < length ns → get_or ns k 0 ≡ get_or ns (suc k) 0 → is_among repeated (get_or ns k 0) ≡ true
+
+-- the first of rising numbers is the least
+first_least : (x n : ℕ) (ns : List ℕ) → Rises (n ∷ ns) → 0 < times x (n ∷ ns) → n ≤ x
+first_least x n [] rises stands = by (x == n) refl (omega (arith, stands, times-cons x n []))
+  where
+    by : (b : Bool) → (x == n) ≡ b → 0 < cond b 1 0 + 0 → n ≤ x
+    by true is some = omega (arith, (Decides-eqb x n).0 is)
+    by false is some = absurd (omega (arith, some))
+first_least x n (m ∷ ms) rises stands =
+    by (x == n) refl (first_least x m ms (λ k within. rises (suc k) (omega (arith, within)))) (omega (arith, stands, times-cons x n (m ∷ ms)))
+  where
+    by : (b : Bool) → (x == n) ≡ b → (0 < times x (m ∷ ms) → m ≤ x) → 0 < cond b 1 0 + times x (m ∷ ms) → n ≤ x
+    by true is least some = omega (arith, (Decides-eqb x n).0 is)
+    by false is least some = omega (arith, rises 0 (omega arith), least (omega (arith, some)))
+
+-- Rising numbers that stand more than once stand next to themselves.
+repeated_are : (ns repeated : List ℕ) → Rises ns → HoldsNeighbours ns repeated → HoldsRepeated ns repeated
+repeated_are [] repeated rises next x more = absurd (omega (arith, more))
+repeated_are (n ∷ ns) repeated rises next x more =
+    by (x == n) refl
+    (repeated_are ns repeated (λ k within. rises (suc k) (omega (arith, within))) (λ k within same. next (suc k) (omega (arith, within)) same) x)
+    (omega (arith, more, times-cons x n ns))
+  where
+    second : (ms : List ℕ) → Rises (n ∷ ms) → HoldsNeighbours (n ∷ ms) repeated → x ≡ n → 0 < times x ms → is_among repeated x ≡ true
+    second [] up next is some = absurd (omega (arith, some))
+    second (m ∷ ms) up next is some =
+        let least : m ≤ x = first_least x m ms (λ k within. up (suc k) (omega (arith, within))) some in
+        let same : n ≡ m = omega (arith, least, is, up 0 (omega arith)) in
+        ap (is_among repeated) is ∙ next 0 (omega arith) same
+
+    by : (b : Bool) → (x == n) ≡ b → (1 < times x ns → is_among repeated x ≡ true) → 1 < cond b 1 0 + times x ns → is_among repeated x ≡ true
+    by true is rest some = second ns rises next ((Decides-eqb x n).0 is) (omega (arith, some))
+    by false is rest some = rest (omega (arith, some))
+
+-- the numbers below the place that stand next to themselves
+abbrev pub HoldsBelow : List ℕ → ℕ → List ℕ → Type 0
+HoldsBelow ns below repeated = (k : ℕ) → k + 1 < below → get_or ns k 0 ≡ get_or ns (k + 1) 0 → is_among repeated (get_or ns k 0) ≡ true
+
+-- a number more, which is among them where it stands next to itself
+pub one_more : (ns before after : List ℕ) (index : ℕ) → HoldsBelow ns index before → ((n : ℕ) → is_among before n ≡ true → is_among after n ≡ true)
+    → (get_or ns (index - 1) 0 ≡ get_or ns index 0 → is_among after (get_or ns (index - 1) 0) ≡ true) → HoldsBelow ns (index + 1) after
+one_more ns before after index holds keeps here k within same =
+    ⊎_elim (λ lower. keeps (get_or ns k 0) (holds k lower same))
+    (λ last.
+    let next : index ≡ k + 1 = omega (arith, within, last) in
+    let at : index - 1 ≡ k = omega (arith, next) in
+    subst (λ i. is_among after (get_or ns i 0) ≡ true) at (here (ap (λ i. get_or ns i 0) at ∙ same ∙ ap (λ i. get_or ns i 0) (sym next))))
+    (cases_lt (k + 1) index)
+
+-- what was among them stays, and a number that is put in is among them
+pub stays_among : (ks : List ℕ) (n m : ℕ) → is_among ks m ≡ true → is_among (insert_key nat_eq ks n) m ≡ true
+stays_among ks n m is = by (list_any (nat_eq n) ks)
+  where
+    by : (b : Bool) → is_among (if b then ks else ks ++ n ∷ []) m ≡ true
+    by true = is
+    by false = list_any-append (λ k. m == k) ks (n ∷ []) ∙ ap (λ b. b || ((m == n) || false)) is
+
+pub now_among : (ks : List ℕ) (n : ℕ) → is_among (insert_key nat_eq ks n) n ≡ true
+now_among ks n = by (list_any (nat_eq n) ks) refl
+  where
+    by : (b : Bool) → list_any (nat_eq n) ks ≡ b → is_among (if b then ks else ks ++ n ∷ []) n ≡ true
+    by true is = is
+    by false is = list_any-append (λ k. n == k) ks (n ∷ []) ∙ ap (λ b. b || ((n == n) || false)) is ∙ ap (λ b. b || false) (itself n)
+
+-- once they are sorted, the numbers that stand more than once stand next to themselves
+pub repeated_sorted : (old new repeated : List ℕ) → IsPermutation old new → IsSorted nat_cmp new → HoldsNext new repeated → HoldsRepeated old repeated
+repeated_sorted old new repeated shuffled sorted next x more =
+    repeated_are new repeated
+    (λ k within.
+    subst (λ j. get_or new k 0 ≤ get_or new j 0) (succeeds k)
+    (all_adjacent_from_non_decreasing (λ n. n) new (IsNonDecreasingBy-from_sort (λ n. n) new sorted) k 0 (omega (arith, within))))
+    (λ k within same. next k (omega (arith, within)) (same ∙ ap (λ j. get_or new j 0) (sym (succeeds k)))) x
+    (omega (arith, more, sum_by-IsPermutation (λ n. cond (x == n) 1 0) old new shuffled))
+  where
+    succeeds : (k : ℕ) → k + 1 ≡ suc k
+    succeeds k = omega arith

@@ -1,0 +1,261 @@
+-- Sums of samples of which some stand alone.
+use Rattle.std.proofs.Common.{◌≡◌, ℕ, zero, suc, ◌+◌, ◌<◌, ◌≤◌, ◌==◌, Bool, true, false, true≢false, cond, ◌||◌, ℤ, Option, None, Some, List, [], ◌∷◌, ◌++◌, length, map, filter, refl, sym, ap, subst, ◌∙◌, if◌then◌else◌, arith}
+use Rattle.std.specs.List.{list_any, AllByRecursion}
+use Rattle.std.specs.Map.{lookup}
+use Rattle.std.specs.Option.{is_none, unwrap_or}
+use Rattle.std.proofs.lemmas.List.{length-append, length-map}
+use Rattle.std.proofs.lemmas.List.Elements.{filter-append}
+use Rattle.std.proofs.lemmas.Simd.{map-map}
+use Rattle.indexmap.specs.IndexMap.{insert_entry}
+use Rattle.pp_base.proofs.Lists.{all_push}
+use Rattle.pp_model.specs.declared.profile.Label.{Label}
+use Rattle.pp_model.specs.declared.profile.Sample.{Sample}
+use Rattle.pp_model.specs.FirstSight.{distinct}
+use Rattle.pp_model.proofs.FirstSightLemmas.{all-seen_after}
+use Rattle.pp_share.specs.declared.sample_key.SampleKey.{SampleKey}
+use Rattle.pp_share.specs.Repeats.{is_among, times, HoldsRepeated}
+use Rattle.pp_share.specs.SampleKeys.{sample_item, sample_number, sample_stack, key_lists, same_key, item_of_key}
+use Rattle.pp_share.specs.SampleStacks.{same_stack, stack_number, stack_decides}
+use Rattle.pp_share.specs.Sums.{sum_with, sum_of, keys_of, summed, sum_at, sums_with, CanAdd}
+use Rattle.pp_share.specs.Woven.{Item, woven_items, woven, StandsAlone, IsWoven}
+use Rattle.pp_share.proofs.Prefix.{IsNext, next_weight}
+use Rattle.pp_share.proofs.RepeatLemmas.{itself, never}
+use Rattle.pp_share.proofs.SampleKeyLemmas.{sum_by-map, sum_at-described, insert-described}
+
+abbrev Stack : Type 0
+Stack = List ℕ × List Label
+
+-- a key that is new goes last
+module _ {K : Type 0} (same : K → K → Bool) (k : K) where
+  abbrev is_key : List (K × List ℤ) → Bool
+  is_key es = list_any (same k) (keys_of same es)
+
+  insert_new : (v : List ℤ) (es : List (K × List ℤ)) → is_key es ≡ false → insert_entry same es k v ≡ es ++ (k, v) ∷ []
+  insert_new v [] new = refl
+  insert_new v (e ∷ es) new = by (same k e.0) (insert_new v es) new
+    where
+      by : (b : Bool) → (is_key es ≡ false → insert_entry same es k v ≡ es ++ (k, v) ∷ []) → (b || is_key es) ≡ false
+          → (if b then (e.0, v) ∷ es else e ∷ insert_entry same es k v) ≡ e ∷ (es ++ (k, v) ∷ [])
+      by true rest none = absurd (true≢false none)
+      by false rest none = ap (λ l. e ∷ l) (rest none)
+
+  sum_new : (es : List (K × List ℤ)) → is_key es ≡ false → sum_at same es k ≡ []
+  sum_new [] new = refl
+  sum_new (e ∷ es) new = by (same k e.0) (sum_new es) new
+    where
+      by : (b : Bool) → (is_key es ≡ false → sum_at same es k ≡ []) → (b || is_key es) ≡ false → unwrap_or (if b then Some e.1 else lookup (same k) es) [] ≡ []
+      by true rest none = absurd (true≢false none)
+      by false rest none = rest none
+
+  sums_new : (row : List ℤ) (es : List (K × List ℤ)) → is_key es ≡ false → sums_with same es k row ≡ es ++ (k, row) ∷ []
+  sums_new row es new = ap (λ sum. insert_entry same es k (sum_with sum row)) (sum_new es new) ∙ insert_new row es new
+
+  inserted_length : (v : List ℤ) (es : List (K × List ℤ)) → length (insert_entry same es k v) ≡ length es + cond (is_key es) 0 1
+  inserted_length v [] = refl
+  inserted_length v (e ∷ es) = by (same k e.0) (inserted_length v es)
+    where
+      by : (b : Bool) → length (insert_entry same es k v) ≡ length es + cond (is_key es) 0 1
+          → length (if b then (e.0, v) ∷ es else e ∷ insert_entry same es k v) ≡ length (e ∷ es) + cond (b || is_key es) 0 1
+      by true rest = omega arith
+      by false rest = omega (arith, rest)
+
+-- stacks of other numbers differ
+apart_number : (repeated : List ℕ) (k : Stack) (s : Sample) → is_among repeated (stack_number k) ≡ true → is_among repeated (sample_number s) ≡ false → same_stack k (sample_stack s) ≡ false
+apart_number repeated k s here alone = by (same_stack k (sample_stack s)) refl
+  where
+    by : (b : Bool) → same_stack k (sample_stack s) ≡ b → b ≡ false
+    by true is = absurd (true≢false (sym here ∙ ap (λ stack. is_among repeated (stack_number stack)) ((stack_decides k (sample_stack s)).0 is) ∙ alone))
+    by false is = refl
+
+-- the order with one more place for a sum, where its key is new
+abbrev with_place : Bool → List (Option Sample) → List (Option Sample)
+with_place true order = order
+with_place false order = order ++ None ∷ []
+
+abbrev places : List (Option Sample) → ℕ
+places order = length (filter is_none order)
+
+places_with : (known : Bool) (order : List (Option Sample)) → places (with_place known order) ≡ places order + cond known 0 1
+places_with true order = omega arith
+places_with false order = ap length (filter-append is_none order (None ∷ [])) ∙ length-append (filter is_none order) (None ∷ [])
+
+-- A key whose number is repeated is looked up among the sums.
+module _ (repeated : List ℕ) (k : Stack) (here : is_among repeated (stack_number k) ≡ true) where
+  found : (order : List (Option Sample)) (items : List Item) → AllByRecursion (StandsAlone repeated) order → places order ≡ length items
+      → lookup (same_stack k) (woven_items order items) ≡ lookup (same_stack k) items
+  found [] [] alone many = refl
+  found [] (i ∷ items) alone many = absurd (omega (arith, many))
+  found (Some s ∷ order) items alone many =
+      ap (λ b. if b then Some s.value else lookup (same_stack k) (woven_items order items)) (apart_number repeated k s here alone.0) ∙ found order items alone.1 many
+  found (None ∷ order) [] alone many = absurd (omega (arith, many))
+  found (None ∷ order) (i ∷ items) alone many = ap (λ o. if same_stack k i.0 then Some i.1 else o) (found order items alone.1 (omega (arith, many)))
+
+  placed : (v : List ℤ) (order : List (Option Sample)) (items : List Item) → AllByRecursion (StandsAlone repeated) order → places order ≡ length items
+      → woven_items (with_place (is_key same_stack k items) order) (insert_entry same_stack items k v) ≡ insert_entry same_stack (woven_items order items) k v
+  placed v [] [] alone many = refl
+  placed v [] (i ∷ items) alone many = absurd (omega (arith, many))
+  placed v (Some s ∷ order) items alone many =
+      turn (is_key same_stack k items) ∙ ap (λ l. sample_item s ∷ l) (placed v order items alone.1 many)
+      ∙ sym (ap (λ b. if b then (sample_stack s, v) ∷ woven_items order items else sample_item s ∷ insert_entry same_stack (woven_items order items) k v) (apart_number repeated k s here alone.0))
+    where
+      turn : (b : Bool) → woven_items (with_place b (Some s ∷ order)) (insert_entry same_stack items k v) ≡ sample_item s ∷ woven_items (with_place b order) (insert_entry same_stack items k v)
+      turn true = refl
+      turn false = refl
+  placed v (None ∷ order) [] alone many = absurd (omega (arith, many))
+  placed v (None ∷ order) (i ∷ items) alone many = by (same_stack k i.0) (placed v order items alone.1 (omega (arith, many)))
+    where
+      turn : (b : Bool) (more : List Item) → woven_items (with_place b order) more ≡ insert_entry same_stack (woven_items order items) k v
+          → woven_items (with_place b (None ∷ order)) (i ∷ more) ≡ i ∷ insert_entry same_stack (woven_items order items) k v
+      turn true more is = ap (λ l. i ∷ l) is
+      turn false more is = ap (λ l. i ∷ l) is
+
+      by : (b : Bool) → woven_items (with_place (is_key same_stack k items) order) (insert_entry same_stack items k v) ≡ insert_entry same_stack (woven_items order items) k v
+          → woven_items (with_place (b || is_key same_stack k items) (None ∷ order)) (if b then (i.0, v) ∷ items else i ∷ insert_entry same_stack items k v)
+          ≡ (if b then (i.0, v) ∷ woven_items order items else i ∷ insert_entry same_stack (woven_items order items) k v)
+      by true rest = refl
+      by false rest = turn (is_key same_stack k items) (insert_entry same_stack items k v) rest
+
+-- A row of a key whose number is repeated.
+module _ (repeated : List ℕ) (order : List (Option Sample)) (sums : List (SampleKey × List ℤ)) (before : IsWoven repeated order sums)
+    (key : SampleKey) (row : List ℤ) (here : is_among repeated (stack_number (key_lists key)) ≡ true) where
+  many : places order ≡ length (map item_of_key sums)
+  many = before.places ∙ sym (length-map sums item_of_key)
+
+  -- its sum is found among the sums
+  sum_found : sum_at same_stack (woven order sums) (key_lists key) ≡ sum_at same_key sums key
+  sum_found =
+      ap (λ o. unwrap_or o []) (found repeated (key_lists key) here order (map item_of_key sums) before.alone many)
+      ∙ sym (sum_at-described same_stack key_lists sums key)
+
+  pub can_add_found : CanAdd (sum_at same_stack (woven order sums) (key_lists key)) row → CanAdd (sum_at same_key sums key) row
+  can_add_found can = subst (λ sum. CanAdd sum row) sum_found can
+
+  abbrev after : List (SampleKey × List ℤ)
+  after = sums_with same_key sums key row
+
+  abbrev known : Bool
+  known = is_key same_stack (key_lists key) (map item_of_key sums)
+
+  after_is : map item_of_key after ≡ insert_entry same_stack (map item_of_key sums) (key_lists key) (sum_with (sum_at same_key sums key) row)
+  after_is = insert-described same_stack key_lists sums key (sum_with (sum_at same_key sums key) row)
+
+  longer : length after ≡ length sums + cond known 0 1
+  longer =
+      sym (length-map after item_of_key) ∙ ap length after_is
+      ∙ inserted_length same_stack (key_lists key) (sum_with (sum_at same_key sums key) row) (map item_of_key sums)
+      ∙ ap (λ n. n + cond known 0 1) (length-map sums item_of_key)
+
+  woven_after : woven (with_place known order) after ≡ sums_with same_stack (woven order sums) (key_lists key) row
+  woven_after =
+      ap (woven_items (with_place known order)) after_is
+      ∙ placed repeated (key_lists key) here (sum_with (sum_at same_key sums key) row) order (map item_of_key sums) before.alone many
+      ∙ ap (λ sum. insert_entry same_stack (woven order sums) (key_lists key) (sum_with sum row)) (sym sum_found)
+
+  still_alone : (b : Bool) → AllByRecursion (StandsAlone repeated) (with_place b order)
+  still_alone true = before.alone
+  still_alone false = all_push (StandsAlone repeated) order None before.alone tt
+
+  woven_state : IsWoven repeated (with_place known order) after
+  woven_state = record {
+    places = places_with known order ∙ ap (λ n. n + cond known 0 1) before.places ∙ sym longer;
+    alone = still_alone known;
+  }
+
+  pub record IsAdded (to : List (Option Sample)) : Type 0 where
+    pub state : IsWoven repeated to after
+    pub woven_sums : woven to after ≡ sums_with same_stack (woven order sums) (key_lists key) row
+
+  added_at : (b : Bool) → known ≡ b → IsAdded (with_place b order)
+  added_at b is = subst (λ c. IsAdded (with_place c order)) is (record { state = woven_state; woven_sums = woven_after })
+
+  -- the sums are no more than before: the key was known
+  pub added_known : length after ≤ length sums → IsAdded order
+  added_known no_more = by known refl
+    where
+      by : (b : Bool) → known ≡ b → IsAdded order
+      by true is = added_at true is
+      by false is = absurd (omega (arith, no_more, longer, ap {B = ℕ} (λ b. cond b 0 1) is))
+
+  -- one more: its place goes last
+  pub added_new : length sums < length after → IsAdded (order ++ None ∷ [])
+  added_new more = by known refl
+    where
+      by : (b : Bool) → known ≡ b → IsAdded (order ++ None ∷ [])
+      by true is = absurd (omega (arith, more, longer, ap {B = ℕ} (λ b. cond b 0 1) is))
+      by false is = added_at false is
+
+-- A sample whose number no other has goes last.
+module _ (repeated : List ℕ) (s : Sample) (alone : is_among repeated (sample_number s) ≡ false) where
+  goes_last : (order : List (Option Sample)) (items : List Item) → woven_items (order ++ Some s ∷ []) items ≡ woven_items order items ++ sample_item s ∷ []
+  goes_last [] items = refl
+  goes_last (Some o ∷ order) items = ap (λ l. sample_item o ∷ l) (goes_last order items)
+  goes_last (None ∷ order) [] = goes_last order []
+  goes_last (None ∷ order) (i ∷ items) = ap (λ l. i ∷ l) (goes_last order items)
+
+  pub alone_state : (order : List (Option Sample)) (sums : List (SampleKey × List ℤ)) → IsWoven repeated order sums → IsWoven repeated (order ++ Some s ∷ []) sums
+  alone_state order sums state = record {
+    places = ap length (filter-append is_none order (Some s ∷ [])) ∙ length-append (filter is_none order) [] ∙ omega (arith, state.places);
+    alone = all_push (StandsAlone repeated) order (Some s) state.alone alone;
+  }
+
+  pub alone_sums : (order : List (Option Sample)) (sums : List (SampleKey × List ℤ)) → list_any (same_stack (sample_stack s)) (keys_of same_stack (woven order sums)) ≡ false
+      → woven (order ++ Some s ∷ []) sums ≡ sums_with same_stack (woven order sums) (sample_stack s) s.value
+  alone_sums order sums new = goes_last order (map item_of_key sums) ∙ sym (sums_new same_stack (sample_stack s) s.value (woven order sums) new)
+
+none_any : {X : Type 0} (test : X → Bool) (xs : List X) → AllByRecursion (λ x. test x ≡ false) xs → list_any test xs ≡ false
+none_any test [] none = refl
+none_any test (x ∷ xs) none = (λ j. none.0 j || none_any test xs none.1 j)
+
+-- the stack isn't that of the sample
+abbrev Other : Sample → Stack → Type 0
+Other s k = same_stack (sample_stack s) k ≡ false
+
+-- samples of other numbers
+others : (s : Sample) (os : List Sample) → AllByRecursion (λ n. (sample_number s == n) ≡ false) (map sample_number os) → AllByRecursion (Other s) (map sample_stack os)
+others s [] all = tt
+others s (o ∷ os) all = (by (same_stack (sample_stack s) (sample_stack o)) refl, others s os all.1)
+  where
+    by : (b : Bool) → same_stack (sample_stack s) (sample_stack o) ≡ b → b ≡ false
+    by true is =
+        absurd (true≢false (sym (itself (sample_number s)) ∙ ap (λ stack. sample_number s == stack_number stack) ((stack_decides (sample_stack s) (sample_stack o)).0 is)
+        ∙ all.0))
+    by false is = refl
+
+same_list : (xs : List Stack) → map (λ x. x) xs ≡ xs
+same_list [] = refl
+same_list (x ∷ xs) = ap (λ l. x ∷ l) (same_list xs)
+
+-- The next sample's number is not repeated: no sum so far is of its kind.
+module _ (repeated : List ℕ) (columns : ℕ) (samples seen : List Sample) (s : Sample) (next : IsNext samples seen s) (holds : HoldsRepeated (map sample_number samples) repeated)
+    (alone : is_among repeated (sample_number s) ≡ false) where
+  abbrev number : ℕ
+  number = sample_number s
+
+  once : (n : ℕ) → times number (map sample_number samples) ≡ n → n ≤ 1
+  once zero is = omega arith
+  once (suc zero) is = omega arith
+  once (suc (suc n)) is = absurd (true≢false (sym (holds number (omega (arith, is))) ∙ alone))
+
+  none_so_far : times number (map sample_number seen) ≡ 0
+  none_so_far =
+      omega (
+        arith,
+        once (times number (map sample_number samples)) refl,
+        sum_by-map (λ n. cond (number == n) 1 0) sample_number samples,
+        sum_by-map (λ n. cond (number == n) 1 0) sample_number seen,
+        next_weight samples seen s next (λ o. cond (number == sample_number o) 1 0),
+        ap {B = ℕ} (λ b. cond b 1 0) (itself number),
+      )
+
+  keys_are : keys_of same_stack (summed same_stack columns (map sample_item seen)) ≡ distinct same_stack (map sample_stack seen)
+  keys_are =
+      map-map (λ (item : Item). item.0) (λ key. (key, sum_of same_stack columns (map sample_item seen) key)) (distinct same_stack (keys_of same_stack (map sample_item seen)))
+      ∙ same_list (distinct same_stack (keys_of same_stack (map sample_item seen)))
+      ∙ ap (distinct same_stack) (map-map (λ (item : Item). item.0) sample_item seen)
+
+  pub alone_among : list_any (same_stack (sample_stack s)) (keys_of same_stack (summed same_stack columns (map sample_item seen))) ≡ false
+  alone_among =
+      ap (list_any (same_stack (sample_stack s))) keys_are
+      ∙ none_any (same_stack (sample_stack s)) (distinct same_stack (map sample_stack seen))
+      (all-seen_after same_stack same_stack (λ k. k) (Other s) (λ a b _ _. refl) [] (map sample_stack seen) tt
+      (others s seen (never number (map sample_number seen) none_so_far)))
