@@ -1,5 +1,5 @@
 -- The samples of the pieces so far, and what they come to with one more piece.
-use Rattle.std.proofs.Common.{◌≡◌, ℕ, ◌+◌, ◌*◌, ◌<◌, ◌≤◌, ◌^◌, Bool, true, false, cond, nat_abs, List, [], ◌∷◌, ◌++◌, length, take, get_or, map, All, sym, ap, ◌∙◌, subst, arith, length-append}
+use Rattle.std.proofs.Common.{◌≡◌, ℕ, ◌+◌, ◌*◌, ◌<◌, ◌≤◌, ◌^◌, Bool, true, false, cond, nat_abs, List, [], ◌∷◌, ◌++◌, length, take, get_or, map, All, sym, ap, ◌∙◌, subst, arith, add_assoc, length-append}
 use Rattle.std.specs.List.{sum_by}
 use Rattle.std.specs.Option.{is_some}
 use Rattle.std.specs.Ordering.{nat_cmp}
@@ -173,6 +173,39 @@ part_at job outcomes items i part all same here is =
 -- each piece of the wave has a sample
 pub piece_starts : (job : Counting) (i : ℕ) → i < job.pieces → PIECE * (job.first + i) ≤ length (samples_in_scope job.scope)
 piece_starts job i here = omega (arith, job.within)
+
+-- The wave so far is counted, and its next piece has this part.
+pub record IsNext (job : Counting) (outcomes items : List Part) (i : ℕ) (sofar : Sofar) (part : Part) : Type 0 where
+  pub outcomes_are
+      : AreOutcomes (λ piece. IsPartOf job.scope ((job.first + piece) * PIECE) (piece_of (samples_in_scope job.scope) (job.first + piece))) job.pieces outcomes
+  pub items_are : items ≡ outcomes
+  pub here : i < length items
+  pub part_is : part ≡ get_or items i part
+  pub before : AreCounted job.scope (front_of (samples_in_scope job.scope) (job.first + i)) sofar
+
+-- the part can be added
+pub wave_room : (job : Counting) (outcomes items : List Part) (i : ℕ) (sofar : Sofar) (part : Part)
+    → IsNext job outcomes items i sofar part → (k : ℕ) → HasRoom (tally_at sofar.tallies) part.sums k
+wave_room job outcomes items i sofar part next =
+    let samples = samples_in_scope job.scope in
+    part_room job.scope 0 ((job.first + i) * PIECE) (front_of samples (job.first + i)) (piece_of samples (job.first + i)) (tally_at sofar.tallies) sofar.kept part
+    (omega (arith, job.countable.fits, front_within job.scope samples (job.first + i))) next.before.counted
+    (part_at job outcomes items i part next.outcomes_are next.items_are next.here next.part_is)
+
+-- with the part added
+pub wave_more : (job : Counting) (outcomes items : List Part) (i : ℕ) (sofar new : Sofar) (part : Part)
+    → IsNext job outcomes items i sofar part
+    → new.kept ≡ sofar.kept ++ part.kept → ((k : ℕ) → tally_at new.tallies k ≡ tally_added (tally_at sofar.tallies k) (sums_of k part.sums))
+    → new.matched.slots ≡ either sofar.matched.slots part.matched.slots
+    → AreCounted job.scope (front_of (samples_in_scope job.scope) (job.first + (i + 1))) new
+wave_more job outcomes items i sofar new part next kept each matched =
+    let samples = samples_in_scope job.scope in
+    subst (λ n. AreCounted job.scope (front_of samples n) new) (add_assoc job.first i 1)
+    (piece_more job.scope samples (job.first + i) sofar new part
+    (piece_starts job i (omega (arith, next.here, ap length next.items_are, next.outcomes_are.many)))
+    next.before
+    (part_at job outcomes items i part next.outcomes_are next.items_are next.here next.part_is)
+    kept each matched)
 
 -- before the first piece nothing is counted
 pub none_counted : (scope : Scope) (m : ℕ) (samples : List Sample) (sofar : Sofar) → m ≡ 0 → ((k : ℕ) → tally_at sofar.tallies k ≡ no_tally) → sofar.kept ≡ []

@@ -20,6 +20,7 @@ use crate::waves::count_all;
 use pp_base::{Gate, List, Memory};
 use pp_model::{Config, Loaded, Profile};
 use std::alloc::Global;
+use std::mem;
 use std::thread::Threads;
 
 /// The sums of a report over the base's samples alone: those that carry the label `pprof::base` of the text `true`.
@@ -64,8 +65,9 @@ pub fn base_sums<R: Threads + Sync, G: Gate>(
     let tallies = chosen_tallies(rt, alloc, survey, chosen, gate)?;
     let whole = selected_sum(survey.l, survey.config, survey.column, chosen);
     let numbers = counted.numbers.as_slice();
-    let sums = sums_at(alloc, &tallies, numbers, whole)?;
-    Ok(sums)
+    let sums = sums_at(alloc, &tallies, numbers, whole);
+    mem::drop(tallies);
+    sums
 }
 
 // Those of the numbers whose samples carry the base's label.
@@ -133,11 +135,11 @@ fn sums_at(
     numbers: &[u64],
     whole: i64,
 ) -> Result<BaseSums, Memory>
-    ensures flat { IfOk result (λ sums.
-        sums.flat ≡ map (λ n. (tally_at tallies.now n).flat) numbers.now) }
-    ensures cum { IfOk result (λ sums.
-        sums.cum ≡ map (λ n. (tally_at tallies.now n).cum) numbers.now) }
-    ensures whole { IfOk result (λ sums. sums.whole ≡ whole) }
+    ensures { IfOk result (λ sums. sums ≡ record {
+      flat = map (λ n. (tally_at tallies.now n).flat) numbers.now;
+      cum = map (λ n. (tally_at tallies.now n).cum) numbers.now;
+      whole = whole;
+    }) }
 {
     let mut flat = List::new(alloc);
     let mut cum = List::new(alloc);

@@ -23,6 +23,7 @@ use crate::waves::count_all;
 use pp_base::{Gate, List, Memory};
 use pp_model::{Config, Loaded, Verdicts};
 use std::alloc::Global;
+use std::mem;
 use std::thread::Threads;
 
 /// What the samples of a profile come to in a report.
@@ -61,8 +62,13 @@ pub fn count<R: Threads + Sync, G: Gate>(
 {
     let by = table_and_filters(alloc, l, v, config)?;
     let scope = Scope::whole(l, v, config, &by.1, column, &by.0);
-    let whole = count_whole(rt, alloc, &scope, gate)?;
-    Ok(counted_of(whole, by))
+    match count_whole(rt, alloc, &scope, gate) {
+        Ok(whole) => Ok(counted_of(whole, by)),
+        Err(Memory) => {
+            mem::drop(by);
+            Err(Memory)
+        }
+    }
 }
 
 // What samples are counted by.
@@ -137,13 +143,20 @@ fn count_whole<R: Threads + Sync, G: Gate>(
         ≡ total_of scope.now.l.now.profile f scope.now.config.now scope.now.column) }
 {
     let sofar = count_all(rt, alloc, scope, gate)?;
-    let keyed = sums_so_far(alloc, scope, &sofar)?;
-    let total = report_total(scope.l, scope.config, scope.column, sofar.kept.as_slice());
-    Ok(Whole {
-        sofar,
-        keyed,
-        total,
-    })
+    match sums_so_far(alloc, scope, &sofar) {
+        Ok(keyed) => {
+            let total = report_total(scope.l, scope.config, scope.column, sofar.kept.as_slice());
+            Ok(Whole {
+                sofar,
+                keyed,
+                total,
+            })
+        }
+        Err(Memory) => {
+            mem::drop(sofar);
+            Err(Memory)
+        }
+    }
 }
 
 // What percentages are taken of, where these are the numbers of the samples that the filters leave.

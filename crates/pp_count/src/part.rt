@@ -45,8 +45,25 @@ pub fn count_range(alloc: Global, scope: &Scope, first: u32, count: u32) -> Resu
     ensures { IfOk result (IsPartOf scope.now first (take count (drop first (samples_in_scope scope.now)))) }
 {
     let mut tallies = Tallies::new(alloc, scope.numbers())?;
-    let kept = add_samples(alloc, scope, &mut tallies, first, count)?;
-    let sums = entries(alloc, &tallies)?;
+    part_of(alloc, scope, &mut tallies, first, count)
+}
+
+// The same, by tallies that have none yet.
+fn part_of(
+    alloc: Global,
+    scope: &Scope,
+    tallies: &mut Tallies,
+    first: u32,
+    count: u32,
+) -> Result<Part, Memory>
+    requires sound { IsSoundScope scope.now }
+    requires countable { AreCountable scope.now (samples_in_scope scope.now) }
+    requires within { first + count ≤ length (samples_in_scope scope.now) }
+    requires none { (k : ℕ) → tally_at tallies.old k ≡ no_tally }
+    ensures { IfOk result (IsPartOf scope.now first (take count (drop first (samples_in_scope scope.now)))) }
+{
+    let kept = add_samples(alloc, scope, tallies, first, count)?;
+    let sums = entries(alloc, tallies)?;
     let matched = range_matches(alloc, scope, first, count)?;
     Ok(Part {
         kept,

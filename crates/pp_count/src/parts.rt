@@ -15,6 +15,7 @@ use crate::table::KeyTable;
 use pp_base::{List, Memory};
 use pp_model::{Config, Loaded, Verdicts};
 use std::alloc::Global;
+use std::mem;
 
 /// Counts the samples from number `1024 * piece` up to the next piece, or to the last sample. `table` is the key table
 /// of `l` and `config`. `Err` is want of memory.
@@ -36,7 +37,9 @@ pub fn count_piece(
     let _compact = l.profile.get();
     let filters = Filters::without_tables(alloc, l, v, config)?;
     let scope = Scope::whole(l, v, config, &filters, column, table);
-    count_piece_of(alloc, &scope, piece)
+    let part = count_piece_of(alloc, &scope, piece);
+    mem::drop(filters);
+    part
 }
 
 /// Joins the parts of consecutive ranges of samples, in order. They are spent, also where memory is wanting. `Err` is

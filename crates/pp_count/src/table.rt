@@ -9,6 +9,7 @@ use pp_base::{List, Memory};
 use pp_grain::{Names, key_of};
 use pp_model::{Config, Frame, Loaded, frames_at};
 use std::alloc::Global;
+use std::mem;
 
 /// The keys of a profile's lines, and which line has which.
 #[derive(Drop)]
@@ -40,13 +41,34 @@ pub(crate) fn table_after(
     ensures grown { IfOk result (λ table. Grown l.now.profile names table.names) }
 {
     let mut names = names;
+    match number_locations(alloc, l, config, &mut names) {
+        Ok(location) => Ok(KeyTable { names, location }),
+        Err(Memory) => {
+            mem::drop(names);
+            Err(Memory)
+        }
+    }
+}
+
+// Numbers the keys of all locations' frames.
+fn number_locations(
+    alloc: Global,
+    l: &Loaded,
+    config: &Config,
+    names: &mut Names,
+) -> Result<List<List<u64>>, Memory>
+    requires { All (IsKeyOf l.now.profile) names.old }
+    ensures grown { IfOk result (λ _. Grown l.now.profile names.old names.new) }
+    ensures rows { IfOk result (λ location.
+        AreRows config.now.grain config.now.showcolumns l.now.profile names.new location) }
+{
     let mut location = List::new(alloc);
     for place in 0..l.profile.get().location.len() {
-        let row = number_location(alloc, l, config, place as u64, &mut names)?;
+        let row = number_location(alloc, l, config, place as u64, names)?;
         location.push(row)?;
     }
     let _distinct = names.len();
-    Ok(KeyTable { names, location })
+    Ok(location)
 }
 
 // Numbers the keys of the location's frames.

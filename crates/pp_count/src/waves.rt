@@ -1,5 +1,5 @@
 //! All samples, or chosen ones, counted in waves of pieces on the lanes.
-ghost use Rattle.std.specs.Prelude.{◌≡◌, ◌+◌, ◌*◌, ◌<◌, take, IfOk};
+ghost use Rattle.std.specs.Prelude.{◌≡◌, ◌+◌, ◌*◌, ◌<◌, [], take, IfOk};
 ghost use Rattle.pp_steal.specs.declared.piece.TheConstants.{PIECE};
 ghost use Rattle.pp_count.specs.Scope.{samples_in_scope, IsSoundScope, AreCountable, AreCounted};
 
@@ -9,6 +9,7 @@ use crate::sofar::Sofar;
 use pp_base::{Gate, Memory};
 use pp_steal::{Deal, pieces_of, run_pieces};
 use std::alloc::Global;
+use std::mem;
 use std::thread::Threads;
 
 /// How many pieces are counted before their parts are added. So no more than their parts stand in memory.
@@ -25,8 +26,30 @@ pub fn count_all<'x, R: Threads + Sync, G: Gate>(
     requires countable { AreCountable scope.now (samples_in_scope scope.now) }
     ensures { IfOk result (AreCounted scope.now (samples_in_scope scope.now)) }
 {
-    let pieces = pieces_of(count_of(scope));
     let mut sofar = Sofar::new(alloc, scope.numbers())?;
+    match count_waves(rt, alloc, scope, gate, &mut sofar) {
+        Ok(()) => Ok(sofar),
+        Err(Memory) => {
+            mem::drop(sofar);
+            Err(Memory)
+        }
+    }
+}
+
+// Adds all samples, wave by wave, to a count that has none yet.
+fn count_waves<'x, R: Threads + Sync, G: Gate>(
+    rt: &R,
+    alloc: Global,
+    scope: &Scope<'x>,
+    gate: &G,
+    sofar: &mut Sofar,
+) -> Result<(), Memory>
+    requires sound { IsSoundScope scope.now }
+    requires countable { AreCountable scope.now (samples_in_scope scope.now) }
+    requires none { AreCounted scope.now [] sofar.old }
+    ensures { IfOk result (λ _. AreCounted scope.now (samples_in_scope scope.now) sofar.new) }
+{
+    let pieces = pieces_of(count_of(scope));
     for wave in 0..pieces.div_ceil(WAVE) {
         let first = wave * WAVE;
         let job = Counting {
@@ -35,9 +58,9 @@ pub fn count_all<'x, R: Threads + Sync, G: Gate>(
             first,
             pieces: (pieces - first).min(WAVE),
         };
-        count_wave(rt, &job, gate, &mut sofar)?;
+        count_wave(rt, &job, gate, sofar)?;
     }
-    Ok(sofar)
+    Ok(())
 }
 
 // Counts the pieces of a wave, and adds them to what the samples before it come to.

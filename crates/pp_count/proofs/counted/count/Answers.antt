@@ -19,19 +19,19 @@ count_whole-requires-clause-countable g c = λ _ _. subst (λ scope. AreCountabl
       few = c.requires.countable.samples;
     })
 
-pub returns : goal.returns
-returns g c =
-    let all = subst (λ scope. AreCounted scope (samples_in_scope scope) c.in_ok-whole.whole.sofar) c.whole-scope.ensures c.in_ok-whole.ensures.counted in
-    let keyed = subst (λ scope. AreKeyed scope c.in_ok-whole.whole.keyed) c.whole-scope.ensures c.in_ok-whole.ensures.keyed in
+pub returns-in-Ok : goal.returns-in-Ok
+returns-in-Ok g c =
+    let all = subst (λ scope. AreCounted scope (samples_in_scope scope) c.in-Ok.whole.sofar) c.whole-scope.ensures c.in-Ok.ensures.counted in
+    let keyed = subst (λ scope. AreKeyed scope c.in-Ok.whole.keyed) c.whole-scope.ensures c.in-Ok.ensures.keyed in
     subst (IsCountedOf c.args.l.now c.args.v.now c.args.config.now c.args.column) (sym c.counted_of.ensures)
     (record {
       kept = all.counted.kept;
       sums_are = keyed.sums;
       matches = all.matched refl;
-      total_is = subst (λ scope. (f : Finders) → HoldsFilters scope.l.now scope.v.now scope.config.now f → c.in_ok-whole.whole.total ≡ total_of scope.l.now.profile f scope.config.now scope.column) c.whole-scope.ensures c.in_ok-whole.ensures.total;
+      total_is = subst (λ scope. (f : Finders) → HoldsFilters scope.l.now scope.v.now scope.config.now f → c.in-Ok.whole.total ≡ total_of scope.l.now.profile f scope.config.now scope.column) c.whole-scope.ensures c.in-Ok.ensures.total;
       fits = keyed.fits;
       of_profile = keyed.of_profile;
-      rising = subst (λ n. AreRisingBetween 0 n c.in_ok-whole.whole.sofar.kept) (omega arith) all.counted.rising;
+      rising = subst (λ n. AreRisingBetween 0 n c.in-Ok.whole.sofar.kept) (omega arith) all.counted.rising;
       table = c.in_ok-by.ensures.table;
       filters = c.in_ok-by.ensures.filters;
       names = keyed.names;

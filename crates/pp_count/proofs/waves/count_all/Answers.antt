@@ -1,22 +1,8 @@
-use Rattle.std.proofs.Common.{◌≡◌, ◌+◌, ◌*◌, min, subst, arith}
-use Rattle.std.proofs.lemmas.Grind.{div_ceil_times}
-use Rattle.pp_count.specs.declared.waves.TheConstants.{WAVE}
-use Rattle.pp_count.specs.Scope.{samples_in_scope, AreCounted}
-use Rattle.pp_count.proofs.Pieces.{front_of, none_counted}
+use Rattle.std.proofs.Common.{refl}
+use Rattle.pp_count.specs.Scope.{samples_in_scope}
+use Rattle.pp_count.proofs.Pieces.{none_counted}
 use Rattle.pp_count.proofs.waves.count_all.Goals as goal
 
-pub count_wave-requires-after_bounds : goal.count_wave-requires-after_bounds
-count_wave-requires-after_bounds g c = λ _ _.
-    let started : min (c.loop-wave.wave * WAVE) c.pieces_of-pieces.result ≡ c.loop-wave.wave * WAVE =
-    omega (arith, c.loop-wave-test.true, c.div_ceil-wave-end.ensures, div_ceil_times c.pieces_of-pieces.result WAVE (omega arith)) in
-    subst (λ n. AreCounted c.args.scope.now (front_of (samples_in_scope c.args.scope.now) n) c.loop-wave.sofar) started c.loop-wave.invariant
-
-pub loop-wave-preserved : goal.loop-wave-preserved
-loop-wave-preserved g c =
-    let ended : c.loop-wave.wave * WAVE + c.min.result ≡ min ((c.loop-wave.wave + 1) * WAVE) c.pieces_of-pieces.result =
-    omega (arith, c.min.ensures, c.loop-wave-test.true, c.div_ceil-wave-end.ensures, div_ceil_times c.pieces_of-pieces.result WAVE (omega arith)) in
-    subst (λ n. AreCounted c.args.scope.now (front_of (samples_in_scope c.args.scope.now) n) c.count_wave.new.sofar) ended c.in_ok-count_wave.ensures
-
-pub loop-wave-init : goal.loop-wave-init
-loop-wave-init g c =
-    none_counted c.args.scope.now _ (samples_in_scope c.args.scope.now) c.in_ok-sofar.sofar (omega arith) c.in_ok-sofar.ensures.none c.in_ok-sofar.ensures.kept c.in_ok-sofar.ensures.matched
+pub count_waves-requires-clause-none : goal.count_waves-requires-clause-none
+count_waves-requires-clause-none g c = λ _ _.
+    none_counted c.args.scope.now 0 (samples_in_scope c.args.scope.now) c.in_ok-sofar.sofar refl c.in_ok-sofar.ensures.none c.in_ok-sofar.ensures.kept c.in_ok-sofar.ensures.matched

@@ -1,5 +1,5 @@
 use Rattle.pp_count.proofs.Numbering.{RowsTo}
-use Rattle.pp_count.proofs.table.table_after.Given as goal
+use Rattle.pp_count.proofs.table.number_locations.Given as goal
 
 -- the locations so far have their rows
 abbrev pub invariant-loop-place : goal.invariant-loop-place
