@@ -5,15 +5,18 @@ ghost use Rattle.pp_count.specs.Counted.{report_frames};
 ghost use Rattle.pp_count.specs.Scope.{AreCountable, IsSoundScope, chosen_of, samples_in_scope};
 ghost use Rattle.pp_count.specs.Seeing.{HoldsFilters, filtered_from};
 ghost use Rattle.pp_count.specs.Table.{IsKeyTable};
+ghost use Rattle.pp_source.specs.declared.found.KeyPart.TheVariants.{Line, Routine};
+ghost use Rattle.pp_source.specs.Found.{IsFoundOf};
 ghost use Rattle.pp_source.specs.Ledgers.{AreFound, IsLedgerOf, by_lines};
 
-use crate::found::{KeyPart, found_parts};
+use crate::found::{FoundKeys, KeyPart, found_parts};
 use crate::tallies::KeyTallies;
 use crate::walk::{Walk, add_samples};
 use pp_base::Memory;
 use pp_count::{KeyTable, Scope, Survey, key_table};
 use pp_model::{Config, Grain};
 use std::alloc::Global;
+use std::mem;
 
 /// Sums by the lines and by the routines of frames.
 #[derive(Drop)]
@@ -34,9 +37,9 @@ pub fn ledger_of(alloc: Global, survey: &Survey<'_>) -> Result<Ledger, Memory>
         (report_frames survey.now.l.now.profile f survey.now.config.now survey.now.column)) }
 {
     let config = by_lines(alloc, survey.config)?;
-    let table = key_table(alloc, survey.l, &config)?;
-    let ledger = ledger_in(alloc, survey, &config, &table)?;
-    Ok(ledger)
+    let ledger = ledger_under(alloc, survey, &config);
+    mem::drop(config);
+    ledger
 }
 
 // The configuration under which the lines of frames are counted.
@@ -49,7 +52,23 @@ fn by_lines(alloc: Global, config: &Config) -> Result<Config, Memory>
     Ok(lines)
 }
 
-// The same under this configuration, by its table. The report's filters are those of both configurations.
+// The same under this configuration.
+fn ledger_under(alloc: Global, survey: &Survey<'_>, config: &Config) -> Result<Ledger, Memory>
+    requires { config.now ≡ by_lines survey.now.config.now }
+    ensures found { IfOk result (λ ledger.
+        AreFound survey.now.l.now.profile survey.now.v.now.own ledger.lines.names.keys) }
+    ensures sums { (f : Finders) →
+        HoldsFilters survey.now.l.now survey.now.v.now survey.now.config.now f → IfOk result
+        (IsLedgerOf survey.now.l.now.profile survey.now.v.now.own
+        (report_frames survey.now.l.now.profile f survey.now.config.now survey.now.column)) }
+{
+    let table = key_table(alloc, survey.l, config)?;
+    let ledger = ledger_in(alloc, survey, config, &table);
+    mem::drop(table);
+    ledger
+}
+
+// The same by the table of this configuration. The report's filters are those of both configurations.
 fn ledger_in<'x>(
     alloc: Global,
     survey: &'x Survey<'x>,
@@ -76,8 +95,7 @@ fn ledger_in<'x>(
         over: None,
         chosen: Some(kept),
     };
-    let ledger = ledger_by(alloc, &scope, kept)?;
-    Ok(ledger)
+    ledger_by(alloc, &scope, kept)
 }
 
 // The sums over the samples with these numbers, which are those that the scope chooses.
@@ -96,23 +114,46 @@ fn ledger_by(alloc: Global, scope: &Scope<'_>, kept: &[u32]) -> Result<Ledger, M
         (report_frames scope.now.l.now.profile f scope.now.config.now scope.now.column)) }
 {
     let _valid = scope.l.profile.get();
-    let keys = &scope.table.names;
-    let lines = found_parts(alloc, scope.l, scope.v, KeyPart::Line, keys)?;
-    let routines = found_parts(alloc, scope.l, scope.v, KeyPart::Routine, keys)?;
+    let (lines, routines) = lines_and_routines(alloc, scope)?;
     let walk = Walk {
         scope: *scope,
         lines: &lines,
         routines: &routines,
     };
-    let sums = add_samples(alloc, &walk, kept)?;
-    Ok(Ledger {
-        lines: KeyTallies {
-            names: lines.names,
-            sums: sums.lines,
-        },
-        routines: KeyTallies {
-            names: routines.names,
-            sums: sums.routines,
-        },
-    })
+    match add_samples(alloc, &walk, kept) {
+        Ok(sums) => Ok(Ledger {
+            lines: KeyTallies {
+                names: lines.names,
+                sums: sums.lines,
+            },
+            routines: KeyTallies {
+                names: routines.names,
+                sums: sums.routines,
+            },
+        }),
+        Err(Memory) => {
+            mem::drop(lines);
+            mem::drop(routines);
+            Err(Memory)
+        }
+    }
+}
+
+// The lines and the routines that the own pattern finds.
+fn lines_and_routines(alloc: Global, scope: &Scope<'_>) -> Result<(FoundKeys, FoundKeys), Memory>
+    requires { IsSoundScope scope.now }
+    ensures lines { IfOk result (λ found.
+        IsFoundOf scope.now.v.now.own Line scope.now.table.now.names found.0) }
+    ensures routines { IfOk result (λ found.
+        IsFoundOf scope.now.v.now.own Routine scope.now.table.now.names found.1) }
+{
+    let keys = &scope.table.names;
+    let lines = found_parts(alloc, scope.l, scope.v, KeyPart::Line, keys)?;
+    match found_parts(alloc, scope.l, scope.v, KeyPart::Routine, keys) {
+        Ok(routines) => Ok((lines, routines)),
+        Err(Memory) => {
+            mem::drop(lines);
+            Err(Memory)
+        }
+    }
 }

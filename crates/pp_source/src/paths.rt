@@ -73,14 +73,16 @@ fn paths_of(
         ≡ paths_of (map (λ folder. folder.now) folders.now) file.now (option_copied rest.entry)) }
 {
     let mut paths = List::new(alloc);
-    match rest {
-        Some(rest) => put_under(alloc, folders, from_name(rest), true, &mut paths)?,
-        None if is_absolute(file) => {
-            paths.push(Text::from_slice(alloc, file)?)?;
-            put_under(alloc, folders, from_name(file), false, &mut paths)?;
-        }
-        None => put_under(alloc, folders, from_name(file), true, &mut paths)?,
+    let (path, alone) = match rest {
+        Some(rest) => (rest, true),
+        None => (file, !is_absolute(file)),
+    };
+
+    // A file from the root that nothing was taken off.
+    if !alone {
+        push_path(alloc, file, &mut paths)?;
     }
+    put_under(alloc, folders, from_name(path), alone, &mut paths)?;
     Ok(paths)
 }
 
@@ -119,7 +121,7 @@ fn put_under(
 {
     if folders.is_empty() {
         if alone {
-            paths.push(Text::from_slice(alloc, path)?)?;
+            push_path(alloc, path, paths)?;
         }
         return Ok(());
     }
@@ -127,6 +129,14 @@ fn put_under(
         paths.push(in_folder(alloc, folder, path)?)?;
     }
     Ok(())
+}
+
+// Adds a copy of the path.
+fn push_path(alloc: Global, path: &[u8], paths: &mut List<Text>) -> Result<(), Memory>
+    ensures { IfOk result (λ _. paths.new ≡ paths.old ++ path.now ∷ []) }
+{
+    let copy = Text::from_slice(alloc, path)?;
+    paths.push(copy)
 }
 
 // The path in the folder.

@@ -10,6 +10,7 @@ use pp_base::{List, Memory};
 use pp_count::{Scope, Tallies, add_sample, sample_at, see, selected};
 use pp_model::Sample;
 use std::alloc::Global;
+use std::mem;
 
 /// What a walk over samples looks at.
 #[derive(Clone, Copy)]
@@ -37,17 +38,34 @@ pub fn add_samples(alloc: Global, walk: &Walk<'_>, kept: &[u32]) -> Result<WalkS
     requires chosen { chosen_of walk.now.scope ≡ Some kept.now }
     ensures { IfOk result (HasWalkedTo walk.now (length kept.now) (samples_in_scope walk.now.scope)) }
 {
+    let mut sums = no_sums(alloc, walk)?;
+    match add_kept(alloc, walk, kept, &mut sums) {
+        Ok(()) => Ok(sums),
+        Err(Memory) => {
+            mem::drop(sums);
+            Err(Memory)
+        }
+    }
+}
+
+// Adds the samples to sums that have none yet.
+fn add_kept(alloc: Global, walk: &Walk<'_>, kept: &[u32], sums: &mut WalkSums) -> Result<(), Memory>
+    requires sound { IsSoundWalk walk.now }
+    requires chosen { chosen_of walk.now.scope ≡ Some kept.now }
+    requires none { HasWalkedTo walk.now 0 [] sums.old }
+    ensures { IfOk result (λ _.
+        HasWalkedTo walk.now (length kept.now) (samples_in_scope walk.now.scope) sums.new) }
+{
     let mut stack = List::new(alloc);
     let mut keys = Vec::new(alloc);
     let mut room = Vec::new(alloc);
-    let mut sums = no_sums(alloc, walk)?;
     for place in 0..kept.len() {
         let sample = sample_at(&walk.scope, place);
         if see(&walk.scope, sample, &mut stack, &mut keys)? {
-            add_seen(walk, sample, &keys, place as u64 + 1, &mut room, &mut sums)?;
+            add_seen(walk, sample, &keys, place as u64 + 1, &mut room, sums)?;
         }
     }
-    Ok(sums)
+    Ok(())
 }
 
 fn no_sums(alloc: Global, walk: &Walk<'_>) -> Result<WalkSums, Memory>

@@ -15,26 +15,26 @@ use Rattle.pp_source.proofs.Parts.{are_found}
 use Rattle.pp_source.proofs.Zero.{zero_text}
 use Rattle.pp_source.proofs.ledger.ledger_by.Goals as goal
 
-pub returns-clause-found : goal.returns-clause-found
-returns-clause-found c =
+pub returns-in-Ok-clause-found : goal.returns-in-Ok-clause-found
+returns-in-Ok-clause-found c =
     are_found c.args.scope.now.l.now.profile (zero_text c.args.scope.now.l.now.profile (subst NoRuleFails c.get-valid.ensures.same c.get-valid.ensures.valid)) c.args.scope.now.v.now.own Line
-    c.args.scope.now.table.now.names c.requires.sound.table.keys c.in_ok-lines.lines c.in_ok-lines.ensures
+    c.args.scope.now.table.now.names c.requires.sound.table.keys c.in_ok-lines.lines c.in_ok-lines.ensures.lines
 
-pub returns-clause-sums : goal.returns-clause-sums
-returns-clause-sums c f holds kept_is =
+pub returns-in-Ok-clause-sums : goal.returns-in-Ok-clause-sums
+returns-in-Ok-clause-sums c f holds kept_is =
     let p : Profile = c.args.scope.now.l.now.profile in
     let zero : (text_at p 0 ≡ []) × (0 < length p.text) = zero_text p (subst NoRuleFails c.get-valid.ensures.same c.get-valid.ensures.valid) in
     let compact : IsCompact p = subst IsCompact c.get-valid.ensures.same c.get-valid.ensures.compact in
     let names : List Key = c.args.scope.now.table.now.names in
-    let w = c.in_ok-sums.ensures in
+    let w = c.in-Ok.ensures in
     let chosen : samples_in_scope c.args.scope.now ≡ samples_at p c.args.kept.now = ap (λ o. option_map_or (samples_at p) o p.sample) c.requires.chosen in
     let are : map (renamed (written_key p names)) w.seen ≡ seen_samples p f c.args.scope.now.config.now c.args.scope.now.column (samples_at p c.args.kept.now) =
     w.are.are f holds ∙ ap (seen_samples p f c.args.scope.now.config.now c.args.scope.now.column) chosen in
     record {
       lines =
-          has_tallies p compact zero c.args.scope.now.v.now.own Line names c.requires.sound.table.keys c.in_ok-lines.lines c.in_ok-lines.ensures (length c.args.kept.now) w.seen _ _ w.are.below refl
+          has_tallies p compact zero c.args.scope.now.v.now.own Line names c.requires.sound.table.keys c.in_ok-lines.lines c.in_ok-lines.ensures.lines (length c.args.kept.now) w.seen _ _ w.are.below refl
           w.lines (parts_seen p c.args.scope.now.config.now c.requires.lines c.args.scope.now.column c.args.kept.now names w.seen Line f kept_is are);
       routines =
-          has_tallies p compact zero c.args.scope.now.v.now.own Routine names c.requires.sound.table.keys c.in_ok-routines.routines c.in_ok-routines.ensures (length c.args.kept.now) w.seen _ _ w.are.below refl
+          has_tallies p compact zero c.args.scope.now.v.now.own Routine names c.requires.sound.table.keys c.in_ok-lines.routines c.in_ok-lines.ensures.routines (length c.args.kept.now) w.seen _ _ w.are.below refl
           w.routines (parts_seen p c.args.scope.now.config.now c.requires.lines c.args.scope.now.column c.args.kept.now names w.seen Routine f kept_is are);
     }

@@ -1,4 +1,5 @@
 use Rattle.std.proofs.Common.{◌≡◌, ap, sym, subst, length, ◌∙◌}
+use Rattle.std.specs.Prelude.{IfOk}
 use Rattle.pp_model.specs.declared.config.Config.{Config}
 use Rattle.pp_model.specs.declared.profile.Profile.{Profile}
 use Rattle.pp_count.specs.Counted.{report_frames}
@@ -49,6 +50,6 @@ returns-clause-sums c f holds =
     let is : c.args.config.now ≡ by_lines c.args.survey.now.config.now = c.requires.lines in
     let by : HoldsFilters c.args.survey.now.l.now c.args.survey.now.v.now (by_lines c.args.survey.now.config.now) f =
     record { found = holds.found; tagfocus = holds.tagfocus; tagignore = holds.tagignore } in
-    subst (λ (x : Config). IsLedgerOf p c.args.survey.now.v.now.own (report_frames p f x c.args.survey.now.column) c.in_ok-ledger.ledger) is
-    (c.in_ok-ledger.ensures.sums f (subst (λ (x : Config). HoldsFilters c.args.survey.now.l.now c.args.survey.now.v.now x f) (sym is) by)
+    subst (λ (x : Config). IfOk c.ledger_by.result (IsLedgerOf p c.args.survey.now.v.now.own (report_frames p f x c.args.survey.now.column))) is
+    (c.ledger_by.ensures.sums f (subst (λ (x : Config). HoldsFilters c.args.survey.now.l.now c.args.survey.now.v.now x f) (sym is) by)
     (subst (λ (x : Config). c.as_slice-kept.result.now ≡ filtered_from p f x 0 p.sample) (sym is) (c.as_slice-kept.ensures ∙ c.args.survey.now.counts.kept f holds)))

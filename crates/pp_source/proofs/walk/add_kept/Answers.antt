@@ -7,8 +7,8 @@ use Rattle.pp_count.proofs.Chosen.{chosen_length}
 use Rattle.pp_count.proofs.Ranges.{name_of}
 use Rattle.pp_source.specs.Ledgers.{HasWalkedTo}
 use Rattle.pp_source.proofs.Walking.{lines_ready, routines_ready, walked_more, walked_same}
-use Rattle.pp_source.proofs.walk.add_samples.Goals.{then-branch+in_ok-add_seen, else-branch}
-use Rattle.pp_source.proofs.walk.add_samples.Goals as goal
+use Rattle.pp_source.proofs.walk.add_kept.Goals.{then-branch+in_ok-add_seen, else-branch}
+use Rattle.pp_source.proofs.walk.add_kept.Goals as goal
 
 pub sample_at-sample-requires-clause-within : goal.sample_at-sample-requires-clause-within
 sample_at-sample-requires-clause-within c = omega (arith, c.loop-place-test.true, chosen_length c.args.walk.now.scope c.args.kept.now c.requires.chosen c.requires.sound.scope)
