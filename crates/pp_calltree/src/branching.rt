@@ -79,9 +79,10 @@ fn add_branch<'p, 'k>(
     requires fits { absolute (below (depth + 1) run.now) < 2 ^ 63 }
     ensures { IfOk result (λ _. IsStep depth run.now found.old.items found.new.items) }
 {
-    if let Some(key) = run[0].keys.get(depth) {
-        found.push(branch_of(run, depth, *key)?)?;
-    }
+    let Some(key) = run[0].keys.get(depth) else {
+        return Ok(());
+    };
+    found.push(branch_of(run, depth, *key)?)?;
     Ok(())
 }
 

@@ -28,6 +28,7 @@ use pp_count::{Counted, Scope, Survey};
 use pp_grain::Names;
 use pp_model::{Config, Loaded, Verdicts};
 use std::alloc::Global;
+use std::mem;
 
 /// The paths of the samples that put keys into a report.
 #[derive(Drop)]
@@ -72,6 +73,20 @@ impl<'a> ReportPaths<'a> {
         let sorted = self.sorted(alloc)?;
         let paths = list_paths(alloc, scope.l.profile.get(), names, &sorted)?;
         Ok(PathSums { names, paths })
+    }
+
+    // The nodes of the paths' tree, by the numbers of their keys.
+    fn nodes(&self, alloc: Global) -> Result<List<NumberedNode>, Memory>
+        ensures { (l : Read) (v : Found) (config : Options) (column : Option ℕ) →
+            IsScopeOf l v config column self.now.scope →
+            IfOk result (λ nodes. IsTreeOf l v config column
+            (nodes_by self.now.scope.table.now.names nodes)) }
+    {
+        let scope = self.scope;
+        let sorted = self.sorted(alloc)?;
+        let nodes = lay_out(alloc, scope.l.profile.get(), &scope.table.names, &sorted);
+        mem::drop(sorted);
+        nodes
     }
 
     // The paths in the order of their keys.
@@ -141,10 +156,9 @@ fn named_nodes<'a>(
 {
     let gathered = ReportPaths::gather(alloc, survey)?;
     let scope = gathered.scope;
-    let names = &scope.table.names;
-    let sorted = gathered.sorted(alloc)?;
-    let nodes = lay_out(alloc, scope.l.profile.get(), names, &sorted)?;
-    Ok((names, nodes))
+    let nodes = gathered.nodes(alloc);
+    mem::drop(gathered);
+    Ok((&scope.table.names, nodes?))
 }
 
 // How all samples are seen, each key by its number in the report's table.

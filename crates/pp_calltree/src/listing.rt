@@ -48,10 +48,10 @@ pub fn list_paths<'k>(
     ensures keys { IfOk result (λ sums. All (HasKeysOf p.now names.now) sums.items) }
 {
     let texts = Texts::new(alloc, p, names)?;
-    let mut sums = Vec::with_capacity(alloc, paths.len())?;
     let mut found = Vec::new(alloc);
     let mut waiting = Vec::new(alloc);
     push_branches(&texts, paths, 0, &mut found, &mut waiting)?;
+    let mut sums = Vec::with_capacity(alloc, paths.len())?;
     while let Some(branch) = waiting.pop() {
         pass_on(&texts, &branch, &mut found, &mut waiting, &mut sums)?;
     }

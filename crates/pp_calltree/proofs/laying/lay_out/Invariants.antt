@@ -6,7 +6,7 @@ use Rattle.pp_calltree.proofs.laying.lay_out.Given as goal
 
 -- the nodes so far, and the branches that wait
 abbrev pub invariant-loop-branch : goal.invariant-loop-branch
-invariant-loop-branch l = Laying l.p l.names (below 0 l.fn.paths) l.nodes l.waiting.items
+invariant-loop-branch l = Laying l.p l.names (below 0 l.fn.paths) l.nodes.items l.waiting.items
 
 abbrev pub decreases-loop-branch : goal.decreases-loop-branch
 decreases-loop-branch l = sum_by weight l.waiting.items
