@@ -7,6 +7,7 @@ ghost use Rattle.pp_model.specs.Finders.{Finders};
 ghost use Rattle.pp_model.specs.Rules.{NoRuleFails};
 ghost use Rattle.pp_model.specs.Sizes.{IsCountable};
 ghost use Rattle.pp_merge.specs.Merge.{merged};
+ghost use Rattle.pp_stack.specs.Tables.{AreTables};
 ghost use Rattle.pp_count.specs.Counts.{samples_at};
 ghost use Rattle.pp_count.specs.Seeing.{HoldsFilters, filtered_from};
 ghost use Rattle.pp_dump.specs.Saved.{AreKept, saved};
@@ -22,6 +23,7 @@ use pp_model::{Compact, Loaded, Valid, Verdicts};
 use pp_restack::with_cut;
 use pp_stack::VerdictTables;
 use std::alloc::Global;
+use std::mem;
 
 /// What the filters leave of the profile, merged alone: the samples with the frames and labels that they leave and with
 /// all their values, and the locations with the lines that are left. It has no patterns of its own, and the rest of the
@@ -71,10 +73,27 @@ fn cut_profile(alloc: Global, l: &Loaded, v: &Verdicts, kept: &[u32]) -> Result<
     requires { HasVerdicts l.now.profile v.now }
     ensures { IfOk result (λ q. IsCutOf l.now v.now kept.now q) }
 {
-    let p = l.profile.get();
     let tables = VerdictTables::new(alloc, l, v)?;
+    let cut = cut_by_tables(alloc, l, v, &tables, kept);
+    mem::drop(tables);
+    cut
+}
+
+// The same, by the tables of the profile's verdicts.
+fn cut_by_tables(
+    alloc: Global,
+    l: &Loaded,
+    v: &Verdicts,
+    tables: &VerdictTables,
+    kept: &[u32],
+) -> Result<Valid, Memory>
+    requires verdicts { HasVerdicts l.now.profile v.now }
+    requires tables { AreTables l.now.profile v.now tables.now }
+    ensures { IfOk result (λ q. IsCutOf l.now v.now kept.now q) }
+{
+    let p = l.profile.get();
     let mut cut = none_cut(alloc, p, kept.len())?;
-    cut_samples(alloc, l, v, &tables, kept, &mut cut)?;
+    cut_samples(alloc, l, v, tables, kept, &mut cut)?;
     let places = cut.places;
     let q = with_cut(alloc, p, cut.samples, places.locations)?;
     Ok(Valid::claim(q))

@@ -10,13 +10,13 @@ use Rattle.pp_count.specs.Counts.{samples_at}
 use Rattle.pp_restack.specs.Places.{ArePlaces, IsCutSample, with_cut}
 use Rattle.pp_restack.proofs.CutValid.{own_places, cut_valid}
 use Rattle.pp_dump.specs.Places.{AddsSamples}
-use Rattle.pp_dump.proofs.saved.cut_profile.Goals as goal
+use Rattle.pp_dump.proofs.saved.cut_by_tables.Goals as goal
 
 -- the locations of the profile are places of it, and stand first
 pub cut_samples-requires : goal.cut_samples-requires
 cut_samples-requires c = record {
-  verdicts = c.requires;
-  tables = c.in_ok-tables.ensures;
+  verdicts = c.requires.verdicts;
+  tables = c.requires.tables;
   places =
       subst (λ (locations : List Location). ArePlaces c.args.l.now.profile locations) (sym c.in_ok-cut.ensures.locations)
       (subst (λ (p : Profile). ArePlaces p c.get-p.result.now.location) c.get-p.ensures.same
