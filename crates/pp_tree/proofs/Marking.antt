@@ -140,6 +140,12 @@ pub found_as : {T E : Type 0} (r : Result T E) (new old a b : Written → Bool) 
 found_as (Err e) new old a b same h = tt
 found_as (Ok x) new old a b same h = λ k. h k ∙ ap (λ c. old k || c) (same k)
 
+-- no sample has the number
+pub not_read : (p : Profile) (f : Finders) (config : Config) (column : Option ℕ) (find : Finder) (n : ℕ) → slice_get p.sample n ≡ None
+    → (a : Bool) (k : Written) → a ≡ (a || has_own_number p f config column find k n)
+not_read p f config column find n none a k =
+    sym (or-false a) ∙ ap (λ b. a || b) (sym (ap (λ o. option_map_or (has_own_sample p f config column find k) o false) none))
+
 module _ (p : Profile) (f : Finders) (config : Config) (column : Option ℕ) (find : Finder) (n : ℕ) (s : Sample) (there : slice_get p.sample n ≡ Some s) where
   -- the sample's stack is dropped
   pub dropped : frames_of_sample p f s ≡ None → (a : Bool) (k : Written) → a ≡ (a || has_own_number p f config column find k n)
@@ -151,6 +157,13 @@ module _ (p : Profile) (f : Finders) (config : Config) (column : Option ℕ) (fi
         and-false : (b : Bool) → (b && false) ≡ false
         and-false true = refl
         and-false false = refl
+
+  -- its value is 0
+  pub without_value : selected column config.divide_by s ≡ pos 0 → (a : Bool) (k : Written) → a ≡ (a || has_own_number p f config column find k n)
+  without_value zero a k =
+      sym (or-false a)
+      ∙ ap (λ b. a || b) (sym (ap (λ o. option_map_or (has_own_sample p f config column find k) o false) there
+      ∙ ap (λ z. not (int_eq z (pos 0)) && option_map_or (has_own_frame p config find k) (frames_of_sample p f s) false) zero))
 
   -- it is there, and the value isn't 0
   pub asked : (stack : List Frame) → frames_of_sample p f s ≡ Some stack → (selected column config.divide_by s ≡ pos 0 → ⊥) → (k : Written)
