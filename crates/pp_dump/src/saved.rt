@@ -19,7 +19,7 @@ use crate::cutting::{cut_samples, none_cut};
 use pp_base::Memory;
 use pp_count::Counted;
 use pp_merge::merge_alone;
-use pp_model::{Compact, Loaded, Valid, Verdicts};
+use pp_model::{Compact, Loaded, Profile, Valid, Verdicts};
 use pp_restack::with_cut;
 use pp_stack::VerdictTables;
 use std::alloc::Global;
@@ -76,17 +76,18 @@ fn cut_profile(alloc: Global, l: &Loaded, v: &Verdicts, kept: &[u32]) -> Result<
     let tables = VerdictTables::new(alloc, l, v)?;
     let cut = cut_by_tables(alloc, l, v, &tables, kept);
     mem::drop(tables);
-    cut
+    let q = cut?;
+    Ok(Valid::claim(q))
 }
 
-// The same, by the tables of the profile's verdicts.
+// The profile that is merged alone, as tables, by the tables of these verdicts.
 fn cut_by_tables(
     alloc: Global,
     l: &Loaded,
     v: &Verdicts,
     tables: &VerdictTables,
     kept: &[u32],
-) -> Result<Valid, Memory>
+) -> Result<Profile, Memory>
     requires verdicts { HasVerdicts l.now.profile v.now }
     requires tables { AreTables l.now.profile v.now tables.now }
     ensures { IfOk result (λ q. IsCutOf l.now v.now kept.now q) }
@@ -95,6 +96,5 @@ fn cut_by_tables(
     let mut cut = none_cut(alloc, p, kept.len())?;
     cut_samples(alloc, l, v, tables, kept, &mut cut)?;
     let places = cut.places;
-    let q = with_cut(alloc, p, cut.samples, places.locations)?;
-    Ok(Valid::claim(q))
+    with_cut(alloc, p, cut.samples, places.locations)
 }

@@ -91,7 +91,7 @@ pub fn write_peek_of<R: Threads + Sync, G: Gate>(
     Ok(())
 }
 
-// The lines of the report, of which these names are found.
+// The lines of the report, where the pattern finds these names.
 fn put_found<R: Threads + Sync, G: Gate>(
     rt: &R,
     alloc: Global,

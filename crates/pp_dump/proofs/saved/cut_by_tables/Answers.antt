@@ -1,14 +1,15 @@
-use Rattle.std.proofs.Common.{◌<◌, ◌^◌, ◌++◌, List, [], sym, ap, subst, ◌∙◌}
+use Rattle.std.proofs.Common.{Result, Ok, Err, IfOk, ◌<◌, ◌^◌, List, [], sym, ap, subst, ◌∙◌}
 use Rattle.std.specs.List.{AllByRecursion}
 use Rattle.std.proofs.lemmas.List.{append-nil}
+use Rattle.pp_base.specs.declared.memory.Memory.{Memory}
 use Rattle.pp_model.specs.declared.profile.Location.{Location}
 use Rattle.pp_model.specs.declared.profile.Mapping.{Mapping}
 use Rattle.pp_model.specs.declared.profile.Sample.{Sample}
 use Rattle.pp_model.specs.declared.profile.Profile.{Profile}
 use Rattle.pp_model.specs.Rules.{NoRuleFails, IsCompact}
 use Rattle.pp_count.specs.Counts.{samples_at}
-use Rattle.pp_restack.specs.Places.{ArePlaces, IsCutSample, with_cut}
-use Rattle.pp_restack.proofs.CutValid.{own_places, cut_valid}
+use Rattle.pp_restack.specs.Places.{ArePlaces, with_cut}
+use Rattle.pp_restack.proofs.CutValid.{own_places}
 use Rattle.pp_dump.specs.Places.{AddsSamples}
 use Rattle.pp_dump.proofs.saved.cut_by_tables.Goals as goal
 
@@ -24,18 +25,11 @@ cut_samples-requires c = record {
   front = ([], c.in_ok-cut.ensures.locations ∙ ap (λ (p : Profile). p.location) c.get-p.ensures.same ∙ sym (append-nil c.args.l.now.profile.location));
 }
 
--- what is merged alone keeps the table rules
-pub claim-requires : goal.claim-requires
-claim-requires c =
-    let p = c.get-p.result.now in
-    let adds = c.in_ok-cut_samples.ensures in
-    let new = c.cut_samples.new.cut in
-    let same = c.get-p.ensures.same in
-    subst NoRuleFails (sym c.in_ok-q.ensures.same)
-    (cut_valid p new.samples new.places.locations c.get-p.ensures.valid
-    (subst (λ (q : Profile). ArePlaces q new.places.locations) (sym same) adds.places)
-    (subst (λ (q : Profile). AllByRecursion (IsCutSample q new.places.locations) new.samples) (sym same)
-    (subst (AllByRecursion (IsCutSample c.args.l.now.profile new.places.locations)) (sym (adds.is ∙ ap (λ (samples : List Sample). samples ++ adds.added) c.in_ok-cut.ensures.samples)) adds.each)))
+-- a profile with these samples and locations is what was cut, and the mappings were read
+left_with : (r : Result Profile Memory) (P Q : Profile → Type 0) (starts : Type 0) → (starts → (x : Profile) → P x → Q x)
+    → IfOk r P → IfOk r (λ _. starts) → IfOk r Q
+left_with (Ok x) P Q starts both is read = both read x is
+left_with (Err e) P Q starts both is read = tt
 
 pub returns : goal.returns
 returns c =
@@ -44,15 +38,17 @@ returns c =
     let l = c.args.l.now in
     let v = c.args.v.now in
     let numbered = samples_at l.profile c.args.kept.now in
-    record {
+    left_with c.with_cut.result _ _ _
+    (λ starts q is. record {
       samples = new.samples;
       locations = new.places.locations;
-      is = c.claim.ensures ∙ c.in_ok-q.ensures.same ∙ ap (λ (p : Profile). with_cut p new.samples new.places.locations) same;
+      is = is ∙ ap (λ (p : Profile). with_cut p new.samples new.places.locations) same;
       adds =
           subst (λ (samples : List Sample). AddsSamples l v numbered samples l.profile.location new.samples new.places.locations) c.in_ok-cut.ensures.samples
           (subst (λ (locations : List Location). AddsSamples l v numbered c.in_ok-cut.cut.samples locations new.samples new.places.locations)
           (c.in_ok-cut.ensures.locations ∙ ap (λ (p : Profile). p.location) same) c.in_ok-cut_samples.ensures);
       valid = subst NoRuleFails same c.get-p.ensures.valid;
       compact = subst IsCompact same c.get-p.ensures.compact;
-      starts = subst (λ (p : Profile). AllByRecursion (λ (m : Mapping). m.start < 2 ^ 64) p.mapping) same c.in_ok-q.ensures.starts;
-    }
+      starts = subst (λ (p : Profile). AllByRecursion (λ (m : Mapping). m.start < 2 ^ 64) p.mapping) same starts;
+    })
+    c.with_cut.ensures.same c.with_cut.ensures.starts
