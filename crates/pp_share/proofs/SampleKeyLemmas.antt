@@ -22,7 +22,7 @@ sum_by-map weight f (x ∷ xs) =
     sum_by-cons weight (f x) (map f xs) ∙ ap (λ n. weight (f x) + n) (sum_by-map weight f xs) ∙ sym (sum_by-cons (λ y. weight (f y)) x xs)
 
 -- what comes next comes next where each item is described
-next_described : {X Y : Type 0} (f : X → Y) (all seen : List X) (x : X) → IsNext all seen x → IsNext (map f all) (map f seen) (f x)
+pub next_described : {X Y : Type 0} (f : X → Y) (all seen : List X) (x : X) → IsNext all seen x → IsNext (map f all) (map f seen) (f x)
 next_described f all seen x next =
     let long = length-map seen f in
     record {

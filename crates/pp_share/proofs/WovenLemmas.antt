@@ -1,10 +1,10 @@
 -- Sums of samples of which some stand alone.
-use Rattle.std.proofs.Common.{◌≡◌, ℕ, zero, suc, ◌+◌, ◌<◌, ◌≤◌, ◌==◌, Bool, true, false, true≢false, cond, ◌||◌, ℤ, Option, None, Some, List, [], ◌∷◌, ◌++◌, length, map, filter, refl, sym, ap, subst, ◌∙◌, if◌then◌else◌, arith}
-use Rattle.std.specs.List.{list_any, AllByRecursion}
+use Rattle.std.proofs.Common.{◌≡◌, ℕ, zero, suc, ◌+◌, ◌<◌, ◌≤◌, ◌==◌, Bool, true, false, true≢false, cond, ◌||◌, ℤ, pos, nat_abs, Option, None, Some, List, [], ◌∷◌, ◌++◌, length, map, filter, get_or, sum_by, refl, sym, ap, subst, ◌∙◌, if◌then◌else◌, arith}
+use Rattle.std.specs.List.{All, list_any, AllByRecursion}
 use Rattle.std.specs.Map.{lookup}
 use Rattle.std.specs.Option.{is_none, unwrap_or}
-use Rattle.std.proofs.lemmas.List.{length-append, length-map}
-use Rattle.std.proofs.lemmas.List.Elements.{filter-append}
+use Rattle.std.proofs.lemmas.List.{length-append, length-map, map-append, get_or-map}
+use Rattle.std.proofs.lemmas.List.Elements.{All-map, filter-append}
 use Rattle.std.proofs.lemmas.Simd.{map-map}
 use Rattle.indexmap.specs.IndexMap.{insert_entry}
 use Rattle.pp_base.proofs.Lists.{all_push}
@@ -13,6 +13,8 @@ use Rattle.pp_model.specs.declared.profile.Sample.{Sample}
 use Rattle.pp_model.specs.FirstSight.{distinct}
 use Rattle.pp_model.proofs.FirstSightLemmas.{all-seen_after}
 use Rattle.pp_share.specs.declared.sample_key.SampleKey.{SampleKey}
+use Rattle.pp_share.specs.Numbers.{number_by}
+use Rattle.pp_share.specs.Renumbered.{NewIds, renumbered_sample}
 use Rattle.pp_share.specs.Repeats.{is_among, times, HoldsRepeated}
 use Rattle.pp_share.specs.SampleKeys.{sample_item, sample_number, sample_stack, key_lists, same_key, item_of_key}
 use Rattle.pp_share.specs.SampleStacks.{same_stack, stack_number, stack_decides}
@@ -20,7 +22,7 @@ use Rattle.pp_share.specs.Sums.{sum_with, sum_of, keys_of, summed, sum_at, sums_
 use Rattle.pp_share.specs.Woven.{Item, woven_items, woven, StandsAlone, IsWoven}
 use Rattle.pp_share.proofs.Prefix.{IsNext, next_weight}
 use Rattle.pp_share.proofs.RepeatLemmas.{itself, never}
-use Rattle.pp_share.proofs.SampleKeyLemmas.{sum_by-map, sum_at-described, insert-described}
+use Rattle.pp_share.proofs.SampleKeyLemmas.{sum_by-map, next_described, sum_at-described, insert-described, sample_adds, sums_after}
 
 abbrev Stack : Type 0
 Stack = List ℕ × List Label
@@ -259,3 +261,42 @@ module _ (repeated : List ℕ) (columns : ℕ) (samples seen : List Sample) (s :
       ∙ none_any (same_stack (sample_stack s)) (distinct same_stack (map sample_stack seen))
       (all-seen_after same_stack same_stack (λ k. k) (Other s) (λ a b _ _. refl) [] (map sample_stack seen) tt
       (others s seen (never number (map sample_number seen) none_so_far)))
+
+-- One sample more, which gets its new ids.
+module _ (by : NewIds) (columns : ℕ) (samples seen : List Sample) (s : Sample) (next : IsNext samples seen s) where
+  abbrev moved : Sample → Sample
+  moved = renumbered_sample by
+
+  next_moved : IsNext (map moved samples) (map moved seen) (moved s)
+  next_moved = next_described moved samples seen s next
+
+  -- the number at its place is its own
+  pub moved_number : (numbers : List ℕ) (place : ℕ) → numbers ≡ map (number_by by) samples → place ≡ length seen → get_or numbers place 0 ≡ number_by by s
+  moved_number numbers place are at =
+      (λ j. get_or (are j) (at j) 0) ∙ get_or-map (number_by by) samples (length seen) s 0 next.within ∙ ap (number_by by) (sym next.here)
+
+  module _ (sums : List Item) (so_far : sums ≡ summed same_stack columns (map sample_item (map moved seen))) where
+    module _ (wide : All (λ (s : Sample). length s.value ≡ columns) samples) where
+      wide_moved : All (λ (s : Sample). length s.value ≡ columns) (map moved samples)
+      wide_moved = All-map (λ (s : Sample). length s.value ≡ columns) moved samples wide
+
+      -- its values can be added to the sum of its key
+      pub moved_adds : ((column : ℕ) → column < columns → sum_by (λ (s : Sample). nat_abs (get_or s.value column (pos 0))) samples ≤ 9223372036854775807)
+          → CanAdd (sum_at same_stack sums (sample_stack (moved s))) s.value
+      moved_adds fits =
+          sample_adds columns (map moved samples) (map moved seen) (moved s) next_moved wide_moved sums so_far
+          (λ column lower. omega (arith, fits column lower, sum_by-map (λ (s : Sample). nat_abs (get_or s.value column (pos 0))) moved samples))
+
+      -- the sums after it
+      pub moved_sums : sums_with same_stack sums (sample_stack (moved s)) s.value ≡ summed same_stack columns (map sample_item (map moved (seen ++ s ∷ [])))
+      moved_sums =
+          sums_after columns (map moved samples) (map moved seen) (moved s) next_moved wide_moved sums so_far
+          ∙ ap (λ l. summed same_stack columns (map sample_item l)) (sym (map-append moved seen (s ∷ [])))
+
+    -- no sum so far is of its kind where its number is not repeated
+    pub moved_alone : (repeated : List ℕ) → HoldsRepeated (map (number_by by) samples) repeated → is_among repeated (number_by by s) ≡ false
+        → list_any (same_stack (sample_stack (moved s))) (keys_of same_stack sums) ≡ false
+    moved_alone repeated holds alone =
+        ap (λ l. list_any (same_stack (sample_stack (moved s))) (keys_of same_stack l)) so_far
+        ∙ alone_among repeated columns (map moved samples) (map moved seen) (moved s) next_moved
+        (subst (λ numbers. HoldsRepeated numbers repeated) (sym (map-map sample_number moved samples)) holds) alone

@@ -124,11 +124,12 @@ fn all_have_values(parts: &[Numbers]) -> bool
 }
 
 /// The numbers that stand more than once.
-pub fn repeated(alloc: Global, mut numbers: Vec<u64>) -> Result<IndexSet<u64>, Memory>
-    ensures { IfOk result (λ r. HoldsRepeated numbers.items r.keys) }
+pub fn repeated(alloc: Global, numbers: &[u64]) -> Result<IndexSet<u64>, Memory>
+    ensures { IfOk result (λ r. HoldsRepeated numbers.now r.keys) }
 {
-    numbers.sort_unstable();
-    repeated_next(alloc, numbers.as_slice())
+    let mut sorted = numbers.to_vec(alloc)?;
+    sorted.sort_unstable();
+    repeated_next(alloc, sorted.as_slice())
 }
 
 // The numbers that stand next to themselves.

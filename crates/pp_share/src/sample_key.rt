@@ -35,9 +35,9 @@ impl Hash for SampleKey {
     }
 }
 
-/// A number in which each id and each field of each label counts, and its place.
+// A number in which each id and each field of each label counts, and its place.
 #[tactic(auto, using(std::proofs::lemmas::List::Sums::fold_more))]
-pub fn number_of(ids: &[u64], labels: &[Label]) -> u64
+fn number_of(ids: &[u64], labels: &[Label]) -> u64
     ensures { result ≡ stack_number (ids.now, labels.now) }
 {
     let mut number = 0;

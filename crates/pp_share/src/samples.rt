@@ -6,10 +6,14 @@ ghost use Rattle.pp_model.specs.Sizes.{value_in};
 ghost use Rattle.pp_share.specs.Sums.{sum_at, sums_with, CanAdd, counts, keys_of};
 ghost use Rattle.pp_share.specs.SampleStacks.{same_stack};
 ghost use Rattle.pp_share.specs.SampleKeys.{sample_number, sample_stack, sample_of, key_lists, same_key, item_of_key, has_values, summed_samples};
+ghost use Rattle.pp_share.specs.Numbers.{number_by};
+ghost use Rattle.pp_share.specs.Renumbered.{new_ids, renumbered_sample};
 ghost use Rattle.pp_share.specs.Repeats.{is_among, HoldsRepeated};
 ghost use Rattle.pp_share.specs.Woven.{woven, woven_samples, IsWoven};
 
-use crate::sample_key::{SampleKey, number_of};
+use crate::change::Change;
+use crate::renumbering::Renumbering;
+use crate::sample_key::SampleKey;
 use crate::sums::add_row;
 use indexmap::{IndexMap, IndexSet};
 use pp_base::{List, Memory};
@@ -26,22 +30,26 @@ struct Sums {
     sums: IndexMap<SampleKey, List<i64>>,
 }
 
-/// The samples with different locations or labels, each at the place of the first of its kind, with the values of all
-/// of its kind added up. Those whose values are all 0 are left out. Only samples whose number is among `repeated` are
-/// looked up: no other sample equals one of the rest.
+/// The samples with different locations or labels once they have their new ids, each at the place of the first of its
+/// kind, with the values of all of its kind added up. Those whose values are all 0 are left out. Only samples whose
+/// number is among `repeated` are looked up: no other sample equals one of the rest.
 pub fn sum_repeated(
     alloc: Global,
     columns: usize,
     samples: List<Sample>,
+    by: &Renumbering,
+    numbers: &[u64],
     repeated: &IndexSet<u64>,
 ) -> Result<List<Sample>, Memory>
     requires wide { All (λ s. length s.value ≡ columns) samples }
     requires fits { (column : ℕ) → column < columns
         → sum_by (λ s. nat_abs (value_in s column)) samples ≤ 2 ^ 63 - 1 }
-    requires repeated { HoldsRepeated (map sample_number samples) repeated.now.keys }
-    ensures { IfOk result (λ r. r ≡ summed_samples columns samples) }
+    requires numbers { numbers.now ≡ map (number_by (new_ids by.now)) samples }
+    requires repeated { HoldsRepeated numbers.now repeated.now.keys }
+    ensures { IfOk result (λ r.
+        r ≡ summed_samples columns (map (renumbered_sample (new_ids by.now)) samples)) }
 {
-    let sums = sum_each(alloc, columns, samples, repeated)?;
+    let sums = sum_each(alloc, columns, samples, by, numbers, repeated)?;
     kept(alloc, sums)
 }
 
@@ -58,45 +66,54 @@ pub fn counting(samples: List<Sample>, have_values: bool) -> List<Sample>
     List::from_vec(kept)
 }
 
-// The sums of the samples.
+// The sums of the samples. A sample gets its new ids where it is looked up.
 fn sum_each(
     alloc: Global,
     columns: usize,
     samples: List<Sample>,
+    by: &Renumbering,
+    numbers: &[u64],
     repeated: &IndexSet<u64>,
 ) -> Result<Sums, Memory>
     requires wide { All (λ s. length s.value ≡ columns) samples }
     requires fits { (column : ℕ) → column < columns
         → sum_by (λ s. nat_abs (value_in s column)) samples ≤ 2 ^ 63 - 1 }
-    requires repeated { HoldsRepeated (map sample_number samples) repeated.now.keys }
-    ensures { IfOk result (λ sums. woven_samples sums.order.items sums.sums.entries ≡ summed_samples columns samples) }
+    requires numbers { numbers.now ≡ map (number_by (new_ids by.now)) samples }
+    requires repeated { HoldsRepeated numbers.now repeated.now.keys }
+    ensures { IfOk result (λ sums. woven_samples sums.order.items sums.sums.entries
+        ≡ summed_samples columns (map (renumbered_sample (new_ids by.now)) samples)) }
 {
     let mut sums = Sums {
         order: Vec::with_capacity(alloc, samples.len())?,
         sums: IndexMap::new(alloc),
     };
-    for sample in samples.into_vec() {
-        take(alloc, &mut sums, repeated, sample)?;
+    let mut place = 0;
+    for mut sample in samples.into_vec() {
+        by.change(&mut sample);
+        take(alloc, &mut sums, repeated, numbers[place], sample)?;
+        place += 1;
     }
     Ok(sums)
 }
 
-// Adds the sample to the sum of its kind. Where no other has its number, it stands alone.
+// Adds the sample of this number to the sum of its kind. Where no other has its number, it stands alone.
 fn take(
     alloc: Global,
     sums: &mut Sums,
     repeated: &IndexSet<u64>,
+    number: u64,
     sample: Sample,
 ) -> Result<(), Memory>
+    requires number { number ≡ sample_number sample }
     requires adds { CanAdd (sum_at same_stack (woven sums.old.order.items sums.old.sums.entries) (sample_stack sample)) sample.value }
-    requires alone { is_among repeated.now.keys (sample_number sample) ≡ false
+    requires alone { is_among repeated.now.keys number ≡ false
         → list_any (same_stack (sample_stack sample)) (keys_of same_stack (woven sums.old.order.items sums.old.sums.entries)) ≡ false }
     requires state { IsWoven repeated.now.keys sums.old.order.items sums.old.sums.entries }
     ensures state { OnOk result (IsWoven repeated.now.keys sums.new.order.items sums.new.sums.entries) }
     ensures sums { OnOk result (woven sums.new.order.items sums.new.sums.entries
         ≡ sums_with same_stack (woven sums.old.order.items sums.old.sums.entries) (sample_stack sample) sample.value) }
 {
-    if !is_repeated(repeated, &sample) {
+    if !is_repeated(repeated, number) {
         sums.order.push(Some(sample))?;
         return Ok(());
     }
@@ -109,11 +126,10 @@ fn take(
     Ok(())
 }
 
-// Whether the sample's number is among these.
-fn is_repeated(repeated: &IndexSet<u64>, sample: &Sample) -> bool
-    ensures { result ≡ is_among repeated.now.keys (sample_number sample.now) }
+// Whether the number is among these.
+fn is_repeated(repeated: &IndexSet<u64>, number: u64) -> bool
+    ensures { result ≡ is_among repeated.now.keys number }
 {
-    let number = number_of(sample.location_id.as_slice(), sample.label.as_slice());
     repeated.contains(&number)
 }
 

@@ -15,7 +15,6 @@ ghost use Rattle.pp_share.specs.Walked.{IsWalked};
 ghost use Rattle.pp_share.specs.Written.{written};
 ghost use Rattle.pp_share.specs.Share.{NamesLocations, IsJoined, with_comments_once, with_tables_once};
 
-use crate::change::change_each;
 use crate::first_sight::number_each;
 use crate::functions::share_functions;
 use crate::ids::Ids;
@@ -153,9 +152,9 @@ fn write_shared(
         numbers,
         have_values,
     } = numbers;
-    let repeated = repeated(alloc, numbers)?;
+    let repeated = repeated(alloc, &numbers)?;
     if !repeated.is_empty() {
-        return write_summed(alloc, p, by, &repeated);
+        return write_summed(alloc, p, by, &numbers, &repeated);
     }
     keep_counting(alloc, &mut p, have_values);
     write(alloc, p, by)
@@ -175,15 +174,17 @@ fn write_summed(
     alloc: Global,
     mut p: Profile,
     by: &Renumbering,
+    numbers: &[u64],
     repeated: &IndexSet<u64>,
 ) -> Result<Profile, Memory>
     requires wide { All (λ s. length s.value ≡ length p.sample_type) p.sample }
     requires fits { (column : ℕ) → column < length p.sample_type
         → sum_by (λ s. nat_abs (value_in s column)) p.sample ≤ 2 ^ 63 - 1 }
-    requires repeated { HoldsRepeated (map (number_by (new_ids by.now)) p.sample) repeated.now.keys }
+    requires numbers { numbers.now ≡ map (number_by (new_ids by.now)) p.sample }
+    requires repeated { HoldsRepeated numbers.now repeated.now.keys }
     ensures { IfOk result (IsWalked (with_sums (new_ids by.now) p)) }
 {
-    sum_equal(alloc, &mut p, by, repeated)?;
+    sum_equal(alloc, &mut p, by, numbers, repeated)?;
     let stays = stays();
     let summed = write(alloc, p, &stays);
     mem::drop(stays);
@@ -195,17 +196,18 @@ fn sum_equal(
     alloc: Global,
     p: &mut Profile,
     by: &Renumbering,
+    numbers: &[u64],
     repeated: &IndexSet<u64>,
 ) -> Result<(), Memory>
     requires wide { All (λ s. length s.value ≡ length p.old.sample_type) p.old.sample }
     requires fits { (column : ℕ) → column < length p.old.sample_type
         → sum_by (λ s. nat_abs (value_in s column)) p.old.sample ≤ 2 ^ 63 - 1 }
-    requires repeated { HoldsRepeated (map (number_by (new_ids by.now)) p.old.sample) repeated.now.keys }
+    requires numbers { numbers.now ≡ map (number_by (new_ids by.now)) p.old.sample }
+    requires repeated { HoldsRepeated numbers.now repeated.now.keys }
     ensures { OnOk result (p.new ≡ with_sums (new_ids by.now) p.old) }
 {
-    let mut samples = mem::replace(&mut p.sample, List::new(alloc));
-    change_each(&mut samples, by);
-    p.sample = sum_repeated(alloc, p.sample_type.len(), samples, repeated)?;
+    let samples = mem::replace(&mut p.sample, List::new(alloc));
+    p.sample = sum_repeated(alloc, p.sample_type.len(), samples, by, numbers, repeated)?;
     Ok(())
 }
 

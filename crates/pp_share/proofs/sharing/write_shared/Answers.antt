@@ -22,11 +22,7 @@ returns c =
     ∙ (λ j. record p {
       sample = kept_apart by (length p.sample_type) p.sample
           (none_repeated (map (number_by by) p.sample)
-          (subst (HoldsRepeated (map (number_by by) p.sample)) none (subst (λ ns. HoldsRepeated ns c.in_ok-repeated.repeated.keys) c.requires.numbers.numbers c.in_ok-repeated.ensures)))
+          (subst (HoldsRepeated (map (number_by by) p.sample)) none (subst (λ ns. HoldsRepeated ns c.in_ok-repeated.repeated.keys) (c.deref.ensures.value ∙ c.requires.numbers.numbers) c.in_ok-repeated.ensures)))
           (by_recursion _ p.sample c.requires.wide) j;
     }))
     c.write.ensures
-
--- the numbers are those of the samples
-pub write_summed-requires-clause-repeated : goal.write_summed-requires-clause-repeated
-write_summed-requires-clause-repeated c = subst (λ ns. HoldsRepeated ns c.in_ok-repeated.repeated.keys) c.requires.numbers.numbers c.in_ok-repeated.ensures
