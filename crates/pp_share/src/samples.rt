@@ -1,9 +1,9 @@
 //! Samples that stand once, with their values added up.
-ghost use Rattle.std.specs.Prelude.{◌≡◌, ℕ, ◌+◌, ◌-◌, ◌^◌, ◌<◌, ◌≤◌, ◌++◌, [], ◌∷◌, Bool, false, pos, nat_abs, length, map, filter, vec_len, vec_capacity, All, IfOk, OnOk};
+ghost use Rattle.std.specs.Prelude.{◌≡◌, ℕ, ◌+◌, ◌-◌, ◌^◌, ◌<◌, ◌≤◌, ◌++◌, [], ◌∷◌, false, pos, nat_abs, length, map, filter, vec_len, vec_capacity, All, IfOk, OnOk};
 ghost use Rattle.std.specs.List.{sum_by, list_all, list_any};
 ghost use Rattle.std.specs.Ordering.{int_eq};
 ghost use Rattle.pp_model.specs.Sizes.{value_in};
-ghost use Rattle.pp_share.specs.Sums.{sum_at, sums_with, CanAdd, counts, keys_of};
+ghost use Rattle.pp_share.specs.Sums.{sum_at, sums_with, CanAdd, keys_of};
 ghost use Rattle.pp_share.specs.SampleStacks.{same_stack};
 ghost use Rattle.pp_share.specs.SampleKeys.{sample_number, sample_stack, sample_of, key_lists, same_key, item_of_key, has_values, summed_samples};
 ghost use Rattle.pp_share.specs.Numbers.{number_by};
@@ -105,13 +105,16 @@ fn take(
     sample: Sample,
 ) -> Result<(), Memory>
     requires number { number ≡ sample_number sample }
-    requires adds { CanAdd (sum_at same_stack (woven sums.old.order.items sums.old.sums.entries) (sample_stack sample)) sample.value }
-    requires alone { is_among repeated.now.keys number ≡ false
-        → list_any (same_stack (sample_stack sample)) (keys_of same_stack (woven sums.old.order.items sums.old.sums.entries)) ≡ false }
+    requires adds { let s = sums.old in
+        CanAdd (sum_at same_stack (woven s.order.items s.sums.entries) (sample_stack sample)) sample.value }
+    requires alone { let s = sums.old in is_among repeated.now.keys number ≡ false
+        → list_any (same_stack (sample_stack sample))
+        (keys_of same_stack (woven s.order.items s.sums.entries)) ≡ false }
     requires state { IsWoven repeated.now.keys sums.old.order.items sums.old.sums.entries }
     ensures state { OnOk result (IsWoven repeated.now.keys sums.new.order.items sums.new.sums.entries) }
     ensures sums { OnOk result (woven sums.new.order.items sums.new.sums.entries
-        ≡ sums_with same_stack (woven sums.old.order.items sums.old.sums.entries) (sample_stack sample) sample.value) }
+        ≡ sums_with same_stack (woven sums.old.order.items sums.old.sums.entries)
+        (sample_stack sample) sample.value) }
 {
     if !is_repeated(repeated, number) {
         sums.order.push(Some(sample))?;
