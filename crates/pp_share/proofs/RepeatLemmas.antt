@@ -10,7 +10,7 @@ use Rattle.std.proofs.lemmas.List.Sorted.{IsNonDecreasingBy-from_sort, all_adjac
 use Rattle.indexmap.specs.IndexSet.{insert_key}
 use Rattle.std.proofs.lemmas.Bool.Decides.{Decides-eqb}
 use Rattle.std.proofs.lemmas.List.Sums.{sum_by-cons, sum_by-append}
-use Rattle.pp_share.specs.Repeats.{is_among, times, HoldsRepeated, HoldsNext}
+use Rattle.pp_share.specs.Repeats.{is_listed, times, HoldsRepeated, HoldsNext}
 
 -- one number more
 pub times-cons : (x n : ℕ) (ns : List ℕ) → times x (n ∷ ns) ≡ cond (x == n) 1 0 + times x ns
@@ -56,7 +56,7 @@ Rises ns = (k : ℕ) → suc k < length ns → get_or ns k 0 ≤ get_or ns (suc 
 
 -- each number that stands next to itself is among the repeated ones
 abbrev HoldsNeighbours : List ℕ → List ℕ → Type 0
-HoldsNeighbours ns repeated = (k : ℕ) → suc k < length ns → get_or ns k 0 ≡ get_or ns (suc k) 0 → is_among repeated (get_or ns k 0) ≡ true
+HoldsNeighbours ns repeated = (k : ℕ) → suc k < length ns → get_or ns k 0 ≡ get_or ns (suc k) 0 → is_listed repeated (get_or ns k 0) ≡ true
 
 -- the first of rising numbers is the least
 first_least : (x n : ℕ) (ns : List ℕ) → Rises (n ∷ ns) → 0 < times x (n ∷ ns) → n ≤ x
@@ -80,44 +80,44 @@ repeated_are (n ∷ ns) repeated rises next x more =
     (repeated_are ns repeated (λ k within. rises (suc k) (omega (arith, within))) (λ k within same. next (suc k) (omega (arith, within)) same) x)
     (omega (arith, more, times-cons x n ns))
   where
-    second : (ms : List ℕ) → Rises (n ∷ ms) → HoldsNeighbours (n ∷ ms) repeated → x ≡ n → 0 < times x ms → is_among repeated x ≡ true
+    second : (ms : List ℕ) → Rises (n ∷ ms) → HoldsNeighbours (n ∷ ms) repeated → x ≡ n → 0 < times x ms → is_listed repeated x ≡ true
     second [] up next is some = absurd (omega (arith, some))
     second (m ∷ ms) up next is some =
         let least : m ≤ x = first_least x m ms (λ k within. up (suc k) (omega (arith, within))) some in
         let same : n ≡ m = omega (arith, least, is, up 0 (omega arith)) in
-        ap (is_among repeated) is ∙ next 0 (omega arith) same
+        ap (is_listed repeated) is ∙ next 0 (omega arith) same
 
-    by : (b : Bool) → (x == n) ≡ b → (1 < times x ns → is_among repeated x ≡ true) → 1 < cond b 1 0 + times x ns → is_among repeated x ≡ true
+    by : (b : Bool) → (x == n) ≡ b → (1 < times x ns → is_listed repeated x ≡ true) → 1 < cond b 1 0 + times x ns → is_listed repeated x ≡ true
     by true is rest some = second ns rises next ((Decides-eqb x n).0 is) (omega (arith, some))
     by false is rest some = rest (omega (arith, some))
 
 -- the numbers below the place that stand next to themselves
 abbrev pub HoldsBelow : List ℕ → ℕ → List ℕ → Type 0
-HoldsBelow ns below repeated = (k : ℕ) → k + 1 < below → get_or ns k 0 ≡ get_or ns (k + 1) 0 → is_among repeated (get_or ns k 0) ≡ true
+HoldsBelow ns below repeated = (k : ℕ) → k + 1 < below → get_or ns k 0 ≡ get_or ns (k + 1) 0 → is_listed repeated (get_or ns k 0) ≡ true
 
 -- a number more, which is among them where it stands next to itself
-pub one_more : (ns before after : List ℕ) (index : ℕ) → HoldsBelow ns index before → ((n : ℕ) → is_among before n ≡ true → is_among after n ≡ true)
-    → (get_or ns (index - 1) 0 ≡ get_or ns index 0 → is_among after (get_or ns (index - 1) 0) ≡ true) → HoldsBelow ns (index + 1) after
+pub one_more : (ns before after : List ℕ) (index : ℕ) → HoldsBelow ns index before → ((n : ℕ) → is_listed before n ≡ true → is_listed after n ≡ true)
+    → (get_or ns (index - 1) 0 ≡ get_or ns index 0 → is_listed after (get_or ns (index - 1) 0) ≡ true) → HoldsBelow ns (index + 1) after
 one_more ns before after index holds keeps here k within same =
     ⊎_elim (λ lower. keeps (get_or ns k 0) (holds k lower same))
     (λ last.
     let next : index ≡ k + 1 = omega (arith, within, last) in
     let at : index - 1 ≡ k = omega (arith, next) in
-    subst (λ i. is_among after (get_or ns i 0) ≡ true) at (here (ap (λ i. get_or ns i 0) at ∙ same ∙ ap (λ i. get_or ns i 0) (sym next))))
+    subst (λ i. is_listed after (get_or ns i 0) ≡ true) at (here (ap (λ i. get_or ns i 0) at ∙ same ∙ ap (λ i. get_or ns i 0) (sym next))))
     (cases_lt (k + 1) index)
 
 -- what was among them stays, and a number that is put in is among them
-pub stays_among : (ks : List ℕ) (n m : ℕ) → is_among ks m ≡ true → is_among (insert_key nat_eq ks n) m ≡ true
+pub stays_among : (ks : List ℕ) (n m : ℕ) → is_listed ks m ≡ true → is_listed (insert_key nat_eq ks n) m ≡ true
 stays_among ks n m is = by (list_any (nat_eq n) ks)
   where
-    by : (b : Bool) → is_among (if b then ks else ks ++ n ∷ []) m ≡ true
+    by : (b : Bool) → is_listed (if b then ks else ks ++ n ∷ []) m ≡ true
     by true = is
     by false = list_any-append (λ k. m == k) ks (n ∷ []) ∙ ap (λ b. b || ((m == n) || false)) is
 
-pub now_among : (ks : List ℕ) (n : ℕ) → is_among (insert_key nat_eq ks n) n ≡ true
+pub now_among : (ks : List ℕ) (n : ℕ) → is_listed (insert_key nat_eq ks n) n ≡ true
 now_among ks n = by (list_any (nat_eq n) ks) refl
   where
-    by : (b : Bool) → list_any (nat_eq n) ks ≡ b → is_among (if b then ks else ks ++ n ∷ []) n ≡ true
+    by : (b : Bool) → list_any (nat_eq n) ks ≡ b → is_listed (if b then ks else ks ++ n ∷ []) n ≡ true
     by true is = is
     by false is = list_any-append (λ k. n == k) ks (n ∷ []) ∙ ap (λ b. b || ((n == n) || false)) is ∙ ap (λ b. b || false) (itself n)
 

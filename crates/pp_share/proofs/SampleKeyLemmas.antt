@@ -12,7 +12,7 @@ use Rattle.pp_model.specs.declared.profile.Sample.{Sample}
 use Rattle.pp_share.specs.Sums.{counts, summed, sum_at, sums_with, CanAdd}
 use Rattle.pp_share.specs.SampleStacks.{same_stack, stack_decides}
 use Rattle.pp_share.specs.SampleKeys.{sample_item, sample_stack, sample_of, has_values}
-use Rattle.pp_share.specs.Woven.{Item}
+use Rattle.pp_share.specs.Woven.{StackRow}
 use Rattle.pp_share.proofs.Prefix.{map_same, IsNext, next_holds}
 use Rattle.pp_share.proofs.Grouping.{summed_push, can_add}
 
@@ -67,12 +67,12 @@ stack_laws = decided same_stack stack_decides
 -- One sample more.
 module _ (columns : ℕ) (samples seen : List Sample) (s : Sample) (next : IsNext samples seen s)
     (wide : All (λ (s : Sample). length s.value ≡ columns) samples)
-    (sums : List Item) (so_far : sums ≡ summed same_stack columns (map sample_item seen)) where
+    (sums : List StackRow) (so_far : sums ≡ summed same_stack columns (map sample_item seen)) where
   next_item : IsNext (map sample_item samples) (map sample_item seen) (sample_item s)
   next_item = next_described sample_item samples seen s next
 
-  wide_items : All (λ (item : Item). length item.1 ≡ columns) (map sample_item samples)
-  wide_items = All-map (λ (item : Item). length item.1 ≡ columns) sample_item samples wide
+  wide_items : All (λ (item : StackRow). length item.1 ≡ columns) (map sample_item samples)
+  wide_items = All-map (λ (item : StackRow). length item.1 ≡ columns) sample_item samples wide
 
   -- its values can be added to the sum of its key
   pub sample_adds : ((column : ℕ) → column < columns → sum_by (λ (s : Sample). nat_abs (get_or s.value column (pos 0))) samples ≤ 9223372036854775807)
@@ -83,7 +83,7 @@ module _ (columns : ℕ) (samples seen : List Sample) (s : Sample) (next : IsNex
       (λ column lower. omega (
         arith,
         fits column lower,
-        sum_by-map (λ (item : Item). nat_abs (get_or item.1 column (pos 0))) sample_item samples,
+        sum_by-map (λ (item : StackRow). nat_abs (get_or item.1 column (pos 0))) sample_item samples,
       )))
 
   -- the sums after it
@@ -95,7 +95,7 @@ module _ (columns : ℕ) (samples seen : List Sample) (s : Sample) (next : IsNex
       ∙ ap (summed same_stack columns) (sym (map-append sample_item seen (s ∷ [])))
 
 -- a sum is a sample where it isn't 0 in each column
-pub kept_next : (item : Item) (items : List Item) → map sample_of (filter counts (item ∷ items)) ≡ filter has_values (sample_of item ∷ []) ++ map sample_of (filter counts items)
+pub kept_next : (item : StackRow) (items : List StackRow) → map sample_of (filter counts (item ∷ items)) ≡ filter has_values (sample_of item ∷ []) ++ map sample_of (filter counts items)
 kept_next item items = by (counts item)
   where
     by : (b : Bool) → map sample_of (if b then item ∷ filter counts items else filter counts items) ≡ (if b then sample_of item ∷ [] else []) ++ map sample_of (filter counts items)

@@ -15,11 +15,11 @@ use Rattle.pp_model.proofs.FirstSightLemmas.{all-seen_after}
 use Rattle.pp_share.specs.declared.sample_key.SampleKey.{SampleKey}
 use Rattle.pp_share.specs.Numbers.{number_by}
 use Rattle.pp_share.specs.Renumbered.{NewIds, renumbered_sample}
-use Rattle.pp_share.specs.Repeats.{is_among, times, HoldsRepeated}
+use Rattle.pp_share.specs.Repeats.{is_listed, times, HoldsRepeated}
 use Rattle.pp_share.specs.SampleKeys.{sample_item, sample_number, sample_stack, key_lists, same_key, item_of_key}
 use Rattle.pp_share.specs.SampleStacks.{same_stack, stack_number, stack_decides}
 use Rattle.pp_share.specs.Sums.{sum_with, sum_of, keys_of, summed, sum_at, sums_with, CanAdd}
-use Rattle.pp_share.specs.Woven.{Item, woven_items, woven, StandsAlone, IsWoven}
+use Rattle.pp_share.specs.Woven.{StackRow, woven_items, woven, StandsAlone, IsWoven}
 use Rattle.pp_share.proofs.Prefix.{IsNext, next_weight}
 use Rattle.pp_share.proofs.RepeatLemmas.{itself, never}
 use Rattle.pp_share.proofs.SampleKeyLemmas.{sum_by-map, next_described, sum_at-described, insert-described, sample_adds, sums_after}
@@ -62,11 +62,11 @@ module _ {K : Type 0} (same : K → K → Bool) (k : K) where
       by false rest = omega (arith, rest)
 
 -- stacks of other numbers differ
-apart_number : (repeated : List ℕ) (k : Stack) (s : Sample) → is_among repeated (stack_number k) ≡ true → is_among repeated (sample_number s) ≡ false → same_stack k (sample_stack s) ≡ false
+apart_number : (repeated : List ℕ) (k : Stack) (s : Sample) → is_listed repeated (stack_number k) ≡ true → is_listed repeated (sample_number s) ≡ false → same_stack k (sample_stack s) ≡ false
 apart_number repeated k s here alone = by (same_stack k (sample_stack s)) refl
   where
     by : (b : Bool) → same_stack k (sample_stack s) ≡ b → b ≡ false
-    by true is = absurd (true≢false (sym here ∙ ap (λ stack. is_among repeated (stack_number stack)) ((stack_decides k (sample_stack s)).0 is) ∙ alone))
+    by true is = absurd (true≢false (sym here ∙ ap (λ stack. is_listed repeated (stack_number stack)) ((stack_decides k (sample_stack s)).0 is) ∙ alone))
     by false is = refl
 
 -- the order with one more place for a sum, where its key is new
@@ -82,8 +82,8 @@ places_with true order = omega arith
 places_with false order = ap length (filter-append is_none order (None ∷ [])) ∙ length-append (filter is_none order) (None ∷ [])
 
 -- A key whose number is repeated is looked up among the sums.
-module _ (repeated : List ℕ) (k : Stack) (here : is_among repeated (stack_number k) ≡ true) where
-  found : (order : List (Option Sample)) (items : List Item) → AllByRecursion (StandsAlone repeated) order → places order ≡ length items
+module _ (repeated : List ℕ) (k : Stack) (here : is_listed repeated (stack_number k) ≡ true) where
+  found : (order : List (Option Sample)) (items : List StackRow) → AllByRecursion (StandsAlone repeated) order → places order ≡ length items
       → lookup (same_stack k) (woven_items order items) ≡ lookup (same_stack k) items
   found [] [] alone many = refl
   found [] (i ∷ items) alone many = absurd (omega (arith, many))
@@ -92,7 +92,7 @@ module _ (repeated : List ℕ) (k : Stack) (here : is_among repeated (stack_numb
   found (None ∷ order) [] alone many = absurd (omega (arith, many))
   found (None ∷ order) (i ∷ items) alone many = ap (λ o. if same_stack k i.0 then Some i.1 else o) (found order items alone.1 (omega (arith, many)))
 
-  placed : (v : List ℤ) (order : List (Option Sample)) (items : List Item) → AllByRecursion (StandsAlone repeated) order → places order ≡ length items
+  placed : (v : List ℤ) (order : List (Option Sample)) (items : List StackRow) → AllByRecursion (StandsAlone repeated) order → places order ≡ length items
       → woven_items (with_place (is_key same_stack k items) order) (insert_entry same_stack items k v) ≡ insert_entry same_stack (woven_items order items) k v
   placed v [] [] alone many = refl
   placed v [] (i ∷ items) alone many = absurd (omega (arith, many))
@@ -106,7 +106,7 @@ module _ (repeated : List ℕ) (k : Stack) (here : is_among repeated (stack_numb
   placed v (None ∷ order) [] alone many = absurd (omega (arith, many))
   placed v (None ∷ order) (i ∷ items) alone many = by (same_stack k i.0) (placed v order items alone.1 (omega (arith, many)))
     where
-      turn : (b : Bool) (more : List Item) → woven_items (with_place b order) more ≡ insert_entry same_stack (woven_items order items) k v
+      turn : (b : Bool) (more : List StackRow) → woven_items (with_place b order) more ≡ insert_entry same_stack (woven_items order items) k v
           → woven_items (with_place b (None ∷ order)) (i ∷ more) ≡ i ∷ insert_entry same_stack (woven_items order items) k v
       turn true more is = ap (λ l. i ∷ l) is
       turn false more is = ap (λ l. i ∷ l) is
@@ -119,7 +119,7 @@ module _ (repeated : List ℕ) (k : Stack) (here : is_among repeated (stack_numb
 
 -- A row of a key whose number is repeated.
 module _ (repeated : List ℕ) (order : List (Option Sample)) (sums : List (SampleKey × List ℤ)) (before : IsWoven repeated order sums)
-    (key : SampleKey) (row : List ℤ) (here : is_among repeated (stack_number (key_lists key)) ≡ true) where
+    (key : SampleKey) (row : List ℤ) (here : is_listed repeated (stack_number (key_lists key)) ≡ true) where
   many : places order ≡ length (map item_of_key sums)
   many = before.places ∙ sym (length-map sums item_of_key)
 
@@ -187,8 +187,8 @@ module _ (repeated : List ℕ) (order : List (Option Sample)) (sums : List (Samp
       by false is = added_at false is
 
 -- A sample whose number no other has goes last.
-module _ (repeated : List ℕ) (s : Sample) (alone : is_among repeated (sample_number s) ≡ false) where
-  goes_last : (order : List (Option Sample)) (items : List Item) → woven_items (order ++ Some s ∷ []) items ≡ woven_items order items ++ sample_item s ∷ []
+module _ (repeated : List ℕ) (s : Sample) (alone : is_listed repeated (sample_number s) ≡ false) where
+  goes_last : (order : List (Option Sample)) (items : List StackRow) → woven_items (order ++ Some s ∷ []) items ≡ woven_items order items ++ sample_item s ∷ []
   goes_last [] items = refl
   goes_last (Some o ∷ order) items = ap (λ l. sample_item o ∷ l) (goes_last order items)
   goes_last (None ∷ order) [] = goes_last order []
@@ -229,7 +229,7 @@ same_list (x ∷ xs) = ap (λ l. x ∷ l) (same_list xs)
 
 -- The next sample's number is not repeated: no sum so far is of its kind.
 module _ (repeated : List ℕ) (columns : ℕ) (samples seen : List Sample) (s : Sample) (next : IsNext samples seen s) (holds : HoldsRepeated (map sample_number samples) repeated)
-    (alone : is_among repeated (sample_number s) ≡ false) where
+    (alone : is_listed repeated (sample_number s) ≡ false) where
   abbrev number : ℕ
   number = sample_number s
 
@@ -251,9 +251,9 @@ module _ (repeated : List ℕ) (columns : ℕ) (samples seen : List Sample) (s :
 
   keys_are : keys_of same_stack (summed same_stack columns (map sample_item seen)) ≡ distinct same_stack (map sample_stack seen)
   keys_are =
-      map-map (λ (item : Item). item.0) (λ key. (key, sum_of same_stack columns (map sample_item seen) key)) (distinct same_stack (keys_of same_stack (map sample_item seen)))
+      map-map (λ (item : StackRow). item.0) (λ key. (key, sum_of same_stack columns (map sample_item seen) key)) (distinct same_stack (keys_of same_stack (map sample_item seen)))
       ∙ same_list (distinct same_stack (keys_of same_stack (map sample_item seen)))
-      ∙ ap (distinct same_stack) (map-map (λ (item : Item). item.0) sample_item seen)
+      ∙ ap (distinct same_stack) (map-map (λ (item : StackRow). item.0) sample_item seen)
 
   pub alone_among : list_any (same_stack (sample_stack s)) (keys_of same_stack (summed same_stack columns (map sample_item seen))) ≡ false
   alone_among =
@@ -275,7 +275,7 @@ module _ (by : NewIds) (columns : ℕ) (samples seen : List Sample) (s : Sample)
   moved_number numbers place are at =
       (λ j. get_or (are j) (at j) 0) ∙ get_or-map (number_by by) samples (length seen) s 0 next.within ∙ ap (number_by by) (sym next.here)
 
-  module _ (sums : List Item) (so_far : sums ≡ summed same_stack columns (map sample_item (map moved seen))) where
+  module _ (sums : List StackRow) (so_far : sums ≡ summed same_stack columns (map sample_item (map moved seen))) where
     module _ (wide : All (λ (s : Sample). length s.value ≡ columns) samples) where
       wide_moved : All (λ (s : Sample). length s.value ≡ columns) (map moved samples)
       wide_moved = All-map (λ (s : Sample). length s.value ≡ columns) moved samples wide
@@ -294,7 +294,7 @@ module _ (by : NewIds) (columns : ℕ) (samples seen : List Sample) (s : Sample)
           ∙ ap (λ l. summed same_stack columns (map sample_item l)) (sym (map-append moved seen (s ∷ [])))
 
     -- no sum so far is of its kind where its number is not repeated
-    pub moved_alone : (repeated : List ℕ) → HoldsRepeated (map (number_by by) samples) repeated → is_among repeated (number_by by s) ≡ false
+    pub moved_alone : (repeated : List ℕ) → HoldsRepeated (map (number_by by) samples) repeated → is_listed repeated (number_by by s) ≡ false
         → list_any (same_stack (sample_stack (moved s))) (keys_of same_stack sums) ≡ false
     moved_alone repeated holds alone =
         ap (λ l. list_any (same_stack (sample_stack (moved s))) (keys_of same_stack l)) so_far

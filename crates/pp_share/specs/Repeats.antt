@@ -3,8 +3,8 @@ use Rattle.std.specs.Prelude.{◌≡◌, ℕ, ◌+◌, ◌<◌, ◌==◌, Bool, 
 use Rattle.std.specs.List.{list_any, count_by}
 
 -- the number is one of these
-abbrev pub is_among : List ℕ → ℕ → Bool
-is_among numbers number = list_any (λ n. number == n) numbers
+abbrev pub is_listed : List ℕ → ℕ → Bool
+is_listed numbers number = list_any (λ n. number == n) numbers
 
 -- how often the number stands in the list
 abbrev pub times : ℕ → List ℕ → ℕ
@@ -12,9 +12,9 @@ times number numbers = count_by (λ n. number == n) numbers
 
 -- each number that stands more than once is among the repeated ones
 abbrev pub HoldsRepeated : List ℕ → List ℕ → Type 0
-HoldsRepeated numbers repeated = (number : ℕ) → 1 < times number numbers → is_among repeated number ≡ true
+HoldsRepeated numbers repeated = (number : ℕ) → 1 < times number numbers → is_listed repeated number ≡ true
 
 -- each number that stands next to itself is among the repeated ones
 abbrev pub HoldsNext : List ℕ → List ℕ → Type 0
 HoldsNext numbers repeated = (k : ℕ) → k + 1 < length numbers
-    → slice_index_or numbers k 0 ≡ slice_index_or numbers (k + 1) 0 → is_among repeated (slice_index_or numbers k 0) ≡ true
+    → slice_index_or numbers k 0 ≡ slice_index_or numbers (k + 1) 0 → is_listed repeated (slice_index_or numbers k 0) ≡ true

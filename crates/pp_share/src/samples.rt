@@ -8,7 +8,7 @@ ghost use Rattle.pp_share.specs.SampleStacks.{same_stack};
 ghost use Rattle.pp_share.specs.SampleKeys.{sample_number, sample_stack, sample_of, key_lists, same_key, item_of_key, has_values, summed_samples};
 ghost use Rattle.pp_share.specs.Numbers.{number_by};
 ghost use Rattle.pp_share.specs.Renumbered.{new_ids, renumbered_sample};
-ghost use Rattle.pp_share.specs.Repeats.{is_among, HoldsRepeated};
+ghost use Rattle.pp_share.specs.Repeats.{is_listed, HoldsRepeated};
 ghost use Rattle.pp_share.specs.Woven.{woven, woven_samples, IsWoven};
 
 use crate::change::Change;
@@ -107,7 +107,7 @@ fn take(
     requires number { number ≡ sample_number sample }
     requires adds { let s = sums.old in
         CanAdd (sum_at same_stack (woven s.order.items s.sums.entries) (sample_stack sample)) sample.value }
-    requires alone { let s = sums.old in is_among repeated.now.keys number ≡ false
+    requires alone { let s = sums.old in is_listed repeated.now.keys number ≡ false
         → list_any (same_stack (sample_stack sample))
         (keys_of same_stack (woven s.order.items s.sums.entries)) ≡ false }
     requires state { IsWoven repeated.now.keys sums.old.order.items sums.old.sums.entries }
@@ -131,7 +131,7 @@ fn take(
 
 // Whether the number is among these.
 fn is_repeated(repeated: &IndexSet<u64>, number: u64) -> bool
-    ensures { result ≡ is_among repeated.now.keys number }
+    ensures { result ≡ is_listed repeated.now.keys number }
 {
     repeated.contains(&number)
 }

@@ -7,7 +7,7 @@ ghost use Rattle.pp_grain.specs.Keys.{key_written};
 ghost use Rattle.pp_count.specs.Counted.{CanCount, IsCountedOf, has_own_match};
 ghost use Rattle.pp_count.specs.Seeing.{HoldsFilters};
 ghost use Rattle.pp_graph.specs.KeyRows.{CanShow};
-ghost use Rattle.pp_tree.specs.Peek.{is_found_key, peek_text};
+ghost use Rattle.pp_tree.specs.Peek.{peek_text};
 ghost use Rattle.pp_tree.specs.Ends.{Pairs, ShowsPairs, CanWalk, peeked_text};
 ghost use Rattle.pp_tree.specs.Whole.{all_pairs, pairs_about};
 
@@ -84,42 +84,27 @@ pub fn write_peek_of<R: Threads + Sync, G: Gate>(
         survey.now.column ≡ false) }
     ensures err { OnErr result (out.new ≡ out.old) }
 {
-    let found = found_names(alloc, survey)?;
-    let mut text = Text::new(alloc);
-    put_found(rt, alloc, survey, found.as_slice(), head, gate, &mut text)?;
-    out.append(text)?;
-    Ok(())
-}
-
-// The lines of the report, where the pattern finds these names.
-fn put_found<R: Threads + Sync, G: Gate>(
-    rt: &R,
-    alloc: Global,
-    survey: &Survey<'_>,
-    found: &[bool],
-    head: &Head,
-    gate: &G,
-    out: &mut Text,
-) -> Result<(), Memory>
-    ensures { (f : Finders) →
-        HoldsFilters survey.now.l.now survey.now.v.now survey.now.config.now f →
-        found.now ≡ map (λ key. is_found_key survey.now.l.now.profile f
-        survey.now.config.now survey.now.column (key_written survey.now.l.now.profile key))
-        survey.now.counted.now.sums.names →
-        IfOk result (λ _. out.new ≡ out.old ++ peek_text survey.now.l.now.profile f
-        survey.now.config.now survey.now.column (facts head.now)) }
-{
     let (l, counted) = (survey.l, survey.counted);
+    let found = found_names(alloc, survey)?;
     let ranked = rank_all(alloc, l, counted, survey.config, 0)?;
-    let graph = graph_about(rt, alloc, survey, found, gate)?;
-    let shown = found_of(alloc, ranked.order.as_slice(), found)?;
+    let graph = graph_about(rt, alloc, survey, found.as_slice(), gate)?;
+    let shown = found_of(alloc, ranked.order.as_slice(), found.as_slice())?;
+    let mut text = Text::new(alloc);
     let table = NodeTable {
         p: l.profile.get(),
         sums: &counted.sums,
         graph: &graph,
         head,
     };
-    put_peek(alloc, &table, ranked.shown_flat, shown.as_slice(), out)
+    put_peek(
+        alloc,
+        &table,
+        ranked.shown_flat,
+        shown.as_slice(),
+        &mut text,
+    )?;
+    out.append(text)?;
+    Ok(())
 }
 
 // The graph of all keys, and of the edges that have a marked end.

@@ -5,7 +5,7 @@ use Rattle.std.proofs.lemmas.Iterator.Consumers.{YieldsList-so_far, YieldsList-t
 use Rattle.std.proofs.lemmas.List.{length-append}
 use Rattle.pp_model.specs.declared.profile.Sample.{Sample}
 use Rattle.pp_share.specs.Renumbered.{new_ids, renumbered_sample}
-use Rattle.pp_share.specs.Repeats.{is_among, HoldsRepeated}
+use Rattle.pp_share.specs.Repeats.{is_listed, HoldsRepeated}
 use Rattle.pp_share.specs.Sums.{counts, keys_of, summed, sum_at, sums_with, CanAdd}
 use Rattle.pp_share.specs.SampleStacks.{same_stack}
 use Rattle.pp_share.specs.SampleKeys.{sample_item, sample_of, sample_stack}
@@ -41,7 +41,7 @@ take-requires-clause-alone c = λ alone.
     let number = moved_number by c.args.columns c.args.samples c.loop-sample.yielded c.in-Some.sample next c.args.numbers.now c.loop-sample.place c.requires.numbers c.loop-sample.invariant.place in
     subst (λ (s : Sample). list_any (same_stack (sample_stack s)) (keys_of same_stack sums) ≡ false) (sym c.change.ensures)
     (moved_alone by c.args.columns c.args.samples c.loop-sample.yielded c.in-Some.sample next sums c.loop-sample.invariant.sums repeated
-    (subst (λ numbers. HoldsRepeated numbers repeated) c.requires.numbers c.requires.repeated) (ap (is_among repeated) (sym number) ∙ alone))
+    (subst (λ numbers. HoldsRepeated numbers repeated) c.requires.numbers c.requires.repeated) (ap (is_listed repeated) (sym number) ∙ alone))
 
 pub loop-sample-preserved : goal.loop-sample-preserved
 loop-sample-preserved c =
