@@ -104,27 +104,27 @@ fn tag_of(spelling: &str) -> Option<Tag> {
 /// Takes a line apart. A tag alone has an empty rest.
 pub fn line_of(alloc: Global, line: &str) -> Result<Line, Problem> {
     let (spelling, rest) = line.split_once(' ').unwrap_or((line, ""));
-    Ok(match tag_of(spelling).ok_or(Problem::Tag)? {
-        Tag::Comment => Line::Comment(Text::from_slice(alloc, rest.as_bytes())?),
-        Tag::Files => Line::Files(named_files(alloc, rest)?),
-        Tag::Put => put_line(alloc, rest, 1)?,
-        Tag::PutOften => put_often(alloc, rest)?,
-        Tag::Locked => Line::Locked(words_of(alloc, rest)?),
-        Tag::Real => Line::Real,
-        Tag::Literal => Line::Literal(any_words_of(alloc, rest)?),
-        Tag::Workers => Line::Workers(words_of(alloc, rest)?),
-        Tag::Faults => faults_line(rest)?,
-        Tag::Command => Line::Command(command_of(alloc, rest)?),
-        Tag::Input => Line::Input(text_line(alloc, rest)?),
-        Tag::InputOften => Line::Input(text_lines(alloc, rest)?),
-        Tag::Out => Line::Out(text_line(alloc, rest)?),
-        Tag::OutOften => Line::Out(text_lines(alloc, rest)?),
-        Tag::Err => Line::Err(text_line(alloc, rest)?),
-        Tag::Status => Line::Status(rest.parse::<u8>().map_err(|_| Problem::Number)?),
-        Tag::Holds => holds_line(alloc, rest)?,
-        Tag::HoldsFiles => Line::HoldsFiles(named_files(alloc, rest)?),
-        Tag::Gone => Line::Gone(words_of(alloc, rest)?),
-    })
+    match tag_of(spelling).ok_or(Problem::Tag)? {
+        Tag::Comment => Ok(Line::Comment(Text::from_slice(alloc, rest.as_bytes())?)),
+        Tag::Files => Ok(Line::Files(named_files(alloc, rest)?)),
+        Tag::Put => put_line(alloc, rest, 1),
+        Tag::PutOften => put_often(alloc, rest),
+        Tag::Locked => Ok(Line::Locked(words_of(alloc, rest)?)),
+        Tag::Real => Ok(Line::Real),
+        Tag::Literal => Ok(Line::Literal(any_words_of(alloc, rest)?)),
+        Tag::Workers => Ok(Line::Workers(words_of(alloc, rest)?)),
+        Tag::Faults => faults_line(rest),
+        Tag::Command => Ok(Line::Command(command_of(alloc, rest)?)),
+        Tag::Input => Ok(Line::Input(text_line(alloc, rest)?)),
+        Tag::InputOften => Ok(Line::Input(text_lines(alloc, rest)?)),
+        Tag::Out => Ok(Line::Out(text_line(alloc, rest)?)),
+        Tag::OutOften => Ok(Line::Out(text_lines(alloc, rest)?)),
+        Tag::Err => Ok(Line::Err(text_line(alloc, rest)?)),
+        Tag::Status => Ok(Line::Status(rest.parse::<u8>().map_err(|_| Problem::Number)?)),
+        Tag::Holds => holds_line(alloc, rest),
+        Tag::HoldsFiles => Ok(Line::HoldsFiles(named_files(alloc, rest)?)),
+        Tag::Gone => Ok(Line::Gone(words_of(alloc, rest)?)),
+    }
 }
 
 fn any_words_of(alloc: Global, rest: &str) -> Result<List<Text>, Problem> {

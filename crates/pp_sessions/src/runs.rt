@@ -45,13 +45,23 @@ fn run_words<R: Threads + Sync>(
     words: &[Text],
     report: &mut Report,
 ) -> Result<(), Memory> {
-    let left = left_by(machine, session, words, None)?;
-    let run = Run { words, trial: None };
-    report.count(session, run, &left, session_difference(session, &left))?;
+    run_whole(machine, session, words, report)?;
     for (fault, calls) in session.transcript.faults.as_slice() {
         run_trials(machine, session, words, *fault, *calls, report)?;
     }
     Ok(())
+}
+
+// Runs the words with no call that fails, and counts it.
+fn run_whole<R: Threads + Sync>(
+    machine: &Machine<R>,
+    session: &Session,
+    words: &[Text],
+    report: &mut Report,
+) -> Result<(), Memory> {
+    let left = left_by(machine, session, words, None)?;
+    let run = Run { words, trial: None };
+    report.count(session, run, &left, session_difference(session, &left))
 }
 
 // Each call fails in a run of its own, and then the one after the last.
@@ -64,14 +74,32 @@ fn run_trials<R: Threads + Sync>(
     report: &mut Report,
 ) -> Result<(), Memory> {
     for call in 0..=calls {
-        let trial = Trial { fault, call };
-        let left = left_by(machine, session, words, Some(trial))?;
-        let found = trial_difference(session, &left, trial, calls);
-        let run = Run {
+        run_trial(
+            machine,
+            session,
             words,
-            trial: Some(trial),
-        };
-        report.count(session, run, &left, found)?;
+            Trial { fault, call },
+            calls,
+            report,
+        )?;
     }
     Ok(())
+}
+
+// Runs the words with the call of the trial failing, where the session makes that many, and counts it.
+fn run_trial<R: Threads + Sync>(
+    machine: &Machine<R>,
+    session: &Session,
+    words: &[Text],
+    trial: Trial,
+    calls: u64,
+    report: &mut Report,
+) -> Result<(), Memory> {
+    let left = left_by(machine, session, words, Some(trial))?;
+    let found = trial_difference(session, &left, trial, calls);
+    let run = Run {
+        words,
+        trial: Some(trial),
+    };
+    report.count(session, run, &left, found)
 }

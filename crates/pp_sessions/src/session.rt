@@ -5,6 +5,7 @@ use crate::transcript::{Part, Transcript};
 use pp_base::{FileRead, Files, List, Memory, Text};
 use pp_real::RealFiles;
 use std::alloc::Global;
+use std::mem;
 
 /// Why a session can't begin.
 #[derive(Drop)]
@@ -73,21 +74,38 @@ impl<'a> Folder<'a> {
 
     /// What the transcript's files hold before and after.
     pub fn session<'t>(&mut self, transcript: &'t Transcript) -> Result<Session<'t>, Unready> {
-        let before = self.contents(transcript.given.files.as_slice())?;
-        let mut after = self.contents(transcript.owed.files.as_slice())?;
-        let gone = transcript.owed.gone.as_slice();
-        keep_others(&before, gone, &mut after)?;
-        let paths = paths_of(self.alloc, &before, &after, gone)?;
-        Ok(Session {
+        let mut session = Session {
             transcript,
-            before,
-            after,
-            paths,
-        })
+            before: Contents::new(self.alloc),
+            after: Contents::new(self.alloc),
+            paths: List::new(self.alloc),
+        };
+        match self.fill(&mut session) {
+            Ok(()) => Ok(session),
+            Err(unready) => {
+                mem::drop(session);
+                Err(unready)
+            }
+        }
     }
 
-    fn contents(&mut self, parts: &[(Text, Part)]) -> Result<Contents, Unready> {
-        let mut contents = Contents::new(self.alloc);
+    // Puts the contents and the paths into a session that has none yet.
+    fn fill(&mut self, session: &mut Session) -> Result<(), Unready> {
+        let transcript = session.transcript;
+        let gone = transcript.owed.gone.as_slice();
+        self.put_contents(&mut session.before, transcript.given.files.as_slice())?;
+        self.put_contents(&mut session.after, transcript.owed.files.as_slice())?;
+        keep_others(&session.before, gone, &mut session.after)?;
+        put_paths(self.alloc, session, gone)?;
+        Ok(())
+    }
+
+    // Adds what the parts hold.
+    fn put_contents(
+        &mut self,
+        contents: &mut Contents,
+        parts: &[(Text, Part)],
+    ) -> Result<(), Unready> {
         for (path, part) in parts {
             match part {
                 Part::Bytes(bytes) => contents.append(path, bytes.as_slice())?,
@@ -97,7 +115,7 @@ impl<'a> Folder<'a> {
                 }
             }
         }
-        Ok(contents)
+        Ok(())
     }
 
     // What the file of the name in this folder holds.
@@ -118,25 +136,25 @@ fn keep_others(before: &Contents, gone: &[Text], after: &mut Contents) -> Result
     Ok(())
 }
 
-fn paths_of(
-    alloc: Global,
-    before: &Contents,
-    after: &Contents,
-    gone: &[Text],
-) -> Result<List<Text>, Memory> {
-    let mut paths = List::new(alloc);
-    for (path, _) in before.entries() {
-        paths.push(Text::from_slice(alloc, path.as_slice())?)?;
+// Adds all paths, those of the session's contents and those that are gone.
+fn put_paths(alloc: Global, session: &mut Session, gone: &[Text]) -> Result<(), Memory> {
+    for (path, _) in session.before.entries() {
+        put_path(alloc, &mut session.paths, path)?;
     }
-    for (path, _) in after.entries() {
-        if before.content(path).is_none() {
-            paths.push(Text::from_slice(alloc, path.as_slice())?)?;
+    for (path, _) in session.after.entries() {
+        if session.before.content(path).is_none() {
+            put_path(alloc, &mut session.paths, path)?;
         }
     }
     for path in gone {
-        if before.content(path).is_none() {
-            paths.push(Text::from_slice(alloc, path.as_slice())?)?;
+        if session.before.content(path).is_none() {
+            put_path(alloc, &mut session.paths, path)?;
         }
     }
-    Ok(paths)
+    Ok(())
+}
+
+// Adds a copy of the path.
+fn put_path(alloc: Global, paths: &mut List<Text>, path: &Text) -> Result<(), Memory> {
+    paths.push(Text::from_slice(alloc, path.as_slice())?)
 }

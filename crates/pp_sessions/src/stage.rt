@@ -17,7 +17,7 @@ use pp_real::{Input, Output, RealFiles};
 use pp_regex::RegexMatcher;
 use std::alloc::Global;
 use std::thread::Threads;
-use std::{fs, str};
+use std::{fs, mem, str};
 
 /// The most bytes that a read of standard input gives.
 const INPUT_PIECE: u32 = 5;
@@ -115,6 +115,8 @@ fn copied(alloc: Global, texts: &List<Text>) -> Result<List<Text>, Memory> {
     Ok(copy)
 }
 
+type StageInMemory<M> = Stage<TrialFiles, TrialSource, TrialSink, TrialSink, TrialMatcher<M>>;
+
 fn left_in_memory<R: Threads + Sync, M: Matcher + Drop>(
     machine: &Machine<R>,
     session: &Session,
@@ -122,10 +124,23 @@ fn left_in_memory<R: Threads + Sync, M: Matcher + Drop>(
     calls: AllCalls,
     matcher: M,
 ) -> Result<Left, Memory> {
-    let alloc = machine.alloc;
-    let mut stage = Stage {
-        files: files_in_memory(alloc, session, calls)?,
-        input: source_of(alloc, session, calls)?,
+    let mut stage = stage_in_memory(machine.alloc, session, calls, matcher)?;
+    let status = status_of(machine, words, &mut stage);
+    left_on_stage(machine.alloc, session, status, stage)
+}
+
+// The stage before the run.
+fn stage_in_memory<M: Matcher + Drop>(
+    alloc: Global,
+    session: &Session,
+    calls: AllCalls,
+    matcher: M,
+) -> Result<StageInMemory<M>, Memory> {
+    let files = files_in_memory(alloc, session, calls)?;
+    let input = source_of(alloc, session, calls)?;
+    Ok(Stage {
+        files,
+        input,
         out: out_in_memory(alloc, session, calls),
         err: TrialSink {
             calm: CalmSink::new(alloc, ERR_PIECE),
@@ -135,23 +150,36 @@ fn left_in_memory<R: Threads + Sync, M: Matcher + Drop>(
             calm: matcher,
             calls: calls.matcher,
         },
-    };
-    let status = status_of(machine, words, &mut stage);
-    let files = files_left(alloc, session, &stage.files.calm)?;
-    Ok(Left {
-        status,
-        files,
-        others: stage.files.others,
-        calls: AllCalls {
-            files: stage.files.calls,
-            input: stage.input.calls,
-            out: stage.out.calls,
-            err: stage.err.calls,
-            matcher: stage.matcher.calls,
-        },
-        out: stage.out,
-        err: stage.err,
     })
+}
+
+// What the run of the status left on the stage.
+fn left_on_stage<M: Matcher + Drop>(
+    alloc: Global,
+    session: &Session,
+    status: u8,
+    stage: StageInMemory<M>,
+) -> Result<Left, Memory> {
+    match files_left(alloc, session, &stage.files.calm) {
+        Ok(files) => Ok(Left {
+            status,
+            files,
+            others: stage.files.others,
+            calls: AllCalls {
+                files: stage.files.calls,
+                input: stage.input.calls,
+                out: stage.out.calls,
+                err: stage.err.calls,
+                matcher: stage.matcher.calls,
+            },
+            out: stage.out,
+            err: stage.err,
+        }),
+        Err(Memory) => {
+            mem::drop(stage);
+            Err(Memory)
+        }
+    }
 }
 
 fn out_in_memory(alloc: Global, session: &Session, calls: AllCalls) -> TrialSink {

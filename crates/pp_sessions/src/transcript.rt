@@ -5,6 +5,7 @@ use crate::problem::Problem;
 use crate::trials::{Fault, Object};
 use pp_base::{List, Memory, Text};
 use std::alloc::Global;
+use std::mem;
 
 /// A part of a file's content.
 #[derive(Drop)]
@@ -89,24 +90,35 @@ impl Transcript {
 
     fn put(&mut self, line: Line) -> Result<(), Memory> {
         match line {
-            Line::Comment(text) => self.put_comment(text),
-            Line::Files(files) => put_copies(&mut self.given.files, files)?,
-            Line::Put(path, bytes) => self.given.files.push((path, Part::Bytes(bytes)))?,
-            Line::Locked(paths) => put_all(&mut self.given.locked, paths)?,
-            Line::Real => self.given.is_real = true,
-            Line::Literal(refused) => self.given.patterns = Patterns::Literal(refused),
-            Line::Workers(numbers) => put_all(&mut self.workers, numbers)?,
-            Line::Faults(fault, calls) => self.faults.push((fault, calls))?,
-            Line::Command(words) => self.commands.push(words)?,
-            Line::Input(text) => self.given.input.append(text)?,
-            Line::Out(text) => self.owed.out.append(text)?,
-            Line::Err(text) => self.owed.err.append(text)?,
-            Line::Status(status) => self.owed.status = status,
-            Line::Holds(path, text) => self.owed.files.push((path, Part::Bytes(text)))?,
-            Line::HoldsFiles(files) => put_copies(&mut self.owed.files, files)?,
-            Line::Gone(paths) => put_all(&mut self.owed.gone, paths)?,
+            Line::Comment(text) => {
+                self.put_comment(text);
+                Ok(())
+            }
+            Line::Files(files) => put_copies(&mut self.given.files, files),
+            Line::Put(path, bytes) => self.given.files.push((path, Part::Bytes(bytes))),
+            Line::Locked(paths) => put_all(&mut self.given.locked, paths),
+            Line::Real => {
+                self.given.is_real = true;
+                Ok(())
+            }
+            Line::Literal(refused) => {
+                self.given.patterns = Patterns::Literal(refused);
+                Ok(())
+            }
+            Line::Workers(numbers) => put_all(&mut self.workers, numbers),
+            Line::Faults(fault, calls) => self.faults.push((fault, calls)),
+            Line::Command(words) => self.commands.push(words),
+            Line::Input(text) => self.given.input.append(text),
+            Line::Out(text) => self.owed.out.append(text),
+            Line::Err(text) => self.owed.err.append(text),
+            Line::Status(status) => {
+                self.owed.status = status;
+                Ok(())
+            }
+            Line::Holds(path, text) => self.owed.files.push((path, Part::Bytes(text))),
+            Line::HoldsFiles(files) => put_copies(&mut self.owed.files, files),
+            Line::Gone(paths) => put_all(&mut self.owed.gone, paths),
         }
-        Ok(())
     }
 
     fn put_comment(&mut self, text: Text) {
@@ -156,19 +168,26 @@ pub struct ParseFault {
 
 /// The transcripts of a file. Empty lines set them apart, and comments alone are no transcript.
 pub fn transcripts_of(alloc: Global, text: &str) -> Result<List<Transcript>, ParseFault> {
+    let mut transcripts = List::new(alloc);
+    put_transcripts(alloc, text, &mut transcripts)?;
+    Ok(transcripts)
+}
+
+// Adds the transcripts of a file.
+fn put_transcripts(
+    alloc: Global,
+    text: &str,
+    transcripts: &mut List<Transcript>,
+) -> Result<(), ParseFault> {
     let mut reader = TranscriptReader {
         alloc,
-        transcripts: List::new(alloc),
+        transcripts,
         transcript: None,
         is_comment: true,
     };
-    let mut number: u64 = 0;
-    for line in text.split('\n') {
-        number = number.saturating_add(1);
-        located(number, reader.put(number, line))?;
-    }
-    located(number, reader.close())?;
-    Ok(reader.transcripts)
+    let outcome = reader.put_all(text);
+    mem::drop(reader);
+    outcome
 }
 
 fn located(line: u64, outcome: Result<(), Problem>) -> Result<(), ParseFault> {
@@ -180,38 +199,65 @@ fn located(line: u64, outcome: Result<(), Problem>) -> Result<(), ParseFault> {
 
 // The transcripts that are whole, and the one that has begun.
 #[derive(Drop)]
-struct TranscriptReader {
+struct TranscriptReader<'t> {
     alloc: Global,
-    transcripts: List<Transcript>,
+    transcripts: &'t mut List<Transcript>,
     transcript: Option<Transcript>,
     // Whether the one that has begun has comments alone.
     is_comment: bool,
 }
 
-impl TranscriptReader {
+impl TranscriptReader<'_> {
+    // Puts all lines of a file.
+    fn put_all(&mut self, text: &str) -> Result<(), ParseFault> {
+        let mut number: u64 = 0;
+        for line in text.split('\n') {
+            number = number.saturating_add(1);
+            located(number, self.put(number, line))?;
+        }
+        located(number, self.close())
+    }
+
     fn put(&mut self, number: u64, line: &str) -> Result<(), Problem> {
         if line.is_empty() {
             return self.close();
         }
         let line = line_of(self.alloc, line)?;
-        self.is_comment = self.is_comment && matches!(&line, Line::Comment(_));
-        let begun = self.transcript.take();
-        let mut transcript = begun.unwrap_or(Transcript::new(self.alloc, number));
-        transcript.put(line)?;
-        self.transcript = Some(transcript);
+        self.put_line(number, line)?;
         Ok(())
+    }
+
+    // Puts the line into the transcript that has begun, or begins one.
+    fn put_line(&mut self, number: u64, line: Line) -> Result<(), Memory> {
+        self.is_comment = self.is_comment && matches!(&line, Line::Comment(_));
+        let alloc = self.alloc;
+        self.transcript
+            .get_or_insert_with(|| Transcript::new(alloc, number))
+            .put(line)
     }
 
     fn close(&mut self) -> Result<(), Problem> {
         let is_comment = self.is_comment;
         self.is_comment = true;
-        match self.transcript.take() {
-            Some(transcript) if !is_comment => {
-                transcript.check()?;
-                self.transcripts.push(transcript)?;
-                Ok(())
+        let begun = self.transcript.take();
+        if is_comment {
+            mem::drop(begun);
+            return Ok(());
+        }
+        match begun {
+            Some(transcript) => self.put_whole(transcript),
+            None => Ok(()),
+        }
+    }
+
+    // Adds the transcript, if it can be run.
+    fn put_whole(&mut self, transcript: Transcript) -> Result<(), Problem> {
+        match transcript.check() {
+            Ok(()) => Ok(self.transcripts.push(transcript)?),
+            Err(problem) => {
+                mem::drop(transcript);
+                Err(problem)
             }
-            _ => Ok(()),
         }
     }
 }
