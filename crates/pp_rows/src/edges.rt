@@ -1,5 +1,5 @@
 // Edges that are cut, and the lists of edges that are left.
-ghost use Rattle.std.specs.Prelude.{IfSome};
+ghost use Rattle.std.specs.Prelude.{◌<◌, All, IfOk, IfSome};
 ghost use Rattle.pp_graph.specs.Links.{IsUncut};
 
 use pp_base::{List, Memory};
@@ -39,11 +39,43 @@ fn two_edges_are_cut(rt: HostRuntime) -> Result<(), Fail> {
 
 // The graph of the three nodes and these edges. `None` where an end is no node.
 fn graph_of(alloc: Global, triples: &[Triple]) -> Result<Option<Graph>, Memory> {
-    let sums = three_sums(alloc)?;
+    let mut sums = Sums {
+        names: Names::new(alloc)?,
+        flat: List::new(alloc),
+        cum: List::new(alloc),
+    };
+    graph_over(alloc, &mut sums, triples)
+}
+
+// The graph, over sums that are given the three nodes.
+fn graph_over(alloc: Global, sums: &mut Sums, triples: &[Triple]) -> Result<Option<Graph>, Memory> {
+    put_keys(sums)?;
     let names = sums.names.len();
     if sums.flat.len() as u64 != names || sums.cum.len() as u64 != names {
         return Ok(None);
     }
+    let Some(edges) = edges_of(alloc, triples, names)? else {
+        return Ok(None);
+    };
+    let graph = Graph::make(alloc, sums, edges)?;
+    Ok(Some(graph))
+}
+
+// Adds three keys, without texts.
+fn put_keys(sums: &mut Sums) -> Result<(), Memory> {
+    for function in 0..3 {
+        sums.names.number(key_of(function))?;
+        sums.flat.push(1)?;
+        sums.cum.push(1)?;
+    }
+    Ok(())
+}
+
+// The edges, or `None` where an end is none of so many names.
+fn edges_of(alloc: Global, triples: &[Triple], names: u64) -> Result<Option<List<Edge>>, Memory>
+    ensures { IfOk result (λ edges. IfSome edges
+        (All (λ e. (e.from < names) × (e.to < names)))) }
+{
     let mut edges = List::new(alloc);
     for (from, to, value) in triples {
         if *from >= names || *to >= names {
@@ -55,21 +87,7 @@ fn graph_of(alloc: Global, triples: &[Triple]) -> Result<Option<Graph>, Memory> 
             value: *value,
         })?;
     }
-    let graph = Graph::make(alloc, &sums, edges)?;
-    Ok(Some(graph))
-}
-
-// Three keys, without texts.
-fn three_sums(alloc: Global) -> Result<Sums, Memory> {
-    let mut names = Names::new(alloc)?;
-    let mut flat = List::new(alloc);
-    let mut cum = List::new(alloc);
-    for function in 0..3 {
-        names.number(key_of(function))?;
-        flat.push(1)?;
-        cum.push(1)?;
-    }
-    Ok(Sums { names, flat, cum })
+    Ok(Some(edges))
 }
 
 fn key_of(function: u64) -> Key {

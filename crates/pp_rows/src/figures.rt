@@ -4,6 +4,7 @@ use crate::fixtures::fixture_files;
 use crate::running::{report_of, shown};
 use pp_base::{List, Memory, OpenGate, Text};
 use std::alloc::Global;
+use std::mem;
 use std::test::Fail;
 use std::thread::Threads;
 
@@ -48,10 +49,20 @@ impl Figures {
         let (_, blocks) = after.split_once("| context\n").ok_or("no heading")?;
         let mut figures = Figures::none(alloc);
         figures.total = number(total);
-        for block in blocks.split("-\n") {
-            figures.put_block(alloc, block)?;
+        match figures.put_blocks(alloc, blocks) {
+            Ok(()) => Ok(figures),
+            Err(Memory) => {
+                mem::drop(figures);
+                Err(Memory.into())
+            }
         }
-        Ok(figures)
+    }
+
+    fn put_blocks(&mut self, alloc: Global, blocks: &str) -> Result<(), Memory> {
+        for block in blocks.split("-\n") {
+            self.put_block(alloc, block)?;
+        }
+        Ok(())
     }
 
     // Adds a node, with its callers above it and its callees below.
@@ -59,30 +70,17 @@ impl Figures {
         let node = node_of(block);
         let mut is_below = false;
         for line in block.split('\n') {
-            let Some((numbers, name)) = line.split_once(" | ") else {
-                continue;
-            };
-            match name.strip_prefix("  ") {
-                None => {
-                    self.put(alloc, "", name, numbers)?;
-                    is_below = true;
-                }
-                Some(callee) if is_below => self.put(alloc, node, callee, numbers)?,
-                Some(caller) => self.put(alloc, caller, node, numbers)?,
+            if let Some((numbers, name)) = line.split_once(" | ") {
+                self.put(alloc, ends_of(name, node, is_below), numbers)?;
+                is_below = is_below || !name.starts_with("  ");
             }
         }
         Ok(())
     }
 
-    fn put(
-        &mut self,
-        alloc: Global,
-        caller: &str,
-        name: &str,
-        numbers: &str,
-    ) -> Result<(), Memory> {
-        let caller = Text::from_slice(alloc, caller.as_bytes())?;
-        let name = Text::from_slice(alloc, name.as_bytes())?;
+    fn put(&mut self, alloc: Global, ends: (&str, &str), numbers: &str) -> Result<(), Memory> {
+        let caller = Text::from_slice(alloc, ends.0.as_bytes())?;
+        let name = Text::from_slice(alloc, ends.1.as_bytes())?;
         self.entries.push(Entry {
             caller,
             name,
@@ -99,6 +97,15 @@ impl Figures {
             }
         }
         (0, 0)
+    }
+}
+
+// The caller and the callee on a line of the node, which has no caller where it is the node's own.
+fn ends_of<'a>(name: &'a str, node: &'a str, is_below: bool) -> (&'a str, &'a str) {
+    match name.strip_prefix("  ") {
+        None => ("", name),
+        Some(callee) if is_below => (node, callee),
+        Some(caller) => (caller, node),
     }
 }
 

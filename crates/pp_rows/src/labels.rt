@@ -7,6 +7,7 @@ use pp_build::{Builder, LabelValue, SampleLabel};
 use pp_edit::{has_label, set_label};
 use pp_model::{Profile, Valid};
 use std::alloc::Global;
+use std::mem;
 use std::test::Fail;
 
 #[test]
@@ -21,8 +22,13 @@ fn samples_have_the_hour(rt: HostRuntime) -> Result<(), Fail> {
 
 fn allocations(alloc: Global) -> Result<Valid, Memory> {
     let mut b = Builder::new(alloc)?;
-    record(&mut b)?;
-    Ok(b.finish())
+    match record(&mut b) {
+        Ok(()) => Ok(b.finish()),
+        Err(Memory) => {
+            mem::drop(b);
+            Err(Memory)
+        }
+    }
 }
 
 // Two samples of a stack, one of them with a number label.

@@ -25,10 +25,7 @@ fn give(lanes: &mut Vec<Lane>, turns: &[(usize, Option<u32>)]) -> bool
     ensures { IsWholeMake lanes.new.items }
 {
     'turns: for (lane, piece) in turns {
-        if *lane >= lanes.len() {
-            return false;
-        }
-        if next_of(lanes, *lane) != *piece {
+        if *lane >= lanes.len() || next_of(lanes, *lane) != *piece {
             return false;
         }
     }

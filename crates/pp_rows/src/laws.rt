@@ -41,11 +41,11 @@ fn is_seen<R: Threads + Sync>(rt: &R, alloc: Global, law: &str) -> Result<bool, 
     let (second, third) = others.split_once('|').ok_or("two reports")?;
     let (of_second, of_third) = times.split_once(' ').ok_or("one number")?;
     let seen = Seen {
+        of_second: of_second.parse::<i64>().ok().ok_or("no number")?,
+        of_third: of_third.parse::<i64>().ok().ok_or("no number")?,
         first: all_figures(rt, alloc, first)?,
         second: all_figures(rt, alloc, second)?,
         third: all_figures(rt, alloc, third)?,
-        of_second: of_second.parse::<i64>().ok().ok_or("no number")?,
-        of_third: of_third.parse::<i64>().ok().ok_or("no number")?,
     };
     Ok(
         seen.is_sum_over(&seen.first)

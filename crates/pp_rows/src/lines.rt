@@ -43,19 +43,14 @@ fn input_of(alloc: Global, length: usize, rest: &[u8], most: u32) -> Result<Calm
     Ok(CalmSource::new(bytes, most.max(1)))
 }
 
-fn are_lines<I: Source + Drop>(
-    alloc: Global,
-    mut input: I,
-    owed: &[&[u8]],
-) -> Result<bool, Memory> {
+fn are_lines<I: Source + Drop>(alloc: Global, input: I, owed: &[&[u8]]) -> Result<bool, Memory> {
+    let mut input = input;
     let mut reader = LineReader::new(alloc)?;
+    let mut is_owed = true;
     for line in owed {
-        let read = reader.next_line(&mut input);
-        if shown(&read) != *line {
-            return Ok(false);
-        }
+        is_owed = is_owed && shown(&reader.next_line(&mut input)) == *line;
     }
-    Ok(true)
+    Ok(is_owed)
 }
 
 fn shown(read: &LineRead) -> &[u8] {

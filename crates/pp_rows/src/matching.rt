@@ -1,5 +1,6 @@
 // What a regular expression finds, and which patterns are refused.
 
+use crate::running::put_text;
 use pp_base::{Judgement, List, Matcher, Memory, Text};
 use pp_regex::RegexMatcher;
 use std::alloc::Global;
@@ -25,9 +26,9 @@ static ROWS: [(&[u8], &[&[u8]], &[u8]); 9] = [
 #[test]
 fn patterns_are_found_or_refused(rt: HostRuntime) -> Result<(), Fail> {
     let mut matcher = RegexMatcher::new(rt.alloc());
-    for (pattern, texts, owed) in ROWS {
+    for (pattern, texts, owed) in &ROWS {
         let answer = answer_of(rt.alloc(), &mut matcher, pattern, texts)?;
-        assert!(rt; answer.as_slice() == owed, "{pattern:?}");
+        assert!(rt; answer.as_slice() == *owed, "{pattern:?}");
     }
     assert!(rt; matcher.unbuilt() == 0);
     Ok(())
@@ -51,7 +52,7 @@ fn answer_of(
 fn list_of(alloc: Global, texts: &[&[u8]]) -> Result<List<Text>, Memory> {
     let mut list = List::new(alloc);
     for text in texts {
-        list.push(Text::from_slice(alloc, text)?)?;
+        put_text(alloc, &mut list, text)?;
     }
     Ok(list)
 }

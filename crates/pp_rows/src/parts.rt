@@ -1,5 +1,5 @@
 // Parts of pieces, counted one by one and joined, beside samples that are added up one by one.
-ghost use Rattle.std.specs.Prelude.{◌<◌, length};
+ghost use Rattle.std.specs.Prelude.{◌<◌, length, IfOk};
 ghost use Rattle.pp_model.specs.declared.profile.Profile.{Profile};
 ghost use Rattle.pp_model.specs.Conditions.{HasVerdicts};
 ghost use Rattle.pp_model.specs.Sizes.{IsCountable};
@@ -10,14 +10,17 @@ use crate::counting::Sums;
 use crate::running::words_of;
 use pp_base::{CalmFiles, CalmSink, CalmSource, List, Memory, Text};
 use pp_count::{KeyTable, Part, column_of, count_piece, join_parts, key_table};
-use pp_desk::Objects;
-use pp_load::load;
+use pp_desk::{Objects, Stop};
+use pp_load::{LoadRefusal, load};
 use pp_model::{Config, Loaded, Verdicts};
-use pp_options::read_words;
+use pp_options::{Plan, read_words};
 use pp_regex::RegexMatcher;
 use std::alloc::Global;
+use std::mem;
 use std::test::Fail;
 use std::thread::Threads;
+
+type Loading = Result<Result<Loaded, LoadRefusal>, Stop>;
 
 #[test]
 fn parts_join_to_the_whole(rt: HostRuntime) -> Result<(), Fail> {
@@ -34,6 +37,17 @@ fn are_joined<R: Threads + Sync>(
 ) -> Result<bool, Fail> {
     let words = words_of(alloc, words)?;
     let plan = read_words(alloc, words.as_slice()).ok().ok_or("no plan")?;
+    let answer = plan_has_sums(rt, alloc, &plan, sums);
+    mem::drop(plan);
+    answer
+}
+
+fn plan_has_sums<R: Threads + Sync>(
+    rt: &R,
+    alloc: Global,
+    plan: &Plan,
+    sums: &Sums,
+) -> Result<bool, Fail> {
     let mut files = CalmFiles::new(alloc, List::new(alloc), List::new(alloc));
     let mut input = CalmSource::new(Text::new(alloc), 1);
     let mut out = CalmSink::new(alloc, 16);
@@ -49,28 +63,32 @@ fn are_joined<R: Threads + Sync>(
         matcher: &mut matcher,
         reader: &mut reader,
     };
-    let Ok(Ok(l)) = load(rt, alloc, &plan, &mut desk) else {
-        return Err("not loaded".into());
-    };
-    have_sums(alloc, &l, sums)
+    let loading = load(rt, alloc, plan, &mut desk);
+    let answer = have_sums(alloc, &loading, sums);
+    mem::drop(loading);
+    answer
 }
 
-fn have_sums(alloc: Global, l: &Loaded, sums: &Sums) -> Result<bool, Fail>
-    requires { IsCountable l.now.profile }
+fn have_sums(alloc: Global, loading: &Loading, sums: &Sums) -> Result<bool, Fail>
+    requires { IfOk loading.now (λ loading. IfOk loading (λ l. IsCountable l.profile)) }
 {
+    let Ok(Ok(l)) = loading else {
+        return Err("not loaded".into());
+    };
+    if l.profile.get().sample.len() <= 1024 {
+        return Err("no second piece".into());
+    }
     let config = Config::standard(alloc)?;
     let Ok(column) = column_of(l, &config) else {
         return Err("no column".into());
     };
     let table = key_table(alloc, l, &config)?;
-    if l.profile.get().sample.len() <= 1024 {
-        return Err("no second piece".into());
-    }
-    let part = joined_part(alloc, l, &no_verdicts(alloc), &config, column, &table)?;
-    Ok(
-        are_all(part.kept.as_slice(), l.profile.get().sample.len())
-            && are_sums(l, &table, &part, sums),
-    )
+    let verdicts = no_verdicts(alloc);
+    let part = joined_part(alloc, l, &verdicts, &config, column, &table);
+    mem::drop(verdicts);
+    let part = part?;
+    let is_whole = are_all(part.kept.as_slice(), l.profile.get().sample.len());
+    Ok(is_whole && are_sums(l, &table, &part, sums))
 }
 
 // Whether the numbers are those of all samples.

@@ -28,8 +28,9 @@ fn faults_are_answered(rt: HostRuntime) {
 
 #[test]
 fn a_long_varint_is_a_negative_number(rt: HostRuntime) -> Result<(), Fail> {
-    let profile = read_profile(rt.alloc(), b"\x48\xff\xff\xff\xff\xff\xff\xff\xff\xff\x7f")?;
-    assert_eq!(rt; profile.time_nanos, -1);
+    let bytes = b"\x48\xff\xff\xff\xff\xff\xff\xff\xff\xff\x7f";
+    let time_nanos = read_profile(rt.alloc(), bytes)?.time_nanos;
+    assert_eq!(rt; time_nanos, -1);
     Ok(())
 }
 
@@ -42,7 +43,7 @@ static TWO_LOCATIONS: [&[u8]; 3] = [
 
 #[test]
 fn packed_and_unpacked_are_equal(rt: HostRuntime) -> Result<(), Fail> {
-    for bytes in TWO_LOCATIONS {
+    for bytes in &TWO_LOCATIONS {
         let profile = read_profile(rt.alloc(), bytes)?;
         assert!(rt; is_of_two_locations(&profile), "{bytes:?}");
     }

@@ -1,9 +1,10 @@
 // Whole runs, without the clauses of the top call, so that the tests need not carry them.
 
-use pp_base::{CalmFiles, CalmSink, CalmSource, Files, Gate, List, Memory, Sink, Source, Text};
-use pp_engine::{Ending, run};
+use pp_base::{CalmFiles, CalmSink, CalmSource, Gate, List, Memory, Text};
+use pp_engine::run;
 use pp_regex::RegexMatcher;
 use std::alloc::Global;
+use std::mem;
 use std::test::Fail;
 use std::thread::Threads;
 
@@ -41,52 +42,58 @@ pub(crate) fn answer_to<R: Threads + Sync, G: Gate>(
     gate: &G,
 ) -> Result<Answer, Memory> {
     let mut files = CalmFiles::new(alloc, files, List::new(alloc));
-    let mut input = CalmSource::new(Text::from_slice(alloc, lines.as_bytes())?, 5);
-    let mut out = CalmSink::new(alloc, 4096);
-    let mut err = CalmSink::new(alloc, 16);
-    let ending = ending_of(
-        rt, alloc, words, &mut files, &mut input, &mut out, &mut err, gate,
-    )?;
-    Ok(Answer {
-        files,
-        out: Text::from_slice(alloc, out.bytes().as_slice())?,
-        err: Text::from_slice(alloc, err.bytes().as_slice())?,
-        status: ending.status,
-    })
+    match printed(rt, alloc, words, &mut files, lines, gate) {
+        Ok((out, err, status)) => Ok(Answer {
+            files,
+            out,
+            err,
+            status,
+        }),
+        Err(Memory) => {
+            mem::drop(files);
+            Err(Memory)
+        }
+    }
 }
 
-fn ending_of<R: Threads + Sync, F: Files, I: Source, O: Sink, E: Sink, G: Gate>(
+// What the run writes to its two sinks, and its status.
+fn printed<R: Threads + Sync, G: Gate>(
     rt: &R,
     alloc: Global,
     words: &str,
-    files: &mut F,
-    input: &mut I,
-    out: &mut O,
-    err: &mut E,
+    files: &mut CalmFiles,
+    lines: &str,
     gate: &G,
-) -> Result<Ending, Memory> {
-    let words = words_of(alloc, words)?;
-    let mut matcher = RegexMatcher::new(alloc);
-    Ok(run(
-        rt,
-        alloc,
-        words.as_slice(),
-        files,
-        input,
-        out,
-        err,
-        &mut matcher,
-        gate,
-    ))
+) -> Result<(Text, Text, u8), Memory> {
+    let mut input = CalmSource::new(Text::from_slice(alloc, lines.as_bytes())?, 5);
+    let list = words_of(alloc, words)?;
+    let words = list.as_slice();
+    let mut out = CalmSink::new(alloc, 4096);
+    let mut err = CalmSink::new(alloc, 16);
+    let mut regex = RegexMatcher::new(alloc);
+    let ending = run(
+        rt, alloc, words, files, &mut input, &mut out, &mut err, &mut regex, gate,
+    );
+    copied(alloc, out.bytes(), err.bytes(), ending.status)
+}
+
+fn copied(alloc: Global, out: &Text, err: &Text, status: u8) -> Result<(Text, Text, u8), Memory> {
+    let out = Text::from_slice(alloc, out.as_slice())?;
+    let err = Text::from_slice(alloc, err.as_slice())?;
+    Ok((out, err, status))
 }
 
 // The words of the line, parted by spaces.
 pub(crate) fn words_of(alloc: Global, line: &str) -> Result<List<Text>, Memory> {
     let mut words = List::new(alloc);
     for word in line.split(' ') {
-        words.push(Text::from_slice(alloc, word.as_bytes())?)?;
+        put_text(alloc, &mut words, word.as_bytes())?;
     }
     Ok(words)
+}
+
+pub(crate) fn put_text(alloc: Global, texts: &mut List<Text>, text: &[u8]) -> Result<(), Memory> {
+    texts.push(Text::from_slice(alloc, text)?)
 }
 
 // The text, where it is UTF-8.

@@ -1,4 +1,3 @@
-use Rattle.std.proofs.Common.{◌≡◌, length}
 use Rattle.pp_steal.specs.Closing.{IsWholeMake}
 use Rattle.pp_rows.proofs.lanes.give.Given as goal
 

@@ -1,6 +1,6 @@
 use Rattle.std.proofs.Common.{◌<◌, All}
 use Rattle.pp_count.specs.declared.edge.Edge.{Edge}
-use Rattle.pp_rows.proofs.edges.graph_of.Given as goal
+use Rattle.pp_rows.proofs.edges.edges_of.Given as goal
 
 -- the edges so far are between names
 abbrev pub invariant-loop-from : goal.invariant-loop-from
