@@ -15,8 +15,9 @@ fn samples_have_the_hour(rt: HostRuntime) -> Result<(), Fail> {
     let alloc = rt.alloc();
     let hour = allocations(alloc)?;
     let hour = set_label(alloc, hour, b"hour", b"2")?;
-    assert_eq!(rt; samples_of(hour.get(), b"2"), 2);
-    assert_eq!(rt; samples_of(hour.get(), b"1"), 0);
+    let found = [b"2", b"1"].map(|text| samples_of(hour.get(), text));
+    mem::drop(hour);
+    assert_eq!(rt; found, [2, 0]);
     Ok(())
 }
 

@@ -1,7 +1,8 @@
 // Parts of pieces, counted one by one and joined, beside samples that are added up one by one.
-ghost use Rattle.std.specs.Prelude.{◌<◌, length, IfOk};
+ghost use Rattle.std.specs.Prelude.{◌≡◌, ◌<◌, length, IfOk};
 ghost use Rattle.pp_model.specs.declared.profile.Profile.{Profile};
 ghost use Rattle.pp_model.specs.Conditions.{HasVerdicts};
+ghost use Rattle.pp_model.specs.Defaults.{defaults};
 ghost use Rattle.pp_model.specs.Sizes.{IsCountable};
 ghost use Rattle.pp_count.specs.Counted.{CanCount};
 ghost use Rattle.pp_count.specs.Table.{IsKeyTable};
@@ -79,12 +80,22 @@ fn have_sums(alloc: Global, loading: &Loading, sums: &Sums) -> Result<bool, Fail
         return Err("no second piece".into());
     }
     let config = Config::standard(alloc)?;
-    let Ok(column) = column_of(l, &config) else {
+    let answer = has_sums_under(alloc, l, &config, sums);
+    mem::drop(config);
+    answer
+}
+
+fn has_sums_under(alloc: Global, l: &Loaded, config: &Config, sums: &Sums) -> Result<bool, Fail>
+    requires countable { IsCountable l.now.profile }
+    requires standard { config.now ≡ defaults }
+    requires pieces { 1024 < length l.now.profile.sample }
+{
+    let Ok(column) = column_of(l, config) else {
         return Err("no column".into());
     };
-    let table = key_table(alloc, l, &config)?;
+    let table = key_table(alloc, l, config)?;
     let verdicts = no_verdicts(alloc);
-    let part = joined_part(alloc, l, &verdicts, &config, column, &table);
+    let part = joined_part(alloc, l, &verdicts, config, column, &table);
     mem::drop(verdicts);
     let part = part?;
     let is_whole = are_all(part.kept.as_slice(), l.profile.get().sample.len());

@@ -38,8 +38,8 @@ fn is_saved<R: Threads + Sync>(rt: &R, alloc: Global, row: &str) -> Result<bool,
     let (filters, settings) = rest.split_once('~').ok_or("no filters")?;
     let saving = format!(in alloc; "{filters};relative_percentages;proto >saved;{settings}")?;
     let before = reports(rt, alloc, profile, fixture_files(alloc)?, saving.as_str())?;
-    let after = reports(rt, alloc, "saved", saved_of(alloc, &before)?, settings)?;
-    Ok(is_told_again(&before, &after))
+    let after = reports(rt, alloc, "saved", saved_of(alloc, &before)?, settings);
+    after.map(|after| is_told_again(&before, &after))
 }
 
 // The session of these lines, which `;` parts, and the reports.
