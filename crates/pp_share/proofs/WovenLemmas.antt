@@ -1,6 +1,7 @@
 -- Sums of samples of which some stand alone.
 use Rattle.std.proofs.Common.{◌≡◌, ℕ, zero, suc, ◌+◌, ◌<◌, ◌≤◌, ◌==◌, Bool, true, false, true≢false, cond, ◌||◌, ℤ, pos, nat_abs, Option, None, Some, List, [], ◌∷◌, ◌++◌, length, map, filter, get_or, sum_by, refl, sym, ap, subst, ◌∙◌, if◌then◌else◌, arith}
-use Rattle.std.specs.List.{All, list_any, AllByRecursion}
+use Rattle.std.specs.List.{All, list_all, list_any, AllByRecursion}
+use Rattle.std.proofs.lemmas.List.Folds.{list_all_at}
 use Rattle.std.specs.Map.{lookup}
 use Rattle.std.specs.Option.{is_none, unwrap_or}
 use Rattle.std.proofs.lemmas.List.{length-append, length-map, map-append, get_or-map}
@@ -16,10 +17,10 @@ use Rattle.pp_share.specs.declared.sample_key.SampleKey.{SampleKey}
 use Rattle.pp_share.specs.Numbers.{number_by}
 use Rattle.pp_share.specs.Renumbered.{NewIds, renumbered_sample}
 use Rattle.pp_share.specs.Repeats.{is_listed, times, HoldsRepeated}
-use Rattle.pp_share.specs.SampleKeys.{sample_item, sample_number, sample_stack, key_lists, same_key, item_of_key}
+use Rattle.pp_share.specs.SampleKeys.{sample_item, sample_number, sample_stack, has_values, key_lists, same_key, item_of_key}
 use Rattle.pp_share.specs.SampleStacks.{same_stack, stack_number, stack_decides}
 use Rattle.pp_share.specs.Sums.{sum_with, sum_of, keys_of, summed, sum_at, sums_with, CanAdd}
-use Rattle.pp_share.specs.Woven.{StackRow, woven_items, woven, StandsAlone, IsWoven}
+use Rattle.pp_share.specs.Woven.{StackRow, woven_items, woven, StandsAlone, CountsAlone, IsWoven}
 use Rattle.pp_share.proofs.Prefix.{IsNext, next_weight}
 use Rattle.pp_share.proofs.RepeatLemmas.{itself, never}
 use Rattle.pp_share.proofs.SampleKeyLemmas.{sum_by-map, next_described, sum_at-described, insert-described, sample_adds, sums_after}
@@ -118,7 +119,7 @@ module _ (repeated : List ℕ) (k : Stack) (here : is_listed repeated (stack_num
       by false rest = turn (is_key same_stack k items) (insert_entry same_stack items k v) rest
 
 -- A row of a key whose number is repeated.
-module _ (repeated : List ℕ) (order : List (Option Sample)) (sums : List (SampleKey × List ℤ)) (before : IsWoven repeated order sums)
+module _ (repeated : List ℕ) (all_have : Bool) (order : List (Option Sample)) (sums : List (SampleKey × List ℤ)) (before : IsWoven repeated all_have order sums)
     (key : SampleKey) (row : List ℤ) (here : is_listed repeated (stack_number (key_lists key)) ≡ true) where
   many : places order ≡ length (map item_of_key sums)
   many = before.places ∙ sym (length-map sums item_of_key)
@@ -157,14 +158,19 @@ module _ (repeated : List ℕ) (order : List (Option Sample)) (sums : List (Samp
   still_alone true = before.alone
   still_alone false = all_push (StandsAlone repeated) order None before.alone tt
 
-  woven_state : IsWoven repeated (with_place known order) after
+  still_counts : (b : Bool) → all_have ≡ true → AllByRecursion CountsAlone (with_place b order)
+  still_counts true have = before.values have
+  still_counts false have = all_push CountsAlone order None (before.values have) tt
+
+  woven_state : IsWoven repeated all_have (with_place known order) after
   woven_state = record {
     places = places_with known order ∙ ap (λ n. n + cond known 0 1) before.places ∙ sym longer;
     alone = still_alone known;
+    values = still_counts known;
   }
 
   pub record IsAdded (to : List (Option Sample)) : Type 0 where
-    pub state : IsWoven repeated to after
+    pub state : IsWoven repeated all_have to after
     pub woven_sums : woven to after ≡ sums_with same_stack (woven order sums) (key_lists key) row
 
   added_at : (b : Bool) → known ≡ b → IsAdded (with_place b order)
@@ -194,10 +200,12 @@ module _ (repeated : List ℕ) (s : Sample) (alone : is_listed repeated (sample_
   goes_last (None ∷ order) [] = goes_last order []
   goes_last (None ∷ order) (i ∷ items) = ap (λ l. i ∷ l) (goes_last order items)
 
-  pub alone_state : (order : List (Option Sample)) (sums : List (SampleKey × List ℤ)) → IsWoven repeated order sums → IsWoven repeated (order ++ Some s ∷ []) sums
-  alone_state order sums state = record {
+  pub alone_state : (all_have : Bool) → (all_have ≡ true → has_values s ≡ true) → (order : List (Option Sample)) (sums : List (SampleKey × List ℤ))
+      → IsWoven repeated all_have order sums → IsWoven repeated all_have (order ++ Some s ∷ []) sums
+  alone_state all_have has order sums state = record {
     places = ap length (filter-append is_none order (Some s ∷ [])) ∙ length-append (filter is_none order) [] ∙ omega (arith, state.places);
     alone = all_push (StandsAlone repeated) order (Some s) state.alone alone;
+    values = λ have. all_push CountsAlone order (Some s) (state.values have) (has have);
   }
 
   pub alone_sums : (order : List (Option Sample)) (sums : List (SampleKey × List ℤ)) → list_any (same_stack (sample_stack s)) (keys_of same_stack (woven order sums)) ≡ false
@@ -269,6 +277,14 @@ module _ (by : NewIds) (columns : ℕ) (samples seen : List Sample) (s : Sample)
 
   next_moved : IsNext (map moved samples) (map moved seen) (moved s)
   next_moved = next_described moved samples seen s next
+
+  -- it has a value where all have
+  pub moved_counts : list_all has_values samples ≡ true → has_values (moved s) ≡ true
+  moved_counts all = it_has (has_values s) refl
+    where
+      it_has : (b : Bool) → has_values s ≡ b → b ≡ true
+      it_has true is = refl
+      it_has false is = absurd (true≢false (sym all ∙ list_all_at has_values samples (length seen) s next.within (ap has_values (sym next.here) ∙ is)))
 
   -- the number at its place is its own
   pub moved_number : (numbers : List ℕ) (place : ℕ) → numbers ≡ map (number_by by) samples → place ≡ length seen → get_or numbers place 0 ≡ number_by by s

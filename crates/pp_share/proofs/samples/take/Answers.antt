@@ -11,8 +11,8 @@ use Rattle.pp_share.proofs.samples.take.Goals as goal
 pub returns-then-not-is_repeated-clause-state : goal.returns-then-not-is_repeated-clause-state
 returns-then-not-is_repeated-clause-state c =
     let sums = c.args.sums.now.sums.entries in
-    subst (λ order. IsWoven c.args.repeated.now.keys order sums) (sym c.in_ok-push.ensures.items)
-    (alone_state c.args.repeated.now.keys c.args.sample (ap (is_listed c.args.repeated.now.keys) (sym c.requires.number) ∙ sym c.if-not-is_repeated.ensures) c.args.sums.now.order.items sums c.requires.state)
+    subst (λ order. IsWoven c.args.repeated.now.keys c.args.sums.now.have_values order sums) (sym c.in_ok-push.ensures.items)
+    (alone_state c.args.repeated.now.keys c.args.sample (ap (is_listed c.args.repeated.now.keys) (sym c.requires.number) ∙ sym c.if-not-is_repeated.ensures) c.args.sums.now.have_values c.requires.counts c.args.sums.now.order.items sums c.requires.state)
 
 pub returns-then-not-is_repeated-clause-sums : goal.returns-then-not-is_repeated-clause-sums
 returns-then-not-is_repeated-clause-sums c =
@@ -26,7 +26,7 @@ add-requires c =
     let order = c.args.sums.now.order.items in
     let sums = c.args.sums.now.sums.entries in
     let here : is_listed repeated (stack_number (sample_stack c.args.sample)) ≡ true = ap (is_listed repeated) (sym c.requires.number) ∙ sym c.if-not-is_repeated.ensures in
-    can_add_found repeated order sums c.requires.state c.key_of-key.result c.args.sample.value (ap (λ k. is_listed repeated (stack_number k)) c.key_of-key.ensures ∙ here)
+    can_add_found repeated c.args.sums.now.have_values order sums c.requires.state c.key_of-key.result c.args.sample.value (ap (λ k. is_listed repeated (stack_number k)) c.key_of-key.ensures ∙ here)
     (subst (λ k. CanAdd (sum_at same_stack (woven order sums) k) c.args.sample.value) (sym c.key_of-key.ensures) c.requires.adds)
 
 -- its kind is new
@@ -36,10 +36,10 @@ returns-in_ok-push-2-clause-state c =
     let order = c.args.sums.now.order.items in
     let sums = c.args.sums.now.sums.entries in
     let here : is_listed repeated (stack_number (sample_stack c.args.sample)) ≡ true = ap (is_listed repeated) (sym c.requires.number) ∙ sym c.if-not-is_repeated.ensures in
-    let added = added_new repeated order sums c.requires.state c.key_of-key.result c.args.sample.value (ap (λ k. is_listed repeated (stack_number k)) c.key_of-key.ensures ∙ here)
+    let added = added_new repeated c.args.sums.now.have_values order sums c.requires.state c.key_of-key.result c.args.sample.value (ap (λ k. is_listed repeated (stack_number k)) c.key_of-key.ensures ∙ here)
     (omega (arith, c.if-len-known.true, c.len.ensures.len, c.len-known.ensures.len, ap length c.in_ok-add.ensures)) in
-    subst (λ es. IsWoven repeated c.push-then-len-known.new.self.items es) (sym c.in_ok-add.ensures)
-    (subst (λ o. IsWoven repeated o (sums_with same_key sums c.key_of-key.result c.args.sample.value)) (sym c.in_ok-push-2.ensures.items) added.state)
+    subst (λ es. IsWoven repeated c.args.sums.now.have_values c.push-then-len-known.new.self.items es) (sym c.in_ok-add.ensures)
+    (subst (λ o. IsWoven repeated c.args.sums.now.have_values o (sums_with same_key sums c.key_of-key.result c.args.sample.value)) (sym c.in_ok-push-2.ensures.items) added.state)
 
 pub returns-in_ok-push-2-clause-sums : goal.returns-in_ok-push-2-clause-sums
 returns-in_ok-push-2-clause-sums c =
@@ -47,7 +47,7 @@ returns-in_ok-push-2-clause-sums c =
     let order = c.args.sums.now.order.items in
     let sums = c.args.sums.now.sums.entries in
     let here : is_listed repeated (stack_number (sample_stack c.args.sample)) ≡ true = ap (is_listed repeated) (sym c.requires.number) ∙ sym c.if-not-is_repeated.ensures in
-    let added = added_new repeated order sums c.requires.state c.key_of-key.result c.args.sample.value (ap (λ k. is_listed repeated (stack_number k)) c.key_of-key.ensures ∙ here)
+    let added = added_new repeated c.args.sums.now.have_values order sums c.requires.state c.key_of-key.result c.args.sample.value (ap (λ k. is_listed repeated (stack_number k)) c.key_of-key.ensures ∙ here)
     (omega (arith, c.if-len-known.true, c.len.ensures.len, c.len-known.ensures.len, ap length c.in_ok-add.ensures)) in
     (λ j. woven (c.in_ok-push-2.ensures.items j) (c.in_ok-add.ensures j)) ∙ added.woven_sums ∙ ap (λ k. sums_with same_stack (woven order sums) k c.args.sample.value) c.key_of-key.ensures
 
@@ -58,9 +58,9 @@ returns-else-len-known-clause-state c =
     let order = c.args.sums.now.order.items in
     let sums = c.args.sums.now.sums.entries in
     let here : is_listed repeated (stack_number (sample_stack c.args.sample)) ≡ true = ap (is_listed repeated) (sym c.requires.number) ∙ sym c.if-not-is_repeated.ensures in
-    let added = added_known repeated order sums c.requires.state c.key_of-key.result c.args.sample.value (ap (λ k. is_listed repeated (stack_number k)) c.key_of-key.ensures ∙ here)
+    let added = added_known repeated c.args.sums.now.have_values order sums c.requires.state c.key_of-key.result c.args.sample.value (ap (λ k. is_listed repeated (stack_number k)) c.key_of-key.ensures ∙ here)
     (omega (arith, c.if-len-known.false, c.len.ensures.len, c.len-known.ensures.len, ap length c.in_ok-add.ensures)) in
-    subst (λ es. IsWoven repeated order es) (sym c.in_ok-add.ensures) added.state
+    subst (λ es. IsWoven repeated c.args.sums.now.have_values order es) (sym c.in_ok-add.ensures) added.state
 
 pub returns-else-len-known-clause-sums : goal.returns-else-len-known-clause-sums
 returns-else-len-known-clause-sums c =
@@ -68,6 +68,6 @@ returns-else-len-known-clause-sums c =
     let order = c.args.sums.now.order.items in
     let sums = c.args.sums.now.sums.entries in
     let here : is_listed repeated (stack_number (sample_stack c.args.sample)) ≡ true = ap (is_listed repeated) (sym c.requires.number) ∙ sym c.if-not-is_repeated.ensures in
-    let added = added_known repeated order sums c.requires.state c.key_of-key.result c.args.sample.value (ap (λ k. is_listed repeated (stack_number k)) c.key_of-key.ensures ∙ here)
+    let added = added_known repeated c.args.sums.now.have_values order sums c.requires.state c.key_of-key.result c.args.sample.value (ap (λ k. is_listed repeated (stack_number k)) c.key_of-key.ensures ∙ here)
     (omega (arith, c.if-len-known.false, c.len.ensures.len, c.len-known.ensures.len, ap length c.in_ok-add.ensures)) in
     ap (woven order) c.in_ok-add.ensures ∙ added.woven_sums ∙ ap (λ k. sums_with same_stack (woven order sums) k c.args.sample.value) c.key_of-key.ensures
