@@ -17,11 +17,11 @@ use Rattle.pp_share.specs.declared.sample_key.SampleKey.{SampleKey}
 use Rattle.pp_share.specs.Numbers.{number_by}
 use Rattle.pp_share.specs.Renumbered.{NewIds, renumbered_sample}
 use Rattle.pp_share.specs.Repeats.{is_listed, times, HoldsRepeated}
-use Rattle.pp_share.specs.SampleKeys.{sample_item, sample_number, sample_stack, has_values, key_lists, same_key, item_of_key}
+use Rattle.pp_share.specs.SampleKeys.{sample_item, sample_number, sample_stack, has_values, key_lists, same_sample_key, item_of_key}
 use Rattle.pp_share.specs.SampleStacks.{same_stack, stack_number, stack_decides}
 use Rattle.pp_share.specs.Sums.{sum_with, sum_of, keys_of, summed, sum_at, sums_with, CanAdd}
 use Rattle.pp_share.specs.Woven.{StackRow, woven_items, woven, StandsAlone, CountsAlone, IsWoven}
-use Rattle.pp_share.proofs.Prefix.{IsNext, next_weight}
+use Rattle.pp_share.proofs.Prefix.{IsNext, map_same, next_weight}
 use Rattle.pp_share.proofs.RepeatLemmas.{itself, never}
 use Rattle.pp_share.proofs.SampleKeyLemmas.{sum_by-map, next_described, sum_at-described, insert-described, sample_adds, sums_after}
 
@@ -125,33 +125,33 @@ module _ (repeated : List ℕ) (all_have : Bool) (order : List (Option Sample)) 
   many = before.places ∙ sym (length-map sums item_of_key)
 
   -- its sum is found among the sums
-  sum_found : sum_at same_stack (woven order sums) (key_lists key) ≡ sum_at same_key sums key
+  sum_found : sum_at same_stack (woven order sums) (key_lists key) ≡ sum_at same_sample_key sums key
   sum_found =
       ap (λ o. unwrap_or o []) (found repeated (key_lists key) here order (map item_of_key sums) before.alone many)
       ∙ sym (sum_at-described same_stack key_lists sums key)
 
-  pub can_add_found : CanAdd (sum_at same_stack (woven order sums) (key_lists key)) row → CanAdd (sum_at same_key sums key) row
+  pub can_add_found : CanAdd (sum_at same_stack (woven order sums) (key_lists key)) row → CanAdd (sum_at same_sample_key sums key) row
   can_add_found can = subst (λ sum. CanAdd sum row) sum_found can
 
   abbrev after : List (SampleKey × List ℤ)
-  after = sums_with same_key sums key row
+  after = sums_with same_sample_key sums key row
 
   abbrev known : Bool
   known = is_key same_stack (key_lists key) (map item_of_key sums)
 
-  after_is : map item_of_key after ≡ insert_entry same_stack (map item_of_key sums) (key_lists key) (sum_with (sum_at same_key sums key) row)
-  after_is = insert-described same_stack key_lists sums key (sum_with (sum_at same_key sums key) row)
+  after_is : map item_of_key after ≡ insert_entry same_stack (map item_of_key sums) (key_lists key) (sum_with (sum_at same_sample_key sums key) row)
+  after_is = insert-described same_stack key_lists sums key (sum_with (sum_at same_sample_key sums key) row)
 
   longer : length after ≡ length sums + cond known 0 1
   longer =
       sym (length-map after item_of_key) ∙ ap length after_is
-      ∙ inserted_length same_stack (key_lists key) (sum_with (sum_at same_key sums key) row) (map item_of_key sums)
+      ∙ inserted_length same_stack (key_lists key) (sum_with (sum_at same_sample_key sums key) row) (map item_of_key sums)
       ∙ ap (λ n. n + cond known 0 1) (length-map sums item_of_key)
 
   woven_after : woven (with_place known order) after ≡ sums_with same_stack (woven order sums) (key_lists key) row
   woven_after =
       ap (woven_items (with_place known order)) after_is
-      ∙ placed repeated (key_lists key) here (sum_with (sum_at same_key sums key) row) order (map item_of_key sums) before.alone many
+      ∙ placed repeated (key_lists key) here (sum_with (sum_at same_sample_key sums key) row) order (map item_of_key sums) before.alone many
       ∙ ap (λ sum. insert_entry same_stack (woven order sums) (key_lists key) (sum_with sum row)) (sym sum_found)
 
   still_alone : (b : Bool) → AllByRecursion (StandsAlone repeated) (with_place b order)
@@ -231,10 +231,6 @@ others s (o ∷ os) all = (by (same_stack (sample_stack s) (sample_stack o)) ref
         ∙ all.0))
     by false is = refl
 
-same_list : (xs : List Stack) → map (λ x. x) xs ≡ xs
-same_list [] = refl
-same_list (x ∷ xs) = ap (λ l. x ∷ l) (same_list xs)
-
 -- The next sample's number is not repeated: no sum so far is of its kind.
 module _ (repeated : List ℕ) (columns : ℕ) (samples seen : List Sample) (s : Sample) (next : IsNext samples seen s) (holds : HoldsRepeated (map sample_number samples) repeated)
     (alone : is_listed repeated (sample_number s) ≡ false) where
@@ -260,7 +256,7 @@ module _ (repeated : List ℕ) (columns : ℕ) (samples seen : List Sample) (s :
   keys_are : keys_of same_stack (summed same_stack columns (map sample_item seen)) ≡ distinct same_stack (map sample_stack seen)
   keys_are =
       map-map (λ (item : StackRow). item.0) (λ key. (key, sum_of same_stack columns (map sample_item seen) key)) (distinct same_stack (keys_of same_stack (map sample_item seen)))
-      ∙ same_list (distinct same_stack (keys_of same_stack (map sample_item seen)))
+      ∙ map_same (distinct same_stack (keys_of same_stack (map sample_item seen)))
       ∙ ap (distinct same_stack) (map-map (λ (item : StackRow). item.0) sample_item seen)
 
   pub alone_among : list_any (same_stack (sample_stack s)) (keys_of same_stack (summed same_stack columns (map sample_item seen))) ≡ false

@@ -5,7 +5,7 @@ ghost use Rattle.std.specs.Ordering.{int_eq};
 ghost use Rattle.pp_model.specs.Sizes.{value_in};
 ghost use Rattle.pp_share.specs.Sums.{sum_at, sums_with, CanAdd, keys_of};
 ghost use Rattle.pp_share.specs.SampleStacks.{same_stack};
-ghost use Rattle.pp_share.specs.SampleKeys.{sample_number, sample_stack, sample_of, key_lists, same_key, item_of_key, has_values, summed_samples};
+ghost use Rattle.pp_share.specs.SampleKeys.{sample_number, sample_stack, sample_of, key_lists, same_sample_key, item_of_key, has_values, summed_samples};
 ghost use Rattle.pp_share.specs.Numbers.{AreNumbers};
 ghost use Rattle.pp_share.specs.Renumbered.{new_ids, renumbered_sample};
 ghost use Rattle.pp_share.specs.Repeats.{is_listed, HoldsRepeated};
@@ -164,8 +164,8 @@ fn add(
     key: SampleKey,
     row: List<i64>,
 ) -> Result<(), Memory>
-    requires { CanAdd (sum_at same_key sums.old.entries key) row }
-    ensures { OnOk result (sums.new.entries ≡ sums_with same_key sums.old.entries key row) }
+    requires { CanAdd (sum_at same_sample_key sums.old.entries key) row }
+    ensures { OnOk result (sums.new.entries ≡ sums_with same_sample_key sums.old.entries key row) }
 {
     add_row(sums.entry(key)?.or_insert(List::new(alloc)), row);
     Ok(())

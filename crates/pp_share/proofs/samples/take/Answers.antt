@@ -1,6 +1,6 @@
 use Rattle.std.proofs.Common.{◌≡◌, true, length, sym, ap, subst, ◌∙◌, arith}
 use Rattle.pp_share.specs.Repeats.{is_listed}
-use Rattle.pp_share.specs.SampleKeys.{sample_stack, same_key}
+use Rattle.pp_share.specs.SampleKeys.{sample_stack, same_sample_key}
 use Rattle.pp_share.specs.SampleStacks.{same_stack, stack_number}
 use Rattle.pp_share.specs.Sums.{sums_with, sum_at, CanAdd}
 use Rattle.pp_share.specs.Woven.{woven, IsWoven}
@@ -39,7 +39,7 @@ returns-in_ok-push-2-clause-state c =
     let added = added_new repeated c.args.sums.now.have_values order sums c.requires.state c.key_of-key.result c.args.sample.value (ap (λ k. is_listed repeated (stack_number k)) c.key_of-key.ensures ∙ here)
     (omega (arith, c.if-len-known.true, c.len.ensures.len, c.len-known.ensures.len, ap length c.in_ok-add.ensures)) in
     subst (λ es. IsWoven repeated c.args.sums.now.have_values c.push-then-len-known.new.self.items es) (sym c.in_ok-add.ensures)
-    (subst (λ o. IsWoven repeated c.args.sums.now.have_values o (sums_with same_key sums c.key_of-key.result c.args.sample.value)) (sym c.in_ok-push-2.ensures.items) added.state)
+    (subst (λ o. IsWoven repeated c.args.sums.now.have_values o (sums_with same_sample_key sums c.key_of-key.result c.args.sample.value)) (sym c.in_ok-push-2.ensures.items) added.state)
 
 pub returns-in_ok-push-2-clause-sums : goal.returns-in_ok-push-2-clause-sums
 returns-in_ok-push-2-clause-sums c =
