@@ -192,6 +192,39 @@ module _ (repeated : List ℕ) (all_have : Bool) (order : List (Option Sample)) 
       by true is = absurd (omega (arith, more, longer, ap {B = ℕ} (λ b. cond b 0 1) is))
       by false is = added_at false is
 
+-- A sample whose number is repeated, under the key of its stack.
+module _ (repeated : List ℕ) (all_have : Bool) (order : List (Option Sample)) (sums : List (SampleKey × List ℤ)) (before : IsWoven repeated all_have order sums)
+    (s : Sample) (key : SampleKey) (is : key_lists key ≡ sample_stack s) (number : ℕ) (own : number ≡ sample_number s) (listed : true ≡ is_listed repeated number) where
+  key_listed : is_listed repeated (stack_number (key_lists key)) ≡ true
+  key_listed = ap (λ k. is_listed repeated (stack_number k)) is ∙ ap (is_listed repeated) (sym own) ∙ sym listed
+
+  -- its values can be added to the sum of its key
+  pub can_take : CanAdd (sum_at same_stack (woven order sums) (sample_stack s)) s.value → CanAdd (sum_at same_sample_key sums key) s.value
+  can_take can =
+      can_add_found repeated all_have order sums before key s.value key_listed
+      (subst (λ k. CanAdd (sum_at same_stack (woven order sums) k) s.value) (sym is) can)
+
+  -- the order and the sums with it
+  pub record IsTaken (to : List (Option Sample)) (now : List (SampleKey × List ℤ)) : Type 0 where
+    pub woven_now : IsWoven repeated all_have to now
+    pub sums_now : woven to now ≡ sums_with same_stack (woven order sums) (sample_stack s) s.value
+
+  taken : (to at : List (Option Sample)) (now : List (SampleKey × List ℤ)) → IsAdded repeated all_have order sums before key s.value key_listed to
+      → at ≡ to → now ≡ sums_with same_sample_key sums key s.value → IsTaken at now
+  taken to at now added there after_is = record {
+    woven_now = subst (λ o. IsWoven repeated all_have o now) (sym there) (subst (IsWoven repeated all_have to) (sym after_is) added.state);
+    sums_now = (λ j. woven (there j) (after_is j)) ∙ added.woven_sums ∙ ap (λ k. sums_with same_stack (woven order sums) k s.value) is;
+  }
+
+  pub taken_known : (now : List (SampleKey × List ℤ)) → now ≡ sums_with same_sample_key sums key s.value → length now ≤ length sums → IsTaken order now
+  taken_known now after_is few =
+      taken order order now (added_known repeated all_have order sums before key s.value key_listed (omega (arith, few, ap length after_is))) refl after_is
+
+  pub taken_new : (at : List (Option Sample)) (now : List (SampleKey × List ℤ)) → at ≡ order ++ None ∷ [] → now ≡ sums_with same_sample_key sums key s.value
+      → length sums < length now → IsTaken at now
+  taken_new at now there after_is more =
+      taken (order ++ None ∷ []) at now (added_new repeated all_have order sums before key s.value key_listed (omega (arith, more, ap length after_is))) there after_is
+
 -- A sample whose number no other has goes last.
 module _ (repeated : List ℕ) (s : Sample) (alone : is_listed repeated (sample_number s) ≡ false) where
   goes_last : (order : List (Option Sample)) (items : List StackRow) → woven_items (order ++ Some s ∷ []) items ≡ woven_items order items ++ sample_item s ∷ []
