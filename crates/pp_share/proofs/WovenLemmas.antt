@@ -1,6 +1,7 @@
 -- Sums of samples of which some stand alone.
 use Rattle.std.proofs.Common.{◌≡◌, ℕ, zero, suc, ◌+◌, ◌<◌, ◌≤◌, ◌==◌, Bool, true, false, true≢false, cond, ◌||◌, ℤ, pos, nat_abs, Option, None, Some, List, [], ◌∷◌, ◌++◌, length, map, filter, get_or, sum_by, refl, sym, ap, subst, ◌∙◌, if◌then◌else◌, arith}
-use Rattle.std.specs.List.{All, list_any, AllByRecursion}
+use Rattle.std.specs.List.{All, list_all, list_any, AllByRecursion}
+use Rattle.std.proofs.lemmas.List.Folds.{list_all_at}
 use Rattle.std.specs.Map.{lookup}
 use Rattle.std.specs.Option.{is_none, unwrap_or}
 use Rattle.std.proofs.lemmas.List.{length-append, length-map, map-append, get_or-map}
@@ -16,11 +17,11 @@ use Rattle.pp_share.specs.declared.sample_key.SampleKey.{SampleKey}
 use Rattle.pp_share.specs.Numbers.{number_by}
 use Rattle.pp_share.specs.Renumbered.{NewIds, renumbered_sample}
 use Rattle.pp_share.specs.Repeats.{is_listed, times, HoldsRepeated}
-use Rattle.pp_share.specs.SampleKeys.{sample_item, sample_number, sample_stack, key_lists, same_key, item_of_key}
+use Rattle.pp_share.specs.SampleKeys.{sample_item, sample_number, sample_stack, has_values, key_lists, same_sample_key, item_of_key}
 use Rattle.pp_share.specs.SampleStacks.{same_stack, stack_number, stack_decides}
 use Rattle.pp_share.specs.Sums.{sum_with, sum_of, keys_of, summed, sum_at, sums_with, CanAdd}
-use Rattle.pp_share.specs.Woven.{StackRow, woven_items, woven, StandsAlone, IsWoven}
-use Rattle.pp_share.proofs.Prefix.{IsNext, next_weight}
+use Rattle.pp_share.specs.Woven.{StackRow, woven_items, woven, StandsAlone, CountsAlone, IsWoven}
+use Rattle.pp_share.proofs.Prefix.{IsNext, map_same, next_weight}
 use Rattle.pp_share.proofs.RepeatLemmas.{itself, never}
 use Rattle.pp_share.proofs.SampleKeyLemmas.{sum_by-map, next_described, sum_at-described, insert-described, sample_adds, sums_after}
 
@@ -118,53 +119,58 @@ module _ (repeated : List ℕ) (k : Stack) (here : is_listed repeated (stack_num
       by false rest = turn (is_key same_stack k items) (insert_entry same_stack items k v) rest
 
 -- A row of a key whose number is repeated.
-module _ (repeated : List ℕ) (order : List (Option Sample)) (sums : List (SampleKey × List ℤ)) (before : IsWoven repeated order sums)
+module _ (repeated : List ℕ) (all_have : Bool) (order : List (Option Sample)) (sums : List (SampleKey × List ℤ)) (before : IsWoven repeated all_have order sums)
     (key : SampleKey) (row : List ℤ) (here : is_listed repeated (stack_number (key_lists key)) ≡ true) where
   many : places order ≡ length (map item_of_key sums)
   many = before.places ∙ sym (length-map sums item_of_key)
 
   -- its sum is found among the sums
-  sum_found : sum_at same_stack (woven order sums) (key_lists key) ≡ sum_at same_key sums key
+  sum_found : sum_at same_stack (woven order sums) (key_lists key) ≡ sum_at same_sample_key sums key
   sum_found =
       ap (λ o. unwrap_or o []) (found repeated (key_lists key) here order (map item_of_key sums) before.alone many)
       ∙ sym (sum_at-described same_stack key_lists sums key)
 
-  pub can_add_found : CanAdd (sum_at same_stack (woven order sums) (key_lists key)) row → CanAdd (sum_at same_key sums key) row
+  pub can_add_found : CanAdd (sum_at same_stack (woven order sums) (key_lists key)) row → CanAdd (sum_at same_sample_key sums key) row
   can_add_found can = subst (λ sum. CanAdd sum row) sum_found can
 
   abbrev after : List (SampleKey × List ℤ)
-  after = sums_with same_key sums key row
+  after = sums_with same_sample_key sums key row
 
   abbrev known : Bool
   known = is_key same_stack (key_lists key) (map item_of_key sums)
 
-  after_is : map item_of_key after ≡ insert_entry same_stack (map item_of_key sums) (key_lists key) (sum_with (sum_at same_key sums key) row)
-  after_is = insert-described same_stack key_lists sums key (sum_with (sum_at same_key sums key) row)
+  after_is : map item_of_key after ≡ insert_entry same_stack (map item_of_key sums) (key_lists key) (sum_with (sum_at same_sample_key sums key) row)
+  after_is = insert-described same_stack key_lists sums key (sum_with (sum_at same_sample_key sums key) row)
 
   longer : length after ≡ length sums + cond known 0 1
   longer =
       sym (length-map after item_of_key) ∙ ap length after_is
-      ∙ inserted_length same_stack (key_lists key) (sum_with (sum_at same_key sums key) row) (map item_of_key sums)
+      ∙ inserted_length same_stack (key_lists key) (sum_with (sum_at same_sample_key sums key) row) (map item_of_key sums)
       ∙ ap (λ n. n + cond known 0 1) (length-map sums item_of_key)
 
   woven_after : woven (with_place known order) after ≡ sums_with same_stack (woven order sums) (key_lists key) row
   woven_after =
       ap (woven_items (with_place known order)) after_is
-      ∙ placed repeated (key_lists key) here (sum_with (sum_at same_key sums key) row) order (map item_of_key sums) before.alone many
+      ∙ placed repeated (key_lists key) here (sum_with (sum_at same_sample_key sums key) row) order (map item_of_key sums) before.alone many
       ∙ ap (λ sum. insert_entry same_stack (woven order sums) (key_lists key) (sum_with sum row)) (sym sum_found)
 
   still_alone : (b : Bool) → AllByRecursion (StandsAlone repeated) (with_place b order)
   still_alone true = before.alone
   still_alone false = all_push (StandsAlone repeated) order None before.alone tt
 
-  woven_state : IsWoven repeated (with_place known order) after
+  still_counts : (b : Bool) → all_have ≡ true → AllByRecursion CountsAlone (with_place b order)
+  still_counts true have = before.values have
+  still_counts false have = all_push CountsAlone order None (before.values have) tt
+
+  woven_state : IsWoven repeated all_have (with_place known order) after
   woven_state = record {
     places = places_with known order ∙ ap (λ n. n + cond known 0 1) before.places ∙ sym longer;
     alone = still_alone known;
+    values = still_counts known;
   }
 
   pub record IsAdded (to : List (Option Sample)) : Type 0 where
-    pub state : IsWoven repeated to after
+    pub state : IsWoven repeated all_have to after
     pub woven_sums : woven to after ≡ sums_with same_stack (woven order sums) (key_lists key) row
 
   added_at : (b : Bool) → known ≡ b → IsAdded (with_place b order)
@@ -186,6 +192,39 @@ module _ (repeated : List ℕ) (order : List (Option Sample)) (sums : List (Samp
       by true is = absurd (omega (arith, more, longer, ap {B = ℕ} (λ b. cond b 0 1) is))
       by false is = added_at false is
 
+-- A sample whose number is repeated, under the key of its stack.
+module _ (repeated : List ℕ) (all_have : Bool) (order : List (Option Sample)) (sums : List (SampleKey × List ℤ)) (before : IsWoven repeated all_have order sums)
+    (s : Sample) (key : SampleKey) (is : key_lists key ≡ sample_stack s) (number : ℕ) (own : number ≡ sample_number s) (listed : true ≡ is_listed repeated number) where
+  key_listed : is_listed repeated (stack_number (key_lists key)) ≡ true
+  key_listed = ap (λ k. is_listed repeated (stack_number k)) is ∙ ap (is_listed repeated) (sym own) ∙ sym listed
+
+  -- its values can be added to the sum of its key
+  pub can_take : CanAdd (sum_at same_stack (woven order sums) (sample_stack s)) s.value → CanAdd (sum_at same_sample_key sums key) s.value
+  can_take can =
+      can_add_found repeated all_have order sums before key s.value key_listed
+      (subst (λ k. CanAdd (sum_at same_stack (woven order sums) k) s.value) (sym is) can)
+
+  -- the order and the sums with it
+  pub record IsTaken (to : List (Option Sample)) (now : List (SampleKey × List ℤ)) : Type 0 where
+    pub woven_now : IsWoven repeated all_have to now
+    pub sums_now : woven to now ≡ sums_with same_stack (woven order sums) (sample_stack s) s.value
+
+  taken : (to at : List (Option Sample)) (now : List (SampleKey × List ℤ)) → IsAdded repeated all_have order sums before key s.value key_listed to
+      → at ≡ to → now ≡ sums_with same_sample_key sums key s.value → IsTaken at now
+  taken to at now added there after_is = record {
+    woven_now = subst (λ o. IsWoven repeated all_have o now) (sym there) (subst (IsWoven repeated all_have to) (sym after_is) added.state);
+    sums_now = (λ j. woven (there j) (after_is j)) ∙ added.woven_sums ∙ ap (λ k. sums_with same_stack (woven order sums) k s.value) is;
+  }
+
+  pub taken_known : (now : List (SampleKey × List ℤ)) → now ≡ sums_with same_sample_key sums key s.value → length now ≤ length sums → IsTaken order now
+  taken_known now after_is few =
+      taken order order now (added_known repeated all_have order sums before key s.value key_listed (omega (arith, few, ap length after_is))) refl after_is
+
+  pub taken_new : (at : List (Option Sample)) (now : List (SampleKey × List ℤ)) → at ≡ order ++ None ∷ [] → now ≡ sums_with same_sample_key sums key s.value
+      → length sums < length now → IsTaken at now
+  taken_new at now there after_is more =
+      taken (order ++ None ∷ []) at now (added_new repeated all_have order sums before key s.value key_listed (omega (arith, more, ap length after_is))) there after_is
+
 -- A sample whose number no other has goes last.
 module _ (repeated : List ℕ) (s : Sample) (alone : is_listed repeated (sample_number s) ≡ false) where
   goes_last : (order : List (Option Sample)) (items : List StackRow) → woven_items (order ++ Some s ∷ []) items ≡ woven_items order items ++ sample_item s ∷ []
@@ -194,10 +233,12 @@ module _ (repeated : List ℕ) (s : Sample) (alone : is_listed repeated (sample_
   goes_last (None ∷ order) [] = goes_last order []
   goes_last (None ∷ order) (i ∷ items) = ap (λ l. i ∷ l) (goes_last order items)
 
-  pub alone_state : (order : List (Option Sample)) (sums : List (SampleKey × List ℤ)) → IsWoven repeated order sums → IsWoven repeated (order ++ Some s ∷ []) sums
-  alone_state order sums state = record {
+  pub alone_state : (all_have : Bool) → (all_have ≡ true → has_values s ≡ true) → (order : List (Option Sample)) (sums : List (SampleKey × List ℤ))
+      → IsWoven repeated all_have order sums → IsWoven repeated all_have (order ++ Some s ∷ []) sums
+  alone_state all_have has order sums state = record {
     places = ap length (filter-append is_none order (Some s ∷ [])) ∙ length-append (filter is_none order) [] ∙ omega (arith, state.places);
     alone = all_push (StandsAlone repeated) order (Some s) state.alone alone;
+    values = λ have. all_push CountsAlone order (Some s) (state.values have) (has have);
   }
 
   pub alone_sums : (order : List (Option Sample)) (sums : List (SampleKey × List ℤ)) → list_any (same_stack (sample_stack s)) (keys_of same_stack (woven order sums)) ≡ false
@@ -222,10 +263,6 @@ others s (o ∷ os) all = (by (same_stack (sample_stack s) (sample_stack o)) ref
         absurd (true≢false (sym (itself (sample_number s)) ∙ ap (λ stack. sample_number s == stack_number stack) ((stack_decides (sample_stack s) (sample_stack o)).0 is)
         ∙ all.0))
     by false is = refl
-
-same_list : (xs : List Stack) → map (λ x. x) xs ≡ xs
-same_list [] = refl
-same_list (x ∷ xs) = ap (λ l. x ∷ l) (same_list xs)
 
 -- The next sample's number is not repeated: no sum so far is of its kind.
 module _ (repeated : List ℕ) (columns : ℕ) (samples seen : List Sample) (s : Sample) (next : IsNext samples seen s) (holds : HoldsRepeated (map sample_number samples) repeated)
@@ -252,7 +289,7 @@ module _ (repeated : List ℕ) (columns : ℕ) (samples seen : List Sample) (s :
   keys_are : keys_of same_stack (summed same_stack columns (map sample_item seen)) ≡ distinct same_stack (map sample_stack seen)
   keys_are =
       map-map (λ (item : StackRow). item.0) (λ key. (key, sum_of same_stack columns (map sample_item seen) key)) (distinct same_stack (keys_of same_stack (map sample_item seen)))
-      ∙ same_list (distinct same_stack (keys_of same_stack (map sample_item seen)))
+      ∙ map_same (distinct same_stack (keys_of same_stack (map sample_item seen)))
       ∙ ap (distinct same_stack) (map-map (λ (item : StackRow). item.0) sample_item seen)
 
   pub alone_among : list_any (same_stack (sample_stack s)) (keys_of same_stack (summed same_stack columns (map sample_item seen))) ≡ false
@@ -269,6 +306,14 @@ module _ (by : NewIds) (columns : ℕ) (samples seen : List Sample) (s : Sample)
 
   next_moved : IsNext (map moved samples) (map moved seen) (moved s)
   next_moved = next_described moved samples seen s next
+
+  -- it has a value where all have
+  pub moved_counts : list_all has_values samples ≡ true → has_values (moved s) ≡ true
+  moved_counts all = it_has (has_values s) refl
+    where
+      it_has : (b : Bool) → has_values s ≡ b → b ≡ true
+      it_has true is = refl
+      it_has false is = absurd (true≢false (sym all ∙ list_all_at has_values samples (length seen) s next.within (ap has_values (sym next.here) ∙ is)))
 
   -- the number at its place is its own
   pub moved_number : (numbers : List ℕ) (place : ℕ) → numbers ≡ map (number_by by) samples → place ≡ length seen → get_or numbers place 0 ≡ number_by by s

@@ -35,8 +35,8 @@ abbrev pub item_of_key : SampleKey × List ℤ → (List ℕ × List Label) × L
 item_of_key item = (key_lists item.0, item.1)
 
 -- keys are one where the locations and the labels are
-abbrev pub same_key : SampleKey → SampleKey → Bool
-same_key a b = same_stack (key_lists a) (key_lists b)
+abbrev pub same_sample_key : SampleKey → SampleKey → Bool
+same_sample_key a b = same_stack (key_lists a) (key_lists b)
 
 -- The samples with different locations or labels, with the sums of their values, but for those whose
 -- values are all 0.

@@ -1,17 +1,18 @@
 //! Samples that stand once, with their values added up.
-ghost use Rattle.std.specs.Prelude.{◌≡◌, ℕ, ◌+◌, ◌-◌, ◌^◌, ◌<◌, ◌≤◌, ◌++◌, [], ◌∷◌, false, pos, nat_abs, length, map, filter, vec_len, vec_capacity, All, IfOk, OnOk};
-ghost use Rattle.std.specs.List.{sum_by, list_all, list_any};
+ghost use Rattle.std.specs.Prelude.{◌≡◌, ℕ, ◌+◌, ◌-◌, ◌^◌, ◌<◌, ◌≤◌, ◌++◌, [], ◌∷◌, false, true, pos, nat_abs, length, map, filter, vec_len, vec_capacity, All, IfOk, OnOk};
+ghost use Rattle.std.specs.List.{sum_by, list_all, list_any, AllByRecursion};
 ghost use Rattle.std.specs.Ordering.{int_eq};
 ghost use Rattle.pp_model.specs.Sizes.{value_in};
 ghost use Rattle.pp_share.specs.Sums.{sum_at, sums_with, CanAdd, keys_of};
 ghost use Rattle.pp_share.specs.SampleStacks.{same_stack};
-ghost use Rattle.pp_share.specs.SampleKeys.{sample_number, sample_stack, sample_of, key_lists, same_key, item_of_key, has_values, summed_samples};
-ghost use Rattle.pp_share.specs.Numbers.{number_by};
+ghost use Rattle.pp_share.specs.SampleKeys.{sample_number, sample_stack, sample_of, key_lists, same_sample_key, item_of_key, has_values, summed_samples};
+ghost use Rattle.pp_share.specs.Numbers.{AreNumbers};
 ghost use Rattle.pp_share.specs.Renumbered.{new_ids, renumbered_sample};
 ghost use Rattle.pp_share.specs.Repeats.{is_listed, HoldsRepeated};
-ghost use Rattle.pp_share.specs.Woven.{woven, woven_samples, IsWoven};
+ghost use Rattle.pp_share.specs.Woven.{woven, woven_samples, CountsAlone, IsWoven};
 
 use crate::change::Change;
+use crate::numbers::Numbers;
 use crate::renumbering::Renumbering;
 use crate::sample_key::SampleKey;
 use crate::sums::add_row;
@@ -23,6 +24,8 @@ use std::alloc::Global;
 // Sums of samples, each at the place of the first of its kind.
 #[derive(Drop)]
 struct Sums {
+    // Whether each sample has a value that isn't 0.
+    have_values: bool,
     // The samples whose number no other has, and `None` where the next of `sums` stands.
     order: Vec<Option<Sample>>,
     // The keys of the other samples without repeats, in the order of first sight, and for each the sum of its values in
@@ -38,14 +41,14 @@ pub fn sum_repeated(
     columns: usize,
     samples: List<Sample>,
     by: &Renumbering,
-    numbers: &[u64],
+    numbers: &Numbers,
     repeated: &IndexSet<u64>,
 ) -> Result<List<Sample>, Memory>
     requires wide { All (λ s. length s.value ≡ columns) samples }
     requires fits { (column : ℕ) → column < columns
         → sum_by (λ s. nat_abs (value_in s column)) samples ≤ 2 ^ 63 - 1 }
-    requires numbers { numbers.now ≡ map (number_by (new_ids by.now)) samples }
-    requires repeated { HoldsRepeated numbers.now repeated.now.keys }
+    requires numbers { AreNumbers (new_ids by.now) samples numbers.now }
+    requires repeated { HoldsRepeated numbers.now.numbers.items repeated.now.keys }
     ensures { IfOk result (λ r.
         r ≡ summed_samples columns (map (renumbered_sample (new_ids by.now)) samples)) }
 {
@@ -72,25 +75,29 @@ fn sum_each(
     columns: usize,
     samples: List<Sample>,
     by: &Renumbering,
-    numbers: &[u64],
+    numbers: &Numbers,
     repeated: &IndexSet<u64>,
 ) -> Result<Sums, Memory>
     requires wide { All (λ s. length s.value ≡ columns) samples }
     requires fits { (column : ℕ) → column < columns
         → sum_by (λ s. nat_abs (value_in s column)) samples ≤ 2 ^ 63 - 1 }
-    requires numbers { numbers.now ≡ map (number_by (new_ids by.now)) samples }
-    requires repeated { HoldsRepeated numbers.now repeated.now.keys }
-    ensures { IfOk result (λ sums. woven_samples sums.order.items sums.sums.entries
+    requires numbers { AreNumbers (new_ids by.now) samples numbers.now }
+    requires repeated { HoldsRepeated numbers.now.numbers.items repeated.now.keys }
+    ensures sums { IfOk result (λ sums. woven_samples sums.order.items sums.sums.entries
         ≡ summed_samples columns (map (renumbered_sample (new_ids by.now)) samples)) }
+    ensures counts { IfOk result (λ sums.
+        sums.have_values ≡ true → AllByRecursion CountsAlone sums.order.items) }
 {
     let mut sums = Sums {
+        have_values: numbers.have_values,
         order: Vec::with_capacity(alloc, samples.len())?,
         sums: IndexMap::new(alloc),
     };
+    let told = numbers.numbers.as_slice();
     let mut place = 0;
     for mut sample in samples.into_vec() {
         by.change(&mut sample);
-        take(alloc, &mut sums, repeated, numbers[place], sample)?;
+        take(alloc, &mut sums, repeated, told[place], sample)?;
         place += 1;
     }
     Ok(sums)
@@ -105,13 +112,17 @@ fn take(
     sample: Sample,
 ) -> Result<(), Memory>
     requires number { number ≡ sample_number sample }
+    requires counts { sums.old.have_values ≡ true → has_values sample ≡ true }
     requires adds { let s = sums.old in
         CanAdd (sum_at same_stack (woven s.order.items s.sums.entries) (sample_stack sample)) sample.value }
     requires alone { let s = sums.old in is_listed repeated.now.keys number ≡ false
         → list_any (same_stack (sample_stack sample))
         (keys_of same_stack (woven s.order.items s.sums.entries)) ≡ false }
-    requires state { IsWoven repeated.now.keys sums.old.order.items sums.old.sums.entries }
-    ensures state { OnOk result (IsWoven repeated.now.keys sums.new.order.items sums.new.sums.entries) }
+    requires state { let s = sums.old in
+        IsWoven repeated.now.keys s.have_values s.order.items s.sums.entries }
+    ensures have { OnOk result (sums.new.have_values ≡ sums.old.have_values) }
+    ensures state { OnOk result (let s = sums.new in
+        IsWoven repeated.now.keys s.have_values s.order.items s.sums.entries) }
     ensures sums { OnOk result (woven sums.new.order.items sums.new.sums.entries
         ≡ sums_with same_stack (woven sums.old.order.items sums.old.sums.entries)
         (sample_stack sample) sample.value) }
@@ -153,8 +164,8 @@ fn add(
     key: SampleKey,
     row: List<i64>,
 ) -> Result<(), Memory>
-    requires { CanAdd (sum_at same_key sums.old.entries key) row }
-    ensures { OnOk result (sums.new.entries ≡ sums_with same_key sums.old.entries key row) }
+    requires { CanAdd (sum_at same_sample_key sums.old.entries key) row }
+    ensures { OnOk result (sums.new.entries ≡ sums_with same_sample_key sums.old.entries key row) }
 {
     add_row(sums.entry(key)?.or_insert(List::new(alloc)), row);
     Ok(())
@@ -162,17 +173,22 @@ fn add(
 
 // The samples with these sums, but for those whose values are all 0.
 fn kept(alloc: Global, sums: Sums) -> Result<List<Sample>, Memory>
+    requires { sums.have_values ≡ true → AllByRecursion CountsAlone sums.order.items }
     ensures { IfOk result (λ samples. samples ≡ woven_samples sums.order.items sums.sums.entries) }
 {
-    let Sums { order, sums } = sums;
+    let Sums {
+        have_values,
+        order,
+        sums,
+    } = sums;
     let mut samples = Vec::with_capacity(alloc, order.len())?;
     let mut sums = sums.into_iter();
     for slot in order {
         match slot {
-            Some(sample) => push_counting(&mut samples, sample),
+            Some(sample) => push_counting(&mut samples, sample, have_values),
             None => {
                 if let Some((key, value)) = sums.next() {
-                    push_counting(&mut samples, sample_of(key, value));
+                    push_counting(&mut samples, sample_of(key, value), false);
                 }
             }
         }
@@ -191,14 +207,15 @@ fn sample_of(key: SampleKey, value: List<i64>) -> Sample
     }
 }
 
-// Adds the sample at the end where some value isn't 0.
-fn push_counting(samples: &mut Vec<Sample>, sample: Sample)
-    requires { vec_len samples.old < vec_capacity samples.old }
+// Adds the sample at the end where some value isn't 0. Where that is known, its values are not looked at.
+fn push_counting(samples: &mut Vec<Sample>, sample: Sample, is_known: bool)
+    requires room { vec_len samples.old < vec_capacity samples.old }
+    requires known { is_known ≡ true → has_values sample ≡ true }
     ensures items { samples.new.items ≡ samples.old.items ++ filter has_values (sample ∷ []) }
     ensures len { vec_len samples.new ≤ vec_len samples.old + 1 }
     ensures capacity { vec_capacity samples.new ≡ vec_capacity samples.old }
 {
-    if has_values(&sample) {
+    if is_known || has_values(&sample) {
         samples.push_reserved(sample);
     }
 }

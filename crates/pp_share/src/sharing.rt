@@ -6,7 +6,7 @@ ghost use Rattle.pp_share.specs.Placed.{gist, totalled};
 ghost use Rattle.pp_share.specs.Renumbered.{new_ids, renumbered_sample, stays};
 ghost use Rattle.pp_model.specs.FirstSight.{ids};
 ghost use Rattle.pp_share.specs.Ids.{GivesIds};
-ghost use Rattle.pp_share.specs.Numbers.{AreNumbers, number_by, with_sums};
+ghost use Rattle.pp_share.specs.Numbers.{AreNumbers, with_sums};
 ghost use Rattle.pp_share.specs.Repeats.{HoldsRepeated};
 ghost use Rattle.pp_share.specs.PlaceKeys.{same_place};
 ghost use Rattle.pp_share.specs.SampleKeys.{has_values};
@@ -148,15 +148,11 @@ fn write_shared(
     requires numbers { AreNumbers (new_ids by.now) p.sample numbers }
     ensures { IfOk result (IsWalked (with_sums (new_ids by.now) p)) }
 {
-    let Numbers {
-        numbers,
-        have_values,
-    } = numbers;
-    let repeated = repeated(alloc, &numbers)?;
+    let repeated = repeated(alloc, &numbers.numbers)?;
     if !repeated.is_empty() {
         return write_summed(alloc, p, by, &numbers, &repeated);
     }
-    keep_counting(alloc, &mut p, have_values);
+    keep_counting(alloc, &mut p, numbers.have_values);
     write(alloc, p, by)
 }
 
@@ -174,14 +170,14 @@ fn write_summed(
     alloc: Global,
     mut p: Profile,
     by: &Renumbering,
-    numbers: &[u64],
+    numbers: &Numbers,
     repeated: &IndexSet<u64>,
 ) -> Result<Profile, Memory>
     requires wide { All (λ s. length s.value ≡ length p.sample_type) p.sample }
     requires fits { (column : ℕ) → column < length p.sample_type
         → sum_by (λ s. nat_abs (value_in s column)) p.sample ≤ 2 ^ 63 - 1 }
-    requires numbers { numbers.now ≡ map (number_by (new_ids by.now)) p.sample }
-    requires repeated { HoldsRepeated numbers.now repeated.now.keys }
+    requires numbers { AreNumbers (new_ids by.now) p.sample numbers.now }
+    requires repeated { HoldsRepeated numbers.now.numbers.items repeated.now.keys }
     ensures { IfOk result (IsWalked (with_sums (new_ids by.now) p)) }
 {
     sum_equal(alloc, &mut p, by, numbers, repeated)?;
@@ -196,14 +192,14 @@ fn sum_equal(
     alloc: Global,
     p: &mut Profile,
     by: &Renumbering,
-    numbers: &[u64],
+    numbers: &Numbers,
     repeated: &IndexSet<u64>,
 ) -> Result<(), Memory>
     requires wide { All (λ s. length s.value ≡ length p.old.sample_type) p.old.sample }
     requires fits { (column : ℕ) → column < length p.old.sample_type
         → sum_by (λ s. nat_abs (value_in s column)) p.old.sample ≤ 2 ^ 63 - 1 }
-    requires numbers { numbers.now ≡ map (number_by (new_ids by.now)) p.old.sample }
-    requires repeated { HoldsRepeated numbers.now repeated.now.keys }
+    requires numbers { AreNumbers (new_ids by.now) p.old.sample numbers.now }
+    requires repeated { HoldsRepeated numbers.now.numbers.items repeated.now.keys }
     ensures { OnOk result (p.new ≡ with_sums (new_ids by.now) p.old) }
 {
     let samples = mem::replace(&mut p.sample, List::new(alloc));

@@ -1,7 +1,8 @@
-use Rattle.std.proofs.Common.{◌++◌, [], ◌∷◌, filter, length, sym, ap, ◌∙◌, arith}
+use Rattle.std.specs.List.{AllByRecursion}
+use Rattle.std.proofs.Common.{◌++◌, [], ◌∷◌, filter, length, sym, ap, subst, ◌∙◌, arith}
 use Rattle.std.proofs.lemmas.List.{append_assoc}
 use Rattle.pp_share.specs.SampleKeys.{sample_item, item_of_key, has_values}
-use Rattle.pp_share.specs.Woven.{woven, woven_samples}
+use Rattle.pp_share.specs.Woven.{woven, woven_samples, CountsAlone}
 use Rattle.pp_share.proofs.SampleKeyLemmas.{kept_next}
 use Rattle.pp_share.proofs.samples.kept.Goals as goal
 
@@ -20,7 +21,13 @@ loop-slot-preserved-in-Some-slot c =
           ∙ ap (λ l. woven_samples l sums) (sym (c.in-Some.ensures.steps.0 ∙ ap (λ slot. slot ∷ order) c.in-Some-slot.is)))
           ∙ c.loop-slot.invariant.left;
       room = omega (arith, c.loop-slot.invariant.room, c.push_counting.ensures.len, c.push_counting.ensures.capacity, ap length c.in-Some.ensures.steps.0);
+      values = λ have. (subst (AllByRecursion CountsAlone) c.in-Some.ensures.steps.0 (c.loop-slot.invariant.values have)).1;
     }
+
+-- it has a value where all have
+pub push_counting-requires-clause-known : goal.push_counting-requires-clause-known
+push_counting-requires-clause-known c = λ have.
+    subst CountsAlone c.in-Some-slot.is ((subst (AllByRecursion CountsAlone) c.in-Some.ensures.steps.0 (c.loop-slot.invariant.values have)).0)
 
 -- the next of the sums
 pub loop-slot-preserved-in-Some-next : goal.loop-slot-preserved-in-Some-next
@@ -45,4 +52,5 @@ loop-slot-preserved-in-Some-next c =
             c.push_counting-in-Some-next.ensures.capacity,
             ap length c.in-Some.ensures.steps.0,
           );
+      values = λ have. (subst (AllByRecursion CountsAlone) c.in-Some.ensures.steps.0 (c.loop-slot.invariant.values have)).1;
     }
