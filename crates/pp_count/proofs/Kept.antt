@@ -1,9 +1,10 @@
 -- The samples that the filters leave, by their numbers.
-use Rattle.std.proofs.Common.{◌≡◌, ℕ, zero, suc, ◌+◌, ◌<◌, ◌≤◌, ◌^◌, Bool, true, false, cond, nat_abs, ℤ, pos, negsuc, neg_ℤ, ◌/◌, List, [], ◌∷◌, ◌++◌, length, Option, Some, None, refl, sym, ap, ◌∙◌, append_assoc, arith, length-append}
+use Rattle.std.proofs.Common.{◌≡◌, ℕ, zero, suc, ◌+◌, ◌<◌, ◌≤◌, ◌^◌, Bool, true, false, cond, nat_abs, ℤ, pos, negsuc, neg_ℤ, ◌/◌, List, [], ◌∷◌, ◌++◌, length, take, drop, Option, Some, None, refl, sym, ap, ◌∙◌, append_assoc, arith, length-append}
 use Rattle.std.specs.Prelude.{int_div}
 use Rattle.std.specs.List.{filter, filter_map, slice_get, sum_by, cons_option}
 use Rattle.std.specs.Option.{is_some}
 use Rattle.std.proofs.Math.Nat.{div-le_self}
+use Rattle.std.proofs.lemmas.List.{append-nil, length-take-le, take-append-drop}
 use Rattle.std.proofs.lemmas.List.Sums.{sum_by-cons, sum_by-le-sum_by}
 use Rattle.pp_model.specs.Conditions.{IsColumnOf}
 use Rattle.pp_model.specs.Sizes.{value_in, IsCountable}
@@ -23,24 +24,46 @@ at_seam : (before rest : List Sample) (s : Sample) → slice_get (before ++ s �
 at_seam before rest s =
     slice_get-get_or (before ++ s ∷ rest) (length before) s (omega (arith, length-append before (s ∷ rest))) ∙ ap Some (get_or-append_seam before s rest s)
 
--- the samples whose numbers are listed are those that pass
-listed : (test : Sample → Bool) (before rest : List Sample) → filter_map (slice_get (before ++ rest)) (numbers_from test (length before) rest) ≡ filter test rest
-listed test before [] = refl
-listed test before (s ∷ rest) =
+-- the samples whose numbers are listed are those of the range that pass
+listed : (test : Sample → Bool) (before range rest : List Sample)
+    → filter_map (slice_get (before ++ (range ++ rest))) (numbers_from test (length before) range) ≡ filter test range
+listed test before [] rest = refl
+listed test before (s ∷ range) rest =
+    let after : List Sample = range ++ rest in
     let one : length before + 1 ≡ length (before ++ s ∷ []) = omega (arith, length-append before (s ∷ [])) in
-    let next : filter_map (slice_get (before ++ s ∷ rest)) (numbers_from test (length before + 1) rest) ≡ filter test rest =
-    ap (λ (xs : List Sample). filter_map (slice_get xs) (numbers_from test (length before + 1) rest)) (sym (append_assoc before (s ∷ []) rest))
-    ∙ ap (λ (n : ℕ). filter_map (slice_get ((before ++ s ∷ []) ++ rest)) (numbers_from test n rest)) one
-    ∙ listed test (before ++ s ∷ []) rest in
-    elim (test s) as (λ b. filter_map (slice_get (before ++ s ∷ rest)) (cond b (length before ∷ numbers_from test (length before + 1) rest) (numbers_from test (length before + 1) rest)) ≡ cond b (s ∷ filter test rest) (filter test rest)) [
-      | true ↦ λ i. cons_option (at_seam before rest s i) (next i)
+    let next : filter_map (slice_get (before ++ s ∷ after)) (numbers_from test (length before + 1) range) ≡ filter test range =
+    ap (λ (xs : List Sample). filter_map (slice_get xs) (numbers_from test (length before + 1) range)) (sym (append_assoc before (s ∷ []) after))
+    ∙ ap (λ (n : ℕ). filter_map (slice_get ((before ++ s ∷ []) ++ after)) (numbers_from test n range)) one
+    ∙ listed test (before ++ s ∷ []) range rest in
+    elim (test s) as (λ b. filter_map (slice_get (before ++ s ∷ after)) (cond b (length before ∷ numbers_from test (length before + 1) range) (numbers_from test (length before + 1) range)) ≡ cond b (s ∷ filter test range) (filter test range)) [
+      | true ↦ λ i. cons_option (at_seam before after s i) (next i)
       | false ↦ next
     ]
+
+-- the samples of the numbers that the filters leave of a range
+pub kept_in_range : (p : Profile) (f : Finders) (config : Config) (kept : List ℕ) (first count : ℕ) → first ≤ length p.sample
+    → kept ≡ filtered_from p f config first (take count (drop first p.sample))
+    → samples_at p kept ≡ filtered_samples p f config (take count (drop first p.sample))
+kept_in_range p f config kept first count within is =
+    let test : Sample → Bool = λ s. is_some (filtered_stack p f config s) in
+    let before : List Sample = take first p.sample in
+    let range : List Sample = take count (drop first p.sample) in
+    let rest : List Sample = drop count (drop first p.sample) in
+    let whole : before ++ (range ++ rest) ≡ p.sample =
+    ap (λ ss. before ++ ss) (take-append-drop count (drop first p.sample)) ∙ take-append-drop first p.sample in
+    ap (samples_at p) is
+    ∙ ap (λ ss. filter_map (slice_get ss) (numbers_from test first range)) (sym whole)
+    ∙ ap (λ n. filter_map (slice_get (before ++ (range ++ rest))) (numbers_from test n range)) (sym (length-take-le first p.sample within))
+    ∙ listed test before range rest
 
 -- the samples of the numbers that the filters leave
 pub kept_samples : (p : Profile) (f : Finders) (config : Config) (kept : List ℕ) → kept ≡ filtered_from p f config 0 p.sample
     → samples_at p kept ≡ filtered_samples p f config p.sample
-kept_samples p f config kept is = ap (samples_at p) is ∙ listed (λ s. is_some (filtered_stack p f config s)) [] p.sample
+kept_samples p f config kept is =
+    let test : Sample → Bool = λ s. is_some (filtered_stack p f config s) in
+    ap (samples_at p) is
+    ∙ ap (λ (ss : List Sample). filter_map (slice_get ss) (numbers_from test 0 p.sample)) (sym (append-nil p.sample))
+    ∙ listed test [] p.sample []
 
 -- their values are within those of all samples
 pub kept_fits : (p : Profile) (f : Finders) (config : Config) (column : Option ℕ) (kept : List ℕ) → kept ≡ filtered_from p f config 0 p.sample

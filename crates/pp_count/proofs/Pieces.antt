@@ -26,6 +26,7 @@ use Rattle.pp_count.specs.Column.{selected}
 use Rattle.pp_count.specs.Sums.{Seen, weighed, renamed, has, leads, occurs}
 use Rattle.pp_count.specs.Seeing.{filtered_stack, seen}
 use Rattle.pp_count.specs.Tally.{tally_added, tally_plus, no_tally, tally_at, IsTallyOf}
+use Rattle.pp_count.specs.Totals.{totals_plus}
 use Rattle.pp_steal.specs.Pieces.{piece_of}
 use Rattle.pp_count.specs.Parts.{sums_of, key_sum, flat_size, cum_size, HasBelow}
 use Rattle.pp_count.specs.Scope.{profile_in_scope, config_of, size_of, counted_as, samples_in_scope, AreSeen, IsPartOf, CountedTo, AreCounted}
@@ -35,6 +36,7 @@ use Rattle.pp_count.specs.Rising.{AreRisingBetween}
 use Rattle.pp_count.proofs.Rising.{rising_high, rising-append}
 use Rattle.pp_count.proofs.Matching.{none_match, matches_more}
 use Rattle.pp_count.proofs.Ranges.{name_of, numbers-append, counted_size, counted_none}
+use Rattle.pp_count.proofs.Totals.{scope_totals_none, scope_totals_more}
 
 -- the samples refer to locations of their profile
 pub all_refer : (p q : Profile) → q ≡ p → NoRuleFails q → All (RefersTo p) q.sample
@@ -151,14 +153,15 @@ front_within scope samples j =
 pub piece_more : (scope : Scope) (samples : List Sample) (j : ℕ) (sofar new : Sofar) (part : Part)
     → PIECE * j ≤ length samples → AreCounted scope (front_of samples j) sofar → IsPartOf scope (j * PIECE) (piece_of samples j) part
     → new.kept ≡ sofar.kept ++ part.kept → ((k : ℕ) → tally_at new.tallies k ≡ tally_added (tally_at sofar.tallies k) (sums_of k part.sums))
-    → new.matched.slots ≡ either sofar.matched.slots part.matched.slots
+    → new.matched.slots ≡ either sofar.matched.slots part.matched.slots → new.totals ≡ totals_plus sofar.totals part.totals
     → AreCounted scope (front_of samples (j + 1)) new
-piece_more scope samples j sofar new part here before is kept each matched =
+piece_more scope samples j sofar new part here before is kept each matched totals =
     subst (λ (r : List Sample). AreCounted scope r new) (sym (front_more samples j))
     (record {
       counted = counted_more scope 0 (j * PIECE) (front_of samples j) (piece_of samples j) (tally_at sofar.tallies) (tally_at new.tallies) sofar.kept new.kept part
           (omega (arith, length-take-le (PIECE * j) samples here)) before.counted is kept each;
       matched = matches_more scope (front_of samples j) (piece_of samples j) sofar.matched.slots part.matched.slots new.matched.slots matched before.matched is.matched;
+      totals = scope_totals_more scope (front_of samples j) (piece_of samples j) sofar.totals part.totals new.totals totals before.totals is.totals;
     })
 
 -- The outcome of a piece of the wave is the part of its samples.
@@ -196,24 +199,25 @@ wave_room job outcomes items i sofar part next =
 pub wave_more : (job : Counting) (outcomes items : List Part) (i : ℕ) (sofar new : Sofar) (part : Part)
     → IsNext job outcomes items i sofar part
     → new.kept ≡ sofar.kept ++ part.kept → ((k : ℕ) → tally_at new.tallies k ≡ tally_added (tally_at sofar.tallies k) (sums_of k part.sums))
-    → new.matched.slots ≡ either sofar.matched.slots part.matched.slots
+    → new.matched.slots ≡ either sofar.matched.slots part.matched.slots → new.totals ≡ totals_plus sofar.totals part.totals
     → AreCounted job.scope (front_of (samples_in_scope job.scope) (job.first + (i + 1))) new
-wave_more job outcomes items i sofar new part next kept each matched =
+wave_more job outcomes items i sofar new part next kept each matched totals =
     let samples = samples_in_scope job.scope in
     subst (λ n. AreCounted job.scope (front_of samples n) new) (add_assoc job.first i 1)
     (piece_more job.scope samples (job.first + i) sofar new part
     (piece_starts job i (omega (arith, next.here, ap length next.items_are, next.outcomes_are.many)))
     next.before
     (part_at job outcomes items i part next.outcomes_are next.items_are next.here next.part_is)
-    kept each matched)
+    kept each matched totals)
 
 -- before the first piece nothing is counted
 pub none_counted : (scope : Scope) (m : ℕ) (samples : List Sample) (sofar : Sofar) → m ≡ 0 → ((k : ℕ) → tally_at sofar.tallies k ≡ no_tally) → sofar.kept ≡ []
-    → sofar.matched.slots ≡ no_matches → AreCounted scope (front_of samples m) sofar
-none_counted scope m samples sofar first none empty matched =
+    → sofar.matched.slots ≡ no_matches → sofar.totals ≡ record { all = 0; base = 0 } → AreCounted scope (front_of samples m) sofar
+none_counted scope m samples sofar first none empty matched totals =
     let start = counted_none scope 0 (tally_at sofar.tallies) sofar.kept none empty in
     subst (λ (n : ℕ). AreCounted scope (front_of samples n) sofar) (sym first)
     (record {
       counted = record { seen = start.seen; are = start.are; tallies = start.tallies; earlier = λ k. omega (arith, start.earlier k); kept = start.kept; rising = start.rising };
       matched = λ all f holds. matched ∙ none_match (profile_in_scope scope) f (config_of scope);
+      totals = λ all f holds. scope_totals_none (profile_in_scope scope) f (config_of scope) scope.column sofar.totals totals;
     })

@@ -1,30 +1,23 @@
--- Sums over the samples with given numbers.
-use Rattle.std.proofs.Common.{◌≡◌, ℕ, ◌+◌, ◌<◌, ◌≤◌, ◌^◌, min, ltb, ⊎_elim, Bool, true, false, cond, nat_abs, List, [], ◌∷◌, ◌++◌, length, take, get_or, Option, Some, None, refl, sym, ap, ◌∙◌, arith}
+-- Sums over samples with given numbers, and over ranges of samples.
+use Rattle.std.proofs.Common.{◌≡◌, ℕ, ◌+◌, ◌<◌, ◌≤◌, ◌^◌, ltb, ⊎_elim, Bool, true, false, cond, nat_abs, List, [], ◌∷◌, ◌++◌, length, take, get_or, Option, Some, None, refl, sym, ap, ◌∙◌, subst, arith}
 use Rattle.std.specs.List.{filter, slice_get, sum_by, cons_option}
-use Rattle.std.proofs.lemmas.Bool.{ne_eqb, false≢true, lt-ltb}
+use Rattle.std.specs.Option.{is_some}
+use Rattle.std.proofs.lemmas.Bool.{false≢true, lt-ltb}
 use Rattle.std.proofs.lemmas.Option.{slice_get_read, slice_get_cases}
-use Rattle.std.proofs.lemmas.List.{take_more, take_all, append-nil}
+use Rattle.std.proofs.lemmas.List.{take_more, append-nil}
 use Rattle.std.proofs.lemmas.List.Elements.{filter_map-append, filter-append}
 use Rattle.std.proofs.lemmas.List.Sums.{sum_by-append, sum_by-cons}
 use Rattle.pp_model.specs.declared.config.Config.{Config}
 use Rattle.pp_model.specs.declared.profile.Sample.{Sample}
 use Rattle.pp_model.specs.declared.profile.Profile.{Profile}
+use Rattle.pp_model.specs.Finders.{Finders}
+use Rattle.pp_count.specs.declared.scope.Scope.{Scope}
+use Rattle.pp_count.specs.declared.total.Totals.{Totals}
 use Rattle.pp_count.specs.Column.{selected}
-use Rattle.pp_count.specs.Seeing.{absolute_all}
-use Rattle.pp_count.specs.Counts.{is_base, samples_at, total_by, total_over}
-
--- the sum over the samples with the first numbers
-abbrev pub all_to : Profile → Config → Option ℕ → ℕ → List ℕ → ℕ
-all_to p config column i kept = absolute_all column config.divide_by (samples_at p (take i kept))
-
--- the same of the base's samples
-abbrev pub base_to : Profile → Config → Option ℕ → ℕ → List ℕ → ℕ
-base_to p config column i kept = absolute_all column config.divide_by (filter (is_base p) (samples_at p (take i kept)))
-
--- Both sums so far, each at most the largest number that there is.
-pub record TotalsTo (p : Profile) (config : Config) (column : Option ℕ) (i : ℕ) (kept : List ℕ) (all base : ℕ) : Type 0 where
-  pub all_is : all ≡ min (all_to p config column i kept) 18446744073709551615
-  pub base_is : base ≡ min (base_to p config column i kept) 18446744073709551615
+use Rattle.pp_count.specs.Seeing.{HoldsFilters, filtered_stack, absolute_all}
+use Rattle.pp_count.specs.Counts.{is_base, samples_at, filtered_samples, samples_of_total, total_by, total_of}
+use Rattle.pp_count.specs.Scope.{profile_in_scope, config_of, HasTotals}
+use Rattle.pp_count.specs.Totals.{AreTotals, totals_plus}
 
 pub at_more : (p : Profile) (kept : List ℕ) (i : ℕ) → i < length kept
     → samples_at p (take (i + 1) kept) ≡ samples_at p (take i kept) ++ cons_option (slice_get p.sample (get_or kept i 0)) []
@@ -40,34 +33,42 @@ not_there ss n past = ⊎_elim
     (λ none. none.1)
     (slice_get_cases ss n).1
 
--- with one more sample
-pub totals_more : (p : Profile) (config : Config) (column : Option ℕ) (i : ℕ) (kept : List ℕ) (s : Sample) (all base new_all new_base : ℕ)
-    → i < length kept → slice_get p.sample (get_or kept i 0) ≡ Some s
-    → new_all ≡ min (all + nat_abs (selected column config.divide_by s)) 18446744073709551615
-    → new_base ≡ min (base + absolute_all column config.divide_by (filter (is_base p) (s ∷ []))) 18446744073709551615
-    → TotalsTo p config column i kept all base → TotalsTo p config column (i + 1) kept new_all new_base
-totals_more p config column i kept s all base new_all new_base here found more_all more_base so_far =
+-- the sums over no samples
+pub totals_none : (p : Profile) (config : Config) (column : Option ℕ) (t : Totals) → t ≡ record { all = 0; base = 0 } → AreTotals p config column [] t
+totals_none p config column t none = record { all = omega (arith, ap (λ x. x.all) none); base = omega (arith, ap (λ x. x.base) none) }
+
+-- the sums over two ranges
+pub totals_more : (p : Profile) (config : Config) (column : Option ℕ) (a b : List Sample) (t u new : Totals)
+    → new ≡ totals_plus t u → AreTotals p config column a t → AreTotals p config column b u → AreTotals p config column (a ++ b) new
+totals_more p config column a b t u new plus first second =
     let f : Sample → ℕ = λ x. nat_abs (selected column config.divide_by x) in
-    let more : samples_at p (take (i + 1) kept) ≡ samples_at p (take i kept) ++ s ∷ [] =
-    at_more p kept i here ∙ ap (λ o. samples_at p (take i kept) ++ cons_option o []) found in
-    let grown : filter (is_base p) (samples_at p (take (i + 1) kept)) ≡ filter (is_base p) (samples_at p (take i kept)) ++ filter (is_base p) (s ∷ []) =
-    ap (filter (is_base p)) more ∙ filter-append (is_base p) (samples_at p (take i kept)) (s ∷ []) in
     record {
-      all_is = omega (arith, more_all, so_far.all_is, ap (sum_by f) more ∙ sum_by-append f (samples_at p (take i kept)) (s ∷ []), sum_by-cons f s []);
-      base_is = omega (arith, more_base, so_far.base_is, ap (sum_by f) grown ∙ sum_by-append f (filter (is_base p) (samples_at p (take i kept))) (filter (is_base p) (s ∷ [])));
+      all = omega (arith, ap (λ x. x.all) plus, first.all, second.all, sum_by-append f a b);
+      base = omega (
+        arith,
+        ap (λ x. x.base) plus,
+        first.base,
+        second.base,
+        ap (sum_by f) (filter-append (is_base p) a b) ∙ sum_by-append f (filter (is_base p) a) (filter (is_base p) b),
+      );
     }
 
+-- one more number, whose sample has these sums
+pub totals_at : (p : Profile) (config : Config) (column : Option ℕ) (kept : List ℕ) (i : ℕ) (s : Sample) (t u new : Totals)
+    → i < length kept → slice_get p.sample (get_or kept i 0) ≡ Some s → new ≡ totals_plus t u
+    → AreTotals p config column (samples_at p (take i kept)) t → AreTotals p config column (s ∷ []) u
+    → AreTotals p config column (samples_at p (take (i + 1) kept)) new
+totals_at p config column kept i s t u new here found plus so_far one =
+    subst (λ ss. AreTotals p config column ss new) (sym (at_more p kept i here ∙ ap (λ o. samples_at p (take i kept) ++ cons_option o []) found))
+    (totals_more p config column (samples_at p (take i kept)) (s ∷ []) t u new plus so_far one)
+
 -- a number without a sample
-pub totals_same : (p : Profile) (config : Config) (column : Option ℕ) (i : ℕ) (kept : List ℕ) (all base : ℕ)
+pub totals_same : (p : Profile) (config : Config) (column : Option ℕ) (kept : List ℕ) (i : ℕ) (t : Totals)
     → i < length kept → slice_get p.sample (get_or kept i 0) ≡ None
-    → TotalsTo p config column i kept all base → TotalsTo p config column (i + 1) kept all base
-totals_same p config column i kept all base here none so_far =
-    let same : samples_at p (take (i + 1) kept) ≡ samples_at p (take i kept) =
-    at_more p kept i here ∙ ap (λ o. samples_at p (take i kept) ++ cons_option o []) none ∙ append-nil _ in
-    record {
-      all_is = so_far.all_is ∙ ap (λ r. min (absolute_all column config.divide_by r) 18446744073709551615) (sym same);
-      base_is = so_far.base_is ∙ ap (λ r. min (absolute_all column config.divide_by (filter (is_base p) r)) 18446744073709551615) (sym same);
-    }
+    → AreTotals p config column (samples_at p (take i kept)) t → AreTotals p config column (samples_at p (take (i + 1) kept)) t
+totals_same p config column kept i t here none so_far =
+    subst (λ ss. AreTotals p config column ss t)
+    (sym (at_more p kept i here ∙ ap (λ o. samples_at p (take i kept) ++ cons_option o []) none ∙ append-nil _)) so_far
 
 pub filter_size : (f : Sample → ℕ) (q : Sample → Bool) (ss : List Sample) → sum_by f (filter q ss) ≤ sum_by f ss
 filter_size f q [] = omega arith
@@ -77,21 +78,41 @@ filter_size f q (s ∷ ss) =
       | false ↦ omega (arith, filter_size f q ss, sum_by-cons f s ss)
     ]
 
--- the sums over all the numbers, where they fit
-pub totals_are : (p : Profile) (config : Config) (column : Option ℕ) (i : ℕ) (kept : List ℕ) (all base : ℕ) → length kept ≤ i
-    → absolute_all column config.divide_by (samples_at p kept) < 2 ^ 63 → TotalsTo p config column i kept all base
-    → (all ≡ absolute_all column config.divide_by (samples_at p kept)) × (base ≡ absolute_all column config.divide_by (filter (is_base p) (samples_at p kept)))
-totals_are p config column i kept all base past fits so_far =
-    let f : Sample → ℕ = λ x. nat_abs (selected column config.divide_by x) in
-    let whole : take i kept ≡ kept = take_all i kept past in (
-      omega (arith, fits, so_far.all_is, ap (λ ns. absolute_all column config.divide_by (samples_at p ns)) whole),
-      omega (arith, fits, so_far.base_is, ap (λ ns. absolute_all column config.divide_by (filter (is_base p) (samples_at p ns))) whole, filter_size f (is_base p) (samples_at p kept)),
-    )
+-- of no samples nothing is left
+pub scope_totals_none : (p : Profile) (f : Finders) (config : Config) (column : Option ℕ) (t : Totals) → t ≡ record { all = 0; base = 0 }
+    → AreTotals p config column (samples_of_total p f config []) t
+scope_totals_none p f config column t none =
+    elim config.relative_percentages as (λ r. AreTotals p config column (cond r (filtered_samples p f config []) []) t) [
+      | true ↦ totals_none p config column t none
+      | false ↦ totals_none p config column t none
+    ]
 
--- the total, where the base's sum isn't 0
-pub total_based : (p : Profile) (config : Config) (column : Option ℕ) (i : ℕ) (kept : List ℕ) (all base : ℕ) → length kept ≤ i
-    → TotalsTo p config column i kept all base → (base ≡ 0 → ⊥)
-    → absolute_all column config.divide_by (samples_at p kept) < 2 ^ 63 → base ≡ total_over p config column (samples_at p kept)
-total_based p config column i kept all base past so_far some fits =
-    let are = totals_are p config column i kept all base past fits so_far in
-    sym (ap (λ b. cond b all base) (ne_eqb base 0 some)) ∙ (λ j. total_by (are.1 j) (are.0 j))
+-- the totals of two ranges of the scope
+pub scope_totals_more : (scope : Scope) (a b : List Sample) (t u new : Totals) → new ≡ totals_plus t u
+    → HasTotals scope a t → HasTotals scope b u → HasTotals scope (a ++ b) new
+scope_totals_more scope a b t u new plus before next whole f holds =
+    let p = profile_in_scope scope in
+    let config = config_of scope in
+    let of_total : List Sample → List Sample = samples_of_total p f config in
+    let both : of_total (a ++ b) ≡ of_total a ++ of_total b =
+    elim config.relative_percentages as (λ r. cond r (filtered_samples p f config (a ++ b)) (a ++ b) ≡ cond r (filtered_samples p f config a) a ++ cond r (filtered_samples p f config b) b) [
+      | true ↦ filter-append _ a b
+      | false ↦ refl
+    ] in
+    subst (λ ss. AreTotals p config scope.column ss new) (sym both)
+    (totals_more p config scope.column (of_total a) (of_total b) t u new plus (before whole f holds) (next whole f holds))
+
+-- what percentages are taken of, where the values fit
+pub total_is : (p : Profile) (f : Finders) (config : Config) (column : Option ℕ) (t : Totals) → absolute_all column config.divide_by p.sample < 2 ^ 63
+    → AreTotals p config column (samples_of_total p f config p.sample) t → total_by t.base t.all ≡ total_of p f config column
+total_is p f config column t fits are =
+    let size : Sample → ℕ = λ x. nat_abs (selected column config.divide_by x) in
+    let ss : List Sample = samples_of_total p f config p.sample in
+    let within : sum_by size ss < 2 ^ 63 =
+    elim config.relative_percentages as (λ r. sum_by size (cond r (filtered_samples p f config p.sample) p.sample) < 2 ^ 63) [
+      | true ↦ omega (arith, fits, filter_size size (λ s. is_some (filtered_stack p f config s)) p.sample)
+      | false ↦ fits
+    ] in
+    let base_is : t.base ≡ sum_by size (filter (is_base p) ss) = omega (arith, within, are.base, filter_size size (is_base p) ss) in
+    let all_is : t.all ≡ sum_by size ss = omega (arith, within, are.all) in
+    λ i. total_by (base_is i) (all_is i)

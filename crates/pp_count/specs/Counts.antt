@@ -56,8 +56,11 @@ total_over p config column samples =
     total_by (absolute_all column config.divide_by (filter (is_base p) samples))
     (absolute_all column config.divide_by samples)
 
--- Total: over the loaded samples, or under relative_percentages over those that the filters leave.
+-- The samples that percentages are taken of: all of these, or under relative_percentages those that the filters leave.
+abbrev pub samples_of_total : Profile → Finders → Config → List Sample → List Sample
+samples_of_total p f config samples =
+    if config.relative_percentages then filtered_samples p f config samples else samples
+
+-- what percentages are taken of
 abbrev pub total_of : Profile → Finders → Config → Option ℕ → ℕ
-total_of p f config column =
-    total_over p config column
-    (if config.relative_percentages then filtered_samples p f config p.sample else p.sample)
+total_of p f config column = total_over p config column (samples_of_total p f config p.sample)

@@ -15,3 +15,4 @@ pub mod Ranks
 pub mod Joined
 pub mod Base
 pub mod Rising
+pub mod Totals

@@ -11,6 +11,7 @@ use Rattle.pp_count.specs.declared.part.Part.{Part}
 use Rattle.pp_count.specs.declared.pairs.Pairing.{Pairing}
 use Rattle.pp_count.specs.declared.sofar.Sofar.{Sofar}
 use Rattle.pp_count.specs.declared.tally.Tally.{Tally}
+use Rattle.pp_count.specs.declared.total.Totals.{Totals}
 use Rattle.pp_count.specs.Filters.{AreFilters}
 use Rattle.pp_count.specs.Tally.{IsTallyOf, tally_at}
 use Rattle.pp_count.specs.Table.{written_key, IsKeyTable}
@@ -18,9 +19,10 @@ use Rattle.pp_count.specs.Sums.{Seen, weighed, absolute, renamed}
 use Rattle.pp_count.specs.Seeing.{HoldsFilters, seen_samples, filtered_from, absolute_all}
 use Rattle.pp_count.specs.Parts.{AreKeySums, HasBelow}
 use Rattle.pp_count.specs.Edges.{counted_keys, HasPairPlaces}
-use Rattle.pp_count.specs.Counts.{samples_at}
+use Rattle.pp_count.specs.Counts.{samples_at, samples_of_total}
 use Rattle.pp_count.specs.Matches.{matches_among}
 use Rattle.pp_count.specs.Rising.{AreRisingBetween}
+use Rattle.pp_count.specs.Totals.{AreTotals}
 
 -- the profile whose samples are counted
 abbrev pub profile_in_scope : Scope → Profile
@@ -78,6 +80,13 @@ HasMatches scope samples slots =
     scope.chosen ≡ None → (f : Finders) → HoldsFilters scope.l.now scope.v.now (config_of scope) f
     → slots ≡ matches_among (profile_in_scope scope) f (config_of scope) samples
 
+-- The sums are over those of these samples that percentages are taken of. Samples that are chosen are not added up.
+abbrev pub HasTotals : Scope → List Sample → Totals → Type 0
+HasTotals scope samples totals =
+    scope.chosen ≡ None → (f : Finders) → HoldsFilters scope.l.now scope.v.now (config_of scope) f
+    → AreTotals (profile_in_scope scope) (config_of scope) scope.column
+    (samples_of_total (profile_in_scope scope) f (config_of scope) samples) totals
+
 -- The part is that of these samples, of which the first has this number.
 pub record IsPartOf (scope : Scope) (number : ℕ) (samples : List Sample) (part : Part)
     : Type 0 where
@@ -88,6 +97,7 @@ pub record IsPartOf (scope : Scope) (number : ℕ) (samples : List Sample) (part
       → part.kept ≡ filtered_from (profile_in_scope scope) f (config_of scope) number samples
   pub rising : AreRisingBetween number (number + length samples) part.kept
   pub matched : HasMatches scope samples part.matched.slots
+  pub totals : HasTotals scope samples part.totals
 
 -- The samples so far are added to the tallies, none of them at a turn after this one, and the numbers of those that the
 -- filters leave are listed. No public clause cites it.
@@ -101,7 +111,9 @@ pub record CountedTo (scope : Scope) (number turn : ℕ) (samples : List Sample)
       → numbers ≡ filtered_from (profile_in_scope scope) f (config_of scope) number samples
   pub rising : AreRisingBetween number (number + length samples) numbers
 
--- These samples are added up, and searched for matches. No public clause cites it.
+-- These samples are added up and searched for matches, and so is what percentages are taken of. No public clause cites
+-- it.
 pub record AreCounted (scope : Scope) (samples : List Sample) (sofar : Sofar) : Type 0 where
   pub counted : CountedTo scope 0 1 samples (tally_at sofar.tallies) sofar.kept
   pub matched : HasMatches scope samples sofar.matched.slots
+  pub totals : HasTotals scope samples sofar.totals

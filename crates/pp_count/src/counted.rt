@@ -18,7 +18,6 @@ use crate::sofar::Sofar;
 use crate::sums::{NumberedSums, Sums, sums_by_keys};
 use crate::table::{KeyTable, key_table};
 use crate::tallies::entries;
-use crate::total::{total_kept, total_over};
 use crate::waves::count_all;
 use pp_base::{Gate, List, Memory};
 use pp_model::{Config, Loaded, Verdicts};
@@ -145,7 +144,7 @@ fn count_whole<R: Threads + Sync, G: Gate>(
     let sofar = count_all(rt, alloc, scope, gate)?;
     match sums_so_far(alloc, scope, &sofar) {
         Ok(keyed) => {
-            let total = report_total(scope.l, scope.config, scope.column, sofar.kept.as_slice());
+            let total = sofar.totals.total();
             Ok(Whole {
                 sofar,
                 keyed,
@@ -156,20 +155,6 @@ fn count_whole<R: Threads + Sync, G: Gate>(
             mem::drop(sofar);
             Err(Memory)
         }
-    }
-}
-
-// What percentages are taken of, where these are the numbers of the samples that the filters leave.
-fn report_total(l: &Loaded, config: &Config, column: Option<u32>, kept: &[u32]) -> u64
-    requires { absolute_all column config.now.divide_by l.now.profile.sample < 2 ^ 63 }
-    ensures { (f : Finders) →
-        kept.now ≡ filtered_from l.now.profile f config.now 0 l.now.profile.sample →
-        result ≡ total_of l.now.profile f config.now column }
-{
-    if config.relative_percentages {
-        total_kept(l, config, column, kept)
-    } else {
-        total_over(l, config, column, l.profile.get().sample.as_slice())
     }
 }
 

@@ -10,6 +10,7 @@ use crate::pairs::gather_pairs;
 use crate::scope::{Scope, sample_at};
 use crate::seeing::see;
 use crate::tallies::{Tallies, add_sample, entries};
+use crate::total::{Totals, range_totals};
 use crate::value::selected;
 use pp_base::{List, Memory};
 use pp_model::Sample;
@@ -35,6 +36,8 @@ pub struct Part {
     pub sums: List<KeySum>,
     /// Which options have a match among all of the range's samples.
     pub matched: Matched,
+    // What the range adds to what percentages are taken of.
+    pub(crate) totals: Totals,
 }
 
 /// Counts so many samples, of which the first stands at this place among those that are counted.
@@ -65,10 +68,12 @@ fn part_of(
     let kept = add_samples(alloc, scope, tallies, first, count)?;
     let sums = entries(alloc, tallies)?;
     let matched = range_matches(alloc, scope, first, count)?;
+    let totals = range_totals(scope, first, count, kept.as_slice());
     Ok(Part {
         kept,
         sums,
         matched,
+        totals,
     })
 }
 

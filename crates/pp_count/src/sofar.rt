@@ -3,10 +3,12 @@ ghost use Rattle.std.specs.Prelude.{◌≡◌, ◌++◌, ℕ, ◌+◌, ◌<◌, 
 ghost use Rattle.pp_count.specs.Tally.{tally_at, no_tally, tally_added, tally_entry};
 ghost use Rattle.pp_count.specs.Matches.{no_matches, either};
 ghost use Rattle.pp_count.specs.Parts.{sums_of, flat_size, cum_size};
+ghost use Rattle.pp_count.specs.Totals.{totals_plus};
 
 use crate::matched::Matched;
 use crate::part::Part;
 use crate::tallies::{Tallies, add_sums, entries};
+use crate::total::Totals;
 use pp_base::{List, Memory};
 use std::alloc::Global;
 
@@ -19,6 +21,8 @@ pub struct Sofar {
     pub tallies: Tallies,
     /// Which options have a match.
     pub matched: Matched,
+    /// What percentages are taken of.
+    pub totals: Totals,
 }
 
 impl Sofar {
@@ -27,6 +31,7 @@ impl Sofar {
         ensures kept { IfOk result (λ sofar. sofar.kept ≡ []) }
         ensures none { IfOk result (λ sofar. (k : ℕ) → tally_at sofar.tallies k ≡ no_tally) }
         ensures matched { IfOk result (λ sofar. sofar.matched.slots ≡ no_matches) }
+        ensures totals { IfOk result (λ sofar. sofar.totals ≡ record { all = 0; base = 0 }) }
     {
         let tallies = Tallies::new(alloc, numbers)?;
         let matched = Matched::none(alloc)?;
@@ -34,6 +39,7 @@ impl Sofar {
             kept: List::new(alloc),
             tallies,
             matched,
+            totals: Totals::none(),
         })
     }
 
@@ -48,9 +54,12 @@ impl Sofar {
             ≡ tally_added (tally_at self.old.tallies k) (sums_of k part.now.sums)) }
         ensures matched { IfOk result (λ _.
             self.new.matched.slots ≡ either self.old.matched.slots part.now.matched.slots) }
+        ensures totals { IfOk result (λ _.
+            self.new.totals ≡ totals_plus self.old.totals part.now.totals) }
     {
         self.kept.extend(part.kept.as_slice())?;
         self.matched = self.matched.or(alloc, &part.matched)?;
+        self.totals = self.totals.plus(part.totals);
         add_sums(&mut self.tallies, part.sums.as_slice())
     }
 
@@ -66,6 +75,7 @@ impl Sofar {
             kept: self.kept,
             sums,
             matched: self.matched,
+            totals: self.totals,
         })
     }
 }

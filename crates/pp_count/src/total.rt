@@ -1,55 +1,105 @@
 //! What percentages are taken of.
-ghost use Rattle.std.specs.Prelude.{◌≡◌, ◌<◌, ◌^◌, nat_abs, [], ◌∷◌};
-ghost use Rattle.std.specs.List.{filter};
-ghost use Rattle.pp_count.specs.Column.{selected};
-ghost use Rattle.pp_count.specs.Seeing.{absolute_all};
-ghost use Rattle.pp_count.specs.Counts.{is_base_label, is_base, samples_at, total_over};
+ghost use Rattle.std.specs.Prelude.{◌≡◌, ◌+◌, ◌<◌, ◌≤◌, ◌^◌, length, take, drop, [], ◌∷◌};
+ghost use Rattle.pp_model.specs.Finders.{Finders};
+ghost use Rattle.pp_count.specs.Counts.{is_base_label, is_base, samples_at, total_by};
+ghost use Rattle.pp_count.specs.Scope.{profile_in_scope, samples_in_scope, HasTotals, IsSoundScope};
+ghost use Rattle.pp_count.specs.Seeing.{HoldsFilters, filtered_from};
+ghost use Rattle.pp_count.specs.Totals.{AreTotals, totals_plus};
 
+use crate::scope::Scope;
 use crate::value::selected;
 use pp_model::{Config, Label, Loaded, Profile, Sample, text_of};
 
-/// The sum of the absolute selected values of the base's samples among these, and where it is 0 that of all of them.
-pub(crate) fn total_over(
-    l: &Loaded,
-    config: &Config,
-    column: Option<u32>,
-    samples: &[Sample],
-) -> u64
-    requires { absolute_all column config.now.divide_by samples.now < 2 ^ 63 }
-    ensures { result ≡ total_over l.now.profile config.now column samples.now }
-{
-    let base = base_of(l, config, column, samples);
-    if base == 0 {
-        absolute_of(l, config, column, samples)
-    } else {
-        base
+/// Sums of absolute selected values, each at most the largest number that there is.
+#[derive(Clone, Copy, Debug)]
+pub struct Totals {
+    /// Over the samples that percentages are taken of.
+    pub all: u64,
+    /// Over those of them that carry the base's label.
+    pub base: u64,
+}
+
+impl Totals {
+    /// Those of no samples.
+    pub fn none() -> Totals
+        ensures { result ≡ record { all = 0; base = 0 } }
+    {
+        Totals { all: 0, base: 0 }
+    }
+
+    /// With those of other samples.
+    pub fn plus(self, others: Totals) -> Totals
+        ensures { result ≡ totals_plus self others }
+    {
+        Totals {
+            all: self.all.saturating_add(others.all),
+            base: self.base.saturating_add(others.base),
+        }
+    }
+
+    /// What percentages are taken of: the base's sum, and where it is 0 that of all.
+    pub fn total(self) -> u64
+        ensures { result ≡ total_by self.base self.all }
+    {
+        if self.base == 0 { self.all } else { self.base }
     }
 }
 
-fn absolute_of(l: &Loaded, config: &Config, column: Option<u32>, samples: &[Sample]) -> u64
-    requires { absolute_all column config.now.divide_by samples.now < 2 ^ 63 }
-    ensures { result ≡ absolute_all column config.now.divide_by samples.now }
+/// The totals of so many samples, of which the first has this number. The numbers of those that the filters leave are
+/// `kept`. Chosen samples are not added up.
+pub(crate) fn range_totals(scope: &Scope, first: u32, count: u32, kept: &[u32]) -> Totals
+    requires sound { IsSoundScope scope.now }
+    requires few { length (samples_in_scope scope.now) < 2 ^ 32 }
+    requires within { first + count ≤ length (samples_in_scope scope.now) }
+    requires kept { (f : Finders) →
+        HoldsFilters scope.now.l.now scope.now.v.now scope.now.config.now f →
+        kept.now ≡ filtered_from (profile_in_scope scope.now) f scope.now.config.now first
+        (take count (drop first (samples_in_scope scope.now))) }
+    ensures { HasTotals scope.now (take count (drop first (samples_in_scope scope.now))) result }
 {
-    samples.iter().map(|s| size(l, config, column, s)).sum()
+    let (l, config, column) = (scope.l, scope.config, scope.column);
+    let samples = l.profile.get().sample.as_slice();
+    match scope.chosen {
+        Some(_) => Totals::none(),
+        None if config.relative_percentages => totals_kept(l, config, column, kept),
+        None => {
+            let range = &samples[first as usize..first as usize + count as usize];
+            totals_over(l, config, column, range)
+        }
+    }
 }
 
-fn base_of(l: &Loaded, config: &Config, column: Option<u32>, samples: &[Sample]) -> u64
-    requires { absolute_all column config.now.divide_by samples.now < 2 ^ 63 }
-    ensures { result
-        ≡ absolute_all column config.now.divide_by (filter (is_base l.now.profile) samples.now) }
+fn totals_over(l: &Loaded, config: &Config, column: Option<u32>, samples: &[Sample]) -> Totals
+    ensures { AreTotals l.now.profile config.now column samples.now result }
 {
-    let p = l.profile.get();
-    samples
-        .iter()
-        .filter(|s| is_base(p, s))
-        .map(|s| size(l, config, column, s))
-        .sum()
+    let mut totals = Totals::none();
+    for s in samples {
+        totals = totals.plus(totals_of(l, config, column, s));
+    }
+    totals
 }
 
-fn size(l: &Loaded, config: &Config, column: Option<u32>, s: &Sample) -> u64
-    ensures { result ≡ nat_abs (selected column config.now.divide_by s.now) }
+// The same of the samples with these numbers.
+fn totals_kept(l: &Loaded, config: &Config, column: Option<u32>, kept: &[u32]) -> Totals
+    ensures { AreTotals l.now.profile config.now column (samples_at l.now.profile kept.now) result }
 {
-    selected(l, s, column, config.divide_by).unsigned_abs()
+    let samples = l.profile.get().sample.as_slice();
+    let mut totals = Totals::none();
+    for number in kept {
+        if let Some(s) = samples.get(*number as usize) {
+            totals = totals.plus(totals_of(l, config, column, s));
+        }
+    }
+    totals
+}
+
+// Those of one sample.
+fn totals_of(l: &Loaded, config: &Config, column: Option<u32>, s: &Sample) -> Totals
+    ensures { AreTotals l.now.profile config.now column (s.now ∷ []) result }
+{
+    let size = selected(l, s, column, config.divide_by).unsigned_abs();
+    let base = if is_base(l.profile.get(), s) { size } else { 0 };
+    Totals { all: size, base }
 }
 
 /// Whether the sample carries the base's label.
@@ -67,33 +117,4 @@ fn is_base_label(p: &Profile, label: &Label) -> bool
 {
     text_of(p, label.key) == b"pprof::base".as_slice()
         && text_of(p, label.text) == b"true".as_slice()
-}
-
-/// The same of the samples with these numbers.
-pub(crate) fn total_kept(l: &Loaded, config: &Config, column: Option<u32>, kept: &[u32]) -> u64
-    ensures { absolute_all column config.now.divide_by (samples_at l.now.profile kept.now) < 2 ^ 63 →
-        result ≡ total_over l.now.profile config.now column (samples_at l.now.profile kept.now) }
-{
-    let mut all: u64 = 0;
-    let mut base: u64 = 0;
-    for number in kept {
-        if let Some(s) = l.profile.get().sample.as_slice().get(*number as usize) {
-            // The sum fits wherever no number stands twice.
-            all = all.saturating_add(size(l, config, column, s));
-            base = base.saturating_add(base_size(l, config, column, s));
-        }
-    }
-    if base == 0 { all } else { base }
-}
-
-// 0 where the sample isn't the base's.
-fn base_size(l: &Loaded, config: &Config, column: Option<u32>, s: &Sample) -> u64
-    ensures { result ≡ absolute_all column config.now.divide_by
-        (filter (is_base l.now.profile) (s.now ∷ [])) }
-{
-    if is_base(l.profile.get(), s) {
-        size(l, config, column, s)
-    } else {
-        0
-    }
 }

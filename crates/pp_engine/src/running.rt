@@ -16,6 +16,7 @@ use crate::ending::{Cause, Ending, cause_of_stop};
 use crate::session::session;
 use pp_base::{Files, Gate, Matcher, Sink, Source, Text};
 use pp_desk::{Desk, Objects, Stop};
+use pp_model::Loaded;
 use pp_report::Resources;
 use std::alloc::Global;
 use std::thread::Threads;
@@ -30,6 +31,9 @@ struct Invocation<'a, R, G> {
 /// The whole program: what it does for the words after its name, over files, standard
 /// input, both outputs, a matcher of patterns and a gate. A report's text is whole before
 /// its first byte goes out, and the line of an ending is written last.
+///
+/// The profile that was loaded is left in `profile`. To give up a large one takes longer
+/// than to end the process.
 pub fn run<R: Threads + Sync, F: Files, I: Source, O: Sink, E: Sink, M: Matcher, G: Gate>(
     rt: &R,
     alloc: Global,
@@ -40,6 +44,7 @@ pub fn run<R: Threads + Sync, F: Files, I: Source, O: Sink, E: Sink, M: Matcher,
     err: &mut E,
     matcher: &mut M,
     gate: &G,
+    profile: &mut Option<Loaded>,
 ) -> Ending
     ensures status { result.status ≡ status_of result.cause }
 
@@ -105,7 +110,7 @@ pub fn run<R: Threads + Sync, F: Files, I: Source, O: Sink, E: Sink, M: Matcher,
 {
     let with = Resources { rt, alloc, gate };
     let invocation = Invocation { words, with };
-    run_objects(&invocation, files, input, out, err, matcher)
+    run_objects(&invocation, files, input, out, err, matcher, profile)
 }
 
 // The same over the objects, by the two clauses of which all else follows.
@@ -116,6 +121,7 @@ fn run_objects<R: Threads + Sync, F: Files, I: Source, O: Sink, E: Sink, M: Matc
     out: &mut O,
     err: &mut E,
     matcher: &mut M,
+    profile: &mut Option<Loaded>,
 ) -> Ending
     ensures status { result.status ≡ status_of result.cause }
     ensures ending { Ran (session M.finds invocation.now.words.now)
@@ -139,7 +145,7 @@ fn run_objects<R: Threads + Sync, F: Files, I: Source, O: Sink, E: Sink, M: Matc
         matcher: &mut *matcher,
         reader: &mut reader,
     };
-    run_session(&invocation.with, invocation.words, &mut objects)
+    run_session(&invocation.with, invocation.words, &mut objects, profile)
 }
 
 // The session, and the line of its stop.
@@ -148,6 +154,7 @@ fn run_session<R: Threads + Sync, D: Desk, G: Gate>(
     with: &Resources<'_, R, G>,
     words: &[Text],
     desk: &mut D,
+    profile: &mut Option<Loaded>,
 ) -> Ending
     ensures status { result.status ≡ status_of result.cause }
     ensures ending { Ran (session D.finds words.now) (D.world desk.old).told
@@ -161,7 +168,7 @@ fn run_session<R: Threads + Sync, D: Desk, G: Gate>(
     ensures taken { HasTaken (D.world desk.old).intake (D.world desk.new).intake }
     ensures same { (D.world desk.new).names ≡ (D.world desk.old).names }
 {
-    match session(with, words, desk) {
+    match session(with, words, desk, profile) {
         Ok(cause) => Ending::of(cause),
         Err(stop) => {
             tell_stop(stop, desk);

@@ -23,18 +23,19 @@ use std::alloc::Global;
 use std::mem;
 use std::thread::Threads;
 
-/// The session of these words.
+/// The session of these words. The profile that it loads is left in `profile`.
 #[tactic(auto, using(pp_desk::proofs::Going::going), unfolding(crate::specs::Session::session, crate::specs::Session::begin))]
 pub fn session<R: Threads + Sync, D: Desk, G: Gate>(
     with: &Resources<'_, R, G>,
     words: &[Text],
     desk: &mut D,
+    profile: &mut Option<Loaded>,
 ) -> Result<Cause, Stop>
     ensures { Went (D.world desk.old) (D.world desk.new) (session D.finds words.now) result }
 {
     match topic_asked(words) {
         Some(topic) => tell_topic(with.alloc, topic, desk),
-        None => perform_words(with, words, desk),
+        None => perform_words(with, words, desk, profile),
     }
 }
 
@@ -55,13 +56,14 @@ fn perform_words<R: Threads + Sync, D: Desk, G: Gate>(
     with: &Resources<'_, R, G>,
     words: &[Text],
     desk: &mut D,
+    profile: &mut Option<Loaded>,
 ) -> Result<Cause, Stop>
     ensures { Went (D.world desk.old) (D.world desk.new)
         (perform_words D.finds (planned words.now)) result }
 {
     match read_words(with.alloc, words) {
         Ok(plan) => {
-            let done = perform(with, &plan, desk);
+            let done = perform(with, &plan, desk, profile);
             mem::drop(plan);
             done
         }
@@ -86,12 +88,13 @@ fn perform<R: Threads + Sync, D: Desk, G: Gate>(
     with: &Resources<'_, R, G>,
     plan: &Plan,
     desk: &mut D,
+    profile: &mut Option<Loaded>,
 ) -> Result<Cause, Stop>
     ensures { Went (D.world desk.old) (D.world desk.new) (perform D.finds plan.now) result }
 {
     let loaded = load(with.rt, with.alloc, plan, desk)?;
     let done = serve_loaded(with, plan, &loaded, desk);
-    mem::drop(loaded);
+    *profile = loaded.ok();
     done
 }
 

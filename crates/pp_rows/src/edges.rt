@@ -1,4 +1,4 @@
-// Edges that are cut, and the lists of edges that are left.
+// The edges of a graph, from their caller on.
 ghost use Rattle.std.specs.Prelude.{◌<◌, All, IfOk, IfSome};
 ghost use Rattle.pp_graph.specs.Links.{IsUncut};
 
@@ -16,45 +16,35 @@ const B: u64 = 1;
 
 const C: u64 = 2;
 
-// A caller, a callee and the value. An edge has the number of its place among them.
-type Triple = (u64, u64, i64);
+// A caller and a callee. An edge has the number of its place among them.
+type Pair = (u64, u64);
 
 #[test]
-fn an_edge_is_cut(rt: HostRuntime) -> Result<(), Fail> {
-    let mut graph = graph_of(rt.alloc(), &[(A, B, 1), (A, C, 1)])?.ok_or("no graph")?;
-    assert!(rt; is_cut(&mut graph, A, B));
-    assert!(rt; leave(&graph, A, &[1]) && enter(&graph, B, &[]));
-    Ok(())
-}
-
-#[test]
-fn two_edges_are_cut(rt: HostRuntime) -> Result<(), Fail> {
-    let edges = [(A, B, 1), (A, C, 2), (B, C, 3), (C, A, 4)];
-    let mut graph = graph_of(rt.alloc(), &edges)?.ok_or("no graph")?;
-    assert!(rt; is_cut(&mut graph, A, C) && is_cut(&mut graph, A, B));
-    assert!(rt; leave(&graph, A, &[]) && leave(&graph, C, &[3]));
-    assert!(rt; enter(&graph, B, &[]) && enter(&graph, C, &[2]));
+fn an_edge_is_found(rt: HostRuntime) -> Result<(), Fail> {
+    let graph = graph_of(rt.alloc(), &[(A, B), (A, C)])?.ok_or("no graph")?;
+    assert_eq!(rt; edge_between(&graph, A, C), Some(1));
+    assert_eq!(rt; edge_between(&graph, C, A), None);
     Ok(())
 }
 
 // The graph of the three nodes and these edges. `None` where an end is no node.
-fn graph_of(alloc: Global, triples: &[Triple]) -> Result<Option<Graph>, Memory> {
+fn graph_of(alloc: Global, pairs: &[Pair]) -> Result<Option<Graph>, Memory> {
     let mut sums = Sums {
         names: Names::new(alloc)?,
         flat: List::new(alloc),
         cum: List::new(alloc),
     };
-    graph_over(alloc, &mut sums, triples)
+    graph_over(alloc, &mut sums, pairs)
 }
 
 // The graph, over sums that are given the three nodes.
-fn graph_over(alloc: Global, sums: &mut Sums, triples: &[Triple]) -> Result<Option<Graph>, Memory> {
+fn graph_over(alloc: Global, sums: &mut Sums, pairs: &[Pair]) -> Result<Option<Graph>, Memory> {
     put_keys(sums)?;
     let names = sums.names.len();
     if sums.flat.len() as u64 != names || sums.cum.len() as u64 != names {
         return Ok(None);
     }
-    let Some(edges) = edges_of(alloc, triples, names)? else {
+    let Some(edges) = edges_of(alloc, pairs, names)? else {
         return Ok(None);
     };
     let graph = Graph::make(alloc, sums, edges)?;
@@ -72,19 +62,19 @@ fn put_keys(sums: &mut Sums) -> Result<(), Memory> {
 }
 
 // The edges, or `None` where an end is none of so many names.
-fn edges_of(alloc: Global, triples: &[Triple], names: u64) -> Result<Option<List<Edge>>, Memory>
+fn edges_of(alloc: Global, pairs: &[Pair], names: u64) -> Result<Option<List<Edge>>, Memory>
     ensures { IfOk result (λ edges. IfSome edges
         (All (λ e. (e.from < names) × (e.to < names)))) }
 {
     let mut edges = List::new(alloc);
-    for (from, to, value) in triples {
+    for (from, to) in pairs {
         if *from >= names || *to >= names {
             return Ok(None);
         }
         edges.push(Edge {
             from: *from,
             to: *to,
-            value: *value,
+            value: 1,
         })?;
     }
     Ok(Some(edges))
@@ -99,15 +89,6 @@ fn key_of(function: u64) -> Key {
         address: 0,
         object: 0,
     }
-}
-
-// Cuts the edge from one node to another. Whether there is one.
-fn is_cut(graph: &mut Graph, from: u64, to: u64) -> bool {
-    let Some(number) = edge_between(graph, from, to) else {
-        return false;
-    };
-    graph.cut_edge(number);
-    true
 }
 
 // The number of the first edge from one node to another.
@@ -129,34 +110,4 @@ fn edge_between(graph: &Graph, from: u64, to: u64) -> Option<u64>
         next = graph.next_out(number);
     }
     None
-}
-
-// Whether the edges that leave the node are these, in the order of its list.
-fn leave(graph: &Graph, node: u64, owed: &[u64]) -> bool {
-    if node >= graph.nodes() {
-        return false;
-    }
-    let mut next = graph.first_out(node);
-    for number in owed {
-        match next {
-            Some(found) if found == *number => next = graph.next_out(found),
-            _ => return false,
-        }
-    }
-    next.is_none()
-}
-
-// Whether the edges that enter the node are these, in the order of its list.
-fn enter(graph: &Graph, node: u64, owed: &[u64]) -> bool {
-    if node >= graph.nodes() {
-        return false;
-    }
-    let mut next = graph.first_in(node);
-    for number in owed {
-        match next {
-            Some(found) if found == *number => next = graph.next_in(found),
-            _ => return false,
-        }
-    }
-    next.is_none()
 }

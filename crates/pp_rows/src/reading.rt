@@ -52,7 +52,7 @@ fn packed_and_unpacked_are_equal(rt: HostRuntime) -> Result<(), Fail> {
 
 fn is_of_two_locations(profile: &Profile) -> bool {
     match profile.sample.as_slice() {
-        [sample] => is_sample_of_two(sample) && has_no_more(profile) && has_no_header(profile),
+        [sample] => is_sample_of_two(sample),
         _ => false,
     }
 }
@@ -61,29 +61,4 @@ fn is_sample_of_two(sample: &Sample) -> bool {
     sample.location_id.as_slice() == [1, 2].as_slice()
         && sample.value.len() == 0
         && sample.label.len() == 0
-}
-
-// Whether all other tables are as where the message has no more fields.
-fn has_no_more(profile: &Profile) -> bool {
-    profile.sample_type.len() == 0
-        && profile.mapping.len() == 0
-        && profile.location.len() == 0
-        && profile.function.len() == 0
-        && profile.comment.len() == 0
-        && profile.text.len() == 1
-}
-
-fn has_no_header(profile: &Profile) -> bool {
-    let header = [
-        profile.drop_frames,
-        profile.keep_frames,
-        profile.time_nanos,
-        profile.duration_nanos,
-        profile.period_type.kind,
-        profile.period_type.unit,
-        profile.period,
-        profile.default_sample_type,
-        profile.doc_url,
-    ];
-    header == [0; 9]
 }

@@ -72,7 +72,7 @@ fn printed<R: Threads + Sync, G: Gate>(
     let mut err = CalmSink::new(alloc, 16);
     let mut regex = RegexMatcher::new(alloc);
     let ending = run(
-        rt, alloc, words, files, &mut input, &mut out, &mut err, &mut regex, gate,
+        rt, alloc, words, files, &mut input, &mut out, &mut err, &mut regex, gate, &mut None,
     );
     copied(alloc, out.bytes(), err.bytes(), ending.status)
 }

@@ -66,6 +66,7 @@ fn status_of<
         &mut stage.err,
         &mut stage.matcher,
         &OpenGate,
+        &mut None,
     );
     ending.status
 }

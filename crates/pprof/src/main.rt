@@ -10,11 +10,13 @@ use pp_base::{OpenGate, Sink, write_all};
 use pp_engine::{Cause, Ending, run};
 use pp_real::{Input, Output, RealFiles, read_words};
 use pp_regex::RegexMatcher;
+use std::mem;
 use std::process::ExitCode;
 
 fn main(rt: HostRuntime) -> ExitCode {
     let alloc = rt.alloc();
     let mut err = Output::new(rt.stderr());
+    let mut profile = None;
     let ending = match read_words(&rt, alloc) {
         Ok(words) => run(
             &rt,
@@ -26,9 +28,12 @@ fn main(rt: HostRuntime) -> ExitCode {
             &mut err,
             &mut RegexMatcher::new(alloc),
             &OpenGate,
+            &mut profile,
         ),
         Err(_) => end_without_words(&mut err),
     };
+    // The process ends, and all its memory with it.
+    mem::forget(profile);
     exit_code(ending)
 }
 

@@ -26,7 +26,7 @@ add-requires-clause-cum_fits g c = λ k.
 pub loop-part-preserved : goal.loop-part-preserved
 loop-part-preserved g c =
     wave_more c.args.job.now c.in_ok-parts.parts c.as_slice-part-items.result.now c.loop-part.part-index c.loop-part.sofar c.add.new.self c.part-item.result
-    (next g (goal.at.loop-part-preserved g c).After-part-item) c.in_ok-add.ensures.kept c.in_ok-add.ensures.tallies c.in_ok-add.ensures.matched
+    (next g (goal.at.loop-part-preserved g c).After-part-item) c.in_ok-add.ensures.kept c.in_ok-add.ensures.tallies c.in_ok-add.ensures.matched c.in_ok-add.ensures.totals
 
 pub returns : goal.returns
 returns g c =
