@@ -1,10 +1,8 @@
 //! What a run left against what the session owes.
 
-use crate::calls::Failure;
-use crate::session::Session;
 use crate::stage::Left;
-use crate::trials::{Fault, Object, Trial};
 use pp_base::Text;
+use pp_transcripts::{Failure, Fault, Object, Session, Trial};
 
 /// In what a run differs from what it owes.
 #[derive(Clone, Copy)]

@@ -6,33 +6,23 @@
 //! can't be understood.
 #![tactic(auto)]
 
-mod calls;
 mod comparing;
-mod contents;
-mod escapes;
-mod line;
 mod machine;
 mod objects;
 mod pipes;
-mod problem;
 mod report;
 mod runs;
-mod session;
 mod stage;
-mod transcript;
-mod trials;
-mod words;
 
 use machine::Machine;
 use pp_base::{Memory, Text, write_all};
 use pp_real::{Output, read_words};
+use pp_transcripts::{Folder, Transcript, Unready, transcripts_of};
 use report::Report;
 use runs::run_all;
-use session::{Folder, Unready};
 use std::process::ExitCode;
 use std::str;
 use std::thread::Threads;
-use transcript::{Transcript, transcripts_of};
 
 fn main(rt: HostRuntime) -> ExitCode {
     let mut report = Report::new(rt.alloc());

@@ -1,12 +1,11 @@
 //! Objects in memory of which any call can be made to fail, in each way that it may.
 ghost use Rattle.std.specs.Prelude.{◌≡◌, ◌≢◌, None};
 
-use crate::calls::{Calls, Failure};
-use crate::contents::is_among;
 use pp_base::{
     CalmFiles, CalmSink, CalmSource, FileRead, FileWrite, Files, Judgement, List, Matcher, Sink,
     SinkWrite, Source, SourceRead, Text,
 };
+use pp_transcripts::{Calls, Failure, is_among};
 
 /// Files in memory.
 #[derive(Drop)]

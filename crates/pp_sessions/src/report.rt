@@ -1,14 +1,10 @@
 //! What is printed of a file of transcripts.
 
 use crate::comparing::Difference;
-use crate::escapes::put_escaped;
-use crate::session::Session;
 use crate::stage::Left;
-use crate::transcript::Transcript;
-use crate::trials::Trial;
-use crate::words::put_words;
 use itoa::Buffer;
 use pp_base::{Memory, Text};
+use pp_transcripts::{Session, Transcript, Trial, put_escaped, put_words};
 use std::alloc::Global;
 
 /// How many lines of a text are printed, from the first that differs.

@@ -3,10 +3,9 @@
 use crate::comparing::{session_difference, trial_difference};
 use crate::machine::Machine;
 use crate::report::{Report, Run};
-use crate::session::Session;
 use crate::stage::left_by;
-use crate::trials::{Fault, Trial};
 use pp_base::{List, Memory, Text};
+use pp_transcripts::{Fault, Session, Trial};
 use std::alloc::Global;
 use std::thread::Threads;
 

@@ -1,13 +1,8 @@
 //! One run of the program over objects of the outside.
 
-use crate::calls::Calls;
-use crate::contents::Contents;
 use crate::machine::Machine;
 use crate::objects::{TrialFiles, TrialMatcher, TrialSink, TrialSource};
 use crate::pipes::{PipeReader, PipeWriter};
-use crate::session::Session;
-use crate::transcript::Patterns;
-use crate::trials::{AllCalls, Trial};
 use pp_base::{
     CalmFiles, CalmSink, CalmSource, FileRead, Files, List, Literal, Matcher, Memory, OpenGate,
     Sink, Source, Text,
@@ -15,6 +10,7 @@ use pp_base::{
 use pp_engine::run;
 use pp_real::{Input, Output, RealFiles};
 use pp_regex::RegexMatcher;
+use pp_transcripts::{AllCalls, Calls, Contents, Patterns, Session, Trial};
 use std::alloc::Global;
 use std::thread::Threads;
 use std::{fs, mem, str};

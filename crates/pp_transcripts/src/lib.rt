@@ -1,0 +1,21 @@
+//! Transcripts of whole sessions: what a session is given, and what it owes.
+#![tactic(auto)]
+
+mod calls;
+mod contents;
+mod escapes;
+mod line;
+mod problem;
+mod session;
+mod transcript;
+mod trials;
+mod words;
+
+pub use calls::{Calls, Failing, Failure};
+pub use contents::{Contents, is_among};
+pub use escapes::put_escaped;
+pub use problem::Problem;
+pub use session::{Folder, Session, Unready};
+pub use transcript::{Given, Owed, ParseFault, Part, Patterns, Transcript, transcripts_of};
+pub use trials::{AllCalls, Fault, Object, Trial};
+pub use words::put_words;
