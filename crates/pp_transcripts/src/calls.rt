@@ -16,22 +16,29 @@ pub enum Failure {
 /// Which calls fail.
 #[derive(Clone, Copy, PartialEq, Eq)]
 pub enum Failing {
+    /// No call.
     None,
     /// The call of this number, from 0.
     One(u64),
+    /// Each call.
     All,
 }
 
-/// The calls of one object: which fail and how, the number of the next one, and how many have failed.
+/// The calls of one object.
 #[derive(Clone, Copy)]
 pub struct Calls {
+    /// Which fail.
     pub failing: Failing,
+    /// How they fail.
     pub failure: Failure,
+    /// The number of the next one, from 0.
     pub number: u64,
+    /// How many have failed.
     pub faults: u64,
 }
 
 impl Calls {
+    /// Those of an object that was not called yet.
     pub fn new(failing: Failing, failure: Failure) -> Self {
         Calls {
             failing,

@@ -18,6 +18,7 @@ pub struct Contents {
 }
 
 impl Contents {
+    /// No path.
     pub fn new(alloc: Global) -> Self {
         Contents {
             alloc,
@@ -25,6 +26,7 @@ impl Contents {
         }
     }
 
+    /// Each path with its content, in the order in which they came.
     pub fn entries(&self) -> &[(Text, Text)] {
         &self.entries
     }

@@ -28,6 +28,7 @@ pub enum Problem {
 }
 
 impl Problem {
+    /// The words that tell of it.
     pub fn text(self) -> &'static str {
         match self {
             Problem::Tag => "unknown tag",

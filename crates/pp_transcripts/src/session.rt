@@ -12,6 +12,7 @@ use std::mem;
 pub enum Unready {
     /// No file has this name, or it can't be read.
     NoFile(Text),
+    /// Want of memory.
     Memory,
 }
 
@@ -24,8 +25,11 @@ impl From<Memory> for Unready {
 /// What the files hold before a session and what they owe to hold after it.
 #[derive(Drop)]
 pub struct Session<'t> {
+    /// The transcript itself.
     pub transcript: &'t Transcript,
+    /// What the files hold before it.
     pub before: Contents,
+    /// What they owe to hold after it.
     pub after: Contents,
     /// All paths of the transcript.
     pub paths: List<Text>,

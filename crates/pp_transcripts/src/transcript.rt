@@ -10,6 +10,7 @@ use std::mem;
 /// A part of a file's content.
 #[derive(Drop)]
 pub enum Part {
+    /// These bytes.
     Bytes(Text),
     /// What the file of the name holds, in the folder of the transcripts.
     Copy(Text),
@@ -18,6 +19,7 @@ pub enum Part {
 /// The matcher of a session.
 #[derive(Drop)]
 pub enum Patterns {
+    /// Regular expressions.
     Regular,
     /// Plain texts, of which these are refused.
     Literal(List<Text>),
@@ -28,8 +30,11 @@ pub enum Patterns {
 pub struct Given {
     /// The parts of each file, each with its path, in order.
     pub files: List<(Text, Part)>,
+    /// Paths that can't be written.
     pub locked: List<Text>,
+    /// All of standard input.
     pub input: Text,
+    /// What patterns find.
     pub patterns: Patterns,
     /// Whether the files are the machine's own.
     pub is_real: bool,
@@ -38,8 +43,11 @@ pub struct Given {
 /// What a session owes.
 #[derive(Drop)]
 pub struct Owed {
+    /// All that stands on standard output.
     pub out: Text,
+    /// All that stands on standard error.
     pub err: Text,
+    /// The exit status.
     pub status: u8,
     /// The parts of each file that is there at the end, each with its path, in order.
     pub files: List<(Text, Part)>,
@@ -52,6 +60,7 @@ pub struct Owed {
 pub struct Transcript {
     /// The number of its first line, from 1.
     pub line: u64,
+    /// Its first comment.
     pub title: Option<Text>,
     /// The words of each command, after the program's name.
     pub commands: List<List<Text>>,
@@ -59,7 +68,9 @@ pub struct Transcript {
     pub workers: List<Text>,
     /// Kinds of failure, and how many calls a session makes of the object of each.
     pub faults: List<(Fault, u64)>,
+    /// What each command is given.
     pub given: Given,
+    /// What each command owes.
     pub owed: Owed,
 }
 
@@ -159,10 +170,12 @@ fn put_copies(into: &mut List<(Text, Part)>, files: List<(Text, Text)>) -> Resul
     Ok(())
 }
 
-/// What is wrong, and the number of the line, from 1.
+/// Why a text is no file of transcripts.
 #[derive(Clone, Copy)]
 pub struct ParseFault {
+    /// The number of the line, from 1.
     pub line: u64,
+    /// What is wrong with it.
     pub problem: Problem,
 }
 

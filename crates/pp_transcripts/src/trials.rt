@@ -5,10 +5,15 @@ use crate::calls::{Calls, Failing, Failure};
 /// An object of the outside.
 #[derive(Clone, Copy, PartialEq, Eq)]
 pub enum Object {
+    /// The files.
     Files,
+    /// Standard input.
     Input,
+    /// Standard output.
     Out,
+    /// Standard error.
     Err,
+    /// The matcher of patterns.
     Matcher,
 }
 
@@ -19,6 +24,7 @@ pub struct Fault {
     pub name: &'static str,
     /// The object of which one call fails.
     pub object: Object,
+    /// How it fails.
     pub failure: Failure,
     /// Whether every write of standard error fails besides.
     pub is_muted: bool,
@@ -83,20 +89,27 @@ impl Fault {
     }
 }
 
-/// A failure, and the number of the call that fails, from 0.
+/// A run in which one call fails.
 #[derive(Clone, Copy)]
 pub struct Trial {
+    /// What fails.
     pub fault: Fault,
+    /// The number of the call that fails, from 0.
     pub call: u64,
 }
 
 /// The calls of each object.
 #[derive(Clone, Copy)]
 pub struct AllCalls {
+    /// Of the files.
     pub files: Calls,
+    /// Of standard input.
     pub input: Calls,
+    /// Of standard output.
     pub out: Calls,
+    /// Of standard error.
     pub err: Calls,
+    /// Of the matcher.
     pub matcher: Calls,
 }
 
@@ -112,6 +125,7 @@ impl AllCalls {
         }
     }
 
+    /// Those of the object.
     pub fn of(&self, object: Object) -> Calls {
         match object {
             Object::Files => self.files,
