@@ -21,11 +21,14 @@ use pp_report::Resources;
 use std::alloc::Global;
 use std::thread::Threads;
 
-// How the program was called: its words, and what it is computed with.
+// How the program was called.
 #[derive(Drop)]
 struct Invocation<'a, R, G> {
     words: &'a [Text],
+    // What it is computed with.
     with: Resources<'a, R, G>,
+    // Where the profile is left.
+    profile: &'a mut Option<Loaded>,
 }
 
 /// The whole program: what it does for the words after its name, over files, standard
@@ -109,22 +112,25 @@ pub fn run<R: Threads + Sync, F: Files, I: Source, O: Sink, E: Sink, M: Matcher,
     ensures taken { TakesFront INPUT_LIMIT (I.left input.old) (I.left input.new) }
 {
     let with = Resources { rt, alloc, gate };
-    let invocation = Invocation { words, with };
-    run_objects(&invocation, files, input, out, err, matcher, profile)
+    let invocation = Invocation {
+        words,
+        with,
+        profile: &mut *profile,
+    };
+    run_objects(invocation, files, input, out, err, matcher)
 }
 
 // The same over the objects, by the two clauses of which all else follows.
 fn run_objects<R: Threads + Sync, F: Files, I: Source, O: Sink, E: Sink, M: Matcher, G: Gate>(
-    invocation: &Invocation<'_, R, G>,
+    invocation: Invocation<'_, R, G>,
     files: &mut F,
     input: &mut I,
     out: &mut O,
     err: &mut E,
     matcher: &mut M,
-    profile: &mut Option<Loaded>,
 ) -> Ending
     ensures status { result.status ≡ status_of result.cause }
-    ensures ending { Ran (session M.finds invocation.now.words.now)
+    ensures ending { Ran (session M.finds invocation.entry.words.now)
         (told_at (outside (O.written out.old) (E.written err.old) (F.content files.old) (F.reads files.old))
         (F.locked files.old) (I.left input.old) (M.answers matcher.old))
         (outside (O.written out.new) (E.written err.new) (F.content files.new) (F.reads files.new))
@@ -132,12 +138,17 @@ fn run_objects<R: Threads + Sync, F: Files, I: Source, O: Sink, E: Sink, M: Matc
         (fault_counts (F.faults files.old) (I.faults input.old) (O.faults out.old) (E.faults err.old))
         (fault_counts (F.faults files.new) (I.faults input.new) (O.faults out.new) (E.faults err.new))
         result.cause }
-    ensures unread { starts_shell invocation.now.words.now ≡ false → I.left input.new ≡ I.left input.old }
+    ensures unread { starts_shell invocation.entry.words.now ≡ false → I.left input.new ≡ I.left input.old }
     ensures taken { TakesFront INPUT_LIMIT (I.left input.old) (I.left input.new) }
 {
+    let Invocation {
+        words,
+        with,
+        profile,
+    } = invocation;
     let mut reader = None;
     let mut objects = Objects {
-        alloc: invocation.with.alloc,
+        alloc: with.alloc,
         files: &mut *files,
         input: &mut *input,
         out: &mut *out,
@@ -145,7 +156,7 @@ fn run_objects<R: Threads + Sync, F: Files, I: Source, O: Sink, E: Sink, M: Matc
         matcher: &mut *matcher,
         reader: &mut reader,
     };
-    run_session(&invocation.with, invocation.words, &mut objects, profile)
+    run_session(&with, words, &mut objects, profile)
 }
 
 // The session, and the line of its stop.
