@@ -1,6 +1,7 @@
 -- Calls that are counted, some of which fail by their number.
-use Rattle.std.specs.Prelude.{ℕ, ◌+◌, ◌-◌, ◌^◌, ◌==◌, Bool, List, min, if◌then◌else◌}
+use Rattle.std.specs.Prelude.{ℕ, ◌+◌, ◌==◌, Bool, List, if◌then◌else◌}
 use Rattle.std.specs.List.{list_any}
+use Rattle.pp_base.specs.Capped.{capped}
 
 -- the numbers of the calls that fail, from 0, the number of the next call, and how many have failed
 pub record Calls : Type 0 where
@@ -14,7 +15,7 @@ fails_next calls = list_any (λ n. n == calls.number) calls.fails
 
 -- one more, in a counter of 64 bits that stops at its last value
 abbrev pub one_more : ℕ → ℕ
-one_more n = min (n + 1) (2 ^ 64 - 1)
+one_more n = capped (n + 1)
 
 -- after one more call
 abbrev pub after_call : Calls → Calls

@@ -1,16 +1,13 @@
 -- What percentages are taken of, added up over ranges of samples. No public clause cites it.
-use Rattle.std.specs.Prelude.{◌≡◌, ℕ, ◌+◌, min, List, Option}
+use Rattle.std.specs.Prelude.{◌≡◌, ℕ, ◌+◌, List, Option}
 use Rattle.std.specs.List.{filter}
 use Rattle.pp_model.specs.declared.config.Config.{Config}
 use Rattle.pp_model.specs.declared.profile.Sample.{Sample}
 use Rattle.pp_model.specs.declared.profile.Profile.{Profile}
+use Rattle.pp_base.specs.Capped.{capped}
 use Rattle.pp_count.specs.declared.total.Totals.{Totals}
 use Rattle.pp_count.specs.Counts.{is_base}
 use Rattle.pp_count.specs.Seeing.{absolute_all}
-
--- at most the largest number that there is
-abbrev pub capped : ℕ → ℕ
-capped n = min n 18446744073709551615
 
 -- The sums are those over these samples.
 pub record AreTotals (p : Profile) (config : Config) (column : Option ℕ) (samples : List Sample) (t : Totals) : Type 0 where

@@ -9,7 +9,8 @@ use Rattle.pp_model.specs.declared.profile.Sample.{Sample}
 use Rattle.pp_model.specs.declared.profile.Profile.{Profile}
 use Rattle.pp_model.specs.Sizes.{absolute_sum, value_in}
 use Rattle.pp_merge.specs.Merge.{too_large}
-use Rattle.pp_merge.specs.Together.{sum_together, sum_of_all, capped}
+use Rattle.pp_base.specs.Capped.{capped}
+use Rattle.pp_merge.specs.Together.{sum_together, sum_of_all}
 use Rattle.pp_merge.proofs.AloneLemmas.{none_found}
 
 -- the sums of the parts, added up, are the sum of all

@@ -1,5 +1,5 @@
 -- All values of profiles, added up together whatever their columns.
-use Rattle.std.specs.Prelude.{ℕ, ◌-◌, ◌^◌, min, nat_abs, List}
+use Rattle.std.specs.Prelude.{ℕ, nat_abs, List}
 use Rattle.std.specs.List.{sum_by}
 use Rattle.pp_model.specs.declared.profile.Sample.{Sample}
 use Rattle.pp_model.specs.declared.profile.Profile.{Profile}
@@ -11,7 +11,3 @@ sum_together samples = sum_by (λ s. sum_by nat_abs s.value) samples
 -- the same over all samples of the profiles
 abbrev pub sum_of_all : List Profile → ℕ
 sum_of_all list = sum_by (λ p. sum_together p.sample) list
-
--- the number, or 2^64-1 where it is greater
-abbrev pub capped : ℕ → ℕ
-capped n = min n (2 ^ 64 - 1)

@@ -3,7 +3,8 @@ ghost use Rattle.std.specs.Prelude.{◌≡◌, ◌+◌, ◌-◌, ◌*◌, ◌<�
 ghost use Rattle.std.specs.Bool.{OnTrue};
 ghost use Rattle.std.specs.List.{sum_by};
 ghost use Rattle.pp_steal.specs.declared.piece.TheConstants.{PIECE};
-ghost use Rattle.pp_merge.specs.Together.{sum_together, sum_of_all, capped};
+ghost use Rattle.pp_base.specs.Capped.{capped};
+ghost use Rattle.pp_merge.specs.Together.{sum_together, sum_of_all};
 
 use pp_base::{Gate, Memory};
 use pp_model::{Sample, Valid};
@@ -74,7 +75,8 @@ impl Job for Adding<'_> {
 
     ghost use Rattle.std.specs.Prelude.{◌≡◌};
     ghost use Rattle.pp_steal.specs.Pieces.{piece_of};
-    ghost use Rattle.pp_merge.specs.Together.{sum_together, capped};
+    ghost use Rattle.pp_base.specs.Capped.{capped};
+    ghost use Rattle.pp_merge.specs.Together.{sum_together};
 
     ghost pieces = { λ job. job.pieces };
 

@@ -1,13 +1,15 @@
 -- Samples that are read apart from the other fields, in pieces, make the same profile.
-use Rattle.std.proofs.Common.{◌≡◌, ℕ, ◌%◌, ◌^◌, ◌<◌, ◌≤◌, Bool, true, false, cond, eqb, map, List, [], ◌∷◌, ◌++◌, length, filter, Option, Some, None, Ok, refl, sym, ap, subst, ◌∙◌, append_assoc, arith}
+use Rattle.std.proofs.Common.{◌≡◌, ℕ, ◌-◌, ◌%◌, ◌^◌, ◌<◌, ◌≤◌, Bool, true, false, cond, eqb, map, List, [], ◌∷◌, ◌++◌, length, take, drop, filter, Option, Some, None, Ok, refl, sym, ap, subst, ◌∙◌, append_assoc, arith}
 use Rattle.std.specs.List.{flat_map, AllByRecursion}
 use Rattle.std.proofs.lemmas.Bool.{eqb-true}
 use Rattle.std.proofs.lemmas.List.{append-nil, map-append}
+use Rattle.std.proofs.Math.Seq.{take-add}
 use Rattle.pp_base.proofs.Lists.{all_append}
 use Rattle.pp_wire.specs.declared.fault.WireFault.{WireFault}
 use Rattle.pp_wire.specs.Fields.{Content, Varint, Eight, Four, Bytes, Item, fields}
 use Rattle.pp_model.specs.declared.profile.Sample.{Sample}
 use Rattle.pp_model.specs.declared.profile.Profile.{Profile}
+use Rattle.pp_tables.specs.declared.extent.Extent.{Extent}
 use Rattle.pp_tables.specs.declared.skim.Skimmed.{Skimmed}
 use Rattle.pp_tables.specs.Message.{Run, Nested, fault_by, fault_of, or_else, first_item_fault, fault_in}
 use Rattle.pp_tables.specs.Select.{all, messages_in}
@@ -32,30 +34,46 @@ adds_more front more old before after a b = record {
 }
 
 -- So many parts are joined: the rest of the parts are those of the rest of the payloads.
-pub record AreJoined (payloads : List PayloadAt) (samples : List Sample) (parts : List (Option (List Sample))) : Type 0 where
+pub record AreJoined (payloads : List PayloadAt) (old samples : List Sample) (parts : List (Option (List Sample))) : Type 0 where
   pub front : List PayloadAt
   pub rest : List PayloadAt
   pub cut : payloads ≡ front ++ rest
-  pub joined : ReadsSamples front [] samples
+  pub joined : ReadsSamples front old samples
   pub are : IsCutInto AreSamples rest parts
 
-pub none_joined : (payloads : List PayloadAt) (samples : List Sample) (parts : List (Option (List Sample))) → samples ≡ [] → IsCutInto AreSamples payloads parts → AreJoined payloads samples parts
-none_joined payloads samples parts none are = record { front = []; rest = payloads; cut = refl; joined = record { sound = tt; added = none }; are = are }
+-- nothing is added by no payloads
+pub reads_none : (samples : List Sample) → ReadsSamples [] samples samples
+reads_none samples = record { sound = tt; added = sym (append-nil samples) }
 
-pub part_joined : (payloads : List PayloadAt) (before after more : List Sample) (parts : List (Option (List Sample))) → AreJoined payloads before (Some more ∷ parts) → after ≡ before ++ more → AreJoined payloads after parts
-part_joined payloads before after more parts j is =
+pub none_joined : (payloads : List PayloadAt) (samples : List Sample) (parts : List (Option (List Sample))) → IsCutInto AreSamples payloads parts → AreJoined payloads samples samples parts
+none_joined payloads samples parts are = record { front = []; rest = payloads; cut = refl; joined = reads_none samples; are = are }
+
+pub part_joined : (payloads : List PayloadAt) (old before after more : List Sample) (parts : List (Option (List Sample)))
+    → AreJoined payloads old before (Some more ∷ parts) → after ≡ before ++ more → AreJoined payloads old after parts
+part_joined payloads old before after more parts j is =
     let (front, rest, cut, adds, are) = j.are in
     record {
       front = j.front ++ front;
       rest = rest;
       cut = j.cut ∙ ap (λ l. j.front ++ l) cut ∙ sym (append_assoc j.front front rest);
-      joined = adds_more j.front front [] before after j.joined (record { sound = adds.sound; added = is ∙ ap (λ l. before ++ l) adds.added });
+      joined = adds_more j.front front old before after j.joined (record { sound = adds.sound; added = is ∙ ap (λ l. before ++ l) adds.added });
       are = are;
     }
 
-pub all_joined : (payloads : List PayloadAt) (samples : List Sample) → AreJoined payloads samples [] → ReadsSamples payloads [] samples
-all_joined payloads samples j =
-    subst (λ l. ReadsSamples l [] samples) (sym (j.cut ∙ ap (λ l. j.front ++ l) j.are ∙ append-nil j.front)) j.joined
+pub all_joined : (payloads : List PayloadAt) (old samples : List Sample) → AreJoined payloads old samples [] → ReadsSamples payloads old samples
+all_joined payloads old samples j =
+    subst (λ l. ReadsSamples l old samples) (sym (j.cut ∙ ap (λ l. j.front ++ l) j.are ∙ append-nil j.front)) j.joined
+
+-- one more wave of payloads
+pub wave_read : (f : Extent → PayloadAt) (extents : List Extent) (start end : ℕ) (before after : List Sample) → start ≤ end
+    → ReadsSamples (map f (take start extents)) [] before → ReadsSamples (map f (take (end - start) (drop start extents))) before after
+    → ReadsSamples (map f (take end extents)) [] after
+wave_read f extents start end before after ordered sofar wave =
+    let more : List Extent = take (end - start) (drop start extents) in
+    let cut : take end extents ≡ take start extents ++ more =
+    ap (λ n. take n extents) (omega (arith, ordered)) ∙ take-add start (end - start) extents in
+    subst (λ l. ReadsSamples l [] after) (sym (ap (map f) cut ∙ map-append f (take start extents) more))
+    (adds_more (map f (take start extents)) (map f more) [] before after sofar wave)
 
 -- ---- the message
 

@@ -1,14 +1,15 @@
 //! The profile that a file's bytes are, of which workers read the samples.
-ghost use Rattle.std.specs.Prelude.{◌≡◌, ◌<◌, ◌≤◌, ◌^◌, List as Seq, Ok, length, map, IfOk, IfSome};
+ghost use Rattle.std.specs.Prelude.{◌≡◌, ◌<◌, ◌≤◌, ◌^◌, List as Seq, Ok, true, length, map, IfOk, IfSome};
 ghost use Rattle.pp_model.specs.Sizes.{HasAtMost};
 ghost use Rattle.pp_tables.specs.Joined.{PayloadAt};
 ghost use Rattle.pp_tables.specs.Read.{Answers, read, read_message};
 ghost use Rattle.pp_tables.specs.Skim.{payload_of, IsSkimmed};
 ghost use Rattle.pp_steal.specs.Pieces.{IsCutInto};
-ghost use Rattle.pp_tables.specs.Apart.{AreSamples, AnswersIfAny};
+ghost use Rattle.pp_tables.specs.Apart.{AreSamples, ReadsSamples, AnswersIfAny};
 
 use crate::ReadRefusal;
 use crate::decoding::Decoding;
+use crate::extent::Extent;
 use crate::packed::with_room;
 use crate::reading::{is_compressed, read_profile, with_a_text};
 use crate::skim::{Skimmed, skim};
@@ -84,13 +85,7 @@ fn finish<R: Threads + Sync, G: Gate>(
         mut profile,
         samples,
     } = skimmed;
-    let job = Decoding {
-        alloc,
-        bytes,
-        extents: samples.as_slice(),
-        pieces: pieces_of(samples.len()),
-    };
-    match read_samples(rt, &job, workers, gate)? {
+    match read_samples(rt, alloc, bytes, samples.as_slice(), workers, gate)? {
         Some(samples) => {
             profile.sample = samples;
             Ok(Some(with_a_text(alloc, profile)?))
@@ -99,37 +94,68 @@ fn finish<R: Threads + Sync, G: Gate>(
     }
 }
 
-// The samples of all pieces, or `None` where one has a fault.
+// How many samples are read before they are joined, so that the parts of no more stand beside the joined list.
+const WAVE: usize = 131_072;
+
+// The samples at these places, or `None` where one has a fault.
 fn read_samples<R: Threads + Sync, G: Gate>(
     rt: &R,
-    job: &Decoding<'_>,
+    alloc: Global,
+    bytes: &[u8],
+    extents: &[Extent],
     workers: u32,
     gate: &G,
 ) -> Result<Option<List<Sample>>, Memory>
     requires some { 1 ≤ workers }
     requires most { workers ≤ 64 }
-    ensures { IfOk result (AreSamples (map (payload_of job.now.bytes.now) job.now.extents.now)) }
+    requires few { length extents.now < 2 ^ 32 }
+    ensures { IfOk result (AreSamples (map (payload_of bytes.now) extents.now)) }
 {
-    // Few samples need no further thread.
-    let lanes = workers.min(job.pieces.max(1));
-    let parts = run_pieces(rt, job.alloc, job, job.pieces, lanes, Deal::Round, gate)?;
-    join(job.alloc, job.extents.len(), parts)
-}
-
-// The samples of all parts, of which there are so many.
-fn join(
-    alloc: Global,
-    count: usize,
-    parts: List<Option<List<Sample>>>,
-) -> Result<Option<List<Sample>>, Memory>
-    ensures { (payloads : Seq PayloadAt) → IsCutInto AreSamples payloads parts → IfOk result (AreSamples payloads) }
-{
-    let mut samples = with_room(alloc, count)?;
-    for part in parts.into_vec() {
-        match part {
-            Some(more) => samples.append(more)?,
-            None => return Ok(None),
+    let mut samples = with_room(alloc, extents.len())?;
+    for wave in 0..extents.len().div_ceil(WAVE) {
+        let start = wave * WAVE;
+        let places = &extents[start..(start + WAVE).min(extents.len())];
+        let job = Decoding {
+            alloc,
+            bytes,
+            extents: places,
+            pieces: pieces_of(places.len()),
+        };
+        let parts = read_wave(rt, &job, workers, gate)?;
+        if !join(&mut samples, parts)? {
+            return Ok(None);
         }
     }
     Ok(Some(samples))
+}
+
+// The samples of each piece.
+fn read_wave<R: Threads + Sync, G: Gate>(
+    rt: &R,
+    job: &Decoding<'_>,
+    workers: u32,
+    gate: &G,
+) -> Result<List<Option<List<Sample>>>, Memory>
+    requires some { 1 ≤ workers }
+    requires most { workers ≤ 64 }
+    ensures { IfOk result
+        (IsCutInto AreSamples (map (payload_of job.now.bytes.now) job.now.extents.now)) }
+{
+    // Few samples need no further thread.
+    let lanes = workers.min(job.pieces.max(1));
+    run_pieces(rt, job.alloc, job, job.pieces, lanes, Deal::Round, gate)
+}
+
+// Adds the samples of all parts, up to the first that has a fault. Whether none has.
+fn join(samples: &mut List<Sample>, parts: List<Option<List<Sample>>>) -> Result<bool, Memory>
+    ensures { (payloads : Seq PayloadAt) → IsCutInto AreSamples payloads parts →
+        IfOk result (λ whole. whole ≡ true → ReadsSamples payloads samples.old samples.new) }
+{
+    for part in parts.into_vec() {
+        match part {
+            Some(more) => samples.append(more)?,
+            None => return Ok(false),
+        }
+    }
+    Ok(true)
 }

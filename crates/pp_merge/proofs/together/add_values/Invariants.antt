@@ -1,7 +1,7 @@
 use Rattle.std.proofs.Common.{◌≡◌, ◌+◌, take}
 use Rattle.std.specs.Prelude.{nat_abs}
 use Rattle.std.specs.List.{sum_by}
-use Rattle.pp_merge.specs.Together.{capped}
+use Rattle.pp_base.specs.Capped.{capped}
 use Rattle.pp_merge.proofs.together.add_values.Given as goal
 
 -- the total with the values so far

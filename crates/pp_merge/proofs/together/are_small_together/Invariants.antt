@@ -1,5 +1,6 @@
 use Rattle.std.proofs.Common.{◌≡◌, ◌+◌, take}
-use Rattle.pp_merge.specs.Together.{sum_together, sum_of_all, capped}
+use Rattle.pp_base.specs.Capped.{capped}
+use Rattle.pp_merge.specs.Together.{sum_together, sum_of_all}
 use Rattle.pp_merge.proofs.together.are_small_together.Given as goal
 
 -- the sum of the profiles so far

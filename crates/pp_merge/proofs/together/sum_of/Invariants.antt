@@ -1,6 +1,6 @@
 use Rattle.std.proofs.Common.{◌≡◌, take}
 use Rattle.std.specs.List.{sum_by}
-use Rattle.pp_merge.specs.Together.{capped}
+use Rattle.pp_base.specs.Capped.{capped}
 use Rattle.pp_merge.proofs.together.sum_of.Given as goal
 
 -- the sum of the numbers so far

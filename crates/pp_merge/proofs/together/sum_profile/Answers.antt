@@ -2,7 +2,8 @@ use Rattle.std.proofs.Common.{◌≡◌, ap, ◌∙◌, arith}
 use Rattle.std.specs.List.{sum_by}
 use Rattle.pp_steal.proofs.PieceLemmas.{outcomes_are}
 use Rattle.pp_model.specs.declared.profile.Profile.{Profile}
-use Rattle.pp_merge.specs.Together.{sum_together, capped}
+use Rattle.pp_base.specs.Capped.{capped}
+use Rattle.pp_merge.specs.Together.{sum_together}
 use Rattle.pp_merge.proofs.TogetherLemmas.{parts_add_up}
 use Rattle.pp_merge.proofs.together.sum_profile.Goals as goal
 

@@ -1,5 +1,6 @@
 use Rattle.std.proofs.Common.{◌≡◌, take}
-use Rattle.pp_merge.specs.Together.{sum_together, capped}
+use Rattle.pp_base.specs.Capped.{capped}
+use Rattle.pp_merge.specs.Together.{sum_together}
 use Rattle.pp_merge.proofs.together.sum_samples.Given as goal
 
 -- the sum of the samples so far
