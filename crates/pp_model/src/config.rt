@@ -147,6 +147,34 @@ impl Config {
     pub fn copy(&self, alloc: Global) -> Result<Config, Memory>
         ensures { IfOk result (λ config. config ≡ self.now) }
     {
+        let (focus, ignore, show, hide) = four_texts(
+            alloc,
+            &self.focus,
+            &self.ignore,
+            &self.show,
+            &self.hide,
+        )?;
+        let (show_from, prune_from, tagfocus, tagignore) = four_texts(
+            alloc,
+            &self.show_from,
+            &self.prune_from,
+            &self.tagfocus,
+            &self.tagignore,
+        )?;
+        let (tagshow, taghide, tagroot, tagleaf) = four_texts(
+            alloc,
+            &self.tagshow,
+            &self.taghide,
+            &self.tagroot,
+            &self.tagleaf,
+        )?;
+        let (sample_index, unit, source_path, trim_path) = four_texts(
+            alloc,
+            &self.sample_index,
+            &self.unit,
+            &self.source_path,
+            &self.trim_path,
+        )?;
         Ok(Config {
             sort: self.sort,
             grain: self.grain,
@@ -156,27 +184,44 @@ impl Config {
             nodecount: self.nodecount,
             nodefraction: self.nodefraction,
             edgefraction: self.edgefraction,
-            focus: same(alloc, &self.focus)?,
-            ignore: same(alloc, &self.ignore)?,
-            show: same(alloc, &self.show)?,
-            hide: same(alloc, &self.hide)?,
-            show_from: same(alloc, &self.show_from)?,
-            prune_from: same(alloc, &self.prune_from)?,
-            tagfocus: same(alloc, &self.tagfocus)?,
-            tagignore: same(alloc, &self.tagignore)?,
-            tagshow: same(alloc, &self.tagshow)?,
-            taghide: same(alloc, &self.taghide)?,
-            tagroot: same(alloc, &self.tagroot)?,
-            tagleaf: same(alloc, &self.tagleaf)?,
-            sample_index: same(alloc, &self.sample_index)?,
-            unit: same(alloc, &self.unit)?,
+            focus,
+            ignore,
+            show,
+            hide,
+            show_from,
+            prune_from,
+            tagfocus,
+            tagignore,
+            tagshow,
+            taghide,
+            tagroot,
+            tagleaf,
+            sample_index,
+            unit,
             relative_percentages: self.relative_percentages,
             divide_by: self.divide_by,
-            source_path: same(alloc, &self.source_path)?,
-            trim_path: same(alloc, &self.trim_path)?,
+            source_path,
+            trim_path,
             workers: self.workers,
         })
     }
+}
+
+// Copies of four texts.
+fn four_texts(
+    alloc: Global,
+    first: &Text,
+    second: &Text,
+    third: &Text,
+    fourth: &Text,
+) -> Result<(Text, Text, Text, Text), Memory>
+    ensures { IfOk result (λ copies. copies ≡ (first.now, second.now, third.now, fourth.now)) }
+{
+    let first = same(alloc, first)?;
+    let second = same(alloc, second)?;
+    let third = same(alloc, third)?;
+    let fourth = same(alloc, fourth)?;
+    Ok((first, second, third, fourth))
 }
 
 // A copy of the text.

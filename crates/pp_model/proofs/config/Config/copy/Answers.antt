@@ -1,4 +1,4 @@
-use Rattle.std.proofs.Common.{refl, rules, w32, FitsSigned}
+use Rattle.std.proofs.Common.{refl, ap, rules, w32, FitsSigned}
 use Rattle.std.proofs.lemmas.Int.{to_z-of_z}
 use Rattle.pp_model.proofs.ConfigLemmas.{same_config}
 use Rattle.pp_model.proofs.config.Config.copy.Goals as goal
@@ -16,23 +16,23 @@ returns c =
       nodecount = to_z-of_z w32 _ fits;
       nodefraction = refl;
       edgefraction = refl;
-      focus = c.in_ok-same.ensures;
-      ignore = c.in_ok-same-2.ensures;
-      show = c.in_ok-same-3.ensures;
-      hide = c.in_ok-same-4.ensures;
-      show_from = c.in_ok-same-5.ensures;
-      prune_from = c.in_ok-same-6.ensures;
-      tagfocus = c.in_ok-same-7.ensures;
-      tagignore = c.in_ok-same-8.ensures;
-      tagshow = c.in_ok-same-9.ensures;
-      taghide = c.in_ok-same-10.ensures;
-      tagroot = c.in_ok-same-11.ensures;
-      tagleaf = c.in_ok-same-12.ensures;
-      sample_index = c.in_ok-same-13.ensures;
-      unit = c.in_ok-same-14.ensures;
+      focus = ap (λ copies. copies.0) c.in_ok-focus.ensures;
+      ignore = ap (λ copies. copies.1) c.in_ok-focus.ensures;
+      show = ap (λ copies. copies.2) c.in_ok-focus.ensures;
+      hide = ap (λ copies. copies.3) c.in_ok-focus.ensures;
+      show_from = ap (λ copies. copies.0) c.in_ok-show_from.ensures;
+      prune_from = ap (λ copies. copies.1) c.in_ok-show_from.ensures;
+      tagfocus = ap (λ copies. copies.2) c.in_ok-show_from.ensures;
+      tagignore = ap (λ copies. copies.3) c.in_ok-show_from.ensures;
+      tagshow = ap (λ copies. copies.0) c.in_ok-tagshow.ensures;
+      taghide = ap (λ copies. copies.1) c.in_ok-tagshow.ensures;
+      tagroot = ap (λ copies. copies.2) c.in_ok-tagshow.ensures;
+      tagleaf = ap (λ copies. copies.3) c.in_ok-tagshow.ensures;
+      sample_index = ap (λ copies. copies.0) c.in_ok-sample_index.ensures;
+      unit = ap (λ copies. copies.1) c.in_ok-sample_index.ensures;
       relative_percentages = refl;
       divide_by = refl;
-      source_path = c.in_ok-same-15.ensures;
-      trim_path = c.in_ok-same-16.ensures;
+      source_path = ap (λ copies. copies.2) c.in_ok-sample_index.ensures;
+      trim_path = ap (λ copies. copies.3) c.in_ok-sample_index.ensures;
       workers = refl;
     }
