@@ -1,17 +1,18 @@
 //! The words of a command line.
-ghost use Rattle.std.specs.Prelude.{◌≡◌, ◌+◌, ◌<◌, ◌^◌, ◌&&◌, List, length, None, option_map, IfOk, if◌then◌else◌};
+ghost use Rattle.std.specs.Prelude.{◌≡◌, ◌+◌, ◌<◌, ◌^◌, ◌&&◌, List, length, None, is_some, option_map, IfOk, IfNone, IsTrue, if◌then◌else◌};
 ghost use Rattle.pp_options.specs.Items.{is_fair_item};
-ghost use Rattle.pp_options.specs.Words.{Entry, entry, entries, sources, is_empty};
+ghost use Rattle.pp_options.specs.Words.{Entry, entry, entries, sources, is_empty, late_fault};
 ghost use Rattle.pp_options.specs.Plans.{ReadsPlan};
-ghost use Rattle.pp_options.specs.Drafts.{IsReading, ReadsAll, TakesEntry, taken_next, left_after, Finishes};
+ghost use Rattle.pp_options.specs.Drafts.{IsReading, ReadsAll, TakesEntry, request_in, taken_next, left_after, Finishes};
 
 use crate::draft::Draft;
-use crate::item::{Item, item_of, refuse};
+use crate::item::{Item, item_of};
 use crate::spelling::takes_next;
 use crate::text::is;
-use crate::{Plan, UsageKind, UsageRefusal};
+use crate::{Plan, UsageFault, UsageKind, UsageRefusal};
 use pp_base::Text;
 use std::alloc::Global;
+use std::mem;
 
 /// What the words after the program's name ask for, or their first fault.
 ///
@@ -23,8 +24,13 @@ pub fn read_words(alloc: Global, words: &[Text]) -> Result<Plan, UsageRefusal>
     ensures { ReadsPlan words.now result }
 {
     let mut draft = Draft::new(alloc)?;
-    draft.take_words(alloc, words)?;
-    draft.finish(words.len() as u64)
+    match draft.take_words(alloc, words) {
+        Ok(()) => draft.finish(words.len() as u64),
+        Err(refusal) => {
+            mem::drop(draft);
+            Err(refusal)
+        }
+    }
 }
 
 impl Draft {
@@ -104,19 +110,39 @@ impl Draft {
         requires { count + 1 < 2 ^ 64 }
         ensures { Finishes count self result }
     {
+        match self.late_fault(count) {
+            Some(fault) => {
+                mem::drop(self);
+                Err(UsageRefusal::Fault(fault))
+            }
+            None => Ok(Plan {
+                origins: self.origins,
+                bases: self.bases,
+                base_kind: self.base_kind,
+                normalize: self.normalize,
+                report: self.report,
+                config: self.config,
+            }),
+        }
+    }
+
+    // What shows only after so many words: no source, or nothing to normalize by.
+    fn late_fault(&self, count: u64) -> Option<UsageFault>
+        requires { count + 1 < 2 ^ 64 }
+        ensures fault { result ≡ late_fault count (request_in self.now) self.now.normalized_at }
+        ensures none { IfNone result ((0 < length self.now.origins)
+            × (IsTrue self.now.normalize → IsTrue (is_some self.now.base_kind))) }
+    {
         if self.origins.len() == 0 {
-            return refuse(UsageKind::NoSource, count + 1);
+            return Some(UsageFault {
+                kind: UsageKind::NoSource,
+                word: count + 1,
+            });
         }
-        if let Some(at) = self.normalized_alone() {
-            return refuse(UsageKind::NormalizeAlone, at);
-        }
-        Ok(Plan {
-            origins: self.origins,
-            bases: self.bases,
-            base_kind: self.base_kind,
-            normalize: self.normalize,
-            report: self.report,
-            config: self.config,
+        let at = self.normalized_alone()?;
+        Some(UsageFault {
+            kind: UsageKind::NormalizeAlone,
+            word: at,
         })
     }
 
