@@ -1,7 +1,7 @@
 -- The reports of a saved profile come to the texts that its filters gave.
-use Rattle.std.proofs.Common.{◌≡◌, ℕ, Bool, true, false, List, [], ◌∷◌, refl, sym, ap, ◌∙◌, subst}
-use Rattle.std.specs.Prelude.{Option, Result, Ok, Err, option_map, if◌then◌else◌, unwrap_or}
-use Rattle.std.specs.Option.{option_and_then, option_map_or}
+use Rattle.std.proofs.Common.{◌≡◌, ℕ, Bool, true, false, List, [], refl, sym, ap, ◌∙◌, subst}
+use Rattle.std.specs.Prelude.{Option, Ok, Err, option_map, if◌then◌else◌, unwrap_or}
+use Rattle.std.specs.Option.{option_map_or}
 use Rattle.std.proofs.lemmas.Bool.{false≢true}
 use Rattle.pp_desk.specs.Script.{Give}
 use Rattle.pp_model.specs.declared.config.Config.{Config}
@@ -11,14 +11,12 @@ use Rattle.pp_model.specs.declared.report.Report.{Report}
 use Rattle.pp_model.specs.declared.report.Report.TheVariants as reports
 use Rattle.pp_model.specs.Conditions.{IsColumnOf}
 use Rattle.pp_model.specs.Finders.{Finders}
-use Rattle.pp_model.specs.Lookup.{text_of}
 use Rattle.pp_units.specs.Head.{Facts}
 use Rattle.pp_units.specs.Shown.{Shown, picked}
 use Rattle.pp_pattern.specs.Report.{Finds, finders_of}
-use Rattle.pp_share.specs.Header.{HeaderText, TypeText, header_of}
+use Rattle.pp_share.specs.Header.{TypeText}
 use Rattle.pp_count.specs.Counted.{has_own_match}
 use Rattle.pp_graph.specs.Trim.{node_limit}
-use Rattle.pp_restack.specs.Stacks.{patternless}
 use Rattle.pp_top.specs.Top.{top_text}
 use Rattle.pp_tree.specs.Tree.{tree_text}
 use Rattle.pp_tree.specs.Peek.{peek_text}
@@ -29,15 +27,14 @@ use Rattle.pp_saved.specs.Kept.{PrintAlike}
 use Rattle.pp_saved.specs.Premises.{CanSave, unfiltered, own_alone}
 use Rattle.pp_saved.proofs.SavedAlike.{saved_figures, saved_texts}
 use Rattle.pp_saved.proofs.Saving.{is_saved}
-use Rattle.pp_report.specs.declared.refusal.ReportRefusal.{ReportRefusal}
 use Rattle.pp_report.specs.declared.refusal.ReportRefusal.TheVariants.{NoMatch}
 use Rattle.pp_report.specs.declared.texts.TheConstants.{TREE_NODES}
-use Rattle.pp_report.specs.Heads.{kind_text, unit_text, report_head}
+use Rattle.pp_report.specs.Heads.{report_head}
 use Rattle.pp_model.specs.ReportFacts.{is_counted, own_pattern, reads_figures}
 use Rattle.pp_report.specs.Patterns.{report_finders}
 use Rattle.pp_stack.specs.LoadFinders.{finder_by}
 use Rattle.pp_report.specs.Prepared.{Showing, showing_for}
-use Rattle.pp_report.specs.Reports.{finish, finish_on, finish_by, text_by}
+use Rattle.pp_report.specs.Reports.{finish_on, text_by}
 use Rattle.pp_pseudo.specs.Basis.{framed_by}
 use Rattle.pp_report.specs.Tagged.{basis_of}
 use Rattle.pp_report.specs.SavedReports.{SavedReports, IsSavedOf, NamesNoKey}

@@ -1,5 +1,5 @@
 -- The patterns of a report, and what they find.
-use Rattle.std.specs.Prelude.{ℕ, List, Result, Ok, Err, option_map}
+use Rattle.std.specs.Prelude.{Result, Ok, Err, option_map}
 use Rattle.pp_desk.specs.Asking.{Asking}
 use Rattle.pp_desk.specs.Script.{Give, ◌>>=◌}
 use Rattle.pp_model.specs.declared.config.Config.{Config}

@@ -1,6 +1,8 @@
 -- What a report comes to: its notes, and its text or a refusal.
 use Rattle.std.specs.Prelude.{ℕ, List, [], length, drop, Option, Some, None, Result, Ok, Err, if◌then◌else◌}
+use Rattle.pp_base.specs.declared.memory.Memory.{Memory}
 use Rattle.pp_desk.specs.declared.stop.Stop.{Stop}
+use Rattle.pp_desk.specs.declared.stop.Stop.TheVariants as stops
 use Rattle.pp_desk.specs.Script.{Script, Give, ◌>>=◌}
 use Rattle.pp_model.specs.declared.config.Config.{Config}
 use Rattle.pp_model.specs.declared.loaded.Loaded.{Loaded}
@@ -81,6 +83,16 @@ text_by p f config column h reports.Folded = Give (Ok (folded_text p f config co
 text_by p f config column h reports.Table =
     Give (Ok (exact_table p f config column (node_limit config.nodecount 0) (unit_text p column)))
 text_by p f config column h reports.Compare = Give (compare_outcome p f config column h)
+
+-- the answer of a report that reads no file, or that memory was wanting
+abbrev pub answer_of : Result (Result (List ℕ) ReportRefusal) Memory → Result (Result (List ℕ) ReportRefusal) Stop
+answer_of (Ok outcome) = Ok outcome
+answer_of (Err e) = Err stops.Memory
+
+-- the same of a report that is never refused
+abbrev pub made_of : Result (List ℕ) Memory → Result (Result (List ℕ) ReportRefusal) Stop
+made_of (Ok text) = Ok (Ok text)
+made_of (Err e) = Err stops.Memory
 
 -- The text of a report of this column and unit, by what its patterns find.
 abbrev pub finish_by : Profile → Finders → Config → Showing → Report

@@ -1,5 +1,5 @@
 -- A saved profile reports as its filters did.
-use Rattle.std.specs.Prelude.{◌≡◌, true, false, [], None, Result, Ok}
+use Rattle.std.specs.Prelude.{◌≡◌, true, false, [], None}
 use Rattle.pp_model.specs.declared.config.Config.{Config}
 use Rattle.pp_model.specs.declared.loaded.Loaded.{Loaded}
 use Rattle.pp_model.specs.declared.profile.Profile.{Profile}

@@ -7,7 +7,7 @@ ghost use Rattle.pp_units.specs.Head.{facts};
 ghost use Rattle.pp_count.specs.Seeing.{HoldsFilters};
 ghost use Rattle.pp_dump.specs.Saved.{AreKept};
 ghost use Rattle.pp_report.specs.Prepared.{showing, AreCounts, HasCounts, IsPrepared};
-ghost use Rattle.pp_report.specs.Reports.{finish, finish_on, text_by, list_text};
+ghost use Rattle.pp_report.specs.Reports.{finish, finish_on, text_by, list_text, made_of, answer_of};
 ghost use Rattle.pp_report.specs.SavedText.{OnText, IsProtoOf, IsProtoBy};
 ghost use Rattle.pp_report.specs.Tagged.{basis_of};
 
@@ -22,7 +22,7 @@ use crate::subject::Subject;
 use crate::task::Task;
 use crate::texts::{comments, peek, proto, raw, tags, top, traces};
 use crate::trees::tree_report;
-use pp_base::{Gate, Text};
+use pp_base::{Gate, Memory, Text};
 use pp_count::Survey;
 use pp_desk::{Desk, Stop};
 use pp_model::{Config, Loaded, Report};
@@ -119,7 +119,7 @@ fn finish_counts<'x, R: Threads + Sync, D: Desk, G: Gate>(
 }
 
 // The text of a report with this head.
-#[tactic(auto, using(pp_desk::proofs::Going::going), unfolding(crate::specs::Reports::text_by))]
+#[tactic(auto, using(crate::proofs::FinishingLemmas::making), unfolding(crate::specs::Reports::text_by))]
 fn text_by<R: Threads + Sync, D: Desk, G: Gate>(
     with: &Resources<'_, R, G>,
     report: &Report,
@@ -137,18 +137,40 @@ fn text_by<R: Threads + Sync, D: Desk, G: Gate>(
 {
     let (alloc, survey) = (with.alloc, &subject.survey);
     match report {
-        Report::Top => Ok(Ok(top(alloc, subject)?)),
-        Report::Tree => Ok(Ok(tree_report(with, subject)?)),
-        Report::Peek(_) => Ok(peek(with, subject)?),
-        Report::Traces => Ok(Ok(traces(alloc, subject)?)),
-        Report::Tags => Ok(Ok(tags(alloc, subject)?)),
-        Report::Raw => Ok(Ok(raw(alloc, survey)?)),
-        Report::Comments => Ok(Ok(comments(alloc, survey.l)?)),
-        Report::Proto => Ok(Ok(proto(alloc, survey)?)),
+        Report::Top => made(top(alloc, subject)),
+        Report::Tree => made(tree_report(with, subject)),
+        Report::Peek(_) => answered(peek(with, subject)),
+        Report::Traces => made(traces(alloc, subject)),
+        Report::Tags => made(tags(alloc, subject)),
+        Report::Raw => made(raw(alloc, survey)),
+        Report::Comments => made(comments(alloc, survey.l)),
+        Report::Proto => made(proto(alloc, survey)),
         Report::List(_) => list(alloc, subject, desk),
-        Report::Folded => Ok(Ok(folded(alloc, survey)?)),
-        Report::Table => Ok(Ok(table(alloc, survey)?)),
-        Report::Compare => Ok(compare(with, subject)?),
+        Report::Folded => made(folded(alloc, survey)),
+        Report::Table => made(table(alloc, survey)),
+        Report::Compare => answered(compare(with, subject)),
+    }
+}
+
+// The text of a report that is never refused.
+fn made(text: Result<Text, Memory>) -> Result<Result<Text, ReportRefusal>, Stop>
+    ensures { result ≡ made_of text }
+{
+    match text {
+        Ok(text) => Ok(Ok(text)),
+        Err(Memory) => Err(Stop::Memory),
+    }
+}
+
+// What a report comes to that reads no file.
+fn answered(
+    outcome: Result<Result<Text, ReportRefusal>, Memory>,
+) -> Result<Result<Text, ReportRefusal>, Stop>
+    ensures { result ≡ answer_of outcome }
+{
+    match outcome {
+        Ok(outcome) => Ok(outcome),
+        Err(Memory) => Err(Stop::Memory),
     }
 }
 

@@ -68,9 +68,16 @@ fn prepare_over<R: Threads + Sync, D: Desk, G: Gate>(
 {
     let tagged = tagged_of(with.alloc, report, l, config)?;
     let over = basis(&tagged, l);
-    match prepare_showing(with, over, report, config, shows, desk)? {
-        Ok(prepared) => Ok(Ok(made_of(prepared, tagged))),
-        Err(refusal) => Ok(Err(refusal)),
+    match prepare_showing(with, over, report, config, shows, desk) {
+        Ok(Ok(prepared)) => Ok(Ok(made_of(prepared, tagged))),
+        Ok(Err(refusal)) => {
+            mem::drop(tagged);
+            Ok(Err(refusal))
+        }
+        Err(stop) => {
+            mem::drop(tagged);
+            Err(stop)
+        }
     }
 }
 

@@ -8,7 +8,6 @@ use Rattle.pp_units.specs.Head.{Facts, facts}
 use Rattle.pp_units.specs.Shown.{shown}
 use Rattle.pp_report.specs.Heads.{head_of, report_head}
 use Rattle.pp_report.specs.Patterns.{report_finders}
-use Rattle.pp_report.specs.Prepared.{showing}
 use Rattle.pp_report.specs.Reports.{finish_on, text_by}
 use Rattle.pp_report.specs.SavedText.{IsProtoOf, OnText}
 use Rattle.pp_report.proofs.finishing.finish_counts.Goals as goal

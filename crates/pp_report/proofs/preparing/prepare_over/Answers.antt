@@ -1,4 +1,5 @@
 use Rattle.std.proofs.Common.{sym, ◌∙◌, subst}
+use Rattle.std.specs.Prelude.{Err}
 use Rattle.std.proofs.lemmas.Result.{err_from_is_err_and, IfOk-at_ok}
 use Rattle.pp_desk.proofs.Going.{wants}
 use Rattle.pp_model.specs.declared.loaded.Loaded.{Loaded}
@@ -27,29 +28,28 @@ prepare_showing-requires-clause-column g c = λ _ _.
     (basis_types c.args.l.now c.args.report.now c.args.config.now) c.args.shows.column c.requires.column)
 
 -- it was stopped over the profile with the frames
-pub returns-in_err-prepared-clause-went : goal.returns-in_err-prepared-clause-went
-returns-in_err-prepared-clause-went g c =
-    let p = err_from_is_err_and c.from_residual-in_err-prepared.result c.from_residual-in_err-prepared.ensures.1 in
-    rw (p.1, p.2) (over_went g.D.Desk.finds _ _ (c.basis-over.ensures ∙ c.in_ok-tagged.ensures.basis) c.args.report.now c.args.config.now
-    (showing c.args.shows) _ _ _ c.in_err-prepared.ensures.went)
-
--- it was prepared
-pub returns-in-Ok-clause-went : goal.returns-in-Ok-clause-went
-returns-in-Ok-clause-went g c =
-    over_prepared g.D.Desk.finds _ _ (c.basis-over.ensures ∙ c.in_ok-tagged.ensures.basis) c.args.report.now c.args.config.now
-    (showing c.args.shows) _ _ _ c.in-Ok.prepared c.made_of.result c.in_ok-tagged.tagged c.in-Ok.is c.made_of.ensures c.in_ok-prepared.ensures.went
-
-pub returns-in-Ok-clause-counted : goal.returns-in-Ok-clause-counted
-returns-in-Ok-clause-counted g c =
-    let basis = basis_of c.args.report.now c.args.l.now c.args.config.now in
-    subst (λ (w : Prepared). IsCountedOver g.D.Desk.finds c.args.l.now basis c.args.report.now c.args.config.now c.args.shows w) (sym c.made_of.ensures)
-    (counted_over g.D.Desk.finds c.args.l.now basis c.args.report.now c.args.config.now c.args.shows c.in-Ok.prepared c.in_ok-tagged.tagged
-    c.in_ok-tagged.ensures.basis
-    (subst (λ (q : Loaded). IsCounted g.D.Desk.finds q c.args.report.now c.args.config.now c.args.shows c.in-Ok.prepared)
-    (c.basis-over.ensures ∙ c.in_ok-tagged.ensures.basis) (IfOk-at_ok _ c.in-Ok.is c.in_ok-prepared.ensures.counted)))
-
--- it was refused
 pub returns-in-Err-clause-went : goal.returns-in-Err-clause-went
 returns-in-Err-clause-went g c =
+    over_went g.D.Desk.finds _ _ (c.basis-over.ensures ∙ c.in_ok-tagged.ensures.basis) c.args.report.now c.args.config.now
+    (showing c.args.shows) _ _ (Err c.in-Err.stop) c.in-Err.ensures.went
+
+-- it was prepared
+pub returns-in-Ok-Ok-clause-went : goal.returns-in-Ok-Ok-clause-went
+returns-in-Ok-Ok-clause-went g c =
+    over_prepared g.D.Desk.finds _ _ (c.basis-over.ensures ∙ c.in_ok-tagged.ensures.basis) c.args.report.now c.args.config.now
+    (showing c.args.shows) _ _ _ c.in-Ok-Ok.prepared c.made_of.result c.in_ok-tagged.tagged c.in-Ok-Ok.field-0-is c.made_of.ensures c.in-Ok-Ok.ensures.went
+
+pub returns-in-Ok-Ok-clause-counted : goal.returns-in-Ok-Ok-clause-counted
+returns-in-Ok-Ok-clause-counted g c =
+    let basis = basis_of c.args.report.now c.args.l.now c.args.config.now in
+    subst (λ (w : Prepared). IsCountedOver g.D.Desk.finds c.args.l.now basis c.args.report.now c.args.config.now c.args.shows w) (sym c.made_of.ensures)
+    (counted_over g.D.Desk.finds c.args.l.now basis c.args.report.now c.args.config.now c.args.shows c.in-Ok-Ok.prepared c.in_ok-tagged.tagged
+    c.in_ok-tagged.ensures.basis
+    (subst (λ (q : Loaded). IsCounted g.D.Desk.finds q c.args.report.now c.args.config.now c.args.shows c.in-Ok-Ok.prepared)
+    (c.basis-over.ensures ∙ c.in_ok-tagged.ensures.basis) (IfOk-at_ok _ c.in-Ok-Ok.field-0-is c.in-Ok-Ok.ensures.counted)))
+
+-- it was refused
+pub returns-in-Ok-Err-clause-went : goal.returns-in-Ok-Err-clause-went
+returns-in-Ok-Err-clause-went g c =
     over_refused g.D.Desk.finds _ _ (c.basis-over.ensures ∙ c.in_ok-tagged.ensures.basis) c.args.report.now c.args.config.now
-    (showing c.args.shows) _ _ _ c.in-Err.refusal c.in-Err.is c.in_ok-prepared.ensures.went
+    (showing c.args.shows) _ _ _ c.in-Ok-Err.refusal c.in-Ok-Err.field-0-is c.in-Ok-Err.ensures.went
