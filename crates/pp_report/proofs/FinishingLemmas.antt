@@ -26,7 +26,7 @@ use Rattle.pp_report.specs.declared.refusal.ReportRefusal.TheVariants.{NoMatch}
 use Rattle.pp_report.specs.Patterns.{report_finders}
 use Rattle.pp_report.specs.Prepared.{Showing, AreCounts, HasCounts}
 use Rattle.pp_report.specs.SavedText.{IsProtoOf}
-use Rattle.pp_report.specs.Reports.{of_found, finish_on, finish_by, text_by, made_of, answer_of}
+use Rattle.pp_report.specs.Reports.{of_found, finish_on, finish_by, text_by, answer_of_text, answer_of_outcome}
 use Rattle.pp_report.proofs.PreparingLemmas.{uncounted_comments}
 
 -- what was written into an empty text
@@ -96,27 +96,27 @@ module _ (finds : Finds) (l : Loaded) (report : Report) (config : Config) where
 
 -- the text of a saved profile
 module _ (w : World) (p : Profile) (f : Finders) (config : Config) (column : Option ℕ) (h : Facts) where
-  saved_gives : (text : Result (List ℕ) Memory) → IfOk text (IsProtoOf p f config) → Went w w (text_by p f config column h reports.Proto) (made_of text)
+  saved_gives : (text : Result (List ℕ) Memory) → IfOk text (IsProtoOf p f config) → Went w w (text_by p f config column h reports.Proto) (answer_of_text text)
   unfolding text_by
   saved_gives (Ok text) is =
       subst (λ t. Went {T = Result (List ℕ) ReportRefusal} w w (Give (Ok (encode (saved p f config)))) (Ok (Ok t))) (sym is.bytes) (gives w (Ok (encode (saved p f config))))
   saved_gives (Err e) is = wants w _
 
   pub finish_proto : (report : Report) (text : Result (List ℕ) Memory) (r : Result (Result (List ℕ) ReportRefusal) Stop) → report ≡ reports.Proto
-      → r ≡ made_of text → IfOk text (IsProtoOf p f config) → Went w w (text_by p f config column h report) r
+      → r ≡ answer_of_text text → IfOk text (IsProtoOf p f config) → Went w w (text_by p f config column h report) r
   finish_proto report text r proto made is =
       subst (λ x. Went w w (text_by p f config column h x) r) (sym proto) (subst (λ x. Went w w (text_by p f config column h reports.Proto) x) (sym made) (saved_gives text is))
 
 -- a report that reads no file gives what it comes to, whatever the outside
-pub made_gives : (w : World) (wanted : List ℕ) (text : Result (List ℕ) Memory) → IfOk text (λ t. t ≡ wanted)
-    → Went {T = Result (List ℕ) ReportRefusal} w w (Give (Ok wanted)) (made_of text)
-made_gives w wanted (Ok text) is = subst (λ t. Went {T = Result (List ℕ) ReportRefusal} w w (Give (Ok t)) (Ok (Ok text))) is (gives w (Ok text))
-made_gives w wanted (Err e) is = wants w _
+pub text_gives : (w : World) (wanted : List ℕ) (text : Result (List ℕ) Memory) → IfOk text (λ t. t ≡ wanted)
+    → Went {T = Result (List ℕ) ReportRefusal} w w (Give (Ok wanted)) (answer_of_text text)
+text_gives w wanted (Ok text) is = subst (λ t. Went {T = Result (List ℕ) ReportRefusal} w w (Give (Ok t)) (Ok (Ok text))) is (gives w (Ok text))
+text_gives w wanted (Err e) is = wants w _
 
-pub answer_gives : (w : World) (wanted : Result (List ℕ) ReportRefusal) (outcome : Result (Result (List ℕ) ReportRefusal) Memory) → IfOk outcome (λ o. o ≡ wanted)
-    → Went w w (Give wanted) (answer_of outcome)
-answer_gives w wanted (Ok outcome) is = subst (λ o. Went w w (Give o) (Ok outcome)) is (gives w outcome)
-answer_gives w wanted (Err e) is = wants w _
+pub outcome_gives : (w : World) (wanted : Result (List ℕ) ReportRefusal) (outcome : Result (Result (List ℕ) ReportRefusal) Memory) → IfOk outcome (λ o. o ≡ wanted)
+    → Went w w (Give wanted) (answer_of_outcome outcome)
+outcome_gives w wanted (Ok outcome) is = subst (λ o. Went w w (Give o) (Ok outcome)) is (gives w outcome)
+outcome_gives w wanted (Err e) is = wants w _
 
 -- what search needs for the texts of reports
-pub ruleset making = (made_gives, answer_gives)
+pub ruleset answering = (text_gives, outcome_gives)

@@ -85,14 +85,14 @@ text_by p f config column h reports.Table =
 text_by p f config column h reports.Compare = Give (compare_outcome p f config column h)
 
 -- the answer of a report that reads no file, or that memory was wanting
-abbrev pub answer_of : Result (Result (List ℕ) ReportRefusal) Memory → Result (Result (List ℕ) ReportRefusal) Stop
-answer_of (Ok outcome) = Ok outcome
-answer_of (Err e) = Err stops.Memory
+abbrev pub answer_of_outcome : Result (Result (List ℕ) ReportRefusal) Memory → Result (Result (List ℕ) ReportRefusal) Stop
+answer_of_outcome (Ok outcome) = Ok outcome
+answer_of_outcome (Err e) = Err stops.Memory
 
 -- the same of a report that is never refused
-abbrev pub made_of : Result (List ℕ) Memory → Result (Result (List ℕ) ReportRefusal) Stop
-made_of (Ok text) = Ok (Ok text)
-made_of (Err e) = Err stops.Memory
+abbrev pub answer_of_text : Result (List ℕ) Memory → Result (Result (List ℕ) ReportRefusal) Stop
+answer_of_text (Ok text) = Ok (Ok text)
+answer_of_text (Err e) = Err stops.Memory
 
 -- The text of a report of this column and unit, by what its patterns find.
 abbrev pub finish_by : Profile → Finders → Config → Showing → Report

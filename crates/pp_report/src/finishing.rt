@@ -7,7 +7,7 @@ ghost use Rattle.pp_units.specs.Head.{facts};
 ghost use Rattle.pp_count.specs.Seeing.{HoldsFilters};
 ghost use Rattle.pp_dump.specs.Saved.{AreKept};
 ghost use Rattle.pp_report.specs.Prepared.{showing, AreCounts, HasCounts, IsPrepared};
-ghost use Rattle.pp_report.specs.Reports.{finish, finish_on, text_by, list_text, made_of, answer_of};
+ghost use Rattle.pp_report.specs.Reports.{finish, finish_on, text_by, list_text, answer_of_text, answer_of_outcome};
 ghost use Rattle.pp_report.specs.SavedText.{OnText, IsProtoOf, IsProtoBy};
 ghost use Rattle.pp_report.specs.Tagged.{basis_of};
 
@@ -119,7 +119,7 @@ fn finish_counts<'x, R: Threads + Sync, D: Desk, G: Gate>(
 }
 
 // The text of a report with this head.
-#[tactic(auto, using(crate::proofs::FinishingLemmas::making), unfolding(crate::specs::Reports::text_by))]
+#[tactic(auto, using(crate::proofs::FinishingLemmas::answering), unfolding(crate::specs::Reports::text_by))]
 fn text_by<R: Threads + Sync, D: Desk, G: Gate>(
     with: &Resources<'_, R, G>,
     report: &Report,
@@ -137,24 +137,24 @@ fn text_by<R: Threads + Sync, D: Desk, G: Gate>(
 {
     let (alloc, survey) = (with.alloc, &subject.survey);
     match report {
-        Report::Top => made(top(alloc, subject)),
-        Report::Tree => made(tree_report(with, subject)),
-        Report::Peek(_) => answered(peek(with, subject)),
-        Report::Traces => made(traces(alloc, subject)),
-        Report::Tags => made(tags(alloc, subject)),
-        Report::Raw => made(raw(alloc, survey)),
-        Report::Comments => made(comments(alloc, survey.l)),
-        Report::Proto => made(proto(alloc, survey)),
+        Report::Top => answer_of_text(top(alloc, subject)),
+        Report::Tree => answer_of_text(tree_report(with, subject)),
+        Report::Peek(_) => answer_of_outcome(peek(with, subject)),
+        Report::Traces => answer_of_text(traces(alloc, subject)),
+        Report::Tags => answer_of_text(tags(alloc, subject)),
+        Report::Raw => answer_of_text(raw(alloc, survey)),
+        Report::Comments => answer_of_text(comments(alloc, survey.l)),
+        Report::Proto => answer_of_text(proto(alloc, survey)),
         Report::List(_) => list(alloc, subject, desk),
-        Report::Folded => made(folded(alloc, survey)),
-        Report::Table => made(table(alloc, survey)),
-        Report::Compare => answered(compare(with, subject)),
+        Report::Folded => answer_of_text(folded(alloc, survey)),
+        Report::Table => answer_of_text(table(alloc, survey)),
+        Report::Compare => answer_of_outcome(compare(with, subject)),
     }
 }
 
 // The text of a report that is never refused.
-fn made(text: Result<Text, Memory>) -> Result<Result<Text, ReportRefusal>, Stop>
-    ensures { result ≡ made_of text }
+fn answer_of_text(text: Result<Text, Memory>) -> Result<Result<Text, ReportRefusal>, Stop>
+    ensures { result ≡ answer_of_text text }
 {
     match text {
         Ok(text) => Ok(Ok(text)),
@@ -163,10 +163,10 @@ fn made(text: Result<Text, Memory>) -> Result<Result<Text, ReportRefusal>, Stop>
 }
 
 // What a report comes to that reads no file.
-fn answered(
+fn answer_of_outcome(
     outcome: Result<Result<Text, ReportRefusal>, Memory>,
 ) -> Result<Result<Text, ReportRefusal>, Stop>
-    ensures { result ≡ answer_of outcome }
+    ensures { result ≡ answer_of_outcome outcome }
 {
     match outcome {
         Ok(outcome) => Ok(outcome),
