@@ -35,8 +35,8 @@ struct Invocation<'a, R, G> {
 /// input, both outputs, a matcher of patterns and a gate. A report's text is whole before
 /// its first byte goes out, and the line of an ending is written last.
 ///
-/// The profile that was loaded is left in `profile`, and `None` where none was. To give up
-/// a large one takes longer than to end the process.
+/// The profile that was loaded is left in `profile`, `None` where loading refused it, and what
+/// stood there where nothing was loaded. To give up a large one takes longer than to end the process.
 pub fn run<R: Threads + Sync, F: Files, I: Source, O: Sink, E: Sink, M: Matcher, G: Gate>(
     rt: &R,
     alloc: Global,
