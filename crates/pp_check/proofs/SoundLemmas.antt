@@ -1,6 +1,6 @@
 -- Samples that lanes ask in pieces, and what is left to ask where all are sound.
-use Rattle.std.proofs.Common.{◌≡◌, Bool, true, ◌&&◌, List, [], ◌∷◌, ◌++◌, Result, Ok, Err, refl, sym, ap, ◌∙◌}
-use Rattle.std.specs.Prelude.{Option, Some, None, IfOk, IsTrue}
+use Rattle.std.proofs.Common.{◌≡◌, true, ◌&&◌, List, [], ◌∷◌, ◌++◌, map, refl, sym, ap, ◌∙◌}
+use Rattle.std.specs.Prelude.{Option, Some, None}
 use Rattle.std.specs.List.{list_all}
 use Rattle.std.proofs.lemmas.List.Folds.{list_all-append}
 use Rattle.pp_model.specs.declared.profile.Sample.{Sample}
@@ -12,18 +12,33 @@ use Rattle.pp_check.specs.declared.fault.TableFault.{TableFault}
 use Rattle.pp_check.specs.Finds.{rule_fault, first_fault_of}
 use Rattle.pp_check.specs.FirstFault.{location_faults, reference_faults}
 use Rattle.pp_check.specs.Whole.{is_whole}
-use Rattle.pp_check.specs.Sound.{is_sound, HasSoundSamples}
+use Rattle.pp_check.specs.declared.asking.Asked.{Asked}
+use Rattle.pp_check.specs.Sound.{is_sound, HasSoundSamples, IsAsked, JoinsAsked}
+use Rattle.pp_share.specs.Numbers.{AreOwnNumbers}
+use Rattle.pp_share.specs.SampleKeys.{sample_number}
+use Rattle.pp_share.proofs.NumberLemmas.{all_numbers}
 use Rattle.pp_check.proofs.Order.{decided_after}
 use Rattle.pp_check.proofs.WholeLemmas.{none_fails, both, whole_samples}
 
--- the flags of the parts say it of all samples
-pub flags_are : (test : Sample → Bool) (samples : List Sample) (flags : List Bool) → IsCutInto (λ part flag. flag ≡ list_all test part) samples flags
-    → list_all (λ flag. flag) flags ≡ list_all test samples
-flags_are test samples [] none = sym (ap (list_all test) none)
-flags_are test samples (flag ∷ flags) parts =
-    let (front, rest, cut, own, others) = parts in
-    (λ j. own j && flags_are test rest flags others j)
-    ∙ sym (list_all-append test front rest) ∙ sym (ap (list_all test) cut)
+-- what is told of the parts is told of all samples
+pub parts_tell : (p : Profile) (samples : List Sample) (parts : List Asked) (all : Asked) → IsCutInto (IsAsked p) samples parts → JoinsAsked parts all → IsAsked p samples all
+parts_tell p samples parts all are is = record {
+  sound = is.sound ∙ flags samples parts are;
+  numbers = all_numbers sample_number samples (map (λ (part : Asked). part.numbers) parts) all.numbers (numbered samples parts are) is.numbers;
+}
+  where
+    flags : (samples : List Sample) (parts : List Asked) → IsCutInto (IsAsked p) samples parts → list_all (λ (part : Asked). part.sound) parts ≡ list_all (is_sound p) samples
+    flags samples [] none = sym (ap (list_all (is_sound p)) none)
+    flags samples (part ∷ parts) are =
+        let (front, rest, cut, own, others) = are in
+        (λ j. own.sound j && flags rest parts others j)
+        ∙ sym (list_all-append (is_sound p) front rest) ∙ sym (ap (list_all (is_sound p)) cut)
+
+    numbered : (samples : List Sample) (parts : List Asked) → IsCutInto (IsAsked p) samples parts → IsCutInto AreOwnNumbers samples (map (λ (part : Asked). part.numbers) parts)
+    numbered samples [] none = none
+    numbered samples (part ∷ parts) are =
+        let (front, rest, cut, own, others) = are in
+        (front, rest, cut, own.numbers, numbered rest parts others)
 
 -- where all samples and the locations' ids are sound
 pub are_sound : (p : Profile) → first_fault_of (location_faults p) ≡ None → list_all (is_sound p) p.sample ≡ true → HasSoundSamples p
@@ -31,12 +46,6 @@ are_sound p ids all =
     let parts = both (λ s. list_all (label_has_texts p) s.label) (is_whole p) p.sample all in
     let whole = whole_samples p parts.1 in
     record { texts = none_fails (λ s. list_all (label_has_texts p) s.label) p.sample parts.0; ids = ids; references = whole.0; values = whole.1 }
-
--- samples that were asked, with ids that are sound
-pub asked : {E : Type 0} (p : Profile) (r : Result Bool E) → first_fault_of (location_faults p) ≡ None → IfOk r (λ sound. sound ≡ list_all (is_sound p) p.sample)
-    → IfOk r (λ sound. IsTrue sound → HasSoundSamples p)
-asked p (Ok sound) ids is = λ holds. are_sound p ids (sym is ∙ holds)
-asked p (Err e) ids is = tt
 
 -- a fault with none behind it
 alone : (o : Option TableFault) → first_fault_of (o ∷ None ∷ None ∷ []) ≡ o

@@ -1,21 +1,25 @@
 //! Asking the samples of a profile as a job in pieces.
-ghost use Rattle.std.specs.Prelude.{◌≡◌, ◌+◌, ◌*◌, ◌<◌, ◌≤◌, length};
+ghost use Rattle.std.specs.Prelude.{◌≡◌, ◌+◌, ◌*◌, ◌<◌, ◌≤◌, length, IfOk};
 ghost use Rattle.std.specs.List.{list_all};
 ghost use Rattle.pp_model.specs.Rules.{location_ids};
 ghost use Rattle.pp_steal.specs.declared.piece.TheConstants.{PIECE};
 ghost use Rattle.pp_check.specs.Known.{Knows};
-ghost use Rattle.pp_check.specs.Sound.{is_sound};
+ghost use Rattle.pp_check.specs.Sound.{is_sound, IsAsked};
 
 use crate::known::Known;
 use crate::references::is_whole;
 use crate::texts::sample_has_texts;
 use pp_base::Memory;
 use pp_model::{Profile, Sample};
+use pp_share::{Numbers, own_number};
 use pp_steal::{Job, piece_of};
+use std::alloc::Global;
 
 /// The samples of a profile, to be asked on any thread.
 #[derive(Drop)]
 pub(crate) struct Asking<'a> {
+    /// Where the numbers of samples are allocated.
+    pub(crate) alloc: Global,
     /// The profile.
     pub(crate) p: &'a Profile,
     /// The ids of its locations.
@@ -27,23 +31,48 @@ pub(crate) struct Asking<'a> {
     pub ghost whole: { length p.now.sample ≤ PIECE * pieces },
 }
 
-impl Job for Asking<'_> {
-    type Out = bool;
+/// What one walk tells of samples.
+#[derive(Debug, Drop)]
+pub(crate) struct Asked {
+    /// Whether all are sound.
+    pub(crate) sound: bool,
+    /// Their numbers by the ids that they have.
+    pub(crate) numbers: Numbers,
+}
 
-    ghost use Rattle.std.specs.Prelude.{◌≡◌};
-    ghost use Rattle.std.specs.List.{list_all};
+impl Job for Asking<'_> {
+    type Out = Asked;
+
     ghost use Rattle.pp_steal.specs.Pieces.{piece_of};
-    ghost use Rattle.pp_check.specs.Sound.{is_sound};
+    ghost use Rattle.pp_check.specs.Sound.{IsAsked};
 
     ghost pieces = { λ job. job.pieces };
 
-    ghost right = { λ job piece sound. sound
-        ≡ list_all (is_sound job.p.now) (piece_of job.p.now.sample piece) };
+    ghost right = { λ job piece asked. IsAsked job.p.now (piece_of job.p.now.sample piece) asked };
 
-    fn run(&self, piece: u32) -> Result<bool, Memory> {
+    fn run(&self, piece: u32) -> Result<Asked, Memory> {
         let samples = piece_of(self.p.sample.as_slice(), piece);
-        Ok(are_sound(self.p, self.locations, samples))
+        ask(self.alloc, self.p, self.locations, samples)
     }
+}
+
+/// Asks the samples and numbers them, one after another, so that each is gone over once.
+pub(crate) fn ask(
+    alloc: Global,
+    p: &Profile,
+    locations: &Known,
+    samples: &[Sample],
+) -> Result<Asked, Memory>
+    requires { Knows locations.now (location_ids p.now) }
+    ensures { IfOk result (IsAsked p.now samples.now) }
+{
+    let mut sound = true;
+    let mut numbers = Numbers::with_room(alloc, samples.len())?;
+    for sample in samples {
+        sound &= is_sound(p, locations, sample);
+        numbers.add(own_number(sample), sample)?;
+    }
+    Ok(Asked { sound, numbers })
 }
 
 /// Whether all of these samples are sound.

@@ -1,5 +1,5 @@
 -- The stages of merging the profile p and the profiles ps behind it.
-use Rattle.std.specs.Prelude.{◌≡◌, ◌<◌, ◌^◌, ℤ, List, ◌∷◌, length, Some, None, Result, Ok, Err, ⊤}
+use Rattle.std.specs.Prelude.{◌≡◌, ◌<◌, ◌^◌, ℤ, List, [], ◌∷◌, length, Some, None, Result, Ok, Err}
 use Rattle.std.specs.List.{AllByRecursion}
 use Rattle.pp_model.specs.declared.profile.Profile.{Profile}
 use Rattle.pp_model.specs.Rules.{NoRuleFails}
@@ -7,7 +7,7 @@ use Rattle.pp_merge.specs.declared.refusal.MergeRefusal.{MergeRefusal}
 use Rattle.pp_merge.specs.declared.refusal.MergeRefusal.TheVariants.{Incompatible, TotalTooLarge, Memory}
 use Rattle.pp_share.specs.Header.{header_of}
 use Rattle.pp_merge.specs.Merge.{disagreeing, too_large}
-use Rattle.pp_merge.specs.Joined.{joined}
+use Rattle.pp_merge.specs.Joined.{joined, IsInPlace}
 
 -- the profiles agree, no column is too large, and this is how long they last together
 abbrev pub CanMerge : Profile → List Profile → ℤ → Type 0
@@ -25,11 +25,6 @@ Admits p ps (Err (TotalTooLarge column)) =
     (disagreeing p 1 ps ≡ None) × (too_large (length p.sample_type) (p ∷ ps) ≡ Some column)
 Admits p ps (Err Memory) = ⊥
 
--- The same where that may want memory.
-abbrev pub AdmitsOrStops : Profile → List Profile → Result ℤ MergeRefusal → Type 0
-AdmitsOrStops p ps (Err Memory) = ⊤
-AdmitsOrStops p ps result = Admits p ps result
-
 -- The profiles one behind the other, with the duration of all.
 abbrev pub whole_of : Profile → List Profile → Profile
 whole_of p ps = record (joined p ps) { duration_nanos = (header_of p ps).duration_nanos }
@@ -40,3 +35,7 @@ abbrev pub IsWhole : Profile → List Profile → Profile → Type 0
 IsWhole p ps whole =
     (whole ≡ whole_of p ps)
     × ((length whole.text < 2 ^ 62) × AllByRecursion NoRuleFails (p ∷ ps))
+
+-- the profile p has none behind it, and its references are by place as they stand
+abbrev pub StandsAlone : Profile → List Profile → Type 0
+StandsAlone p ps = (ps ≡ []) × IsInPlace p

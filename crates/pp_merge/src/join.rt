@@ -50,8 +50,8 @@ fn first_joined(alloc: Global, p: Profile) -> Result<Profile, Memory>
     Ok(moved)
 }
 
-// Whether all references are by place as they stand.
-fn is_in_place(alloc: Global, p: &Profile) -> Result<bool, Memory>
+/// Whether all references are by place as they stand.
+pub(crate) fn is_in_place(alloc: Global, p: &Profile) -> Result<bool, Memory>
     ensures { IfOk result (λ is. OnTrue is (IsInPlace p.now)) }
 {
     let mappings = mapping_ids(alloc, p)?;

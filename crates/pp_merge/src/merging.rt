@@ -3,19 +3,21 @@ ghost use Rattle.std.specs.Prelude.{◌≡◌, ◌+◌, ◌-◌, ◌<◌, ◌≤
 ghost use Rattle.std.specs.Bool.{OnTrue};
 ghost use Rattle.std.specs.List.{AllByRecursion, sum_by};
 ghost use Rattle.pp_merge.specs.Merge.{Merges, merged, too_large};
-ghost use Rattle.pp_merge.specs.Merging.{Admits, AdmitsOrStops, CanMerge, IsWhole};
+ghost use Rattle.pp_merge.specs.Merging.{Admits, CanMerge, IsWhole, StandsAlone};
 ghost use Rattle.pp_merge.specs.Together.{sum_of_all};
+ghost use Rattle.pp_share.specs.Numbers.{AreKnown, AreOwnNumbers};
 
 use crate::compatible::first_disagreeing;
 use crate::durations::total_duration;
-use crate::join::{join, set};
+use crate::join::{is_in_place, join, set};
 use crate::refusal::MergeRefusal;
-use crate::together::are_small_together;
+use crate::together::without_numbers;
 use crate::totals::too_large_column;
 use pp_base::{Gate, List, Memory};
 use pp_model::{Compact, Profile, Valid};
-use pp_share::{share, share_on};
+use pp_share::{Numbered, Numbers, share, share_on};
 use std::alloc::Global;
+use std::mem;
 use std::thread::Threads;
 
 /// The profiles as one. Functions, mappings, locations, samples and comments that are equal become one, in the order of
@@ -37,12 +39,13 @@ pub fn merge(alloc: Global, list: List<Valid>) -> Result<Compact, MergeRefusal>
     Ok(merged)
 }
 
-/// The same profile or refusal. The samples are numbered in pieces of 1,024 on so many lanes, from 1 to 64, and the answer
-/// does not tell how many there were.
+/// The same profile or refusal, of profiles whose samples were numbered. Where the numbers of the samples do not serve, as
+/// those of several sources, they are made anew in pieces of 1,024 on so many lanes, from 1 to 64. The answer does not
+/// tell how many there were.
 pub fn merge_on<R: Threads + Sync, G: Gate>(
     rt: &R,
     alloc: Global,
-    list: List<Valid>,
+    list: List<Numbered>,
     workers: u32,
     gate: &G,
 ) -> Result<Compact, MergeRefusal>
@@ -54,40 +57,24 @@ pub fn merge_on<R: Threads + Sync, G: Gate>(
     requires most { workers ≤ 64 }
     ensures { Merges list result }
 {
-    let (first, others) = split(list);
-    let duration = admit_on(rt, alloc, &first, others.as_slice(), workers, gate)?;
-    let whole = join_whole(alloc, first, others, duration)?;
-    let merged = share_on(rt, alloc, whole, workers, gate)?;
+    let (numbered, behind) = split(list);
+    let (first, numbers) = numbered.into_parts();
+    let (others, together) = without_numbers(alloc, behind, numbers.together)?;
+    let are_small = together <= i64::MAX as u64;
+    let duration = admit(&first, others.as_slice(), are_small)?;
+    let (whole, known) = join_numbered(alloc, first, others, duration, numbers)?;
+    let merged = share_on(rt, alloc, whole, known, workers, gate)?;
     Ok(Compact::claim(Valid::claim(merged)))
 }
 
 // The first of the profiles, and those behind it.
-fn split(list: List<Valid>) -> (Valid, Vec<Valid>)
+fn split<T: Drop>(list: List<T>) -> (T, Vec<T>)
     requires { 0 < length list }
     ensures { list ≡ result.0 ∷ result.1.items }
 {
     let mut others = list.into_vec();
     let first = others.remove(0);
     (first, others)
-}
-
-// The same as `admit` answers. Most profiles' values are small together, which workers find out.
-fn admit_on<R: Threads + Sync, G: Gate>(
-    rt: &R,
-    alloc: Global,
-    first: &Valid,
-    others: &[Valid],
-    workers: u32,
-    gate: &G,
-) -> Result<i64, MergeRefusal>
-    requires few { length others.now + 1 < 2 ^ 32 }
-    requires columns { length first.now.sample_type < 2 ^ 32 }
-    requires some { 1 ≤ workers }
-    requires most { workers ≤ 64 }
-    ensures { AdmitsOrStops first.now others.now result }
-{
-    let are_small = are_small_together(rt, alloc, first, others, workers, gate)?;
-    admit(first, others, are_small)
 }
 
 // The duration of profiles that can be merged. No memory is needed to find out whether they can. Where all values are
@@ -148,6 +135,40 @@ fn join_whole(
 {
     let joined = join(alloc, first, others)?;
     Ok(with_duration(joined, duration))
+}
+
+// The same, and the numbers of its samples where they are known: a profile that stands alone, with its references by
+// place, keeps those of the first one.
+fn join_numbered(
+    alloc: Global,
+    first: Valid,
+    others: Vec<Valid>,
+    duration: i64,
+    numbers: Numbers,
+) -> Result<(Profile, Option<Numbers>), Memory>
+    requires can { CanMerge first others.items duration }
+    requires numbers { AreOwnNumbers first.sample numbers }
+    ensures whole { IfOk result (λ r. IsWhole first others.items r.0) }
+    ensures known { IfOk result (λ r. IfSome r.1 (AreKnown (length r.0.text) r.0.sample)) }
+{
+    let stays = stands_alone(alloc, &first, others.as_slice())?;
+    if stays {
+        let whole = with_duration(first.into_profile(), duration);
+        return Ok((whole, Some(numbers)));
+    }
+    mem::drop(numbers);
+    let whole = join_whole(alloc, first, others, duration)?;
+    Ok((whole, None))
+}
+
+// Whether the first profile stands alone, with its references by place.
+fn stands_alone(alloc: Global, first: &Valid, others: &[Valid]) -> Result<bool, Memory>
+    ensures { IfOk result (λ alone. OnTrue alone (StandsAlone first.now others.now)) }
+{
+    if !others.is_empty() {
+        return Ok(false);
+    }
+    is_in_place(alloc, first.get())
 }
 
 // The profile with this duration.

@@ -29,6 +29,7 @@ pub mod SampleKeyLemmas
 pub mod WovenLemmas
 pub mod Apart
 pub mod NumberLemmas
+pub mod KeptNumbers
 pub mod Deciding
 pub mod MergedMapping
 pub mod DistinctLemmas

@@ -1,34 +1,55 @@
 -- Numbers of samples that are asked in parts, and samples that get their new ids later.
-use Rattle.std.proofs.Common.{◌≡◌, ℕ, ◌==◌, Bool, true, false, true≢false, ◌&&◌, List, [], ◌∷◌, ◌++◌, length, map, filter, refl, sym, ap, subst, ◌∙◌, if◌then◌else◌}
+use Rattle.std.proofs.Common.{◌≡◌, ℕ, ◌+◌, ◌<◌, ◌==◌, Bool, true, false, true≢false, ◌&&◌, List, [], ◌∷◌, ◌++◌, length, map, filter, take, get_or, sum_by, nat_abs, refl, sym, ap, subst, ◌∙◌, if◌then◌else◌, arith}
 use Rattle.std.specs.List.{flat_map, list_all, AllByRecursion, IsDistinct}
-use Rattle.std.proofs.lemmas.List.{map-append, map-id}
-use Rattle.std.proofs.lemmas.List.Folds.{list_all-append}
+use Rattle.std.proofs.lemmas.List.{map-append, map-id, map_more, take_more}
+use Rattle.std.proofs.lemmas.List.Folds.{list_all-append, list_all_more}
+use Rattle.std.proofs.lemmas.List.Sums.{sum_by-cons, sum_by-append}
+use Rattle.pp_base.specs.Capped.{capped}
 use Rattle.std.proofs.lemmas.Simd.{map-map}
 use Rattle.pp_steal.specs.Pieces.{IsCutInto}
 use Rattle.pp_model.specs.declared.profile.Sample.{Sample}
 use Rattle.pp_share.specs.declared.numbers.Numbers.{Numbers}
-use Rattle.pp_share.specs.Numbers.{number_by, AreNumbers, JoinsNumbers}
+use Rattle.pp_share.specs.Numbers.{number_by, sum_together, AreNumbersBy, AddsNumber, JoinsNumbers}
 use Rattle.pp_share.specs.Renumbered.{NewIds, new_ids, renumbered_sample, stays}
 use Rattle.pp_share.specs.SampleKeys.{sample_stack, sample_number, has_values, summed_samples}
 use Rattle.pp_share.specs.SampleStacks.{stack_number}
 use Rattle.pp_share.proofs.Apart.{stacks_apart, counting_alone}
 use Rattle.pp_share.proofs.Lists.{all_mapped, filter_kept}
 
--- the numbers of the parts are those of all samples
-pub all_numbers : (by : NewIds) (samples : List Sample) (parts : List Numbers) (all : Numbers) → IsCutInto (AreNumbers by) samples parts → JoinsNumbers parts all → AreNumbers by samples all
-all_numbers by samples parts all are is = record {
-  numbers = is.numbers ∙ (joined samples parts are).0;
-  values = is.values ∙ (joined samples parts are).1;
+-- one sample more
+pub one_more : (number : Sample → ℕ) (samples : List Sample) (k : ℕ) (s : Sample) (old new : Numbers) → k < length samples → AreNumbersBy number (take k samples) old
+    → AddsNumber (number (get_or samples k s)) (get_or samples k s) old new → AreNumbersBy number (take (k + 1) samples) new
+one_more number samples k s old new within so_far adds = record {
+  numbers = adds.numbers ∙ ap (λ l. l ++ number (get_or samples k s) ∷ []) so_far.numbers ∙ sym (map_more number samples k s within);
+  values = adds.values ∙ ap (λ b. b && has_values (get_or samples k s)) so_far.values ∙ sym (list_all_more has_values samples k s within);
+  together =
+      let last : Sample = get_or samples k s in
+      let more : sum_together (take (k + 1) samples) ≡ sum_together (take k samples) + (sum_by nat_abs last.value + 0) =
+      ap sum_together (take_more samples k s within) ∙ sum_by-append (λ (s : Sample). sum_by nat_abs s.value) (take k samples) (last ∷ [])
+      ∙ ap (λ n. sum_together (take k samples) + n) (sum_by-cons (λ (s : Sample). sum_by nat_abs s.value) last []) in
+      omega (arith, adds.together, so_far.together, more);
 }
+
+-- the numbers of the parts are those of all samples
+pub all_numbers : (number : Sample → ℕ) (samples : List Sample) (parts : List Numbers) (all : Numbers) → IsCutInto (AreNumbersBy number) samples parts → JoinsNumbers parts all → AreNumbersBy number samples all
+all_numbers number samples parts all are is =
+    let whole = joined samples parts are in
+    record { numbers = is.numbers ∙ whole.0; values = is.values ∙ whole.1.0; together = is.together ∙ whole.1.1 }
   where
-    joined : (samples : List Sample) (parts : List Numbers) → IsCutInto (AreNumbers by) samples parts
-        → (flat_map (λ (part : Numbers). part.numbers.items) parts ≡ map (number_by by) samples) × (list_all (λ (part : Numbers). part.have_values) parts ≡ list_all has_values samples)
-    joined samples [] none = (sym (ap (map (number_by by)) none), sym (ap (list_all has_values) none))
+    joined : (samples : List Sample) (parts : List Numbers) → IsCutInto (AreNumbersBy number) samples parts
+        → (flat_map (λ (part : Numbers). part.numbers.items) parts ≡ map number samples)
+        × ((list_all (λ (part : Numbers). part.have_values) parts ≡ list_all has_values samples)
+        × (capped (sum_by (λ (part : Numbers). part.together) parts) ≡ capped (sum_together samples)))
+    joined samples [] none = (sym (ap (map number) none), (sym (ap (list_all has_values) none), ap (λ l. capped (sum_together l)) (sym none)))
     joined samples (part ∷ parts) are =
         let (front, rest, cut, own, others) = are in
-        let more = joined rest parts others in (
-          (λ j. own.numbers j ++ more.0 j) ∙ sym (map-append (number_by by) front rest) ∙ ap (map (number_by by)) (sym cut),
-          (λ j. own.values j && more.1 j) ∙ sym (list_all-append has_values front rest) ∙ ap (list_all has_values) (sym cut),
+        let more = joined rest parts others in
+        let both : sum_together samples ≡ _ = ap sum_together cut ∙ sum_by-append (λ (s : Sample). sum_by nat_abs s.value) front rest in (
+          (λ j. own.numbers j ++ more.0 j) ∙ sym (map-append number front rest) ∙ ap (map number) (sym cut),
+          (
+            (λ j. own.values j && more.1.0 j) ∙ sym (list_all-append has_values front rest) ∙ ap (list_all has_values) (sym cut),
+            omega (arith, sum_by-cons (λ (part : Numbers). part.together) part parts, own.together, more.1.1, both),
+          ),
         )
 
 -- all samples are kept where all have values

@@ -1,13 +1,15 @@
 //! The numbers of samples, and those that stand more than once.
-ghost use Rattle.std.specs.Prelude.{◌≡◌, ◌+◌, ◌*◌, ◌<◌, ◌≤◌, IfOk, length};
-ghost use Rattle.std.specs.List.{list_all};
+ghost use Rattle.std.specs.Prelude.{◌≡◌, ◌+◌, ◌*◌, ◌<◌, ◌≤◌, ℕ, [], nat_abs, IfOk, OnOk, length};
+ghost use Rattle.std.specs.List.{list_all, sum_by};
+ghost use Rattle.pp_base.specs.Capped.{capped};
 ghost use Rattle.pp_steal.specs.declared.piece.TheConstants.{PIECE};
+ghost use Rattle.pp_model.specs.declared.profile.Sample.{Sample as SampleValue};
 ghost use Rattle.pp_share.specs.Renumbered.{new_ids};
-ghost use Rattle.pp_share.specs.Numbers.{AreNumbers, JoinsNumbers};
+ghost use Rattle.pp_share.specs.Numbers.{AreNumbersBy, AreNumbers, AreOwnNumbers, AddsNumber, JoinsNumbers};
 ghost use Rattle.pp_share.specs.Repeats.{HoldsNext, HoldsRepeated};
 
 use crate::renumbering::Renumbering;
-use crate::sample_key::number_by;
+use crate::sample_key::{number_by, own_number};
 use crate::samples::has_values;
 use indexmap::IndexSet;
 use pp_base::{Gate, List, Memory};
@@ -16,16 +18,66 @@ use pp_steal::{Deal, Job, PIECE, piece_of, pieces_of, run_pieces};
 use std::alloc::Global;
 use std::thread::Threads;
 
-/// What samples are told apart by, and whether all are kept.
+/// What one walk over samples tells of them: what they are told apart by, whether all are kept, and whether their values
+/// can be added up.
 #[derive(Debug, Drop)]
 pub struct Numbers {
-    /// The number of each sample, as it is once it has its new ids.
+    /// For each sample, in order, the number of its locations and labels. Equal samples have the same number; others
+    /// may have it too.
     pub numbers: Vec<u64>,
     /// Whether each sample has a value that isn't 0.
     pub have_values: bool,
+    /// The absolute values of all columns of all samples, added up, or 2^64-1 where they are more.
+    pub together: u64,
 }
 
-/// The numbers of the samples once they have their new ids, and whether all have values. No sample is changed.
+impl Numbers {
+    /// Those of no samples, with room for so many.
+    pub fn with_room(alloc: Global, room: usize) -> Result<Numbers, Memory>
+        ensures { IfOk result (λ n. (number : SampleValue → ℕ) → AreNumbersBy number [] n) }
+    {
+        let numbers = Vec::with_capacity(alloc, room)?;
+        Ok(Numbers {
+            numbers,
+            have_values: true,
+            together: 0,
+        })
+    }
+
+    /// Adds one sample more, which has this number.
+    pub fn add(&mut self, number: u64, sample: &Sample) -> Result<(), Memory>
+        ensures { OnOk result (AddsNumber number sample.now self.old self.new) }
+    {
+        self.numbers.push(number)?;
+        self.have_values &= has_values(sample);
+        self.together = add_values(self.together, sample.value.as_slice());
+        Ok(())
+    }
+}
+
+// The total with the absolute values.
+fn add_values(total: u64, values: &[i64]) -> u64
+    ensures { result ≡ capped (total + sum_by nat_abs values.now) }
+{
+    let mut sum = total;
+    for value in values {
+        sum = sum.saturating_add(value.unsigned_abs());
+    }
+    sum
+}
+
+/// The numbers of the samples by the ids that they have.
+pub fn number_own(alloc: Global, samples: &[Sample]) -> Result<Numbers, Memory>
+    ensures { IfOk result (AreOwnNumbers samples.now) }
+{
+    let mut numbers = Numbers::with_room(alloc, samples.len())?;
+    for sample in samples {
+        numbers.add(own_number(sample), sample)?;
+    }
+    Ok(numbers)
+}
+
+/// The numbers of the samples once they have their new ids. No sample is changed.
 pub fn number_samples(
     alloc: Global,
     samples: &[Sample],
@@ -33,16 +85,11 @@ pub fn number_samples(
 ) -> Result<Numbers, Memory>
     ensures { IfOk result (AreNumbers (new_ids by.now) samples.now) }
 {
-    let mut numbers = Vec::with_capacity(alloc, samples.len())?;
-    let mut have_values = true;
+    let mut numbers = Numbers::with_room(alloc, samples.len())?;
     for sample in samples {
-        numbers.push(number_by(by, sample))?;
-        have_values &= has_values(sample);
+        numbers.add(number_by(by, sample), sample)?;
     }
-    Ok(Numbers {
-        numbers,
-        have_values,
-    })
+    Ok(numbers)
 }
 
 /// The same, in pieces of 1,024 on so many lanes, from 1 to 64. What it answers does not tell how many there were.
@@ -70,7 +117,7 @@ pub fn number_samples_on<R: Threads + Sync, G: Gate>(
     };
     let lanes = workers.min(job.pieces.max(1));
     let parts = run_pieces(rt, alloc, &job, job.pieces, lanes, Deal::Round, gate)?;
-    join(alloc, len, parts)
+    join_numbers(alloc, len, parts.as_slice())
 }
 
 // The samples as a job in pieces.
@@ -101,19 +148,32 @@ impl Job for Pieces<'_> {
     }
 }
 
-// The numbers of all parts as one list, of so many.
-fn join(alloc: Global, len: usize, parts: List<Numbers>) -> Result<Numbers, Memory>
-    ensures { IfOk result (JoinsNumbers parts) }
+/// The numbers of all parts as one list, of so many.
+pub fn join_numbers(alloc: Global, len: usize, parts: &[Numbers]) -> Result<Numbers, Memory>
+    ensures { IfOk result (JoinsNumbers parts.now) }
 {
-    let have_values = all_have_values(parts.as_slice());
+    let have_values = all_have_values(parts);
+    let together = sum_parts(parts);
     let mut numbers = Vec::with_capacity(alloc, len)?;
-    for part in parts.as_slice() {
+    for part in parts {
         numbers.extend_from_slice(&part.numbers)?;
     }
     Ok(Numbers {
         numbers,
         have_values,
+        together,
     })
+}
+
+// What the values of all parts add up to.
+fn sum_parts(parts: &[Numbers]) -> u64
+    ensures { result ≡ capped (sum_by (λ part. part.together) parts.now) }
+{
+    let mut sum = 0u64;
+    for part in parts {
+        sum = sum.saturating_add(part.together);
+    }
+    sum
 }
 
 // Whether all parts have values.

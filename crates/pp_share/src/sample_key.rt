@@ -2,6 +2,7 @@
 ghost use Rattle.std.specs.Prelude.{◌≡◌, fold};
 ghost use Rattle.pp_share.specs.Ids.{new_id};
 ghost use Rattle.pp_share.specs.Numbers.{number_by};
+ghost use Rattle.pp_share.specs.SampleKeys.{sample_number};
 ghost use Rattle.pp_share.specs.Renumbered.{new_ids, renumbered_label};
 ghost use Rattle.pp_share.specs.SampleStacks.{with_number, with_int, with_label, stack_number};
 
@@ -48,6 +49,13 @@ fn number_of(ids: &[u64], labels: &[Label]) -> u64
         number = with_label(number, label);
     }
     number
+}
+
+/// The number of the sample by the ids that it has.
+pub fn own_number(sample: &Sample) -> u64
+    ensures { result ≡ sample_number sample.now }
+{
+    number_of(sample.location_id.as_slice(), sample.label.as_slice())
 }
 
 /// The number of the sample as it is once it has its new ids. It stays as it is.

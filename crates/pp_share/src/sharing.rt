@@ -1,12 +1,12 @@
 //! A profile with each thing once, in the order of a walk over its samples.
-ghost use Rattle.std.specs.Prelude.{◌≡◌, ℕ, ◌-◌, ◌^◌, ◌<◌, ◌≤◌, nat_abs, length, map, All, IfOk, OnOk};
+ghost use Rattle.std.specs.Prelude.{◌≡◌, ℕ, ◌-◌, ◌^◌, ◌<◌, ◌≤◌, nat_abs, length, map, All, IfOk, IfSome, OnOk};
 ghost use Rattle.std.specs.List.{AllByRecursion, filter, list_all, sum_by};
 ghost use Rattle.pp_model.specs.Sizes.{value_in};
 ghost use Rattle.pp_share.specs.Placed.{gist, totalled};
 ghost use Rattle.pp_share.specs.Renumbered.{new_ids, renumbered_sample, stays};
 ghost use Rattle.pp_model.specs.FirstSight.{ids};
 ghost use Rattle.pp_share.specs.Ids.{GivesIds};
-ghost use Rattle.pp_share.specs.Numbers.{AreNumbers, with_sums};
+ghost use Rattle.pp_share.specs.Numbers.{AreKnown, AreNumbers, with_sums};
 ghost use Rattle.pp_share.specs.Repeats.{HoldsRepeated};
 ghost use Rattle.pp_share.specs.PlaceKeys.{same_place};
 ghost use Rattle.pp_share.specs.SampleKeys.{has_values};
@@ -18,6 +18,7 @@ ghost use Rattle.pp_share.specs.Share.{NamesLocations, IsJoined, with_comments_o
 use crate::first_sight::number_each;
 use crate::functions::share_functions;
 use crate::ids::Ids;
+use crate::kept::kept_numbers;
 use crate::numbers::{Numbers, number_samples, number_samples_on, repeated};
 use crate::places::share_places;
 use crate::renumbering::Renumbering;
@@ -46,12 +47,14 @@ pub fn share(alloc: Global, p: Profile) -> Result<Profile, Memory>
     shared
 }
 
-/// The same, with the samples numbered in pieces of 1,024 on so many lanes, from 1 to 64. The profile does not tell how
-/// many there were.
+/// The same. Where the numbers of the samples by the ids that they have are known, and none of the texts and locations
+/// that samples name gets another id, the samples are not gone over for their numbers. Else they are numbered in pieces
+/// of 1,024 on so many lanes, from 1 to 64. The profile does not tell how many there were.
 pub fn share_on<R: Threads + Sync, G: Gate>(
     rt: &R,
     alloc: Global,
     p: Profile,
+    known: Option<Numbers>,
     workers: u32,
     gate: &G,
 ) -> Result<Profile, Memory>
@@ -59,12 +62,17 @@ pub fn share_on<R: Threads + Sync, G: Gate>(
     requires wide { All (λ s. length s.value ≡ length p.sample_type) p.sample }
     requires fits { (column : ℕ) → column < length p.sample_type
         → sum_by (λ s. nat_abs (value_in s column)) p.sample ≤ 2 ^ 63 - 1 }
+    requires known { IfSome known (AreKnown (length p.text) p.sample) }
     requires some { 1 ≤ workers }
     requires most { workers ≤ 64 }
     ensures { IfOk result (λ r. r ≡ written (totalled (length p.sample_type) (gist p))) }
 {
+    let texts = p.text.len();
     let (profile, by) = share_tables(alloc, p)?;
-    let shared = share_samples_on(rt, alloc, profile, &by, workers, gate);
+    let shared = match kept_numbers(known, profile.sample.as_slice(), texts, &by) {
+        Some(numbers) => write_shared(alloc, profile, &by, numbers),
+        None => share_samples_on(rt, alloc, profile, &by, workers, gate),
+    };
     mem::drop(by);
     shared
 }

@@ -1,0 +1,12 @@
+use Rattle.std.proofs.Common.{◌∙◌, sym}
+use Rattle.pp_check.proofs.Keeps.{keeps_rules}
+use Rattle.pp_check.proofs.SoundLemmas.{are_sound}
+use Rattle.pp_check.proofs.lanes.check_known.Goals as goal
+
+-- samples that are sound were asked
+pub keep_rules-requires-clause-sound : goal.keep_rules-requires-clause-sound
+keep_rules-requires-clause-sound g c = λ holds. are_sound c.args.p c.requires.ids (sym c.in_ok-asked.ensures.sound ∙ holds)
+
+-- a profile without a fault may be claimed valid
+pub claim-requires : goal.claim-requires
+claim-requires g c = keeps_rules _ c.in_ok-keep_rules.ensures

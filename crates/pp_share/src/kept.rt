@@ -1,0 +1,48 @@
+//! Renumberings under which samples stay as they are.
+ghost use Rattle.std.specs.Prelude.{◌≡◌, ℤ, true, IfSome};
+ghost use Rattle.std.specs.Bool.{OnTrue};
+ghost use Rattle.pp_model.specs.Rules.{is_text_of};
+ghost use Rattle.pp_share.specs.Ids.{new_text};
+ghost use Rattle.pp_share.specs.Numbers.{AreKnown, AreNumbers, KeepsSamples};
+ghost use Rattle.pp_share.specs.Renumbered.{new_ids};
+
+use crate::ids::Ids;
+use crate::known::are_numbered;
+use crate::numbers::Numbers;
+use crate::renumbering::Renumbering;
+use pp_model::Sample;
+
+/// The numbers that are known of the samples, where they are also those of the samples with their new ids: where none
+/// of the entries that samples name got another id. Their labels name some of so many texts.
+pub fn kept_numbers(
+    known: Option<Numbers>,
+    samples: &[Sample],
+    texts: usize,
+    by: &Renumbering,
+) -> Option<Numbers>
+    requires { IfSome known (AreKnown texts samples.now) }
+    ensures { IfSome result (AreNumbers (new_ids by.now) samples.now) }
+{
+    if keeps_samples(by, texts) {
+        return known;
+    }
+    None
+}
+
+// Whether samples keep their ids, where their labels name some of so many texts.
+fn keeps_samples(by: &Renumbering, texts: usize) -> bool
+    ensures { OnTrue result (KeepsSamples texts (new_ids by.now)) }
+{
+    by.location.keeps_all() && keeps_texts(&by.text, texts)
+}
+
+// Whether the index of each of so many texts stays.
+fn keeps_texts(ids: &Ids, texts: usize) -> bool
+    ensures { OnTrue result ((i : ℤ) → is_text_of texts i ≡ true → new_text ids.now i ≡ i) }
+{
+    match ids {
+        Ids::Same => true,
+        Ids::By(ids) => texts == ids.as_slice().len() && are_numbered(ids.as_slice()),
+        _ => false,
+    }
+}
