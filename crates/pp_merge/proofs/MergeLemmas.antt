@@ -1,6 +1,6 @@
 -- What follows where profiles can be merged: they can be joined, and what is left of them is what merging gives.
 use Rattle.std.proofs.Common.{◌≡◌, ◌≢◌, ℕ, ◌+◌, ◌<◌, ◌≤◌, Bool, true, false, true≢false, cond, not, ◌||◌, ◌&&◌, nat_lt, ℤ, pos, nat_abs, List, [], ◌∷◌, map, filter, length, length-append, get_or, sum_by, Option, None, Some, refl, sym, ap, subst, ◌∙◌, inl, inr, if◌then◌else◌, arith}
-use Rattle.std.specs.Prelude.{◌==◌, position, Ok, Err}
+use Rattle.std.specs.Prelude.{◌==◌, position, Ok}
 use Rattle.std.specs.List.{All, AllByRecursion, flat_map, position_or_len, list_any, list_all, range_with_len}
 use Rattle.std.specs.Option.{option_map, option_or}
 use Rattle.std.specs.Cmp.Lexicographic.{pointwise}
@@ -22,8 +22,6 @@ use Rattle.pp_model.proofs.FirstText.{first_empty, no_fault, some_text}
 use Rattle.pp_model.proofs.RuleLemmas.{passes}
 use Rattle.pp_merge.specs.declared.refusal.What.{What}
 use Rattle.pp_merge.specs.declared.refusal.What.TheVariants.{SampleTypes, PeriodType}
-use Rattle.pp_merge.specs.declared.refusal.MergeRefusal.{MergeRefusal}
-use Rattle.pp_merge.specs.declared.refusal.MergeRefusal.TheVariants.{Incompatible, TotalTooLarge, Memory}
 use Rattle.pp_merge.specs.declared.join.Sizes.{Sizes}
 use Rattle.pp_share.specs.Behind.{behind_id}
 use Rattle.pp_share.specs.Ids.{place_id}
@@ -38,7 +36,7 @@ use Rattle.pp_share.specs.Placed.{gist, totalled}
 use Rattle.pp_share.specs.Renumbered.{renumbered_sample, renumbered_location}
 use Rattle.pp_share.specs.Share.{NamesLocations, IsJoined}
 use Rattle.pp_merge.specs.Joined.{behind_ids, moved_behind, sizes_of, no_sizes, chained, join_from, joined}
-use Rattle.pp_merge.specs.Merging.{CanMerge, Admits, IsWhole}
+use Rattle.pp_merge.specs.Merging.{CanMerge, IsWhole}
 use Rattle.pp_share.proofs.Prefix.{by_recursion, all_tt}
 use Rattle.pp_share.proofs.IdLemmas.{place_missed}
 use Rattle.pp_share.proofs.Lists.{all_mapped, all_both, all_filter}
@@ -319,15 +317,3 @@ whole_is p ps duration found r can is few valid done =
 pub merges_merged : (list : List Profile) (p : Profile) (ps : List Profile) (duration : ℤ) (r : Profile) → list ≡ p ∷ ps → CanMerge p ps duration → r ≡ merged p ps
     → Merges list (Ok r)
 merges_merged list p ps duration r same can is = subst (λ l. Merges l (Ok r)) (sym same) (can.0, (can.1.0, is))
-
-pub merges_refused : (list : List Profile) (p : Profile) (ps : List Profile) (e : MergeRefusal) → list ≡ p ∷ ps → Admits p ps (Err e) → Merges list (Err e)
-merges_refused list p ps e same is = subst (λ l. Merges l (Err e)) (sym same) (by e is)
-  where
-    by : (e : MergeRefusal) → Admits p ps (Err e) → Merges (p ∷ ps) (Err e)
-    by (Incompatible source what) is = is
-    by (TotalTooLarge column) is = is
-    by Memory is = absurd is
-
-pub merges_memory : (list : List Profile) → Merges list (Err Memory)
-merges_memory [] = tt
-merges_memory (p ∷ ps) = tt

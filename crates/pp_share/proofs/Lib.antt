@@ -27,6 +27,7 @@ pub mod SummedLemmas
 pub mod RepeatLemmas
 pub mod SampleKeyLemmas
 pub mod WovenLemmas
+pub mod SlotLemmas
 pub mod Apart
 pub mod NumberLemmas
 pub mod KeptNumbers

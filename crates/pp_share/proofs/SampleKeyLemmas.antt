@@ -1,5 +1,5 @@
 -- The sums of samples per key, where a loop takes one sample after another.
-use Rattle.std.proofs.Common.{◌≡◌, ℕ, ◌+◌, ◌<◌, ◌≤◌, Bool, true, false, ℤ, pos, nat_abs, List, [], ◌∷◌, ◌++◌, Some, length, map, filter, get_or, take, sum_by, refl, sym, ap, subst, ◌∙◌, if◌then◌else◌, arith}
+use Rattle.std.proofs.Common.{◌≡◌, ℕ, ◌+◌, ◌<◌, ◌≤◌, Bool, true, false, ℤ, pos, nat_abs, List, [], ◌∷◌, ◌++◌, Some, length, map, get_or, take, sum_by, refl, sym, ap, subst, ◌∙◌, if◌then◌else◌, arith}
 use Rattle.std.specs.List.{All}
 use Rattle.std.specs.Map.{lookup}
 use Rattle.std.specs.Option.{unwrap_or}
@@ -9,9 +9,9 @@ use Rattle.std.proofs.lemmas.List.Elements.{All-map}
 use Rattle.std.proofs.lemmas.List.Sums.{sum_by-cons}
 use Rattle.indexmap.specs.IndexMap.{insert_entry}
 use Rattle.pp_model.specs.declared.profile.Sample.{Sample}
-use Rattle.pp_share.specs.Sums.{counts, summed, sum_at, sums_with, CanAdd}
+use Rattle.pp_share.specs.Sums.{summed, sum_at, sums_with, CanAdd}
 use Rattle.pp_share.specs.SampleStacks.{same_stack, stack_decides}
-use Rattle.pp_share.specs.SampleKeys.{sample_item, sample_stack, sample_of, has_values}
+use Rattle.pp_share.specs.SampleKeys.{sample_item, sample_stack}
 use Rattle.pp_share.specs.Woven.{StackRow}
 use Rattle.pp_share.proofs.Prefix.{map_same, IsNext, next_holds}
 use Rattle.pp_share.proofs.Grouping.{summed_push, can_add}
@@ -93,11 +93,3 @@ module _ (columns : ℕ) (samples seen : List Sample) (s : Sample) (next : IsNex
       ∙ sym (summed_push same_stack stack_laws columns (map sample_item seen) (sample_stack s) s.value
       (next_holds (map sample_item samples) (map sample_item seen) (sample_item s) next_item (λ item. length item.1 ≡ columns) wide_items))
       ∙ ap (summed same_stack columns) (sym (map-append sample_item seen (s ∷ [])))
-
--- a sum is a sample where it isn't 0 in each column
-pub kept_next : (item : StackRow) (items : List StackRow) → map sample_of (filter counts (item ∷ items)) ≡ filter has_values (sample_of item ∷ []) ++ map sample_of (filter counts items)
-kept_next item items = by (counts item)
-  where
-    by : (b : Bool) → map sample_of (if b then item ∷ filter counts items else filter counts items) ≡ (if b then sample_of item ∷ [] else []) ++ map sample_of (filter counts items)
-    by true = refl
-    by false = refl

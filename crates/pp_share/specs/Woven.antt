@@ -1,5 +1,5 @@
 -- Sums of samples of which some stand alone, in the order of first sight.
-use Rattle.std.specs.Prelude.{◌≡◌, true, Bool, ℕ, false, ℤ, List, [], ◌∷◌, Option, None, Some, ⊤, length, map, filter}
+use Rattle.std.specs.Prelude.{◌≡◌, ◌==◌, ◌+◌, ◌<◌, ◌≤◌, true, Bool, ℕ, false, ℤ, List, [], ◌∷◌, Option, None, Some, ⊤, length, map, filter, take, slice_set, if◌then◌else◌}
 use Rattle.std.specs.List.{AllByRecursion}
 use Rattle.std.specs.Option.{is_none}
 use Rattle.pp_model.specs.declared.profile.Label.{Label}
@@ -44,3 +44,35 @@ pub record IsWoven (repeated : List ℕ) (all_have : Bool) (order : List (Option
   pub places : length (filter is_none order) ≡ length sums
   pub alone : AllByRecursion (StandsAlone repeated) order
   pub values : all_have ≡ true → AllByRecursion CountsAlone order
+
+-- nothing, where a sample was
+abbrev pub no_sample : Sample
+no_sample = record { location_id = []; value = []; label = [] }
+
+-- The samples from place i on, with none where a sum is to stand: at these places.
+abbrev pub slots : ℕ → List ℕ → List Sample → List (Option Sample)
+slots i places [] = []
+slots i [] (s ∷ samples) = Some s ∷ slots (i + 1) [] samples
+slots i (p ∷ places) (s ∷ samples) =
+    if p == i then None ∷ slots (i + 1) places samples else Some s ∷ slots (i + 1) (p ∷ places) samples
+
+-- the samples that were kept so far, which stand in front of all
+abbrev pub order_at : List ℕ → ℕ → List Sample → List (Option Sample)
+order_at places kept samples = slots 0 places (take kept samples)
+
+-- Sums at places among the samples that were kept so far.
+pub record IsSummed (repeated : List ℕ) (all_have : Bool) (places : List ℕ) (kept : ℕ) (samples : List Sample) (sums : List (SampleKey × List ℤ)) : Type 0 where
+  pub woven : IsWoven repeated all_have (order_at places kept samples) sums
+  pub many : length places ≡ length sums
+  pub within : AllByRecursion (λ p. p < kept) places
+  pub room : kept ≤ length samples
+
+-- the samples with these put at places, one after another
+abbrev pub put_at : List Sample → List ℕ → List Sample → List Sample
+put_at samples [] more = samples
+put_at samples (p ∷ places) [] = samples
+put_at samples (p ∷ places) (s ∷ more) = put_at (slice_set samples p s) places more
+
+-- the sample of a sum
+abbrev pub sum_sample : SampleKey × List ℤ → Sample
+sum_sample sum = sample_of (item_of_key sum)

@@ -1,15 +1,16 @@
 //! Samples that stand once, with their values added up.
-ghost use Rattle.std.specs.Prelude.{◌≡◌, ℕ, ◌+◌, ◌-◌, ◌^◌, ◌<◌, ◌≤◌, ◌++◌, [], ◌∷◌, false, true, pos, nat_abs, length, map, filter, vec_len, vec_capacity, All, IfOk, OnOk};
-ghost use Rattle.std.specs.List.{sum_by, list_all, list_any, AllByRecursion};
+ghost use Rattle.std.specs.Prelude.{◌≡◌, ℕ, List, ◌+◌, ◌-◌, ◌^◌, ◌<◌, ◌≤◌, false, true, pos, nat_abs, length, map, take, filter, slice_index_or, slice_set, All, IfOk, OnOk};
+ghost use Rattle.std.specs.List.{sum_by, list_all, list_any};
 ghost use Rattle.std.specs.Ordering.{int_eq};
+ghost use Rattle.pp_model.specs.declared.profile.Sample.{Sample as SampleValue};
 ghost use Rattle.pp_model.specs.Sizes.{value_in};
 ghost use Rattle.pp_share.specs.Sums.{sum_at, sums_with, CanAdd, keys_of};
 ghost use Rattle.pp_share.specs.SampleStacks.{same_stack};
-ghost use Rattle.pp_share.specs.SampleKeys.{sample_number, sample_stack, sample_of, key_lists, same_sample_key, item_of_key, has_values, summed_samples};
+ghost use Rattle.pp_share.specs.SampleKeys.{sample_number, sample_stack, key_lists, same_sample_key, has_values, summed_samples};
 ghost use Rattle.pp_share.specs.Numbers.{AreNumbers};
 ghost use Rattle.pp_share.specs.Renumbered.{new_ids, renumbered_sample};
 ghost use Rattle.pp_share.specs.Repeats.{is_listed, HoldsRepeated};
-ghost use Rattle.pp_share.specs.Woven.{woven, woven_samples, CountsAlone, IsWoven};
+ghost use Rattle.pp_share.specs.Woven.{woven, woven_samples, no_sample, order_at, IsSummed, put_at, sum_sample};
 
 use crate::change::Change;
 use crate::numbers::Numbers;
@@ -20,14 +21,20 @@ use indexmap::{IndexMap, IndexSet};
 use pp_base::{List, Memory};
 use pp_model::{Label, Sample};
 use std::alloc::Global;
+use std::mem;
 
-// Sums of samples, each at the place of the first of its kind.
+// Samples of which some stand alone, and sums of the others. A sample stays in the room of all, since they are many: what
+// is kept moves to the front.
 #[derive(Drop)]
 struct Sums {
     // Whether each sample has a value that isn't 0.
     have_values: bool,
-    // The samples whose number no other has, and `None` where the next of `sums` stands.
-    order: Vec<Option<Sample>>,
+    // In front those that are kept, and behind them those that were not looked at yet.
+    samples: List<Sample>,
+    // How many are kept: the samples whose number no other has, and one without values at the place of each sum.
+    kept: usize,
+    // For each sum its place among these: that of the first of its kind.
+    places: Vec<usize>,
     // The keys of the other samples without repeats, in the order of first sight, and for each the sum of its values in
     // each column.
     sums: IndexMap<SampleKey, List<i64>>,
@@ -53,12 +60,12 @@ pub fn sum_repeated(
         r ≡ summed_samples columns (map (renumbered_sample (new_ids by.now)) samples)) }
 {
     let sums = sum_each(alloc, columns, samples, by, numbers, repeated)?;
-    kept(alloc, sums)
+    Ok(kept(sums))
 }
 
 /// The samples of which some value isn't 0. Where all are such, they are not gone through. It takes no memory.
 pub fn counting(samples: List<Sample>, have_values: bool) -> List<Sample>
-    requires { have_values ≡ list_all has_values samples }
+    requires { have_values ≡ true → list_all has_values samples ≡ true }
     ensures { result ≡ filter has_values samples }
 {
     if have_values {
@@ -83,24 +90,48 @@ fn sum_each(
         → sum_by (λ s. nat_abs (value_in s column)) samples ≤ 2 ^ 63 - 1 }
     requires numbers { AreNumbers (new_ids by.now) samples numbers.now }
     requires repeated { HoldsRepeated numbers.now.numbers.items repeated.now.keys }
-    ensures sums { IfOk result (λ sums. woven_samples sums.order.items sums.sums.entries
+    ensures state { IfOk result (λ s.
+        IsSummed repeated.now.keys s.have_values s.places.items s.kept s.samples s.sums.entries) }
+    ensures sums { IfOk result (λ s. woven_samples (order_at s.places.items s.kept s.samples) s.sums.entries
         ≡ summed_samples columns (map (renumbered_sample (new_ids by.now)) samples)) }
-    ensures counts { IfOk result (λ sums.
-        sums.have_values ≡ true → AllByRecursion CountsAlone sums.order.items) }
 {
+    let count = samples.len();
     let mut sums = Sums {
         have_values: numbers.have_values,
-        order: Vec::with_capacity(alloc, samples.len())?,
+        samples,
+        kept: 0,
+        places: Vec::new(alloc),
         sums: IndexMap::new(alloc),
     };
     let told = numbers.numbers.as_slice();
-    let mut place = 0;
-    for mut sample in samples.into_vec() {
-        by.change(&mut sample);
+    for place in 0..count {
+        let sample = take_out(alloc, &mut sums.samples, place, by);
         take(alloc, &mut sums, repeated, told[place], sample)?;
-        place += 1;
     }
     Ok(sums)
+}
+
+// The sample at the place, with its new ids. Nothing is left there.
+fn take_out(alloc: Global, samples: &mut List<Sample>, place: usize, by: &Renumbering) -> Sample
+    requires { place < length samples.old }
+    ensures sample { (other : SampleValue) → result
+        ≡ renumbered_sample (new_ids by.now) (slice_index_or samples.old place other) }
+    ensures left { samples.new ≡ slice_set samples.old place no_sample }
+{
+    let mut sample = mem::replace(samples.item_mut(place), no_sample(alloc));
+    by.change(&mut sample);
+    sample
+}
+
+// Nothing, where a sample was. It takes no memory.
+fn no_sample(alloc: Global) -> Sample
+    ensures { result ≡ no_sample }
+{
+    Sample {
+        location_id: List::new(alloc),
+        value: List::new(alloc),
+        label: List::new(alloc),
+    }
 }
 
 // Adds the sample of this number to the sum of its kind. Where no other has its number, it stands alone.
@@ -113,29 +144,41 @@ fn take(
 ) -> Result<(), Memory>
     requires number { number ≡ sample_number sample }
     requires counts { sums.old.have_values ≡ true → has_values sample ≡ true }
+    requires room { sums.old.kept < length sums.old.samples }
     requires adds { let s = sums.old in
-        CanAdd (sum_at same_stack (woven s.order.items s.sums.entries) (sample_stack sample)) sample.value }
+        CanAdd (sum_at same_stack (woven (order_at s.places.items s.kept s.samples) s.sums.entries) (sample_stack sample)) sample.value }
     requires alone { let s = sums.old in is_listed repeated.now.keys number ≡ false
         → list_any (same_stack (sample_stack sample))
-        (keys_of same_stack (woven s.order.items s.sums.entries)) ≡ false }
+        (keys_of same_stack (woven (order_at s.places.items s.kept s.samples) s.sums.entries)) ≡ false }
     requires state { let s = sums.old in
-        IsWoven repeated.now.keys s.have_values s.order.items s.sums.entries }
+        IsSummed repeated.now.keys s.have_values s.places.items s.kept s.samples s.sums.entries }
     ensures have { OnOk result (sums.new.have_values ≡ sums.old.have_values) }
+    ensures few { OnOk result (sums.new.kept ≤ sums.old.kept + 1) }
+    ensures rest { OnOk result ((k : ℕ) → (other : SampleValue) → sums.old.kept < k
+        → slice_index_or sums.new.samples k other ≡ slice_index_or sums.old.samples k other) }
+    ensures long { OnOk result (length sums.new.samples ≡ length sums.old.samples) }
     ensures state { OnOk result (let s = sums.new in
-        IsWoven repeated.now.keys s.have_values s.order.items s.sums.entries) }
-    ensures sums { OnOk result (woven sums.new.order.items sums.new.sums.entries
-        ≡ sums_with same_stack (woven sums.old.order.items sums.old.sums.entries)
+        IsSummed repeated.now.keys s.have_values s.places.items s.kept s.samples s.sums.entries) }
+    ensures sums { OnOk result (let s = sums.old in let t = sums.new in
+        woven (order_at t.places.items t.kept t.samples) t.sums.entries
+        ≡ sums_with same_stack (woven (order_at s.places.items s.kept s.samples) s.sums.entries)
         (sample_stack sample) sample.value) }
 {
+    // A place is below the length, so the next one fits.
+    let _count = sums.samples.len();
     if !is_repeated(repeated, number) {
-        sums.order.push(Some(sample))?;
+        let place = sums.kept;
+        *sums.samples.item_mut(place) = sample;
+        sums.kept = place + 1;
         return Ok(());
     }
     let known = sums.sums.len();
     let key = key_of(sample.location_id, sample.label);
     add(alloc, &mut sums.sums, key, sample.value)?;
     if sums.sums.len() > known {
-        sums.order.push(None)?;
+        let place = sums.kept;
+        sums.places.push(place)?;
+        sums.kept = place + 1;
     }
     Ok(())
 }
@@ -172,51 +215,62 @@ fn add(
 }
 
 // The samples with these sums, but for those whose values are all 0.
-fn kept(alloc: Global, sums: Sums) -> Result<List<Sample>, Memory>
-    requires { sums.have_values ≡ true → AllByRecursion CountsAlone sums.order.items }
-    ensures { IfOk result (λ samples. samples ≡ woven_samples sums.order.items sums.sums.entries) }
+fn kept(sums: Sums) -> List<Sample>
+    requires { (repeated : List ℕ) × IsSummed repeated sums.have_values sums.places.items sums.kept sums.samples sums.sums.entries }
+    ensures { result ≡ woven_samples (order_at sums.places.items sums.kept sums.samples) sums.sums.entries }
 {
     let Sums {
         have_values,
-        order,
+        samples,
+        kept,
+        places,
         sums,
     } = sums;
-    let mut samples = Vec::with_capacity(alloc, order.len())?;
+    let mut samples = front(samples, kept);
+    let count = put_sums(&mut samples, places.as_slice(), sums);
+    counting(samples, have_values && count)
+}
+
+// So many of the samples, from the first one on.
+fn front(samples: List<Sample>, count: usize) -> List<Sample>
+    ensures { result ≡ take count samples }
+{
+    let mut front = samples.into_vec();
+    front.truncate(count);
+    List::from_vec(front)
+}
+
+// Puts the samples of the sums at their places, and tells whether each has a value that isn't 0.
+fn put_sums(
+    samples: &mut List<Sample>,
+    places: &[usize],
+    sums: IndexMap<SampleKey, List<i64>>,
+) -> bool
+    requires many { length places.now ≡ length sums.entries }
+    requires within { All (λ place. place < length samples.old) places.now }
+    ensures put { samples.new ≡ put_at samples.old places.now (map sum_sample sums.entries) }
+    ensures count { result ≡ list_all (λ s. has_values s) (map sum_sample sums.entries) }
+{
     let mut sums = sums.into_iter();
-    for slot in order {
-        match slot {
-            Some(sample) => push_counting(&mut samples, sample, have_values),
-            None => {
-                if let Some((key, value)) = sums.next() {
-                    push_counting(&mut samples, sample_of(key, value), false);
-                }
-            }
+    let mut count = true;
+    for place in places {
+        if let Some((key, value)) = sums.next() {
+            let sample = sample_of(key, value);
+            count &= has_values(&sample);
+            *samples.item_mut(*place) = sample;
         }
     }
-    Ok(List::from_vec(samples))
+    count
 }
 
 // The sample of the key with these values.
 fn sample_of(key: SampleKey, value: List<i64>) -> Sample
-    ensures { result ≡ sample_of (item_of_key (key, value)) }
+    ensures { result ≡ sum_sample (key, value) }
 {
     Sample {
         location_id: List::from_vec(key.locations),
         value,
         label: List::from_vec(key.labels),
-    }
-}
-
-// Adds the sample at the end where some value isn't 0. Where that is known, its values are not looked at.
-fn push_counting(samples: &mut Vec<Sample>, sample: Sample, is_known: bool)
-    requires room { vec_len samples.old < vec_capacity samples.old }
-    requires known { is_known ≡ true → has_values sample ≡ true }
-    ensures items { samples.new.items ≡ samples.old.items ++ filter has_values (sample ∷ []) }
-    ensures len { vec_len samples.new ≤ vec_len samples.old + 1 }
-    ensures capacity { vec_capacity samples.new ≡ vec_capacity samples.old }
-{
-    if is_known || has_values(&sample) {
-        samples.push_reserved(sample);
     }
 }
 

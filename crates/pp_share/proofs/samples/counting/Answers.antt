@@ -1,4 +1,4 @@
-use Rattle.std.proofs.Common.{◌∙◌, sym, ap, rules}
+use Rattle.std.proofs.Common.{◌∙◌, ap, rules}
 use Rattle.std.specs.List.{filter}
 use Rattle.std.proofs.lemmas.Fn.{filter_same}
 use Rattle.pp_share.specs.SampleKeys.{has_values}
@@ -7,7 +7,7 @@ use Rattle.pp_share.proofs.samples.counting.Goals as goal
 
 -- all samples
 pub returns-then-have_values : goal.returns-then-have_values
-returns-then-have_values c = all_kept c.args.samples (sym c.requires ∙ c.if-have_values.true)
+returns-then-have_values c = all_kept c.args.samples (c.requires c.if-have_values.true)
 
 -- the samples that the closure keeps
 pub returns : goal.returns

@@ -1,56 +1,44 @@
-use Rattle.std.specs.List.{AllByRecursion}
-use Rattle.std.proofs.Common.{◌++◌, [], ◌∷◌, filter, length, sym, ap, subst, ◌∙◌, arith}
-use Rattle.std.proofs.lemmas.List.{append_assoc}
-use Rattle.pp_share.specs.SampleKeys.{sample_item, item_of_key, has_values}
-use Rattle.pp_share.specs.Woven.{woven, woven_samples, CountsAlone}
-use Rattle.pp_share.proofs.SampleKeyLemmas.{kept_next}
+use Rattle.std.proofs.Common.{◌≡◌, true≢false, map, filter, refl, sym, ap, ◌∙◌}
+use Rattle.std.specs.List.{list_all}
+use Rattle.std.proofs.lemmas.List.{length-map}
+use Rattle.std.proofs.lemmas.Simd.{map-map}
+use Rattle.pp_share.specs.SampleKeys.{sample_of, has_values, item_of_key}
+use Rattle.pp_share.specs.Sums.{counts}
+use Rattle.pp_share.specs.Woven.{woven, order_at, put_at}
+use Rattle.pp_share.proofs.Lists.{filter_kept}
+use Rattle.pp_share.proofs.SlotLemmas.{put_is, all_counting}
 use Rattle.pp_share.proofs.samples.kept.Goals as goal
+use Rattle.pp_share.proofs.samples.kept.Goals.{then-have_values, else-have_values}
 
--- a sample that stands alone
-pub loop-slot-preserved-in-Some-slot : goal.loop-slot-preserved-in-Some-slot
-loop-slot-preserved-in-Some-slot c =
-    let before = c.loop-slot.samples.items in
-    let order = c.next.new.self.rest.items in
-    let sums = c.loop-slot.sums in
-    record {
-      left =
-          ap (λ l. l ++ woven_samples order sums) c.push_counting.ensures.items
-          ∙ append_assoc before (filter has_values (c.in-Some-slot.sample ∷ [])) (woven_samples order sums)
-          ∙ ap (λ l. before ++ l)
-          (sym (kept_next (sample_item c.in-Some-slot.sample) (woven order sums))
-          ∙ ap (λ l. woven_samples l sums) (sym (c.in-Some.ensures.steps.0 ∙ ap (λ slot. slot ∷ order) c.in-Some-slot.is)))
-          ∙ c.loop-slot.invariant.left;
-      room = omega (arith, c.loop-slot.invariant.room, c.push_counting.ensures.len, c.push_counting.ensures.capacity, ap length c.in-Some.ensures.steps.0);
-      values = λ have. (subst (AllByRecursion CountsAlone) c.in-Some.ensures.steps.0 (c.loop-slot.invariant.values have)).1;
-    }
+-- where all samples and all sums have values, all do
+pub counting-requires : goal.counting-requires
+counting-requires c = λ all.
+    let s = c.args.sums in
+    let state = c.requires.1 in
+    let sums = s.sums.entries in
+    let rows = map item_of_key sums in
+    let order = order_at s.places.items s.kept s.samples in
+    let put : c.put_sums-count.new.samples ≡ map sample_of (woven order sums) =
+    c.put_sums-count.ensures.put
+    ∙ (λ j. put_at (c.front-samples.ensures j) (c.as_slice.ensures.value j) (sym (map-map sample_of item_of_key sums) j))
+    ∙ put_is s.places.items s.kept s.samples rows (state.woven.places ∙ sym state.many) (length-map sums item_of_key ∙ sym state.many) in
+    elim c.if-have_values.branch [
+      | then-have_values w ↦
+          ap (list_all has_values) put
+          ∙ all_counting order rows (state.woven.values w.if-have_values.true)
+          (ap (list_all has_values) (map-map sample_of item_of_key sums) ∙ sym c.put_sums-count.ensures.count ∙ sym w.counting-is ∙ all)
+      | else-have_values w ↦ absurd (true≢false (sym all ∙ w.counting-is ∙ w.if-have_values.false))
+    ]
 
--- it has a value where all have
-pub push_counting-requires-clause-known : goal.push_counting-requires-clause-known
-push_counting-requires-clause-known c = λ have.
-    subst CountsAlone c.in-Some-slot.is ((subst (AllByRecursion CountsAlone) c.in-Some.ensures.steps.0 (c.loop-slot.invariant.values have)).0)
-
--- the next of the sums
-pub loop-slot-preserved-in-Some-next : goal.loop-slot-preserved-in-Some-next
-loop-slot-preserved-in-Some-next c =
-    let before = c.loop-slot.samples.items in
-    let order = c.next.new.self.rest.items in
-    let sums = c.next-in-None-slot.new.self in
-    let item = item_of_key (c.in-Some-next.key, c.in-Some-next.value) in
-    record {
-      left =
-          ap (λ l. l ++ woven_samples order sums) (c.push_counting-in-Some-next.ensures.items ∙ ap (λ s. before ++ filter has_values (s ∷ [])) c.sample_of.ensures)
-          ∙ append_assoc before _ (woven_samples order sums)
-          ∙ ap (λ l. before ++ l)
-          (sym (kept_next item (woven order sums))
-          ∙ (λ j. woven_samples (sym (c.in-Some.ensures.steps.0 ∙ ap (λ slot. slot ∷ order) c.in-None-slot.is) j) (sym c.in-Some-next.ensures.steps j)))
-          ∙ c.loop-slot.invariant.left;
-      room =
-          omega (
-            arith,
-            c.loop-slot.invariant.room,
-            c.push_counting-in-Some-next.ensures.len,
-            c.push_counting-in-Some-next.ensures.capacity,
-            ap length c.in-Some.ensures.steps.0,
-          );
-      values = λ have. (subst (AllByRecursion CountsAlone) c.in-Some.ensures.steps.0 (c.loop-slot.invariant.values have)).1;
-    }
+-- the sums stand where they were woven in
+pub returns : goal.returns
+returns c =
+    let s = c.args.sums in
+    let state = c.requires.1 in
+    let sums = s.sums.entries in
+    c.counting.ensures
+    ∙ ap (filter has_values)
+    (c.put_sums-count.ensures.put
+    ∙ (λ j. put_at (c.front-samples.ensures j) (c.as_slice.ensures.value j) (sym (map-map sample_of item_of_key sums) j))
+    ∙ put_is s.places.items s.kept s.samples (map item_of_key sums) (state.woven.places ∙ sym state.many) (length-map sums item_of_key ∙ sym state.many))
+    ∙ filter_kept counts has_values sample_of (λ item. refl) (woven (order_at s.places.items s.kept s.samples) sums)
