@@ -1,5 +1,5 @@
 //! The profile that a file's bytes are, of which workers read the samples.
-ghost use Rattle.std.specs.Prelude.{◌≡◌, ◌<◌, ◌≤◌, ◌^◌, List as Seq, Ok, true, length, map, IfOk, IfSome};
+ghost use Rattle.std.specs.Prelude.{◌≡◌, ◌<◌, ◌≤◌, ◌^◌, List as Seq, Ok, length, map, IfOk, IfSome};
 ghost use Rattle.pp_model.specs.Sizes.{HasAtMost};
 ghost use Rattle.pp_tables.specs.Joined.{PayloadAt};
 ghost use Rattle.pp_tables.specs.Read.{Answers, read, read_message};
@@ -17,11 +17,13 @@ use pp_base::{Gate, List, Memory};
 use pp_model::{Profile, Sample};
 use pp_steal::{Deal, pieces_of, run_pieces};
 use std::alloc::Global;
-use std::thread::Threads;
+use std::snapshot::Snapshot;
+use std::thread;
+use std::thread::{Promise, Threads};
 
 /// Reads the message `Profile` as `read_profile` does, with the samples in pieces of 1,024 on so many lanes, from 1 to
-/// 64. The answer does not tell how many there were. With one lane, above 4 GiB, and where the bytes have a fault, it is
-/// `read_profile`.
+/// 64, beside which a thread joins what was read. The answer does not tell how many there were. With one lane, above 4
+/// GiB, where the bytes have a fault, and where that thread can't be made, it is `read_profile`.
 pub fn read_profile_on<R: Threads + Sync, G: Gate>(
     rt: &R,
     alloc: Global,
@@ -39,13 +41,13 @@ pub fn read_profile_on<R: Threads + Sync, G: Gate>(
     }
     match message_on(rt, alloc, bytes, workers, gate) {
         Ok(Some(profile)) => Ok(profile),
-        // The first fault is found from the front.
+        // The first fault is found from the front. Without a thread for joining there may be none.
         Ok(None) => read_profile(alloc, bytes),
         Err(refusal) => Err(refusal),
     }
 }
 
-// The profile, or `None` where there is a fault.
+// The profile, or `None` where there is a fault, or no thread for joining.
 fn message_on<R: Threads + Sync, G: Gate>(
     rt: &R,
     alloc: Global,
@@ -94,10 +96,11 @@ fn finish<R: Threads + Sync, G: Gate>(
     }
 }
 
-// How many samples are read before they are joined, so that the parts of no more stand beside the joined list.
+// How many samples are read before they are joined, so that the parts of few stand beside the joined list.
 const WAVE: usize = 131_072;
 
-// The samples at these places, or `None` where one has a fault.
+// The samples at these places, or `None` where one has a fault, or a thread can't be made. A wave of them is joined while
+// the next is read.
 fn read_samples<R: Threads + Sync, G: Gate>(
     rt: &R,
     alloc: Global,
@@ -112,6 +115,8 @@ fn read_samples<R: Threads + Sync, G: Gate>(
     ensures { IfOk result (AreSamples (map (payload_of bytes.now) extents.now)) }
 {
     let mut samples = with_room(alloc, extents.len())?;
+    let mut parts = List::new(alloc);
+    let mut joined = 0;
     for wave in 0..extents.len().div_ceil(WAVE) {
         let start = wave * WAVE;
         let places = &extents[start..(start + WAVE).min(extents.len())];
@@ -121,12 +126,66 @@ fn read_samples<R: Threads + Sync, G: Gate>(
             extents: places,
             pieces: pieces_of(places.len()),
         };
-        let parts = read_wave(rt, &job, workers, gate)?;
-        if !join(&mut samples, parts)? {
+        let Some((more, read)) = read_next(rt, samples, parts, &job, workers, gate)? else {
             return Ok(None);
-        }
+        };
+        samples = more;
+        parts = read;
+        joined = start;
     }
-    Ok(Some(samples))
+    prove!(joined <= extents.len());
+    join(samples, parts)
+}
+
+// Joins the parts of a wave on a thread of its own, while the samples of the next are read: the samples with theirs behind
+// them, and the parts of the next wave. It is `None` where a part has a fault, or the thread can't be made.
+fn read_next<R: Threads + Sync, G: Gate>(
+    rt: &R,
+    samples: List<Sample>,
+    parts: List<Option<List<Sample>>>,
+    job: &Decoding<'_>,
+    workers: u32,
+    gate: &G,
+) -> Result<Option<(List<Sample>, List<Option<List<Sample>>>)>, Memory>
+    requires some { 1 ≤ workers }
+    requires most { workers ≤ 64 }
+    ensures joined { (payloads : Seq PayloadAt) → IsCutInto AreSamples payloads parts →
+        IfOk result (λ next. IfSome next (λ n. ReadsSamples payloads samples n.0)) }
+    ensures read { IfOk result (λ next. IfSome next (λ n.
+        IsCutInto AreSamples (map (payload_of job.now.bytes.now) job.now.extents.now) n.1)) }
+{
+    let promise = Joining {
+        samples: Snapshot::of(&samples),
+        parts: Snapshot::of(&parts),
+    };
+    let Ok(joining) = thread::spawn_with(rt, promise, move || join(samples, parts)) else {
+        return Ok(None);
+    };
+    let read = read_wave(rt, job, workers, gate);
+    let joined = joining.join(rt);
+    let read = read?;
+    match joined? {
+        Some(samples) => Ok(Some((samples, read))),
+        None => Ok(None),
+    }
+}
+
+// What a thread promises that joins parts.
+#[derive(Drop)]
+struct Joining {
+    // The samples before.
+    samples: Snapshot<List<Sample>>,
+    parts: Snapshot<List<Option<List<Sample>>>>,
+}
+
+impl Promise<Result<Option<List<Sample>>, Memory>> for Joining {
+    ghost use Rattle.std.specs.Prelude.{List as Seq, IfOk, IfSome};
+    ghost use Rattle.pp_steal.specs.Pieces.{IsCutInto};
+    ghost use Rattle.pp_tables.specs.Joined.{PayloadAt};
+    ghost use Rattle.pp_tables.specs.Apart.{AreSamples, ReadsSamples};
+
+    ghost kept_by = { λ p r. (payloads : Seq PayloadAt) → IsCutInto AreSamples payloads p.parts.value →
+        IfOk r (λ joined. IfSome joined (ReadsSamples payloads p.samples.value)) };
 }
 
 // The samples of each piece.
@@ -146,16 +205,20 @@ fn read_wave<R: Threads + Sync, G: Gate>(
     run_pieces(rt, job.alloc, job, job.pieces, lanes, Deal::Round, gate)
 }
 
-// Adds the samples of all parts, up to the first that has a fault. Whether none has.
-fn join(samples: &mut List<Sample>, parts: List<Option<List<Sample>>>) -> Result<bool, Memory>
+// The samples, and behind them those of all parts, or `None` where one has a fault.
+fn join(
+    samples: List<Sample>,
+    parts: List<Option<List<Sample>>>,
+) -> Result<Option<List<Sample>>, Memory>
     ensures { (payloads : Seq PayloadAt) → IsCutInto AreSamples payloads parts →
-        IfOk result (λ whole. whole ≡ true → ReadsSamples payloads samples.old samples.new) }
+        IfOk result (λ joined. IfSome joined (ReadsSamples payloads samples)) }
 {
+    let mut joined = samples;
     for part in parts.into_vec() {
         match part {
-            Some(more) => samples.append(more)?,
-            None => return Ok(false),
+            Some(more) => joined.append(more)?,
+            None => return Ok(None),
         }
     }
-    Ok(true)
+    Ok(Some(joined))
 }

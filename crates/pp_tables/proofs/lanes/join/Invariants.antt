@@ -6,4 +6,4 @@ use Rattle.pp_tables.proofs.Apart.{AreJoined}
 use Rattle.pp_tables.proofs.lanes.join.Given as goal
 
 abbrev pub invariant-loop-part : goal.invariant-loop-part
-invariant-loop-part l = (payloads : List PayloadAt) → IsCutInto AreSamples payloads l.fn.parts → AreJoined payloads l.fn.samples l.samples l.part-iterator.rest.items
+invariant-loop-part l = (payloads : List PayloadAt) → IsCutInto AreSamples payloads l.fn.parts → AreJoined payloads l.fn.samples l.joined l.part-iterator.rest.items
