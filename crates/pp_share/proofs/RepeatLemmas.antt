@@ -1,10 +1,10 @@
 -- Numbers that stand more than once in a list.
-use Rattle.std.proofs.Common.{◌≡◌, ℕ, zero, suc, ◌+◌, ◌-◌, ◌<◌, ◌≤◌, ◌==◌, Bool, true, false, true≢false, cond, ◌||◌, List, [], ◌∷◌, ◌++◌, length, get_or, ⊎_elim, refl, sym, ap, subst, ◌∙◌, if◌then◌else◌, arith}
+use Rattle.std.proofs.Common.{◌≡◌, ℕ, zero, suc, ◌+◌, ◌-◌, ◌<◌, ◌≤◌, ◌==◌, Bool, true, false, true≢false, cond, ◌||◌, List, [], ◌∷◌, ◌++◌, length, filter, get_or, ⊎_elim, refl, sym, ap, subst, ◌∙◌, if◌then◌else◌, arith}
 use Rattle.std.specs.Ordering.{nat_cmp}
 use Rattle.std.specs.Prelude.{nat_eq}
 use Rattle.std.specs.List.{list_any, AllByRecursion, IsDistinct}
 use Rattle.std.specs.List.Sorted.{IsPermutation, IsSorted}
-use Rattle.std.proofs.lemmas.Bool.{cases_lt}
+use Rattle.std.proofs.lemmas.Bool.{cases_lt, ne_eqb}
 use Rattle.std.proofs.lemmas.List.Folds.{list_any-append}
 use Rattle.std.proofs.lemmas.List.Sorted.{IsNonDecreasingBy-from_sort, all_adjacent_from_non_decreasing, sum_by-IsPermutation}
 use Rattle.indexmap.specs.IndexSet.{insert_key}
@@ -133,3 +133,12 @@ repeated_sorted old new repeated shuffled sorted next x more =
   where
     succeeds : (k : ℕ) → k + 1 ≡ suc k
     succeeds k = omega arith
+
+-- a number that a test keeps stands as often among what it keeps
+pub times_kept : (keeps : ℕ → Bool) (number : ℕ) (ns : List ℕ) → keeps number ≡ true → times number (filter keeps ns) ≡ times number ns
+times_kept keeps number [] kept = refl
+times_kept keeps number (n ∷ ns) kept = by (keeps n) refl (times_kept keeps number ns kept)
+  where
+    by : (b : Bool) → keeps n ≡ b → times number (filter keeps ns) ≡ times number ns → times number (if b then n ∷ filter keeps ns else filter keeps ns) ≡ times number (n ∷ ns)
+    by true is rest = times-cons number n (filter keeps ns) ∙ ap (λ k. cond (number == n) 1 0 + k) rest ∙ sym (times-cons number n ns)
+    by false is rest = omega (arith, rest, times-cons number n ns, ap {B = ℕ} (λ b. cond b 1 0) (ne_eqb number n (λ same. true≢false (sym kept ∙ ap keeps same ∙ is))))

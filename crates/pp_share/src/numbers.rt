@@ -1,4 +1,4 @@
-//! The numbers of samples, and those that stand more than once.
+//! The numbers of samples.
 ghost use Rattle.std.specs.Prelude.{◌≡◌, ◌+◌, ◌*◌, ◌<◌, ◌≤◌, ℕ, [], nat_abs, IfOk, OnOk, length};
 ghost use Rattle.std.specs.List.{list_all, sum_by};
 ghost use Rattle.pp_base.specs.Capped.{capped};
@@ -6,12 +6,10 @@ ghost use Rattle.pp_steal.specs.declared.piece.TheConstants.{PIECE};
 ghost use Rattle.pp_model.specs.declared.profile.Sample.{Sample as SampleValue};
 ghost use Rattle.pp_share.specs.Renumbered.{new_ids};
 ghost use Rattle.pp_share.specs.Numbers.{AreNumbersBy, AreNumbers, AreOwnNumbers, AddsNumber, JoinsNumbers};
-ghost use Rattle.pp_share.specs.Repeats.{HoldsNext, HoldsRepeated};
 
 use crate::renumbering::Renumbering;
 use crate::sample_key::{number_by, own_number};
 use crate::samples::has_values;
-use indexmap::IndexSet;
 use pp_base::{Gate, List, Memory};
 use pp_model::Sample;
 use pp_steal::{Deal, Job, PIECE, piece_of, pieces_of, run_pieces};
@@ -181,26 +179,4 @@ fn all_have_values(parts: &[Numbers]) -> bool
     ensures { result ≡ list_all (λ part. part.have_values) parts.now }
 {
     parts.iter().all(|part| part.have_values)
-}
-
-/// The numbers that stand more than once.
-pub fn repeated(alloc: Global, numbers: &[u64]) -> Result<IndexSet<u64>, Memory>
-    ensures { IfOk result (λ r. HoldsRepeated numbers.now r.keys) }
-{
-    let mut sorted = numbers.to_vec(alloc)?;
-    sorted.sort_unstable();
-    repeated_next(alloc, sorted.as_slice())
-}
-
-// The numbers that stand next to themselves.
-fn repeated_next(alloc: Global, numbers: &[u64]) -> Result<IndexSet<u64>, Memory>
-    ensures { IfOk result (λ r. HoldsNext numbers.now r.keys) }
-{
-    let mut repeated = IndexSet::new(alloc);
-    for index in 1..numbers.len() {
-        if numbers[index - 1] == numbers[index] {
-            repeated.insert(numbers[index])?;
-        }
-    }
-    Ok(repeated)
 }

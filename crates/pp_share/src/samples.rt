@@ -15,9 +15,10 @@ ghost use Rattle.pp_share.specs.Woven.{woven, woven_samples, no_sample, order_at
 use crate::change::Change;
 use crate::numbers::Numbers;
 use crate::renumbering::Renumbering;
+use crate::repeated::Repeated;
 use crate::sample_key::SampleKey;
 use crate::sums::add_row;
-use indexmap::{IndexMap, IndexSet};
+use indexmap::IndexMap;
 use pp_base::{List, Memory};
 use pp_model::{Label, Sample};
 use std::alloc::Global;
@@ -49,13 +50,13 @@ pub fn sum_repeated(
     samples: List<Sample>,
     by: &Renumbering,
     numbers: &Numbers,
-    repeated: &IndexSet<u64>,
+    repeated: &Repeated,
 ) -> Result<List<Sample>, Memory>
     requires wide { All (λ s. length s.value ≡ columns) samples }
     requires fits { (column : ℕ) → column < columns
         → sum_by (λ s. nat_abs (value_in s column)) samples ≤ 2 ^ 63 - 1 }
     requires numbers { AreNumbers (new_ids by.now) samples numbers.now }
-    requires repeated { HoldsRepeated numbers.now.numbers.items repeated.now.keys }
+    requires repeated { HoldsRepeated numbers.now.numbers.items repeated.now }
     ensures { IfOk result (λ r.
         r ≡ summed_samples columns (map (renumbered_sample (new_ids by.now)) samples)) }
 {
@@ -83,15 +84,15 @@ fn sum_each(
     samples: List<Sample>,
     by: &Renumbering,
     numbers: &Numbers,
-    repeated: &IndexSet<u64>,
+    repeated: &Repeated,
 ) -> Result<Sums, Memory>
     requires wide { All (λ s. length s.value ≡ columns) samples }
     requires fits { (column : ℕ) → column < columns
         → sum_by (λ s. nat_abs (value_in s column)) samples ≤ 2 ^ 63 - 1 }
     requires numbers { AreNumbers (new_ids by.now) samples numbers.now }
-    requires repeated { HoldsRepeated numbers.now.numbers.items repeated.now.keys }
+    requires repeated { HoldsRepeated numbers.now.numbers.items repeated.now }
     ensures state { IfOk result (λ s.
-        IsSummed repeated.now.keys s.have_values s.places.items s.kept s.samples s.sums.entries) }
+        IsSummed repeated.now s.have_values s.places.items s.kept s.samples s.sums.entries) }
     ensures sums { IfOk result (λ s. woven_samples (order_at s.places.items s.kept s.samples) s.sums.entries
         ≡ summed_samples columns (map (renumbered_sample (new_ids by.now)) samples)) }
 {
@@ -138,7 +139,7 @@ fn no_sample(alloc: Global) -> Sample
 fn take(
     alloc: Global,
     sums: &mut Sums,
-    repeated: &IndexSet<u64>,
+    repeated: &Repeated,
     number: u64,
     sample: Sample,
 ) -> Result<(), Memory>
@@ -147,18 +148,18 @@ fn take(
     requires room { sums.old.kept < length sums.old.samples }
     requires adds { let s = sums.old in
         CanAdd (sum_at same_stack (woven (order_at s.places.items s.kept s.samples) s.sums.entries) (sample_stack sample)) sample.value }
-    requires alone { let s = sums.old in is_listed repeated.now.keys number ≡ false
+    requires alone { let s = sums.old in is_listed repeated.now number ≡ false
         → list_any (same_stack (sample_stack sample))
         (keys_of same_stack (woven (order_at s.places.items s.kept s.samples) s.sums.entries)) ≡ false }
     requires state { let s = sums.old in
-        IsSummed repeated.now.keys s.have_values s.places.items s.kept s.samples s.sums.entries }
+        IsSummed repeated.now s.have_values s.places.items s.kept s.samples s.sums.entries }
     ensures have { OnOk result (sums.new.have_values ≡ sums.old.have_values) }
     ensures few { OnOk result (sums.new.kept ≤ sums.old.kept + 1) }
     ensures rest { OnOk result ((k : ℕ) → (other : SampleValue) → sums.old.kept < k
         → slice_index_or sums.new.samples k other ≡ slice_index_or sums.old.samples k other) }
     ensures long { OnOk result (length sums.new.samples ≡ length sums.old.samples) }
     ensures state { OnOk result (let s = sums.new in
-        IsSummed repeated.now.keys s.have_values s.places.items s.kept s.samples s.sums.entries) }
+        IsSummed repeated.now s.have_values s.places.items s.kept s.samples s.sums.entries) }
     ensures sums { OnOk result (let s = sums.old in let t = sums.new in
         woven (order_at t.places.items t.kept t.samples) t.sums.entries
         ≡ sums_with same_stack (woven (order_at s.places.items s.kept s.samples) s.sums.entries)
@@ -166,7 +167,7 @@ fn take(
 {
     // A place is below the length, so the next one fits.
     let _count = sums.samples.len();
-    if !is_repeated(repeated, number) {
+    if !repeated.has(number) {
         let place = sums.kept;
         *sums.samples.item_mut(place) = sample;
         sums.kept = place + 1;
@@ -181,13 +182,6 @@ fn take(
         sums.kept = place + 1;
     }
     Ok(())
-}
-
-// Whether the number is among these.
-fn is_repeated(repeated: &IndexSet<u64>, number: u64) -> bool
-    ensures { result ≡ is_listed repeated.now.keys number }
-{
-    repeated.contains(&number)
 }
 
 // The key of these locations and labels.

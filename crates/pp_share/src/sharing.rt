@@ -19,13 +19,13 @@ use crate::first_sight::number_each;
 use crate::functions::share_functions;
 use crate::ids::Ids;
 use crate::kept::kept_numbers;
-use crate::numbers::{Numbers, number_samples, number_samples_on, repeated};
+use crate::numbers::{Numbers, number_samples, number_samples_on};
 use crate::places::share_places;
 use crate::renumbering::Renumbering;
+use crate::repeated::Repeated;
 use crate::samples::{counting, sum_repeated};
 use crate::texts::share_texts;
 use crate::write::write;
-use indexmap::IndexSet;
 use pp_base::{Gate, List, Memory};
 use pp_model::Profile;
 use std::alloc::Global;
@@ -156,7 +156,7 @@ fn write_shared(
     requires numbers { AreNumbers (new_ids by.now) p.sample numbers }
     ensures { IfOk result (IsWalked (with_sums (new_ids by.now) p)) }
 {
-    let repeated = repeated(alloc, &numbers.numbers)?;
+    let repeated = Repeated::new(alloc, &numbers.numbers)?;
     if !repeated.is_empty() {
         return write_summed(alloc, p, by, &numbers, &repeated);
     }
@@ -179,13 +179,13 @@ fn write_summed(
     mut p: Profile,
     by: &Renumbering,
     numbers: &Numbers,
-    repeated: &IndexSet<u64>,
+    repeated: &Repeated,
 ) -> Result<Profile, Memory>
     requires wide { All (λ s. length s.value ≡ length p.sample_type) p.sample }
     requires fits { (column : ℕ) → column < length p.sample_type
         → sum_by (λ s. nat_abs (value_in s column)) p.sample ≤ 2 ^ 63 - 1 }
     requires numbers { AreNumbers (new_ids by.now) p.sample numbers.now }
-    requires repeated { HoldsRepeated numbers.now.numbers.items repeated.now.keys }
+    requires repeated { HoldsRepeated numbers.now.numbers.items repeated.now }
     ensures { IfOk result (IsWalked (with_sums (new_ids by.now) p)) }
 {
     sum_equal(alloc, &mut p, by, numbers, repeated)?;
@@ -201,13 +201,13 @@ fn sum_equal(
     p: &mut Profile,
     by: &Renumbering,
     numbers: &Numbers,
-    repeated: &IndexSet<u64>,
+    repeated: &Repeated,
 ) -> Result<(), Memory>
     requires wide { All (λ s. length s.value ≡ length p.old.sample_type) p.old.sample }
     requires fits { (column : ℕ) → column < length p.old.sample_type
         → sum_by (λ s. nat_abs (value_in s column)) p.old.sample ≤ 2 ^ 63 - 1 }
     requires numbers { AreNumbers (new_ids by.now) p.old.sample numbers.now }
-    requires repeated { HoldsRepeated numbers.now.numbers.items repeated.now.keys }
+    requires repeated { HoldsRepeated numbers.now.numbers.items repeated.now }
     ensures { OnOk result (p.new ≡ with_sums (new_ids by.now) p.old) }
 {
     let samples = mem::replace(&mut p.sample, List::new(alloc));

@@ -67,7 +67,7 @@ take-requires-clause-adds c =
 pub take-requires-clause-alone : goal.take-requires-clause-alone
 take-requires-clause-alone c = λ alone.
     let by = new_ids c.args.by.now in
-    let repeated = c.args.repeated.now.keys in
+    let repeated = c.args.repeated.now in
     let all = c.args.samples in
     let place = c.loop-place.place in
     let within : place < length all = omega (arith, c.loop-place-test.true, c.len-count.ensures) in

@@ -11,7 +11,7 @@ use Rattle.pp_share.proofs.samples.sum_each.Given as goal
 abbrev pub invariant-loop-place : goal.invariant-loop-place
 invariant-loop-place l = record {
   have : l.sums.have_values ≡ l.numbers.have_values;
-  state : IsSummed l.repeated.keys l.sums.have_values l.sums.places.items l.sums.kept l.sums.samples l.sums.sums.entries;
+  state : IsSummed l.repeated l.sums.have_values l.sums.places.items l.sums.kept l.sums.samples l.sums.sums.entries;
   sums : woven (order_at l.sums.places.items l.sums.kept l.sums.samples) l.sums.sums.entries ≡ summed same_stack l.columns (map sample_item (map (renumbered_sample (new_ids l.by)) (take l.place l.fn.samples)));
   few : l.sums.kept ≤ l.place;
   rest : (k : ℕ) → (other : Sample) → l.place ≤ k → get_or l.sums.samples k other ≡ get_or l.fn.samples k other;

@@ -16,13 +16,13 @@ pub returns : goal.returns
 returns c =
     let p : Profile = c.args.p in
     let by = new_ids c.args.by.now in
-    let none : c.in_ok-repeated.repeated.keys ≡ [] = nil_from_length c.in_ok-repeated.repeated.keys (c.is_empty.ensures.0 c.if-not-is_empty.false) in
+    let none : c.in_ok-repeated.repeated ≡ [] = nil_from_length c.in_ok-repeated.repeated (c.is_empty.ensures.0 c.if-not-is_empty.false) in
     subst (λ q. IfOk c.write.result (IsWalked q))
     (ap (with_new_samples by) c.keep_counting.ensures
     ∙ (λ j. record p {
       sample = kept_apart by (length p.sample_type) p.sample
           (none_repeated (map (number_by by) p.sample)
-          (subst (HoldsRepeated (map (number_by by) p.sample)) none (subst (λ ns. HoldsRepeated ns c.in_ok-repeated.repeated.keys) (c.deref.ensures.value ∙ c.requires.numbers.numbers) c.in_ok-repeated.ensures)))
+          (subst (HoldsRepeated (map (number_by by) p.sample)) none (subst (λ ns. HoldsRepeated ns c.in_ok-repeated.repeated) (c.deref.ensures.value ∙ c.requires.numbers.numbers) c.in_ok-repeated.ensures)))
           (by_recursion _ p.sample c.requires.wide) j;
     }))
     c.write.ensures

@@ -3,8 +3,8 @@ use Rattle.std.specs.Prelude.{nat_eq}
 use Rattle.indexmap.specs.IndexSet.{insert_key}
 use Rattle.pp_share.specs.Repeats.{is_listed}
 use Rattle.pp_share.proofs.RepeatLemmas.{one_more, stays_among, now_among}
-use Rattle.pp_share.proofs.numbers.repeated_next.Goals as goal
-use Rattle.pp_share.proofs.numbers.repeated_next.Goals.{then-numbers-index+in_ok-insert, else-numbers-index}
+use Rattle.pp_share.proofs.repeated.repeated_next.Goals as goal
+use Rattle.pp_share.proofs.repeated.repeated_next.Goals.{then-numbers-index+in_ok-insert, else-numbers-index}
 
 -- one number more
 pub loop-index-preserved : goal.loop-index-preserved

@@ -1,6 +1,6 @@
 use Rattle.std.proofs.Common.{◌≡◌, ℕ, ◌+◌, ◌<◌, true, get_or}
 use Rattle.pp_share.specs.Repeats.{is_listed}
-use Rattle.pp_share.proofs.numbers.repeated_next.Given as goal
+use Rattle.pp_share.proofs.repeated.repeated_next.Given as goal
 
 -- the numbers so far that stand next to themselves
 abbrev pub invariant-loop-index : goal.invariant-loop-index

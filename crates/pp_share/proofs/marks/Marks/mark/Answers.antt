@@ -1,0 +1,21 @@
+use Rattle.std.proofs.Common.{◌≡◌, ◌<◌, true, length, ap, subst, sym, ◌∙◌}
+use Rattle.pp_share.specs.Marks.{word_of, is_marked}
+use Rattle.pp_share.proofs.MarkLemmas.{now_marked, still_marked}
+use Rattle.pp_share.proofs.marks.Marks.mark.Goals as goal
+
+-- the number's own bit is set
+pub returns-clause-marked : goal.returns-clause-marked
+returns-clause-marked c =
+    let words = c.self.inside.words.items in
+    let place = c.word_of-place.result in
+    let is : place ≡ word_of words c.args.number = c.word_of-place.ensures.is ∙ ap (λ ws. word_of ws c.args.number) c.deref.ensures.value in
+    now_marked words c.args.number place c.index-word.result.now is (subst (λ ws. place < length ws) c.deref.ensures.value c.word_of-place.ensures.within) c.index-word.ensures
+
+-- and no other is cleared
+pub returns-clause-others : goal.returns-clause-others
+returns-clause-others c = λ other was.
+    let words = c.self.inside.words.items in
+    let place = c.word_of-place.result in
+    let is : place ≡ word_of words c.args.number = c.word_of-place.ensures.is ∙ ap (λ ws. word_of ws c.args.number) c.deref.ensures.value in
+    still_marked words c.args.number place c.index-word.result.now is (subst (λ ws. place < length ws) c.deref.ensures.value c.word_of-place.ensures.within) c.index-word.ensures other
+    (ap (λ ws. is_marked ws other) c.self.view_is ∙ was)
