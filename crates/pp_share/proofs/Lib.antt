@@ -31,6 +31,7 @@ pub mod WovenLemmas
 pub mod SlotLemmas
 pub mod Apart
 pub mod NumberLemmas
+pub mod LocatedLemmas
 pub mod KeptNumbers
 pub mod Deciding
 pub mod MergedMapping

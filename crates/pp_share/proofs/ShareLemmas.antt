@@ -13,7 +13,8 @@ use Rattle.pp_share.specs.Header.{header_of}
 use Rattle.pp_share.specs.Placed.{gist, plain, totalled, samples_placed, mappings_of}
 use Rattle.pp_share.specs.Alike.{first_alike}
 use Rattle.pp_share.specs.Written.{written}
-use Rattle.pp_share.specs.Numbers.{with_sums}
+use Rattle.pp_base.proofs.Lists.{all_by}
+use Rattle.pp_share.specs.Numbers.{with_new_samples, with_sums}
 use Rattle.pp_share.specs.SampleKeys.{summed_samples}
 use Rattle.pp_share.specs.Renumbered.{NewIds, renumbered_type, renumbered_location, renumbered_sample, renumbered_label}
 use Rattle.pp_share.specs.Shared.{by_texts, by_functions, alike_functions, with_shared_texts, with_shared_functions, with_shared_places}
@@ -142,14 +143,25 @@ module _ (p : Profile) (joined : IsJoined p) (few : length p.text < 461168601842
   pub shared_written : length (walked_texts_of summed_up) < 4611686018427387904 → walked (with_samples_once (with_tables_once p)) ≡ written (totalled (length p.sample_type) (gist p))
   shared_written few_walked = walked_is summed_up shared_ready few_walked ∙ ap written shared_plain
 
+  -- With new ids and added up, the shared tables are those in which each thing stands once.
+  summed_is : (shared : Profile) (by : NewIds) → shared ≡ record (with_tables_once p) { sample = p.sample } → map (renumbered_sample by) p.sample ≡ (with_tables_once p).sample
+      → with_sums by shared ≡ summed_up
+  summed_is shared by tables samples i =
+      record (tables i) {
+        sample = ((λ j. summed_samples (length (tables j).sample_type) (map (renumbered_sample by) (tables j).sample))
+            ∙ ap (summed_samples (length (with_tables_once p).sample_type)) samples) i;
+      }
+
   -- What is written of the shared tables, with samples added up, is what is written of what the profile says.
   pub shared_is : (shared r : Profile) (by : NewIds) → shared ≡ record (with_tables_once p) { sample = p.sample } → map (renumbered_sample by) p.sample ≡ (with_tables_once p).sample
       → IsWalked (with_sums by shared) r → r ≡ written (totalled (length p.sample_type) (gist p))
   shared_is shared r by tables samples done =
-      let moved = renumbered_sample by in
-      let is : with_sums by shared ≡ with_samples_once (with_tables_once p) =
-      (λ i. record (tables i) {
-        sample = ((λ j. summed_samples (length (tables j).sample_type) (map moved (tables j).sample))
-            ∙ ap (summed_samples (length (with_tables_once p).sample_type)) samples) i;
-      }) in
+      let is = summed_is shared by tables samples in
       done.same ∙ ap walked is ∙ shared_written (subst (λ q. length (walked_texts_of q) < 4611686018427387904) is done.few)
+
+  -- Their samples name locations of the table.
+  pub shared_named : (shared q : Profile) (by left : NewIds) → shared ≡ record (with_tables_once p) { sample = p.sample } → map (renumbered_sample by) p.sample ≡ (with_tables_once p).sample
+      → with_new_samples left q ≡ with_sums by shared → AllByRecursion (NamesLocations (length q.location)) (with_new_samples left q).sample
+  shared_named shared q by left tables samples is =
+      subst (λ (r : Profile). AllByRecursion (NamesLocations (length r.location)) r.sample) (sym (is ∙ summed_is shared by tables samples))
+      (all_by (SampleIn (length summed_up.text) (length summed_up.location)) (NamesLocations (length summed_up.location)) (λ s is. is.locations) summed_up.sample shared_ready.samples)

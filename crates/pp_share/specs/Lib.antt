@@ -19,5 +19,6 @@ pub mod Shared
 pub mod Walk
 pub mod Gathered
 pub mod Walked
+pub mod Located
 pub mod Placed
 pub mod Share

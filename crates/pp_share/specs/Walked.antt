@@ -6,7 +6,7 @@ use Rattle.pp_model.specs.declared.profile.Sample.{Sample}
 use Rattle.pp_model.specs.declared.profile.Profile.{Profile}
 use Rattle.pp_model.specs.Lookup.{text_number}
 use Rattle.pp_share.specs.Ids.{place_id, index_of_id}
-use Rattle.pp_share.specs.Walk.{met_after, location_refs, mapping_ref, function_refs, profile_text_ids}
+use Rattle.pp_share.specs.Walk.{met_after, IsPlaced, location_refs, mapping_ref, function_refs, first_text_ids, sample_text_ids, profile_text_ids}
 use Rattle.pp_share.specs.Gathered.{gathered, location_entry, mapping_entry, function_entry}
 use Rattle.pp_share.specs.Renumbered.{NewIds, renumbered_label, renumbered_sample, renumbered}
 
@@ -88,3 +88,10 @@ walked p =
 pub record IsWalked (p r : Profile) : Type 0 where
   pub same : r ≡ walked p
   pub few : length (walked_texts_of p) < 2 ^ 62
+
+-- A profile of which the samples and the locations are written, with the texts that these and the types name, and the locations
+-- that the samples named. What is met later changes none of it.
+pub record IsNamed (whole p : Profile) (texts locations : List ℕ) : Type 0 where
+  pub met : locations ≡ locations_met whole
+  pub said : texts ≡ met_after (met_after [] (first_text_ids whole)) (flat_map sample_text_ids whole.sample)
+  pub kept : IsPlaced with_placed_samples texts whole p

@@ -9,6 +9,7 @@ mod gather;
 mod ids;
 mod kept;
 mod known;
+mod lanes;
 mod marks;
 mod met;
 mod numbered;

@@ -1,5 +1,7 @@
 //! Ids in the order in which they are met.
-ghost use Rattle.std.specs.Prelude.{◌≡◌, [], slice_index_or, IfOk, OnOk};
+ghost use Rattle.std.specs.Prelude.{◌≡◌, ℕ, ◌<◌, ◌≤◌, [], slice_index_or, IfOk, OnOk};
+ghost use Rattle.std.specs.Bool.{OnTrue};
+ghost use Rattle.pp_share.specs.Located.{KnowsAll};
 ghost use Rattle.pp_share.specs.Walk.{met_with, IsPlaced};
 ghost use Rattle.pp_share.specs.Ids.{place_id};
 
@@ -96,6 +98,13 @@ impl Met {
         place_id(&self.ids, id)
     }
 
+    /// Whether it is known that all ids up to this one were met.
+    pub fn knows_all(&self, count: usize) -> bool
+        ensures { OnTrue result (KnowsAll count self.now) }
+    {
+        self.ids.len() >= count && have_places(&self.places, count)
+    }
+
     /// The ids, in order.
     pub fn as_slice(&self) -> &[u64]
         ensures { result.now ≡ self.now }
@@ -112,4 +121,11 @@ fn number_at(numbers: &[u64], index: u64) -> u64
         None => 0,
         Some(number) => *number,
     }
+}
+
+// Whether each index from 1 up to this one has a number above 0.
+fn have_places(numbers: &[u64], last: usize) -> bool
+    ensures { OnTrue result ((index : ℕ) → 1 ≤ index → index ≤ last → 0 < slice_index_or numbers.now index 0) }
+{
+    last < numbers.len() && numbers[..last + 1].iter().skip(1).all(|number| *number > 0)
 }

@@ -52,8 +52,8 @@ pub trait Place {
         ensures placed { OnOk result (IsPlaced placed met.new self.old self.new) };
 }
 
-// The same of each item, in order.
-fn place_each<T: Place>(items: &mut List<T>, met: &mut Met) -> Result<(), Memory>
+/// The same of each item, in order.
+pub fn place_each<T: Place>(items: &mut List<T>, met: &mut Met) -> Result<(), Memory>
     ensures met { OnOk result (met.new ≡ met_after met.old (flat_map T.refs items.old)) }
     ensures placed { OnOk result (IsPlaced (λ met. map (T.placed met)) met.new items.old items.new) }
 {

@@ -1,12 +1,13 @@
 //! Tables whose ids and references are given new numbers, in place.
 ghost use Rattle.pp_share.specs.Renumbered.{renumbered_label, renumbered_line, renumbered_type, renumbered_function, renumbered_mapping, renumbered_location, renumbered_sample, renumbered, renumbered_tables, with_header, new_ids};
 ghost use Rattle.pp_share.specs.Behind.{behind_id};
-ghost use Rattle.pp_share.specs.Ids.{new_id, new_text, listed_id};
+ghost use Rattle.pp_share.specs.Ids.{new_id, new_text, listed_id, place_id};
 ghost use Rattle.std.specs.Prelude.{◌≡◌, map};
 
 use crate::behind::Behind;
 use crate::change::{Change, change_each};
 use crate::ids::{Ids, Known, listed};
+use crate::met::Met;
 use pp_base::List;
 use pp_model::{Function, Label, Line, Location, Mapping, Profile, Sample, ValueType};
 
@@ -56,6 +57,15 @@ impl Change<u64> for List<u64> {
 
     fn change(&self, id: &mut u64) {
         *id = listed(self.as_slice(), *id);
+    }
+}
+
+/// The id of a location that was met.
+impl Change<u64> for Met {
+    ghost changed = { place_id };
+
+    fn change(&self, id: &mut u64) {
+        *id = self.id(*id);
     }
 }
 
@@ -127,10 +137,10 @@ impl Change<Sample> for Renumbering {
 }
 
 impl Renumbering {
-    // Gives the locations of a sample their new ids. Samples name many, so the way that ids change is asked once a
-    // list, and where all ids stay, they are not gone through.
+    /// Gives the locations of a sample their new ids. Samples name many, so the way that ids change is asked once a
+    /// list, and where all ids stay, they are not gone through.
     #[tactic(auto, using(crate::proofs::KeptIds::same_locations, crate::proofs::KeptIds::changed_locations))]
-    fn change_locations(&self, ids: &mut List<u64>)
+    pub(crate) fn change_locations(&self, ids: &mut List<u64>)
         ensures { ids.new ≡ map (new_id self.now.location) ids.old }
     {
         match &self.location {
@@ -142,9 +152,9 @@ impl Renumbering {
         }
     }
 
-    // Gives the labels of a sample their new texts.
+    /// Gives the labels of a sample their new texts.
     #[tactic(auto, using(crate::proofs::KeptIds::same_labels))]
-    fn change_labels(&self, labels: &mut List<Label>)
+    pub(crate) fn change_labels(&self, labels: &mut List<Label>)
         ensures { labels.new ≡ map (renumbered_label (new_ids self.now)) labels.old }
     {
         if self.text.keeps_all() {

@@ -6,12 +6,11 @@ ghost use Rattle.pp_share.specs.Placed.{gist, totalled};
 ghost use Rattle.pp_share.specs.Renumbered.{new_ids, renumbered_sample, stays};
 ghost use Rattle.pp_model.specs.FirstSight.{ids};
 ghost use Rattle.pp_share.specs.Ids.{GivesIds};
-ghost use Rattle.pp_share.specs.Numbers.{AreKnown, AreNumbers, with_sums};
+ghost use Rattle.pp_share.specs.Numbers.{AreKnown, AreNumbers, with_new_samples, with_sums};
 ghost use Rattle.pp_share.specs.Repeats.{HoldsRepeated};
 ghost use Rattle.pp_share.specs.PlaceKeys.{same_place};
 ghost use Rattle.pp_share.specs.SampleKeys.{has_values};
 ghost use Rattle.pp_share.specs.Shared.{distant_locations, with_shared_functions, with_shared_places};
-ghost use Rattle.pp_share.specs.Walked.{IsWalked};
 ghost use Rattle.pp_share.specs.Written.{written};
 ghost use Rattle.pp_share.specs.Share.{NamesLocations, IsJoined, with_comments_once, with_tables_once};
 
@@ -25,7 +24,7 @@ use crate::renumbering::Renumbering;
 use crate::repeated::Repeated;
 use crate::samples::{counting, sum_repeated};
 use crate::texts::share_texts;
-use crate::write::write;
+use crate::write::{write, write_on};
 use pp_base::{Gate, List, Memory};
 use pp_model::Profile;
 use std::alloc::Global;
@@ -41,10 +40,11 @@ pub fn share(alloc: Global, p: Profile) -> Result<Profile, Memory>
         → sum_by (λ s. nat_abs (value_in s column)) p.sample ≤ 2 ^ 63 - 1 }
     ensures { IfOk result (λ r. r ≡ written (totalled (length p.sample_type) (gist p))) }
 {
-    let (profile, by) = share_tables(alloc, p)?;
-    let shared = share_samples(alloc, profile, &by);
+    let (mut profile, mut by) = share_tables(alloc, p)?;
+    sum_plain(alloc, &mut profile, &mut by)?;
+    let written = write(alloc, profile, &by);
     mem::drop(by);
-    shared
+    written
 }
 
 /// The same. Where the numbers of the samples by the ids that they have are known, and none of the texts and locations
@@ -68,13 +68,14 @@ pub fn share_on<R: Threads + Sync, G: Gate>(
     ensures { IfOk result (λ r. r ≡ written (totalled (length p.sample_type) (gist p))) }
 {
     let texts = p.text.len();
-    let (profile, by) = share_tables(alloc, p)?;
-    let shared = match kept_numbers(known, profile.sample.as_slice(), texts, &by) {
-        Some(numbers) => write_shared(alloc, profile, &by, numbers),
-        None => share_samples_on(rt, alloc, profile, &by, workers, gate),
-    };
+    let (mut profile, mut by) = share_tables(alloc, p)?;
+    match kept_numbers(known, profile.sample.as_slice(), texts, &by) {
+        Some(numbers) => sum_equal(alloc, &mut profile, &mut by, numbers)?,
+        None => sum_plain_on(rt, alloc, &mut profile, &mut by, workers, gate)?,
+    }
+    let written = write_on(rt, alloc, profile, &by, workers);
     mem::drop(by);
-    shared
+    written
 }
 
 // The profile with each entry of its tables once, and what the references of its samples become. The samples stay: they
@@ -110,58 +111,61 @@ fn share_entries(alloc: Global, p: Profile) -> Result<(Profile, Ids), Memory>
     share_places(alloc, called)
 }
 
-// The profile, whose tables stand once, with each sample once, in the order of a walk over them.
-fn share_samples(alloc: Global, p: Profile, by: &Renumbering) -> Result<Profile, Memory>
-    requires wide { All (λ s. length s.value ≡ length p.sample_type) p.sample }
-    requires fits { (column : ℕ) → column < length p.sample_type
-        → sum_by (λ s. nat_abs (value_in s column)) p.sample ≤ 2 ^ 63 - 1 }
-    ensures { IfOk result (IsWalked (with_sums (new_ids by.now) p)) }
+// Adds up the samples that are equal once they have their new ids, and tells what the ids of the samples become that are
+// left.
+fn sum_plain(alloc: Global, p: &mut Profile, by: &mut Renumbering) -> Result<(), Memory>
+    requires wide { All (λ s. length s.value ≡ length p.old.sample_type) p.old.sample }
+    requires fits { (column : ℕ) → column < length p.old.sample_type
+        → sum_by (λ s. nat_abs (value_in s column)) p.old.sample ≤ 2 ^ 63 - 1 }
+    ensures { OnOk result (with_new_samples (new_ids by.new) p.new ≡ with_sums (new_ids by.old) p.old) }
 {
     let numbers = number_samples(alloc, p.sample.as_slice(), by)?;
-    write_shared(alloc, p, by, numbers)
+    sum_equal(alloc, p, by, numbers)
 }
 
 // The same, with the samples numbered on so many lanes.
-fn share_samples_on<R: Threads + Sync, G: Gate>(
+fn sum_plain_on<R: Threads + Sync, G: Gate>(
     rt: &R,
     alloc: Global,
-    p: Profile,
-    by: &Renumbering,
+    p: &mut Profile,
+    by: &mut Renumbering,
     workers: u32,
     gate: &G,
-) -> Result<Profile, Memory>
-    requires wide { All (λ s. length s.value ≡ length p.sample_type) p.sample }
-    requires fits { (column : ℕ) → column < length p.sample_type
-        → sum_by (λ s. nat_abs (value_in s column)) p.sample ≤ 2 ^ 63 - 1 }
+) -> Result<(), Memory>
+    requires wide { All (λ s. length s.value ≡ length p.old.sample_type) p.old.sample }
+    requires fits { (column : ℕ) → column < length p.old.sample_type
+        → sum_by (λ s. nat_abs (value_in s column)) p.old.sample ≤ 2 ^ 63 - 1 }
     requires some { 1 ≤ workers }
     requires most { workers ≤ 64 }
-    ensures { IfOk result (IsWalked (with_sums (new_ids by.now) p)) }
+    ensures { OnOk result (with_new_samples (new_ids by.new) p.new ≡ with_sums (new_ids by.old) p.old) }
 {
     let numbers = number_samples_on(rt, alloc, p.sample.as_slice(), by, workers, gate)?;
-    write_shared(alloc, p, by, numbers)
+    sum_equal(alloc, p, by, numbers)
 }
 
 // The same, where the samples are numbered. Most profiles have each sample once. To ask that first, by their numbers,
 // takes far less time than to look each sample up, and the samples then get their new ids where they are gone through
 // next. Where some are equal, only those whose number stands more than once are looked up.
-fn write_shared(
+fn sum_equal(
     alloc: Global,
-    mut p: Profile,
-    by: &Renumbering,
+    p: &mut Profile,
+    by: &mut Renumbering,
     numbers: Numbers,
-) -> Result<Profile, Memory>
-    requires wide { All (λ s. length s.value ≡ length p.sample_type) p.sample }
-    requires fits { (column : ℕ) → column < length p.sample_type
-        → sum_by (λ s. nat_abs (value_in s column)) p.sample ≤ 2 ^ 63 - 1 }
-    requires numbers { AreNumbers (new_ids by.now) p.sample numbers }
-    ensures { IfOk result (IsWalked (with_sums (new_ids by.now) p)) }
+) -> Result<(), Memory>
+    requires wide { All (λ s. length s.value ≡ length p.old.sample_type) p.old.sample }
+    requires fits { (column : ℕ) → column < length p.old.sample_type
+        → sum_by (λ s. nat_abs (value_in s column)) p.old.sample ≤ 2 ^ 63 - 1 }
+    requires numbers { AreNumbers (new_ids by.old) p.old.sample numbers }
+    ensures { OnOk result (with_new_samples (new_ids by.new) p.new ≡ with_sums (new_ids by.old) p.old) }
 {
     let repeated = Repeated::new(alloc, &numbers.numbers)?;
-    if !repeated.is_empty() {
-        return write_summed(alloc, p, by, &numbers, &repeated);
+    if repeated.is_empty() {
+        keep_counting(alloc, p, numbers.have_values);
+        return Ok(());
     }
-    keep_counting(alloc, &mut p, numbers.have_values);
-    write(alloc, p, by)
+    add_up(alloc, p, by, &numbers, &repeated)?;
+    mem::drop(mem::replace(by, stays()));
+    Ok(())
 }
 
 // Leaves out the samples without any value. Where all have values, they are not gone through.
@@ -173,30 +177,8 @@ fn keep_counting(alloc: Global, p: &mut Profile, have_values: bool)
     p.sample = counting(samples, have_values);
 }
 
-// The profile, whose tables stand once, with its samples added up, in the order of a walk over them.
-fn write_summed(
-    alloc: Global,
-    mut p: Profile,
-    by: &Renumbering,
-    numbers: &Numbers,
-    repeated: &Repeated,
-) -> Result<Profile, Memory>
-    requires wide { All (λ s. length s.value ≡ length p.sample_type) p.sample }
-    requires fits { (column : ℕ) → column < length p.sample_type
-        → sum_by (λ s. nat_abs (value_in s column)) p.sample ≤ 2 ^ 63 - 1 }
-    requires numbers { AreNumbers (new_ids by.now) p.sample numbers.now }
-    requires repeated { HoldsRepeated numbers.now.numbers.items repeated.now }
-    ensures { IfOk result (IsWalked (with_sums (new_ids by.now) p)) }
-{
-    sum_equal(alloc, &mut p, by, numbers, repeated)?;
-    let stays = stays();
-    let summed = write(alloc, p, &stays);
-    mem::drop(stays);
-    summed
-}
-
 // Gives the samples their new ids, and adds up those that are equal then.
-fn sum_equal(
+fn add_up(
     alloc: Global,
     p: &mut Profile,
     by: &Renumbering,

@@ -1,48 +1,77 @@
 //! A profile's tables in the order in which a walk over its samples meets their entries.
-ghost use Rattle.std.specs.Prelude.{◌≡◌, ◌<◌, ◌^◌, [], length, IfOk, OnOk};
-ghost use Rattle.std.specs.List.{flat_map};
-ghost use Rattle.pp_share.specs.Walked.{locations_met, with_placed_samples, first_id, mappings_met, with_mappings, functions_met, with_functions, with_texts, IsWalked};
+ghost use Rattle.std.specs.Prelude.{◌≡◌, ◌<◌, ◌≤◌, ◌^◌, [], length, IfOk, OnOk};
+ghost use Rattle.pp_model.specs.declared.profile.Profile.{Profile};
+ghost use Rattle.std.specs.List.{AllByRecursion};
+ghost use Rattle.pp_share.specs.Walked.{first_id, mappings_met, with_mappings, functions_met, with_functions, with_texts, IsWalked, IsNamed};
 ghost use Rattle.pp_share.specs.Numbers.{with_new_samples};
-ghost use Rattle.pp_share.specs.Renumbered.{new_ids, renumbered_tables};
-ghost use Rattle.pp_share.specs.Walk.{met_after, IsPlaced, first_text_ids, sample_text_ids, table_text_ids, header_text_ids};
+ghost use Rattle.pp_share.specs.Share.{NamesLocations};
+ghost use Rattle.pp_share.specs.Renumbered.{new_ids};
+ghost use Rattle.pp_share.specs.Walk.{met_after, first_text_ids, table_text_ids, header_text_ids};
 
 use crate::gather::gather;
 use crate::ids::Ids;
+use crate::lanes::place_samples_on;
 use crate::met::Met;
 use crate::placing::place_samples;
 use crate::renumbering::{Renumbering, renumber_tables};
 use crate::walk::{Functions, Mappings, Refers, Texts, meet_each};
 use pp_base::Memory;
 use pp_model::{Function, Location, Mapping, Profile, ValueType};
+use pp_steal::PIECE;
 use std::alloc::Global;
 use std::mem;
+use std::thread::Threads;
 
 /// The profile, whose samples still get new ids, with what these name, in the order in which a walk over them meets it:
 /// mappings after the first one, locations, functions, and texts after text 0. Ids are places plus 1, and all else is
 /// left out.
 pub fn write(alloc: Global, mut p: Profile, samples: &Renumbering) -> Result<Profile, Memory>
-    ensures { IfOk result (λ r. IsWalked (with_new_samples (new_ids samples.now) p) r) }
+    ensures { IfOk result (IsWalked (with_new_samples (new_ids samples.now) p)) }
 {
-    let by = keep_named(alloc, &mut p, samples)?;
-    renumber_tables(&mut p, &by);
-    mem::drop(by);
-    Ok(p)
+    let mut texts = first_texts(alloc, &p)?;
+    let locations = keep_locations(alloc, &mut p, samples, &mut texts)?;
+    write_named(alloc, p, texts, locations)
 }
 
-// Keeps what the samples name, and gives what the references of all tables become.
-fn keep_named(alloc: Global, p: &mut Profile, samples: &Renumbering) -> Result<Renumbering, Memory>
-    ensures { IfOk result (λ by.
-        IsWalked (with_new_samples (new_ids samples.now) p.old) (renumbered_tables (new_ids by) p.new)) }
+/// The same, where the samples name locations of the table. So many threads write most of them, from 1 to 64.
+pub fn write_on<R: Threads + Sync>(
+    rt: &R,
+    alloc: Global,
+    mut p: Profile,
+    samples: &Renumbering,
+    workers: u32,
+) -> Result<Profile, Memory>
+    requires some { 1 ≤ workers }
+    requires named { AllByRecursion (NamesLocations (length p.location)) (with_new_samples (new_ids samples.now) p).sample }
+    ensures { IfOk result (IsWalked (with_new_samples (new_ids samples.now) p)) }
 {
-    let mut texts = first_texts(alloc, p)?;
-    let locations = keep_locations(alloc, p, samples, &mut texts)?;
-    let (mappings, functions) = keep_entries(alloc, p, &mut texts)?;
-    Ok(Renumbering {
+    if workers == 1 || p.sample.len() <= PIECE {
+        return write(alloc, p, samples);
+    }
+    let mut texts = first_texts(alloc, &p)?;
+    let locations = keep_locations_on(rt, alloc, &mut p, samples, workers, &mut texts)?;
+    write_named(alloc, p, texts, locations)
+}
+
+// The profile, of which the samples and the locations are written, and name these texts and locations.
+fn write_named(
+    alloc: Global,
+    mut p: Profile,
+    mut texts: Met,
+    locations: Met,
+) -> Result<Profile, Memory>
+    ensures { (whole : Profile) → IsNamed whole p texts locations → IfOk result (IsWalked whole) }
+{
+    let (mappings, functions) = keep_entries(alloc, &mut p, &mut texts)?;
+    let by = Renumbering {
         text: Ids::Listed(texts),
         mapping: Ids::Listed(mappings),
         function: Ids::Listed(functions),
         location: Ids::Listed(locations),
-    })
+    };
+    renumber_tables(&mut p, &by);
+    mem::drop(by);
+    Ok(p)
 }
 
 // Keeps the mappings and the functions of the locations, and the texts of all, and gives the ids of the former in order.
@@ -77,14 +106,31 @@ fn keep_locations(
     by: &Renumbering,
     texts: &mut Met,
 ) -> Result<Met, Memory>
-    ensures met { IfOk result (λ met. met ≡ locations_met (with_new_samples (new_ids by.now) p.old)) }
-    ensures texts { OnOk result (texts.new ≡ met_after texts.old
-        (flat_map sample_text_ids (with_new_samples (new_ids by.now) p.old).sample)) }
-    ensures kept { OnOk result
-        (IsPlaced with_placed_samples texts.new (with_new_samples (new_ids by.now) p.old) p.new) }
+    requires { texts.old ≡ met_after [] (first_text_ids p.old) }
+    ensures { IfOk result (IsNamed (with_new_samples (new_ids by.now) p.old) p.new texts.new) }
 {
     let mut met = Met::new(alloc, p.location.len().saturating_add(1))?;
     place_samples(&mut p.sample, by, &mut met, texts)?;
+    p.location = gather(alloc, p.location.as_slice(), met.as_slice())?;
+    Ok(met)
+}
+
+// The same, on so many threads.
+fn keep_locations_on<R: Threads + Sync>(
+    rt: &R,
+    alloc: Global,
+    p: &mut Profile,
+    by: &Renumbering,
+    workers: u32,
+    texts: &mut Met,
+) -> Result<Met, Memory>
+    requires some { 1 ≤ workers }
+    requires named { AllByRecursion (NamesLocations (length p.old.location)) (with_new_samples (new_ids by.now) p.old).sample }
+    requires first { texts.old ≡ met_after [] (first_text_ids p.old) }
+    ensures { IfOk result (IsNamed (with_new_samples (new_ids by.now) p.old) p.new texts.new) }
+{
+    let mut met = Met::new(alloc, p.location.len().saturating_add(1))?;
+    place_samples_on(rt, p, by, workers, &mut met, texts)?;
     p.location = gather(alloc, p.location.as_slice(), met.as_slice())?;
     Ok(met)
 }

@@ -3,19 +3,23 @@ use Rattle.std.specs.List.{flat_map}
 use Rattle.pp_model.specs.declared.profile.Profile.{Profile}
 use Rattle.pp_share.specs.Numbers.{with_new_samples}
 use Rattle.pp_share.specs.Renumbered.{new_ids}
-use Rattle.pp_share.specs.Walk.{met_after, location_refs}
+use Rattle.pp_share.specs.Walk.{met_after, location_refs, sample_text_ids}
 use Rattle.pp_share.specs.Walked.{placed_sample, locations_met}
 use Rattle.pp_share.specs.Gathered.{gathered, location_entry}
 use Rattle.pp_share.proofs.write.keep_locations.Goals as goal
 
 -- no location is met later
-pub returns-clause-kept : goal.returns-clause-kept
-returns-clause-kept c = λ more.
+pub returns : goal.returns
+returns c =
     let p : Profile = with_new_samples (new_ids c.args.by.now) c.args.p.now in
     let placed = c.in_ok-place_samples.ensures in
-    let texts = met_after c.place_samples.new.texts more in
+    let texts = met_after c.place_samples.new.texts in
     let met : c.place_samples.new.locations ≡ locations_met p = placed.locations ∙ ap (λ m. met_after m (flat_map location_refs p.sample)) c.in_ok-met.ensures in
-    (λ j. record p {
-      sample = (placed.placed [] more ∙ ap (λ m. map (placed_sample m texts) p.sample) met) j;
-      location = (c.in_ok-p.ensures ∙ (λ i. gathered location_entry (c.as_slice.ensures i) ((c.as_slice-2.ensures ∙ met) i))) j;
-    })
+    record {
+      met = met;
+      said = placed.texts ∙ ap (λ t. met_after t (flat_map sample_text_ids p.sample)) c.requires;
+      kept = λ more j. record p {
+        sample = (placed.placed [] more ∙ ap (λ m. map (placed_sample m (texts more)) p.sample) met) j;
+        location = (c.in_ok-p.ensures ∙ (λ i. gathered location_entry (c.as_slice.ensures i) ((c.as_slice-2.ensures ∙ met) i))) j;
+      };
+    }

@@ -1,0 +1,117 @@
+//! Samples whose locations and texts become places, of which threads write most.
+ghost use Rattle.std.specs.Prelude.{◌≡◌, ℕ, ◌<◌, ◌≤◌, List as Seq, length, map, slice_index_or, OnOk, IfOk};
+ghost use Rattle.std.specs.Bool.{OnTrue};
+ghost use Rattle.std.specs.List.{AllByRecursion, flat_map};
+ghost use Rattle.pp_model.specs.declared.profile.Sample.{Sample as SampleValue};
+ghost use Rattle.pp_share.specs.Located.{labelled, located, located_from, HasLocated};
+ghost use Rattle.pp_share.specs.Renumbered.{new_ids, renumbered_sample};
+ghost use Rattle.pp_share.specs.Share.{NamesLocations};
+ghost use Rattle.pp_share.specs.Walk.{met_after, IsPlaced, location_refs, sample_text_ids};
+ghost use Rattle.pp_share.specs.Walked.{placed_sample};
+
+use crate::change::change_each;
+use crate::met::Met;
+use crate::placing::place_each;
+use crate::renumbering::Renumbering;
+use pp_base::{List, Memory};
+use pp_model::{Profile, Sample};
+use pp_steal::PIECE;
+use std::thread;
+use std::thread::Threads;
+
+/// The same as `place_samples`, of the samples of a profile. One thread goes over them until each location of the table
+/// was met, mostly soon, and over the labels of all. So many threads give the others the places of their locations.
+pub fn place_samples_on<R: Threads + Sync>(
+    rt: &R,
+    p: &mut Profile,
+    by: &Renumbering,
+    workers: u32,
+    locations: &mut Met,
+    texts: &mut Met,
+) -> Result<(), Memory>
+    requires some { 1 ≤ workers }
+    requires named { AllByRecursion (NamesLocations (length p.old.location))
+        (map (renumbered_sample (new_ids by.now)) p.old.sample) }
+    ensures locations { OnOk result (locations.new ≡ met_after locations.old
+        (flat_map location_refs (map (renumbered_sample (new_ids by.now)) p.old.sample))) }
+    ensures texts { OnOk result (texts.new ≡ met_after texts.old
+        (flat_map sample_text_ids (map (renumbered_sample (new_ids by.now)) p.old.sample))) }
+    ensures placed { OnOk result ((more : Seq ℕ) → p.new ≡ record p.old {
+      sample = map (placed_sample locations.new (met_after texts.new more))
+          (map (renumbered_sample (new_ids by.now)) p.old.sample);
+    }) }
+{
+    let count = p.location.len();
+    place_labels(&mut p.sample, by, texts)?;
+    let first = locate_first(&mut p.sample, by, count, locations)?;
+    locate_rest(rt, &mut p.sample, by, first, workers, locations);
+    Ok(())
+}
+
+// Gives the labels of the samples their new texts, and adds the texts that were not met yet. Each becomes its place.
+fn place_labels(samples: &mut List<Sample>, by: &Renumbering, texts: &mut Met) -> Result<(), Memory>
+    ensures texts { OnOk result (texts.new ≡ met_after texts.old
+        (flat_map sample_text_ids (map (renumbered_sample (new_ids by.now)) samples.old))) }
+    ensures placed { OnOk result
+        (IsPlaced (λ texts. map (labelled (new_ids by.now) texts)) texts.new samples.old samples.new) }
+{
+    for index in 0..samples.len() {
+        let labels = &mut samples.item_mut(index).label;
+        by.change_labels(labels);
+        place_each(labels, texts)?;
+    }
+    Ok(())
+}
+
+// Gives the first of the samples the places of their new locations, which are added where they were not met yet, until
+// all of so many were met, and tells how many these are.
+fn locate_first(
+    samples: &mut List<Sample>,
+    by: &Renumbering,
+    count: usize,
+    locations: &mut Met,
+) -> Result<usize, Memory>
+    ensures { IfOk result (λ first.
+        HasLocated (new_ids by.now) count first samples.old samples.new locations.old locations.new) }
+{
+    for index in 0..samples.len() {
+        if index % PIECE == 0 && locations.knows_all(count) {
+            return Ok(index);
+        }
+        let ids = &mut samples.item_mut(index).location_id;
+        by.change_locations(ids);
+        place_each(ids, locations)?;
+    }
+    Ok(samples.len())
+}
+
+// Gives the samples from the first of them on the places of their new locations, on so many threads.
+fn locate_rest<R: Threads + Sync>(
+    rt: &R,
+    samples: &mut List<Sample>,
+    by: &Renumbering,
+    first: usize,
+    workers: u32,
+    locations: &Met,
+)
+    requires { 1 ≤ workers }
+    ensures long { length samples.new ≡ length samples.old }
+    ensures each { (i : ℕ) → (other : SampleValue) → i < length samples.old → slice_index_or samples.new i other
+        ≡ located_from first (new_ids by.now) locations.now i (slice_index_or samples.old i other) }
+{
+    let locate = |index: usize, sample: &mut Sample|
+        ensures { sample.exit.now
+            ≡ located_from first (new_ids by.entry.now) locations.entry.now index sample.entry.now }
+    { locate_from(first, index, by, locations, sample) };
+    thread::for_each_mut(rt, samples.as_mut_slice(), workers as usize, &locate);
+}
+
+// Gives the sample at the index the places of its new locations, unless it stands before the first.
+fn locate_from(first: usize, index: usize, by: &Renumbering, locations: &Met, sample: &mut Sample)
+    ensures { sample.new ≡ located_from first (new_ids by.now) locations.now index sample.old }
+{
+    if first <= index {
+        by.change_locations(&mut sample.location_id);
+        change_each(&mut sample.location_id, locations);
+    }
+}
