@@ -8,11 +8,12 @@ use Rattle.std.proofs.lemmas.Bool.{eq-eqb, eqb-true, ne_eqb, and_parts}
 use Rattle.std.proofs.lemmas.List.{append_assoc, length-append, length-take-le, take_more, take_more_set}
 use Rattle.std.proofs.lemmas.List.Elements.{filter-append}
 use Rattle.pp_model.specs.declared.profile.Sample.{Sample}
+use Rattle.pp_model.specs.Values.{no_sample}
 use Rattle.pp_share.specs.SampleKeys.{sample_of, has_values}
-use Rattle.pp_share.specs.Woven.{StackRow, woven_items, CountsAlone, no_sample, slots, order_at, put_at}
+use Rattle.pp_share.specs.Woven.{StackRow, woven_items, CountsAlone, slots, order_at, put_at}
 
 -- how many places of an order are for sums
-abbrev nones : List (Option Sample) → ℕ
+abbrev pub nones : List (Option Sample) → ℕ
 nones order = length (filter is_none order)
 
 pub none_more : (order : List (Option Sample)) → nones (order ++ None ∷ []) ≡ nones order + 1

@@ -20,10 +20,11 @@ use Rattle.pp_share.specs.Repeats.{is_listed, times, HoldsRepeated}
 use Rattle.pp_share.specs.SampleKeys.{sample_item, sample_number, sample_stack, has_values, key_lists, same_sample_key, item_of_key}
 use Rattle.pp_share.specs.SampleStacks.{same_stack, stack_number, stack_decides}
 use Rattle.pp_share.specs.Sums.{sum_with, sum_of, keys_of, summed, sum_at, sums_with, CanAdd}
-use Rattle.pp_share.specs.Woven.{StackRow, woven_items, woven, StandsAlone, CountsAlone, IsWoven}
+use Rattle.pp_share.specs.Woven.{StackRow, woven_items, woven, HasOwnNumber, CountsAlone, IsWoven}
 use Rattle.pp_share.proofs.Prefix.{IsNext, map_same, next_weight}
 use Rattle.pp_share.proofs.RepeatLemmas.{itself, never}
 use Rattle.pp_share.proofs.SampleKeyLemmas.{sum_by-map, next_described, sum_at-described, insert-described, sample_adds, sums_after}
+use Rattle.pp_share.proofs.SlotLemmas.{nones, none_more}
 
 abbrev Stack : Type 0
 Stack = List ℕ × List Label
@@ -75,16 +76,13 @@ abbrev with_place : Bool → List (Option Sample) → List (Option Sample)
 with_place true order = order
 with_place false order = order ++ None ∷ []
 
-abbrev places : List (Option Sample) → ℕ
-places order = length (filter is_none order)
-
-places_with : (known : Bool) (order : List (Option Sample)) → places (with_place known order) ≡ places order + cond known 0 1
+places_with : (known : Bool) (order : List (Option Sample)) → nones (with_place known order) ≡ nones order + cond known 0 1
 places_with true order = omega arith
-places_with false order = ap length (filter-append is_none order (None ∷ [])) ∙ length-append (filter is_none order) (None ∷ [])
+places_with false order = none_more order
 
 -- A key whose number is repeated is looked up among the sums.
 module _ (repeated : List ℕ) (k : Stack) (here : is_listed repeated (stack_number k) ≡ true) where
-  found : (order : List (Option Sample)) (items : List StackRow) → AllByRecursion (StandsAlone repeated) order → places order ≡ length items
+  found : (order : List (Option Sample)) (items : List StackRow) → AllByRecursion (HasOwnNumber repeated) order → nones order ≡ length items
       → lookup (same_stack k) (woven_items order items) ≡ lookup (same_stack k) items
   found [] [] alone many = refl
   found [] (i ∷ items) alone many = absurd (omega (arith, many))
@@ -93,7 +91,7 @@ module _ (repeated : List ℕ) (k : Stack) (here : is_listed repeated (stack_num
   found (None ∷ order) [] alone many = absurd (omega (arith, many))
   found (None ∷ order) (i ∷ items) alone many = ap (λ o. if same_stack k i.0 then Some i.1 else o) (found order items alone.1 (omega (arith, many)))
 
-  placed : (v : List ℤ) (order : List (Option Sample)) (items : List StackRow) → AllByRecursion (StandsAlone repeated) order → places order ≡ length items
+  placed : (v : List ℤ) (order : List (Option Sample)) (items : List StackRow) → AllByRecursion (HasOwnNumber repeated) order → nones order ≡ length items
       → woven_items (with_place (is_key same_stack k items) order) (insert_entry same_stack items k v) ≡ insert_entry same_stack (woven_items order items) k v
   placed v [] [] alone many = refl
   placed v [] (i ∷ items) alone many = absurd (omega (arith, many))
@@ -121,7 +119,7 @@ module _ (repeated : List ℕ) (k : Stack) (here : is_listed repeated (stack_num
 -- A row of a key whose number is repeated.
 module _ (repeated : List ℕ) (all_have : Bool) (order : List (Option Sample)) (sums : List (SampleKey × List ℤ)) (before : IsWoven repeated all_have order sums)
     (key : SampleKey) (row : List ℤ) (here : is_listed repeated (stack_number (key_lists key)) ≡ true) where
-  many : places order ≡ length (map item_of_key sums)
+  many : nones order ≡ length (map item_of_key sums)
   many = before.places ∙ sym (length-map sums item_of_key)
 
   -- its sum is found among the sums
@@ -154,9 +152,9 @@ module _ (repeated : List ℕ) (all_have : Bool) (order : List (Option Sample)) 
       ∙ placed repeated (key_lists key) here (sum_with (sum_at same_sample_key sums key) row) order (map item_of_key sums) before.alone many
       ∙ ap (λ sum. insert_entry same_stack (woven order sums) (key_lists key) (sum_with sum row)) (sym sum_found)
 
-  still_alone : (b : Bool) → AllByRecursion (StandsAlone repeated) (with_place b order)
+  still_alone : (b : Bool) → AllByRecursion (HasOwnNumber repeated) (with_place b order)
   still_alone true = before.alone
-  still_alone false = all_push (StandsAlone repeated) order None before.alone tt
+  still_alone false = all_push (HasOwnNumber repeated) order None before.alone tt
 
   still_counts : (b : Bool) → all_have ≡ true → AllByRecursion CountsAlone (with_place b order)
   still_counts true have = before.values have
@@ -237,7 +235,7 @@ module _ (repeated : List ℕ) (s : Sample) (alone : is_listed repeated (sample_
       → IsWoven repeated all_have order sums → IsWoven repeated all_have (order ++ Some s ∷ []) sums
   alone_state all_have has order sums state = record {
     places = ap length (filter-append is_none order (Some s ∷ [])) ∙ length-append (filter is_none order) [] ∙ omega (arith, state.places);
-    alone = all_push (StandsAlone repeated) order (Some s) state.alone alone;
+    alone = all_push (HasOwnNumber repeated) order (Some s) state.alone alone;
     values = λ have. all_push CountsAlone order (Some s) (state.values have) (has have);
   }
 

@@ -29,9 +29,9 @@ abbrev pub woven_samples : List (Option Sample) → List (SampleKey × List ℤ)
 woven_samples order sums = map sample_of (filter counts (woven order sums))
 
 -- a sample that stands alone has a number that isn't repeated
-abbrev pub StandsAlone : List ℕ → Option Sample → Type 0
-StandsAlone repeated None = ⊤
-StandsAlone repeated (Some s) = is_listed repeated (sample_number s) ≡ false
+abbrev pub HasOwnNumber : List ℕ → Option Sample → Type 0
+HasOwnNumber repeated None = ⊤
+HasOwnNumber repeated (Some s) = is_listed repeated (sample_number s) ≡ false
 
 -- a sample that stands alone has a value that isn't 0
 abbrev pub CountsAlone : Option Sample → Type 0
@@ -42,12 +42,8 @@ CountsAlone (Some s) = has_values s ≡ true
 -- samples have values, so have these.
 pub record IsWoven (repeated : List ℕ) (all_have : Bool) (order : List (Option Sample)) (sums : List (SampleKey × List ℤ)) : Type 0 where
   pub places : length (filter is_none order) ≡ length sums
-  pub alone : AllByRecursion (StandsAlone repeated) order
+  pub alone : AllByRecursion (HasOwnNumber repeated) order
   pub values : all_have ≡ true → AllByRecursion CountsAlone order
-
--- nothing, where a sample was
-abbrev pub no_sample : Sample
-no_sample = record { location_id = []; value = []; label = [] }
 
 -- The samples from place i on, with none where a sum is to stand: at these places.
 abbrev pub slots : ℕ → List ℕ → List Sample → List (Option Sample)

@@ -4,13 +4,14 @@ ghost use Rattle.std.specs.List.{sum_by, list_all, list_any};
 ghost use Rattle.std.specs.Ordering.{int_eq};
 ghost use Rattle.pp_model.specs.declared.profile.Sample.{Sample as SampleValue};
 ghost use Rattle.pp_model.specs.Sizes.{value_in};
+ghost use Rattle.pp_model.specs.Values.{no_sample};
 ghost use Rattle.pp_share.specs.Sums.{sum_at, sums_with, CanAdd, keys_of};
 ghost use Rattle.pp_share.specs.SampleStacks.{same_stack};
 ghost use Rattle.pp_share.specs.SampleKeys.{sample_number, sample_stack, key_lists, same_sample_key, has_values, summed_samples};
 ghost use Rattle.pp_share.specs.Numbers.{AreNumbers};
 ghost use Rattle.pp_share.specs.Renumbered.{new_ids, renumbered_sample};
 ghost use Rattle.pp_share.specs.Repeats.{is_listed, HoldsRepeated};
-ghost use Rattle.pp_share.specs.Woven.{woven, woven_samples, no_sample, order_at, IsSummed, put_at, sum_sample};
+ghost use Rattle.pp_share.specs.Woven.{woven, woven_samples, order_at, IsSummed, put_at, sum_sample};
 
 use crate::change::Change;
 use crate::numbers::Numbers;

@@ -1,6 +1,5 @@
 use Rattle.std.proofs.Common.{◌<◌, sym, ap, subst, ◌∙◌}
 use Rattle.std.proofs.lemmas.Result.{IfOk-weaker}
-use Rattle.std.specs.List.Sorted.{IsPermutation}
 use Rattle.pp_share.specs.Marks.{is_marked}
 use Rattle.pp_share.specs.Repeats.{times, HoldsNext}
 use Rattle.pp_share.proofs.RepeatLemmas.{repeated_sorted, times_kept}

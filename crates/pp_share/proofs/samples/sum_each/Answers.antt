@@ -2,12 +2,13 @@ use Rattle.std.proofs.Common.{◌≡◌, ◌<◌, ℕ, List, get_or, length, map
 use Rattle.std.specs.List.{list_any}
 use Rattle.std.proofs.lemmas.List.{get_or_default, get_or-set_other, length-set, length-take-le, take-set-le, take_more}
 use Rattle.pp_model.specs.declared.profile.Sample.{Sample}
+use Rattle.pp_model.specs.Values.{no_sample}
 use Rattle.pp_share.specs.Renumbered.{new_ids, renumbered_sample}
 use Rattle.pp_share.specs.Repeats.{is_listed, HoldsRepeated}
 use Rattle.pp_share.specs.Sums.{keys_of, summed, sum_at, sums_with, CanAdd}
 use Rattle.pp_share.specs.SampleStacks.{same_stack}
 use Rattle.pp_share.specs.SampleKeys.{sample_item, sample_number, sample_stack, has_values}
-use Rattle.pp_share.specs.Woven.{woven, no_sample, slots, order_at}
+use Rattle.pp_share.specs.Woven.{woven, slots, order_at}
 use Rattle.pp_share.proofs.Prefix.{IsNext, map_same}
 use Rattle.pp_share.proofs.WovenLemmas.{moved_counts, moved_number, moved_adds, moved_sums, moved_alone}
 use Rattle.pp_share.proofs.samples.sum_each.Goals as goal

@@ -3,7 +3,6 @@ use Rattle.std.specs.List.{flat_map}
 use Rattle.std.proofs.lemmas.List.Sums.{fold-append}
 use Rattle.pp_share.specs.Walk.{met_with, met_after, first_text_ids, sample_text_ids, table_text_ids}
 use Rattle.pp_share.specs.Walked.{locations_met, with_locations, with_placed_samples, mappings_met, with_mappings, functions_met, with_functions, with_tables, with_texts, walked_texts_of, by_places}
-use Rattle.pp_model.specs.declared.profile.Profile.{Profile}
 use Rattle.pp_share.specs.Renumbered.{renumbered_tables}
 use Rattle.pp_share.proofs.write.write_named.Goals as goal
 

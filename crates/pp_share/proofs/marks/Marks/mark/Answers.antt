@@ -1,4 +1,4 @@
-use Rattle.std.proofs.Common.{◌≡◌, ◌<◌, true, length, ap, subst, sym, ◌∙◌}
+use Rattle.std.proofs.Common.{◌≡◌, ◌<◌, length, ap, subst, ◌∙◌}
 use Rattle.pp_share.specs.Marks.{word_of, is_marked}
 use Rattle.pp_share.proofs.MarkLemmas.{now_marked, still_marked}
 use Rattle.pp_share.proofs.marks.Marks.mark.Goals as goal
