@@ -1,15 +1,17 @@
 -- Numbers that stand more than once in a list.
-use Rattle.std.proofs.Common.{◌≡◌, ℕ, zero, suc, ◌+◌, ◌-◌, ◌<◌, ◌≤◌, ◌==◌, Bool, true, false, true≢false, cond, ◌||◌, List, [], ◌∷◌, ◌++◌, length, filter, get_or, ⊎_elim, refl, sym, ap, subst, ◌∙◌, if◌then◌else◌, arith}
+use Rattle.std.proofs.Common.{◌≡◌, ℕ, zero, suc, ◌+◌, ◌-◌, ◌<◌, ◌≤◌, ◌==◌, Bool, true, false, true≢false, cond, ◌||◌, List, [], ◌∷◌, ◌++◌, length, filter, take, get_or, ⊎_elim, refl, sym, ap, subst, ◌∙◌, if◌then◌else◌, arith}
 use Rattle.std.specs.Ordering.{nat_cmp}
 use Rattle.std.specs.Prelude.{nat_eq}
 use Rattle.std.specs.List.{list_any, AllByRecursion, IsDistinct}
 use Rattle.std.specs.List.Sorted.{IsPermutation, IsSorted}
 use Rattle.std.proofs.lemmas.Bool.{cases_lt, ne_eqb}
+use Rattle.std.proofs.lemmas.List.{take_more}
 use Rattle.std.proofs.lemmas.List.Folds.{list_any-append}
 use Rattle.std.proofs.lemmas.List.Sorted.{IsNonDecreasingBy-from_sort, all_adjacent_from_non_decreasing, sum_by-IsPermutation}
 use Rattle.indexmap.specs.IndexSet.{insert_key}
 use Rattle.std.proofs.lemmas.Bool.Decides.{Decides-eqb}
 use Rattle.std.proofs.lemmas.List.Sums.{sum_by-cons, sum_by-append}
+use Rattle.pp_share.specs.Marks.{is_marked}
 use Rattle.pp_share.specs.Repeats.{is_listed, times, HoldsRepeated, HoldsNext}
 
 -- one number more
@@ -106,6 +108,14 @@ one_more ns before after index holds keeps here k within same =
     subst (λ i. is_listed after (get_or ns i 0) ≡ true) at (here (ap (λ i. get_or ns i 0) at ∙ same ∙ ap (λ i. get_or ns i 0) (sym next))))
     (cases_lt (k + 1) index)
 
+-- what is among the numbers once one is put behind them
+pub listed_push : (ks : List ℕ) (n m : ℕ) → is_listed (ks ++ n ∷ []) m ≡ (is_listed ks m || (m == n))
+listed_push ks n m = list_any-append (λ k. m == k) ks (n ∷ []) ∙ ap (λ b. is_listed ks m || b) (by (m == n))
+  where
+    by : (b : Bool) → (b || false) ≡ b
+    by true = refl
+    by false = refl
+
 -- what was among them stays, and a number that is put in is among them
 pub stays_among : (ks : List ℕ) (n m : ℕ) → is_listed ks m ≡ true → is_listed (insert_key nat_eq ks n) m ≡ true
 stays_among ks n m is = by (list_any (nat_eq n) ks)
@@ -142,3 +152,48 @@ times_kept keeps number (n ∷ ns) kept = by (keeps n) refl (times_kept keeps nu
     by : (b : Bool) → keeps n ≡ b → times number (filter keeps ns) ≡ times number ns → times number (if b then n ∷ filter keeps ns else filter keeps ns) ≡ times number (n ∷ ns)
     by true is rest = times-cons number n (filter keeps ns) ∙ ap (λ k. cond (number == n) 1 0 + k) rest ∙ sym (times-cons number n ns)
     by false is rest = omega (arith, rest, times-cons number n ns, ap {B = ℕ} (λ b. cond b 1 0) (ne_eqb number n (λ same. true≢false (sym kept ∙ ap keeps same ∙ is))))
+
+-- how often a number stands among those so far, once there is one more
+times_next : (x : ℕ) (ns : List ℕ) (i n : ℕ) → i < length ns → n ≡ get_or ns i 0 → times x (take (i + 1) ns) ≡ times x (take i ns) + cond (x == n) 1 0
+times_next x ns i n within at =
+    omega (
+      arith,
+      ap (times x) (take_more ns i 0 within ∙ ap (λ m. take i ns ++ m ∷ []) (sym at)),
+      times-append x (take i ns) (n ∷ []),
+      times-cons x n [],
+    )
+
+-- What is marked and listed of the numbers so far stays right with one more, which is listed where it was marked, and else is marked.
+module _ (ns : List ℕ) (i n : ℕ) (within : i < length ns) (at : n ≡ get_or ns i 0) (words again : List ℕ)
+    (once : (x : ℕ) → 0 < times x (take i ns) → is_marked words x ≡ true) (listed : HoldsRepeated (take i ns) again) where
+  either_way : (x : ℕ) (P : Type 0) → (x ≡ n → P) → (times x (take (i + 1) ns) ≡ times x (take i ns) → P) → P
+  either_way x P same other = by (x == n) refl
+    where
+      by : (b : Bool) → (x == n) ≡ b → P
+      by true is = same ((Decides-eqb x n).0 is)
+      by false is = other (omega (arith, times_next x ns i n within at, ap {B = ℕ} (λ b. cond b 1 0) is))
+
+  pub still_once : is_marked words n ≡ true → (x : ℕ) → 0 < times x (take (i + 1) ns) → is_marked words x ≡ true
+  still_once here x some =
+      either_way x (is_marked words x ≡ true) (λ same. ap (is_marked words) same ∙ here) (λ kept. once x (omega (arith, some, kept)))
+
+  pub now_listed : HoldsRepeated (take (i + 1) ns) (again ++ n ∷ [])
+  now_listed x more =
+      either_way x (is_listed (again ++ n ∷ []) x ≡ true)
+      (λ same. listed_push again n x ∙ ap (λ b. is_listed again x || b) ((Decides-eqb x n).1 same) ∙ or_true (is_listed again x))
+      (λ kept. listed_push again n x ∙ ap (λ b. b || (x == n)) (listed x (omega (arith, more, kept))))
+    where
+      or_true : (b : Bool) → (b || true) ≡ true
+      or_true true = refl
+      or_true false = refl
+
+  pub now_once : (after : List ℕ) → is_marked after n ≡ true → ((x : ℕ) → is_marked words x ≡ true → is_marked after x ≡ true)
+      → (x : ℕ) → 0 < times x (take (i + 1) ns) → is_marked after x ≡ true
+  now_once after here stays x some =
+      either_way x (is_marked after x ≡ true) (λ same. ap (is_marked after) same ∙ here) (λ kept. stays x (once x (omega (arith, some, kept))))
+
+  pub still_listed : is_marked words n ≡ false → HoldsRepeated (take (i + 1) ns) again
+  still_listed here x more =
+      either_way x (is_listed again x ≡ true)
+      (λ same. absurd (true≢false (sym (once n (omega (arith, more, times_next x ns i n within at, ap {B = ℕ} (λ b. cond b 1 0) ((Decides-eqb x n).1 same), ap (λ y. times y (take i ns)) same))) ∙ here)))
+      (λ kept. listed x (omega (arith, more, kept)))

@@ -25,11 +25,11 @@ impl Model for Marks {
 }
 
 impl Marks {
-    /// No number is marked. Once so many are, less than one in 16 of the others counts as marked too.
+    /// No number is marked. Once so many are, at most one in eight of the others counts as marked too.
     pub fn with_room(alloc: Global, count: usize) -> Result<Marks, Memory>
         ensures { IfOk result (λ marks. (number : ℕ) → is_marked marks number ≡ false) }
     {
-        let words = vec![in alloc; 0u64; (count / 4 + 1).next_power_of_two()]?;
+        let words = vec![in alloc; 0u64; (count / 8 + 1).next_power_of_two()]?;
         Ok(Marks { words })
     }
 

@@ -1,7 +1,7 @@
 //! The numbers that stand more than once in a list.
-ghost use Rattle.std.specs.Prelude.{◌≡◌, ◌<◌, ℕ, true, filter, IfOk};
+ghost use Rattle.std.specs.Prelude.{◌≡◌, filter, IfOk};
 ghost use Rattle.pp_share.specs.Marks.{is_marked};
-ghost use Rattle.pp_share.specs.Repeats.{times, HoldsNext, HoldsRepeated, HasMarks};
+ghost use Rattle.pp_share.specs.Repeats.{HoldsNext, HoldsRepeated, HasMarks};
 
 use crate::marks::Marks;
 use indexmap::IndexSet;
@@ -67,12 +67,13 @@ fn marks_of(alloc: Global, numbers: &[u64]) -> Result<Marks, Memory>
     Ok(marks)
 }
 
-// The numbers that stand more than once. Only those that share their mark with one before them are put in order.
+// The numbers that stand more than once. Only those are put in order whose mark one of these has, which are few.
 fn listed_again(alloc: Global, numbers: &[u64]) -> Result<IndexSet<u64>, Memory>
     ensures { IfOk result (λ r. HoldsRepeated numbers.now r.keys) }
 {
-    let again = marked_again(alloc, numbers)?;
-    let mut sorted = marked(alloc, numbers, &again)?;
+    let again = marked_before(alloc, numbers)?;
+    let marks = marks_of(alloc, again.as_slice())?;
+    let mut sorted = marked(alloc, numbers, &marks)?;
     sorted.sort_unstable();
     repeated_next(alloc, sorted.as_slice())
 }
@@ -89,17 +90,17 @@ fn marked(alloc: Global, numbers: &[u64], marks: &Marks) -> Result<Vec<u64>, Mem
     Ok(marked)
 }
 
-// Marks on the numbers that stand more than once.
-fn marked_again(alloc: Global, numbers: &[u64]) -> Result<Marks, Memory>
-    ensures { IfOk result (λ again. (number : ℕ) → 1 < times number numbers.now → is_marked again number ≡ true) }
+// The numbers whose mark one before them has. Each that stands more than once is among them.
+fn marked_before(alloc: Global, numbers: &[u64]) -> Result<Vec<u64>, Memory>
+    ensures { IfOk result (λ r. HoldsRepeated numbers.now r.items) }
 {
-    let mut once = Marks::with_room(alloc, numbers.len())?;
-    let mut again = Marks::with_room(alloc, numbers.len())?;
+    let mut marks = Marks::with_room(alloc, numbers.len())?;
+    let mut again = Vec::new(alloc);
     for number in numbers {
-        if once.has(*number) {
-            again.mark(*number);
+        if marks.has(*number) {
+            again.push(*number)?;
         } else {
-            once.mark(*number);
+            marks.mark(*number);
         }
     }
     Ok(again)

@@ -154,6 +154,14 @@ fn read_next<R: Threads + Sync, G: Gate>(
     ensures read { IfOk result (λ next. IfSome next (λ n.
         IsCutInto AreSamples (map (payload_of job.now.bytes.now) job.now.extents.now) n.1)) }
 {
+    // In front of the first wave there is nothing to join.
+    if parts.len() == 0 {
+        let read = read_wave(rt, job, workers, gate)?;
+        let Some(samples) = join(samples, parts)? else {
+            return Ok(None);
+        };
+        return Ok(Some((samples, read)));
+    }
     let promise = Joining {
         samples: Snapshot::of(&samples),
         parts: Snapshot::of(&parts),
