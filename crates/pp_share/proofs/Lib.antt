@@ -24,7 +24,7 @@ pub mod Grouping
 pub mod Prefix
 pub mod Agreement
 pub mod SummedLemmas
-pub mod MarkLemmas
+pub mod BloomLemmas
 pub mod RepeatLemmas
 pub mod SampleKeyLemmas
 pub mod WovenLemmas

@@ -11,7 +11,7 @@ use Rattle.std.proofs.lemmas.List.Sorted.{IsNonDecreasingBy-from_sort, all_adjac
 use Rattle.indexmap.specs.IndexSet.{insert_key}
 use Rattle.std.proofs.lemmas.Bool.Decides.{Decides-eqb}
 use Rattle.std.proofs.lemmas.List.Sums.{sum_by-cons, sum_by-append}
-use Rattle.pp_share.specs.Marks.{is_marked}
+use Rattle.pp_share.specs.BloomFilter.{may_contain}
 use Rattle.pp_share.specs.Repeats.{is_listed, times, HoldsRepeated, HoldsNext}
 
 -- one number more
@@ -163,9 +163,9 @@ times_next x ns i n within at =
       times-cons x n [],
     )
 
--- What is marked and listed of the numbers so far stays right with one more, which is listed where it was marked, and else is marked.
+-- What a filter contains and a list holds of the numbers so far stays right with one more: it is listed where the filter tells of it, and else inserted.
 module _ (ns : List ℕ) (i n : ℕ) (within : i < length ns) (at : n ≡ get_or ns i 0) (words again : List ℕ)
-    (once : (x : ℕ) → 0 < times x (take i ns) → is_marked words x ≡ true) (listed : HoldsRepeated (take i ns) again) where
+    (once : (x : ℕ) → 0 < times x (take i ns) → may_contain words x ≡ true) (listed : HoldsRepeated (take i ns) again) where
   either_way : (x : ℕ) (P : Type 0) → (x ≡ n → P) → (times x (take (i + 1) ns) ≡ times x (take i ns) → P) → P
   either_way x P same other = by (x == n) refl
     where
@@ -173,9 +173,9 @@ module _ (ns : List ℕ) (i n : ℕ) (within : i < length ns) (at : n ≡ get_or
       by true is = same ((Decides-eqb x n).0 is)
       by false is = other (omega (arith, times_next x ns i n within at, ap {B = ℕ} (λ b. cond b 1 0) is))
 
-  pub still_once : is_marked words n ≡ true → (x : ℕ) → 0 < times x (take (i + 1) ns) → is_marked words x ≡ true
+  pub still_once : may_contain words n ≡ true → (x : ℕ) → 0 < times x (take (i + 1) ns) → may_contain words x ≡ true
   still_once here x some =
-      either_way x (is_marked words x ≡ true) (λ same. ap (is_marked words) same ∙ here) (λ kept. once x (omega (arith, some, kept)))
+      either_way x (may_contain words x ≡ true) (λ same. ap (may_contain words) same ∙ here) (λ kept. once x (omega (arith, some, kept)))
 
   pub now_listed : HoldsRepeated (take (i + 1) ns) (again ++ n ∷ [])
   now_listed x more =
@@ -187,12 +187,12 @@ module _ (ns : List ℕ) (i n : ℕ) (within : i < length ns) (at : n ≡ get_or
       or_true true = refl
       or_true false = refl
 
-  pub now_once : (after : List ℕ) → is_marked after n ≡ true → ((x : ℕ) → is_marked words x ≡ true → is_marked after x ≡ true)
-      → (x : ℕ) → 0 < times x (take (i + 1) ns) → is_marked after x ≡ true
+  pub now_once : (after : List ℕ) → may_contain after n ≡ true → ((x : ℕ) → may_contain words x ≡ true → may_contain after x ≡ true)
+      → (x : ℕ) → 0 < times x (take (i + 1) ns) → may_contain after x ≡ true
   now_once after here stays x some =
-      either_way x (is_marked after x ≡ true) (λ same. ap (is_marked after) same ∙ here) (λ kept. stays x (once x (omega (arith, some, kept))))
+      either_way x (may_contain after x ≡ true) (λ same. ap (may_contain after) same ∙ here) (λ kept. stays x (once x (omega (arith, some, kept))))
 
-  pub still_listed : is_marked words n ≡ false → HoldsRepeated (take (i + 1) ns) again
+  pub still_listed : may_contain words n ≡ false → HoldsRepeated (take (i + 1) ns) again
   still_listed here x more =
       either_way x (is_listed again x ≡ true)
       (λ same. absurd (true≢false (sym (once n (omega (arith, more, times_next x ns i n within at, ap {B = ℕ} (λ b. cond b 1 0) ((Decides-eqb x n).1 same), ap (λ y. times y (take i ns)) same))) ∙ here)))

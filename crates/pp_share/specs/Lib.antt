@@ -11,7 +11,7 @@ pub mod FunctionKeys
 pub mod PlaceKeys
 pub mod SampleStacks
 pub mod SampleKeys
-pub mod Marks
+pub mod BloomFilter
 pub mod Repeats
 pub mod Woven
 pub mod Numbers

@@ -1,7 +1,7 @@
 -- Numbers that stand more than once in a list.
 use Rattle.std.specs.Prelude.{◌≡◌, ℕ, ◌+◌, ◌<◌, ◌==◌, Bool, true, List, length, slice_index_or}
 use Rattle.std.specs.List.{list_any, count_by}
-use Rattle.pp_share.specs.Marks.{is_marked}
+use Rattle.pp_share.specs.BloomFilter.{may_contain}
 
 -- the number is one of these
 abbrev pub is_listed : List ℕ → ℕ → Bool
@@ -20,6 +20,6 @@ abbrev pub HoldsNext : List ℕ → List ℕ → Type 0
 HoldsNext numbers repeated = (k : ℕ) → k + 1 < length numbers
     → slice_index_or numbers k 0 ≡ slice_index_or numbers (k + 1) 0 → is_listed repeated (slice_index_or numbers k 0) ≡ true
 
--- these numbers are marked in the words
-abbrev pub HasMarks : List ℕ → List ℕ → Type 0
-HasMarks words numbers = (number : ℕ) → is_listed numbers number ≡ true → is_marked words number ≡ true
+-- the Bloom filter tells of each of these numbers
+abbrev pub MayContainAll : List ℕ → List ℕ → Type 0
+MayContainAll words numbers = (number : ℕ) → is_listed numbers number ≡ true → may_contain words number ≡ true

@@ -2,6 +2,7 @@
 #![tactic(auto)]
 
 mod behind;
+mod bloom_filter;
 mod change;
 mod first_sight;
 mod functions;
@@ -10,7 +11,6 @@ mod ids;
 mod kept;
 mod known;
 mod lanes;
-mod marks;
 mod met;
 mod numbered;
 mod numbers;

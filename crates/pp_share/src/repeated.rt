@@ -1,44 +1,44 @@
 //! The numbers that stand more than once in a list.
 ghost use Rattle.std.specs.Prelude.{◌≡◌, filter, IfOk};
-ghost use Rattle.pp_share.specs.Marks.{is_marked};
-ghost use Rattle.pp_share.specs.Repeats.{HoldsNext, HoldsRepeated, HasMarks};
+ghost use Rattle.pp_share.specs.BloomFilter.{may_contain};
+ghost use Rattle.pp_share.specs.Repeats.{HoldsNext, HoldsRepeated, MayContainAll};
 
-use crate::marks::Marks;
+use crate::bloom_filter::BloomFilter;
 use indexmap::IndexSet;
 use pp_base::Memory;
 use std::alloc::Global;
 use std::marker::Model;
 
-/// Numbers of which those of a list that stand more than once are some. Most numbers of a list stand once, which their mark
-/// tells sooner than a look-up.
+/// The numbers that stand more than once in a list, and maybe others. Most numbers of a list stand once, which a Bloom
+/// filter tells sooner than a look-up.
 #[derive(Drop)]
 pub struct Repeated {
     numbers: IndexSet<u64>,
-    marks: Marks,
+    bloom: BloomFilter,
 }
 
 impl Model for Repeated {
     ghost use Rattle.std.specs.Prelude.{ℕ, List};
-    ghost use Rattle.pp_share.specs.Repeats.{HasMarks};
+    ghost use Rattle.pp_share.specs.Repeats.{MayContainAll};
 
     ghost Value = { List ℕ };
 
     ghost view = { λ r. r.numbers.keys };
 
-    ghost invariant = { λ r. HasMarks r.marks r.numbers.keys };
+    ghost invariant = { λ r. MayContainAll r.bloom r.numbers.keys };
 }
 
 impl Repeated {
     ghost use Rattle.std.specs.Prelude.{◌≡◌, ◌↔◌, length, IsTrue, IfOk};
     ghost use Rattle.pp_share.specs.Repeats.{is_listed, HoldsRepeated};
 
-    /// The numbers that stand more than once.
+    /// The numbers of the list that stand more than once.
     pub fn new(alloc: Global, numbers: &[u64]) -> Result<Repeated, Memory>
         ensures { IfOk result (HoldsRepeated numbers.now) }
     {
-        let numbers = listed_again(alloc, numbers)?;
-        let marks = marks_of(alloc, numbers.as_slice())?;
-        Ok(Repeated { numbers, marks })
+        let numbers = find_repeated(alloc, numbers)?;
+        let bloom = filter_of(alloc, numbers.as_slice())?;
+        Ok(Repeated { numbers, bloom })
     }
 
     /// Whether there are none.
@@ -49,58 +49,58 @@ impl Repeated {
     }
 
     /// Whether the number is one of these.
-    pub fn has(&self, number: u64) -> bool
+    pub fn contains(&self, number: u64) -> bool
         ensures { result ≡ is_listed self.now number }
     {
-        self.marks.has(number) && self.numbers.contains(&number)
+        self.bloom.may_contain(number) && self.numbers.contains(&number)
     }
 }
 
-// Marks on these numbers.
-fn marks_of(alloc: Global, numbers: &[u64]) -> Result<Marks, Memory>
-    ensures { IfOk result (λ marks. HasMarks marks numbers.now) }
+// A filter with these numbers.
+fn filter_of(alloc: Global, numbers: &[u64]) -> Result<BloomFilter, Memory>
+    ensures { IfOk result (λ bloom. MayContainAll bloom numbers.now) }
 {
-    let mut marks = Marks::with_room(alloc, numbers.len())?;
+    let mut bloom = BloomFilter::with_room(alloc, numbers.len())?;
     for number in numbers {
-        marks.mark(*number);
+        bloom.insert(*number);
     }
-    Ok(marks)
+    Ok(bloom)
 }
 
-// The numbers that stand more than once. Only those are put in order whose mark one of these has, which are few.
-fn listed_again(alloc: Global, numbers: &[u64]) -> Result<IndexSet<u64>, Memory>
+// The numbers that stand more than once. Only those that may be such are put in order, which are few.
+fn find_repeated(alloc: Global, numbers: &[u64]) -> Result<IndexSet<u64>, Memory>
     ensures { IfOk result (λ r. HoldsRepeated numbers.now r.keys) }
 {
-    let again = marked_before(alloc, numbers)?;
-    let marks = marks_of(alloc, again.as_slice())?;
-    let mut sorted = marked(alloc, numbers, &marks)?;
-    sorted.sort_unstable();
-    repeated_next(alloc, sorted.as_slice())
+    let again = met_before(alloc, numbers)?;
+    let bloom = filter_of(alloc, again.as_slice())?;
+    let mut candidates = kept_by(alloc, numbers, &bloom)?;
+    candidates.sort_unstable();
+    repeated_next(alloc, candidates.as_slice())
 }
 
-// The numbers that count as marked.
-fn marked(alloc: Global, numbers: &[u64], marks: &Marks) -> Result<Vec<u64>, Memory>
-    ensures { IfOk result (λ r. r.items ≡ filter (is_marked marks.now) numbers.now) }
+// The numbers that the filter may contain, in order.
+fn kept_by(alloc: Global, numbers: &[u64], bloom: &BloomFilter) -> Result<Vec<u64>, Memory>
+    ensures { IfOk result (λ r. r.items ≡ filter (may_contain bloom.now) numbers.now) }
 {
-    let marked = numbers
+    let kept = numbers
         .iter()
         .copied()
-        .filter(|number| marks.has(*number))
+        .filter(|number| bloom.may_contain(*number))
         .collect(alloc)?;
-    Ok(marked)
+    Ok(kept)
 }
 
-// The numbers whose mark one before them has. Each that stands more than once is among them.
-fn marked_before(alloc: Global, numbers: &[u64]) -> Result<Vec<u64>, Memory>
+// The numbers that may stand before too. Each that stands more than once is among them.
+fn met_before(alloc: Global, numbers: &[u64]) -> Result<Vec<u64>, Memory>
     ensures { IfOk result (λ r. HoldsRepeated numbers.now r.items) }
 {
-    let mut marks = Marks::with_room(alloc, numbers.len())?;
+    let mut bloom = BloomFilter::with_room(alloc, numbers.len())?;
     let mut again = Vec::new(alloc);
     for number in numbers {
-        if marks.has(*number) {
+        if bloom.may_contain(*number) {
             again.push(*number)?;
         } else {
-            marks.mark(*number);
+            bloom.insert(*number);
         }
     }
     Ok(again)

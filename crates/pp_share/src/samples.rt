@@ -168,7 +168,7 @@ fn take(
 {
     // A place is below the length, so the next one fits.
     let _count = sums.samples.len();
-    if !repeated.has(number) {
+    if !repeated.contains(number) {
         let place = sums.kept;
         *sums.samples.item_mut(place) = sample;
         sums.kept = place + 1;

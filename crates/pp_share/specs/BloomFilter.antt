@@ -1,4 +1,4 @@
--- Numbers that are marked among words of 64 bits, a bit each.
+-- A Bloom filter as words of 64 bits, of which each number has one.
 use Rattle.std.specs.Prelude.{ℕ, ◌-◌, ◌/◌, ◌%◌, ◌==◌, Bool, List, length, slice_index_or, bit_and}
 use Rattle.std.specs.Int.{bit_at}
 
@@ -7,5 +7,5 @@ abbrev pub word_of : List ℕ → ℕ → ℕ
 word_of words number = bit_and (number / 64) (length words - 1)
 
 -- the number's bit is set
-abbrev pub is_marked : List ℕ → ℕ → Bool
-is_marked words number = bit_at (slice_index_or words (word_of words number) 0) (number % 64) == 1
+abbrev pub may_contain : List ℕ → ℕ → Bool
+may_contain words number = bit_at (slice_index_or words (word_of words number) 0) (number % 64) == 1
