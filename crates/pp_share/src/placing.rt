@@ -52,7 +52,7 @@ pub trait Place {
         ensures placed { OnOk result (IsPlaced placed met.new self.old self.new) };
 }
 
-/// The same of each item, in order.
+/// Adds the ids to which the items refer, in order, that were not met yet, and gives each item its places.
 pub fn place_each<T: Place>(items: &mut List<T>, met: &mut Met) -> Result<(), Memory>
     ensures met { OnOk result (met.new ≡ met_after met.old (flat_map T.refs items.old)) }
     ensures placed { OnOk result (IsPlaced (λ met. map (T.placed met)) met.new items.old items.new) }

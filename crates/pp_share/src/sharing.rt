@@ -49,7 +49,8 @@ pub fn share(alloc: Global, p: Profile) -> Result<Profile, Memory>
 
 /// The same. Where the numbers of the samples by the ids that they have are known, and none of the texts and locations
 /// that samples name gets another id, the samples are not gone over for their numbers. Else they are numbered in pieces
-/// of 1,024 on so many lanes, from 1 to 64. The profile does not tell how many there were.
+/// of 1,024 on so many lanes, from 1 to 64. As many threads write most samples. The profile does not tell how many there
+/// were.
 pub fn share_on<R: Threads + Sync, G: Gate>(
     rt: &R,
     alloc: Global,
