@@ -8,7 +8,7 @@ ghost use Rattle.pp_share.specs.Renumbered.{new_ids};
 ghost use Rattle.pp_share.specs.Numbers.{AreNumbersBy, AreNumbers, AreOwnNumbers, AddsNumber, JoinsNumbers};
 
 use crate::renumbering::Renumbering;
-use crate::sample_key::{number_by, own_number};
+use crate::sample_number::{number_by, own_number};
 use crate::samples::has_values;
 use pp_base::{Gate, List, Memory};
 use pp_model::Sample;

@@ -6,7 +6,7 @@ ghost use Rattle.pp_model.specs.declared.profile.Sample.{Sample as SampleValue};
 ghost use Rattle.pp_model.specs.Sizes.{value_in};
 ghost use Rattle.pp_model.specs.Values.{no_sample};
 ghost use Rattle.pp_share.specs.Sums.{sum_at, sums_with, CanAdd, keys_of};
-ghost use Rattle.pp_share.specs.SampleStacks.{same_stack};
+ghost use Rattle.pp_share.specs.SampleStacks.{same_stack, stack_number};
 ghost use Rattle.pp_share.specs.SampleKeys.{sample_number, sample_stack, key_lists, same_sample_key, has_values, summed_samples};
 ghost use Rattle.pp_share.specs.Numbers.{AreNumbers};
 ghost use Rattle.pp_share.specs.Renumbered.{new_ids, renumbered_sample};
@@ -175,7 +175,7 @@ fn take(
         return Ok(());
     }
     let known = sums.sums.len();
-    let key = key_of(sample.location_id, sample.label);
+    let key = key_of(number, sample.location_id, sample.label);
     add(alloc, &mut sums.sums, key, sample.value)?;
     if sums.sums.len() > known {
         let place = sums.kept;
@@ -185,11 +185,13 @@ fn take(
     Ok(())
 }
 
-// The key of these locations and labels.
-fn key_of(locations: List<u64>, labels: List<Label>) -> SampleKey
+// The key of these locations and labels, which have this number.
+fn key_of(number: u64, locations: List<u64>, labels: List<Label>) -> SampleKey
+    requires { number ≡ stack_number (locations, labels) }
     ensures { key_lists result ≡ (locations, labels) }
 {
     SampleKey {
+        number,
         locations: locations.into_vec(),
         labels: labels.into_vec(),
     }

@@ -3,7 +3,7 @@ use Rattle.std.proofs.lemmas.List.Folds.{fold-map}
 use Rattle.pp_share.specs.Ids.{new_id}
 use Rattle.pp_share.specs.Renumbered.{new_ids, renumbered_label}
 use Rattle.pp_share.specs.SampleStacks.{with_number, with_label}
-use Rattle.pp_share.proofs.sample_key.number_by.Goals as goal
+use Rattle.pp_share.proofs.sample_number.number_by.Goals as goal
 
 -- the ids and the labels are taken as they will be
 pub returns : goal.returns

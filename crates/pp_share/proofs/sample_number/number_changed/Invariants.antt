@@ -1,6 +1,6 @@
 use Rattle.std.proofs.Common.{◌≡◌, fold, take}
 use Rattle.pp_share.specs.SampleStacks.{with_number}
-use Rattle.pp_share.proofs.sample_key.number_changed.Given as goal
+use Rattle.pp_share.proofs.sample_number.number_changed.Given as goal
 
 -- the number of the ids so far
 abbrev pub invariant-loop-id : goal.invariant-loop-id
