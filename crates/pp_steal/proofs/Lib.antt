@@ -11,3 +11,4 @@ pub mod Laws
 pub mod Placing
 pub mod Whole
 pub mod PieceLemmas
+pub mod Spreading

@@ -22,6 +22,7 @@ mod piece;
 mod reach;
 mod room;
 mod run;
+mod spread;
 mod station;
 mod view;
 
@@ -34,3 +35,4 @@ pub use make::Lanes;
 pub use piece::{PIECE, piece_of, pieces_of};
 pub use reach::{Reach, sweep};
 pub use run::run_pieces;
+pub use spread::for_each_on;

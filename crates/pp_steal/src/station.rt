@@ -5,9 +5,9 @@ ghost use Rattle.pp_steal.specs.Running.{HasOutcomes, IsIdle, IsServed, AreServe
 
 use crate::job::Job;
 use crate::lane::Lane;
+use crate::spread::for_each_on;
 use pp_base::{Gate, List, Memory};
 use std::alloc::Global;
-use std::thread;
 use std::thread::Threads;
 
 // A lane at work, and the outcomes of the pieces that it took.
@@ -58,7 +58,7 @@ pub(crate) fn serve_all<R: Threads + Sync, J: Job, G: Gate>(
         requires { IsIdle station.now × (station.now.lane.make.pieces ≤ J.pieces job.now) }
         ensures { IsServed (J.right job.entry.now) station.entry.now station.exit.now }
     { serve_or_stop(job, gate, station) };
-    thread::for_each_mut(rt, stations.as_mut_slice(), threads, &work);
+    for_each_on(rt, stations.as_mut_slice(), threads, &work);
 }
 
 // Serves, and notes whether memory was wanting.
