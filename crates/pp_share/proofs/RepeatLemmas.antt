@@ -1,10 +1,11 @@
 -- Numbers that stand more than once in a list.
-use Rattle.std.proofs.Common.{◌≡◌, ℕ, zero, suc, ◌+◌, ◌-◌, ◌<◌, ◌≤◌, ◌==◌, Bool, true, false, true≢false, cond, ◌||◌, List, [], ◌∷◌, ◌++◌, length, filter, take, get_or, ⊎_elim, refl, sym, ap, subst, ◌∙◌, if◌then◌else◌, arith}
+use Rattle.std.proofs.Common.{◌≡◌, ℕ, zero, suc, ◌+◌, ◌-◌, ◌/◌, ◌^◌, ◌<◌, ◌≤◌, ◌==◌, Bool, true, false, true≢false, cond, ◌||◌, List, [], ◌∷◌, ◌++◌, length, filter, take, get_or, ⊎_elim, refl, sym, ap, subst, ◌∙◌, if◌then◌else◌, arith}
 use Rattle.std.specs.Ordering.{nat_cmp}
 use Rattle.std.specs.Prelude.{nat_eq}
-use Rattle.std.specs.List.{list_any, AllByRecursion, IsDistinct}
+use Rattle.std.specs.List.{list_any, flat_map, AllByRecursion, IsDistinct}
 use Rattle.std.specs.List.Sorted.{IsPermutation, IsSorted}
 use Rattle.std.proofs.lemmas.Bool.{cases_lt, ne_eqb}
+use Rattle.std.proofs.lemmas.Nat.{mod_below}
 use Rattle.std.proofs.lemmas.List.{take_more}
 use Rattle.std.proofs.lemmas.List.Folds.{list_any-append}
 use Rattle.std.proofs.lemmas.List.Sorted.{IsNonDecreasingBy-from_sort, all_adjacent_from_non_decreasing, sum_by-IsPermutation}
@@ -12,7 +13,7 @@ use Rattle.indexmap.specs.IndexSet.{insert_key}
 use Rattle.std.proofs.lemmas.Bool.Decides.{Decides-eqb}
 use Rattle.std.proofs.lemmas.List.Sums.{sum_by-cons, sum_by-append}
 use Rattle.pp_share.specs.BloomFilter.{may_contain}
-use Rattle.pp_share.specs.Repeats.{is_listed, times, HoldsRepeated, HoldsNext}
+use Rattle.pp_share.specs.Repeats.{is_listed, times, class_of, is_in_class, HoldsRepeated, HoldsNext, ListsAll}
 
 -- one number more
 pub times-cons : (x n : ℕ) (ns : List ℕ) → times x (n ∷ ns) ≡ cond (x == n) 1 0 + times x ns
@@ -131,6 +132,47 @@ now_among ks n = by (list_any (nat_eq n) ks) refl
     by true is = is
     by false is = list_any-append (λ k. n == k) ks (n ∷ []) ∙ ap (λ b. b || ((n == n) || false)) is ∙ ap (λ b. b || false) (itself n)
 
+-- what was among them stays once one is put behind them, and that number is among them
+pub stays_behind : (ks : List ℕ) (n m : ℕ) → is_listed ks m ≡ true → is_listed (ks ++ n ∷ []) m ≡ true
+stays_behind ks n m is = listed_push ks n m ∙ ap (λ b. b || (m == n)) is
+
+pub now_behind : (ks : List ℕ) (n : ℕ) → is_listed (ks ++ n ∷ []) n ≡ true
+now_behind ks n = listed_push ks n n ∙ ap (λ b. is_listed ks n || b) (itself n) ∙ by (is_listed ks n)
+  where
+    by : (b : Bool) → (b || true) ≡ true
+    by true = refl
+    by false = refl
+
+-- what lists two lists, and what lists one number more
+pub lists_both : (xs ys all : List ℕ) → ListsAll xs all → ListsAll ys all → ListsAll (xs ++ ys) all
+lists_both xs ys all front back x among = by (is_listed xs x) refl (sym (list_any-append (λ n. x == n) xs ys) ∙ among)
+  where
+    by : (b : Bool) → is_listed xs x ≡ b → (b || is_listed ys x) ≡ true → is_listed all x ≡ true
+    by true is here = front x is
+    by false is here = back x here
+
+pub lists_push : (ks : List ℕ) (n : ℕ) (all : List ℕ) → ListsAll ks all → is_listed all n ≡ true → ListsAll (ks ++ n ∷ []) all
+lists_push ks n all listed here = lists_both ks (n ∷ []) all listed (λ x among. by x (x == n) refl among)
+  where
+    by : (x : ℕ) (b : Bool) → (x == n) ≡ b → (b || false) ≡ true → is_listed all x ≡ true
+    by x true is among = ap (is_listed all) ((Decides-eqb x n).0 is) ∙ here
+    by x false is among = absurd (true≢false (sym among))
+
+-- a number of one part is among those of all
+listed_in_part : {T : Type 0} (items : T → List ℕ) (parts : List T) (k : ℕ) (other : T) (x : ℕ) → k < length parts
+    → is_listed (items (get_or parts k other)) x ≡ true → is_listed (flat_map items parts) x ≡ true
+listed_in_part items [] k other x within among = absurd (omega (arith, within))
+listed_in_part items (p ∷ parts) zero other x within among =
+    list_any-append (λ n. x == n) (items p) (flat_map items parts) ∙ ap (λ b. b || is_listed (flat_map items parts) x) among
+listed_in_part items (p ∷ parts) (suc k) other x within among =
+    list_any-append (λ n. x == n) (items p) (flat_map items parts)
+    ∙ ap (λ b. is_listed (items p) x || b) (listed_in_part items parts k other x (omega (arith, within)) among)
+    ∙ by (is_listed (items p) x)
+  where
+    by : (b : Bool) → (b || true) ≡ true
+    by true = refl
+    by false = refl
+
 -- once they are sorted, the numbers that stand more than once stand next to themselves
 pub repeated_sorted : (old new repeated : List ℕ) → IsPermutation old new → IsSorted nat_cmp new → HoldsNext new repeated → HoldsRepeated old repeated
 repeated_sorted old new repeated shuffled sorted next x more =
@@ -152,6 +194,18 @@ times_kept keeps number (n ∷ ns) kept = by (keeps n) refl (times_kept keeps nu
     by : (b : Bool) → keeps n ≡ b → times number (filter keeps ns) ≡ times number ns → times number (if b then n ∷ filter keeps ns else filter keeps ns) ≡ times number (n ∷ ns)
     by true is rest = times-cons number n (filter keeps ns) ∙ ap (λ k. cond (number == n) 1 0 + k) rest ∙ sym (times-cons number n ns)
     by false is rest = omega (arith, rest, times-cons number n ns, ap {B = ℕ} (λ b. cond b 1 0) (ne_eqb number n (λ same. true≢false (sym kept ∙ ap keeps same ∙ is))))
+
+-- The repeated numbers of all classes are those of the list.
+pub classes_hold : {T : Type 0} (items : T → List ℕ) (numbers : List ℕ) (parts : List T) (all : List ℕ) → length parts ≡ 8
+    → ((class : ℕ) (other : T) → class < 8 → HoldsRepeated (filter (is_in_class class) numbers) (items (get_or parts class other)))
+    → ListsAll (flat_map items parts) all → HoldsRepeated numbers all
+classes_hold items numbers [] all many holds listed x more = absurd (omega (arith, many))
+classes_hold items numbers (p ∷ parts) all many holds listed x more =
+    let class = class_of x in
+    let below : class < 8 = mod_below (x / 2 ^ 61) 8 (omega arith) in
+    let kept : is_in_class class x ≡ true = itself class in
+    listed x (listed_in_part items (p ∷ parts) class p x (omega (arith, below, many))
+    (holds class p below x (subst (λ k. 1 < k) (sym (times_kept (is_in_class class) x numbers kept)) more)))
 
 -- how often a number stands among those so far, once there is one more
 times_next : (x : ℕ) (ns : List ℕ) (i n : ℕ) → i < length ns → n ≡ get_or ns i 0 → times x (take (i + 1) ns) ≡ times x (take i ns) + cond (x == n) 1 0

@@ -15,8 +15,7 @@ use crate::placing::place_each;
 use crate::renumbering::Renumbering;
 use pp_base::{List, Memory};
 use pp_model::{Profile, Sample};
-use pp_steal::PIECE;
-use std::thread;
+use pp_steal::{PIECE, for_each_on};
 use std::thread::Threads;
 
 /// The same as `place_samples`, of the samples of a profile. One thread goes over them until each location of the table
@@ -103,7 +102,7 @@ fn locate_rest<R: Threads + Sync>(
         ensures { sample.exit.now
             ≡ located_from first (new_ids by.entry.now) locations.entry.now index sample.entry.now }
     { locate_from(first, index, by, locations, sample) };
-    thread::for_each_mut(rt, samples.as_mut_slice(), workers as usize, &locate);
+    for_each_on(rt, samples.as_mut_slice(), workers as usize, &locate);
 }
 
 // Gives the sample at the index the places of its new locations, unless it stands before the first.

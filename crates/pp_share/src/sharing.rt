@@ -71,7 +71,9 @@ pub fn share_on<R: Threads + Sync, G: Gate>(
     let texts = p.text.len();
     let (mut profile, mut by) = share_tables(alloc, p)?;
     match kept_numbers(known, profile.sample.as_slice(), texts, &by) {
-        Some(numbers) => sum_equal(alloc, &mut profile, &mut by, numbers)?,
+        Some(numbers) => {
+            sum_numbered_on(rt, alloc, &mut profile, &mut by, &numbers, workers, gate)?;
+        }
         None => sum_plain_on(rt, alloc, &mut profile, &mut by, workers, gate)?,
     }
     let written = write_on(rt, alloc, profile, &by, workers);
@@ -121,7 +123,8 @@ fn sum_plain(alloc: Global, p: &mut Profile, by: &mut Renumbering) -> Result<(),
     ensures { OnOk result (with_new_samples (new_ids by.new) p.new ≡ with_sums (new_ids by.old) p.old) }
 {
     let numbers = number_samples(alloc, p.sample.as_slice(), by)?;
-    sum_equal(alloc, p, by, numbers)
+    let repeated = Repeated::new(alloc, &numbers.numbers)?;
+    sum_equal(alloc, p, by, &numbers, &repeated)
 }
 
 // The same, with the samples numbered on so many lanes.
@@ -141,30 +144,53 @@ fn sum_plain_on<R: Threads + Sync, G: Gate>(
     ensures { OnOk result (with_new_samples (new_ids by.new) p.new ≡ with_sums (new_ids by.old) p.old) }
 {
     let numbers = number_samples_on(rt, alloc, p.sample.as_slice(), by, workers, gate)?;
-    sum_equal(alloc, p, by, numbers)
+    sum_numbered_on(rt, alloc, p, by, &numbers, workers, gate)
 }
 
-// The same, where the samples are numbered. Most profiles have each sample once. To ask that first, by their numbers,
-// takes far less time than to look each sample up, and the samples then get their new ids where they are gone through
-// next. Where some are equal, only those whose number stands more than once are looked up.
-fn sum_equal(
+// The same, where the samples are numbered. So many lanes look for numbers that stand more than once.
+fn sum_numbered_on<R: Threads + Sync, G: Gate>(
+    rt: &R,
     alloc: Global,
     p: &mut Profile,
     by: &mut Renumbering,
-    numbers: Numbers,
+    numbers: &Numbers,
+    workers: u32,
+    gate: &G,
 ) -> Result<(), Memory>
     requires wide { All (λ s. length s.value ≡ length p.old.sample_type) p.old.sample }
     requires fits { (column : ℕ) → column < length p.old.sample_type
         → sum_by (λ s. nat_abs (value_in s column)) p.old.sample ≤ 2 ^ 63 - 1 }
-    requires numbers { AreNumbers (new_ids by.old) p.old.sample numbers }
+    requires numbers { AreNumbers (new_ids by.old) p.old.sample numbers.now }
+    requires some { 1 ≤ workers }
+    requires most { workers ≤ 64 }
     ensures { OnOk result (with_new_samples (new_ids by.new) p.new ≡ with_sums (new_ids by.old) p.old) }
 {
-    let repeated = Repeated::new(alloc, &numbers.numbers)?;
+    let repeated = Repeated::new_on(rt, alloc, &numbers.numbers, workers, gate)?;
+    sum_equal(alloc, p, by, numbers, &repeated)
+}
+
+// The same, where the numbers that stand more than once are known. Most profiles have each sample once. To ask that
+// first, by their numbers, takes far less time than to look each sample up, and the samples then get their new ids where
+// they are gone through next. Where some are equal, only those whose number stands more than once are looked up.
+fn sum_equal(
+    alloc: Global,
+    p: &mut Profile,
+    by: &mut Renumbering,
+    numbers: &Numbers,
+    repeated: &Repeated,
+) -> Result<(), Memory>
+    requires wide { All (λ s. length s.value ≡ length p.old.sample_type) p.old.sample }
+    requires fits { (column : ℕ) → column < length p.old.sample_type
+        → sum_by (λ s. nat_abs (value_in s column)) p.old.sample ≤ 2 ^ 63 - 1 }
+    requires numbers { AreNumbers (new_ids by.old) p.old.sample numbers.now }
+    requires repeated { HoldsRepeated numbers.now.numbers.items repeated.now }
+    ensures { OnOk result (with_new_samples (new_ids by.new) p.new ≡ with_sums (new_ids by.old) p.old) }
+{
     if repeated.is_empty() {
         keep_counting(alloc, p, numbers.have_values);
         return Ok(());
     }
-    add_up(alloc, p, by, &numbers, &repeated)?;
+    add_up(alloc, p, by, numbers, repeated)?;
     mem::drop(mem::replace(by, stays()));
     Ok(())
 }

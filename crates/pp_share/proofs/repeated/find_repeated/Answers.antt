@@ -15,7 +15,7 @@ returns c =
     (λ r next number more.
     let kept = c.in_ok-bloom.ensures number (ap (λ ns. is_listed ns number) c.as_slice.ensures.value ∙ c.in_ok-again.ensures number more) in
     let same = times_kept (may_contain c.in_ok-bloom.bloom) number all kept in
-    repeated_sorted old new r.keys c.sort_unstable.ensures.permutation c.sort_unstable.ensures.sorted
-    (subst (λ ns. HoldsNext ns r.keys) c.as_slice-2.ensures.value next) number
+    repeated_sorted old new r.items c.sort_unstable.ensures.permutation c.sort_unstable.ensures.sorted
+    (subst (λ ns. HoldsNext ns r.items) c.as_slice-2.ensures.value next) number
     (subst (λ k. 1 < k) (sym (ap (times number) c.in_ok-candidates.ensures ∙ same)) more))
     c.repeated_next.ensures

@@ -4,4 +4,4 @@ use Rattle.pp_share.proofs.repeated.repeated_next.Given as goal
 
 -- the numbers so far that stand next to themselves
 abbrev pub invariant-loop-index : goal.invariant-loop-index
-invariant-loop-index l = (k : ℕ) → k + 1 < l.index → get_or l.numbers k 0 ≡ get_or l.numbers (k + 1) 0 → is_listed l.repeated.keys (get_or l.numbers k 0) ≡ true
+invariant-loop-index l = (k : ℕ) → k + 1 < l.index → get_or l.numbers k 0 ≡ get_or l.numbers (k + 1) 0 → is_listed l.repeated.items (get_or l.numbers k 0) ≡ true

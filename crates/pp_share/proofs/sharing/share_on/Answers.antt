@@ -7,7 +7,7 @@ use Rattle.pp_share.specs.Renumbered.{new_ids}
 use Rattle.pp_share.specs.Walked.{IsWalked}
 use Rattle.pp_share.proofs.ShareLemmas.{shared_is, shared_named, still_wide, still_fits}
 use Rattle.pp_share.proofs.sharing.share_on.Goals as goal
-use Rattle.pp_share.proofs.sharing.share_on.Goals.{in-Some+in_ok-sum_equal-in-Some, in-None+in_ok-sum_plain_on-in-None}
+use Rattle.pp_share.proofs.sharing.share_on.Goals.{in-Some+in_ok-sum_numbered_on-in-Some, in-None+in_ok-sum_plain_on-in-None}
 
 -- what is written of the shared tables, whichever way the samples are numbered
 pub returns : goal.returns
@@ -18,7 +18,7 @@ returns g c =
     let left : Renumbering = c.match-kept_numbers.by in
     let is : with_new_samples (new_ids left) summed ≡ with_sums by shared =
     elim c.match-kept_numbers.branch [
-      | in-Some+in_ok-sum_equal-in-Some w ↦ (λ j. with_new_samples (new_ids (w.by-is j)) (w.profile-is j)) ∙ w.in_ok-sum_equal-in-Some.ensures
+      | in-Some+in_ok-sum_numbered_on-in-Some w ↦ (λ j. with_new_samples (new_ids (w.by-is j)) (w.profile-is j)) ∙ w.in_ok-sum_numbered_on-in-Some.ensures
       | in-None+in_ok-sum_plain_on-in-None w ↦ (λ j. with_new_samples (new_ids (w.by-is j)) (w.profile-is j)) ∙ w.in_ok-sum_plain_on-in-None.ensures
     ] in
     IfOk-weaker c.write_on-written.result _ _
@@ -28,11 +28,11 @@ returns g c =
     c.write_on-written.ensures
 
 -- values stay as they are
-pub sum_equal-requires-clause-wide : goal.sum_equal-requires-clause-wide
-sum_equal-requires-clause-wide g c = still_wide c.args.p c.in_ok-profile.profile c.in_ok-profile.ensures.tables c.requires.wide
+pub sum_numbered_on-requires-clause-wide : goal.sum_numbered_on-requires-clause-wide
+sum_numbered_on-requires-clause-wide g c = λ _ _. still_wide c.args.p c.in_ok-profile.profile c.in_ok-profile.ensures.tables c.requires.wide
 
-pub sum_equal-requires-clause-fits : goal.sum_equal-requires-clause-fits
-sum_equal-requires-clause-fits g c = still_fits c.args.p c.in_ok-profile.profile c.in_ok-profile.ensures.tables c.requires.fits
+pub sum_numbered_on-requires-clause-fits : goal.sum_numbered_on-requires-clause-fits
+sum_numbered_on-requires-clause-fits g c = λ _ _. still_fits c.args.p c.in_ok-profile.profile c.in_ok-profile.ensures.tables c.requires.fits
 
 pub sum_plain_on-requires-clause-wide : goal.sum_plain_on-requires-clause-wide
 sum_plain_on-requires-clause-wide g c = λ _ _. still_wide c.args.p c.in_ok-profile.profile c.in_ok-profile.ensures.tables c.requires.wide
@@ -49,7 +49,7 @@ write_on-written-requires-clause-named g c = λ _ _.
     let left : Renumbering = c.match-kept_numbers.by in
     let is : with_new_samples (new_ids left) summed ≡ with_sums by shared =
     elim c.match-kept_numbers.branch [
-      | in-Some+in_ok-sum_equal-in-Some w ↦ (λ j. with_new_samples (new_ids (w.by-is j)) (w.profile-is j)) ∙ w.in_ok-sum_equal-in-Some.ensures
+      | in-Some+in_ok-sum_numbered_on-in-Some w ↦ (λ j. with_new_samples (new_ids (w.by-is j)) (w.profile-is j)) ∙ w.in_ok-sum_numbered_on-in-Some.ensures
       | in-None+in_ok-sum_plain_on-in-None w ↦ (λ j. with_new_samples (new_ids (w.by-is j)) (w.profile-is j)) ∙ w.in_ok-sum_plain_on-in-None.ensures
     ] in
     shared_named c.args.p c.requires.joined c.in_ok-profile.ensures.few shared summed by (new_ids left) c.in_ok-profile.ensures.tables c.in_ok-profile.ensures.samples is

@@ -14,13 +14,13 @@ pub returns-then-is_empty : goal.returns-then-is_empty
 returns-then-is_empty c =
     let p : Profile = c.args.p.now in
     let by = new_ids c.args.by.now in
-    let repeated = c.in_ok-repeated.repeated in
+    let repeated = c.args.repeated.now in
     let none : repeated ≡ [] = nil_from_length repeated (c.is_empty.ensures.0 c.if-is_empty.true) in
     let numbers = map (number_by by) p.sample in
     ap (with_new_samples by) c.keep_counting.ensures
     ∙ (λ j. record p {
       sample = kept_apart by (length p.sample_type) p.sample
-          (none_repeated numbers (subst (HoldsRepeated numbers) none (subst (λ ns. HoldsRepeated ns repeated) (c.deref.ensures.value ∙ c.requires.numbers.numbers) c.in_ok-repeated.ensures)))
+          (none_repeated numbers (subst (HoldsRepeated numbers) none (subst (λ ns. HoldsRepeated ns repeated) c.requires.numbers.numbers c.requires.repeated)))
           (by_recursion _ p.sample c.requires.wide) j;
     })
 
