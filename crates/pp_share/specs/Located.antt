@@ -8,16 +8,16 @@ use Rattle.pp_share.specs.Walk.{met_after, location_refs}
 use Rattle.pp_share.specs.Walked.{placed_label}
 
 -- the sample, whose labels name their new texts as places among these
-abbrev pub labelled : NewIds → List ℕ → Sample → Sample
-labelled by texts s = record s { label = map (placed_label texts) (map (renumbered_label by) s.label) }
+abbrev pub with_placed_labels : NewIds → List ℕ → Sample → Sample
+with_placed_labels by texts s = record s { label = map (placed_label texts) (map (renumbered_label by) s.label) }
 
 -- the sample, whose new locations are places among these, plus 1
-abbrev pub located : NewIds → List ℕ → Sample → Sample
-located by met s = record s { location_id = map (place_id met) (map by.location s.location_id) }
+abbrev pub with_placed_locations : NewIds → List ℕ → Sample → Sample
+with_placed_locations by met s = record s { location_id = map (place_id met) (map by.location s.location_id) }
 
 -- the same from the index on
-abbrev pub located_from : ℕ → NewIds → List ℕ → ℕ → Sample → Sample
-located_from first by met index s = if nat_le first index then located by met s else s
+abbrev pub placed_from : ℕ → NewIds → List ℕ → ℕ → Sample → Sample
+placed_from first by met index s = if nat_le first index then with_placed_locations by met s else s
 
 -- all ids up to this one were met
 abbrev pub KnowsAll : ℕ → List ℕ → Type 0
@@ -26,5 +26,5 @@ KnowsAll count met = (id : ℕ) → 1 ≤ id → id ≤ count → list_any (λ o
 -- The samples below the first have met the locations that are met. Where there are more, all were met.
 pub record HasLocated (by : NewIds) (count : ℕ) (first : ℕ) (old new : List Sample) (before after : List ℕ) : Type 0 where
   pub met : after ≡ met_after before (flat_map (λ s. location_refs (renumbered_sample by s)) (take first old))
-  pub front : (more : List ℕ) → new ≡ map (located by (met_after after more)) (take first old) ++ drop first old
+  pub front : (more : List ℕ) → new ≡ map (with_placed_locations by (met_after after more)) (take first old) ++ drop first old
   pub all : first < length old → KnowsAll count after

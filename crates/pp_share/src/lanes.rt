@@ -3,7 +3,7 @@ ghost use Rattle.std.specs.Prelude.{◌≡◌, ℕ, ◌<◌, ◌≤◌, List as 
 ghost use Rattle.std.specs.Bool.{OnTrue};
 ghost use Rattle.std.specs.List.{AllByRecursion, flat_map};
 ghost use Rattle.pp_model.specs.declared.profile.Sample.{Sample as SampleValue};
-ghost use Rattle.pp_share.specs.Located.{labelled, located, located_from, HasLocated};
+ghost use Rattle.pp_share.specs.Located.{with_placed_labels, with_placed_locations, placed_from, HasLocated};
 ghost use Rattle.pp_share.specs.Renumbered.{new_ids, renumbered_sample};
 ghost use Rattle.pp_share.specs.Share.{NamesLocations};
 ghost use Rattle.pp_share.specs.Walk.{met_after, IsPlaced, location_refs, sample_text_ids};
@@ -52,7 +52,7 @@ fn place_labels(samples: &mut List<Sample>, by: &Renumbering, texts: &mut Met) -
     ensures texts { OnOk result (texts.new ≡ met_after texts.old
         (flat_map sample_text_ids (map (renumbered_sample (new_ids by.now)) samples.old))) }
     ensures placed { OnOk result
-        (IsPlaced (λ texts. map (labelled (new_ids by.now) texts)) texts.new samples.old samples.new) }
+        (IsPlaced (λ texts. map (with_placed_labels (new_ids by.now) texts)) texts.new samples.old samples.new) }
 {
     for index in 0..samples.len() {
         let labels = &mut samples.item_mut(index).label;
@@ -96,18 +96,18 @@ fn locate_rest<R: Threads + Sync>(
     requires { 1 ≤ workers }
     ensures long { length samples.new ≡ length samples.old }
     ensures each { (i : ℕ) → (other : SampleValue) → i < length samples.old → slice_index_or samples.new i other
-        ≡ located_from first (new_ids by.now) locations.now i (slice_index_or samples.old i other) }
+        ≡ placed_from first (new_ids by.now) locations.now i (slice_index_or samples.old i other) }
 {
     let locate = |index: usize, sample: &mut Sample|
         ensures { sample.exit.now
-            ≡ located_from first (new_ids by.entry.now) locations.entry.now index sample.entry.now }
+            ≡ placed_from first (new_ids by.entry.now) locations.entry.now index sample.entry.now }
     { locate_from(first, index, by, locations, sample) };
     for_each_on(rt, samples.as_mut_slice(), workers as usize, &locate);
 }
 
 // Gives the sample at the index the places of its new locations, unless it stands before the first.
 fn locate_from(first: usize, index: usize, by: &Renumbering, locations: &Met, sample: &mut Sample)
-    ensures { sample.new ≡ located_from first (new_ids by.now) locations.now index sample.old }
+    ensures { sample.new ≡ placed_from first (new_ids by.now) locations.now index sample.old }
 {
     if first <= index {
         by.change_locations(&mut sample.location_id);

@@ -10,6 +10,7 @@ use crate::packed::with_room;
 use pp_base::{List, Memory};
 use pp_model::Sample;
 use std::alloc::Global;
+use std::mem;
 
 /// Reads the samples that lie there in the bytes. `None` where one has a fault.
 pub(crate) fn decode(
@@ -20,11 +21,30 @@ pub(crate) fn decode(
     ensures { IfOk result (AreSamples (map (payload_of bytes.now) extents.now)) }
 {
     let mut samples = with_room(alloc, extents.len())?;
+    ask_ahead(alloc)?;
     match push_samples(alloc, &mut samples, bytes, extents) {
         Ok(()) => Ok(Some(samples)),
         Err(ReadRefusal::Memory) => Err(Memory),
         Err(_) => Ok(None),
     }
+}
+
+// How many blocks are asked for ahead: together, about what the lists of a full piece take.
+const BLOCKS: usize = 4;
+
+// How many numbers of 64 bits a block has. These are 96 KiB, which is less than what a C library gets for a block alone.
+const BLOCK: usize = 12_288;
+
+// Asks for blocks, and gives them back. So a C library that keeps memory for each thread gets from the system at once
+// what the many small lists of a piece take. Else it gets one page after another, each by a call for which the other
+// threads wait.
+fn ask_ahead(alloc: Global) -> Result<(), Memory> {
+    let mut blocks = Vec::with_capacity(alloc, BLOCKS)?;
+    for _ in 0..BLOCKS {
+        blocks.push(Vec::<u64>::with_capacity(alloc, BLOCK)?)?;
+    }
+    mem::drop(blocks);
+    Ok(())
 }
 
 // Adds the samples at the end.

@@ -3,7 +3,7 @@ use Rattle.std.specs.List.{flat_map}
 use Rattle.std.proofs.lemmas.List.{length-set}
 use Rattle.pp_model.specs.declared.profile.Sample.{Sample}
 use Rattle.pp_share.specs.Ids.{place_id}
-use Rattle.pp_share.specs.Located.{located}
+use Rattle.pp_share.specs.Located.{with_placed_locations}
 use Rattle.pp_share.specs.Renumbered.{new_ids, renumbered_sample}
 use Rattle.pp_share.specs.Walk.{met_after, location_refs}
 use Rattle.pp_share.proofs.ChangeLemmas.{changed_front}
@@ -23,7 +23,7 @@ loop-index-preserved c =
     let own = c.change_locations.ensures in
     let step = c.in_ok-place_each.ensures in
     let within : k < length xs = omega arith in
-    let next = place_next (λ s. location_refs (renumbered_sample by s)) (located by) xs c.loop-index.samples k x y c.args.locations.now c.loop-index.locations now within c.item_mut.ensures.value
+    let next = place_next (λ s. location_refs (renumbered_sample by s)) (with_placed_locations by) xs c.loop-index.samples k x y c.args.locations.now c.loop-index.locations now within c.item_mut.ensures.value
     (record { met_so_far = kept.met_so_far; so_far = kept.so_far })
     (step.met ∙ ap (λ (ids : List ℕ). met_after c.loop-index.locations (flat_map (λ id. id ∷ []) ids)) own)
     (λ more j. record x { location_id = (step.placed more ∙ ap (λ (ids : List ℕ). map (place_id (met_after now more)) ids) own) j }) in
@@ -42,6 +42,6 @@ returns c =
     let whole : c.loop-index.index ≡ c.len.result = omega (arith, kept.as_long) in
     record {
       met = kept.met_so_far ∙ ap (λ k. met_after c.args.locations.now (flat_map (λ s. location_refs (renumbered_sample by s)) (take k xs))) whole;
-      front = λ more. kept.so_far more ∙ ap (changed_front (located by (met_after c.loop-index.locations more)) xs) whole;
+      front = λ more. kept.so_far more ∙ ap (changed_front (with_placed_locations by (met_after c.loop-index.locations more)) xs) whole;
       all = λ less. absurd (omega (arith, less, kept.as_long));
     }

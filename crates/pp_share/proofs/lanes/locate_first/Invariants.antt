@@ -1,7 +1,7 @@
 use Rattle.std.proofs.Common.{◌≡◌, length, take}
 use Rattle.std.specs.List.{flat_map}
 use Rattle.pp_model.specs.declared.profile.Sample.{Sample}
-use Rattle.pp_share.specs.Located.{located}
+use Rattle.pp_share.specs.Located.{with_placed_locations}
 use Rattle.pp_share.specs.Renumbered.{new_ids, renumbered_sample}
 use Rattle.pp_share.specs.Walk.{met_after, IsPlaced, location_refs}
 use Rattle.pp_share.proofs.ChangeLemmas.{changed_front}
@@ -13,6 +13,6 @@ invariant-loop-index l =
     let moved : Sample → Sample = renumbered_sample (new_ids l.by) in
     record {
       met_so_far : l.locations ≡ met_after l.initial.locations (flat_map (λ s. location_refs (moved s)) (take l.index l.initial.samples));
-      so_far : IsPlaced (λ met xs. changed_front (located (new_ids l.by) met) xs l.index) l.locations l.initial.samples l.samples;
+      so_far : IsPlaced (λ met xs. changed_front (with_placed_locations (new_ids l.by) met) xs l.index) l.locations l.initial.samples l.samples;
       as_long : length l.samples ≡ length l.initial.samples;
     }

@@ -3,7 +3,7 @@ use Rattle.std.specs.List.{flat_map}
 use Rattle.std.proofs.lemmas.List.{length-set, take_all}
 use Rattle.pp_model.specs.declared.profile.Label.{Label}
 use Rattle.pp_model.specs.declared.profile.Sample.{Sample}
-use Rattle.pp_share.specs.Located.{labelled}
+use Rattle.pp_share.specs.Located.{with_placed_labels}
 use Rattle.pp_share.specs.Renumbered.{new_ids, renumbered_sample}
 use Rattle.pp_share.specs.Walk.{met_after, label_text_ids, sample_text_ids}
 use Rattle.pp_share.specs.Walked.{placed_label}
@@ -25,7 +25,7 @@ loop-index-preserved c =
     let own = c.change_labels.ensures in
     let step = c.in_ok-place_each.ensures in
     let within : k < length xs = omega arith in
-    let next = place_next (λ s. sample_text_ids (renumbered_sample by s)) (labelled by) xs c.loop-index.samples k x y c.args.texts.now c.loop-index.texts now within c.item_mut.ensures.value
+    let next = place_next (λ s. sample_text_ids (renumbered_sample by s)) (with_placed_labels by) xs c.loop-index.samples k x y c.args.texts.now c.loop-index.texts now within c.item_mut.ensures.value
     (record { met_so_far = kept.texts_so_far; so_far = kept.so_far })
     (step.met ∙ ap (λ (ls : List Label). met_after c.loop-index.texts (flat_map label_text_ids ls)) own)
     (λ more j. record x { label = (step.placed more ∙ ap (λ (ls : List Label). map (placed_label (met_after now more)) ls) own) j }) in
@@ -46,4 +46,4 @@ returns-clause-texts c =
 pub returns-clause-placed : goal.returns-clause-placed
 returns-clause-placed c = λ more.
     let all = c.loop-index.invariant in
-    changed_all (labelled (new_ids c.args.by.now) (met_after c.loop-index.texts more)) c.args.samples.now c.loop-index.samples c.loop-index.index (all.so_far more) (omega arith) (omega (arith, all.as_long))
+    changed_all (with_placed_labels (new_ids c.args.by.now) (met_after c.loop-index.texts more)) c.args.samples.now c.loop-index.samples c.loop-index.index (all.so_far more) (omega arith) (omega (arith, all.as_long))

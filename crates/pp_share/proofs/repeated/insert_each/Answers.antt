@@ -1,5 +1,5 @@
-use Rattle.std.proofs.Common.{◌<◌, length, get_or, take, sym, subst, ap, ◌∙◌, arith}
-use Rattle.std.proofs.lemmas.List.{take_more, take_all}
+use Rattle.std.proofs.Common.{get_or, take, sym, subst, ap, ◌∙◌, arith}
+use Rattle.std.proofs.lemmas.List.{take_more}
 use Rattle.pp_share.specs.Repeats.{is_listed, ListsAll}
 use Rattle.pp_share.proofs.RepeatLemmas.{stays_among, now_among, lists_push}
 use Rattle.pp_share.proofs.repeated.insert_each.Goals as goal
