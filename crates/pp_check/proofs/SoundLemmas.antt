@@ -14,9 +14,9 @@ use Rattle.pp_check.specs.FirstFault.{location_faults, reference_faults}
 use Rattle.pp_check.specs.Whole.{is_whole}
 use Rattle.pp_check.specs.declared.asking.Asked.{Asked}
 use Rattle.pp_check.specs.Sound.{is_sound, HasSoundSamples, IsAsked, JoinsAsked}
-use Rattle.pp_share.specs.Numbers.{AreOwnNumbers}
-use Rattle.pp_share.specs.SampleKeys.{sample_number}
-use Rattle.pp_share.proofs.NumberLemmas.{all_numbers}
+use Rattle.pp_share.specs.Hashes.{AreOwnHashes}
+use Rattle.pp_share.specs.SampleKeys.{sample_hash}
+use Rattle.pp_share.proofs.HashLemmas.{all_hashes}
 use Rattle.pp_check.proofs.Order.{decided_after}
 use Rattle.pp_check.proofs.WholeLemmas.{none_fails, both, whole_samples}
 
@@ -24,7 +24,7 @@ use Rattle.pp_check.proofs.WholeLemmas.{none_fails, both, whole_samples}
 pub parts_tell : (p : Profile) (samples : List Sample) (parts : List Asked) (all : Asked) → IsCutInto (IsAsked p) samples parts → JoinsAsked parts all → IsAsked p samples all
 parts_tell p samples parts all are is = record {
   sound = is.sound ∙ flags samples parts are;
-  numbers = all_numbers sample_number samples (map (λ (part : Asked). part.numbers) parts) all.numbers (numbered samples parts are) is.numbers;
+  hashes = all_hashes sample_hash samples (map (λ (part : Asked). part.hashes) parts) all.hashes (numbered samples parts are) is.hashes;
 }
   where
     flags : (samples : List Sample) (parts : List Asked) → IsCutInto (IsAsked p) samples parts → list_all (λ (part : Asked). part.sound) parts ≡ list_all (is_sound p) samples
@@ -34,7 +34,7 @@ parts_tell p samples parts all are is = record {
         (λ j. own.sound j && flags rest parts others j)
         ∙ sym (list_all-append (is_sound p) front rest) ∙ sym (ap (list_all (is_sound p)) cut)
 
-    numbered : (samples : List Sample) (parts : List Asked) → IsCutInto (IsAsked p) samples parts → IsCutInto AreOwnNumbers samples (map (λ (part : Asked). part.numbers) parts)
+    numbered : (samples : List Sample) (parts : List Asked) → IsCutInto (IsAsked p) samples parts → IsCutInto AreOwnHashes samples (map (λ (part : Asked). part.hashes) parts)
     numbered samples [] none = none
     numbered samples (part ∷ parts) are =
         let (front, rest, cut, own, others) = are in

@@ -11,14 +11,14 @@ use crate::references::is_whole;
 use crate::texts::sample_has_texts;
 use pp_base::Memory;
 use pp_model::{Profile, Sample};
-use pp_share::{Numbers, own_number};
+use pp_share::{Hashes, sample_hash};
 use pp_steal::{Job, piece_of};
 use std::alloc::Global;
 
 /// The samples of a profile, to be asked on any thread.
 #[derive(Drop)]
 pub(crate) struct Asking<'a> {
-    /// Where the numbers of samples are allocated.
+    /// Where the hashes of samples are allocated.
     pub(crate) alloc: Global,
     /// The profile.
     pub(crate) p: &'a Profile,
@@ -36,8 +36,8 @@ pub(crate) struct Asking<'a> {
 pub(crate) struct Asked {
     /// Whether all are sound.
     pub(crate) sound: bool,
-    /// Their numbers by the ids that they have.
-    pub(crate) numbers: Numbers,
+    /// Their hashes by the ids that they have.
+    pub(crate) hashes: Hashes,
 }
 
 impl Job for Asking<'_> {
@@ -56,7 +56,7 @@ impl Job for Asking<'_> {
     }
 }
 
-/// Asks the samples and numbers them, one after another, so that each is gone over once.
+/// Asks the samples and hashes them, one after another, so that each is gone over once.
 pub(crate) fn ask(
     alloc: Global,
     p: &Profile,
@@ -67,12 +67,12 @@ pub(crate) fn ask(
     ensures { IfOk result (IsAsked p.now samples.now) }
 {
     let mut sound = true;
-    let mut numbers = Numbers::with_room(alloc, samples.len())?;
+    let mut hashes = Hashes::with_room(alloc, samples.len())?;
     for sample in samples {
         sound &= is_sound(p, locations, sample);
-        numbers.add(own_number(sample), sample)?;
+        hashes.add(sample_hash(sample), sample)?;
     }
-    Ok(Asked { sound, numbers })
+    Ok(Asked { sound, hashes })
 }
 
 /// Whether all of these samples are sound.

@@ -13,13 +13,13 @@ use crate::fault::{CheckRefusal, TableFault};
 use crate::known::Known;
 use pp_base::{Gate, List, Memory};
 use pp_model::{Profile, Valid};
-use pp_share::{Numbered, join_numbers};
+use pp_share::{Hashed, join_hashes};
 use pp_steal::{Deal, PIECE, pieces_of, run_pieces};
 use std::alloc::Global;
 use std::mem;
 use std::thread::Threads;
 
-/// Tries the table rules as `check` does, and numbers the samples by the ids that they have, in one walk over them: in
+/// Tries the table rules as `check` does, and hashes the samples by the ids that they have, in one walk over them: in
 /// pieces of 1,024 on so many lanes, from 1 to 64. The answer does not tell how many there were. Where a rule of samples
 /// or of the locations' ids fails, all rules are tried on one thread.
 pub fn check_on<R: Threads + Sync, G: Gate>(
@@ -28,7 +28,7 @@ pub fn check_on<R: Threads + Sync, G: Gate>(
     p: Profile,
     workers: u32,
     gate: &G,
-) -> Result<Numbered, CheckRefusal>
+) -> Result<Hashed, CheckRefusal>
     requires some { 1 ≤ workers }
     requires most { workers ≤ 64 }
     requires indexed { IsIndexed p }
@@ -61,7 +61,7 @@ fn check_known<R: Threads + Sync, G: Gate>(
     locations: Known,
     workers: u32,
     gate: &G,
-) -> Result<Numbered, CheckRefusal>
+) -> Result<Hashed, CheckRefusal>
     requires some { 1 ≤ workers }
     requires most { workers ≤ 64 }
     requires indexed { IsIndexed p }
@@ -72,7 +72,7 @@ fn check_known<R: Threads + Sync, G: Gate>(
     let asked = ask_samples(rt, alloc, &p, &locations, workers, gate)?;
     mem::drop(locations);
     keep_rules(alloc, &p, asked.sound)?;
-    Ok(Numbered::claim(Valid::claim(p), asked.numbers))
+    Ok(Hashed::claim(Valid::claim(p), asked.hashes))
 }
 
 // What one walk tells of all samples.
@@ -109,11 +109,11 @@ fn join(alloc: Global, len: usize, parts: List<Asked>) -> Result<Asked, Memory>
     ensures { IfOk result (JoinsAsked parts) }
 {
     let mut sound = true;
-    let mut numbers = Vec::with_capacity(alloc, parts.len())?;
+    let mut hashes = Vec::with_capacity(alloc, parts.len())?;
     for part in parts.into_vec() {
         sound &= part.sound;
-        numbers.push(part.numbers)?;
+        hashes.push(part.hashes)?;
     }
-    let numbers = join_numbers(alloc, len, numbers.as_slice())?;
-    Ok(Asked { sound, numbers })
+    let hashes = join_hashes(alloc, len, hashes.as_slice())?;
+    Ok(Asked { sound, hashes })
 }

@@ -11,7 +11,7 @@ use pp_base::{List, Memory, OpenGate};
 use pp_desk::{Halt, Stop};
 use pp_merge::{MergeRefusal, NothingToScale, agree, merge_on, normalize, subtract};
 use pp_model::{BaseKind, Compact};
-use pp_share::Numbered;
+use pp_share::Hashed;
 use std::alloc::Global;
 use std::thread::Threads;
 
@@ -23,7 +23,7 @@ pub fn combine<R: Threads + Sync>(
     sources: usize,
     kind: Option<BaseKind>,
     normalize: bool,
-    profiles: List<Numbered>,
+    profiles: List<Hashed>,
 ) -> Result<Compact, Halt<LoadRefusal>>
     requires few { AreCountableProfiles profiles }
     requires some { 0 < sources }
@@ -38,7 +38,7 @@ pub fn combine<R: Threads + Sync>(
 
 // All profiles agree with the first.
 #[tactic(auto, using(crate::proofs::Giving::giving), unfolding(crate::specs::Combine::agreeing))]
-fn compare(profiles: &[Numbered]) -> Result<(), Halt<LoadRefusal>>
+fn compare(profiles: &[Hashed]) -> Result<(), Halt<LoadRefusal>>
     requires { length profiles.now < 2 ^ 32 }
     ensures { Loads (agreeing profiles.now) result }
 {
@@ -50,7 +50,7 @@ fn compare(profiles: &[Numbered]) -> Result<(), Halt<LoadRefusal>>
 
 // All the others agree with the first.
 #[tactic(auto, unfolding(crate::specs::Steps::Loads))]
-fn compare_with(first: &Numbered, others: &[Numbered]) -> Result<(), Halt<LoadRefusal>>
+fn compare_with(first: &Hashed, others: &[Hashed]) -> Result<(), Halt<LoadRefusal>>
     requires { length others.now + 1 < 2 ^ 32 }
     ensures { Loads (agreeing_with first.now others.now) result }
 {
@@ -70,7 +70,7 @@ fn join<R: Threads + Sync>(
     sources: usize,
     kind: Option<BaseKind>,
     normalize: bool,
-    profiles: List<Numbered>,
+    profiles: List<Hashed>,
 ) -> Result<Compact, Halt<LoadRefusal>>
     requires few { AreCountableProfiles profiles }
     requires agree { agreeing profiles ≡ Ok tt }
@@ -86,7 +86,7 @@ fn join<R: Threads + Sync>(
 }
 
 // The profiles before the place, and those from it on.
-fn split(profiles: List<Numbered>, place: usize) -> Result<(List<Numbered>, List<Numbered>), Memory>
+fn split(profiles: List<Hashed>, place: usize) -> Result<(List<Hashed>, List<Hashed>), Memory>
     requires { place ≤ length profiles }
     ensures front { IfOk result (λ parts. parts.0 ≡ take place profiles) }
     ensures rest { IfOk result (λ parts. parts.1 ≡ drop place profiles) }
@@ -100,7 +100,7 @@ fn split(profiles: List<Numbered>, place: usize) -> Result<(List<Numbered>, List
 #[tactic(auto, using(crate::proofs::JoiningLemmas::joins))]
 fn merge_all<R: Threads + Sync>(
     with: &Resources<'_, R>,
-    profiles: List<Numbered>,
+    profiles: List<Hashed>,
 ) -> Result<Compact, Halt<LoadRefusal>>
     requires { AreMergeable profiles }
     ensures is { Loads (merging profiles) result }
@@ -134,7 +134,7 @@ fn less_bases<R: Threads + Sync>(
     kind: Option<BaseKind>,
     normalize: bool,
     source: Compact,
-    bases: List<Numbered>,
+    bases: List<Hashed>,
 ) -> Result<Compact, Halt<LoadRefusal>>
     requires ready { IsReady source }
     requires bases { IfSome kind (λ _. CanTakeOff source bases) }
@@ -154,7 +154,7 @@ fn take_off<R: Threads + Sync>(
     kind: BaseKind,
     normalize: bool,
     source: Compact,
-    bases: List<Numbered>,
+    bases: List<Hashed>,
 ) -> Result<Compact, Halt<LoadRefusal>>
     requires { CanTakeOff source bases }
     ensures is { Loads (subtracting kind normalize source bases) result }

@@ -14,7 +14,7 @@ use pp_check::{CheckRefusal, check_on};
 use pp_desk::{Halt, Stop};
 use pp_legacy::{LegacyRefusal, is_legacy, read_legacy};
 use pp_model::Profile;
-use pp_share::Numbered;
+use pp_share::Hashed;
 use pp_tables::{ReadRefusal, read_profile_on};
 use std::alloc::Global;
 use std::thread::Threads;
@@ -26,7 +26,7 @@ pub fn decode<R: Threads + Sync>(
     with: &Resources<'_, R>,
     source: u32,
     bytes: &[u8],
-) -> Result<Numbered, Halt<LoadRefusal>>
+) -> Result<Hashed, Halt<LoadRefusal>>
     requires { length bytes.now < 2 ^ 32 }
     ensures is { Loads (decoded source bytes.now) result }
     ensures few { IfOk result (HasAtMost (length bytes.now)) }
@@ -38,13 +38,13 @@ pub fn decode<R: Threads + Sync>(
 }
 
 #[tactic(auto, unfolding(crate::specs::Steps::Loads))]
-fn decode_legacy(alloc: Global, source: u32, bytes: &[u8]) -> Result<Numbered, Halt<LoadRefusal>>
+fn decode_legacy(alloc: Global, source: u32, bytes: &[u8]) -> Result<Hashed, Halt<LoadRefusal>>
     requires { IsTrue (is_legacy bytes.now) }
     ensures is { Loads (legacy_given source (legacy bytes.now)) result }
     ensures few { IfOk result (HasAtMost (length bytes.now)) }
 {
     match read_legacy(alloc, bytes) {
-        Ok(valid) => Ok(Numbered::new(alloc, valid)?),
+        Ok(valid) => Ok(Hashed::new(alloc, valid)?),
         Err(LegacyRefusal::Fault(fault)) => {
             Err(Halt::Refused(LoadRefusal::Legacy { source, fault }))
         }
@@ -57,7 +57,7 @@ fn decode_tables<R: Threads + Sync>(
     with: &Resources<'_, R>,
     source: u32,
     bytes: &[u8],
-) -> Result<Numbered, Halt<LoadRefusal>>
+) -> Result<Hashed, Halt<LoadRefusal>>
     requires { length bytes.now < 2 ^ 32 }
     ensures is { Loads (tables_of source bytes.now) result }
     ensures few { IfOk result (HasAtMost (length bytes.now)) }
@@ -89,13 +89,13 @@ fn check_tables<R: Threads + Sync>(
     with: &Resources<'_, R>,
     source: u32,
     profile: Profile,
-) -> Result<Numbered, Halt<LoadRefusal>>
+) -> Result<Hashed, Halt<LoadRefusal>>
     requires { IsIndexed profile }
     ensures is { Loads (checked source profile) result }
-    ensures same { IfOk result (λ numbered. numbered ≡ profile) }
+    ensures same { IfOk result (λ hashed. hashed ≡ profile) }
 {
     match check_on(with.rt, with.alloc, profile, with.workers, &OpenGate) {
-        Ok(numbered) => Ok(numbered),
+        Ok(hashed) => Ok(hashed),
         Err(CheckRefusal::Fault(fault)) => {
             Err(Halt::Refused(LoadRefusal::Table { source, fault }))
         }

@@ -18,7 +18,7 @@ use crate::resources::Resources;
 use pp_base::{List, Memory, Text};
 use pp_desk::{Desk, FileContent, Halt};
 use pp_options::{Origin, Plan};
-use pp_share::Numbered;
+use pp_share::Hashed;
 use std::alloc::Global;
 use std::thread::Threads;
 
@@ -28,8 +28,8 @@ pub const SIZE_LIMIT: u64 = 268_435_456;
 /// What was read so far.
 #[derive(Debug, Drop)]
 pub struct Read {
-    /// The profiles of the sources, and then of the bases, in the order of their words. Their samples are numbered.
-    pub profiles: List<Numbered>,
+    /// The profiles of the sources, and then of the bases, in the order of their words. Their samples are hashed.
+    pub profiles: List<Hashed>,
     /// The number of bytes that they were decoded from.
     pub size: u64,
 }
@@ -210,7 +210,7 @@ fn fit(read: &Read, len: u64) -> Result<(), Halt<LoadRefusal>>
 }
 
 // The profile behind those that were read.
-fn push(mut read: Read, profile: Numbered, len: u64) -> Result<Read, Memory>
+fn push(mut read: Read, profile: Hashed, len: u64) -> Result<Read, Memory>
     requires few { IsCountableRead read }
     requires fits { read.size + len ≤ size_limit }
     requires own { HasAtMost len profile }

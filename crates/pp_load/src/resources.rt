@@ -10,7 +10,7 @@ pub struct Resources<'a, R> {
     pub rt: &'a R,
     /// Where all is allocated.
     pub alloc: Global,
-    /// How many lanes read the samples of a source, check them, and number those of all sources.
+    /// How many lanes read the samples of a source, check them, and hash those of all sources.
     pub workers: u32,
     pub ghost some: { 1 ≤ workers },
     pub ghost most: { workers ≤ 64 },

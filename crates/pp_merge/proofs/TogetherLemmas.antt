@@ -8,7 +8,7 @@ use Rattle.pp_model.specs.declared.profile.Sample.{Sample}
 use Rattle.pp_model.specs.declared.profile.Profile.{Profile}
 use Rattle.pp_model.specs.Sizes.{absolute_sum, value_in}
 use Rattle.pp_merge.specs.Merge.{too_large}
-use Rattle.pp_share.specs.Numbers.{sum_together}
+use Rattle.pp_share.specs.Hashes.{sum_together}
 use Rattle.pp_merge.specs.Together.{sum_of_all}
 use Rattle.pp_merge.proofs.AloneLemmas.{none_found}
 

@@ -2,7 +2,7 @@
 use Rattle.std.specs.Prelude.{ℕ, List}
 use Rattle.std.specs.List.{sum_by}
 use Rattle.pp_model.specs.declared.profile.Profile.{Profile}
-use Rattle.pp_share.specs.Numbers.{sum_together}
+use Rattle.pp_share.specs.Hashes.{sum_together}
 
 -- the sum of the absolute values of all columns over all samples of the profiles
 abbrev pub sum_of_all : List Profile → ℕ

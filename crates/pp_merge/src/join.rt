@@ -11,7 +11,7 @@ ghost use Rattle.pp_share.specs.Header.{greater, earlier};
 
 use pp_base::{List, Memory};
 use pp_model::{Profile, Valid, text_of};
-use pp_share::{Behind, Ids, Known, Renumbering, are_numbered, known_ids, renumber};
+use pp_share::{Behind, Ids, Known, Renumbering, are_in_place, known_ids, renumber};
 use std::alloc::Global;
 use std::mem;
 
@@ -59,9 +59,9 @@ pub(crate) fn is_in_place(alloc: Global, p: &Profile) -> Result<bool, Memory>
     let locations = location_ids(alloc, p)?;
     // A table fits in memory.
     let _sizes = sizes_of(p);
-    let are_in_place = are_numbered(mappings.as_slice())
-        && are_numbered(functions.as_slice())
-        && are_numbered(locations.as_slice());
+    let are_in_place = are_in_place(mappings.as_slice())
+        && are_in_place(functions.as_slice())
+        && are_in_place(locations.as_slice());
     Ok(are_in_place)
 }
 

@@ -5,17 +5,17 @@ ghost use Rattle.std.specs.List.{AllByRecursion, sum_by};
 ghost use Rattle.pp_merge.specs.Merge.{Merges, merged, too_large};
 ghost use Rattle.pp_merge.specs.Merging.{Admits, CanMerge, IsWhole, StandsAlone};
 ghost use Rattle.pp_merge.specs.Together.{sum_of_all};
-ghost use Rattle.pp_share.specs.Numbers.{AreKnown, AreOwnNumbers};
+ghost use Rattle.pp_share.specs.Hashes.{AreKnown, AreOwnHashes};
 
 use crate::compatible::first_disagreeing;
 use crate::durations::total_duration;
 use crate::join::{is_in_place, join, set};
 use crate::refusal::MergeRefusal;
-use crate::together::without_numbers;
+use crate::together::without_hashes;
 use crate::totals::too_large_column;
 use pp_base::{Gate, List, Memory};
 use pp_model::{Compact, Profile, Valid};
-use pp_share::{Numbered, Numbers, share, share_on};
+use pp_share::{Hashed, Hashes, share, share_on};
 use std::alloc::Global;
 use std::mem;
 use std::thread::Threads;
@@ -39,13 +39,13 @@ pub fn merge(alloc: Global, list: List<Valid>) -> Result<Compact, MergeRefusal>
     Ok(merged)
 }
 
-/// The same profile or refusal, of profiles whose samples were numbered. Where the numbers of the samples do not serve, as
+/// The same profile or refusal, of profiles whose samples were hashed. Where the hashes of the samples do not serve, as
 /// those of several sources, they are made anew in pieces of 1,024 on so many lanes, from 1 to 64. The answer does not
 /// tell how many there were.
 pub fn merge_on<R: Threads + Sync, G: Gate>(
     rt: &R,
     alloc: Global,
-    list: List<Numbered>,
+    list: List<Hashed>,
     workers: u32,
     gate: &G,
 ) -> Result<Compact, MergeRefusal>
@@ -57,12 +57,12 @@ pub fn merge_on<R: Threads + Sync, G: Gate>(
     requires most { workers ≤ 64 }
     ensures { Merges list result }
 {
-    let (numbered, behind) = split(list);
-    let (first, numbers) = numbered.into_parts();
-    let (others, together) = without_numbers(alloc, behind, numbers.together)?;
+    let (hashed, behind) = split(list);
+    let (first, hashes) = hashed.into_parts();
+    let (others, together) = without_hashes(alloc, behind, hashes.together)?;
     let are_small = together <= i64::MAX as u64;
     let duration = admit(&first, others.as_slice(), are_small)?;
-    let (whole, known) = join_numbered(alloc, first, others, duration, numbers)?;
+    let (whole, known) = join_hashed(alloc, first, others, duration, hashes)?;
     let merged = share_on(rt, alloc, whole, known, workers, gate)?;
     Ok(Compact::claim(Valid::claim(merged)))
 }
@@ -137,26 +137,26 @@ fn join_whole(
     Ok(with_duration(joined, duration))
 }
 
-// The same, and the numbers of its samples where they are known: a profile that stands alone, with its references by
+// The same, and the hashes of its samples where they are known: a profile that stands alone, with its references by
 // place, keeps those of the first one.
-fn join_numbered(
+fn join_hashed(
     alloc: Global,
     first: Valid,
     others: Vec<Valid>,
     duration: i64,
-    numbers: Numbers,
-) -> Result<(Profile, Option<Numbers>), Memory>
+    hashes: Hashes,
+) -> Result<(Profile, Option<Hashes>), Memory>
     requires can { CanMerge first others.items duration }
-    requires numbers { AreOwnNumbers first.sample numbers }
+    requires hashes { AreOwnHashes first.sample hashes }
     ensures whole { IfOk result (λ r. IsWhole first others.items r.0) }
     ensures known { IfOk result (λ r. IfSome r.1 (AreKnown (length r.0.text) r.0.sample)) }
 {
     let stays = stands_alone(alloc, &first, others.as_slice())?;
     if stays {
         let whole = with_duration(first.into_profile(), duration);
-        return Ok((whole, Some(numbers)));
+        return Ok((whole, Some(hashes)));
     }
-    mem::drop(numbers);
+    mem::drop(hashes);
     let whole = join_whole(alloc, first, others, duration)?;
     Ok((whole, None))
 }

@@ -5,15 +5,15 @@ ghost use Rattle.pp_merge.specs.Together.{sum_of_all};
 
 use pp_base::Memory;
 use pp_model::Valid;
-use pp_share::Numbered;
+use pp_share::Hashed;
 use std::alloc::Global;
 
-/// The profiles without the numbers of their samples, and what the absolute values of all their columns add up to behind
+/// The profiles without the hashes of their samples, and what the absolute values of all their columns add up to behind
 /// those that were added up before, or 2^64-1 where they are more. Where that is at most 2^63-1, as it is in most
 /// profiles, no column has to be added up for itself.
-pub fn without_numbers(
+pub fn without_hashes(
     alloc: Global,
-    list: Vec<Numbered>,
+    list: Vec<Hashed>,
     before: u64,
 ) -> Result<(Vec<Valid>, u64), Memory>
     ensures same { IfOk result (λ r. r.0.items ≡ list.items) }
@@ -22,8 +22,8 @@ pub fn without_numbers(
     let mut profiles = Vec::with_capacity(alloc, list.len())?;
     let mut total = before;
     for p in list {
-        let (valid, numbers) = p.into_parts();
-        total = total.saturating_add(numbers.together);
+        let (valid, hashes) = p.into_parts();
+        total = total.saturating_add(hashes.together);
         profiles.push(valid)?;
     }
     Ok((profiles, total))

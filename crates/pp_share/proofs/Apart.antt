@@ -6,7 +6,7 @@ use Rattle.std.proofs.lemmas.Bool.Decides.{Decides-eqb}
 use Rattle.pp_model.specs.declared.profile.Label.{Label}
 use Rattle.pp_model.specs.declared.profile.Sample.{Sample}
 use Rattle.pp_share.specs.Sums.{counts}
-use Rattle.pp_share.specs.SampleStacks.{same_stack, stack_number, stack_decides}
+use Rattle.pp_share.specs.SampleStacks.{same_stack, stack_hash, stack_decides}
 use Rattle.pp_share.specs.SampleKeys.{sample_stack, sample_item, sample_of, has_values, summed_samples}
 use Rattle.pp_share.proofs.Lists.{all_mapped}
 use Rattle.pp_share.proofs.SampleKeyLemmas.{stack_laws}
@@ -28,10 +28,10 @@ apart_by f other same keeps (x ∷ xs) apart = (each xs apart.0, apart_by f othe
         by false is = refl
 
 -- locations and labels whose numbers differ
-pub stacks_apart : (stacks : List (List ℕ × List Label)) → IsDistinct (λ a b. a == b) (map stack_number stacks) → IsDistinct same_stack stacks
+pub stacks_apart : (stacks : List (List ℕ × List Label)) → IsDistinct (λ a b. a == b) (map stack_hash stacks) → IsDistinct same_stack stacks
 stacks_apart stacks apart =
-    apart_by stack_number (λ a b. a == b) same_stack
-    (λ x y same. (Decides-eqb (stack_number x) (stack_number y)).1 (ap stack_number ((stack_decides x y).0 same))) stacks apart
+    apart_by stack_hash (λ a b. a == b) same_stack
+    (λ x y same. (Decides-eqb (stack_hash x) (stack_hash y)).1 (ap stack_hash ((stack_decides x y).0 same))) stacks apart
 
 kept_are : (samples : List Sample) → map sample_of (filter counts (map sample_item samples)) ≡ filter has_values samples
 kept_are [] = refl

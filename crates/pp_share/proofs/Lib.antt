@@ -30,9 +30,9 @@ pub mod SampleKeyLemmas
 pub mod WovenLemmas
 pub mod SlotLemmas
 pub mod Apart
-pub mod NumberLemmas
+pub mod HashLemmas
 pub mod LocatedLemmas
-pub mod KeptNumbers
+pub mod KeptHashes
 pub mod Deciding
 pub mod MergedMapping
 pub mod DistinctLemmas

@@ -68,7 +68,7 @@ places_set ids places id place holds some at within other known = elim (cases_eq
             ∙ sym (get_or-set_same places id (place + 1) 0 within),
       )
   | inr apart ↦
-      let same_number = get_or-set_other places id other (place + 1) 0 apart in
-      let was = places_kept ids places id holds other (omega (arith, known, same_number)) in
-      (was.0, was.1 ∙ sym same_number)
+      let same_hash = get_or-set_other places id other (place + 1) 0 apart in
+      let was = places_kept ids places id holds other (omega (arith, known, same_hash)) in
+      (was.0, was.1 ∙ sym same_hash)
 ]

@@ -36,17 +36,17 @@ never x (n ∷ ns) none = by (x == n) refl (never x ns) (sym (times-cons x n ns)
     by false is rest none = (is, rest (omega (arith, none)))
 
 -- numbers of which none stands more than once differ
-pub distinct_numbers : (ns : List ℕ) → ((x : ℕ) → times x ns ≤ 1) → IsDistinct (λ a b. a == b) ns
+pub distinct_hashes : (ns : List ℕ) → ((x : ℕ) → times x ns ≤ 1) → IsDistinct (λ a b. a == b) ns
 unfolding IsDistinct
-distinct_numbers [] once = tt
-distinct_numbers (n ∷ ns) once = (
+distinct_hashes [] once = tt
+distinct_hashes (n ∷ ns) once = (
   never n ns (omega (arith, once n, times-cons n n ns, ap {B = ℕ} (λ b. cond b 1 0) (itself n))),
-  distinct_numbers ns (λ x. omega (arith, once x, times-cons x n ns)),
+  distinct_hashes ns (λ x. omega (arith, once x, times-cons x n ns)),
 )
 
 -- where none is repeated, all differ
 pub none_repeated : (ns : List ℕ) → HoldsRepeated ns [] → IsDistinct (λ a b. a == b) ns
-none_repeated ns none = distinct_numbers ns (λ x. by x (times x ns) refl)
+none_repeated ns none = distinct_hashes ns (λ x. by x (times x ns) refl)
   where
     by : (x k : ℕ) → times x ns ≡ k → k ≤ 1
     by x zero is = omega arith

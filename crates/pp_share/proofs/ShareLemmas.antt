@@ -14,7 +14,7 @@ use Rattle.pp_share.specs.Placed.{gist, plain, totalled, samples_placed, mapping
 use Rattle.pp_share.specs.Alike.{first_alike}
 use Rattle.pp_share.specs.Written.{written}
 use Rattle.pp_base.proofs.Lists.{all_by}
-use Rattle.pp_share.specs.Numbers.{with_new_samples, with_sums}
+use Rattle.pp_share.specs.Hashes.{with_new_samples, with_sums}
 use Rattle.pp_share.specs.SampleKeys.{summed_samples}
 use Rattle.pp_share.specs.Renumbered.{NewIds, renumbered_type, renumbered_location, renumbered_sample, renumbered_label}
 use Rattle.pp_share.specs.Shared.{by_texts, by_functions, alike_functions, with_shared_texts, with_shared_functions, with_shared_places}

@@ -14,13 +14,13 @@ use Rattle.pp_model.specs.declared.profile.Sample.{Sample}
 use Rattle.pp_model.specs.FirstSight.{distinct}
 use Rattle.pp_model.proofs.FirstSightLemmas.{all-seen_after}
 use Rattle.pp_share.specs.declared.sample_key.SampleKey.{SampleKey}
-use Rattle.pp_share.specs.Numbers.{number_by}
+use Rattle.pp_share.specs.Hashes.{hash_by}
 use Rattle.pp_share.specs.Renumbered.{NewIds, renumbered_sample}
 use Rattle.pp_share.specs.Repeats.{is_listed, times, HoldsRepeated}
-use Rattle.pp_share.specs.SampleKeys.{sample_item, sample_number, sample_stack, has_values, key_lists, same_sample_key, item_of_key}
-use Rattle.pp_share.specs.SampleStacks.{same_stack, stack_number, stack_decides}
+use Rattle.pp_share.specs.SampleKeys.{sample_item, sample_hash, sample_stack, has_values, key_lists, same_sample_key, item_of_key}
+use Rattle.pp_share.specs.SampleStacks.{same_stack, stack_hash, stack_decides}
 use Rattle.pp_share.specs.Sums.{sum_with, sum_of, keys_of, summed, sum_at, sums_with, CanAdd}
-use Rattle.pp_share.specs.Woven.{StackRow, woven_items, woven, HasOwnNumber, CountsAlone, IsWoven}
+use Rattle.pp_share.specs.Woven.{StackRow, woven_items, woven, HasOwnHash, CountsAlone, IsWoven}
 use Rattle.pp_share.proofs.Prefix.{IsNext, map_same, next_weight}
 use Rattle.pp_share.proofs.RepeatLemmas.{itself, never}
 use Rattle.pp_share.proofs.SampleKeyLemmas.{sum_by-map, next_described, sum_at-described, insert-described, sample_adds, sums_after}
@@ -64,11 +64,11 @@ module _ {K : Type 0} (same : K → K → Bool) (k : K) where
       by false rest = omega (arith, rest)
 
 -- stacks of other numbers differ
-apart_number : (repeated : List ℕ) (k : Stack) (s : Sample) → is_listed repeated (stack_number k) ≡ true → is_listed repeated (sample_number s) ≡ false → same_stack k (sample_stack s) ≡ false
+apart_number : (repeated : List ℕ) (k : Stack) (s : Sample) → is_listed repeated (stack_hash k) ≡ true → is_listed repeated (sample_hash s) ≡ false → same_stack k (sample_stack s) ≡ false
 apart_number repeated k s here alone = by (same_stack k (sample_stack s)) refl
   where
     by : (b : Bool) → same_stack k (sample_stack s) ≡ b → b ≡ false
-    by true is = absurd (true≢false (sym here ∙ ap (λ stack. is_listed repeated (stack_number stack)) ((stack_decides k (sample_stack s)).0 is) ∙ alone))
+    by true is = absurd (true≢false (sym here ∙ ap (λ stack. is_listed repeated (stack_hash stack)) ((stack_decides k (sample_stack s)).0 is) ∙ alone))
     by false is = refl
 
 -- the order with one more place for a sum, where its key is new
@@ -81,8 +81,8 @@ places_with true order = omega arith
 places_with false order = none_more order
 
 -- A key whose number is repeated is looked up among the sums.
-module _ (repeated : List ℕ) (k : Stack) (here : is_listed repeated (stack_number k) ≡ true) where
-  found : (order : List (Option Sample)) (items : List StackRow) → AllByRecursion (HasOwnNumber repeated) order → nones order ≡ length items
+module _ (repeated : List ℕ) (k : Stack) (here : is_listed repeated (stack_hash k) ≡ true) where
+  found : (order : List (Option Sample)) (items : List StackRow) → AllByRecursion (HasOwnHash repeated) order → nones order ≡ length items
       → lookup (same_stack k) (woven_items order items) ≡ lookup (same_stack k) items
   found [] [] alone many = refl
   found [] (i ∷ items) alone many = absurd (omega (arith, many))
@@ -91,7 +91,7 @@ module _ (repeated : List ℕ) (k : Stack) (here : is_listed repeated (stack_num
   found (None ∷ order) [] alone many = absurd (omega (arith, many))
   found (None ∷ order) (i ∷ items) alone many = ap (λ o. if same_stack k i.0 then Some i.1 else o) (found order items alone.1 (omega (arith, many)))
 
-  placed : (v : List ℤ) (order : List (Option Sample)) (items : List StackRow) → AllByRecursion (HasOwnNumber repeated) order → nones order ≡ length items
+  placed : (v : List ℤ) (order : List (Option Sample)) (items : List StackRow) → AllByRecursion (HasOwnHash repeated) order → nones order ≡ length items
       → woven_items (with_place (is_key same_stack k items) order) (insert_entry same_stack items k v) ≡ insert_entry same_stack (woven_items order items) k v
   placed v [] [] alone many = refl
   placed v [] (i ∷ items) alone many = absurd (omega (arith, many))
@@ -118,7 +118,7 @@ module _ (repeated : List ℕ) (k : Stack) (here : is_listed repeated (stack_num
 
 -- A row of a key whose number is repeated.
 module _ (repeated : List ℕ) (all_have : Bool) (order : List (Option Sample)) (sums : List (SampleKey × List ℤ)) (before : IsWoven repeated all_have order sums)
-    (key : SampleKey) (row : List ℤ) (here : is_listed repeated (stack_number (key_lists key)) ≡ true) where
+    (key : SampleKey) (row : List ℤ) (here : is_listed repeated (stack_hash (key_lists key)) ≡ true) where
   many : nones order ≡ length (map item_of_key sums)
   many = before.places ∙ sym (length-map sums item_of_key)
 
@@ -152,9 +152,9 @@ module _ (repeated : List ℕ) (all_have : Bool) (order : List (Option Sample)) 
       ∙ placed repeated (key_lists key) here (sum_with (sum_at same_sample_key sums key) row) order (map item_of_key sums) before.alone many
       ∙ ap (λ sum. insert_entry same_stack (woven order sums) (key_lists key) (sum_with sum row)) (sym sum_found)
 
-  still_alone : (b : Bool) → AllByRecursion (HasOwnNumber repeated) (with_place b order)
+  still_alone : (b : Bool) → AllByRecursion (HasOwnHash repeated) (with_place b order)
   still_alone true = before.alone
-  still_alone false = all_push (HasOwnNumber repeated) order None before.alone tt
+  still_alone false = all_push (HasOwnHash repeated) order None before.alone tt
 
   still_counts : (b : Bool) → all_have ≡ true → AllByRecursion CountsAlone (with_place b order)
   still_counts true have = before.values have
@@ -192,9 +192,9 @@ module _ (repeated : List ℕ) (all_have : Bool) (order : List (Option Sample)) 
 
 -- A sample whose number is repeated, under the key of its stack.
 module _ (repeated : List ℕ) (all_have : Bool) (order : List (Option Sample)) (sums : List (SampleKey × List ℤ)) (before : IsWoven repeated all_have order sums)
-    (s : Sample) (key : SampleKey) (is : key_lists key ≡ sample_stack s) (number : ℕ) (own : number ≡ sample_number s) (listed : true ≡ is_listed repeated number) where
-  key_listed : is_listed repeated (stack_number (key_lists key)) ≡ true
-  key_listed = ap (λ k. is_listed repeated (stack_number k)) is ∙ ap (is_listed repeated) (sym own) ∙ sym listed
+    (s : Sample) (key : SampleKey) (is : key_lists key ≡ sample_stack s) (number : ℕ) (own : number ≡ sample_hash s) (listed : true ≡ is_listed repeated number) where
+  key_listed : is_listed repeated (stack_hash (key_lists key)) ≡ true
+  key_listed = ap (λ k. is_listed repeated (stack_hash k)) is ∙ ap (is_listed repeated) (sym own) ∙ sym listed
 
   -- its values can be added to the sum of its key
   pub can_take : CanAdd (sum_at same_stack (woven order sums) (sample_stack s)) s.value → CanAdd (sum_at same_sample_key sums key) s.value
@@ -224,7 +224,7 @@ module _ (repeated : List ℕ) (all_have : Bool) (order : List (Option Sample)) 
       taken (order ++ None ∷ []) at now (added_new repeated all_have order sums before key s.value key_listed (omega (arith, more, ap length after_is))) there after_is
 
 -- A sample whose number no other has goes last.
-module _ (repeated : List ℕ) (s : Sample) (alone : is_listed repeated (sample_number s) ≡ false) where
+module _ (repeated : List ℕ) (s : Sample) (alone : is_listed repeated (sample_hash s) ≡ false) where
   goes_last : (order : List (Option Sample)) (items : List StackRow) → woven_items (order ++ Some s ∷ []) items ≡ woven_items order items ++ sample_item s ∷ []
   goes_last [] items = refl
   goes_last (Some o ∷ order) items = ap (λ l. sample_item o ∷ l) (goes_last order items)
@@ -235,7 +235,7 @@ module _ (repeated : List ℕ) (s : Sample) (alone : is_listed repeated (sample_
       → IsWoven repeated all_have order sums → IsWoven repeated all_have (order ++ Some s ∷ []) sums
   alone_state all_have has order sums state = record {
     places = ap length (filter-append is_none order (Some s ∷ [])) ∙ length-append (filter is_none order) [] ∙ omega (arith, state.places);
-    alone = all_push (HasOwnNumber repeated) order (Some s) state.alone alone;
+    alone = all_push (HasOwnHash repeated) order (Some s) state.alone alone;
     values = λ have. all_push CountsAlone order (Some s) (state.values have) (has have);
   }
 
@@ -252,35 +252,35 @@ abbrev Other : Sample → Stack → Type 0
 Other s k = same_stack (sample_stack s) k ≡ false
 
 -- samples of other numbers
-others : (s : Sample) (os : List Sample) → AllByRecursion (λ n. (sample_number s == n) ≡ false) (map sample_number os) → AllByRecursion (Other s) (map sample_stack os)
+others : (s : Sample) (os : List Sample) → AllByRecursion (λ n. (sample_hash s == n) ≡ false) (map sample_hash os) → AllByRecursion (Other s) (map sample_stack os)
 others s [] all = tt
 others s (o ∷ os) all = (by (same_stack (sample_stack s) (sample_stack o)) refl, others s os all.1)
   where
     by : (b : Bool) → same_stack (sample_stack s) (sample_stack o) ≡ b → b ≡ false
     by true is =
-        absurd (true≢false (sym (itself (sample_number s)) ∙ ap (λ stack. sample_number s == stack_number stack) ((stack_decides (sample_stack s) (sample_stack o)).0 is)
+        absurd (true≢false (sym (itself (sample_hash s)) ∙ ap (λ stack. sample_hash s == stack_hash stack) ((stack_decides (sample_stack s) (sample_stack o)).0 is)
         ∙ all.0))
     by false is = refl
 
 -- The next sample's number is not repeated: no sum so far is of its kind.
-module _ (repeated : List ℕ) (columns : ℕ) (samples seen : List Sample) (s : Sample) (next : IsNext samples seen s) (holds : HoldsRepeated (map sample_number samples) repeated)
-    (alone : is_listed repeated (sample_number s) ≡ false) where
+module _ (repeated : List ℕ) (columns : ℕ) (samples seen : List Sample) (s : Sample) (next : IsNext samples seen s) (holds : HoldsRepeated (map sample_hash samples) repeated)
+    (alone : is_listed repeated (sample_hash s) ≡ false) where
   abbrev number : ℕ
-  number = sample_number s
+  number = sample_hash s
 
-  once : (n : ℕ) → times number (map sample_number samples) ≡ n → n ≤ 1
+  once : (n : ℕ) → times number (map sample_hash samples) ≡ n → n ≤ 1
   once zero is = omega arith
   once (suc zero) is = omega arith
   once (suc (suc n)) is = absurd (true≢false (sym (holds number (omega (arith, is))) ∙ alone))
 
-  none_so_far : times number (map sample_number seen) ≡ 0
+  none_so_far : times number (map sample_hash seen) ≡ 0
   none_so_far =
       omega (
         arith,
-        once (times number (map sample_number samples)) refl,
-        sum_by-map (λ n. cond (number == n) 1 0) sample_number samples,
-        sum_by-map (λ n. cond (number == n) 1 0) sample_number seen,
-        next_weight samples seen s next (λ o. cond (number == sample_number o) 1 0),
+        once (times number (map sample_hash samples)) refl,
+        sum_by-map (λ n. cond (number == n) 1 0) sample_hash samples,
+        sum_by-map (λ n. cond (number == n) 1 0) sample_hash seen,
+        next_weight samples seen s next (λ o. cond (number == sample_hash o) 1 0),
         ap {B = ℕ} (λ b. cond b 1 0) (itself number),
       )
 
@@ -295,7 +295,7 @@ module _ (repeated : List ℕ) (columns : ℕ) (samples seen : List Sample) (s :
       ap (list_any (same_stack (sample_stack s))) keys_are
       ∙ none_any (same_stack (sample_stack s)) (distinct same_stack (map sample_stack seen))
       (all-seen_after same_stack same_stack (λ k. k) (Other s) (λ a b _ _. refl) [] (map sample_stack seen) tt
-      (others s seen (never number (map sample_number seen) none_so_far)))
+      (others s seen (never number (map sample_hash seen) none_so_far)))
 
 -- One sample more, which gets its new ids.
 module _ (by : NewIds) (columns : ℕ) (samples seen : List Sample) (s : Sample) (next : IsNext samples seen s) where
@@ -314,9 +314,9 @@ module _ (by : NewIds) (columns : ℕ) (samples seen : List Sample) (s : Sample)
       it_has false is = absurd (true≢false (sym all ∙ list_all_at has_values samples (length seen) s next.within (ap has_values (sym next.here) ∙ is)))
 
   -- the number at its place is its own
-  pub moved_number : (numbers : List ℕ) (place : ℕ) → numbers ≡ map (number_by by) samples → place ≡ length seen → get_or numbers place 0 ≡ number_by by s
+  pub moved_number : (numbers : List ℕ) (place : ℕ) → numbers ≡ map (hash_by by) samples → place ≡ length seen → get_or numbers place 0 ≡ hash_by by s
   moved_number numbers place are at =
-      (λ j. get_or (are j) (at j) 0) ∙ get_or-map (number_by by) samples (length seen) s 0 next.within ∙ ap (number_by by) (sym next.here)
+      (λ j. get_or (are j) (at j) 0) ∙ get_or-map (hash_by by) samples (length seen) s 0 next.within ∙ ap (hash_by by) (sym next.here)
 
   module _ (sums : List StackRow) (so_far : sums ≡ summed same_stack columns (map sample_item (map moved seen))) where
     module _ (wide : All (λ (s : Sample). length s.value ≡ columns) samples) where
@@ -337,9 +337,9 @@ module _ (by : NewIds) (columns : ℕ) (samples seen : List Sample) (s : Sample)
           ∙ ap (λ l. summed same_stack columns (map sample_item l)) (sym (map-append moved seen (s ∷ [])))
 
     -- no sum so far is of its kind where its number is not repeated
-    pub moved_alone : (repeated : List ℕ) → HoldsRepeated (map (number_by by) samples) repeated → is_listed repeated (number_by by s) ≡ false
+    pub moved_alone : (repeated : List ℕ) → HoldsRepeated (map (hash_by by) samples) repeated → is_listed repeated (hash_by by s) ≡ false
         → list_any (same_stack (sample_stack (moved s))) (keys_of same_stack sums) ≡ false
     moved_alone repeated holds alone =
         ap (λ l. list_any (same_stack (sample_stack (moved s))) (keys_of same_stack l)) so_far
         ∙ alone_among repeated columns (map moved samples) (map moved seen) (moved s) next_moved
-        (subst (λ numbers. HoldsRepeated numbers repeated) (sym (map-map sample_number moved samples)) holds) alone
+        (subst (λ numbers. HoldsRepeated numbers repeated) (sym (map-map sample_hash moved samples)) holds) alone

@@ -14,7 +14,7 @@ pub mod SampleKeys
 pub mod BloomFilter
 pub mod Repeats
 pub mod Woven
-pub mod Numbers
+pub mod Hashes
 pub mod Shared
 pub mod Walk
 pub mod Gathered

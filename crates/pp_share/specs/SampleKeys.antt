@@ -3,7 +3,7 @@ use Rattle.std.specs.Prelude.{ℕ, Bool, ℤ, List, map, filter}
 use Rattle.pp_model.specs.declared.profile.Label.{Label}
 use Rattle.pp_model.specs.declared.profile.Sample.{Sample}
 use Rattle.pp_share.specs.declared.sample_key.SampleKey.{SampleKey}
-use Rattle.pp_share.specs.SampleStacks.{same_stack, stack_number}
+use Rattle.pp_share.specs.SampleStacks.{same_stack, stack_hash}
 use Rattle.pp_share.specs.Sums.{counts, summed}
 
 -- the sample's locations and labels
@@ -14,9 +14,9 @@ sample_stack s = (s.location_id, s.label)
 abbrev pub sample_item : Sample → (List ℕ × List Label) × List ℤ
 sample_item s = (sample_stack s, s.value)
 
--- the number of its locations and labels
-abbrev pub sample_number : Sample → ℕ
-sample_number s = stack_number (sample_stack s)
+-- the hash of its locations and labels
+abbrev pub sample_hash : Sample → ℕ
+sample_hash s = stack_hash (sample_stack s)
 
 -- some value of it isn't 0
 abbrev pub has_values : Sample → Bool

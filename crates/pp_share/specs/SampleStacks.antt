@@ -1,4 +1,4 @@
--- The locations and labels by which samples are told apart where texts and locations stand once, and the number that a
+-- The locations and labels by which samples are told apart where texts and locations stand once, and the hash that a
 -- hasher takes of them.
 use Rattle.std.specs.Prelude.{◌≡◌, ℕ, ◌*◌, ◌/◌, ◌%◌, ◌^◌, ◌==◌, Bool, ◌&&◌, true, ℤ, List, fold, bit_xor}
 use Rattle.std.specs.Bool.{Decides}
@@ -21,25 +21,25 @@ equal_label a b =
 abbrev pub same_stack : List ℕ × List Label → List ℕ × List Label → Bool
 same_stack a b = pointwise (λ i j. i == j) a.0 b.0 && pointwise equal_label a.1 b.1
 
--- the upper half of the number's bits folded into the lower one
+-- the upper half of the hash's bits folded into the lower one
 abbrev pub folded : ℕ → ℕ
-folded number = bit_xor number (number / 2 ^ 32)
+folded hash = bit_xor hash (hash / 2 ^ 32)
 
--- the number of what was taken before, with one number more
-abbrev pub with_number : ℕ → ℕ → ℕ
-with_number number more = folded (bit_xor number more * 11400714819323198485 % 2 ^ 64)
+-- the hash of what was taken before, with one number more
+abbrev pub with_word : ℕ → ℕ → ℕ
+with_word hash more = folded (bit_xor hash more * 11400714819323198485 % 2 ^ 64)
 
--- the same, with a signed number
+-- the hash with a signed number more
 abbrev pub with_int : ℕ → ℤ → ℕ
-with_int number more = with_number number (cast_unsigned w64 more)
+with_int hash more = with_word hash (cast_unsigned w64 more)
 
--- the same, with each field of a label
+-- the hash with each field of a label more
 abbrev pub with_label : ℕ → Label → ℕ
-with_label number l = with_int (with_int (with_int (with_int number l.key) l.text) l.num) l.num_unit
+with_label hash l = with_int (with_int (with_int (with_int hash l.key) l.text) l.num) l.num_unit
 
--- A number in which each location and each field of each label counts, and its place.
-abbrev pub stack_number : List ℕ × List Label → ℕ
-stack_number stack = fold with_label (fold with_number 0 stack.0) stack.1
+-- A hash in which each location and each field of each label counts, and its place.
+abbrev pub stack_hash : List ℕ × List Label → ℕ
+stack_hash stack = fold with_label (fold with_word 0 stack.0) stack.1
 
 label_decides : (a b : Label) → Decides (equal_label a b) (a ≡ b)
 label_decides a b =
@@ -58,6 +58,6 @@ stack_decides a b =
     (Decides-and _ _ (slice_eq-Decides (λ i j. Decides-eqb i j) a.0 b.0 (pointwise (λ i j. i == j) a.0 b.0) refl)
     (slice_eq-Decides label_decides a.1 b.1 (pointwise equal_label a.1 b.1) refl))
 
--- and then they have the same number
-pub same_number : (a b : List ℕ × List Label) → same_stack a b ≡ true → u64 (stack_number a) ≡ u64 (stack_number b)
-same_number a b same = ap (λ stack. u64 (stack_number stack)) ((stack_decides a b).0 same)
+-- and then they have the same hash
+pub same_hash : (a b : List ℕ × List Label) → same_stack a b ≡ true → u64 (stack_hash a) ≡ u64 (stack_hash b)
+same_hash a b same = ap (λ stack. u64 (stack_hash stack)) ((stack_decides a b).0 same)

@@ -6,7 +6,7 @@ use Rattle.pp_model.specs.declared.profile.Label.{Label}
 use Rattle.pp_model.specs.declared.profile.Sample.{Sample}
 use Rattle.pp_share.specs.declared.sample_key.SampleKey.{SampleKey}
 use Rattle.pp_share.specs.Repeats.{is_listed}
-use Rattle.pp_share.specs.SampleKeys.{sample_item, sample_number, sample_of, item_of_key, has_values}
+use Rattle.pp_share.specs.SampleKeys.{sample_item, sample_hash, sample_of, item_of_key, has_values}
 use Rattle.pp_share.specs.Sums.{counts}
 
 -- a stack with its values
@@ -29,9 +29,9 @@ abbrev pub woven_samples : List (Option Sample) → List (SampleKey × List ℤ)
 woven_samples order sums = map sample_of (filter counts (woven order sums))
 
 -- a sample that stands alone has a number that isn't repeated
-abbrev pub HasOwnNumber : List ℕ → Option Sample → Type 0
-HasOwnNumber repeated None = ⊤
-HasOwnNumber repeated (Some s) = is_listed repeated (sample_number s) ≡ false
+abbrev pub HasOwnHash : List ℕ → Option Sample → Type 0
+HasOwnHash repeated None = ⊤
+HasOwnHash repeated (Some s) = is_listed repeated (sample_hash s) ≡ false
 
 -- a sample that stands alone has a value that isn't 0
 abbrev pub CountsAlone : Option Sample → Type 0
@@ -42,7 +42,7 @@ CountsAlone (Some s) = has_values s ≡ true
 -- samples have values, so have these.
 pub record IsWoven (repeated : List ℕ) (all_have : Bool) (order : List (Option Sample)) (sums : List (SampleKey × List ℤ)) : Type 0 where
   pub places : length (filter is_none order) ≡ length sums
-  pub alone : AllByRecursion (HasOwnNumber repeated) order
+  pub alone : AllByRecursion (HasOwnHash repeated) order
   pub values : all_have ≡ true → AllByRecursion CountsAlone order
 
 -- The samples from place i on, with none where a sum is to stand: at these places.

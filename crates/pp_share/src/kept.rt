@@ -3,25 +3,25 @@ ghost use Rattle.std.specs.Prelude.{◌≡◌, ℤ, true, IfSome};
 ghost use Rattle.std.specs.Bool.{OnTrue};
 ghost use Rattle.pp_model.specs.Rules.{is_text_of};
 ghost use Rattle.pp_share.specs.Ids.{new_text};
-ghost use Rattle.pp_share.specs.Numbers.{AreKnown, AreNumbers, KeepsSamples};
+ghost use Rattle.pp_share.specs.Hashes.{AreKnown, AreHashes, KeepsSamples};
 ghost use Rattle.pp_share.specs.Renumbered.{new_ids};
 
+use crate::hashes::Hashes;
 use crate::ids::Ids;
-use crate::known::are_numbered;
-use crate::numbers::Numbers;
+use crate::known::are_in_place;
 use crate::renumbering::Renumbering;
 use pp_model::Sample;
 
-/// The numbers that are known of the samples, where they are also those of the samples with their new ids: where none
+/// The hashes that are known of the samples, where they are also those of the samples with their new ids: where none
 /// of the entries that samples name got another id. Their labels name some of so many texts.
-pub fn kept_numbers(
-    known: Option<Numbers>,
+pub fn kept_hashes(
+    known: Option<Hashes>,
     samples: &[Sample],
     texts: usize,
     by: &Renumbering,
-) -> Option<Numbers>
+) -> Option<Hashes>
     requires { IfSome known (AreKnown texts samples.now) }
-    ensures { IfSome result (AreNumbers (new_ids by.now) samples.now) }
+    ensures { IfSome result (AreHashes (new_ids by.now) samples.now) }
 {
     if keeps_samples(by, texts) {
         return known;
@@ -42,7 +42,7 @@ fn keeps_texts(ids: &Ids, texts: usize) -> bool
 {
     match ids {
         Ids::Same => true,
-        Ids::By(ids) => texts == ids.as_slice().len() && are_numbered(ids.as_slice()),
+        Ids::By(ids) => texts == ids.as_slice().len() && are_in_place(ids.as_slice()),
         _ => false,
     }
 }

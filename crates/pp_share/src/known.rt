@@ -16,7 +16,7 @@ pub fn known_ids(alloc: Global, ids: &[u64]) -> Result<Known, Memory>
     ensures { IfOk result (λ known. (after : ℕ) → (id : ℕ) → behind_id after (length ids.now) (known_id known id)
         ≡ behind_id after (length ids.now) (place_id ids.now id)) }
 {
-    if are_numbered(ids) {
+    if are_in_place(ids) {
         return Ok(Known::InOrder);
     }
     let listed = listed_ids(alloc, ids)?;
@@ -36,7 +36,7 @@ fn listed_ids(alloc: Global, ids: &[u64]) -> Result<IndexSet<u64>, Memory>
 }
 
 /// Whether each id is its place plus 1.
-pub fn are_numbered(ids: &[u64]) -> bool
+pub fn are_in_place(ids: &[u64]) -> bool
     ensures { OnTrue result (AreNumbered ids.now) }
 {
     for (place, id) in ids.iter().enumerate() {

@@ -7,7 +7,7 @@ ghost use Rattle.pp_share.specs.PlaceKeys.{mapping_key, start_at, distant, near,
 
 use crate::first_sight::{Keyed, keep_firsts, number_each};
 use crate::ids::Ids;
-use crate::known::are_numbered;
+use crate::known::are_in_place;
 use pp_base::{List, Memory};
 use pp_model::{Line, Location, Mapping, Profile};
 use std::alloc::Global;
@@ -99,7 +99,7 @@ fn keys_by(
 fn ids_by(ids: List<u64>) -> Ids
     ensures { GivesIds (length ids) result ids }
 {
-    if are_numbered(ids.as_slice()) {
+    if are_in_place(ids.as_slice()) {
         Ids::Same
     } else {
         Ids::By(ids)

@@ -1,10 +1,10 @@
 //! What tells samples apart.
 ghost use Rattle.std.specs.Prelude.{◌≡◌, fold};
 ghost use Rattle.pp_share.specs.Ids.{new_id};
-ghost use Rattle.pp_share.specs.Numbers.{number_by};
-ghost use Rattle.pp_share.specs.SampleKeys.{sample_number};
+ghost use Rattle.pp_share.specs.Hashes.{hash_by};
+ghost use Rattle.pp_share.specs.SampleKeys.{sample_hash};
 ghost use Rattle.pp_share.specs.Renumbered.{new_ids, renumbered_label};
-ghost use Rattle.pp_share.specs.SampleStacks.{with_number, with_int, with_label, stack_number};
+ghost use Rattle.pp_share.specs.SampleStacks.{with_word, with_int, with_label, stack_hash};
 
 use crate::change::Change;
 use crate::ids::Ids;
@@ -21,105 +21,105 @@ pub struct SampleKey {
     pub labels: Vec<Label>,
 }
 
-/// Samples are many, so a hasher takes a key as one number.
+/// Samples are many, so a hasher takes a key as one hash.
 impl Hash for SampleKey {
     ghost use Rattle.std.specs.Hash as fed;
-    ghost use Rattle.pp_share.specs.SampleStacks.{stack_number, same_number};
+    ghost use Rattle.pp_share.specs.SampleStacks.{stack_hash, same_hash};
 
-    ghost hash_input = { λ key. fed.u64 (stack_number (key.locations.items, key.labels.items)) };
+    ghost hash_input = { λ key. fed.u64 (stack_hash (key.locations.items, key.labels.items)) };
 
     ghost respects_eq = { λ x y.
-        same_number (x.locations.items, x.labels.items) (y.locations.items, y.labels.items) };
+        same_hash (x.locations.items, x.labels.items) (y.locations.items, y.labels.items) };
 
     fn hash<H: Hasher>(&self, state: &mut H) {
-        state.write_u64(number_of(&self.locations, &self.labels));
+        state.write_u64(hash_of(&self.locations, &self.labels));
     }
 }
 
-// A number in which each id and each field of each label counts, and its place.
+// A hash in which each id and each field of each label counts, and its place.
 #[tactic(auto, using(std::proofs::lemmas::List::Sums::fold_more))]
-fn number_of(ids: &[u64], labels: &[Label]) -> u64
-    ensures { result ≡ stack_number (ids.now, labels.now) }
+fn hash_of(ids: &[u64], labels: &[Label]) -> u64
+    ensures { result ≡ stack_hash (ids.now, labels.now) }
 {
-    let mut number = 0;
+    let mut hash = 0;
     for id in ids {
-        number = with_number(number, *id);
+        hash = with_word(hash, *id);
     }
     for label in labels {
-        number = with_label(number, label);
+        hash = with_label(hash, label);
     }
-    number
+    hash
 }
 
-/// The number of the sample by the ids that it has.
-pub fn own_number(sample: &Sample) -> u64
-    ensures { result ≡ sample_number sample.now }
+/// The hash of the sample by the ids that it has.
+pub fn sample_hash(sample: &Sample) -> u64
+    ensures { result ≡ sample_hash sample.now }
 {
-    number_of(sample.location_id.as_slice(), sample.label.as_slice())
+    hash_of(sample.location_id.as_slice(), sample.label.as_slice())
 }
 
-/// The number of the sample as it is once it has its new ids. It stays as it is.
-pub fn number_by(by: &Renumbering, sample: &Sample) -> u64
-    ensures { result ≡ number_by (new_ids by.now) sample.now }
+/// The hash of the sample as it is once it has its new ids. It stays as it is.
+pub fn hash_by(by: &Renumbering, sample: &Sample) -> u64
+    ensures { result ≡ hash_by (new_ids by.now) sample.now }
 {
-    let located = number_locations(by, sample.location_id.as_slice());
-    number_labels(by, located, sample.label.as_slice())
+    let located = hash_locations(by, sample.location_id.as_slice());
+    hash_labels(by, located, sample.label.as_slice())
 }
 
-// The number of the locations by their new ids. Samples name many, so the way that ids change is asked once a list.
-fn number_locations(by: &Renumbering, ids: &[u64]) -> u64
-    ensures { result ≡ fold (λ number id. with_number number (new_id by.now.location id)) 0 ids.now }
+// The hash of the locations by their new ids. Samples name many, so the way that ids change is asked once a list.
+fn hash_locations(by: &Renumbering, ids: &[u64]) -> u64
+    ensures { result ≡ fold (λ hash id. with_word hash (new_id by.now.location id)) 0 ids.now }
 {
     match &by.location {
-        Ids::By(list) => number_changed(ids, list),
-        _ => number_changed(ids, by),
+        Ids::By(list) => hash_changed(ids, list),
+        _ => hash_changed(ids, by),
     }
 }
 
-fn number_changed<C: Change<u64>>(ids: &[u64], change: &C) -> u64
-    ensures { result ≡ fold (λ number id. with_number number (C.changed change.now id)) 0 ids.now }
+fn hash_changed<C: Change<u64>>(ids: &[u64], change: &C) -> u64
+    ensures { result ≡ fold (λ hash id. with_word hash (C.changed change.now id)) 0 ids.now }
 {
-    let mut number = 0;
+    let mut hash = 0;
     for id in ids {
         let mut new = *id;
         change.change(&mut new);
-        number = with_number(number, new);
+        hash = with_word(hash, new);
     }
-    number
+    hash
 }
 
-// The number before, with the labels by their new texts.
-fn number_labels(by: &Renumbering, before: u64, labels: &[Label]) -> u64
+// The hash before, with the labels by their new texts.
+fn hash_labels(by: &Renumbering, before: u64, labels: &[Label]) -> u64
     ensures { result
-        ≡ fold (λ number label. with_label number (renumbered_label (new_ids by.now) label)) before labels.now }
+        ≡ fold (λ hash label. with_label hash (renumbered_label (new_ids by.now) label)) before labels.now }
 {
-    let mut number = before;
+    let mut hash = before;
     for label in labels {
         let mut new = *label;
         by.change(&mut new);
-        number = with_label(number, &new);
+        hash = with_label(hash, &new);
     }
-    number
+    hash
 }
 
-// The number before, with each field of the label.
-fn with_label(number: u64, label: &Label) -> u64
-    ensures { result ≡ with_label number label.now }
+// The hash before, with each field of the label.
+fn with_label(hash: u64, label: &Label) -> u64
+    ensures { result ≡ with_label hash label.now }
 {
-    let named = with_int(with_int(number, label.key), label.text);
+    let named = with_int(with_int(hash, label.key), label.text);
     with_int(with_int(named, label.num), label.num_unit)
 }
 
-fn with_int(number: u64, more: i64) -> u64
-    ensures { result ≡ with_int number more }
+fn with_int(hash: u64, more: i64) -> u64
+    ensures { result ≡ with_int hash more }
 {
-    with_number(number, more.cast_unsigned())
+    with_word(hash, more.cast_unsigned())
 }
 
-// The number before, with one more. Folding keeps numbers apart that differ by multiples alone.
-fn with_number(number: u64, more: u64) -> u64
-    ensures { result ≡ with_number number more }
+// The hash before, with one more. Folding keeps hashes apart that differ by multiples alone.
+fn with_word(hash: u64, more: u64) -> u64
+    ensures { result ≡ with_word hash more }
 {
-    let mixed = (number ^ more).wrapping_mul(11_400_714_819_323_198_485);
+    let mixed = (hash ^ more).wrapping_mul(11_400_714_819_323_198_485);
     mixed ^ (mixed >> 32)
 }

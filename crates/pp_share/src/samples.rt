@@ -7,14 +7,14 @@ ghost use Rattle.pp_model.specs.Sizes.{value_in};
 ghost use Rattle.pp_model.specs.Values.{no_sample};
 ghost use Rattle.pp_share.specs.Sums.{sum_at, sums_with, CanAdd, keys_of};
 ghost use Rattle.pp_share.specs.SampleStacks.{same_stack};
-ghost use Rattle.pp_share.specs.SampleKeys.{sample_number, sample_stack, key_lists, same_sample_key, has_values, summed_samples};
-ghost use Rattle.pp_share.specs.Numbers.{AreNumbers};
+ghost use Rattle.pp_share.specs.SampleKeys.{sample_hash, sample_stack, key_lists, same_sample_key, has_values, summed_samples};
+ghost use Rattle.pp_share.specs.Hashes.{AreHashes};
 ghost use Rattle.pp_share.specs.Renumbered.{new_ids, renumbered_sample};
 ghost use Rattle.pp_share.specs.Repeats.{is_listed, HoldsRepeated};
 ghost use Rattle.pp_share.specs.Woven.{woven, woven_samples, order_at, IsSummed, put_at, sum_sample};
 
 use crate::change::Change;
-use crate::numbers::Numbers;
+use crate::hashes::Hashes;
 use crate::renumbering::Renumbering;
 use crate::repeated::Repeated;
 use crate::sample_key::SampleKey;
@@ -33,7 +33,7 @@ struct Sums {
     have_values: bool,
     // In front those that are kept, and behind them those that were not looked at yet.
     samples: List<Sample>,
-    // How many are kept: the samples whose number no other has, and one without values at the place of each sum.
+    // How many are kept: the samples whose hash no other has, and one without values at the place of each sum.
     kept: usize,
     // For each sum its place among these: that of the first of its kind.
     places: Vec<usize>,
@@ -44,24 +44,24 @@ struct Sums {
 
 /// The samples with different locations or labels once they have their new ids, each at the place of the first of its
 /// kind, with the values of all of its kind added up. Those whose values are all 0 are left out. Only samples whose
-/// number is among `repeated` are looked up: no other sample equals one of the rest.
+/// hash is among `repeated` are looked up: no other sample equals one of the rest.
 pub fn sum_repeated(
     alloc: Global,
     columns: usize,
     samples: List<Sample>,
     by: &Renumbering,
-    numbers: &Numbers,
+    hashes: &Hashes,
     repeated: &Repeated,
 ) -> Result<List<Sample>, Memory>
     requires wide { All (λ s. length s.value ≡ columns) samples }
     requires fits { (column : ℕ) → column < columns
         → sum_by (λ s. nat_abs (value_in s column)) samples ≤ 2 ^ 63 - 1 }
-    requires numbers { AreNumbers (new_ids by.now) samples numbers.now }
-    requires repeated { HoldsRepeated numbers.now.numbers.items repeated.now }
+    requires hashes { AreHashes (new_ids by.now) samples hashes.now }
+    requires repeated { HoldsRepeated hashes.now.list.items repeated.now }
     ensures { IfOk result (λ r.
         r ≡ summed_samples columns (map (renumbered_sample (new_ids by.now)) samples)) }
 {
-    let sums = sum_each(alloc, columns, samples, by, numbers, repeated)?;
+    let sums = sum_each(alloc, columns, samples, by, hashes, repeated)?;
     Ok(kept(sums))
 }
 
@@ -84,14 +84,14 @@ fn sum_each(
     columns: usize,
     samples: List<Sample>,
     by: &Renumbering,
-    numbers: &Numbers,
+    hashes: &Hashes,
     repeated: &Repeated,
 ) -> Result<Sums, Memory>
     requires wide { All (λ s. length s.value ≡ columns) samples }
     requires fits { (column : ℕ) → column < columns
         → sum_by (λ s. nat_abs (value_in s column)) samples ≤ 2 ^ 63 - 1 }
-    requires numbers { AreNumbers (new_ids by.now) samples numbers.now }
-    requires repeated { HoldsRepeated numbers.now.numbers.items repeated.now }
+    requires hashes { AreHashes (new_ids by.now) samples hashes.now }
+    requires repeated { HoldsRepeated hashes.now.list.items repeated.now }
     ensures state { IfOk result (λ s.
         IsSummed repeated.now s.have_values s.places.items s.kept s.samples s.sums.entries) }
     ensures sums { IfOk result (λ s. woven_samples (order_at s.places.items s.kept s.samples) s.sums.entries
@@ -99,13 +99,13 @@ fn sum_each(
 {
     let count = samples.len();
     let mut sums = Sums {
-        have_values: numbers.have_values,
+        have_values: hashes.have_values,
         samples,
         kept: 0,
         places: Vec::new(alloc),
         sums: IndexMap::new(alloc),
     };
-    let told = numbers.numbers.as_slice();
+    let told = hashes.list.as_slice();
     for place in 0..count {
         let sample = take_out(alloc, &mut sums.samples, place, by);
         take(alloc, &mut sums, repeated, told[place], sample)?;
@@ -136,20 +136,20 @@ fn no_sample(alloc: Global) -> Sample
     }
 }
 
-// Adds the sample of this number to the sum of its kind. Where no other has its number, it stands alone.
+// Adds the sample of this hash to the sum of its kind. Where no other has its hash, it stands alone.
 fn take(
     alloc: Global,
     sums: &mut Sums,
     repeated: &Repeated,
-    number: u64,
+    hash: u64,
     sample: Sample,
 ) -> Result<(), Memory>
-    requires number { number ≡ sample_number sample }
+    requires hash { hash ≡ sample_hash sample }
     requires counts { sums.old.have_values ≡ true → has_values sample ≡ true }
     requires room { sums.old.kept < length sums.old.samples }
     requires adds { let s = sums.old in
         CanAdd (sum_at same_stack (woven (order_at s.places.items s.kept s.samples) s.sums.entries) (sample_stack sample)) sample.value }
-    requires alone { let s = sums.old in is_listed repeated.now number ≡ false
+    requires alone { let s = sums.old in is_listed repeated.now hash ≡ false
         → list_any (same_stack (sample_stack sample))
         (keys_of same_stack (woven (order_at s.places.items s.kept s.samples) s.sums.entries)) ≡ false }
     requires state { let s = sums.old in
@@ -168,7 +168,7 @@ fn take(
 {
     // A place is below the length, so the next one fits.
     let _count = sums.samples.len();
-    if !repeated.contains(number) {
+    if !repeated.contains(hash) {
         let place = sums.kept;
         *sums.samples.item_mut(place) = sample;
         sums.kept = place + 1;

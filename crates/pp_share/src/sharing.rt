@@ -6,7 +6,7 @@ ghost use Rattle.pp_share.specs.Placed.{gist, totalled};
 ghost use Rattle.pp_share.specs.Renumbered.{new_ids, renumbered_sample, stays};
 ghost use Rattle.pp_model.specs.FirstSight.{ids};
 ghost use Rattle.pp_share.specs.Ids.{GivesIds};
-ghost use Rattle.pp_share.specs.Numbers.{AreKnown, AreNumbers, with_new_samples, with_sums};
+ghost use Rattle.pp_share.specs.Hashes.{AreKnown, AreHashes, with_new_samples, with_sums};
 ghost use Rattle.pp_share.specs.Repeats.{HoldsRepeated};
 ghost use Rattle.pp_share.specs.PlaceKeys.{same_place};
 ghost use Rattle.pp_share.specs.SampleKeys.{has_values};
@@ -16,9 +16,9 @@ ghost use Rattle.pp_share.specs.Share.{NamesLocations, IsJoined, with_comments_o
 
 use crate::first_sight::number_each;
 use crate::functions::share_functions;
+use crate::hashes::{Hashes, hash_samples, hash_samples_on};
 use crate::ids::Ids;
-use crate::kept::kept_numbers;
-use crate::numbers::{Numbers, number_samples, number_samples_on};
+use crate::kept::kept_hashes;
 use crate::places::share_places;
 use crate::renumbering::Renumbering;
 use crate::repeated::Repeated;
@@ -47,15 +47,15 @@ pub fn share(alloc: Global, p: Profile) -> Result<Profile, Memory>
     written
 }
 
-/// The same. Where the numbers of the samples by the ids that they have are known, and none of the texts and locations
-/// that samples name gets another id, the samples are not gone over for their numbers. Else they are numbered in pieces
+/// The same. Where the hashes of the samples by the ids that they have are known, and none of the texts and locations
+/// that samples name gets another id, the samples are not gone over for their hashes. Else they are hashed in pieces
 /// of 1,024 on so many lanes, from 1 to 64. As many threads write most samples. The profile does not tell how many there
 /// were.
 pub fn share_on<R: Threads + Sync, G: Gate>(
     rt: &R,
     alloc: Global,
     p: Profile,
-    known: Option<Numbers>,
+    known: Option<Hashes>,
     workers: u32,
     gate: &G,
 ) -> Result<Profile, Memory>
@@ -70,9 +70,9 @@ pub fn share_on<R: Threads + Sync, G: Gate>(
 {
     let texts = p.text.len();
     let (mut profile, mut by) = share_tables(alloc, p)?;
-    match kept_numbers(known, profile.sample.as_slice(), texts, &by) {
-        Some(numbers) => {
-            sum_numbered_on(rt, alloc, &mut profile, &mut by, &numbers, workers, gate)?;
+    match kept_hashes(known, profile.sample.as_slice(), texts, &by) {
+        Some(hashes) => {
+            sum_hashed_on(rt, alloc, &mut profile, &mut by, &hashes, workers, gate)?;
         }
         None => sum_plain_on(rt, alloc, &mut profile, &mut by, workers, gate)?,
     }
@@ -122,12 +122,12 @@ fn sum_plain(alloc: Global, p: &mut Profile, by: &mut Renumbering) -> Result<(),
         → sum_by (λ s. nat_abs (value_in s column)) p.old.sample ≤ 2 ^ 63 - 1 }
     ensures { OnOk result (with_new_samples (new_ids by.new) p.new ≡ with_sums (new_ids by.old) p.old) }
 {
-    let numbers = number_samples(alloc, p.sample.as_slice(), by)?;
-    let repeated = Repeated::new(alloc, &numbers.numbers)?;
-    sum_equal(alloc, p, by, &numbers, &repeated)
+    let hashes = hash_samples(alloc, p.sample.as_slice(), by)?;
+    let repeated = Repeated::new(alloc, &hashes.list)?;
+    sum_equal(alloc, p, by, &hashes, &repeated)
 }
 
-// The same, with the samples numbered on so many lanes.
+// The same, with the samples hashed on so many lanes.
 fn sum_plain_on<R: Threads + Sync, G: Gate>(
     rt: &R,
     alloc: Global,
@@ -143,54 +143,54 @@ fn sum_plain_on<R: Threads + Sync, G: Gate>(
     requires most { workers ≤ 64 }
     ensures { OnOk result (with_new_samples (new_ids by.new) p.new ≡ with_sums (new_ids by.old) p.old) }
 {
-    let numbers = number_samples_on(rt, alloc, p.sample.as_slice(), by, workers, gate)?;
-    sum_numbered_on(rt, alloc, p, by, &numbers, workers, gate)
+    let hashes = hash_samples_on(rt, alloc, p.sample.as_slice(), by, workers, gate)?;
+    sum_hashed_on(rt, alloc, p, by, &hashes, workers, gate)
 }
 
-// The same, where the samples are numbered. So many lanes look for numbers that stand more than once.
-fn sum_numbered_on<R: Threads + Sync, G: Gate>(
+// The same, where the samples are hashed. So many lanes look for hashes that stand more than once.
+fn sum_hashed_on<R: Threads + Sync, G: Gate>(
     rt: &R,
     alloc: Global,
     p: &mut Profile,
     by: &mut Renumbering,
-    numbers: &Numbers,
+    hashes: &Hashes,
     workers: u32,
     gate: &G,
 ) -> Result<(), Memory>
     requires wide { All (λ s. length s.value ≡ length p.old.sample_type) p.old.sample }
     requires fits { (column : ℕ) → column < length p.old.sample_type
         → sum_by (λ s. nat_abs (value_in s column)) p.old.sample ≤ 2 ^ 63 - 1 }
-    requires numbers { AreNumbers (new_ids by.old) p.old.sample numbers.now }
+    requires hashes { AreHashes (new_ids by.old) p.old.sample hashes.now }
     requires some { 1 ≤ workers }
     requires most { workers ≤ 64 }
     ensures { OnOk result (with_new_samples (new_ids by.new) p.new ≡ with_sums (new_ids by.old) p.old) }
 {
-    let repeated = Repeated::new_on(rt, alloc, &numbers.numbers, workers, gate)?;
-    sum_equal(alloc, p, by, numbers, &repeated)
+    let repeated = Repeated::new_on(rt, alloc, &hashes.list, workers, gate)?;
+    sum_equal(alloc, p, by, hashes, &repeated)
 }
 
-// The same, where the numbers that stand more than once are known. Most profiles have each sample once. To ask that
-// first, by their numbers, takes far less time than to look each sample up, and the samples then get their new ids where
-// they are gone through next. Where some are equal, only those whose number stands more than once are looked up.
+// The same, where the hashes that stand more than once are known. Most profiles have each sample once. To ask that
+// first, by their hashes, takes far less time than to look each sample up, and the samples then get their new ids where
+// they are gone through next. Where some are equal, only those whose hash stands more than once are looked up.
 fn sum_equal(
     alloc: Global,
     p: &mut Profile,
     by: &mut Renumbering,
-    numbers: &Numbers,
+    hashes: &Hashes,
     repeated: &Repeated,
 ) -> Result<(), Memory>
     requires wide { All (λ s. length s.value ≡ length p.old.sample_type) p.old.sample }
     requires fits { (column : ℕ) → column < length p.old.sample_type
         → sum_by (λ s. nat_abs (value_in s column)) p.old.sample ≤ 2 ^ 63 - 1 }
-    requires numbers { AreNumbers (new_ids by.old) p.old.sample numbers.now }
-    requires repeated { HoldsRepeated numbers.now.numbers.items repeated.now }
+    requires hashes { AreHashes (new_ids by.old) p.old.sample hashes.now }
+    requires repeated { HoldsRepeated hashes.now.list.items repeated.now }
     ensures { OnOk result (with_new_samples (new_ids by.new) p.new ≡ with_sums (new_ids by.old) p.old) }
 {
     if repeated.is_empty() {
-        keep_counting(alloc, p, numbers.have_values);
+        keep_counting(alloc, p, hashes.have_values);
         return Ok(());
     }
-    add_up(alloc, p, by, numbers, repeated)?;
+    add_up(alloc, p, by, hashes, repeated)?;
     mem::drop(mem::replace(by, stays()));
     Ok(())
 }
@@ -209,18 +209,18 @@ fn add_up(
     alloc: Global,
     p: &mut Profile,
     by: &Renumbering,
-    numbers: &Numbers,
+    hashes: &Hashes,
     repeated: &Repeated,
 ) -> Result<(), Memory>
     requires wide { All (λ s. length s.value ≡ length p.old.sample_type) p.old.sample }
     requires fits { (column : ℕ) → column < length p.old.sample_type
         → sum_by (λ s. nat_abs (value_in s column)) p.old.sample ≤ 2 ^ 63 - 1 }
-    requires numbers { AreNumbers (new_ids by.now) p.old.sample numbers.now }
-    requires repeated { HoldsRepeated numbers.now.numbers.items repeated.now }
+    requires hashes { AreHashes (new_ids by.now) p.old.sample hashes.now }
+    requires repeated { HoldsRepeated hashes.now.list.items repeated.now }
     ensures { OnOk result (p.new ≡ with_sums (new_ids by.now) p.old) }
 {
     let samples = mem::replace(&mut p.sample, List::new(alloc));
-    p.sample = sum_repeated(alloc, p.sample_type.len(), samples, by, numbers, repeated)?;
+    p.sample = sum_repeated(alloc, p.sample_type.len(), samples, by, hashes, repeated)?;
     Ok(())
 }
 

@@ -3,7 +3,7 @@ ghost use Rattle.std.specs.Prelude.{◌≡◌, ◌<◌, ◌≤◌, ◌^◌, [], 
 ghost use Rattle.pp_model.specs.declared.profile.Profile.{Profile};
 ghost use Rattle.std.specs.List.{AllByRecursion};
 ghost use Rattle.pp_share.specs.Walked.{first_id, mappings_met, with_mappings, functions_met, with_functions, with_texts, IsWalked, IsNamed};
-ghost use Rattle.pp_share.specs.Numbers.{with_new_samples};
+ghost use Rattle.pp_share.specs.Hashes.{with_new_samples};
 ghost use Rattle.pp_share.specs.Share.{NamesLocations};
 ghost use Rattle.pp_share.specs.Renumbered.{new_ids};
 ghost use Rattle.pp_share.specs.Walk.{met_after, first_text_ids, table_text_ids, header_text_ids};

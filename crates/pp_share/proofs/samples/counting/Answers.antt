@@ -2,7 +2,7 @@ use Rattle.std.proofs.Common.{◌∙◌, ap, rules}
 use Rattle.std.specs.List.{filter}
 use Rattle.std.proofs.lemmas.Fn.{filter_same}
 use Rattle.pp_share.specs.SampleKeys.{has_values}
-use Rattle.pp_share.proofs.NumberLemmas.{all_kept}
+use Rattle.pp_share.proofs.HashLemmas.{all_kept}
 use Rattle.pp_share.proofs.samples.counting.Goals as goal
 
 -- all samples

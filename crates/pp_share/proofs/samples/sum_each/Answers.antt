@@ -7,7 +7,7 @@ use Rattle.pp_share.specs.Renumbered.{new_ids, renumbered_sample}
 use Rattle.pp_share.specs.Repeats.{is_listed, HoldsRepeated}
 use Rattle.pp_share.specs.Sums.{keys_of, summed, sum_at, sums_with, CanAdd}
 use Rattle.pp_share.specs.SampleStacks.{same_stack}
-use Rattle.pp_share.specs.SampleKeys.{sample_item, sample_number, sample_stack, has_values}
+use Rattle.pp_share.specs.SampleKeys.{sample_item, sample_hash, sample_stack, has_values}
 use Rattle.pp_share.specs.Woven.{woven, slots, order_at}
 use Rattle.pp_share.proofs.Prefix.{IsNext, map_same}
 use Rattle.pp_share.proofs.WovenLemmas.{moved_counts, moved_number, moved_adds, moved_sums, moved_alone}
@@ -23,18 +23,18 @@ next_at all place within =
       here = get_or_default all place no_sample (get_or all place no_sample) within ∙ ap (λ n. get_or all n (get_or all place no_sample)) (sym long);
     }
 
--- its number is its own
-pub take-requires-clause-number : goal.take-requires-clause-number
-take-requires-clause-number c =
+-- its hash is its own
+pub take-requires-clause-hash : goal.take-requires-clause-hash
+take-requires-clause-hash c =
     let by = new_ids c.args.by.now in
     let all = c.args.samples in
     let place = c.loop-place.place in
     let within : place < length all = omega (arith, c.loop-place-test.true, c.len-count.ensures) in
     let x : Sample = get_or all place no_sample in
     let own : c.take_out-sample.result ≡ renumbered_sample by x = c.take_out-sample.ensures.sample no_sample ∙ ap (renumbered_sample by) (c.loop-place.invariant.rest place no_sample (omega arith)) in
-    moved_number by c.args.columns all (take place all) x (next_at all place within) c.as_slice-told.result.now place (c.as_slice-told.ensures.value ∙ c.requires.numbers.numbers)
+    moved_number by c.args.columns all (take place all) x (next_at all place within) c.as_slice-told.result.now place (c.as_slice-told.ensures.value ∙ c.requires.hashes.list)
     (sym (length-take-le place all (omega (arith, within))))
-    ∙ ap sample_number (sym own)
+    ∙ ap sample_hash (sym own)
 
 -- it has a value where all have
 pub take-requires-clause-counts : goal.take-requires-clause-counts
@@ -46,7 +46,7 @@ take-requires-clause-counts c = λ have.
     let x : Sample = get_or all place no_sample in
     let own : c.take_out-sample.result ≡ renumbered_sample by x = c.take_out-sample.ensures.sample no_sample ∙ ap (renumbered_sample by) (c.loop-place.invariant.rest place no_sample (omega arith)) in
     ap has_values own
-    ∙ moved_counts by c.args.columns all (take place all) x (next_at all place within) (sym c.requires.numbers.values ∙ sym c.loop-place.invariant.have ∙ have)
+    ∙ moved_counts by c.args.columns all (take place all) x (next_at all place within) (sym c.requires.hashes.values ∙ sym c.loop-place.invariant.have ∙ have)
 
 -- its values can be added to the sum of its key
 pub take-requires-clause-adds : goal.take-requires-clause-adds
@@ -77,11 +77,11 @@ take-requires-clause-alone c = λ alone.
     let s = c.loop-place.sums in
     let order : order_at s.places.items s.kept c.take_out-sample.new.samples ≡ order_at s.places.items s.kept s.samples =
     ap (slots 0 s.places.items) (ap (take s.kept) c.take_out-sample.ensures.left ∙ take-set-le s.kept s.samples place no_sample c.loop-place.invariant.few) in
-    let number = moved_number by c.args.columns all (take place all) x (next_at all place within) c.as_slice-told.result.now place (c.as_slice-told.ensures.value ∙ c.requires.numbers.numbers)
+    let hash = moved_number by c.args.columns all (take place all) x (next_at all place within) c.as_slice-told.result.now place (c.as_slice-told.ensures.value ∙ c.requires.hashes.list)
     (sym (length-take-le place all (omega (arith, within)))) in
     (λ j. list_any (same_stack (sample_stack (own j))) (keys_of same_stack (woven (order j) s.sums.entries)))
     ∙ moved_alone by c.args.columns all (take place all) x (next_at all place within) (woven (order_at s.places.items s.kept s.samples) s.sums.entries) c.loop-place.invariant.sums repeated
-    (subst (λ numbers. HoldsRepeated numbers repeated) c.requires.numbers.numbers c.requires.repeated) (ap (is_listed repeated) (sym number) ∙ alone)
+    (subst (λ hashes. HoldsRepeated hashes repeated) c.requires.hashes.list c.requires.repeated) (ap (is_listed repeated) (sym hash) ∙ alone)
 
 -- one sample more was taken
 pub loop-place-preserved : goal.loop-place-preserved

@@ -10,7 +10,7 @@ use Rattle.pp_share.proofs.samples.sum_each.Given as goal
 -- the sums of the samples so far, and the other samples as they were
 abbrev pub invariant-loop-place : goal.invariant-loop-place
 invariant-loop-place l = record {
-  have : l.sums.have_values ≡ l.numbers.have_values;
+  have : l.sums.have_values ≡ l.hashes.have_values;
   state : IsSummed l.repeated l.sums.have_values l.sums.places.items l.sums.kept l.sums.samples l.sums.sums.entries;
   sums : woven (order_at l.sums.places.items l.sums.kept l.sums.samples) l.sums.sums.entries ≡ summed same_stack l.columns (map sample_item (map (renumbered_sample (new_ids l.by)) (take l.place l.fn.samples)));
   few : l.sums.kept ≤ l.place;

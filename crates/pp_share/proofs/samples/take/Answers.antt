@@ -19,7 +19,7 @@ returns-then-not-contains-clause-state c =
       woven =
           subst (λ order. IsWoven c.args.repeated.now s.have_values order sums)
           (sym (order_kept s.places.items s.kept s.samples c.requires.room (state.woven.places ∙ sym state.many) c.args.sample))
-          (alone_state c.args.repeated.now c.args.sample (ap (is_listed c.args.repeated.now) (sym c.requires.number) ∙ sym c.if-not-contains.ensures) s.have_values c.requires.counts
+          (alone_state c.args.repeated.now c.args.sample (ap (is_listed c.args.repeated.now) (sym c.requires.hash) ∙ sym c.if-not-contains.ensures) s.have_values c.requires.counts
           (order_at s.places.items s.kept s.samples) sums state.woven);
       many = state.many;
       within = all_by (λ p. p < s.kept) (λ p. p < s.kept + 1) (λ p below. omega (arith, below)) s.places.items state.within;
@@ -32,14 +32,14 @@ returns-then-not-contains-clause-sums c =
     let sums = s.sums.entries in
     let state = c.requires.state in
     ap (λ order. woven order sums) (order_kept s.places.items s.kept s.samples c.requires.room (state.woven.places ∙ sym state.many) c.args.sample)
-    ∙ alone_sums c.args.repeated.now c.args.sample (ap (is_listed c.args.repeated.now) (sym c.requires.number) ∙ sym c.if-not-contains.ensures) (order_at s.places.items s.kept s.samples) sums
+    ∙ alone_sums c.args.repeated.now c.args.sample (ap (is_listed c.args.repeated.now) (sym c.requires.hash) ∙ sym c.if-not-contains.ensures) (order_at s.places.items s.kept s.samples) sums
     (c.requires.alone (sym c.if-not-contains.ensures))
 
 pub add-requires : goal.add-requires
 add-requires c =
     let s = c.args.sums.now in
     can_take c.args.repeated.now s.have_values (order_at s.places.items s.kept s.samples) s.sums.entries c.requires.state.woven c.args.sample c.key_of-key.result
-    c.key_of-key.ensures c.args.number c.requires.number c.if-not-contains.ensures c.requires.adds
+    c.key_of-key.ensures c.args.hash c.requires.hash c.if-not-contains.ensures c.requires.adds
 
 -- its kind is new
 pub returns-in_ok-push-clause-state : goal.returns-in_ok-push-clause-state
@@ -52,7 +52,7 @@ returns-in_ok-push-clause-state c =
     ap (λ places. order_at places (s.kept + 1) s.samples) c.in_ok-push.ensures.items ∙ order_new s.places.items s.kept s.samples c.requires.room many in
     let taken =
     taken_new c.args.repeated.now s.have_values before s.sums.entries state.woven c.args.sample c.key_of-key.result
-    c.key_of-key.ensures c.args.number c.requires.number c.if-not-contains.ensures (order_at c.push.new.self.items (s.kept + 1) s.samples) c.add.new.sums.entries now c.in_ok-add.ensures
+    c.key_of-key.ensures c.args.hash c.requires.hash c.if-not-contains.ensures (order_at c.push.new.self.items (s.kept + 1) s.samples) c.add.new.sums.entries now c.in_ok-add.ensures
     (omega (arith, c.if-len-known.true, c.len.ensures.len, c.len-known.ensures.len)) in
     record {
       woven = taken.woven_now;
@@ -77,7 +77,7 @@ returns-in_ok-push-clause-sums c =
     let s = c.args.sums.now in
     let state = c.requires.state in
     (taken_new c.args.repeated.now s.have_values (order_at s.places.items s.kept s.samples) s.sums.entries state.woven c.args.sample c.key_of-key.result
-    c.key_of-key.ensures c.args.number c.requires.number c.if-not-contains.ensures (order_at c.push.new.self.items (s.kept + 1) s.samples) c.add.new.sums.entries
+    c.key_of-key.ensures c.args.hash c.requires.hash c.if-not-contains.ensures (order_at c.push.new.self.items (s.kept + 1) s.samples) c.add.new.sums.entries
     (ap (λ places. order_at places (s.kept + 1) s.samples) c.in_ok-push.ensures.items ∙ order_new s.places.items s.kept s.samples c.requires.room (state.woven.places ∙ sym state.many))
     c.in_ok-add.ensures
     (omega (arith, c.if-len-known.true, c.len.ensures.len, c.len-known.ensures.len))).sums_now
@@ -89,7 +89,7 @@ returns-else-len-known-clause-state c =
     let state = c.requires.state in
     let taken =
     taken_known c.args.repeated.now s.have_values (order_at s.places.items s.kept s.samples) s.sums.entries state.woven c.args.sample c.key_of-key.result
-    c.key_of-key.ensures c.args.number c.requires.number c.if-not-contains.ensures c.add.new.sums.entries c.in_ok-add.ensures
+    c.key_of-key.ensures c.args.hash c.requires.hash c.if-not-contains.ensures c.add.new.sums.entries c.in_ok-add.ensures
     (omega (arith, c.if-len-known.false, c.len.ensures.len, c.len-known.ensures.len)) in
     record {
       woven = taken.woven_now;
@@ -102,5 +102,5 @@ pub returns-else-len-known-clause-sums : goal.returns-else-len-known-clause-sums
 returns-else-len-known-clause-sums c =
     let s = c.args.sums.now in
     (taken_known c.args.repeated.now s.have_values (order_at s.places.items s.kept s.samples) s.sums.entries c.requires.state.woven c.args.sample c.key_of-key.result
-    c.key_of-key.ensures c.args.number c.requires.number c.if-not-contains.ensures c.add.new.sums.entries c.in_ok-add.ensures
+    c.key_of-key.ensures c.args.hash c.requires.hash c.if-not-contains.ensures c.add.new.sums.entries c.in_ok-add.ensures
     (omega (arith, c.if-len-known.false, c.len.ensures.len, c.len-known.ensures.len))).sums_now

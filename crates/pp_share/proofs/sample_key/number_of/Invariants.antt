@@ -1,9 +1,0 @@
-use Rattle.std.proofs.Common.{◌≡◌, fold, take}
-use Rattle.pp_share.specs.SampleStacks.{with_number, with_label}
-use Rattle.pp_share.proofs.sample_key.number_of.Given as goal
-
-abbrev pub invariant-loop-id : goal.invariant-loop-id
-invariant-loop-id l = l.number ≡ fold with_number 0 (take l.id-index l.ids)
-
-abbrev pub invariant-loop-label : goal.invariant-loop-label
-invariant-loop-label l = l.number ≡ fold with_label (fold with_number 0 l.ids) (take l.label-index l.labels)

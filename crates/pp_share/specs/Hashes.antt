@@ -1,0 +1,69 @@
+-- The hashes by which samples are told apart: by the ids that they have, or once they have new ones.
+use Rattle.std.specs.Prelude.{◌≡◌, ℕ, ◌+◌, ◌++◌, [], ◌∷◌, Bool, true, ◌&&◌, None, ℤ, nat_abs, List, length, map}
+use Rattle.std.specs.List.{flat_map, list_all, sum_by}
+use Rattle.pp_base.specs.Capped.{capped}
+use Rattle.pp_model.specs.declared.profile.Label.{Label}
+use Rattle.pp_model.specs.declared.profile.Sample.{Sample}
+use Rattle.pp_model.specs.declared.profile.Profile.{Profile}
+use Rattle.pp_model.specs.Rules.{is_text_of, first_failing}
+use Rattle.pp_share.specs.declared.hashes.Hashes.{Hashes}
+use Rattle.pp_share.specs.Renumbered.{NewIds, renumbered_sample}
+use Rattle.pp_share.specs.SampleKeys.{has_values, sample_hash, summed_samples}
+
+-- the hash of the sample once it has its new ids
+abbrev pub hash_by : NewIds → Sample → ℕ
+hash_by by s = sample_hash (renumbered_sample by s)
+
+-- the absolute values of all columns of the samples, added up
+abbrev pub sum_together : List Sample → ℕ
+sum_together samples = sum_by (λ s. sum_by nat_abs s.value) samples
+
+-- the samples' hashes, whether all samples have values, and what all values add up to
+pub record AreHashesBy (hash : Sample → ℕ) (samples : List Sample) (n : Hashes) : Type 0 where
+  pub hashes : n.list.items ≡ map hash samples
+  pub values : n.have_values ≡ list_all has_values samples
+  pub together : n.together ≡ capped (sum_together samples)
+
+-- the same, once the samples have their new ids
+abbrev pub AreHashes : NewIds → List Sample → Hashes → Type 0
+AreHashes by samples n = AreHashesBy (hash_by by) samples n
+
+-- the same, by the ids that the samples have
+abbrev pub AreOwnHashes : List Sample → Hashes → Type 0
+AreOwnHashes samples n = AreHashesBy sample_hash samples n
+
+-- a sample with this hash was added
+pub record AddsHash (hash : ℕ) (s : Sample) (old new : Hashes) : Type 0 where
+  pub hashes : new.list.items ≡ old.list.items ++ hash ∷ []
+  pub values : new.have_values ≡ (old.have_values && has_values s)
+  pub together : new.together ≡ capped (old.together + sum_by nat_abs s.value)
+
+-- the hashes of all parts, one after another
+pub record JoinsHashes (parts : List Hashes) (all : Hashes) : Type 0 where
+  pub hashes : all.list.items ≡ flat_map (λ part. part.list.items) parts
+  pub values : all.have_values ≡ list_all (λ part. part.have_values) parts
+  pub together : all.together ≡ capped (sum_by (λ part. part.together) parts)
+
+-- the label's texts are some of n
+abbrev pub names_texts : ℕ → Label → Bool
+names_texts n l = is_text_of n l.key && is_text_of n l.text && is_text_of n l.num_unit
+
+-- The hashes of samples by the ids that they have, where the texts of their labels are some of n.
+pub record AreKnown (n : ℕ) (samples : List Sample) (known : Hashes) : Type 0 where
+  pub labels : first_failing (λ s. list_all (names_texts n) s.label) samples ≡ None
+  pub hashes : AreOwnHashes samples known
+
+-- samples keep their ids, where the texts of their labels are some of n
+pub record KeepsSamples (n : ℕ) (by : NewIds) : Type 0 where
+  pub locations : (id : ℕ) → by.location id ≡ id
+  pub texts : (i : ℤ) → is_text_of n i ≡ true → by.text i ≡ i
+
+-- the profile whose samples have their new ids
+abbrev pub with_new_samples : NewIds → Profile → Profile
+with_new_samples by p = record p { sample = map (renumbered_sample by) p.sample }
+
+-- the profile whose samples have their new ids, with equal ones added up
+abbrev pub with_sums : NewIds → Profile → Profile
+with_sums by p = record p {
+  sample = summed_samples (length p.sample_type) (map (renumbered_sample by) p.sample);
+}
