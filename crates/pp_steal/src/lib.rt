@@ -8,6 +8,9 @@
 //! The deques are those of `crossbeam_deque` under the rule `Sound` of `specs/Pool.antt`, which says of each deque at
 //! each moment that every piece dealt to it is still in it or was taken by one pass. `pool_law` states what follows of
 //! that rule without any thread, over all lists of steps.
+//!
+//! `Resources` is what calls on several workers are passed on. `for_each_on` deals no pieces: it gives each thread a part
+//! of a list.
 #![tactic(auto)]
 
 mod chair;
@@ -20,6 +23,7 @@ mod make;
 mod outcomes;
 mod piece;
 mod reach;
+mod resources;
 mod room;
 mod run;
 mod spread;
@@ -34,5 +38,6 @@ pub use law::pool_law;
 pub use make::Lanes;
 pub use piece::{PIECE, piece_of, pieces_of};
 pub use reach::{Reach, sweep};
+pub use resources::Resources;
 pub use run::run_pieces;
 pub use spread::for_each_on;
