@@ -75,6 +75,12 @@ wave_read f extents start end before after ordered sofar wave =
     subst (λ l. ReadsSamples l [] after) (sym (ap (map f) cut ∙ map-append f (take start extents) more))
     (adds_more (map f (take start extents)) (map f more) [] before after sofar wave)
 
+-- The samples before `start` are joined, and those from there to `end` are read.
+pub record IsWaveRead (f : Extent → PayloadAt) (extents : List Extent) (start end : ℕ) (samples : List Sample) (parts : List (Option (List Sample))) : Type 0 where
+  pub ordered : start ≤ end
+  pub joined : ReadsSamples (map f (take start extents)) [] samples
+  pub read : IsCutInto AreSamples (map f (take (end - start) (drop start extents))) parts
+
 -- ---- the message
 
 -- a sample without a fault

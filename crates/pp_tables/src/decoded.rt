@@ -12,7 +12,7 @@ use pp_model::Sample;
 use std::alloc::Global;
 use std::mem;
 
-/// Reads the samples that lie there in the bytes. `None` where one has a fault.
+/// The samples at `extents` of the bytes, or `None` where one has a fault.
 pub(crate) fn decode(
     alloc: Global,
     bytes: &[u8],
@@ -21,7 +21,7 @@ pub(crate) fn decode(
     ensures { IfOk result (AreSamples (map (payload_of bytes.now) extents.now)) }
 {
     let mut samples = with_room(alloc, extents.len())?;
-    ask_ahead(alloc)?;
+    warm_glibc(alloc);
     match push_samples(alloc, &mut samples, bytes, extents) {
         Ok(()) => Ok(Some(samples)),
         Err(ReadRefusal::Memory) => Err(Memory),
@@ -29,25 +29,28 @@ pub(crate) fn decode(
     }
 }
 
-// How many blocks are asked for ahead: together, about what the lists of a full piece take.
+// How many blocks glibc is made to keep: together, about what the lists of a full piece take.
 const BLOCKS: usize = 4;
 
-// How many numbers of 64 bits a block has. These are 96 KiB, which is less than what a C library gets for a block alone.
+// How many numbers of 64 bits a block has. These are 96 KiB. From 128 KiB on, glibc maps a block for itself alone.
 const BLOCK: usize = 12_288;
 
-// Asks for blocks, and gives them back. So a C library that keeps memory for each thread gets from the system at once
-// what the many small lists of a piece take. Else it gets one page after another, each by a call for which the other
-// threads wait.
-fn ask_ahead(alloc: Global) -> Result<(), Memory> {
-    let mut blocks = Vec::with_capacity(alloc, BLOCKS)?;
-    for _ in 0..BLOCKS {
-        blocks.push(Vec::<u64>::with_capacity(alloc, BLOCK)?)?;
-    }
-    mem::drop(blocks);
-    Ok(())
+// Takes blocks, and gives them back, for glibc's sake. It keeps memory for each thread, and so gets from the system at
+// once what the many small lists of a piece take. Else it gets one page after another, each by a call for which the
+// other threads wait. No allocator needs this, so a refusal is passed over.
+fn warm_glibc(alloc: Global) {
+    mem::drop(take_blocks(alloc));
 }
 
-// Adds the samples at the end.
+fn take_blocks(alloc: Global) -> Result<Vec<Vec<u64>>, Memory> {
+    let mut blocks = Vec::with_capacity(alloc, BLOCKS)?;
+    for _ in 0..BLOCKS {
+        blocks.push(Vec::with_capacity(alloc, BLOCK)?)?;
+    }
+    Ok(blocks)
+}
+
+// Adds the samples at `extents` of the bytes at the end.
 fn push_samples(
     alloc: Global,
     samples: &mut List<Sample>,

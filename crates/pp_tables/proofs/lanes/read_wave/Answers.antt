@@ -9,8 +9,9 @@ use Rattle.pp_tables.proofs.lanes.read_wave.Goals as goal
 -- what the lanes gave are all pieces
 pub returns : goal.returns
 returns g c =
-    let job = c.args.job.now in
-    let payloads = map (payload_of job.bytes.now) job.extents.now in
+    let places = c.args.places.now in
+    let payloads = map (payload_of c.args.bytes.now) places in
     IfOk-weaker c.run_pieces.result _ _
-    (λ parts are. outcomes_are AreSamples payloads job.pieces parts are (omega (arith, length-map job.extents.now (payload_of job.bytes.now), job.whole)))
+    (λ parts are. outcomes_are AreSamples payloads c.pieces_of.result parts are
+    (omega (arith, length-map places (payload_of c.args.bytes.now), c.pieces_of.ensures.whole)))
     c.run_pieces.ensures
