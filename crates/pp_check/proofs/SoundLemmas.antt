@@ -38,7 +38,7 @@ parts_tell p samples parts all are is = record {
     numbered samples [] none = none
     numbered samples (part ∷ parts) are =
         let (front, rest, cut, own, others) = are in
-        (front, rest, cut, own.numbers, numbered rest parts others)
+        (front, rest, cut, own.hashes, numbered rest parts others)
 
 -- where all samples and the locations' ids are sound
 pub are_sound : (p : Profile) → first_fault_of (location_faults p) ≡ None → list_all (is_sound p) p.sample ≡ true → HasSoundSamples p

@@ -17,6 +17,7 @@ use crate::texts::{
     sample_text_fault, text_zero_fault, type_text_fault, untyped_fault,
 };
 use pp_base::Memory;
+use pp_keys::HashKeys;
 use pp_model::{Profile, Valid};
 use std::alloc::Global;
 
@@ -26,51 +27,56 @@ pub fn first_fault(alloc: Global, p: &Profile) -> Result<Option<TableFault>, Mem
     requires { IsIndexed p.now }
     ensures { IfOk result (λ fault. fault ≡ first_fault p.now) }
 {
-    match keep_rules(alloc, p, false) {
+    match try_rules(alloc, HashKeys::fixed(), p, false) {
         Ok(()) => Ok(None),
         Err(CheckRefusal::Fault(fault)) => Ok(Some(fault)),
         Err(CheckRefusal::Memory) => Err(Memory),
     }
 }
 
-/// The same profile, where no table rule fails. Otherwise the fault that `first_fault` tells, and the profile is spent,
-/// as it is on want of memory.
+/// The profile `p`, if no table rule fails. Else the fault that `first_fault` tells, or want of memory, and `p` is spent.
 pub fn check(alloc: Global, p: Profile) -> Result<Valid, CheckRefusal>
     requires { IsIndexed p }
     ensures { Checks p result }
 {
-    let sound = ask_ahead(alloc, &p)?;
-    keep_rules(alloc, &p, sound)?;
+    let keys = HashKeys::fixed();
+    let sound = has_sound_samples(alloc, keys, &p)?;
+    try_rules(alloc, keys, &p, sound)?;
     Ok(Valid::claim(p))
 }
 
-// Whether the ids of the locations and all samples are sound. Samples are many, so one walk asks them ahead of the
-// other rules.
-fn ask_ahead(alloc: Global, p: &Profile) -> Result<bool, Memory>
+// Whether the ids of the locations and all samples break no rule. Samples are many, so one walk asks them for all of
+// their rules.
+fn has_sound_samples(alloc: Global, keys: HashKeys, p: &Profile) -> Result<bool, Memory>
     requires { IsIndexed p.now }
     ensures { IfOk result (λ sound. IsTrue sound → HasSoundSamples p.now) }
 {
-    match known_locations(alloc, p) {
+    match known_locations(alloc, keys, p) {
         Ok(locations) => Ok(are_sound(p, &locations, p.sample.as_slice())),
         Err(CheckRefusal::Fault(_)) => Ok(false),
         Err(CheckRefusal::Memory) => Err(Memory),
     }
 }
 
-/// Asks all rules, in their order. Where it is known that samples and the locations' ids are sound, they are not asked.
-pub(crate) fn keep_rules(alloc: Global, p: &Profile, sound: bool) -> Result<(), CheckRefusal>
+/// Tries all rules, in their order. `sound` says that the samples and the locations' ids break none: they are left out.
+pub(crate) fn try_rules(
+    alloc: Global,
+    keys: HashKeys,
+    p: &Profile,
+    sound: bool,
+) -> Result<(), CheckRefusal>
     requires indexed { IsIndexed p.now }
     requires sound { IsTrue sound → HasSoundSamples p.now }
     ensures { AnswersFault (first_fault p.now) result }
 {
-    keep_texts(p, sound)?;
-    let mappings = known_mappings(alloc, p)?;
-    let functions = known_functions(alloc, p)?;
-    keep_locations(alloc, p, &mappings, &functions, sound)
+    try_texts(p, sound)?;
+    let mappings = known_mappings(alloc, keys, p)?;
+    let functions = known_functions(alloc, keys, p)?;
+    try_locations(alloc, keys, p, &mappings, &functions, sound)
 }
 
-// Asks rules 1 to 3.
-fn keep_texts(p: &Profile, sound: bool) -> Result<(), TableFault>
+// Tries rules 1 to 3. `sound` leaves out the samples.
+fn try_texts(p: &Profile, sound: bool) -> Result<(), TableFault>
     requires indexed { IsIndexed p.now }
     requires sound { IsTrue sound → HasSoundSamples p.now }
     ensures { FindsFault (first_fault_of (text_faults p.now)) result }
@@ -85,27 +91,28 @@ fn keep_texts(p: &Profile, sound: bool) -> Result<(), TableFault>
     refuse(3, Table::SampleTypes, untyped_fault(p))
 }
 
-// Asks rules 4 and 5. Where none fails, these are the ids of the mappings.
-fn known_mappings(alloc: Global, p: &Profile) -> Result<Known, CheckRefusal>
+// Tries rules 4 and 5. Gives the ids of the mappings.
+fn known_mappings(alloc: Global, keys: HashKeys, p: &Profile) -> Result<Known, CheckRefusal>
     requires { IsIndexed p.now }
     ensures faults { AnswersFault (first_fault_of (mapping_faults p.now)) result }
     ensures known { IfOk result (λ known. Knows known (mapping_ids p.now)) }
 {
-    known_ids(alloc, 4, Table::Mappings, p.mapping.as_slice())
+    known_ids(alloc, keys, 4, Table::Mappings, p.mapping.as_slice())
 }
 
-// Asks rules 6 and 7. Where none fails, these are the ids of the functions.
-fn known_functions(alloc: Global, p: &Profile) -> Result<Known, CheckRefusal>
+// Tries rules 6 and 7. Gives the ids of the functions.
+fn known_functions(alloc: Global, keys: HashKeys, p: &Profile) -> Result<Known, CheckRefusal>
     requires { IsIndexed p.now }
     ensures faults { AnswersFault (first_fault_of (function_faults p.now)) result }
     ensures known { IfOk result (λ known. Knows known (function_ids p.now)) }
 {
-    known_ids(alloc, 6, Table::Functions, p.function.as_slice())
+    known_ids(alloc, keys, 6, Table::Functions, p.function.as_slice())
 }
 
-// Asks rules 8 to 12, of which sound samples leave rule 10 alone.
-fn keep_locations(
+// Tries rules 8 to 12. `sound` leaves rule 10 alone.
+fn try_locations(
     alloc: Global,
+    keys: HashKeys,
     p: &Profile,
     mappings: &Known,
     functions: &Known,
@@ -121,22 +128,26 @@ fn keep_locations(
         refuse(10, Table::Locations, location_fault(p, mappings, functions))?;
         return Ok(());
     }
-    let locations = known_locations(alloc, p)?;
-    keep_references(p, mappings, functions, &locations)?;
+    let locations = known_locations(alloc, keys, p)?;
+    try_references(p, mappings, functions, &locations)?;
     Ok(())
 }
 
-/// Asks rules 8 and 9. Where none fails, these are the ids of the locations.
-pub(crate) fn known_locations(alloc: Global, p: &Profile) -> Result<Known, CheckRefusal>
+/// Tries rules 8 and 9. Gives the ids of the locations.
+pub(crate) fn known_locations(
+    alloc: Global,
+    keys: HashKeys,
+    p: &Profile,
+) -> Result<Known, CheckRefusal>
     requires { IsIndexed p.now }
     ensures faults { AnswersFault (first_fault_of (location_faults p.now)) result }
     ensures known { IfOk result (λ known. Knows known (location_ids p.now)) }
 {
-    known_ids(alloc, 8, Table::Locations, p.location.as_slice())
+    known_ids(alloc, keys, 8, Table::Locations, p.location.as_slice())
 }
 
-// Asks rules 10 to 12.
-fn keep_references(
+// Tries rules 10 to 12.
+fn try_references(
     p: &Profile,
     mappings: &Known,
     functions: &Known,

@@ -8,13 +8,15 @@ ghost use Rattle.pp_check.specs.Finds.{first_fault_of, AnswersFault};
 use crate::fault::{CheckRefusal, Table, refuse};
 use crate::known::Known;
 use pp_base::Memory;
+use pp_keys::HashKeys;
 use pp_model::HasId;
 use std::alloc::Global;
 
-/// The ids of a table, or its first fault: by the rule of this number, an id that is 0, and by the next rule an id that
-/// stands earlier.
+/// The ids of `items`, or the first fault of them: by the rule of number `rule`, an id that is 0, and by the next rule an
+/// id that stands earlier.
 pub fn known_ids<T: HasId>(
     alloc: Global,
+    keys: HashKeys,
     rule: u8,
     table: Table,
     items: &[T],
@@ -25,7 +27,7 @@ pub fn known_ids<T: HasId>(
     ensures known { IfOk result (λ known. Knows known (map T.id_of items.now)) }
 {
     refuse(rule, table, zero_id(items))?;
-    let mut known = Known::new(alloc);
+    let mut known = Known::new(alloc, keys);
     refuse(rule + 1, table, repeated_id(items, &mut known)?)?;
     Ok(known)
 }

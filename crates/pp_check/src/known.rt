@@ -3,6 +3,7 @@ ghost use Rattle.std.specs.Prelude.{◌≡◌, ℕ, ◌==◌, ◌||◌, not, [],
 ghost use Rattle.pp_check.specs.Known.{holds, Knows, Inserts};
 
 use pp_base::Memory;
+use pp_keys::HashKeys;
 use std::alloc::Global;
 use std::collections::HashSet;
 
@@ -10,17 +11,17 @@ use std::collections::HashSet;
 #[derive(Drop)]
 pub struct Known {
     numbered: u64,
-    others: HashSet<u64>,
+    others: HashSet<u64, HashKeys>,
 }
 
 impl Known {
     /// No ids. It takes no memory.
-    pub fn new(alloc: Global) -> Self
+    pub fn new(alloc: Global, keys: HashKeys) -> Self
         ensures { Knows result [] }
     {
         Known {
             numbered: 0,
-            others: HashSet::new(alloc),
+            others: HashSet::with_hasher(alloc, keys),
         }
     }
 

@@ -84,11 +84,3 @@ Merges (p ∷ ps) (Err (Incompatible source what)) = disagreeing p 1 ps ≡ Some
 Merges (p ∷ ps) (Err (TotalTooLarge column)) =
     (disagreeing p 1 ps ≡ None) × (too_large (length p.sample_type) (p ∷ ps) ≡ Some column)
 Merges (p ∷ ps) (Err Memory) = ⊤
-
--- What one profile says by itself, with its samples and mappings as they stand.
-abbrev pub said : Profile → Contents
-said p = record {
-  header = header_of p [];
-  samples = samples_found (λ m. m) p;
-  first_mapping = slice_get (map (mapping_text p) p.mapping) 0;
-}

@@ -63,20 +63,3 @@ pub fn tables_are_no_longer()
     ensures { (p : Profile) → (ps : List Profile) → AllByRecursion NoRuleFails (p ∷ ps)
         → IsNoLonger (merged p ps) (p ∷ ps) }
 {}
-
-/// Where equal samples are added up and those of 0 are dropped, the sum of a column stays over the samples that pass
-/// any test on locations and labels.
-pub fn sums_are_kept_where()
-    ensures { (columns column : ℕ) → column < columns → (items : List (SampleText × List ℤ))
-        → AllByRecursion (λ item. length item.1 ≡ columns) items → (test : SampleText → Bool)
-        → sum_passing test column (filter counts (summed same_sample columns items))
-        ≡ sum_passing test column items }
-{}
-
-/// In a profile that stays as it is when it is merged alone, each mapping is the first that is one with it.
-pub fn mappings_are_first()
-    ensures { (p : Profile) → AllByRecursion (λ m. m.start < 2 ^ 64) (all_mappings (p ∷ []))
-        → merged p [] ≡ p → (id : ℕ)
-        → option_map (first_alike (all_mappings (p ∷ []))) (mapping_found p id)
-        ≡ mapping_found p id }
-{}

@@ -13,9 +13,10 @@ use crate::join::{is_in_place, join, set};
 use crate::refusal::MergeRefusal;
 use crate::together::without_hashes;
 use crate::totals::too_large_column;
-use pp_base::{Gate, List, Memory};
+use pp_base::{List, Memory, OpenGate};
 use pp_model::{Compact, Profile, Valid};
 use pp_share::{Hashed, Hashes, share, share_on};
+use pp_steal::Resources;
 use std::alloc::Global;
 use std::mem;
 use std::thread::Threads;
@@ -39,31 +40,26 @@ pub fn merge(alloc: Global, list: List<Valid>) -> Result<Compact, MergeRefusal>
     Ok(merged)
 }
 
-/// The same profile or refusal, of profiles whose samples were hashed. Where the hashes of the samples do not serve, as
-/// those of several sources, they are made anew in pieces of 1,024 on so many lanes, from 1 to 64. The answer does not
-/// tell how many there were.
-pub fn merge_on<R: Threads + Sync, G: Gate>(
-    rt: &R,
-    alloc: Global,
+/// The profile or refusal of `merge`, for profiles whose samples are hashed. A profile that stands alone, with its
+/// references by place, keeps its hashes. Else the samples are hashed anew, in pieces of 1,024 on `with.workers` lanes.
+/// The answer does not tell how many there were.
+pub fn merge_on<R: Threads + Sync>(
+    with: &Resources<'_, R>,
     list: List<Hashed>,
-    workers: u32,
-    gate: &G,
 ) -> Result<Compact, MergeRefusal>
     requires some { 0 < length list }
     requires few { length list < 2 ^ 32 }
     requires columns { AllByRecursion (λ p. length p.sample_type < 2 ^ 32) list }
     requires samples { sum_by (λ p. length p.sample) list < 2 ^ 32 }
-    requires lanes { 1 ≤ workers }
-    requires most { workers ≤ 64 }
     ensures { Merges list result }
 {
     let (hashed, behind) = split(list);
     let (first, hashes) = hashed.into_parts();
-    let (others, together) = without_hashes(alloc, behind, hashes.together)?;
+    let (others, together) = without_hashes(with.alloc, behind, hashes.together)?;
     let are_small = together <= i64::MAX as u64;
     let duration = admit(&first, others.as_slice(), are_small)?;
-    let (whole, known) = join_hashed(alloc, first, others, duration, hashes)?;
-    let merged = share_on(rt, alloc, whole, known, workers, gate)?;
+    let (whole, known) = join_hashed(with.alloc, first, others, duration, hashes)?;
+    let merged = share_on(with.rt, with.alloc, whole, known, with.workers, &OpenGate)?;
     Ok(Compact::claim(Valid::claim(merged)))
 }
 
@@ -137,7 +133,7 @@ fn join_whole(
     Ok(with_duration(joined, duration))
 }
 
-// The same, and the hashes of its samples where they are known: a profile that stands alone, with its references by
+// `join_whole`, and the hashes of its samples where they are known: a profile that stands alone, with its references by
 // place, keeps those of the first one.
 fn join_hashed(
     alloc: Global,

@@ -4,4 +4,4 @@ use Rattle.pp_check.proofs.asking.ask.Given as goal
 
 -- what is told of the samples so far
 abbrev pub invariant-loop-sample : goal.invariant-loop-sample
-invariant-loop-sample l = IsAsked l.p (take l.sample-index l.samples) (record { sound = l.sound; numbers = l.numbers })
+invariant-loop-sample l = IsAsked l.p (take l.sample-index l.samples) (record { sound = l.sound; hashes = l.hashes })

@@ -7,5 +7,5 @@ use Rattle.pp_check.proofs.lanes.join.Given as goal
 abbrev pub invariant-loop-part : goal.invariant-loop-part
 invariant-loop-part l = record {
   sound : l.sound ≡ list_all (λ (part : Asked). part.sound) l.yielded;
-  numbers : l.numbers.items ≡ map (λ (part : Asked). part.numbers) l.yielded;
+  hashes : l.hashes.items ≡ map (λ (part : Asked). part.hashes) l.yielded;
 }

@@ -32,5 +32,5 @@ returns-then-stays-clause-known c =
     let is : c.with_duration-whole.result ≡ record p { duration_nanos = c.args.duration } =
     c.with_duration-whole.ensures
     ∙ (λ j. record (c.into_profile.ensures.same j) { duration_nanos = to_z-of_z w64 c.args.duration (record { sfits = c.ranges.duration.sfits }) j }) in
-    subst (λ (q : Profile). AreKnown (length q.text) q.sample c.args.numbers) (sym is)
-    (record { labels = valid.sample_text; numbers = c.requires.numbers })
+    subst (λ (q : Profile). AreKnown (length q.text) q.sample c.args.hashes) (sym is)
+    (record { labels = valid.sample_text; hashes = c.requires.hashes })

@@ -33,13 +33,13 @@ claim-requires-2 g c =
     subst IsCompact (sym c.claim.ensures)
     (whole_left c.into_parts-first.result.0 c.in_ok-others.others.items c.in_ok-duration.duration c.in_ok-whole.whole c.in_ok-merged.merged can c.in_ok-whole.ensures.whole c.in_ok-merged.ensures).compact
 
--- the list is the first profile and the others, as they are without their numbers
+-- the list is the first profile and the others, as they are without their hashes
 pub returns : goal.returns
 returns g c =
     let first : Profile = c.into_parts-first.result.0 in
     let others = c.in_ok-others.others.items in
     let can = subst (λ ps. CanMerge first ps c.in_ok-duration.duration) c.as_slice.ensures.value c.in_ok-duration.ensures in
-    let list : c.args.list ≡ first ∷ others = c.split-numbered.ensures ∙ (λ j. sym c.into_parts-first.ensures.same j ∷ sym c.in_ok-others.ensures.same j) in
+    let list : c.args.list ≡ first ∷ others = c.split-hashed.ensures ∙ (λ j. sym c.into_parts-first.ensures.same j ∷ sym c.in_ok-others.ensures.same j) in
     merges_merged c.args.list first others c.in_ok-duration.duration c.claim-2.result list can
     (c.claim-2.ensures ∙ c.claim.ensures
     ∙ (whole_left first others c.in_ok-duration.duration c.in_ok-whole.whole c.in_ok-merged.merged can c.in_ok-whole.ensures.whole c.in_ok-merged.ensures).merged_is)

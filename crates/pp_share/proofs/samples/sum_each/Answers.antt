@@ -32,7 +32,7 @@ take-requires-clause-hash c =
     let within : place < length all = omega (arith, c.loop-place-test.true, c.len-count.ensures) in
     let x : Sample = get_or all place no_sample in
     let own : c.take_out-sample.result ≡ renumbered_sample by x = c.take_out-sample.ensures.sample no_sample ∙ ap (renumbered_sample by) (c.loop-place.invariant.rest place no_sample (omega arith)) in
-    moved_number by c.args.columns all (take place all) x (next_at all place within) c.as_slice-told.result.now place (c.as_slice-told.ensures.value ∙ c.requires.hashes.list)
+    moved_number by c.args.columns all (take place all) x (next_at all place within) c.as_slice-told.result.now place (c.as_slice-told.ensures.value ∙ c.requires.hashes.hashes)
     (sym (length-take-le place all (omega (arith, within))))
     ∙ ap sample_hash (sym own)
 
@@ -77,11 +77,11 @@ take-requires-clause-alone c = λ alone.
     let s = c.loop-place.sums in
     let order : order_at s.places.items s.kept c.take_out-sample.new.samples ≡ order_at s.places.items s.kept s.samples =
     ap (slots 0 s.places.items) (ap (take s.kept) c.take_out-sample.ensures.left ∙ take-set-le s.kept s.samples place no_sample c.loop-place.invariant.few) in
-    let hash = moved_number by c.args.columns all (take place all) x (next_at all place within) c.as_slice-told.result.now place (c.as_slice-told.ensures.value ∙ c.requires.hashes.list)
+    let hash = moved_number by c.args.columns all (take place all) x (next_at all place within) c.as_slice-told.result.now place (c.as_slice-told.ensures.value ∙ c.requires.hashes.hashes)
     (sym (length-take-le place all (omega (arith, within)))) in
     (λ j. list_any (same_stack (sample_stack (own j))) (keys_of same_stack (woven (order j) s.sums.entries)))
     ∙ moved_alone by c.args.columns all (take place all) x (next_at all place within) (woven (order_at s.places.items s.kept s.samples) s.sums.entries) c.loop-place.invariant.sums repeated
-    (subst (λ hashes. HoldsRepeated hashes repeated) c.requires.hashes.list c.requires.repeated) (ap (is_listed repeated) (sym hash) ∙ alone)
+    (subst (λ hashes. HoldsRepeated hashes repeated) c.requires.hashes.hashes c.requires.repeated) (ap (is_listed repeated) (sym hash) ∙ alone)
 
 -- one sample more was taken
 pub loop-place-preserved : goal.loop-place-preserved

@@ -20,7 +20,7 @@ returns-then-is_empty c =
     ap (with_new_samples by) c.keep_counting.ensures
     ∙ (λ j. record p {
       sample = kept_apart by (length p.sample_type) p.sample
-          (none_repeated hashes (subst (HoldsRepeated hashes) none (subst (λ ns. HoldsRepeated ns repeated) c.requires.hashes.list c.requires.repeated)))
+          (none_repeated hashes (subst (HoldsRepeated hashes) none (subst (λ ns. HoldsRepeated ns repeated) c.requires.hashes.hashes c.requires.repeated)))
           (by_recursion _ p.sample c.requires.wide) j;
     })
 

@@ -5,7 +5,7 @@ use Rattle.pp_check.specs.Finds.{rule_fault}
 use Rattle.pp_check.specs.FirstFault.{location_faults, reference_faults}
 use Rattle.pp_check.proofs.SoundLemmas.{tenth_left}
 use Rattle.pp_check.proofs.Stages.{passed_on, raised_last, later, later_none}
-use Rattle.pp_check.proofs.checking.keep_locations.Goals as goal
+use Rattle.pp_check.proofs.checking.try_locations.Goals as goal
 
 -- rule 10 alone is left, and fails
 pub returns-in_err-refuse : goal.returns-in_err-refuse
@@ -24,11 +24,11 @@ returns-in_err-locations c =
     let p = c.args.p.now in
     passed_on Known (location_faults p) (reference_faults p) _ c.in_err-locations.field-0.0 c.from_residual-in_err-locations.ensures.1 c.in_err-locations.ensures.faults
 
-pub returns-in_err-keep_references : goal.returns-in_err-keep_references
-returns-in_err-keep_references c =
+pub returns-in_err-try_references : goal.returns-in_err-try_references
+returns-in_err-try_references c =
     let p = c.args.p.now in
     later (location_faults p) (reference_faults p) _ c.in_ok-locations.ensures.faults
-    (raised_last (reference_faults p) _ c.in_err-keep_references.field-0.0 c.from_residual-in_err-keep_references.ensures.1 c.in_err-keep_references.ensures)
+    (raised_last (reference_faults p) _ c.in_err-try_references.field-0.0 c.from_residual-in_err-try_references.ensures.1 c.in_err-try_references.ensures)
 
 pub returns : goal.returns
-returns c = later_none (location_faults c.args.p.now) (reference_faults c.args.p.now) c.in_ok-locations.ensures.faults c.in_ok-keep_references.ensures
+returns c = later_none (location_faults c.args.p.now) (reference_faults c.args.p.now) c.in_ok-locations.ensures.faults c.in_ok-try_references.ensures

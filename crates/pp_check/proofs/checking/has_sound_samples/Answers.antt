@@ -2,7 +2,7 @@ use Rattle.std.proofs.Common.{◌∙◌, sym, ap}
 use Rattle.std.specs.List.{list_all}
 use Rattle.pp_check.specs.Sound.{is_sound}
 use Rattle.pp_check.proofs.SoundLemmas.{are_sound}
-use Rattle.pp_check.proofs.checking.ask_ahead.Goals as goal
+use Rattle.pp_check.proofs.checking.has_sound_samples.Goals as goal
 
 pub returns-in-Ok : goal.returns-in-Ok
 returns-in-Ok c = λ holds.
