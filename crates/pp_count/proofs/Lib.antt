@@ -1,5 +1,6 @@
 pub mod Numbering
 pub mod Adding
+pub mod Slotted
 pub mod Entries
 pub mod Joining
 pub mod CountedFrames

@@ -16,6 +16,7 @@ mod parts;
 mod recounting;
 mod scope;
 mod seeing;
+mod slots;
 mod sofar;
 mod sums;
 mod survey;
