@@ -1,3 +1,4 @@
+pub mod RowLists
 pub mod Numbering
 pub mod Adding
 pub mod Slotted
