@@ -47,7 +47,7 @@ pub fn count_range(alloc: Global, scope: &Scope, first: u32, count: u32) -> Resu
     requires within { first + count ≤ length (samples_in_scope scope.now) }
     ensures { IfOk result (IsPartOf scope.now first (take count (drop first (samples_in_scope scope.now)))) }
 {
-    let mut tallies = Tallies::new(alloc, scope.numbers())?;
+    let mut tallies = Tallies::new(alloc, scope.hash_keys(), scope.numbers())?;
     part_of(alloc, scope, &mut tallies, first, count)
 }
 

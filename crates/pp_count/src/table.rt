@@ -10,6 +10,7 @@ use crate::frames::frames_of;
 use crate::rows::Rows;
 use pp_base::{List, Memory};
 use pp_grain::{Key, Names, key_of};
+use pp_keys::HashKeys;
 use pp_model::{Config, Frame, Loaded, Stack};
 use std::alloc::Global;
 use std::mem;
@@ -24,11 +25,16 @@ pub struct KeyTable {
     pub location: Rows,
 }
 
-/// Numbers the keys of all lines, by the configuration's grain.
-pub fn key_table(alloc: Global, l: &Loaded, config: &Config) -> Result<KeyTable, Memory>
+/// Numbers the keys of all lines, by the configuration's grain. `hash_keys` are for the tables of the report.
+pub fn key_table(
+    alloc: Global,
+    hash_keys: HashKeys,
+    l: &Loaded,
+    config: &Config,
+) -> Result<KeyTable, Memory>
     ensures { IfOk result (IsKeyTable l.now.profile config.now) }
 {
-    let mut names = Names::new(alloc)?;
+    let mut names = Names::new(alloc, hash_keys)?;
     match number_locations(alloc, l, config, &mut names) {
         Ok(location) => Ok(KeyTable { names, location }),
         Err(Memory) => {

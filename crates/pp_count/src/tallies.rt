@@ -8,6 +8,7 @@ use crate::slots::{Row, Slots};
 use crate::tally::Tally;
 use indexmap::IndexMap;
 use pp_base::{List, Memory};
+use pp_keys::HashKeys;
 use std::alloc::Global;
 
 /// A report that has more key numbers has no list of tallies. A list that is mostly empty costs more than slots.
@@ -24,13 +25,13 @@ pub struct Tallies {
     /// A slot for each key number, where they are too many for a list, but not for slots; else none.
     pub slots: Slots,
     /// The tallies of other key numbers that were seen, which are all where there are neither list nor slots.
-    pub others: IndexMap<u64, Tally>,
+    pub others: IndexMap<u64, Tally, HashKeys>,
 }
 
 impl Tallies {
     /// None, in the form that suits `numbers` key numbers.
     #[tactic(auto, unfolding(crate::specs::Tally::tally_at))]
-    pub fn new(alloc: Global, numbers: usize) -> Result<Tallies, Memory>
+    pub fn new(alloc: Global, hash_keys: HashKeys, numbers: usize) -> Result<Tallies, Memory>
         ensures { IfOk result (λ tallies. (k : ℕ) → tally_at tallies k ≡ no_tally) }
     {
         let (listed, slotted) = forms(numbers);
@@ -39,7 +40,7 @@ impl Tallies {
         Ok(Tallies {
             listed,
             slots,
-            others: IndexMap::new(alloc),
+            others: IndexMap::with_hasher(alloc, hash_keys),
         })
     }
 }
