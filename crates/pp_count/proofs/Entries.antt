@@ -7,9 +7,11 @@ use Rattle.std.proofs.lemmas.Bool.{cases_eq, cases_Bool, eq-eqb, ne_eqb, eqb-fal
 use Rattle.std.proofs.lemmas.List.{take_more, take_all, append-nil, get_or-take, get_or_past, get_or_default, length-take-le}
 use Rattle.std.proofs.lemmas.Option.{none-some, same_Some, get_or_from_slice_get, slice_get_within}
 use Rattle.pp_count.specs.declared.tally.Tally.{Tally}
+use Rattle.pp_count.specs.declared.slots.Row.{Row}
 use Rattle.pp_count.specs.declared.part.KeySum.{KeySum}
-use Rattle.pp_count.specs.Tally.{no_tally, tally_entry}
+use Rattle.pp_count.specs.Tally.{no_tally, slot_tally, tally_entry}
 use Rattle.pp_count.specs.Parts.{sums_of}
+use Rattle.pp_count.proofs.Slotted.{nothing}
 
 -- what is kept of the key number in these entries
 abbrev pub entry_at : List (ℕ × Tally) → ℕ → Tally
@@ -63,37 +65,30 @@ entry_more es i q e k sums new distinct found so_far each = ⊎_elim
     ∙ ap (λ o. tally_entry k (unwrap_or o no_tally)) (sym (lookup_more es i k q e found ∙ lookup_other (take i es) k q e (ne_eqb k q (λ back. other (sym back))))))
     (cases_eq q k)
 
--- what is kept of the key number: in a list as far as it goes, else in these entries
-abbrev pub held : List Tally → List (ℕ × Tally) → ℕ → Tally
-held listed es k = cond (nat_lt k (length listed)) (get_or listed k no_tally) (entry_at es k)
+-- what is kept of the key number: in a list as far as it goes, else in rows as far as their places go, else in these
+-- entries
+abbrev pub held : List Tally → List ℕ → List Row → List (ℕ × Tally) → ℕ → Tally
+held listed places rows es k =
+    cond (nat_lt k (length listed)) (get_or listed k no_tally) (cond (nat_lt k (length places)) (slot_tally places rows k) (entry_at es k))
 
-either_way : (b : Bool) (same : List KeySum) → cond b same same ≡ same
-either_way true same = refl
-either_way false same = refl
+step : (b1 b2 : Bool) (x y : Tally) (es : List (ℕ × Tally)) (i q : ℕ) (e : Tally) (k : ℕ) (sums new : List KeySum)
+    → IsDistinct nat_eq (keys_of es) → slice_get es i ≡ Some (q, e)
+    → sums ≡ tally_entry k (cond b1 x (cond b2 y (entry_at (take i es) k)))
+    → new ≡ sums ++ cond (nat_eq q k) (cond b1 [] (cond b2 [] (tally_entry q e))) []
+    → new ≡ tally_entry k (cond b1 x (cond b2 y (entry_at (take (i + 1) es) k)))
+step true b2 x y es i q e k sums new distinct found before after = after ∙ nothing (nat_eq q k) sums ∙ before
+step false true x y es i q e k sums new distinct found before after = after ∙ nothing (nat_eq q k) sums ∙ before
+step false false x y es i q e k sums new distinct found before after = entry_more es i q e k sums new distinct found before after
 
 -- one more entry of the map is listed
-pub others_more : (listed : List Tally) (es : List (ℕ × Tally)) (i q : ℕ) (e : Tally) (sums new : List KeySum)
+pub others_more : (listed : List Tally) (places : List ℕ) (rows : List Row) (es : List (ℕ × Tally)) (i q : ℕ) (e : Tally) (sums new : List KeySum)
     → IsDistinct nat_eq (keys_of es) → slice_get es i ≡ Some (q, e)
-    → ((k : ℕ) → sums_of k sums ≡ tally_entry k (held listed (take i es) k))
-    → ((k : ℕ) → sums_of k new ≡ sums_of k sums ++ cond (nat_eq q k) (cond (nat_lt k (length listed)) [] (tally_entry q e)) [])
-    → (k : ℕ) → sums_of k new ≡ tally_entry k (held listed (take (i + 1) es) k)
-others_more listed es i q e sums new distinct found so_far each k =
-    elim (nat_lt k (length listed)) as
-    (λ b. sums_of k sums ≡ tally_entry k (cond b (get_or listed k no_tally) (entry_at (take i es) k)) →
-    sums_of k new ≡ sums_of k sums ++ cond (nat_eq q k) (cond b [] (tally_entry q e)) [] →
-    sums_of k new ≡ tally_entry k (cond b (get_or listed k no_tally) (entry_at (take (i + 1) es) k))) [
-      | true ↦ λ before after. after ∙ ap (λ r. sums_of k sums ++ r) (either_way (nat_eq q k) []) ∙ append-nil (sums_of k sums) ∙ before
-      | false ↦ entry_more es i q e k (sums_of k sums) (sums_of k new) distinct found
-    ] (so_far k) (each k)
-
--- before the first entry of the map those of the list are there
-pub others_none : (listed : List Tally) (sums : List KeySum) → ((k : ℕ) → sums_of k sums ≡ tally_entry k (get_or listed k no_tally))
-    → (k : ℕ) → sums_of k sums ≡ tally_entry k (held listed [] k)
-others_none listed sums is k = is k ∙ ap (tally_entry k) (elim (nat_lt k (length listed)) as
-    (λ b. nat_lt k (length listed) ≡ b → get_or listed k no_tally ≡ cond b (get_or listed k no_tally) no_tally) [
-      | true ↦ λ within. refl
-      | false ↦ λ past. get_or_past listed k no_tally (ltb-false k (length listed) past)
-    ] refl)
+    → ((k : ℕ) → sums_of k sums ≡ tally_entry k (held listed places rows (take i es) k))
+    → ((k : ℕ) → sums_of k new
+    ≡ sums_of k sums ++ cond (nat_eq q k) (cond (nat_lt k (length listed)) [] (cond (nat_lt k (length places)) [] (tally_entry q e))) [])
+    → (k : ℕ) → sums_of k new ≡ tally_entry k (held listed places rows (take (i + 1) es) k)
+others_more listed places rows es i q e sums new distinct found so_far each k =
+    step (nat_lt k (length listed)) (nat_lt k (length places)) (get_or listed k no_tally) (slot_tally places rows k) es i q e k (sums_of k sums) (sums_of k new) distinct found (so_far k) (each k)
 
 -- one more tally of a list leaves those of the other key numbers
 other_read : (listed : List Tally) (i k : ℕ) → i ≢ k → i < length listed → get_or (take i listed) k no_tally ≡ get_or (take (i + 1) listed) k no_tally

@@ -40,22 +40,6 @@ listed test before (s ∷ range) rest =
       | false ↦ next
     ]
 
--- the samples of the numbers that the filters leave of a range
-pub kept_in_range : (p : Profile) (f : Finders) (config : Config) (kept : List ℕ) (first count : ℕ) → first ≤ length p.sample
-    → kept ≡ filtered_from p f config first (take count (drop first p.sample))
-    → samples_at p kept ≡ filtered_samples p f config (take count (drop first p.sample))
-kept_in_range p f config kept first count within is =
-    let test : Sample → Bool = λ s. is_some (filtered_stack p f config s) in
-    let before : List Sample = take first p.sample in
-    let range : List Sample = take count (drop first p.sample) in
-    let rest : List Sample = drop count (drop first p.sample) in
-    let whole : before ++ (range ++ rest) ≡ p.sample =
-    ap (λ ss. before ++ ss) (take-append-drop count (drop first p.sample)) ∙ take-append-drop first p.sample in
-    ap (samples_at p) is
-    ∙ ap (λ ss. filter_map (slice_get ss) (numbers_from test first range)) (sym whole)
-    ∙ ap (λ n. filter_map (slice_get (before ++ (range ++ rest))) (numbers_from test n range)) (sym (length-take-le first p.sample within))
-    ∙ listed test before range rest
-
 -- the samples of the numbers that the filters leave
 pub kept_samples : (p : Profile) (f : Finders) (config : Config) (kept : List ℕ) → kept ≡ filtered_from p f config 0 p.sample
     → samples_at p kept ≡ filtered_samples p f config p.sample

@@ -1,5 +1,7 @@
+pub mod RowLists
 pub mod Numbering
 pub mod Adding
+pub mod Slotted
 pub mod Entries
 pub mod Joining
 pub mod CountedFrames

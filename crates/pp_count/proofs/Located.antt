@@ -51,15 +51,13 @@ pub located_none : (p : Profile) (config : Config) (table : KeyTable) (ids keys 
 located_none p config table ids keys none = rw none (record { below = λ k d below. absurd (omega (arith, below)); named = refl })
 
 -- one more location, whose row was read
-pub located_more : (p : Profile) (config : Config) (table : KeyTable) (ids : List ℕ) (i : ℕ) (keys row : List ℕ) (all : List (List ℕ))
-    → IsKeyTable p config table → i < length ids → get_or ids i 0 - 1 < length all → all ≡ table.location → row ≡ get_or all (get_or ids i 0 - 1) []
+pub located_more : (p : Profile) (config : Config) (table : KeyTable) (ids : List ℕ) (i : ℕ) (keys row : List ℕ)
+    → IsKeyTable p config table → i < length ids → get_or ids i 0 - 1 < length table.location → row ≡ get_or table.location (get_or ids i 0 - 1) []
     → LocatedTo p config table ids i keys → LocatedTo p config table ids (i + 1) (keys ++ row)
-located_more p config table ids i keys row all t here within lent read so_far =
+located_more p config table ids i keys row t here within read so_far =
     let location : ℕ = get_or ids i 0 - 1 in
-    let inside : location < length table.location = omega (arith, within, ap length lent) in
-    let same : row ≡ get_or table.location location [] = read ∙ ap (λ xs. get_or xs location []) lent in
     let is : IsRow config.grain config.showcolumns p table.names location row =
-    subst (λ (r : List ℕ). IsRow config.grain config.showcolumns p table.names location r) (sym same) (t.each location inside) in
+    subst (λ (r : List ℕ). IsRow config.grain config.showcolumns p table.names location r) (sym read) (t.each location within) in
     let name : ℕ → Written = written_key p table.names in
     let rest : List Written = all_keys p config (frames_from p (i + 1) (drop (i + 1) ids)) in
     record {

@@ -38,7 +38,8 @@ seen_is : (scope : Scope) (f : Finders) (s : Sample) (stack : Option (List Frame
 seen_is scope f s None = refl
 seen_is scope f s (Some x) = refl
 
-some_is : (scope : Scope) (stack : Option (List Frame)) (kept : Bool) (keys : List Written)
+-- whether the filters leave something
+pub some_is : (scope : Scope) (stack : Option (List Frame)) (kept : Bool) (keys : List Written)
     → option_map (keys_of_stack (profile_in_scope scope) (config_of scope)) stack ≡ kept_if kept keys → is_some stack ≡ kept
 some_is scope None true keys e = cc
 some_is scope None false keys e = refl

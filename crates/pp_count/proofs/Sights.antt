@@ -55,14 +55,12 @@ pub record IsThere (p : Profile) (config : Config) (table : KeyTable) (f : Frame
   pub below : get_or row at 0 < length table.names
   pub named : written_key p table.names (get_or row at 0) ≡ key_of_frame p config f
 
-pub number_there : (p : Profile) (config : Config) (table : KeyTable) (f : Frame) (all : List (List ℕ)) (row : List ℕ) (at : ℕ)
-    → IsKeyTable p config table → IsFrameOf p f → all ≡ table.location → row ≡ get_or all f.location row → at ≡ unwrap_or f.row 0
+pub number_there : (p : Profile) (config : Config) (table : KeyTable) (f : Frame) (row : List ℕ) (at : ℕ)
+    → IsKeyTable p config table → IsFrameOf p f → row ≡ get_or table.location f.location [] → at ≡ unwrap_or f.row 0
     → IsThere p config table f row at
-number_there p config table f all row at t is lent read place =
+number_there p config table f row at t is read place =
     let has = number_is p config table f t is in
-    let same : row ≡ get_or table.location f.location [] =
-    read ∙ ap (λ xs. get_or xs f.location row) lent ∙ get_or_default table.location f.location row [] has.location in
-    subst (λ (r : List ℕ). IsThere p config table f r at) (sym same)
+    subst (λ (r : List ℕ). IsThere p config table f r at) (sym read)
     (subst (λ (n : ℕ). IsThere p config table f (get_or table.location f.location []) n) (sym place)
     (record { within = has.row; below = has.below; named = has.named }))
 

@@ -23,16 +23,6 @@ pub at_more : (p : Profile) (kept : List ℕ) (i : ℕ) → i < length kept
     → samples_at p (take (i + 1) kept) ≡ samples_at p (take i kept) ++ cons_option (slice_get p.sample (get_or kept i 0)) []
 at_more p kept i here = ap (samples_at p) (take_more kept i 0 here) ∙ filter_map-append (slice_get p.sample) (take i kept) (get_or kept i 0 ∷ [])
 
--- what a look-up says
-pub looked_up : (ss : List Sample) (n : ℕ) (s : Sample) → true ≡ ltb n (length ss) → s ≡ get_or ss n s → slice_get ss n ≡ Some s
-looked_up ss n s within is = slice_get_read ss (length ss) n s refl (grind (arith, within)) is
-
-pub not_there : (ss : List Sample) (n : ℕ) → false ≡ ltb n (length ss) → slice_get ss n ≡ None
-not_there ss n past = ⊎_elim
-    (λ here. absurd (false≢true (past ∙ lt-ltb n (length ss) here.1)))
-    (λ none. none.1)
-    (slice_get_cases ss n).1
-
 -- the sums over no samples
 pub totals_none : (p : Profile) (config : Config) (column : Option ℕ) (t : Totals) → t ≡ record { all = 0; base = 0 } → AreTotals p config column [] t
 totals_none p config column t none = record { all = omega (arith, ap (λ x. x.all) none); base = omega (arith, ap (λ x. x.base) none) }
@@ -52,23 +42,6 @@ totals_more p config column a b t u new plus first second =
         ap (sum_by f) (filter-append (is_base p) a b) ∙ sum_by-append f (filter (is_base p) a) (filter (is_base p) b),
       );
     }
-
--- one more number, whose sample has these sums
-pub totals_at : (p : Profile) (config : Config) (column : Option ℕ) (kept : List ℕ) (i : ℕ) (s : Sample) (t u new : Totals)
-    → i < length kept → slice_get p.sample (get_or kept i 0) ≡ Some s → new ≡ totals_plus t u
-    → AreTotals p config column (samples_at p (take i kept)) t → AreTotals p config column (s ∷ []) u
-    → AreTotals p config column (samples_at p (take (i + 1) kept)) new
-totals_at p config column kept i s t u new here found plus so_far one =
-    subst (λ ss. AreTotals p config column ss new) (sym (at_more p kept i here ∙ ap (λ o. samples_at p (take i kept) ++ cons_option o []) found))
-    (totals_more p config column (samples_at p (take i kept)) (s ∷ []) t u new plus so_far one)
-
--- a number without a sample
-pub totals_same : (p : Profile) (config : Config) (column : Option ℕ) (kept : List ℕ) (i : ℕ) (t : Totals)
-    → i < length kept → slice_get p.sample (get_or kept i 0) ≡ None
-    → AreTotals p config column (samples_at p (take i kept)) t → AreTotals p config column (samples_at p (take (i + 1) kept)) t
-totals_same p config column kept i t here none so_far =
-    subst (λ ss. AreTotals p config column ss t)
-    (sym (at_more p kept i here ∙ ap (λ o. samples_at p (take i kept) ++ cons_option o []) none ∙ append-nil _)) so_far
 
 pub filter_size : (f : Sample → ℕ) (q : Sample → Bool) (ss : List Sample) → sum_by f (filter q ss) ≤ sum_by f ss
 filter_size f q [] = omega arith
@@ -116,3 +89,11 @@ total_is p f config column t fits are =
     let base_is : t.base ≡ sum_by size (filter (is_base p) ss) = omega (arith, within, are.base, filter_size size (is_base p) ss) in
     let all_is : t.all ≡ sum_by size ss = omega (arith, within, are.all) in
     λ i. total_by (base_is i) (all_is i)
+
+-- the totals of the samples so far, and of one more
+pub totals_next : (scope : Scope) (samples : List Sample) (i : ℕ) (s : Sample) (t u new : Totals) → i < length samples → s ≡ get_or samples i s
+    → new ≡ totals_plus t u → HasTotals scope (take i samples) t → HasTotals scope (s ∷ []) u → HasTotals scope (take (i + 1) samples) new
+totals_next scope samples i s t u new here is plus so_far next =
+    subst (λ (ss : List Sample). HasTotals scope ss new)
+    (ap (λ x. take i samples ++ x ∷ []) is ∙ sym (take_more samples i s here))
+    (scope_totals_more scope (take i samples) (s ∷ []) t u new plus so_far next)

@@ -16,3 +16,4 @@ pub mod Joined
 pub mod Base
 pub mod Rising
 pub mod Totals
+pub mod Rows

@@ -1,10 +1,11 @@
 -- What is kept for each key number while samples are added up. No public clause cites it.
-use Rattle.std.specs.Prelude.{◌≡◌, ℕ, ◌==◌, nat_eq, nat_lt, ℤ, pos, ◌+ℤ◌, List, [], ◌∷◌, length, slice_index_or, if◌then◌else◌}
+use Rattle.std.specs.Prelude.{◌≡◌, ℕ, ◌==◌, Bool, false, nat_eq, nat_lt, ℤ, pos, ◌+ℤ◌, List, [], ◌∷◌, length, slice_index_or, if◌then◌else◌}
 use Rattle.std.specs.Option.{unwrap_or}
 use Rattle.std.specs.Ordering.{nat_cmp, int_eq}
 use Rattle.indexmap.specs.IndexMap.{get}
 use Rattle.pp_count.specs.Sums.{Seen, cum, flat, has, leads, occurs}
 use Rattle.pp_count.specs.declared.tally.Tally.{Tally}
+use Rattle.pp_count.specs.declared.slots.Row.{Row}
 use Rattle.pp_count.specs.declared.tallies.Tallies.{Tallies}
 use Rattle.pp_count.specs.declared.part.KeySum.{KeySum}
 
@@ -12,10 +13,40 @@ use Rattle.pp_count.specs.declared.part.KeySum.{KeySum}
 abbrev pub no_tally : Tally
 no_tally = record { flat = pos 0; cum = pos 0; last = 0 }
 
--- what is kept of the key number: in the list as far as it goes, else in the map
+-- the row of no key
+abbrev pub no_row : Row
+no_row = record { key = 0; tally = no_tally }
+
+-- what the row says of the key number
+abbrev pub row_tally : Row → ℕ → Tally
+row_tally row k = if nat_eq row.key k then row.tally else no_tally
+
+-- what is kept of the key number in rows, where the list has the place of each number's row
+abbrev pub slot_tally : List ℕ → List Row → ℕ → Tally
+slot_tally places rows k = row_tally (slice_index_or rows (slice_index_or places k 0) no_row) k
+
+-- what the list and the slots keep of the key number: those of higher numbers have none
+abbrev pub placed_tally : Tallies → ℕ → Tally
+placed_tally tallies k =
+    if nat_lt k (length tallies.listed.items) then slice_index_or tallies.listed.items k no_tally
+    else if nat_lt k (length tallies.slots.place.items)
+    then slot_tally tallies.slots.place.items tallies.slots.rows.items k
+    else no_tally
+
+-- the key number is past the list, and its row is the one at the place
+abbrev pub has_place : Tallies → ℕ → ℕ → Bool
+has_place tallies place k =
+    if nat_lt k (length tallies.listed.items) then false
+    else if nat_lt k (length tallies.slots.place.items)
+    then nat_eq (slice_index_or tallies.slots.place.items k 0) place
+    else false
+
+-- what is kept of the key number: in the list as far as it goes, else in the slots as far as they go, else in the map
 unfoldable pub tally_at : Tallies → ℕ → Tally
 tally_at tallies k =
     if nat_lt k (length tallies.listed.items) then slice_index_or tallies.listed.items k no_tally
+    else if nat_lt k (length tallies.slots.place.items)
+    then slot_tally tallies.slots.place.items tallies.slots.rows.items k
     else unwrap_or (get nat_eq tallies.others k) no_tally
 
 -- The tally is that of the key over these samples.

@@ -20,6 +20,7 @@ use crate::table::{KeyTable, key_table};
 use crate::tallies::entries;
 use crate::waves::count_all;
 use pp_base::{Gate, List, Memory};
+use pp_keys::HashKeys;
 use pp_model::{Config, Loaded, Verdicts};
 use std::alloc::Global;
 use std::mem;
@@ -45,11 +46,14 @@ pub struct Counted {
 
 /// Counts all samples, in pieces of 1,024 on as many lanes as the configuration has workers. `Err` is want of memory.
 ///
+/// `hash_keys` are for the tables of the report.
+///
 /// Samples that a filter drops and samples of value 0 put no key into the sums; the latter are kept. With
 /// `relative_percentages` the total is taken over the samples that the filters leave.
 pub fn count<R: Threads + Sync, G: Gate>(
     rt: &R,
     alloc: Global,
+    hash_keys: HashKeys,
     l: &Loaded,
     v: &Verdicts,
     config: &Config,
@@ -59,7 +63,7 @@ pub fn count<R: Threads + Sync, G: Gate>(
     requires { CanCount l.now.profile v.now config.now column }
     ensures { IfOk result (IsCountedOf l.now v.now config.now column) }
 {
-    let by = table_and_filters(alloc, l, v, config)?;
+    let by = table_and_filters(alloc, hash_keys, l, v, config)?;
     let scope = Scope::whole(l, v, config, &by.1, column, &by.0);
     match count_whole(rt, alloc, &scope, gate) {
         Ok(whole) => Ok(counted_of(whole, by)),
@@ -73,6 +77,7 @@ pub fn count<R: Threads + Sync, G: Gate>(
 // What samples are counted by.
 fn table_and_filters(
     alloc: Global,
+    hash_keys: HashKeys,
     l: &Loaded,
     v: &Verdicts,
     config: &Config,
@@ -83,7 +88,7 @@ fn table_and_filters(
     ensures table { IfOk result (λ by. IsKeyTable l.now.profile config.now by.0) }
     ensures filters { IfOk result (λ by. AreFilters l.now.profile v.now config.now by.1) }
 {
-    let table = key_table(alloc, l, config)?;
+    let table = key_table(alloc, hash_keys, l, config)?;
     let filters = Filters::new(alloc, l, v, config)?;
     Ok((table, filters))
 }

@@ -1,19 +1,17 @@
 //! What a range of the samples comes to.
 ghost use Rattle.std.specs.Prelude.{◌≡◌, ℕ, ◌+◌, ◌<◌, ◌≤◌, ◌^◌, nat_abs, length, take, drop, IfOk};
-ghost use Rattle.pp_count.specs.Column.{selected};
 ghost use Rattle.pp_count.specs.Edges.{counted_keys};
 ghost use Rattle.pp_count.specs.Tally.{tally_at, no_tally, with_seen};
-ghost use Rattle.pp_count.specs.Scope.{over_of, samples_in_scope, IsSoundScope, AreCountable, IsPartOf, CountedTo};
+ghost use Rattle.pp_count.specs.Scope.{over_of, samples_in_scope, IsSoundScope, AreCountable, IsPartOf, CountedTo, HasTotals};
 
 use crate::matched::{Matched, range_matches};
 use crate::pairs::gather_pairs;
 use crate::scope::{Scope, sample_at};
 use crate::seeing::see;
 use crate::tallies::{Tallies, add_sample, entries};
-use crate::total::{Totals, range_totals};
+use crate::total::{Totals, totals_of};
 use crate::value::selected;
 use pp_base::{List, Memory};
-use pp_model::Sample;
 use std::alloc::Global;
 
 /// The sums of one key over a range of samples.
@@ -47,7 +45,7 @@ pub fn count_range(alloc: Global, scope: &Scope, first: u32, count: u32) -> Resu
     requires within { first + count ≤ length (samples_in_scope scope.now) }
     ensures { IfOk result (IsPartOf scope.now first (take count (drop first (samples_in_scope scope.now)))) }
 {
-    let mut tallies = Tallies::new(alloc, scope.numbers())?;
+    let mut tallies = Tallies::new(alloc, scope.hash_keys(), scope.numbers())?;
     part_of(alloc, scope, &mut tallies, first, count)
 }
 
@@ -65,10 +63,10 @@ fn part_of(
     requires none { (k : ℕ) → tally_at tallies.old k ≡ no_tally }
     ensures { IfOk result (IsPartOf scope.now first (take count (drop first (samples_in_scope scope.now)))) }
 {
-    let kept = add_samples(alloc, scope, tallies, first, count)?;
+    let mut totals = Totals::none();
+    let kept = add_samples(alloc, scope, tallies, &mut totals, first, count)?;
     let sums = entries(alloc, tallies)?;
     let matched = range_matches(alloc, scope, first, count)?;
-    let totals = range_totals(scope, first, count, kept.as_slice());
     Ok(Part {
         kept,
         sums,
@@ -77,11 +75,13 @@ fn part_of(
     })
 }
 
-// Adds the samples that the filters leave to tallies that have none yet. The places of those samples.
+// Adds the samples that the filters leave to tallies that have none yet, and what percentages are taken of to totals
+// that have none either. The places of the samples that the filters leave.
 fn add_samples(
     alloc: Global,
     scope: &Scope,
     tallies: &mut Tallies,
+    totals: &mut Totals,
     first: u32,
     count: u32,
 ) -> Result<List<u32>, Memory>
@@ -89,8 +89,11 @@ fn add_samples(
     requires countable { AreCountable scope.now (samples_in_scope scope.now) }
     requires within { first + count ≤ length (samples_in_scope scope.now) }
     requires none { (k : ℕ) → tally_at tallies.old k ≡ no_tally }
-    ensures { IfOk result (λ kept. CountedTo scope.now first count
+    requires nothing { totals.old ≡ record { all = 0; base = 0 } }
+    ensures counted { IfOk result (λ kept. CountedTo scope.now first count
         (take count (drop first (samples_in_scope scope.now))) (tally_at tallies.new) kept) }
+    ensures totals { IfOk result (λ _.
+        HasTotals scope.now (take count (drop first (samples_in_scope scope.now))) totals.new) }
 {
     let mut stack = List::new(alloc);
     let mut keys = Vec::new(alloc);
@@ -99,35 +102,34 @@ fn add_samples(
     for index in 0..count {
         let place = first + index;
         let sample = sample_at(scope, place as usize);
-        if see(scope, sample, &mut stack, &mut keys)? {
+        let left = see(scope, sample, &mut stack, &mut keys)?;
+        let value = selected(scope.l, sample, scope.column, scope.config.divide_by);
+        *totals = totals.plus(totals_of(scope, sample, value, left));
+        if left {
             let turn = index as u64 + 1;
-            add_seen(scope, tallies, sample, &keys, &mut pairs, turn)?;
+            add_seen(scope, tallies, value, &keys, &mut pairs, turn)?;
             kept.push(place)?;
         }
     }
     Ok(kept)
 }
 
-// Adds the keys of a sample, or its pairs. Its turn is after those of the samples before it.
+// Adds a sample of the value by its keys, or by its pairs. Its turn is after those of the samples before it.
 fn add_seen(
     scope: &Scope,
     tallies: &mut Tallies,
-    sample: &Sample,
+    value: i64,
     keys: &[u64],
     pairs: &mut Vec<u64>,
     turn: u64,
 ) -> Result<(), Memory>
     requires sound { IsSoundScope scope.now }
     requires earlier { (k : ℕ) → (tally_at tallies.old k).last < turn }
-    requires cum_fits { (k : ℕ) → nat_abs (tally_at tallies.old k).cum
-        + nat_abs (selected scope.now.column scope.now.config.now.divide_by sample.now) < 2 ^ 63 }
-    requires flat_fits { (k : ℕ) → nat_abs (tally_at tallies.old k).flat
-        + nat_abs (selected scope.now.column scope.now.config.now.divide_by sample.now) < 2 ^ 63 }
-    ensures { IfOk result (λ _. (k : ℕ) → tally_at tallies.new k
-        ≡ with_seen (selected scope.now.column scope.now.config.now.divide_by sample.now) turn
+    requires cum_fits { (k : ℕ) → nat_abs (tally_at tallies.old k).cum + nat_abs value < 2 ^ 63 }
+    requires flat_fits { (k : ℕ) → nat_abs (tally_at tallies.old k).flat + nat_abs value < 2 ^ 63 }
+    ensures { IfOk result (λ _. (k : ℕ) → tally_at tallies.new k ≡ with_seen value turn
         (counted_keys (over_of scope.now) keys.now) k (tally_at tallies.old k)) }
 {
-    let value = selected(scope.l, sample, scope.column, scope.config.divide_by);
     let Some(over) = scope.over else {
         return add_sample(tallies, value, keys, turn);
     };

@@ -13,6 +13,7 @@ use crate::scope::Scope;
 use crate::sofar::Sofar;
 use crate::table::KeyTable;
 use pp_base::{List, Memory};
+use pp_keys::HashKeys;
 use pp_model::{Config, Loaded, Verdicts};
 use std::alloc::Global;
 use std::mem;
@@ -48,8 +49,8 @@ pub fn join_parts(alloc: Global, parts: List<Part>) -> Result<Part, Memory>
     requires { CanJoin parts }
     ensures { IfOk result (IsJoinedPart parts) }
 {
-    // The parts don't tell how many key numbers there are.
-    let mut sofar = Sofar::new(alloc, 0)?;
+    // The parts don't tell how many key numbers there are, nor by what they were hashed.
+    let mut sofar = Sofar::new(alloc, HashKeys::fixed(), 0)?;
     for part in parts.as_slice() {
         sofar.add(alloc, part)?;
     }

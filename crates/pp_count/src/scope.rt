@@ -7,6 +7,7 @@ ghost use Rattle.pp_count.specs.Scope.{IsSoundScope, profile_in_scope, samples_i
 use crate::filters::Filters;
 use crate::pairs::Pairing;
 use crate::table::KeyTable;
+use pp_keys::HashKeys;
 use pp_model::{Config, Loaded, Sample, Verdicts};
 
 /// What all pieces of a count share.
@@ -69,6 +70,11 @@ impl<'a> Scope<'a> {
             None => self.table.names.len() as usize,
             Some(over) => over.marked.len().saturating_mul(over.marked.len()),
         }
+    }
+
+    /// What tables of the report are hashed by.
+    pub fn hash_keys(&self) -> HashKeys {
+        self.table.names.hash_keys()
     }
 }
 

@@ -9,7 +9,7 @@ ghost use Rattle.pp_count.specs.Seeing.{HoldsFilters, key_of_frame, keys_of_stac
 ghost use Rattle.pp_count.specs.Scope.{IsSoundScope};
 
 use crate::scope::Scope;
-use pp_base::{List, Memory};
+use pp_base::Memory;
 use pp_grain::counted;
 use pp_model::{Frame, Sample, Stack};
 use pp_stack::{filter_into, keeps_all};
@@ -66,30 +66,20 @@ fn number_all(scope: &Scope, s: &Sample, keys: &mut Vec<u64>) -> Result<(), Memo
 {
     // Each id is a place plus 1.
     let _compact = scope.l.profile.get();
-    let rows = scope.table.location.as_slice();
     for id in s.location_id.as_slice() {
-        let row = row_at(rows, *id - 1);
-        add_numbers(keys, row.as_slice())?;
+        let row = scope.table.location.row((*id - 1) as usize);
+        add_numbers(keys, row)?;
     }
     Ok(())
 }
 
-fn add_numbers(keys: &mut Vec<u64>, numbers: &[u64]) -> Result<(), Memory>
+fn add_numbers(keys: &mut Vec<u64>, numbers: &[u32]) -> Result<(), Memory>
     ensures { IfOk result (λ _. keys.new.items ≡ keys.old.items ++ numbers.now) }
 {
-    // Most locations have one line, and a push is less than a copy.
-    match numbers {
-        [number] => keys.push(*number)?,
-        _ => keys.extend_from_slice(numbers)?,
+    for number in numbers {
+        keys.push(u64::from(*number))?;
     }
     Ok(())
-}
-
-fn row_at<'a>(rows: &'a [List<u64>], place: u64) -> &'a List<u64>
-    requires { place < length rows.now }
-    ensures { result.now ≡ slice_index_or rows.now place [] }
-{
-    &rows[place as usize]
 }
 
 // Adds the key numbers of the frames that count, leaf first.
@@ -121,13 +111,13 @@ fn number_of(scope: &Scope, frame: &Frame) -> u64
     ensures named { written_key scope.now.l.now.profile scope.now.table.now.names result
         ≡ key_of_frame scope.now.l.now.profile scope.now.config.now frame.now }
 {
-    let row = &scope.table.location.as_slice()[frame.location as usize];
+    let row = scope.table.location.row(frame.location as usize);
     item(row, frame.row.unwrap_or(0))
 }
 
-fn item(row: &List<u64>, place: u64) -> u64
+fn item(row: &[u32], place: u64) -> u64
     requires { place < length row.now }
     ensures { result ≡ slice_index_or row.now place 0 }
 {
-    row.as_slice()[place as usize]
+    u64::from(row[place as usize])
 }

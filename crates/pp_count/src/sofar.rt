@@ -10,6 +10,7 @@ use crate::part::Part;
 use crate::tallies::{Tallies, add_sums, entries};
 use crate::total::Totals;
 use pp_base::{List, Memory};
+use pp_keys::HashKeys;
 use std::alloc::Global;
 
 /// What the samples so far come to.
@@ -26,14 +27,14 @@ pub struct Sofar {
 }
 
 impl Sofar {
-    /// Nothing, with places for so many key numbers where they are few.
-    pub fn new(alloc: Global, numbers: usize) -> Result<Self, Memory>
+    /// Nothing, with tallies in the form that suits `numbers` key numbers.
+    pub fn new(alloc: Global, hash_keys: HashKeys, numbers: usize) -> Result<Self, Memory>
         ensures kept { IfOk result (λ sofar. sofar.kept ≡ []) }
         ensures none { IfOk result (λ sofar. (k : ℕ) → tally_at sofar.tallies k ≡ no_tally) }
         ensures matched { IfOk result (λ sofar. sofar.matched.slots ≡ no_matches) }
         ensures totals { IfOk result (λ sofar. sofar.totals ≡ record { all = 0; base = 0 }) }
     {
-        let tallies = Tallies::new(alloc, numbers)?;
+        let tallies = Tallies::new(alloc, hash_keys, numbers)?;
         let matched = Matched::none(alloc)?;
         Ok(Sofar {
             kept: List::new(alloc),

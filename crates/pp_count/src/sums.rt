@@ -7,6 +7,7 @@ ghost use Rattle.pp_count.specs.Parts.{sums_of, key_at_sum};
 use crate::part::KeySum;
 use pp_base::{List, Memory};
 use pp_grain::{Key, Names};
+use pp_keys::HashKeys;
 use std::alloc::Global;
 
 /// The sums of each key that occurs.
@@ -44,7 +45,7 @@ pub(crate) fn sums_by_keys(
     ensures numbers { IfOk result (λ r. r.numbers ≡ map (λ e. e.key) sums.now) }
     ensures once { IfOk result (λ r. AllPairs (λ a b. a ≢ b) r.sums.names) }
 {
-    let mut all = no_sums(alloc)?;
+    let mut all = no_sums(alloc, names.hash_keys())?;
     for sum in sums {
         let key = names.key(sum.key);
         add_sum(&mut all, key, sum)?;
@@ -54,13 +55,13 @@ pub(crate) fn sums_by_keys(
 }
 
 // The sums of no key.
-fn no_sums(alloc: Global) -> Result<NumberedSums, Memory>
+fn no_sums(alloc: Global, hash_keys: HashKeys) -> Result<NumberedSums, Memory>
     ensures names { IfOk result (λ r. r.sums.names ≡ []) }
     ensures flat { IfOk result (λ r. r.sums.flat ≡ []) }
     ensures cum { IfOk result (λ r. r.sums.cum ≡ []) }
     ensures numbers { IfOk result (λ r. r.numbers ≡ []) }
 {
-    let names = Names::new(alloc)?;
+    let names = Names::new(alloc, hash_keys)?;
     let sums = Sums {
         names,
         flat: List::new(alloc),

@@ -7,6 +7,7 @@ ghost use Rattle.pp_count.specs.Table.{IsKeyTable};
 use crate::counted::Counted;
 use crate::filters::Filters;
 use crate::table::KeyTable;
+use pp_keys::HashKeys;
 use pp_model::{Config, Loaded, Verdicts};
 
 /// What a report looks at. It is made once for a report, after its samples are counted, and only read.
@@ -39,5 +40,10 @@ impl<'a> Survey<'a> {
         ensures { IsKeyTable self.now.l.now.profile self.now.config.now result.now }
     {
         &self.counted.table
+    }
+
+    /// What tables of the report are hashed by.
+    pub fn hash_keys(&self) -> HashKeys {
+        self.counted.table.names.hash_keys()
     }
 }

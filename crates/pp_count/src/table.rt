@@ -1,13 +1,17 @@
 //! The key numbers of the lines of each location: made once for a report, and read by all pieces.
-ghost use Rattle.std.specs.Prelude.{◌≡◌, ◌<◌, [], length, map, All, IfOk};
+ghost use Rattle.std.specs.Prelude.{◌≡◌, ◌<◌, [], length, map, slice_get, All, IfOk};
 ghost use Rattle.pp_model.specs.Conditions.{IsStackOf};
 ghost use Rattle.pp_model.specs.FrameTexts.{written};
 ghost use Rattle.pp_grain.specs.Keys.{IsKeyOf};
+ghost use Rattle.pp_grain.specs.Sight.{with_key};
 ghost use Rattle.pp_count.specs.Table.{Grown, IsNumbered, IsRow, AreRows, IsKeyTable};
 
+use crate::frames::frames_of;
+use crate::rows::Rows;
 use pp_base::{List, Memory};
-use pp_grain::{Names, key_of};
-use pp_model::{Config, Frame, Loaded, frames_at};
+use pp_grain::{Key, Names, key_of};
+use pp_keys::HashKeys;
+use pp_model::{Config, Frame, Loaded, Stack};
 use std::alloc::Global;
 use std::mem;
 
@@ -18,29 +22,19 @@ pub struct KeyTable {
     pub names: Names,
     /// For each location, in the order of the table, the key number of each of its lines, in their order. A location
     /// without lines has the one number of its frame.
-    pub location: List<List<u64>>,
+    pub location: Rows,
 }
 
-/// Numbers the keys of all lines, by the configuration's grain.
-pub fn key_table(alloc: Global, l: &Loaded, config: &Config) -> Result<KeyTable, Memory>
-    ensures { IfOk result (IsKeyTable l.now.profile config.now) }
-{
-    let names = Names::new(alloc)?;
-    table_after(alloc, l, config, names)
-}
-
-/// The same, with these names before all others.
-pub(crate) fn table_after(
+/// Numbers the keys of all lines, by the configuration's grain. `hash_keys` are for the tables of the report.
+pub fn key_table(
     alloc: Global,
+    hash_keys: HashKeys,
     l: &Loaded,
     config: &Config,
-    names: Names,
 ) -> Result<KeyTable, Memory>
-    requires { All (IsKeyOf l.now.profile) names }
-    ensures table { IfOk result (IsKeyTable l.now.profile config.now) }
-    ensures grown { IfOk result (λ table. Grown l.now.profile names table.names) }
+    ensures { IfOk result (IsKeyTable l.now.profile config.now) }
 {
-    let mut names = names;
+    let mut names = Names::new(alloc, hash_keys)?;
     match number_locations(alloc, l, config, &mut names) {
         Ok(location) => Ok(KeyTable { names, location }),
         Err(Memory) => {
@@ -56,55 +50,71 @@ fn number_locations(
     l: &Loaded,
     config: &Config,
     names: &mut Names,
-) -> Result<List<List<u64>>, Memory>
+) -> Result<Rows, Memory>
     requires { All (IsKeyOf l.now.profile) names.old }
-    ensures grown { IfOk result (λ _. Grown l.now.profile names.old names.new) }
-    ensures rows { IfOk result (λ location.
+    ensures { IfOk result (λ location.
         AreRows config.now.grain config.now.showcolumns l.now.profile names.new location) }
 {
-    let mut location = List::new(alloc);
+    let mut location = Rows::new(alloc);
+    let mut stack = List::new(alloc);
+    let mut row = List::new(alloc);
     for place in 0..l.profile.get().location.len() {
-        let row = number_location(alloc, l, config, place as u64, names)?;
-        location.push(row)?;
+        number_location(l, config, place as u64, names, &mut stack, &mut row)?;
+        location.push(row.as_slice())?;
     }
     let _distinct = names.len();
     Ok(location)
 }
 
-// Numbers the keys of the location's frames.
+// The numbers of the keys of the location's frames, in the place of what `row` held. `stack` is room for the frames.
 fn number_location(
-    alloc: Global,
     l: &Loaded,
     config: &Config,
     location: u64,
     names: &mut Names,
-) -> Result<List<u64>, Memory>
+    stack: &mut Stack,
+    row: &mut List<u32>,
+) -> Result<(), Memory>
     requires { location < length l.now.profile.location }
     ensures grown { IfOk result (λ _. Grown l.now.profile names.old names.new) }
-    ensures row { IfOk result (λ row.
-        IsRow config.now.grain config.now.showcolumns l.now.profile names.new location row) }
+    ensures row { IfOk result (λ _.
+        IsRow config.now.grain config.now.showcolumns l.now.profile names.new location row.new) }
 {
-    let stack = frames_at(alloc, l, location)?;
-    number_frames(alloc, l, config, stack.as_slice(), names)
+    row.truncate(0);
+    frames_of(l, location, stack)?;
+    number_frames(l, config, stack.as_slice(), names, row)
 }
 
+// Adds the numbers of the frames' keys.
 fn number_frames(
-    alloc: Global,
     l: &Loaded,
     config: &Config,
     stack: &[Frame],
     names: &mut Names,
-) -> Result<List<u64>, Memory>
-    requires { IsStackOf l.now.profile stack.now }
+    row: &mut List<u32>,
+) -> Result<(), Memory>
+    requires frames { IsStackOf l.now.profile stack.now }
+    requires none { row.old ≡ [] }
     ensures grown { IfOk result (λ _. Grown l.now.profile names.old names.new) }
-    ensures row { IfOk result (λ row. IsNumbered config.now.grain config.now.showcolumns
-        l.now.profile names.new (map (written l.now.profile) stack.now) row) }
+    ensures row { IfOk result (λ _. IsNumbered config.now.grain config.now.showcolumns
+        l.now.profile names.new (map (written l.now.profile) stack.now) row.new) }
 {
-    let mut row = List::new(alloc);
     for frame in stack {
         let key = key_of(l, frame, config.grain, config.showcolumns);
-        let number = names.number(key)?;
+        let number = key_number(names, key)?;
         row.push(number)?;
     }
-    Ok(row)
+    Ok(())
+}
+
+// The key's number. More than 2^32 keys are want of memory.
+fn key_number(names: &mut Names, key: Key) -> Result<u32, Memory>
+    ensures key { IfOk result (λ n. slice_get names.new n ≡ Some key) }
+    ensures seen { IfOk result (λ _. names.new ≡ with_key names.old key) }
+{
+    let number = names.number(key)?;
+    if number > u64::from(u32::MAX) {
+        return Err(Memory);
+    }
+    Ok(number as u32)
 }

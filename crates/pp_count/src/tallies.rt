@@ -1,38 +1,58 @@
-//! Tallies by key number: in a list where key numbers are few, else in a map that has those alone that were seen.
+//! Tallies by key number: in a list where key numbers are few, by slots where they are more, else in a map.
 ghost use Rattle.std.specs.Prelude.{◌≡◌, ◌≢◌, ℕ, ◌+◌, ◌+ℤ◌, ◌<◌, ◌^◌, nat_abs, nat_eq, nat_lt, slice_index_or, length, IfOk, if◌then◌else◌, [], ◌++◌};
-ghost use Rattle.pp_count.specs.Tally.{tally_at, no_tally, credited, with_cum, with_flat, with_sample, with_seen, tally_plus, tally_added, tally_entry};
+ghost use Rattle.pp_count.specs.Tally.{tally_at, no_tally, placed_tally, has_place, credited, with_cum, with_flat, with_sample, with_seen, tally_plus, tally_added, tally_entry};
 ghost use Rattle.pp_count.specs.Parts.{sums_of, flat_size, cum_size};
 
 use crate::part::KeySum;
+use crate::slots::{Row, Slots};
 use crate::tally::Tally;
 use indexmap::IndexMap;
 use pp_base::{List, Memory};
+use pp_keys::HashKeys;
 use std::alloc::Global;
 
-/// How many key numbers have a place in a list at most, however many a report has.
-pub const LISTED: usize = 65_536;
+/// A report that has more key numbers has no list of tallies. A list that is mostly empty costs more than slots.
+pub const LISTED: usize = 30_000;
+
+/// A report that has more key numbers has no slots. A piece of samples would see few of them.
+pub const SLOTTED: usize = 500_000;
 
 /// What each key number has so far.
 #[derive(Drop)]
 pub struct Tallies {
-    /// By key number, those of the lowest numbers.
+    /// A tally for each key number, where they are few; else none.
     pub listed: Vec<Tally>,
-    /// Those of other key numbers that were seen.
-    pub others: IndexMap<u64, Tally>,
+    /// A slot for each key number, where they are too many for a list, but not for slots; else none.
+    pub slots: Slots,
+    /// The tallies of other key numbers that were seen, which are all where there are neither list nor slots.
+    pub others: IndexMap<u64, Tally, HashKeys>,
 }
 
 impl Tallies {
-    /// None, with places for so many key numbers where they are few.
+    /// None, in the form that suits `numbers` key numbers.
     #[tactic(auto, unfolding(crate::specs::Tally::tally_at))]
-    pub fn new(alloc: Global, numbers: usize) -> Result<Tallies, Memory>
+    pub fn new(alloc: Global, hash_keys: HashKeys, numbers: usize) -> Result<Tallies, Memory>
         ensures { IfOk result (λ tallies. (k : ℕ) → tally_at tallies k ≡ no_tally) }
     {
-        let places = if numbers <= LISTED { numbers } else { 0 };
-        let listed = vec![in alloc; Tally::NONE; places]?;
+        let (listed, slotted) = forms(numbers);
+        let listed = vec![in alloc; Tally::NONE; listed]?;
+        let slots = Slots::new(alloc, slotted)?;
         Ok(Tallies {
             listed,
-            others: IndexMap::new(alloc),
+            slots,
+            others: IndexMap::with_hasher(alloc, hash_keys),
         })
+    }
+}
+
+// The lengths of the list and of the slots for `numbers` key numbers.
+fn forms(numbers: usize) -> (usize, usize) {
+    if numbers <= LISTED {
+        (numbers, 0)
+    } else if numbers <= SLOTTED {
+        (0, numbers)
+    } else {
+        (0, 0)
     }
 }
 
@@ -44,6 +64,9 @@ pub fn tally_of(tallies: &Tallies, key: u64) -> Tally
     let place = key as usize;
     if place < tallies.listed.len() {
         return tallies.listed[place];
+    }
+    if place < tallies.slots.place.len() {
+        return tallies.slots.tally(key);
     }
     match tallies.others.get(&key) {
         None => Tally::NONE,
@@ -95,6 +118,11 @@ fn credit_key(tallies: &mut Tallies, value: i64, key: u64, turn: u64) -> Result<
         tallies.listed[place].credit(value, turn);
         return Ok(());
     }
+    if place < tallies.slots.place.len() {
+        let mut tally = tallies.slots.tally(key);
+        tally.credit(value, turn);
+        return tallies.slots.keep(key, tally);
+    }
     tallies
         .others
         .entry(key)?
@@ -128,6 +156,11 @@ fn lead_key(tallies: &mut Tallies, value: i64, key: u64) -> Result<(), Memory>
     if place < tallies.listed.len() {
         tallies.listed[place].lead(value);
         return Ok(());
+    }
+    if place < tallies.slots.place.len() {
+        let mut tally = tallies.slots.tally(key);
+        tally.lead(value);
+        return tallies.slots.keep(key, tally);
     }
     tallies
         .others
@@ -167,6 +200,11 @@ fn join_key(tallies: &mut Tallies, sum: &KeySum) -> Result<(), Memory>
         tallies.listed[place].join(sum);
         return Ok(());
     }
+    if place < tallies.slots.place.len() {
+        let mut tally = tallies.slots.tally(sum.key);
+        tally.join(sum);
+        return tallies.slots.keep(sum.key, tally);
+    }
     tallies
         .others
         .entry(sum.key)?
@@ -182,6 +220,7 @@ pub fn entries(alloc: Global, tallies: &Tallies) -> Result<List<KeySum>, Memory>
 {
     let mut sums = List::new(alloc);
     push_listed(&mut sums, &tallies.listed)?;
+    push_slotted(&mut sums, tallies)?;
     push_others(&mut sums, tallies)?;
     Ok(sums)
 }
@@ -198,33 +237,69 @@ fn push_listed(sums: &mut List<KeySum>, listed: &[Tally]) -> Result<(), Memory>
     Ok(())
 }
 
-// Adds the entries of the key numbers that are past the list.
-#[tactic(auto, unfolding(crate::specs::Tally::tally_at))]
-fn push_others(sums: &mut List<KeySum>, tallies: &Tallies) -> Result<(), Memory>
+// Adds the entries of the key numbers that have rows.
+fn push_slotted(sums: &mut List<KeySum>, tallies: &Tallies) -> Result<(), Memory>
     requires { (k : ℕ) → sums_of k sums.old
         ≡ tally_entry k (slice_index_or tallies.now.listed.items k no_tally) }
+    ensures { IfOk result (λ _. (k : ℕ) → sums_of k sums.new
+        ≡ tally_entry k (placed_tally tallies.now k)) }
+{
+    for (place, row) in tallies.slots.rows.iter().enumerate() {
+        push_row(sums, tallies, place, row)?;
+    }
+    Ok(())
+}
+
+// Adds the entry of the row at the place, where its key number has no other place.
+fn push_row(
+    sums: &mut List<KeySum>,
+    tallies: &Tallies,
+    place: usize,
+    row: &Row,
+) -> Result<(), Memory>
+    ensures { IfOk result (λ _. (k : ℕ) → sums_of k sums.new
+        ≡ sums_of k sums.old ++ (if nat_eq row.now.key k
+        then (if has_place tallies.now place k then tally_entry row.now.key row.now.tally else [])
+        else [])) }
+{
+    let number = row.key as usize;
+    if number < tallies.listed.len() || number >= tallies.slots.place.len() {
+        return Ok(());
+    }
+    if tallies.slots.place[number] as usize != place {
+        return Ok(());
+    }
+    push_entry(sums, row.key, &row.tally)
+}
+
+// Adds the entries of the key numbers that are past the list and the slots.
+#[tactic(auto, unfolding(crate::specs::Tally::tally_at))]
+fn push_others(sums: &mut List<KeySum>, tallies: &Tallies) -> Result<(), Memory>
+    requires { (k : ℕ) → sums_of k sums.old ≡ tally_entry k (placed_tally tallies.now k) }
     ensures { IfOk result (λ _. (k : ℕ) → sums_of k sums.new ≡ tally_entry k (tally_at tallies.now k)) }
 {
     for index in 0..tallies.others.len() {
         if let Some((key, tally)) = tallies.others.get_index(index) {
-            push_other(sums, &tallies.listed, *key, tally)?;
+            push_other(sums, tallies, *key, tally)?;
         }
     }
     Ok(())
 }
 
-// Adds the entry of the key, where its number is past the list.
+// Adds the entry of the key, where its number is past the list and the slots.
 fn push_other(
     sums: &mut List<KeySum>,
-    listed: &[Tally],
+    tallies: &Tallies,
     key: u64,
     tally: &Tally,
 ) -> Result<(), Memory>
     ensures { IfOk result (λ _. (k : ℕ) → sums_of k sums.new
-        ≡ sums_of k sums.old ++ (if nat_eq key k then (if nat_lt k (length listed.now) then []
+        ≡ sums_of k sums.old ++ (if nat_eq key k
+        then (if nat_lt k (length tallies.now.listed.items) then []
+        else if nat_lt k (length tallies.now.slots.place.items) then []
         else tally_entry key tally.now) else [])) }
 {
-    if key < listed.len() as u64 {
+    if key < tallies.listed.len() as u64 || key < tallies.slots.place.len() as u64 {
         return Ok(());
     }
     push_entry(sums, key, tally)

@@ -1,14 +1,14 @@
 //! What percentages are taken of.
-ghost use Rattle.std.specs.Prelude.{◌≡◌, ◌+◌, ◌<◌, ◌≤◌, ◌^◌, length, take, drop, [], ◌∷◌};
+ghost use Rattle.std.specs.Prelude.{◌≡◌, [], ◌∷◌, is_some, if◌then◌else◌};
 ghost use Rattle.pp_model.specs.Finders.{Finders};
-ghost use Rattle.pp_count.specs.Counts.{is_base_label, is_base, samples_at, total_by};
-ghost use Rattle.pp_count.specs.Scope.{profile_in_scope, samples_in_scope, HasTotals, IsSoundScope};
-ghost use Rattle.pp_count.specs.Seeing.{HoldsFilters, filtered_from};
+ghost use Rattle.pp_count.specs.Column.{selected};
+ghost use Rattle.pp_count.specs.Counts.{is_base_label, is_base, total_by};
+ghost use Rattle.pp_count.specs.Scope.{profile_in_scope, HasTotals};
+ghost use Rattle.pp_count.specs.Seeing.{HoldsFilters, filtered_stack};
 ghost use Rattle.pp_count.specs.Totals.{AreTotals, totals_plus};
 
 use crate::scope::Scope;
-use crate::value::selected;
-use pp_model::{Config, Label, Loaded, Profile, Sample, text_of};
+use pp_model::{Label, Profile, Sample, text_of};
 
 /// Sums of absolute selected values, each at most the largest number that there is.
 #[derive(Clone, Copy, Debug)]
@@ -45,60 +45,47 @@ impl Totals {
     }
 }
 
-/// The totals of so many samples, of which the first has this number. The numbers of those that the filters leave are
-/// `kept`. Chosen samples are not added up.
-pub(crate) fn range_totals(scope: &Scope, first: u32, count: u32, kept: &[u32]) -> Totals
-    requires sound { IsSoundScope scope.now }
-    requires few { length (samples_in_scope scope.now) < 2 ^ 32 }
-    requires within { first + count ≤ length (samples_in_scope scope.now) }
-    requires kept { (f : Finders) →
+/// What the sample adds, whose selected value is `value`. It is nothing where percentages are taken of the samples that
+/// the filters leave, and `left` is false. Chosen samples are not added up.
+pub(crate) fn totals_of(scope: &Scope, s: &Sample, value: i64, left: bool) -> Totals
+    requires value { value ≡ selected scope.now.column scope.now.config.now.divide_by s.now }
+    requires left { (f : Finders) →
         HoldsFilters scope.now.l.now scope.now.v.now scope.now.config.now f →
-        kept.now ≡ filtered_from (profile_in_scope scope.now) f scope.now.config.now first
-        (take count (drop first (samples_in_scope scope.now))) }
-    ensures { HasTotals scope.now (take count (drop first (samples_in_scope scope.now))) result }
+        is_some (filtered_stack (profile_in_scope scope.now) f scope.now.config.now s.now) ≡ left }
+    ensures { HasTotals scope.now (s.now ∷ []) result }
 {
-    let (l, config, column) = (scope.l, scope.config, scope.column);
-    let samples = l.profile.get().sample.as_slice();
     match scope.chosen {
         Some(_) => Totals::none(),
-        None if config.relative_percentages => totals_kept(l, config, column, kept),
-        None => {
-            let range = &samples[first as usize..first as usize + count as usize];
-            totals_over(l, config, column, range)
-        }
+        None if scope.config.relative_percentages => totals_if(scope, s, value, left),
+        None => sample_totals(scope, s, value),
     }
 }
 
-fn totals_over(l: &Loaded, config: &Config, column: Option<u32>, samples: &[Sample]) -> Totals
-    ensures { AreTotals l.now.profile config.now column samples.now result }
+// Those of the sample, or of none.
+fn totals_if(scope: &Scope, s: &Sample, value: i64, left: bool) -> Totals
+    requires { value ≡ selected scope.now.column scope.now.config.now.divide_by s.now }
+    ensures { AreTotals (profile_in_scope scope.now) scope.now.config.now scope.now.column
+        (if left then s.now ∷ [] else []) result }
 {
-    let mut totals = Totals::none();
-    for s in samples {
-        totals = totals.plus(totals_of(l, config, column, s));
+    if left {
+        sample_totals(scope, s, value)
+    } else {
+        Totals::none()
     }
-    totals
 }
 
-// The same of the samples with these numbers.
-fn totals_kept(l: &Loaded, config: &Config, column: Option<u32>, kept: &[u32]) -> Totals
-    ensures { AreTotals l.now.profile config.now column (samples_at l.now.profile kept.now) result }
+// Those of the sample.
+fn sample_totals(scope: &Scope, s: &Sample, value: i64) -> Totals
+    requires { value ≡ selected scope.now.column scope.now.config.now.divide_by s.now }
+    ensures { AreTotals (profile_in_scope scope.now) scope.now.config.now scope.now.column
+        (s.now ∷ []) result }
 {
-    let samples = l.profile.get().sample.as_slice();
-    let mut totals = Totals::none();
-    for number in kept {
-        if let Some(s) = samples.get(*number as usize) {
-            totals = totals.plus(totals_of(l, config, column, s));
-        }
-    }
-    totals
-}
-
-// Those of one sample.
-fn totals_of(l: &Loaded, config: &Config, column: Option<u32>, s: &Sample) -> Totals
-    ensures { AreTotals l.now.profile config.now column (s.now ∷ []) result }
-{
-    let size = selected(l, s, column, config.divide_by).unsigned_abs();
-    let base = if is_base(l.profile.get(), s) { size } else { 0 };
+    let size = value.unsigned_abs();
+    let base = if is_base(scope.l.profile.get(), s) {
+        size
+    } else {
+        0
+    };
     Totals { all: size, base }
 }
 

@@ -15,8 +15,22 @@ pub fn selected(_l: &Loaded, s: &Sample, column: Option<u32>, divide_by: u64) ->
     }
 }
 
-// Divisors may be above the range of the values.
+// Most reports divide by 1.
 fn divided(value: i64, by: u64) -> i64
+    requires { 0 < by }
+    ensures { result ≡ int_div value (pos by) }
+{
+    if by == 1 {
+        return value;
+    }
+    if by <= i64::MAX as u64 {
+        return value / by as i64;
+    }
+    widely_divided(value, by)
+}
+
+// By a divisor above the range of the values.
+fn widely_divided(value: i64, by: u64) -> i64
     requires { 0 < by }
     ensures { result ≡ int_div value (pos by) }
 {

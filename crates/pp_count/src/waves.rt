@@ -26,7 +26,7 @@ pub fn count_all<'x, R: Threads + Sync, G: Gate>(
     requires countable { AreCountable scope.now (samples_in_scope scope.now) }
     ensures { IfOk result (AreCounted scope.now (samples_in_scope scope.now)) }
 {
-    let mut sofar = Sofar::new(alloc, scope.numbers())?;
+    let mut sofar = Sofar::new(alloc, scope.hash_keys(), scope.numbers())?;
     match count_waves(rt, alloc, scope, gate, &mut sofar) {
         Ok(()) => Ok(sofar),
         Err(Memory) => {

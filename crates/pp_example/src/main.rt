@@ -11,6 +11,7 @@ ghost use Rattle.pp_graph.specs.KeyRows.{CanShow};
 
 use anyhow::{Result, ensure};
 use pp_base::{List, Memory, OpenGate, Text};
+use pp_keys::HashKeys;
 use pp_model::{Config, Loaded, Valid};
 use std::alloc::Global;
 use std::io::Write;
@@ -92,7 +93,16 @@ fn report_under<R: std::thread::Threads + Sync>(
 {
     let column = pp_count::column_of(l, config)?;
     let verdicts = pp_edit::no_verdicts(alloc);
-    let counted = pp_count::count(rt, alloc, l, &verdicts, config, column, &OpenGate);
+    let counted = pp_count::count(
+        rt,
+        alloc,
+        HashKeys::fixed(),
+        l,
+        &verdicts,
+        config,
+        column,
+        &OpenGate,
+    );
     drop(verdicts);
     let counted = counted?;
     let text = show_ranked(alloc, l, config, &counted);

@@ -13,6 +13,7 @@ use pp_base::{CalmFiles, CalmSink, CalmSource, List, Matcher, Memory, OpenGate, 
 use pp_count::count;
 use pp_desk::{Desk, Objects};
 use pp_dump::saved_profile;
+use pp_keys::HashKeys;
 use pp_model::{Compact, Config, Loaded, Verdicts};
 use pp_pseudo::{basis, framed_for};
 use std::alloc::Global;
@@ -97,6 +98,6 @@ fn save<R: Threads + Sync>(
     ensures { (f : Finders) → HoldsFilters l.now v.now config.now f →
         IfOk result (λ q. q ≡ saved l.now.profile f config.now) }
 {
-    let counted = count(rt, alloc, l, v, config, None, &OpenGate)?;
+    let counted = count(rt, alloc, HashKeys::fixed(), l, v, config, None, &OpenGate)?;
     saved_profile(alloc, l, v, &counted)
 }

@@ -3,13 +3,14 @@
 use crate::key::Key;
 use indexmap::IndexSet;
 use pp_base::Memory;
+use pp_keys::HashKeys;
 use std::alloc::Global;
 use std::marker::Model;
 
 /// The keys seen so far, without repeats. A key's number is its place in the order of first sight.
 #[derive(Drop)]
 pub struct Names {
-    seen: IndexSet<Key>,
+    seen: IndexSet<Key, HashKeys>,
 }
 
 impl Model for Names {
@@ -25,12 +26,12 @@ impl Names {
     ghost use Rattle.std.specs.Prelude.{◌≡◌, ◌≢◌, ◌<◌, [], length, slice_get, AllPairs, IfOk, OnOk, OnErr};
     ghost use Rattle.pp_grain.specs.Sight.{with_key, key_number_in};
 
-    /// No keys.
-    pub fn new(alloc: Global) -> Result<Names, Memory>
+    /// No keys, to be hashed by `hash_keys`.
+    pub fn new(alloc: Global, hash_keys: HashKeys) -> Result<Names, Memory>
         ensures { IfOk result (λ names. names ≡ []) }
     {
         Ok(Names {
-            seen: IndexSet::new(alloc),
+            seen: IndexSet::with_hasher(alloc, hash_keys),
         })
     }
 
@@ -51,6 +52,11 @@ impl Names {
         ensures { slice_get self.now n ≡ Some result }
     {
         self.seen.as_slice()[n as usize]
+    }
+
+    /// What the keys are hashed by, for other tables of the same file.
+    pub fn hash_keys(&self) -> HashKeys {
+        *self.seen.hasher()
     }
 
     /// The number of keys.

@@ -18,6 +18,7 @@ use crate::tagging::tagged_of;
 use pp_base::{Gate, Memory, Text};
 use pp_count::{Counted, count};
 use pp_desk::{Desk, Stop};
+use pp_keys::HashKeys;
 use pp_model::{Config, Loaded, Report, Verdicts};
 use pp_pseudo::basis;
 use std::alloc::Global;
@@ -183,7 +184,16 @@ fn counted_by<R: Threads + Sync, G: Gate>(
     ensures counted { IfOk result (λ r. IsCountedOf l.now verdicts.now config.now column r.0) }
     ensures notes { IfOk result (λ r. r.1 ≡ notes_by config.now r.0.matched.slots) }
 {
-    let counted = count(with.rt, with.alloc, l, verdicts, config, column, with.gate)?;
+    let counted = count(
+        with.rt,
+        with.alloc,
+        HashKeys::fixed(),
+        l,
+        verdicts,
+        config,
+        column,
+        with.gate,
+    )?;
     match notes_by(with.alloc, config, counted.matched.slots.as_slice()) {
         Ok(notes) => Ok((counted, notes)),
         Err(Memory) => {

@@ -6,6 +6,7 @@ use pp_base::{List, Memory};
 use pp_count::{Edge, Sums};
 use pp_grain::{Key, Names};
 use pp_graph::Graph;
+use pp_keys::HashKeys;
 use std::alloc::Global;
 use std::test::Fail;
 
@@ -30,7 +31,7 @@ fn an_edge_is_found(rt: HostRuntime) -> Result<(), Fail> {
 // The graph of the three nodes and these edges. `None` where an end is no node.
 fn graph_of(alloc: Global, pairs: &[Pair]) -> Result<Option<Graph>, Memory> {
     let mut sums = Sums {
-        names: Names::new(alloc)?,
+        names: Names::new(alloc, HashKeys::fixed())?,
         flat: List::new(alloc),
         cum: List::new(alloc),
     };

@@ -12,6 +12,7 @@ use crate::running::words_of;
 use pp_base::{CalmFiles, CalmSink, CalmSource, List, Memory, Text};
 use pp_count::{KeyTable, Part, column_of, count_piece, join_parts, key_table};
 use pp_desk::{Objects, Stop};
+use pp_keys::HashKeys;
 use pp_load::{LoadRefusal, load};
 use pp_model::{Config, Loaded, Verdicts};
 use pp_options::{Plan, read_words};
@@ -93,7 +94,7 @@ fn has_sums_under(alloc: Global, l: &Loaded, config: &Config, sums: &Sums) -> Re
     let Ok(column) = column_of(l, config) else {
         return Err("no column".into());
     };
-    let table = key_table(alloc, l, config)?;
+    let table = key_table(alloc, HashKeys::fixed(), l, config)?;
     let verdicts = no_verdicts(alloc);
     let part = joined_part(alloc, l, &verdicts, config, column, &table);
     mem::drop(verdicts);

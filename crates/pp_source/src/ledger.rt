@@ -62,7 +62,7 @@ fn ledger_under(alloc: Global, survey: &Survey<'_>, config: &Config) -> Result<L
         (IsLedgerOf survey.now.l.now.profile survey.now.v.now.own
         (report_frames survey.now.l.now.profile f survey.now.config.now survey.now.column)) }
 {
-    let table = key_table(alloc, survey.l, config)?;
+    let table = key_table(alloc, survey.hash_keys(), survey.l, config)?;
     let ledger = ledger_in(alloc, survey, config, &table);
     mem::drop(table);
     ledger

@@ -71,8 +71,9 @@ fn add_kept(alloc: Global, walk: &Walk<'_>, kept: &[u32], sums: &mut WalkSums) -
 fn no_sums(alloc: Global, walk: &Walk<'_>) -> Result<WalkSums, Memory>
     ensures { IfOk result (HasWalkedTo walk.now 0 []) }
 {
-    let lines = Tallies::new(alloc, walk.lines.names.len() + 1)?;
-    let routines = Tallies::new(alloc, walk.routines.names.len() + 1)?;
+    let hash_keys = walk.scope.hash_keys();
+    let lines = Tallies::new(alloc, hash_keys, walk.lines.names.len() + 1)?;
+    let routines = Tallies::new(alloc, hash_keys, walk.routines.names.len() + 1)?;
     Ok(WalkSums { lines, routines })
 }
 

@@ -4,6 +4,6 @@ use Rattle.pp_count.specs.Parts.{sums_of}
 use Rattle.pp_count.proofs.Entries.{held}
 use Rattle.pp_count.proofs.tallies.push_others.Given as goal
 
--- the entries of the list and of the keys so far
+-- the entries of the list, of the rows and of the keys so far
 abbrev pub invariant-loop-index : goal.invariant-loop-index
-invariant-loop-index l = (k : ℕ) → sums_of k l.sums ≡ tally_entry k (held l.tallies.listed.items (take l.index l.tallies.others.entries) k)
+invariant-loop-index l = (k : ℕ) → sums_of k l.sums ≡ tally_entry k (held l.tallies.listed.items l.tallies.slots.place.items l.tallies.slots.rows.items (take l.index l.tallies.others.entries) k)

@@ -1,0 +1,6 @@
+use Rattle.std.proofs.Common.{◌≡◌, ◌++◌, take}
+use Rattle.pp_count.proofs.seeing.add_numbers.Given as goal
+
+-- the numbers so far have been added
+abbrev pub invariant-loop-number : goal.invariant-loop-number
+invariant-loop-number l = l.keys.items ≡ l.initial.keys.items ++ take l.number-index l.numbers
