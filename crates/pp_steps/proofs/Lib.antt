@@ -1,0 +1,3 @@
+mod SumsOfSums
+mod Remapping
+mod SteppedSamples
