@@ -1,3 +1,4 @@
 mod SumsOfSums
 mod Remapping
 mod SteppedSamples
+mod SteppedHeader

@@ -65,13 +65,13 @@ module _ {K : Type 0} (same : K → K → Bool) (decides : (a b : K) → Decides
     distinct_show seen xs = firsts_show seen [] xs
 
   -- lists that show the same, item by item
-  pub show_alike : {X : Type 0} (f g : X → List K) → ((x : X) (seen : List K) → seen_after same seen (f x) ≡ seen_after same seen (g x))
-      → (xs : List X) (seen : List K) → seen_after same seen (flat_map f xs) ≡ seen_after same seen (flat_map g xs)
-  show_alike f g each [] seen = refl
-  show_alike f g each (x ∷ xs) seen =
+  pub show_alike : {X : Type 0} (f g : X → List K) (xs : List X) → AllByRecursion (λ x. (seen : List K) → seen_after same seen (f x) ≡ seen_after same seen (g x)) xs
+      → (seen : List K) → seen_after same seen (flat_map f xs) ≡ seen_after same seen (flat_map g xs)
+  show_alike f g [] each seen = refl
+  show_alike f g (x ∷ xs) each seen =
       fold-append (seen_with same) seen (f x) (flat_map f xs)
-      ∙ ap (λ l. seen_after same l (flat_map f xs)) (each x seen)
-      ∙ show_alike f g each xs (seen_after same seen (g x))
+      ∙ ap (λ l. seen_after same l (flat_map f xs)) (each.0 seen)
+      ∙ show_alike f g xs each.1 (seen_after same seen (g x))
       ∙ sym (fold-append (seen_with same) seen (g x) (flat_map g xs))
 
   -- the rows of a key, column by column
@@ -174,7 +174,7 @@ module _ {K : Type 0} (same : K → K → Bool) (decides : (a b : K) → Decides
           let order : distinct same (keys_of same of_sums) ≡ distinct same (keys_of same of_items) =
           ap (λ items. distinct same (keys_of same items)) whole
           ∙ ap (distinct same) (map-flat_map (λ (item : K × List ℤ). item.0) (λ x. map rekeyed (summed same n (g x))) xs)
-          ∙ show_alike (λ x. keys_of same (map rekeyed (summed same n (g x)))) (λ x. keys_of same (map rekeyed (g x))) keys_show xs []
+          ∙ show_alike (λ x. keys_of same (map rekeyed (summed same n (g x)))) (λ x. keys_of same (map rekeyed (g x))) xs (all_any _ keys_show xs) []
           ∙ ap (distinct same) (sym (map-flat_map (λ (item : K × List ℤ). item.0) (λ x. map rekeyed (g x)) xs)) in
           ap (map (λ key. (key, sum_of same n of_sums key))) order
           ∙ map_agree (λ key. (key, sum_of same n of_sums key)) (λ key. (key, sum_of same n of_items key)) (distinct same (keys_of same of_items))
