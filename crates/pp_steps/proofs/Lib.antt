@@ -2,3 +2,4 @@ mod SumsOfSums
 mod Remapping
 mod SteppedSamples
 mod SteppedHeader
+mod SteppedMerges

@@ -92,7 +92,7 @@ module _ (types : ℕ) (groups : List Group) (up : AddUp types groups) where
       (all_parts (λ m. m.start < 2 ^ 64) mappings_of groups (subst (AllByRecursion (λ m. m.start < 2 ^ 64)) by_groups up.starts))
 
   -- the mappings of a group's merge, as it stands
-  merge_mappings : (g : Group) → IsSettled (contents_of g) → map (mapping_text (merged_group g)) (merged_group g).mapping ≡ mappings (contents_of g)
+  pub merge_mappings : (g : Group) → IsSettled (contents_of g) → map (mapping_text (merged_group g)) (merged_group g).mapping ≡ mappings (contents_of g)
   merge_mappings g settled = sym (append-nil _) ∙ mappings_back (contents_of g) settled
 
   -- each mapping of the merges is among those of the profiles
