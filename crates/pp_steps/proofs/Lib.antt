@@ -1,0 +1,5 @@
+mod SumsOfSums
+mod Remapping
+mod SteppedSamples
+mod SteppedHeader
+mod SteppedMerges

@@ -1,0 +1,35 @@
+-- What profiles that are merged in steps have to be like.
+use Rattle.std.specs.Prelude.{◌≡◌, ◌<◌, ◌^◌, ◌≤ℤ◌, ℕ, pos, List, [], ◌∷◌, length, filter}
+use Rattle.std.specs.List.{AllByRecursion}
+use Rattle.pp_model.specs.declared.profile.Profile.{Profile}
+use Rattle.pp_share.specs.Alike.{same_sample, first_alike}
+use Rattle.pp_share.specs.Sums.{counts, summed}
+use Rattle.pp_merge.specs.Merge.{all_mappings, all_samples}
+use Rattle.pp_steps.specs.Steps.{Group, sources_of, all_sources, in_steps}
+
+-- the group's profiles have so many types, and each of their samples has a value for each
+pub record HasValues (columns : ℕ) (g : Group) : Type 0 where
+  pub types : length g.first.sample_type ≡ columns
+  pub values : AllByRecursion (λ q. AllByRecursion (λ s. length s.value ≡ columns) q.sample) (sources_of g)
+
+-- no sample of the group's merge comes to nothing
+abbrev pub KeepsSamples : ℕ → Group → Type 0
+KeepsSamples types g =
+    filter counts (summed same_sample types (all_samples (sources_of g))) ≡ summed same_sample types (all_samples (sources_of g))
+
+-- Groups whose figures can be added up: values for each type, and no mapping that starts past 64 bits.
+pub record AddUp (types : ℕ) (groups : List Group) : Type 0 where
+  pub values : AllByRecursion (HasValues types) groups
+  pub starts : AllByRecursion (λ m. m.start < 2 ^ 64) (all_mappings (all_sources groups))
+
+-- each mapping of the profile is the first of the sources' mappings that is one with it
+abbrev pub HasFirstMappings : List Profile → Profile → Type 0
+HasFirstMappings sources p = AllByRecursion (λ m. first_alike (all_mappings sources) m ≡ m) (all_mappings (p ∷ []))
+
+-- Groups that give the same in steps as at once: their figures can be added up, no sample comes to nothing on the way, no
+-- duration is negative, and each mapping that is left is the first of all that is one with it.
+pub record MergeInSteps (columns : ℕ) (g : Group) (groups : List Group) : Type 0 where
+  pub up : AddUp columns (g ∷ groups)
+  pub samples : AllByRecursion (KeepsSamples columns) (g ∷ groups)
+  pub durations : AllByRecursion (λ q. pos 0 ≤ℤ q.duration_nanos) (all_sources (g ∷ groups))
+  pub mappings : HasFirstMappings (all_sources (g ∷ groups)) (in_steps g groups)
