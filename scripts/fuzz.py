@@ -40,9 +40,11 @@ VALUES = [b"true", b"a", b"b", b"", b"aa,b", b"1kb", b"a=b"]
 NUMBERS = [0, 1, 2, 3, 5, 7, 10, 99, 100, 512, 1000, 1024, 4999, 5000, 1 << 20, 10**9, 36 * 10**11, 1 << 40, 1 << 52]
 ENDS = [(1 << 63) - 1, -(1 << 63), (1 << 62), -1, -5000, -1024]
 IDS = [1, 2, 3, 4, 5, 7, 255, 1 << 32, (1 << 64) - 1, 1 << 63]
-PATTERNS = [b"main", b"f", b"^f$", b"work|leaf", b".", b"a+b*", b"\\.c", b"(", b"[", b"^$", b"o.k", b"zzz", b"(?i)MAIN", b"[a-f]$", b"x{2}", b"\\d", b"malloc", b"\xff", b".*", b"", b"=", b"thread", b"^[^a]*$"]
+PATTERNS = [b"main", b"f", b"^f$", b"work|leaf", b".", b"a+b*", b"\\.c", b"^$", b"o.k", b"zzz", b"(?i)MAIN", b"[a-f]$", b"x{2}", b"\\d", b"malloc", b".*", b"", b"=", b"thread", b"^[^a]*$", b"runtime", b"a|", b"e$"]
+BAD_PATTERNS = [b"(", b"[", b"\xff", b"*a", b"a{2,1}", b"x\\", b")", b"[z-a]", b"(?=a)", b"\\1"]
 TAG_FILTERS = [b"thread=a", b"a,b", b"thread=a,b", b"512b:2kb", b"bytes=1kb", b"5", b":1024", b"1:", b"-7", b"+5:", b":", b"=a", b"id=1:3", b",", b"a,", b"thread=", b"thread:a", b"1widgets", b"key=1ms:2", b"0:9223372036854775808", b"=1kb:"]
-RANGES = [b"0", b"1", b"0.5", b"0.005", b".1", b"0.000000001", b"1.", b"1.000000001", b"x", b"0.2", b"0000000000", b"0.1234567891"]
+RANGES = [b"0", b"1", b"0.5", b"0.005", b".1", b"0.000000001", b"0.2", b"0.9", b"1.0"]
+BAD_RANGES = [b"1.", b"1.000000001", b"x", b"0000000000", b"0.1234567891", b"", b"."]
 
 
 def varint(number, rng=None):
@@ -129,13 +131,13 @@ class Texts:
 class ProfileMaker:
     """One random profile."""
 
-    def __init__(self, rng, types=None):
+    def __init__(self, rng, types, period):
         self.rng, self.w, self.texts = rng, Writer(rng), Texts(rng)
-        self.types = types
+        self.types, self.period = types, period
 
     def value(self, is_positive):
         rng = self.rng
-        if rng.random() < 0.003:
+        if rng.random() < 0.001:
             return rng.choice(ENDS)
         value = rng.choice(NUMBERS) if rng.random() < 0.6 else rng.randint(0, 12)
         return value if is_positive or rng.random() < 0.6 else -value
@@ -163,7 +165,7 @@ class ProfileMaker:
 
     def functions(self):
         rng, out = self.rng, []
-        ids = self.ids(rng.choice([0, 1, 2, 3, 4, 6]))
+        ids = self.ids(rng.choice([0, 1, 2, 3, 4, 4, 5, 6, 8]))
         for id in ids:
             parts = [self.w.number(1, id), self.w.number(2, self.texts.any(NAMES))]
             parts += [self.w.number(3, self.texts.any([b"", b"", b"sys"])), self.w.number(4, self.texts.any(NAMES))]
@@ -173,11 +175,12 @@ class ProfileMaker:
 
     def locations(self, mappings, functions):
         rng, out = self.rng, []
-        ids = self.ids(rng.choice([0, 1, 2, 3, 4, 6, 8]))
+        ids = self.ids(rng.choice([0, 1, 2, 3, 4, 6, 6, 8, 10]))
         for id in ids:
             lines = []
             for _ in range(rng.choice([0, 1, 1, 1, 2, 3])):
-                row = [self.w.number(1, rng.choice(functions + [0] if rng.random() < 0.2 or not functions else functions))]
+                known = functions if functions and rng.random() < 0.9 else functions + [0]
+                row = [self.w.number(1, rng.choice(known))]
                 row += [self.w.number(2, rng.choice([0, 1, 7, 10, 21, 30, -3])), self.w.number(3, rng.choice([0, 0, 3, 9]))]
                 lines.append(self.w.block(4, self.w.message(*row)))
             parts = [self.w.number(1, id), self.w.number(2, rng.choice(mappings + [0]))]
@@ -199,7 +202,7 @@ class ProfileMaker:
     def samples(self, locations, width):
         rng, out = self.rng, []
         is_positive = rng.random() < 0.5
-        for _ in range(rng.choice([0, 1, 2, 3, 5, 8, 13])):
+        for _ in range(rng.choice([0, 1, 2, 3, 5, 8, 13, 20])):
             stack = [rng.choice(locations) for _ in range(rng.choice([0, 1, 2, 3, 4, 6]))] if locations else []
             values = [self.value(is_positive) for _ in range(width)]
             labels = [self.label() for _ in range(rng.choice([0, 0, 1, 2, 3]))]
@@ -214,8 +217,8 @@ class ProfileMaker:
         parts.append(w.number(8, t.any(own) if rng.random() < 0.1 else 0))
         parts.append(w.number(9, rng.choice([0, 0, 1700000000000000000, 5, -2])))
         parts.append(w.number(10, rng.choice([0, 0, 300000000, 10**9, -5, 3600 * 10**9, (1 << 63) - 1])))
-        if rng.random() < 0.3:
-            kind = w.message(w.number(1, t.of(b"cpu")), w.number(2, t.any([b"", b"nanoseconds"])))
+        if self.period != (b"", b""):
+            kind = w.message(*(w.number(at + 1, t.of(text)) for at, text in enumerate(self.period)))
             parts.append([w.block(11, kind)] * (2 if w.chance(0.1) else 1))
         parts.append(w.number(12, rng.choice([0, 0, 1, 10000000, -1])))
         parts.append(w.numbers(13, [t.any(NAMES) for _ in range(rng.choice([0, 0, 0, 1, 3]))]))
@@ -236,8 +239,17 @@ class ProfileMaker:
 
 
 def random_types(rng):
-    kinds = [b"samples", b"cpu", b"alloc_space", b"delay", b"", b"2", b"wall"]
-    return [(rng.choice(kinds), rng.choice(UNITS)) for _ in range(rng.choice([0, 1, 1, 1, 2, 2, 3]))]
+    """Sample types, and the type of the period."""
+    kinds = [b"samples", b"cpu", b"samples", b"cpu", b"alloc_space", b"delay", b"", b"2", b"wall"]
+    count = rng.choice([1, 1, 1, 1, 2, 2, 2, 3]) if rng.random() < 0.97 else 0
+    types = [(rng.choice(kinds), rng.choice(UNITS)) for _ in range(count)]
+    period = (b"cpu", rng.choice([b"", b"nanoseconds"])) if rng.random() < 0.3 else (b"", b"")
+    return types, period
+
+
+# The types of profiles that are made, and of those that gperftools writes.
+GENERATED = [(b"samples", b"count"), (b"cpu", b"nanoseconds")], (b"", b"")
+LEGACY = GENERATED[0], (b"cpu", b"nanoseconds")
 
 
 def spoiled(rng, data):
@@ -298,31 +310,34 @@ def random_format(rng):
     pick = rng.random()
     if pick < 0.72:
         return [rng.choice([b"-", b"--"]) + rng.choice(REPORTS)]
-    return [rng.choice([b"-peek=", b"-list="]) + rng.choice(PATTERNS)]
+    return [rng.choice([b"-peek=", b"-list="]) + rng.choice([b".", b"f", b"main|f|g", b"a", b"work", b"^$", b"(", b"r"])]
+
+
+PATTERNED = [b"focus", b"ignore", b"show", b"hide", b"show_from", b"prune_from", b"tagshow", b"taghide"]
+FLAGS = [b"noinlines", b"showcolumns", b"path_tree", b"relative_percentages"]
+# Names of variables, values that they can have, and some that they mostly can't.
+SETTINGS = [
+    ([b"tagfocus", b"tagignore"], TAG_FILTERS + PATTERNS, [b"(", b"thread=["]),
+    ([b"tagroot", b"tagleaf"], [b"thread", b"bytes,thread", b"id", b",,key,", b"", b"nokey", b"pprof::base"], [b"zz"]),
+    ([b"granularity"], [b"functions", b"filefunctions", b"files", b"lines", b"addresses"], [b"x", b"Lines"]),
+    (FLAGS, [b"true", b"1", b"y", b"t", b"yes", b"false", b"no"], [b"maybe", b"", b"True"]),
+    ([b"nodecount"], [b"0", b"1", b"2", b"3", b"-1", b"007", b"100"], [b"2147483648", b"x", b"", b"-2", b"--1"]),
+    ([b"nodefraction", b"edgefraction"], RANGES, BAD_RANGES),
+    ([b"sample_index"], [b"0", b"samples", b"cpu", b"", b"00"], [b"1", b"2", b"zz", b"-1"]),
+    ([b"unit"], [b"each", b"each", b""], UNITS + [b"Each", b"auto", b"minimum"]),
+    ([b"divide_by"], [b"1", b"2", b"7", b"1000", b"9223372036854775807"], [b"0", b"", b"9223372036854775808"]),
+    ([b"source_path", b"trim_path"], [b"src", b":", b"/src/app", b"a:src:/", b"b", b"/abs", b"/src/app/"], [b""]),
+    ([b"sort"], [b"flat", b"cum"], [b"Cum", b""]),
+    ([b"workers"], [b"1", b"2", b"4", b"64", b"07"], [b"65", b"0", b"-1"]),
+]
 
 
 def setting(rng):
-    """A variable with a value."""
-    pick = rng.randrange(16)
-    if pick < 4:
-        name = rng.choice([b"focus", b"ignore", b"show", b"hide", b"show_from", b"prune_from", b"tagshow", b"taghide"])
-        return name, rng.choice(PATTERNS)
-    choices = {
-        4: ([b"tagfocus", b"tagignore"], TAG_FILTERS + PATTERNS),
-        5: ([b"tagroot", b"tagleaf"], [b"thread", b"bytes,thread", b"id", b",,key,", b"", b"nokey", b"pprof::base"]),
-        6: ([b"granularity"], [b"functions", b"filefunctions", b"files", b"lines", b"addresses", b"x"]),
-        7: ([b"noinlines", b"showcolumns", b"path_tree", b"relative_percentages"], [b"true", b"1", b"y", b"false", b"maybe", b""]),
-        8: ([b"nodecount"], [b"0", b"1", b"2", b"3", b"-1", b"007", b"2147483648", b"x", b""]),
-        9: ([b"nodefraction", b"edgefraction"], RANGES),
-        10: ([b"sample_index"], [b"0", b"1", b"2", b"samples", b"cpu", b"zz", b"", b"00"]),
-        11: ([b"unit"], UNITS + [b"each", b"Each", b"auto", b"ms", b"minimum"]),
-        12: ([b"divide_by"], [b"1", b"7", b"0", b"1000", b"9223372036854775807", b"9223372036854775808"]),
-        13: ([b"source_path", b"trim_path"], [b"src", b":", b"/src/app", b"a:src:/", b"b", b"/abs", b"/src/app/"]),
-        14: ([b"sort"], [b"flat", b"cum", b"Cum"]),
-        15: ([b"workers"], [b"1", b"2", b"4", b"64", b"65", b"0"]),
-    }
-    names, values = choices[pick]
-    return rng.choice(names), rng.choice(values)
+    """A variable with a value, mostly one that it can have."""
+    if rng.random() < 0.3:
+        return rng.choice(PATTERNED), rng.choice(PATTERNS if rng.random() < 0.95 else BAD_PATTERNS)
+    names, good, bad = rng.choice(SETTINGS)
+    return rng.choice(names), rng.choice(good if rng.random() < 0.9 else bad)
 
 
 def random_option(rng):
@@ -331,7 +346,7 @@ def random_option(rng):
         return [b"-" + rng.choice([b"cum", b"flat", b"lines", b"files", b"addresses", b"filefunctions", b"noinlines", b"showcolumns", b"path_tree", b"lines=no", b"inuse_space", b"total_delay", b"contentions=t", b"relative_percentages", b"alloc_space"])]
     name, value = setting(rng)
     dashes = rng.choice([b"-", b"-", b"--"])
-    if rng.random() < 0.75 or name in (b"noinlines", b"showcolumns", b"path_tree", b"relative_percentages"):
+    if rng.random() < 0.75 or name in FLAGS:
         return [dashes + name + b"=" + value]
     return [dashes + name, value]
 
@@ -375,25 +390,25 @@ class Case:
 
 def random_file(rng, types):
     pick = rng.random()
-    if pick < 0.03:
+    if pick < (0.4 if types == LEGACY else 0.01):
         return legacy(rng)
     if pick < 0.04:
         return rng.choice([b"", b"\x1f\x8b\x08", b"\0", bytes(16), b"text"])
-    data = ProfileMaker(rng, types).make()
-    while rng.random() < 0.08:
+    data = ProfileMaker(rng, *types).make()
+    while rng.random() < 0.06:
         data = spoiled(rng, data)
     return data
 
 
 def random_case(seed, number):
     rng = random.Random(f"{seed}/{number}")
-    types = random_types(rng)
+    types = rng.choice([GENERATED, LEGACY]) if rng.random() < 0.12 else random_types(rng)
     files = {b"folder/": b""}
     sources = []
     for name in rng.choice([[b"p"], [b"p"], [b"p", b"r"], [b"p", b"r", b"s"]]):
-        files[name] = random_file(rng, types if rng.random() < 0.95 else random_types(rng))
+        files[name] = random_file(rng, types if rng.random() < 0.98 else random_types(rng))
         sources.append([name])
-    if rng.random() < 0.06:
+    if rng.random() < (0.5 if types == GENERATED else 0.01):
         sources.append([b"-gen=" + rng.choice([b"1", b"7", b"17", b"0020"])])
     if rng.random() < 0.25:
         option = rng.choice([b"-base=", b"-diff_base=", b"-diff_base="])
@@ -407,10 +422,10 @@ def random_case(seed, number):
         if rng.random() < 0.3:
             count = rng.choice([0, 3, 9, 25, 40])
             files[path] = b"".join(b"w%d\n" % n for n in range(1, count)) + rng.choice([b"end", b"end\r\n", b""])
-    words = sources + [random_option(rng) for _ in range(rng.choice([0, 1, 1, 2, 3, 4]))]
+    words = sources + [random_option(rng) for _ in range(rng.choice([0, 0, 1, 1, 2, 3]))]
     is_shell = rng.random() < 0.3
     words += [] if is_shell else [random_format(rng)]
-    words += [odd_word(rng)] if rng.random() < 0.05 else []
+    words += [odd_word(rng)] if rng.random() < 0.03 else []
     rng.shuffle(words)
     return Case([word for group in words for word in group], files, random_input(rng) if is_shell else b"")
 
@@ -422,7 +437,7 @@ def owed(case):
     """Both outputs, the status and the files, as the model has them."""
     files = {path: content for path, content in case.files.items() if not path.endswith(b"/")}
     folders = {path[:-1] for path in case.files if path.endswith(b"/")}
-    folders |= {path.rpartition(b"/")[0] for path in files if b"/" in path}
+    folders |= {path[:at] for path in files for at, byte in enumerate(path) if byte == 47}
     outside = FolderMemory(files, case.given, folders=folders)
     status = run(case.words, outside)
     return (*outside.left(), status, outside.files)
