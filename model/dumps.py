@@ -3,7 +3,7 @@
 from collections import defaultdict
 
 from model.merging import merge
-from model.profile import numbered
+from model.profile import flags_of, numbered
 from model.reports import joined, percent, right, spelled
 from model.stacks import places_left
 from model.wire import written
@@ -72,18 +72,11 @@ def location_lines(place, functions, texts):
     return lines
 
 
-FLAGS = {
-    "has_functions": b"[FN]",
-    "has_filenames": b"[FL]",
-    "has_line_numbers": b"[LN]",
-    "has_inline_frames": b"[IN]",
-}
-
-
 def mapping_line(mapping, texts):
     parts = mapping.id, mapping.start, mapping.limit, mapping.offset
     line = b"%d: 0x%x/0x%x/0x%x " % parts + texts[mapping.file] + b" " + texts[mapping.build]
-    return line + b"".join(b" " + sign for flag, sign in FLAGS.items() if getattr(mapping, flag))
+    signs = zip((b"FN", b"FL", b"LN", b"IN"), flags_of(mapping))
+    return line + b"".join(b" [%s]" % sign for sign, flag in signs if flag)
 
 
 # List.

@@ -37,14 +37,9 @@ class Words:
 
 def read_header(words):
     """The period in nanoseconds, and the word behind the header."""
-    if words.at(1) < 3:
-        raise LegacyFault(b"bad header", 1)
-    if words.at(2) != 0:
-        raise LegacyFault(b"bad header", 2)
-    if not 1 <= words.at(3) <= 9_223_372_036_854_775:
-        raise LegacyFault(b"bad header", 3)
-    if words.at(4) != 0:
-        raise LegacyFault(b"bad header", 4)
+    for word, least, greatest in (1, 3, 1 << 64), (2, 0, 0), (3, 1, 9_223_372_036_854_775), (4, 0, 0):
+        if not least <= words.at(word) <= greatest:
+            raise LegacyFault(b"bad header", word)
     words.at(words.at(1) + 1)
     return words.at(3) * 1000, words.at(1) + 2
 

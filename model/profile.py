@@ -6,7 +6,7 @@ mapping and lines, so that equal things are equal values.
 
 import dataclasses
 from collections import namedtuple
-from dataclasses import dataclass, field
+from dataclasses import dataclass
 
 LEAST, GREATEST = -(1 << 63), (1 << 63) - 1
 
@@ -15,86 +15,38 @@ class Unspoken(Exception):
     """Something that the model does not speak of."""
 
 
-# Tables, as profile.proto has them. Fields that name texts hold their places.
+# The messages of profile.proto: for each field in the order of its number its name and form, which is u, i or b for
+# an unsigned or signed number or a flag, t for a text, or a message; `*` behind it for a list.
+MESSAGES = {
+    name: [tuple(part.split(":")) for part in parts.split()]
+    for name, parts in {
+        "ValueType": "kind:i unit:i",
+        "Label": "key:i text:i num:i num_unit:i",
+        "Sample": "location_id:u* value:i* label:Label*",
+        "Mapping": "id:u start:u limit:u offset:u file:i build:i has_functions:b has_filenames:b has_line_numbers:b "
+        "has_inline_frames:b",
+        "Line": "function_id:u line:i column:i",
+        "Location": "id:u mapping_id:u address:u line:Line* folded:b",
+        "Function": "id:u name:i system_name:i file:i start_line:i",
+        "Tables": "sample_type:ValueType* sample:Sample* mapping:Mapping* location:Location* function:Function* "
+        "text:t* drop_frames:i keep_frames:i time:i duration:i period_type:ValueType period:i comment:i* default_type:i "
+        "doc_url:i",
+    }.items()
+}
 
 
-@dataclass
-class ValueType:
-    kind: int = 0
-    unit: int = 0
+class Message:
+    """A message by its name, with an attribute for each field. Those that are not given are 0, false or empty."""
 
-
-@dataclass
-class Label:
-    key: int = 0
-    text: int = 0
-    num: int = 0
-    num_unit: int = 0
-
-
-@dataclass
-class Sample:
-    location_id: list = field(default_factory=list)
-    value: list = field(default_factory=list)
-    label: list = field(default_factory=list)
-
-
-@dataclass
-class Mapping:
-    id: int = 0
-    start: int = 0
-    limit: int = 0
-    offset: int = 0
-    file: int = 0
-    build: int = 0
-    has_functions: bool = False
-    has_filenames: bool = False
-    has_line_numbers: bool = False
-    has_inline_frames: bool = False
-
-
-@dataclass
-class Line:
-    function_id: int = 0
-    line: int = 0
-    column: int = 0
-
-
-@dataclass
-class Location:
-    id: int = 0
-    mapping_id: int = 0
-    address: int = 0
-    line: list = field(default_factory=list)
-    folded: bool = False
-
-
-@dataclass
-class Function:
-    id: int = 0
-    name: int = 0
-    system_name: int = 0
-    file: int = 0
-    start_line: int = 0
-
-
-@dataclass
-class Tables:
-    sample_type: list = field(default_factory=list)
-    sample: list = field(default_factory=list)
-    mapping: list = field(default_factory=list)
-    location: list = field(default_factory=list)
-    function: list = field(default_factory=list)
-    text: list = field(default_factory=list)
-    drop_frames: int = 0
-    keep_frames: int = 0
-    time: int = 0
-    duration: int = 0
-    period_type: ValueType = field(default_factory=ValueType)
-    period: int = 0
-    comment: list = field(default_factory=list)
-    default_type: int = 0
-    doc_url: int = 0
+    def __init__(self, name, *values, **named):
+        self.kind_of_message = name
+        for field, form in MESSAGES[name]:
+            is_number = form in ("u", "i", "b")
+            setattr(self, field, [] if form.endswith("*") else 0 if is_number else Message(form))
+        for (field, _), value in zip(MESSAGES[name], values):
+            setattr(self, field, value)
+        for field, value in named.items():
+            setattr(self, field, value)
 
 
 # Plain things: tuples, whose equality is that of all their parts.
@@ -129,18 +81,15 @@ class Plain:
         return dataclasses.replace(self, **changed)
 
 
+def flags_of(mapping):
+    return mapping.has_functions, mapping.has_filenames, mapping.has_line_numbers, mapping.has_inline_frames
+
+
 def plain(tables):
     """The plain profile of tables in which no table rule fails."""
     text = tables.text
     regions = {
-        m.id: Region(
-            m.start,
-            m.limit,
-            m.offset,
-            text[m.file],
-            text[m.build],
-            (m.has_functions, m.has_filenames, m.has_line_numbers, m.has_inline_frames),
-        )
+        m.id: Region(m.start, m.limit, m.offset, text[m.file], text[m.build], flags_of(m))
         for m in tables.mapping
     }
     routines = {
@@ -200,39 +149,35 @@ def numbered(profile):
                 routines.of(row.function)
     texts = Ids({b"": 0})
     at = lambda text: texts.setdefault(text, len(texts))
-    tables = Tables(
-        sample_type=[ValueType(at(kind), at(unit)) for kind, unit in profile.types],
-        sample=[
-            Sample(
+    tables = Message(
+        "Tables",
+        [Message("ValueType", at(kind), at(unit)) for kind, unit in profile.types],
+        [
+            Message(
+                "Sample",
                 [places.of(place) for place in sample.places],
-                list(sample.values),
-                [Label(at(t.key), at(t.text), t.num, at(t.unit)) for t in sample.tags],
+                sample.values,
+                [Message("Label", at(t.key), at(t.text), t.num, at(t.unit)) for t in sample.tags],
             )
             for sample in profile.samples
         ],
-        mapping=[
-            Mapping(id, r.start, r.limit, r.offset, at(r.file), at(r.build), *r.flags)
+        [
+            Message("Mapping", id, r.start, r.limit, r.offset, at(r.file), at(r.build), *r.flags)
             for r, id in regions.items()
         ],
         function=[
-            Function(id, at(f.name), at(f.system_name), at(f.file), f.start_line)
+            Message("Function", id, at(f.name), at(f.system_name), at(f.file), f.start_line)
             for f, id in routines.items()
         ],
         location=[
-            Location(
-                id,
-                regions.of(place.region),
-                place.address,
-                [Line(routines.of(row.function), row.line, row.column) for row in place.rows],
-                place.folded,
-            )
-            for place, id in places.items()
+            Message("Location", id, regions.of(p.region), p.address, rows_of(p, routines), p.folded)
+            for p, id in places.items()
         ],
         drop_frames=at(profile.drop_frames),
         keep_frames=at(profile.keep_frames),
         time=profile.time,
         duration=profile.duration,
-        period_type=ValueType(*map(at, profile.period_type)),
+        period_type=Message("ValueType", *map(at, profile.period_type)),
         period=profile.period,
         comment=[at(text) for text in profile.comments],
         default_type=at(profile.default_type),
@@ -240,3 +185,7 @@ def numbered(profile):
     )
     tables.text = list(texts)
     return tables
+
+
+def rows_of(place, routines):
+    return [Message("Line", routines.of(r.function), r.line, r.column) for r in place.rows]

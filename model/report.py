@@ -9,17 +9,8 @@ from model.stacks import by_texts, filtered, frames_of, load_pruned
 from model.tags import key_list, read_filter, selects, with_tags
 from model.units import forced
 
-TEXTS = {
-    b"top": reports.top,
-    b"tree": reports.tree,
-    b"peek": reports.peek,
-    b"traces": reports.traces,
-    b"tags": reports.tags,
-    b"folded": reports.folded,
-    b"table": reports.table,
-    b"compare": reports.compare,
-    b"list": dumps.listing,
-}
+TEXTS = {name: getattr(reports, name.decode()) for name in b"top tree peek traces tags folded table compare".split()}
+TEXTS[b"list"] = dumps.listing
 SAVED = {b"raw": dumps.raw, b"proto": dumps.proto}
 STACKS = ("focus", "ignore", "hide", "show", "show_from")
 NOTED = STACKS + ("tagfocus", "tagignore", "tagshow", "taghide")

@@ -5,17 +5,8 @@ Each is made of a Subject: the profile, what was selected of it, the configurati
 
 from collections import defaultdict, namedtuple
 
-from model.counting import (
-    Ranking,
-    edges_of,
-    is_heavy,
-    is_of_base,
-    name_of,
-    path_tree,
-    report_order,
-    sums_of,
-    without_light,
-)
+from model.counting import Ranking, edges_of, is_heavy, is_of_base, name_of, path_tree
+from model.counting import report_order, sums_of, without_light
 from model.tags import is_text, unit_of
 from model.units import forced, percent_text, picked, value_text
 
@@ -88,15 +79,9 @@ TOP_HEADING = b"      flat    flat%     sum%        cum     cum%"
 
 def figures(subject, flat, so_far, cum):
     """The five columns of top."""
-    return b" ".join(
-        [
-            right(spelled(subject, flat), 10),
-            right(percent(subject, flat), 8),
-            right(percent(subject, so_far), 8),
-            right(spelled(subject, cum), 10),
-            right(percent(subject, cum), 8),
-        ]
-    )
+    shares = [right(percent(subject, value), 8) for value in (flat, so_far, cum)]
+    flat, cum = (right(spelled(subject, value), 10) for value in (flat, cum))
+    return b" ".join([flat, *shares[:2], cum, shares[2]])
 
 
 def top(subject):

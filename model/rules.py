@@ -1,25 +1,15 @@
 """The table rules: what a profile's tables have to keep (docs/table-rules.md)."""
 
 
-def text_places(label):
-    return label.key, label.text, label.num_unit
-
-
 def places_of_texts(tables):
     """For each table of rule 2, in its order, the text places that each of its entries names."""
-    header = [
-        tables.drop_frames,
-        tables.keep_frames,
-        tables.period_type.kind,
-        tables.period_type.unit,
-        tables.default_type,
-        tables.doc_url,
-    ]
+    header = [tables.drop_frames, tables.keep_frames, tables.period_type.kind, tables.period_type.unit]
+    header += [tables.default_type, tables.doc_url]
     return [
         (b"header", [header]),
         (b"comment", [[at] for at in tables.comment]),
         (b"sample type", [[t.kind, t.unit] for t in tables.sample_type]),
-        (b"sample", [[at for t in s.label for at in text_places(t)] for s in tables.sample]),
+        (b"sample", [[at for t in s.label for at in (t.key, t.text, t.num_unit)] for s in tables.sample]),
         (b"mapping", [[m.file, m.build] for m in tables.mapping]),
         (b"function", [[f.name, f.system_name, f.file] for f in tables.function]),
     ]

@@ -131,11 +131,12 @@ class Session:
 
 def run(words, outside):
     """Does what the words ask for, and gives the status."""
-    if len(words) == 1 and words[0] in (b"--version", b"-version"):
-        return ended(outside, outside.out, VERSION)
-    if len(words) == 1 and words[0] in (b"--help", b"-help", b"-h"):
+    if words in ([b"--help"], [b"-help"], [b"-h"]):
         raise Unspoken("the text of --help")
     try:
+        if words in ([b"--version"], [b"-version"]):
+            outside.out(VERSION)
+            return 0
         plan = read_words(words)
         session = Session(plan, outside)
         if plan.report:
@@ -149,14 +150,6 @@ def run(words, outside):
         return told(outside, refusal.text, 1)
     except InputTooLong:
         return told(outside, b"standard input is longer than %d bytes" % INPUT_LIMIT, 1)
-    except Fault as fault:
-        return failed(outside, fault)
-
-
-def ended(outside, write, text):
-    try:
-        write(text)
-        return 0
     except Fault as fault:
         return failed(outside, fault)
 

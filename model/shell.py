@@ -2,16 +2,7 @@
 
 from collections import namedtuple
 
-from model.words import (
-    ASKED,
-    FLAGS,
-    FORMATS,
-    BadValue,
-    choice_of,
-    is_digits,
-    set_variable,
-    variable_of,
-)
+from model.words import ASKED, FLAGS, FORMATS, BadValue, choice_of, is_digits, need, set_variable, variable_of
 
 INPUT_LIMIT, LINE_LIMIT = 16_777_216, 65_536
 BLANKS = b" \t"
@@ -51,6 +42,7 @@ def lines_of(data):
 def assignment(config, name, text):
     """The configuration after `name=text`, or a fault that names the variable."""
     try:
+        need(text is not None)
         return set_variable(config, name, text)
     except BadValue:
         raise LineFault(b"bad assignment: " + name.encode()) from None
@@ -65,12 +57,9 @@ def read_setting(line, config):
     if choice_of(line):
         return {**config, choice_of(line): line}
     if variable:
-        return assignment(config, variable, b"true" if variable in FLAGS else bad(variable))
+        # Of the other variables no value is said, which none of them can have.
+        return assignment(config, variable, b"true" if variable in FLAGS else None)
     return None
-
-
-def bad(variable):
-    raise LineFault(b"bad assignment: " + variable.encode())
 
 
 def report_of(word):

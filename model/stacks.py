@@ -2,8 +2,8 @@
 
 from collections import namedtuple
 
-# `at` is the place's position in the sample, `place` that place, `row` its line, or None where it has none. The others are what
-# a frame stands for: texts are empty and numbers 0 where they are not known.
+# `at` is the place's position in the sample, `place` that place, `row` its line, or None where it has none. The others are
+# what a frame stands for: texts are empty and numbers 0 where they are not known.
 Frame = namedtuple("Frame", "at place row function file line column address object")
 NOBODY = (b"", b"", b"", 0)
 

@@ -1,60 +1,6 @@
 """The bytes of a profile: reading them with the first fault, and writing them in the one way (docs/wire-format.md)."""
 
-from model.profile import Function, Label, Line, Location, Mapping, Sample, Tables, ValueType
-
-UNSIGNED, SIGNED, FLAG = "unsigned", "signed", "flag"  # scalars
-UNSIGNEDS, SIGNEDS, TEXTS = "unsigneds", "signeds", "texts"  # repeated ones
-
-# For each message its fields: the number, the name, and the form or the message that stands in it.
-FIELDS = {
-    ValueType: {1: ("kind", SIGNED), 2: ("unit", SIGNED)},
-    Label: {1: ("key", SIGNED), 2: ("text", SIGNED), 3: ("num", SIGNED), 4: ("num_unit", SIGNED)},
-    Sample: {1: ("location_id", UNSIGNEDS), 2: ("value", SIGNEDS), 3: ("label", [Label])},
-    Mapping: {
-        1: ("id", UNSIGNED),
-        2: ("start", UNSIGNED),
-        3: ("limit", UNSIGNED),
-        4: ("offset", UNSIGNED),
-        5: ("file", SIGNED),
-        6: ("build", SIGNED),
-        7: ("has_functions", FLAG),
-        8: ("has_filenames", FLAG),
-        9: ("has_line_numbers", FLAG),
-        10: ("has_inline_frames", FLAG),
-    },
-    Line: {1: ("function_id", UNSIGNED), 2: ("line", SIGNED), 3: ("column", SIGNED)},
-    Location: {
-        1: ("id", UNSIGNED),
-        2: ("mapping_id", UNSIGNED),
-        3: ("address", UNSIGNED),
-        4: ("line", [Line]),
-        5: ("folded", FLAG),
-    },
-    Function: {
-        1: ("id", UNSIGNED),
-        2: ("name", SIGNED),
-        3: ("system_name", SIGNED),
-        4: ("file", SIGNED),
-        5: ("start_line", SIGNED),
-    },
-    Tables: {
-        1: ("sample_type", [ValueType]),
-        2: ("sample", [Sample]),
-        3: ("mapping", [Mapping]),
-        4: ("location", [Location]),
-        5: ("function", [Function]),
-        6: ("text", TEXTS),
-        7: ("drop_frames", SIGNED),
-        8: ("keep_frames", SIGNED),
-        9: ("time", SIGNED),
-        10: ("duration", SIGNED),
-        11: ("period_type", ValueType),
-        12: ("period", SIGNED),
-        13: ("comment", SIGNEDS),
-        14: ("default_type", SIGNED),
-        15: ("doc_url", SIGNED),
-    },
-}
+from model.profile import MESSAGES, Message
 
 
 class WireFault(Exception):
@@ -107,27 +53,24 @@ def signed(number):
     return number - (1 << 64) if number >> 63 else number
 
 
-SCALARS = {UNSIGNED: int, SIGNED: signed, FLAG: bool}
-LISTS = {UNSIGNEDS: int, SIGNEDS: signed}
+SCALARS = {"u": int, "i": signed, "b": bool}
 
 
-def put_field(data, message, form, name, kind, content, place):
+def put_field(data, message, name, form, kind, content, place):
     """Adds one known field to the message, or raises the fault in it."""
-    if form in list(SCALARS):
-        if kind != 0:
-            raise WireFault(b"wrong kind", place)
-        setattr(message, name, SCALARS[form](content))
-    elif form in list(LISTS):
-        if kind not in (0, 2):
-            raise WireFault(b"wrong kind", place)
-        numbers = [content] if kind == 0 else list(packed(data, *content, place))
-        getattr(message, name).extend(map(LISTS[form], numbers))
-    elif kind != 2:
+    base, is_list = form.rstrip("*"), form.endswith("*")
+    is_number = base in SCALARS
+    if not (kind == 0 and is_number or kind == 2 and (is_list or not is_number)):
         raise WireFault(b"wrong kind", place)
-    elif form == TEXTS:
+    if is_number and is_list:
+        numbers = [content] if kind == 0 else packed(data, *content, place)
+        getattr(message, name).extend(map(SCALARS[base], numbers))
+    elif is_number:
+        setattr(message, name, SCALARS[base](content))
+    elif base == "t":
         getattr(message, name).append(data[content[0] : content[1]])
-    elif isinstance(form, list):
-        getattr(message, name).append(filled(data, *content, form[0]()))
+    elif is_list:
+        getattr(message, name).append(filled(data, *content, Message(base)))
     else:
         # A message that is not repeated: its payloads are joined.
         filled(data, *content, getattr(message, name))
@@ -141,17 +84,16 @@ def packed(data, at, end, place):
 
 def filled(data, at, end, message):
     """The message with the fields between the two places. Unknown ones are skipped."""
-    known = FIELDS[type(message)]
+    known = MESSAGES[message.kind_of_message]
     for number, kind, content, place in fields(data, at, end):
-        if number in known:
-            name, form = known[number]
-            put_field(data, message, form, name, kind, content, place)
+        if number <= len(known):
+            put_field(data, message, *known[number - 1], kind, content, place)
     return message
 
 
 def read(data):
     """The tables that the bytes hold. Raises the first fault. Without a text there is the empty one."""
-    tables = filled(data, 0, len(data), Tables())
+    tables = filled(data, 0, len(data), Message("Tables"))
     tables.text = tables.text or [b""]
     return tables
 
@@ -176,15 +118,15 @@ def payload(number, content):
 def written(message):
     """The canonical bytes: fields by number, lists packed, and nothing that says 0, false or an empty list."""
     out = []
-    for number, (name, form) in sorted(FIELDS[type(message)].items()):
+    for number, (name, form) in enumerate(MESSAGES[message.kind_of_message], 1):
         value = getattr(message, name)
-        if form == TEXTS:
+        if form == "t*":
             out += [payload(number, text) for text in value]
-        elif form in (UNSIGNEDS, SIGNEDS):
+        elif form in ("u*", "i*"):
             out += [payload(number, b"".join(map(put_varint, value)))] if value else []
-        elif isinstance(form, list):
+        elif form.endswith("*"):
             out += [payload(number, written(item)) for item in value]
-        elif form is ValueType:
+        elif form == "ValueType":
             out += [payload(number, written(value))] if value.kind or value.unit else []
         elif value:
             out.append(put_varint(number << 3) + put_varint(value))

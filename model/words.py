@@ -9,15 +9,9 @@ SORTS = (b"flat", b"cum")
 GRAINS = (b"functions", b"filefunctions", b"files", b"lines", b"addresses")
 # Formats whose value is a pattern, and those that are flags; the report that each word stands for.
 ASKED = (b"peek", b"list")
-FORMATS = {
-    name: name
-    for name in b"top tree traces tags raw comments proto peek list folded table compare".split()
-}
-FORMATS[b"text"] = b"top"
-TYPES = {
-    name: name
-    for name in b"inuse_space inuse_objects alloc_space alloc_objects contentions".split()
-}
+NAMED = b"top tree traces tags raw comments proto peek list folded table compare".split()
+FORMATS = {b"text": b"top", **{name: name for name in NAMED}}
+TYPES = {name: name for name in b"inuse_space inuse_objects alloc_space alloc_objects contentions".split()}
 TYPES[b"total_delay"] = b"delay"
 
 
@@ -33,11 +27,6 @@ def need(is_good):
 def read_flag(text):
     need(text in TRUE + FALSE)
     return text in TRUE
-
-
-def read_true(text):
-    need(text in TRUE)
-    return True
 
 
 def is_digits(text):
@@ -75,19 +64,12 @@ def read_unit(text):
     return text
 
 
-def flag_text(value):
-    return b"true" if value else b"false"
-
-
-def number_text(value):
-    return b"%d" % value
-
-
 def same(value):
     return value
 
 
-FLAG = read_flag, flag_text
+FLAG = read_flag, lambda value: b"true" if value else b"false"
+NUMBER = b"%d".__mod__
 # Each variable in the order of the list: how it is read and printed, and its default.
 VARIABLES = {
     "sort": (one_of(SORTS), same, b"flat"),
@@ -95,7 +77,7 @@ VARIABLES = {
     "noinlines": (*FLAG, False),
     "showcolumns": (*FLAG, False),
     "path_tree": (*FLAG, False),
-    "nodecount": (read_count, number_text, -1),
+    "nodecount": (read_count, NUMBER, -1),
     "nodefraction": (read_part, fraction_text, 5_000_000),
     "edgefraction": (read_part, fraction_text, 1_000_000),
     **{
@@ -105,10 +87,10 @@ VARIABLES = {
     },
     "unit": (read_unit, same, b""),
     "relative_percentages": (*FLAG, False),
-    "divide_by": (number_between(1, (1 << 63) - 1), number_text, 1),
+    "divide_by": (number_between(1, (1 << 63) - 1), NUMBER, 1),
     "source_path": (same, same, b""),
     "trim_path": (same, same, b""),
-    "workers": (number_between(1, 64), number_text, 4),
+    "workers": (number_between(1, 64), NUMBER, 4),
 }
 DEFAULTS = {name: default for name, (_, _, default) in VARIABLES.items()}
 FLAGS = [name for name, (read, _, _) in VARIABLES.items() if read is read_flag]
@@ -202,10 +184,10 @@ def do_option(plan, name, value, word):
         need(value != b"")
         plan.set_report(name, value, word)
     elif name in FORMATS:
-        read_true(value)
+        need(value in TRUE)
         plan.set_report(name, None, word)
     elif name in TYPES or choice_of(name):
-        read_true(value)
+        need(value in TRUE)
         variable = choice_of(name) or "sample_index"
         plan.config[variable] = TYPES.get(name, name)
     else:
