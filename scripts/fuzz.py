@@ -437,7 +437,7 @@ def owed(case):
     """Both outputs, the status and the files, as the model has them."""
     files = {path: content for path, content in case.files.items() if not path.endswith(b"/")}
     folders = {path[:-1] for path in case.files if path.endswith(b"/")}
-    folders |= {path[:at] for path in files for at, byte in enumerate(path) if byte == 47}
+    folders |= {b".", b"/", b"//"} | {path[:at] for path in files for at, byte in enumerate(path) if byte == 47}
     outside = FolderMemory(files, case.given, folders=folders)
     status = run(case.words, outside)
     return (*outside.left(), status, outside.files)
@@ -447,13 +447,16 @@ class FolderMemory(Memory):
     """Files below one folder: a path is read as the system reads it, and written where its folder is there."""
 
     def plain(self, path):
-        path = os.path.normpath(path) if path and not path.endswith(b"/") else path
-        return path if not path.startswith((b"..", b"/")) else b"/none"
+        """The path from the folder on; the system's root is a folder too, and no other path above is there."""
+        where = os.path.normpath(path)
+        return where if not where.startswith((b"..", b"/")) or where.strip(b"/") == b"" else b"/none"
 
     def read(self, path, limit):
         if not path or not is_text(path):
             return None
-        return super().read(self.plain(path), limit) if path.rstrip(b"/") in self.folders or not path.endswith(b"/") else None
+        where = self.plain(path)
+        is_folder = where in self.folders
+        return None if path.endswith(b"/") and not is_folder else super().read(where, limit)
 
     def write(self, path, content):
         where = self.plain(path)
