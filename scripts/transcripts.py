@@ -16,6 +16,7 @@ class Session:
     locked: list = dataclasses.field(default_factory=list)
     workers: list = dataclasses.field(default_factory=list)
     is_literal: bool = False
+    refused: list = dataclasses.field(default_factory=list)
     texts: dict = dataclasses.field(default_factory=lambda: {tag: bytearray() for tag in b"<>!"})
     status: int = 0
     kept: dict = dataclasses.field(default_factory=dict)
@@ -138,8 +139,9 @@ class Reader:
     def read_locked(self, rest):
         self.session.locked += words_of(rest)
 
-    def read_literal(self, _rest):
+    def read_literal(self, rest):
         self.session.is_literal = True
+        self.session.refused += words_of(rest)
 
     def read_workers(self, rest):
         self.session.workers += words_of(rest)
