@@ -58,6 +58,8 @@ TOOLS = """awk basename cat cp date df dirname find getconf grep head ls mkdir m
 sort tail tr wc xargs""".split()
 
 COULD_NOT = "pprof: the program could not be built"
+# Words before a command that run it as a user without rights, where that takes some.
+AS_NOBODY = ["setpriv", "--reuid=65534", "--regid=65534", "--clear-groups", "--"] if os.geteuid() == 0 else []
 
 
 class Tree:
@@ -203,9 +205,8 @@ def without_a_tool(tree):
 
 def without_rights(tree):
     tree.root.parent.chmod(0o755)
-    as_nobody = ["setpriv", "--reuid=65534", "--regid=65534", "--clear-groups", "--"] if os.geteuid() == 0 else []
     tree.program.parent.parent.chmod(0o555)
-    yield "a folder that can't be made", tree.call("-top", "p", before=as_nobody), (
+    yield "a folder that can't be made", tree.call("-top", "p", before=AS_NOBODY), (
         "",
         f"pprof: the folder {tree.out} can't be made",
         70,
@@ -213,7 +214,7 @@ def without_rights(tree):
     tree.program.parent.parent.chmod(0o755)
     tree.out.mkdir()
     tree.out.chmod(0o555)
-    yield "a folder that can't be written", tree.call("-top", "p", before=as_nobody), (
+    yield "a folder that can't be written", tree.call("-top", "p", before=AS_NOBODY), (
         "",
         f"pprof: the folder {tree.out} can't be written",
         70,
@@ -221,7 +222,7 @@ def without_rights(tree):
     tree.out.chmod(0o755)
     tree.call("-top", "p")
     tree.out.chmod(0o555)
-    yield "a program that was built before", tree.call("-top", "p", before=as_nobody), (tree.printed("-top p"), "", 0)
+    yield "a program that was built before", tree.call("-top", "p", before=AS_NOBODY), (tree.printed("-top p"), "", 0)
     tree.out.chmod(0o755)
 
 

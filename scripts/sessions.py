@@ -19,6 +19,7 @@ import sys
 import tempfile
 import time
 
+import installing
 import launcher
 import machine
 from running import DATA, SHOWN, run
@@ -116,7 +117,7 @@ def arguments():
         "transcript", nargs="*", type=pathlib.Path, help="these files alone, and no other checks"
     )
     parser.add_argument(
-        "--launcher", action="store_true", help="try ./pprof too, with a builder that only pretends"
+        "--launcher", action="store_true", help="try ./pprof and scripts/install too, with a builder that only pretends"
     )
     parser.add_argument("--jobs", type=int, default=2, help="sessions side by side (2)")
     return parser.parse_args()
@@ -132,6 +133,7 @@ def main():
         good.append(run_checks(machine.CHECKS, lambda place: machine.Machine(program, place)))
     if given.launcher:
         good.append(run_checks(launcher.CHECKS, launcher.Tree))
+        good.append(run_checks(installing.CHECKS, installing.Tree))
     print(f"{time.time() - begun:.1f} seconds")
     sys.exit(0 if all(good) else 1)
 
