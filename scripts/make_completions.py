@@ -178,6 +178,7 @@ def main():
         if not is_check:
             path.parent.mkdir(exist_ok=True)
             path.write_text(files()[path])
+    print(f"{len(files())} files, {len(stale)} {'not current' if is_check else 'written'}")
     return 1 if is_check and stale else 0
 
 

@@ -221,17 +221,19 @@ def main():
     )
     parser.add_argument("--check", action="store_true", help="compare, and write nothing")
     given = parser.parse_args()
-    wrong = 0
+    count = wrong = 0
     for line in DESCRIPTIONS.read_text().splitlines():
         if not line or line.startswith("#"):
             continue
         name, _, description = line.partition(": ")
+        count += 1
         path, content = FIXTURES / name, described(description)
         if not given.check:
             path.write_bytes(content)
         elif not path.exists() or path.read_bytes() != content:
             wrong += 1
             print(f"{name}: not as described")
+    print(f"{count} profiles, {wrong} not as described" if given.check else f"{count} profiles written")
     sys.exit(1 if wrong else 0)
 
 

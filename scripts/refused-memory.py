@@ -107,6 +107,8 @@ def try_words(runner, session, words, pool, every):
         if ending is None:
             findings += [f"{session.title}: {number} of {made} allocations:"] + differences(left, session.owed())
     tell(session.title, count, endings, time.time() - begun)
+    if endings[CUT_OFF] == 0:
+        findings.append(f"{session.title}: no run ended for want of memory")
     return findings
 
 
@@ -119,13 +121,12 @@ def tell(title, count, endings, seconds):
 
 
 def try_file(runner, path, pool, every):
-    """The findings of each session of a transcript file that can be had over real files."""
+    """The findings of each run of a session of a transcript file that can be had over real files."""
     return [
-        finding
+        try_words(runner, session, words, pool, every)
         for session in sessions_of(path)
         if not session.is_for_memory()
         for words in session.runs()
-        for finding in try_words(runner, session, words, pool, every)
     ]
 
 
@@ -145,14 +146,16 @@ def main():
     program = os.path.abspath(given.program)
     if not os.path.exists(program):
         sys.exit(f"{program} is not built: run ./pprof once")
-    findings = []
+    found = []
     with tempfile.TemporaryDirectory() as folder, concurrent.futures.ThreadPoolExecutor(given.jobs) as pool:
         runner = Runner(program, folder)
         for path in given.transcript:
-            findings += try_file(runner, path, pool, given.every)
-    for finding in findings:
+            found += try_file(runner, path, pool, given.every)
+    for finding in sum(found, []):
         print(finding)
-    sys.exit(1 if findings else 0)
+    differ = sum(1 for findings in found if findings)
+    print(f"{len(found)} sessions, {differ} differ")
+    sys.exit(1 if differ else 0)
 
 
 if __name__ == "__main__":

@@ -19,6 +19,7 @@ import sys
 import tempfile
 import time
 
+import installing
 import launcher
 import machine
 from running import DATA, SHOWN, run
@@ -79,7 +80,7 @@ def findings_of(program, session):
 
 
 def run_transcripts(program, path, jobs):
-    """Prints a line for the file, and each difference. Gives whether all is as owed."""
+    """Prints a line for the file, and each difference. Gives how many sessions ran, and how many differ."""
     sessions = list(sessions_of(path))
     possible = [session for session in sessions if not session.is_for_memory()]
     with concurrent.futures.ThreadPoolExecutor(jobs) as pool:
@@ -90,11 +91,11 @@ def run_transcripts(program, path, jobs):
     for session, found in zip(possible, findings):
         if found:
             print("\n".join([session.title] + found), flush=True)
-    return differ == 0
+    return len(possible), differ
 
 
 def run_checks(checks, make):
-    """Prints a line for each check that differs, and how many there are."""
+    """Prints a line for each check that differs, and how many there are. Gives both numbers."""
     count = differ = 0
     for check in checks:
         with tempfile.TemporaryDirectory(prefix="machine") as place:
@@ -104,7 +105,7 @@ def run_checks(checks, make):
                     differ += 1
                     print(f"{title} is\n    {left!r:.{SHOWN}}\n  owed is\n    {owed!r:.{SHOWN}}")
     print(f"{count} checks by code, {differ} differ", flush=True)
-    return differ == 0
+    return count, differ
 
 
 def arguments():
@@ -116,7 +117,7 @@ def arguments():
         "transcript", nargs="*", type=pathlib.Path, help="these files alone, and no other checks"
     )
     parser.add_argument(
-        "--launcher", action="store_true", help="try ./pprof too, with a builder that only pretends"
+        "--launcher", action="store_true", help="try ./pprof and scripts/install too, with a builder that only pretends"
     )
     parser.add_argument("--jobs", type=int, default=2, help="sessions side by side (2)")
     return parser.parse_args()
@@ -127,13 +128,16 @@ def main():
     program = os.path.abspath(given.program)
     paths = given.transcript or sorted(DATA.glob("*.txt"))
     begun = time.time()
-    good = [run_transcripts(program, path, given.jobs) for path in paths]
+    ran = [run_transcripts(program, path, given.jobs) for path in paths]
+    checked = []
     if not given.transcript:
-        good.append(run_checks(machine.CHECKS, lambda place: machine.Machine(program, place)))
+        checked.append(run_checks(machine.CHECKS, lambda place: machine.Machine(program, place)))
     if given.launcher:
-        good.append(run_checks(launcher.CHECKS, launcher.Tree))
-    print(f"{time.time() - begun:.1f} seconds")
-    sys.exit(0 if all(good) else 1)
+        checked.append(run_checks(launcher.CHECKS, launcher.Tree))
+        checked.append(run_checks(installing.CHECKS, installing.Tree))
+    sessions, checks, differ = (sum(it[0] for it in ran), sum(it[0] for it in checked), sum(it[1] for it in ran + checked))
+    print(f"{sessions} sessions, {checks} checks by code; {differ} differ; {time.time() - begun:.1f} seconds")
+    sys.exit(1 if differ else 0)
 
 
 if __name__ == "__main__":

@@ -5,17 +5,19 @@ source "$(dirname -- "$(readlink -f -- "$0")")/../completions/pprof.bash"
 # shellcheck disable=SC2317 # the completion calls it
 compopt() { :; }
 failed=0
+count=0
 
 # check WANTED WORD ..: what the last word is completed to.
 check() {
     local wanted=$1
     shift
+    count=$((count + 1))
     COMP_WORDS=(pprof "$@")
     COMP_CWORD=$#
     _pprof
     [[ "${COMPREPLY[*]}" == "$wanted" ]] && return
     echo "pprof $*: ${COMPREPLY[*]} in place of $wanted"
-    failed=1
+    failed=$((failed + 1))
 }
 
 check "-top" -top
@@ -34,4 +36,5 @@ check "" -focus = fl
 check "" cpu
 check "" sort c
 check "-comments -compare -cum -contentions" sort -c
-exit "$failed"
+echo "$count completions, $failed differ"
+exit $((failed > 0))
