@@ -10,8 +10,10 @@ by `; `. With --check nothing is written, and the status is 1 where a file is no
                                     functions and files, and in a unit, escapes stand for bytes as in transcripts
     f%/a/b.c:7:3                    another file, and a column
     f:7+g:9                         one location with two lines: f was inlined into g
-    f:7@1100  @1100                 an address in the mapping, and one without lines; `!` behind it: folded
+    f:7@1100  @1100                 an address in the first mapping, and one without lines; `!` behind it: folded
+    f:7@1100/2  f:7@1100/0          an address in the second mapping, and in none
     key=text  key=#5  key=#5 unit   labels
+  ids STEP                        ids of mappings, locations and functions are these multiples of their places
   map START LIMIT OFFSET FILE [BUILD [FLAGS]]   hexadecimal numbers, FLAGS some of FN,FL,IN,LN
   function NAME FILE SYSTEM START   what a function has beside its name and file
   drop PATTERN, keep PATTERN, remark TEXT, document TEXT, default KIND
@@ -67,16 +69,15 @@ def message(scalars):
 
 
 class Table:
-    """Entries that get numbers in the order of first sight."""
+    """Entries that get numbers in the order of first sight, which are multiples of the step."""
 
     def __init__(self, first):
         self.first = first
-        self.entries = []
+        self.step = 1
+        self.entries = {}
 
     def number(self, entry):
-        if entry not in self.entries:
-            self.entries.append(entry)
-        return self.entries.index(entry) + self.first
+        return self.step * (self.entries.setdefault(entry, len(self.entries)) + self.first)
 
 
 @dataclasses.dataclass
@@ -91,11 +92,14 @@ class Profile:
     more: dict = dataclasses.field(default_factory=dict)
     header: dict = dataclasses.field(default_factory=dict)
     remarks: list = dataclasses.field(default_factory=list)
+    step: int = 1
 
     def take(self, item):
         word, _, rest = item.partition(" ")
         if word == "type":
             self.types.append([unescaped(part) for part in rest.split("/")])
+        elif word == "ids":
+            self.step = self.locations.step = self.functions.step = int(rest)
         elif word == "map":
             self.mappings.append(rest.split(" "))
         elif word == "function":
@@ -120,11 +124,14 @@ class Profile:
         )
 
     def location(self, place):
-        """Address, folded or not, and lines of function, line and column."""
+        """Address, the number of its mapping or 0, folded or not, and lines of function, line and column."""
         is_folded = place.endswith("!")
-        lines, _, address = place.rstrip("!").partition("@")
+        lines, _, where = place.rstrip("!").partition("@")
+        address, _, mapping = where.partition("/")
+        first = int(bool(self.mappings) and int(address or "0", 16) > 0)
         return (
             int(address or "0", 16),
+            int(mapping) if mapping else first,
             is_folded,
             tuple(self.line(line) for line in lines.split("+") if line),
         )
@@ -141,13 +148,15 @@ def encoded(profile):
     texts = Table(0)
     texts.number("")
     types = [pair(texts, kind) for kind in profile.types or [("samples", "count")]]
-    mappings = [mapping_message(texts, i, m) for i, m in enumerate(profile.mappings, 1)]
+    step = profile.step
+    mappings = [mapping_message(texts, step * i, m) for i, m in enumerate(profile.mappings, 1)]
     functions = [
-        function_message(texts, i, f, profile.more) for i, f in enumerate(profile.functions.entries, 1)
+        function_message(texts, step * i, f, profile.more)
+        for i, f in enumerate(profile.functions.entries, 1)
     ]
     samples = [sample_message(texts, sample) for sample in profile.samples]
     locations = [
-        location_message(i, place, bool(mappings)) for i, place in enumerate(profile.locations.entries, 1)
+        location_message(step * i, step, place) for i, place in enumerate(profile.locations.entries, 1)
     ]
     header = header_fields(texts, profile)
     tables = [(1, types), (2, samples), (3, mappings), (4, locations), (5, functions)]
@@ -175,9 +184,9 @@ def function_message(texts, number, function, more):
     return message(fields | {5: start})
 
 
-def location_message(number, place, is_mapped):
-    address, is_folded, lines = place
-    front = message({1: number, 2: int(is_mapped and address > 0), 3: address})
+def location_message(number, step, place):
+    address, mapping, is_folded, lines = place
+    front = message({1: number, 2: step * mapping, 3: address})
     listed = b"".join(payload(4, message(dict(enumerate(line, 1)))) for line in lines)
     return front + listed + scalar(5, is_folded)
 

@@ -16,9 +16,53 @@ const PICKED: &str = "1536 bytes 1536 1.50kB
 5 Widgets 5 5Widgets
 1 gb 0 1073741824B";
 
+// One of each spelling, in the columns of `PICKED`.
+const SPELLED: &str = "1 ns 1 1ns
+1 nanosecond 1 1ns
+1 nanoseconds 1 1ns
+1 us 1 1us
+1 microsecond 1 1us
+1 microseconds 1 1us
+1 ms 1 1ms
+1 millisecond 1 1ms
+1 milliseconds 1 1ms
+1 s 1 1s
+1 sec 1 1s
+1 second 1 1s
+1 seconds 1 1s
+1 hr 1 1hrs
+1 hrs 1 1hrs
+1 hour 1 1hrs
+1 hours 1 1hrs
+1 b 1 1B
+1 byte 1 1B
+1 bytes 1 1B
+1 kb 1 1kB
+1 kilobyte 1 1kB
+1 kilobytes 1 1kB
+1 mb 1 1MB
+1 megabyte 1 1MB
+1 megabytes 1 1MB
+1 gb 1 1GB
+1 gigabyte 1 1GB
+1 gigabytes 1 1GB
+1 tb 1 1TB
+1 terabyte 1 1TB
+1 terabytes 1 1TB
+1 pb 1 1PB
+1 petabyte 1 1PB
+1 petabytes 1 1PB
+1 count 1 1
+1 sample 1 1
+1 samples 1 1
+1 unit 1 1";
+
 #[test]
 fn picked_units(rt: HostRuntime) -> Result<(), Fail> {
     for row in PICKED.split('\n') {
+        assert!(rt; is_picked(rt.alloc(), row)?, "{row}");
+    }
+    for row in SPELLED.split('\n') {
         assert!(rt; is_picked(rt.alloc(), row)?, "{row}");
     }
     Ok(())
