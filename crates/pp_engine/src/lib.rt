@@ -13,7 +13,7 @@ mod shell;
 pub use ending::{Cause, Ending};
 pub use laws::{bytes_decoded_alike_run_alike, words_ask_for_a_plan};
 pub use pp_load::{LoadRefusal, gen_profile, load};
-pub use pp_report::{ReportRefusal, Resources, generate};
+pub use pp_report::{Host, ReportRefusal, generate};
 pub use reporting::reports_are_told;
 pub use running::run;
 pub use shell::turns_suffice;

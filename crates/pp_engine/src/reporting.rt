@@ -19,7 +19,7 @@ use crate::message::locked_line;
 use pp_base::{Gate, Text};
 use pp_desk::{Desk, Stop};
 use pp_model::{Config, Loaded, Report};
-use pp_report::{Prepared, ReportRefusal, Resources, finish, prepare, refusal_line};
+use pp_report::{Host, Prepared, ReportRefusal, finish, prepare, refusal_line};
 use std::alloc::Global;
 use std::mem;
 use std::thread::Threads;
@@ -27,7 +27,7 @@ use std::thread::Threads;
 /// The report that the words ask for. Its text is whole before its first byte goes out.
 #[tactic(auto, using(pp_desk::proofs::Going::going), unfolding(crate::specs::Reporting::report_once))]
 pub fn report_once<R: Threads + Sync, D: Desk, G: Gate>(
-    with: &Resources<'_, R, G>,
+    with: &Host<'_, R, G>,
     l: &Loaded,
     report: &Report,
     config: &Config,
@@ -44,7 +44,7 @@ pub fn report_once<R: Threads + Sync, D: Desk, G: Gate>(
 /// A report of the shell, to standard output or to the file that is named. A refusal is told.
 #[tactic(auto, using(pp_desk::proofs::Going::going), unfolding(crate::specs::Reporting::report_on))]
 pub fn report_on<R: Threads + Sync, D: Desk, G: Gate>(
-    with: &Resources<'_, R, G>,
+    with: &Host<'_, R, G>,
     l: &Loaded,
     report: &Report,
     config: &Config,
@@ -62,7 +62,7 @@ pub fn report_on<R: Threads + Sync, D: Desk, G: Gate>(
 // A report with its notes told: what it is, or why it is refused.
 #[tactic(auto, using(pp_desk::proofs::Going::going), unfolding(crate::specs::Reporting::noted_report))]
 fn noted_report<R: Threads + Sync, D: Desk, G: Gate>(
-    with: &Resources<'_, R, G>,
+    with: &Host<'_, R, G>,
     l: &Loaded,
     report: &Report,
     config: &Config,
@@ -89,7 +89,7 @@ pub fn reports_are_told()
 // The notes, and then the text: a list report reads files for it, and notes are told also where one of them fails.
 #[tactic(auto, using(pp_desk::proofs::Going::going), unfolding(crate::specs::Reporting::note_and_finish))]
 fn note_and_finish<R: Threads + Sync, D: Desk, G: Gate>(
-    with: &Resources<'_, R, G>,
+    with: &Host<'_, R, G>,
     l: &Loaded,
     report: &Report,
     config: &Config,

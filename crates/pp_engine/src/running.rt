@@ -17,36 +17,32 @@ use crate::session::session;
 use pp_base::{Files, Gate, Matcher, Sink, Source, Text};
 use pp_desk::{Desk, Objects, Stop};
 use pp_model::Loaded;
-use pp_report::Resources;
-use std::alloc::Global;
+use pp_report::Host;
 use std::thread::Threads;
 
 // How the program was called.
 #[derive(Drop)]
 struct Invocation<'a, R, G> {
+    with: &'a Host<'a, R, G>,
     words: &'a [Text],
-    // What it is computed with.
-    with: Resources<'a, R, G>,
     // Where the profile is left.
     profile: &'a mut Option<Loaded>,
 }
 
-/// The whole program: what it does for the words after its name, over files, standard
-/// input, both outputs, a matcher of patterns and a gate. A report's text is whole before
-/// its first byte goes out, and the line of an ending is written last.
+/// The whole program: what it does for the words after its name, with what it has of the machine, over files, standard
+/// input, both outputs and a matcher of patterns. A report's text is whole before its first byte goes out, and the line
+/// of an ending is written last.
 ///
 /// The profile that was loaded is left in `profile`, `None` where loading refused it, and what
 /// stood there where nothing was loaded. To give up a large one takes longer than to end the process.
 pub fn run<R: Threads + Sync, F: Files, I: Source, O: Sink, E: Sink, M: Matcher, G: Gate>(
-    rt: &R,
-    alloc: Global,
+    with: &Host<'_, R, G>,
     words: &[Text],
     files: &mut F,
     input: &mut I,
     out: &mut O,
     err: &mut E,
     matcher: &mut M,
-    gate: &G,
     profile: &mut Option<Loaded>,
 ) -> Ending
     ensures status { result.status ≡ status_of result.cause }
@@ -111,16 +107,15 @@ pub fn run<R: Threads + Sync, F: Files, I: Source, O: Sink, E: Sink, M: Matcher,
     // Input is taken from its front, and at most 16,777,216 bytes of it.
     ensures taken { TakesFront INPUT_LIMIT (I.left input.old) (I.left input.new) }
 {
-    let with = Resources { rt, alloc, gate };
     let invocation = Invocation {
-        words,
         with,
+        words,
         profile: &mut *profile,
     };
     run_objects(invocation, files, input, out, err, matcher)
 }
 
-// The same over the objects, by the two clauses of which all else follows.
+// `run` over the objects, by the two clauses of which all else follows.
 fn run_objects<R: Threads + Sync, F: Files, I: Source, O: Sink, E: Sink, M: Matcher, G: Gate>(
     invocation: Invocation<'_, R, G>,
     files: &mut F,
@@ -142,8 +137,8 @@ fn run_objects<R: Threads + Sync, F: Files, I: Source, O: Sink, E: Sink, M: Matc
     ensures taken { TakesFront INPUT_LIMIT (I.left input.old) (I.left input.new) }
 {
     let Invocation {
-        words,
         with,
+        words,
         profile,
     } = invocation;
     let mut reader = None;
@@ -156,13 +151,13 @@ fn run_objects<R: Threads + Sync, F: Files, I: Source, O: Sink, E: Sink, M: Matc
         matcher: &mut *matcher,
         reader: &mut reader,
     };
-    run_session(&with, words, &mut objects, profile)
+    run_session(with, words, &mut objects, profile)
 }
 
 // The session, and the line of its stop.
 #[tactic(auto, using(crate::proofs::Runs::running))]
 fn run_session<R: Threads + Sync, D: Desk, G: Gate>(
-    with: &Resources<'_, R, G>,
+    with: &Host<'_, R, G>,
     words: &[Text],
     desk: &mut D,
     profile: &mut Option<Loaded>,

@@ -18,7 +18,7 @@ use pp_desk::{Desk, Stop};
 use pp_load::{LoadRefusal, load, refusal_line};
 use pp_model::{Config, Loaded, Report};
 use pp_options::{Plan, Topic, UsageFault, UsageRefusal, read_words, topic_asked, write_topic};
-use pp_report::Resources;
+use pp_report::Host;
 use std::alloc::Global;
 use std::mem;
 use std::thread::Threads;
@@ -26,7 +26,7 @@ use std::thread::Threads;
 /// The session of these words. The profile that it loads is left in `profile`.
 #[tactic(auto, using(pp_desk::proofs::Going::going), unfolding(crate::specs::Session::session, crate::specs::Session::begin))]
 pub fn session<R: Threads + Sync, D: Desk, G: Gate>(
-    with: &Resources<'_, R, G>,
+    with: &Host<'_, R, G>,
     words: &[Text],
     desk: &mut D,
     profile: &mut Option<Loaded>,
@@ -53,7 +53,7 @@ fn tell_topic<D: Desk>(alloc: Global, topic: Topic, desk: &mut D) -> Result<Caus
 // All that the words ask for.
 #[tactic(auto, using(pp_desk::proofs::Going::going))]
 fn perform_words<R: Threads + Sync, D: Desk, G: Gate>(
-    with: &Resources<'_, R, G>,
+    with: &Host<'_, R, G>,
     words: &[Text],
     desk: &mut D,
     profile: &mut Option<Loaded>,
@@ -85,14 +85,14 @@ fn refuse_words<D: Desk>(alloc: Global, fault: UsageFault, desk: &mut D) -> Resu
 // What a plan asks for: its profile is loaded, and then the report is made or the shell begins.
 #[tactic(auto, using(pp_desk::proofs::Going::going), unfolding(crate::specs::Session::perform))]
 fn perform<R: Threads + Sync, D: Desk, G: Gate>(
-    with: &Resources<'_, R, G>,
+    with: &Host<'_, R, G>,
     plan: &Plan,
     desk: &mut D,
     profile: &mut Option<Loaded>,
 ) -> Result<Cause, Stop>
     ensures { Went (D.world desk.old) (D.world desk.new) (perform D.finds plan.now) result }
 {
-    let loaded = load(with.rt, with.alloc, plan, desk)?;
+    let loaded = load(with.rt, with.alloc, with.keys, plan, desk)?;
     let done = serve_loaded(with, plan, &loaded, desk);
     *profile = loaded.ok();
     done
@@ -100,7 +100,7 @@ fn perform<R: Threads + Sync, D: Desk, G: Gate>(
 
 #[tactic(auto, using(pp_desk::proofs::Going::going), unfolding(crate::specs::Session::serve_loaded))]
 fn serve_loaded<R: Threads + Sync, D: Desk, G: Gate>(
-    with: &Resources<'_, R, G>,
+    with: &Host<'_, R, G>,
     plan: &Plan,
     loaded: &Result<Loaded, LoadRefusal>,
     desk: &mut D,
@@ -133,7 +133,7 @@ fn refuse_profile<D: Desk>(
 // The report that the words name, and the shell where they name none.
 #[tactic(auto, using(pp_desk::proofs::Going::going), unfolding(crate::specs::Session::serve))]
 fn serve<R: Threads + Sync, D: Desk, G: Gate>(
-    with: &Resources<'_, R, G>,
+    with: &Host<'_, R, G>,
     config: &Config,
     report: &Option<Report>,
     l: &Loaded,

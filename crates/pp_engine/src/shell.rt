@@ -22,7 +22,7 @@ use pp_base::{Gate, Memory, Text};
 use pp_desk::{Desk, InputLine, Stop};
 use pp_model::{Config, Loaded};
 use pp_options::{SHELL_HELP, write_options};
-use pp_report::Resources;
+use pp_report::Host;
 use pp_shell::{Command, LineFault, LineRefusal, read_line};
 use std::alloc::Global;
 use std::mem;
@@ -34,7 +34,7 @@ pub const MOST_LINES: u32 = 16_777_217;
 /// The shell over a profile, from this configuration on: each line of standard input is obeyed before the next is read.
 #[tactic(auto, using(pp_desk::proofs::Going::going), unfolding(crate::specs::Shell::shell))]
 pub fn shell<R: Threads + Sync, D: Desk, G: Gate>(
-    with: &Resources<'_, R, G>,
+    with: &Host<'_, R, G>,
     l: &Loaded,
     config: &Config,
     desk: &mut D,
@@ -50,7 +50,7 @@ pub fn shell<R: Threads + Sync, D: Desk, G: Gate>(
 
 #[tactic(auto, using(crate::proofs::Turning::turning))]
 fn take_turns<R: Threads + Sync, D: Desk, G: Gate>(
-    with: &Resources<'_, R, G>,
+    with: &Host<'_, R, G>,
     l: &Loaded,
     config: &mut Config,
     desk: &mut D,
@@ -70,7 +70,7 @@ fn take_turns<R: Threads + Sync, D: Desk, G: Gate>(
 // One turn: the prompt, the line, and what it asks for. It gives how the session ends, where it does.
 #[tactic(auto, using(pp_desk::proofs::Going::going), unfolding(crate::specs::Shell::turn))]
 fn turn<R: Threads + Sync, D: Desk, G: Gate>(
-    with: &Resources<'_, R, G>,
+    with: &Host<'_, R, G>,
     l: &Loaded,
     config: &mut Config,
     desk: &mut D,
@@ -93,7 +93,7 @@ fn prompt() -> &'static [u8]
 
 #[tactic(auto, using(pp_desk::proofs::Going::going), unfolding(crate::specs::Shell::follow))]
 fn follow<R: Threads + Sync, D: Desk, G: Gate>(
-    with: &Resources<'_, R, G>,
+    with: &Host<'_, R, G>,
     l: &Loaded,
     line: &InputLine,
     config: &mut Config,
@@ -160,7 +160,7 @@ fn command_of(
 
 #[tactic(auto, using(pp_desk::proofs::Going::going), unfolding(crate::specs::Shell::obey_or_complain))]
 fn obey_or_complain<R: Threads + Sync, D: Desk, G: Gate>(
-    with: &Resources<'_, R, G>,
+    with: &Host<'_, R, G>,
     l: &Loaded,
     said: &Result<Command, LineFault>,
     config: &mut Config,
@@ -182,7 +182,7 @@ fn obey_or_complain<R: Threads + Sync, D: Desk, G: Gate>(
 // What a line asks for. An assignment alone changes the configuration of the next line.
 #[tactic(auto, using(pp_desk::proofs::Going::going), unfolding(crate::specs::Shell::obey))]
 fn obey<R: Threads + Sync, D: Desk, G: Gate>(
-    with: &Resources<'_, R, G>,
+    with: &Host<'_, R, G>,
     l: &Loaded,
     command: &Command,
     config: &mut Config,

@@ -8,7 +8,7 @@ ghost use Rattle.pp_compare.specs.Compare.{compare_text};
 ghost use Rattle.pp_report.specs.Reports.{compare_outcome};
 
 use crate::ReportRefusal;
-use crate::resources::Resources;
+use crate::host::Host;
 use crate::subject::Subject;
 use crate::texts::limit_of;
 use pp_base::{Gate, Memory, Text};
@@ -19,7 +19,7 @@ use std::thread::Threads;
 
 /// The compare report, or `NoBase` where no sample carries the base's label.
 pub fn compare<R: Threads + Sync, G: Gate>(
-    with: &Resources<'_, R, G>,
+    with: &Host<'_, R, G>,
     subject: &Subject<'_, '_>,
 ) -> Result<Result<Text, ReportRefusal>, Memory>
     ensures { let s = subject.now.survey in (f : Finders) →
@@ -35,7 +35,7 @@ pub fn compare<R: Threads + Sync, G: Gate>(
 
 // The text of a report that has a base. Its keys have no limit of their own.
 fn compared<R: Threads + Sync, G: Gate>(
-    with: &Resources<'_, R, G>,
+    with: &Host<'_, R, G>,
     subject: &Subject<'_, '_>,
 ) -> Result<Text, Memory>
     ensures { let s = subject.now.survey in (f : Finders) →

@@ -16,7 +16,7 @@ use crate::comparing::compare;
 use crate::exports::{folded, table};
 use crate::heads::head_of;
 use crate::prepared::{Counts, Prepared};
-use crate::resources::Resources;
+use crate::host::Host;
 use crate::shows::Shows;
 use crate::subject::Subject;
 use crate::task::Task;
@@ -35,7 +35,7 @@ use std::thread::Threads;
 /// The text of a report that was prepared, `NoMatch` where the pattern of a peek or list report finds nothing, or
 /// `NoBase` where a compare report has no base. Only a list report reads files.
 pub fn finish<R: Threads + Sync, D: Desk, G: Gate>(
-    with: &Resources<'_, R, G>,
+    with: &Host<'_, R, G>,
     l: &Loaded,
     report: &Report,
     config: &Config,
@@ -69,7 +69,7 @@ pub fn finish<R: Threads + Sync, D: Desk, G: Gate>(
 // The text of a report that shows this.
 #[tactic(auto, using(pp_desk::proofs::Going::going), unfolding(crate::specs::Reports::finish_on))]
 fn finish_on<'x, R: Threads + Sync, D: Desk, G: Gate>(
-    with: &Resources<'_, R, G>,
+    with: &Host<'_, R, G>,
     task: &Task<'x>,
     shows: Shows,
     counts: &'x Option<Counts>,
@@ -90,7 +90,7 @@ fn finish_on<'x, R: Threads + Sync, D: Desk, G: Gate>(
 
 // The text of a report that has counted this.
 fn finish_counts<'x, R: Threads + Sync, D: Desk, G: Gate>(
-    with: &Resources<'_, R, G>,
+    with: &Host<'_, R, G>,
     task: &Task<'x>,
     shows: Shows,
     counts: &'x Counts,
@@ -121,7 +121,7 @@ fn finish_counts<'x, R: Threads + Sync, D: Desk, G: Gate>(
 // The text of a report with this head.
 #[tactic(auto, using(crate::proofs::FinishingLemmas::answering), unfolding(crate::specs::Reports::text_by))]
 fn text_by<R: Threads + Sync, D: Desk, G: Gate>(
-    with: &Resources<'_, R, G>,
+    with: &Host<'_, R, G>,
     report: &Report,
     subject: &Subject<'_, '_>,
     desk: &mut D,

@@ -12,13 +12,12 @@ use crate::ReportRefusal;
 use crate::asking::ask_patterns;
 use crate::notes::notes_by;
 use crate::prepared::{Counts, Prepared};
-use crate::resources::Resources;
+use crate::host::Host;
 use crate::shows::{Shows, shows_for};
 use crate::tagging::tagged_of;
 use pp_base::{Gate, Memory, Text};
 use pp_count::{Counted, count};
 use pp_desk::{Desk, Stop};
-use pp_keys::HashKeys;
 use pp_model::{Config, Loaded, Report, Verdicts};
 use pp_pseudo::basis;
 use std::alloc::Global;
@@ -32,7 +31,7 @@ use std::thread::Threads;
 /// For callers that hand on the notes before the text is made, since a list report reads files for it: `prepare`, the
 /// notes, and `finish` come to what `generate` does.
 pub fn prepare<R: Threads + Sync, D: Desk, G: Gate>(
-    with: &Resources<'_, R, G>,
+    with: &Host<'_, R, G>,
     l: &Loaded,
     report: &Report,
     config: &Config,
@@ -52,7 +51,7 @@ pub fn prepare<R: Threads + Sync, D: Desk, G: Gate>(
 
 // Makes the frames from labels that the report is made with, and goes on over the profile that has these.
 fn prepare_over<R: Threads + Sync, D: Desk, G: Gate>(
-    with: &Resources<'_, R, G>,
+    with: &Host<'_, R, G>,
     l: &Loaded,
     report: &Report,
     config: &Config,
@@ -82,7 +81,7 @@ fn prepare_over<R: Threads + Sync, D: Desk, G: Gate>(
     }
 }
 
-// The same, with the profile that it was made of.
+// What was prepared, with the profile that it was prepared of.
 fn made_of(mut prepared: Prepared, tagged: Option<Loaded>) -> Prepared
     ensures { result ≡ record prepared { tagged = tagged } }
 {
@@ -92,7 +91,7 @@ fn made_of(mut prepared: Prepared, tagged: Option<Loaded>) -> Prepared
 
 // What is done before the text of a report is made that shows this.
 fn prepare_showing<R: Threads + Sync, D: Desk, G: Gate>(
-    with: &Resources<'_, R, G>,
+    with: &Host<'_, R, G>,
     l: &Loaded,
     report: &Report,
     config: &Config,
@@ -125,7 +124,7 @@ fn uncounted(alloc: Global, shows: Shows) -> Prepared
 
 // Asks for the patterns, and counts the samples by what they find.
 fn prepare_counts<R: Threads + Sync, D: Desk, G: Gate>(
-    with: &Resources<'_, R, G>,
+    with: &Host<'_, R, G>,
     l: &Loaded,
     report: &Report,
     config: &Config,
@@ -149,7 +148,7 @@ fn prepare_counts<R: Threads + Sync, D: Desk, G: Gate>(
 
 // What the samples come to by these verdicts, and the notes.
 fn counted<R: Threads + Sync, G: Gate>(
-    with: &Resources<'_, R, G>,
+    with: &Host<'_, R, G>,
     l: &Loaded,
     config: &Config,
     shows: Shows,
@@ -172,9 +171,9 @@ fn counted<R: Threads + Sync, G: Gate>(
     }
 }
 
-// The same, and the notes, as they are.
+// The counts and the notes, which no other value holds yet.
 fn counted_by<R: Threads + Sync, G: Gate>(
-    with: &Resources<'_, R, G>,
+    with: &Host<'_, R, G>,
     l: &Loaded,
     config: &Config,
     column: Option<u32>,
@@ -187,7 +186,7 @@ fn counted_by<R: Threads + Sync, G: Gate>(
     let counted = count(
         with.rt,
         with.alloc,
-        HashKeys::fixed(),
+        with.keys,
         l,
         verdicts,
         config,

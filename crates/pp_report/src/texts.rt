@@ -18,7 +18,7 @@ ghost use Rattle.pp_report.specs.Reports.{peek_outcome};
 ghost use Rattle.pp_report.specs.SavedText.{IsProtoOf};
 
 use crate::ReportRefusal;
-use crate::resources::Resources;
+use crate::host::Host;
 use crate::subject::Subject;
 use pp_base::{Gate, MatchRefusal, Memory, Text};
 use pp_count::Survey;
@@ -52,7 +52,7 @@ pub fn top(alloc: Global, subject: &Subject<'_, '_>) -> Result<Text, Memory>
 
 /// The tree report.
 pub fn tree<R: Threads + Sync, G: Gate>(
-    with: &Resources<'_, R, G>,
+    with: &Host<'_, R, G>,
     subject: &Subject<'_, '_>,
 ) -> Result<Text, Memory>
     ensures { let s = subject.now.survey in (f : Finders) →
@@ -77,7 +77,7 @@ pub fn limit_of(config: &Config, own: u32) -> u32
 
 /// The peek report, or `NoMatch` where its pattern finds nothing.
 pub fn peek<R: Threads + Sync, G: Gate>(
-    with: &Resources<'_, R, G>,
+    with: &Host<'_, R, G>,
     subject: &Subject<'_, '_>,
 ) -> Result<Result<Text, ReportRefusal>, Memory>
     ensures { let s = subject.now.survey in (f : Finders) →

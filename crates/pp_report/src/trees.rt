@@ -6,7 +6,7 @@ ghost use Rattle.pp_count.specs.Seeing.{HoldsFilters};
 ghost use Rattle.pp_calltree.specs.Text.{calltree_text};
 ghost use Rattle.pp_report.specs.Reports.{tree_report_text};
 
-use crate::resources::Resources;
+use crate::host::Host;
 use crate::subject::Subject;
 use crate::texts::tree;
 use pp_base::{Gate, Memory, Text};
@@ -17,7 +17,7 @@ use std::thread::Threads;
 /// The tree report: by paths from the root where the configuration asks for these, else each key with its callers and
 /// callees.
 pub fn tree_report<R: Threads + Sync, G: Gate>(
-    with: &Resources<'_, R, G>,
+    with: &Host<'_, R, G>,
     subject: &Subject<'_, '_>,
 ) -> Result<Text, Memory>
     ensures { let s = subject.now.survey in (f : Finders) →

@@ -1,7 +1,8 @@
 // Whole runs, without the clauses of the top call, so that the tests need not carry them.
 
 use pp_base::{CalmFiles, CalmSink, CalmSource, Gate, List, Memory, Text};
-use pp_engine::run;
+use pp_engine::{Host, run};
+use pp_keys::HashKeys;
 use pp_regex::RegexMatcher;
 use std::alloc::Global;
 use std::mem;
@@ -71,8 +72,14 @@ fn printed<R: Threads + Sync, G: Gate>(
     let mut out = CalmSink::new(alloc, 4096);
     let mut err = CalmSink::new(alloc, 16);
     let mut regex = RegexMatcher::new(alloc);
+    let host = Host {
+        rt,
+        alloc,
+        keys: HashKeys::fixed(),
+        gate,
+    };
     let ending = run(
-        rt, alloc, words, files, &mut input, &mut out, &mut err, &mut regex, gate, &mut None,
+        &host, words, files, &mut input, &mut out, &mut err, &mut regex, &mut None,
     );
     copied(alloc, out.bytes(), err.bytes(), ending.status)
 }

@@ -7,7 +7,8 @@ use pp_base::{
     CalmFiles, CalmSink, CalmSource, FileRead, Files, List, Literal, Matcher, Memory, OpenGate,
     Sink, Source, Text,
 };
-use pp_engine::run;
+use pp_engine::{Host, run};
+use pp_keys::HashKeys;
 use pp_real::{Input, Output, RealFiles};
 use pp_regex::RegexMatcher;
 use pp_transcripts::{AllCalls, Calls, Contents, Patterns, Session, Trial};
@@ -52,16 +53,20 @@ fn status_of<
     E: Sink + Drop,
     M: Matcher + Drop,
 >(machine: &Machine<R>, words: &[Text], stage: &mut Stage<F, I, O, E, M>) -> u8 {
+    let host = Host {
+        rt: machine.threads,
+        alloc: machine.alloc,
+        keys: HashKeys::fixed(),
+        gate: &OpenGate,
+    };
     let ending = run(
-        machine.threads,
-        machine.alloc,
+        &host,
         words,
         &mut stage.files,
         &mut stage.input,
         &mut stage.out,
         &mut stage.err,
         &mut stage.matcher,
-        &OpenGate,
         &mut None,
     );
     ending.status

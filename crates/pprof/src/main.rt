@@ -7,7 +7,8 @@ ghost use Rattle.pp_base.specs.Writes.{PutsFront};
 ghost use Rattle.pp_engine.specs.Endings.{fault_line, status_of};
 
 use pp_base::{OpenGate, Sink, write_all};
-use pp_engine::{Cause, Ending, run};
+use pp_engine::{Cause, Ending, Host, run};
+use pp_keys::HashKeys;
 use pp_real::{Input, Output, RealFiles, read_words};
 use pp_regex::RegexMatcher;
 use std::mem;
@@ -17,17 +18,21 @@ fn main(rt: HostRuntime) -> ExitCode {
     let alloc = rt.alloc();
     let mut err = Output::new(rt.stderr());
     let mut profile = None;
+    let host = Host {
+        rt: &rt,
+        alloc,
+        keys: HashKeys::random(&rt),
+        gate: &OpenGate,
+    };
     let ending = match read_words(&rt, alloc) {
         Ok(words) => run(
-            &rt,
-            alloc,
+            &host,
             &words,
             &mut RealFiles::new(&rt),
             &mut Input::new(rt.stdin()),
             &mut Output::new(rt.stdout()),
             &mut err,
             &mut RegexMatcher::new(alloc),
-            &OpenGate,
             &mut profile,
         ),
         Err(_) => end_without_words(&mut err),
