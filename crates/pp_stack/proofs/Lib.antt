@@ -1,3 +1,4 @@
+pub mod UnfocusedLemmas
 pub mod ForceLemmas
 pub mod LoadFinderLemmas
 mod Rows

@@ -11,6 +11,7 @@ ghost use Rattle.pp_stack.specs.Tables.{AreTables};
 
 use crate::stages::{cut_by, kept_by, load_prune, prune_from, show_from_by};
 use crate::tables::VerdictTables;
+use crate::unfocused::lacks_focus;
 use pp_base::Memory;
 use pp_model::{Loaded, Sample, Stack, Verdicts, frames, frames_into};
 use std::alloc::Global;
@@ -58,6 +59,10 @@ pub fn filter_into(
         ≡ stack_of_sample l.now.profile f s.now) }
     ensures of_profile { IfOk result (λ _. IsStackOf l.now.profile stack.new) }
 {
+    if lacks_focus(l, v, tables, s) {
+        stack.truncate(0);
+        return Ok(false);
+    }
     frames_into(l, s, stack)?;
     let kept = filter_frames(l, v, tables, stack);
     Ok(kept)

@@ -9,6 +9,7 @@ mod runs;
 mod stages;
 mod table;
 mod tables;
+mod unfocused;
 
 pub use filter::{filter_into, filter_stack, keeps_all};
 pub use runs::finds_some;

@@ -1,0 +1,5 @@
+use Rattle.pp_stack.proofs.unfocused.finds_if.Goals as goal
+
+-- the pattern is in force
+pub finds_sample-requires-clause-table : goal.finds_sample-requires-clause-table
+finds_sample-requires-clause-table c = c.requires.table c.in-Some.found c.in-Some.is
