@@ -3,3 +3,4 @@ mod Remapping
 mod SteppedSamples
 mod SteppedHeader
 mod SteppedMerges
+mod Weights

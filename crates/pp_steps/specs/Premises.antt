@@ -1,11 +1,12 @@
 -- What profiles that are merged in steps have to be like.
-use Rattle.std.specs.Prelude.{◌≡◌, ◌<◌, ◌^◌, ◌≤ℤ◌, ℕ, pos, List, [], ◌∷◌, length, filter}
-use Rattle.std.specs.List.{AllByRecursion}
+use Rattle.std.specs.Prelude.{◌≡◌, ◌<◌, ◌^◌, ◌≤ℤ◌, ℕ, pos, true, false, List, [], ◌∷◌, length, filter}
+use Rattle.std.specs.List.{AllByRecursion, list_all, list_any}
+use Rattle.std.specs.Ordering.{int_eq}
 use Rattle.pp_model.specs.declared.profile.Profile.{Profile}
-use Rattle.pp_share.specs.Alike.{same_sample, first_alike}
+use Rattle.pp_share.specs.Alike.{same_mapping, same_sample, first_alike}
 use Rattle.pp_share.specs.Sums.{counts, summed}
 use Rattle.pp_merge.specs.Merge.{all_mappings, all_samples}
-use Rattle.pp_steps.specs.Steps.{Group, sources_of, all_sources, in_steps}
+use Rattle.pp_steps.specs.Steps.{Group, sources_of, all_sources, merged_group, in_steps}
 
 -- the group's profiles have so many types, and each of their samples has a value for each
 pub record HasValues (columns : ℕ) (g : Group) : Type 0 where
@@ -33,3 +34,18 @@ pub record MergeInSteps (columns : ℕ) (g : Group) (groups : List Group) : Type
   pub samples : AllByRecursion (KeepsSamples columns) (g ∷ groups)
   pub durations : AllByRecursion (λ q. pos 0 ≤ℤ q.duration_nanos) (all_sources (g ∷ groups))
   pub mappings : HasFirstMappings (all_sources (g ∷ groups)) (in_steps g groups)
+
+-- no value of the profile is negative, and each sample has one that isn't 0
+pub record HasWeights (p : Profile) : Type 0 where
+  pub least : AllByRecursion (λ s. AllByRecursion (λ v. pos 0 ≤ℤ v) s.value) p.sample
+  pub some : AllByRecursion (λ s. list_all (int_eq (pos 0)) s.value ≡ false) p.sample
+
+-- Each mapping of the group's profiles is one with a mapping of the group's merge.
+abbrev pub KeepsMappings : Group → Type 0
+KeepsMappings g =
+    AllByRecursion (λ m. list_any (same_mapping m) (all_mappings (merged_group g ∷ [])) ≡ true)
+    (all_mappings (sources_of g))
+
+-- Mappings that are one are equal.
+abbrev pub HasEqualMappings : List Profile → Type 0
+HasEqualMappings sources = AllByRecursion (λ m. first_alike (all_mappings sources) m ≡ m) (all_mappings sources)
