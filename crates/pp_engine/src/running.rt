@@ -16,6 +16,7 @@ use crate::ending::{Cause, Ending, cause_of_stop};
 use crate::session::session;
 use pp_base::{Files, Gate, Matcher, Sink, Source, Text};
 use pp_desk::{Desk, Objects, Stop};
+use pp_keys::HashKeys;
 use pp_model::Loaded;
 use pp_report::Resources;
 use std::alloc::Global;
@@ -33,13 +34,15 @@ struct Invocation<'a, R, G> {
 
 /// The whole program: what it does for the words after its name, over files, standard
 /// input, both outputs, a matcher of patterns and a gate. A report's text is whole before
-/// its first byte goes out, and the line of an ending is written last.
+/// its first byte goes out, and the line of an ending is written last. The hash tables have
+/// the keys `keys`, on which nothing that is printed depends.
 ///
 /// The profile that was loaded is left in `profile`, `None` where loading refused it, and what
 /// stood there where nothing was loaded. To give up a large one takes longer than to end the process.
 pub fn run<R: Threads + Sync, F: Files, I: Source, O: Sink, E: Sink, M: Matcher, G: Gate>(
     rt: &R,
     alloc: Global,
+    keys: HashKeys,
     words: &[Text],
     files: &mut F,
     input: &mut I,
@@ -111,7 +114,12 @@ pub fn run<R: Threads + Sync, F: Files, I: Source, O: Sink, E: Sink, M: Matcher,
     // Input is taken from its front, and at most 16,777,216 bytes of it.
     ensures taken { TakesFront INPUT_LIMIT (I.left input.old) (I.left input.new) }
 {
-    let with = Resources { rt, alloc, gate };
+    let with = Resources {
+        rt,
+        alloc,
+        gate,
+        keys,
+    };
     let invocation = Invocation {
         words,
         with,
@@ -120,7 +128,7 @@ pub fn run<R: Threads + Sync, F: Files, I: Source, O: Sink, E: Sink, M: Matcher,
     run_objects(invocation, files, input, out, err, matcher)
 }
 
-// The same over the objects, by the two clauses of which all else follows.
+// `run` over the objects, by the two clauses of which all else follows.
 fn run_objects<R: Threads + Sync, F: Files, I: Source, O: Sink, E: Sink, M: Matcher, G: Gate>(
     invocation: Invocation<'_, R, G>,
     files: &mut F,

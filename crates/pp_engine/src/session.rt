@@ -92,7 +92,7 @@ fn perform<R: Threads + Sync, D: Desk, G: Gate>(
 ) -> Result<Cause, Stop>
     ensures { Went (D.world desk.old) (D.world desk.new) (perform D.finds plan.now) result }
 {
-    let loaded = load(with.rt, with.alloc, plan, desk)?;
+    let loaded = load(with.rt, with.alloc, with.keys, plan, desk)?;
     let done = serve_loaded(with, plan, &loaded, desk);
     *profile = loaded.ok();
     done

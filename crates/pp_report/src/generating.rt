@@ -16,6 +16,7 @@ use crate::preparing::prepare;
 use crate::resources::Resources;
 use pp_base::{Gate, Memory, Text};
 use pp_desk::{Desk, Stop};
+use pp_keys::HashKeys;
 use pp_model::{Config, Loaded, Report};
 use std::alloc::Global;
 use std::mem;
@@ -60,7 +61,12 @@ pub fn generate<'x, R: Threads + Sync, D: Desk, G: Gate>(
     ensures saved { report.now ≡ Proto → NamesNoKey config.now →
         OnText result (IsSavedText D.finds l.now config.now) }
 {
-    let with = Resources { rt, alloc, gate };
+    let with = Resources {
+        rt,
+        alloc,
+        gate,
+        keys: HashKeys::fixed(),
+    };
     match prepare(&with, l, report, config, desk)? {
         Err(refusal) => Ok(Err(refusal)),
         Ok(prepared) => match notes.extend(prepared.notes.as_slice()) {

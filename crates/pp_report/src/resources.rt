@@ -1,5 +1,6 @@
 //! What a report is computed with.
 
+use pp_keys::HashKeys;
 use std::alloc::Global;
 
 /// What a report is computed with, apart from the outside.
@@ -11,4 +12,6 @@ pub struct Resources<'a, R, G> {
     pub alloc: Global,
     /// What each lane passes before and after a piece.
     pub gate: &'a G,
+    /// The keys of the hash tables. No answer depends on them.
+    pub keys: HashKeys,
 }

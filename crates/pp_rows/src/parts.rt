@@ -12,6 +12,7 @@ use crate::running::words_of;
 use pp_base::{CalmFiles, CalmSink, CalmSource, List, Memory, Text};
 use pp_count::{KeyTable, Part, column_of, count_piece, join_parts, key_table};
 use pp_desk::{Objects, Stop};
+use pp_keys::HashKeys;
 use pp_load::{LoadRefusal, load};
 use pp_model::{Config, Loaded, Verdicts};
 use pp_options::{Plan, read_words};
@@ -64,7 +65,7 @@ fn plan_has_sums<R: Threads + Sync>(
         matcher: &mut matcher,
         reader: &mut reader,
     };
-    let loading = load(rt, alloc, plan, &mut desk);
+    let loading = load(rt, alloc, HashKeys::fixed(), plan, &mut desk);
     let answer = have_sums(alloc, &loading, sums);
     mem::drop(loading);
     answer

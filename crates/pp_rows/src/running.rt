@@ -2,6 +2,7 @@
 
 use pp_base::{CalmFiles, CalmSink, CalmSource, Gate, List, Memory, Text};
 use pp_engine::run;
+use pp_keys::HashKeys;
 use pp_regex::RegexMatcher;
 use std::alloc::Global;
 use std::mem;
@@ -72,7 +73,17 @@ fn printed<R: Threads + Sync, G: Gate>(
     let mut err = CalmSink::new(alloc, 16);
     let mut regex = RegexMatcher::new(alloc);
     let ending = run(
-        rt, alloc, words, files, &mut input, &mut out, &mut err, &mut regex, gate, &mut None,
+        rt,
+        alloc,
+        HashKeys::fixed(),
+        words,
+        files,
+        &mut input,
+        &mut out,
+        &mut err,
+        &mut regex,
+        gate,
+        &mut None,
     );
     copied(alloc, out.bytes(), err.bytes(), ending.status)
 }

@@ -8,6 +8,7 @@ use pp_base::{
     Sink, Source, Text,
 };
 use pp_engine::run;
+use pp_keys::HashKeys;
 use pp_real::{Input, Output, RealFiles};
 use pp_regex::RegexMatcher;
 use pp_transcripts::{AllCalls, Calls, Contents, Patterns, Session, Trial};
@@ -55,6 +56,7 @@ fn status_of<
     let ending = run(
         machine.threads,
         machine.alloc,
+        HashKeys::fixed(),
         words,
         &mut stage.files,
         &mut stage.input,

@@ -8,6 +8,7 @@ ghost use Rattle.pp_engine.specs.Endings.{fault_line, status_of};
 
 use pp_base::{OpenGate, Sink, write_all};
 use pp_engine::{Cause, Ending, run};
+use pp_keys::HashKeys;
 use pp_real::{Input, Output, RealFiles, read_words};
 use pp_regex::RegexMatcher;
 use std::mem;
@@ -21,6 +22,7 @@ fn main(rt: HostRuntime) -> ExitCode {
         Ok(words) => run(
             &rt,
             alloc,
+            HashKeys::random(&rt),
             &words,
             &mut RealFiles::new(&rt),
             &mut Input::new(rt.stdin()),
