@@ -6,12 +6,12 @@ ghost use Rattle.pp_load.specs.Joining.{AreCountableProfiles, AreMergeable, IsOn
 ghost use Rattle.pp_load.specs.Combine.{agreeing, agreeing_with, merging, scaling_if, subtracting, less_bases, joining, combined};
 
 use crate::refusal::LoadRefusal;
-use crate::resources::Resources;
-use pp_base::{List, Memory, OpenGate};
+use pp_base::{List, Memory};
 use pp_desk::{Halt, Stop};
 use pp_merge::{MergeRefusal, NothingToScale, agree, merge_on, normalize, subtract};
 use pp_model::{BaseKind, Compact};
 use pp_share::Hashed;
+use pp_steal::Resources;
 use std::alloc::Global;
 use std::thread::Threads;
 
@@ -106,7 +106,7 @@ fn merge_all<R: Threads + Sync>(
     ensures is { Loads (merging profiles) result }
     ensures one { IfOk result (IsOneOf profiles) }
 {
-    match merge_on(with.rt, with.alloc, profiles, with.workers, &OpenGate) {
+    match merge_on(with, profiles) {
         Ok(merged) => Ok(merged),
         Err(refusal) => Err(halt_of(refusal)),
     }

@@ -8,13 +8,12 @@ ghost use Rattle.pp_load.specs.Decode.{legacy_given, tables_given, checked, tabl
 ghost use Rattle.pp_model.specs.Sizes.{HasAtMost};
 
 use crate::refusal::LoadRefusal;
-use crate::resources::Resources;
-use pp_base::OpenGate;
 use pp_check::{CheckRefusal, check_on};
 use pp_desk::{Halt, Stop};
 use pp_legacy::{LegacyRefusal, is_legacy, read_legacy};
 use pp_model::Profile;
 use pp_share::Hashed;
+use pp_steal::Resources;
 use pp_tables::{ReadRefusal, read_profile_on};
 use std::alloc::Global;
 use std::thread::Threads;
@@ -75,7 +74,7 @@ fn read_tables<R: Threads + Sync>(
     ensures is { Loads (tables_given source (read bytes.now)) result }
     ensures few { IfOk result (HasAtMost (length bytes.now)) }
 {
-    match read_profile_on(with.rt, with.alloc, bytes, with.workers, &OpenGate) {
+    match read_profile_on(with, bytes) {
         Ok(profile) => Ok(profile),
         Err(ReadRefusal::Empty) => Err(Halt::Refused(LoadRefusal::Empty { source })),
         Err(ReadRefusal::Compressed) => Err(Halt::Refused(LoadRefusal::Compressed { source })),
@@ -94,7 +93,7 @@ fn check_tables<R: Threads + Sync>(
     ensures is { Loads (checked source profile) result }
     ensures same { IfOk result (λ hashed. hashed ≡ profile) }
 {
-    match check_on(with.rt, with.alloc, profile, with.workers, &OpenGate) {
+    match check_on(with, profile) {
         Ok(hashed) => Ok(hashed),
         Err(CheckRefusal::Fault(fault)) => {
             Err(Halt::Refused(LoadRefusal::Table { source, fault }))

@@ -12,7 +12,6 @@ mod loading;
 mod message;
 mod reading;
 mod refusal;
-mod resources;
 
 pub use generator::gen_profile;
 pub use laws::{

@@ -15,21 +15,24 @@ ghost use Rattle.pp_load.specs.Load.{load};
 use crate::combine::combine;
 use crate::reading::{Read, read_plan};
 use crate::refusal::LoadRefusal;
-use crate::resources::Resources;
 use pp_base::List;
 use pp_desk::{Desk, Halt, Stop, settle};
+use pp_keys::HashKeys;
 use pp_model::{Compact, Loaded};
 use pp_options::Plan;
 use pp_pattern::{FramesRefused, judge_load};
+use pp_steal::Resources;
 use std::alloc::Global;
 use std::thread::Threads;
 
 /// Loads the profile of a plan: its sources and bases are read in the order of their words, combined to one profile,
 /// and that profile's own patterns are asked. The first refusal ends all. A file's bytes are given up once they are
-/// decoded, on as many lanes as the configuration has workers, and the decoded profiles once they are merged.
+/// decoded, on as many lanes as the configuration has workers, and the decoded profiles once they are merged. The hash
+/// tables have the keys `keys`, on which no answer depends.
 pub fn load<R: Threads + Sync, D: Desk>(
     rt: &R,
     alloc: Global,
+    keys: HashKeys,
     plan: &Plan,
     desk: &mut D,
 ) -> Result<Result<Loaded, LoadRefusal>, Stop>
@@ -44,13 +47,14 @@ pub fn load<R: Threads + Sync, D: Desk>(
     ensures found { IfOk result (λ loading.
         IfOk loading (λ l. (l.drop, l.keep) ≡ load_verdicts D.finds l.profile)) }
 {
-    settle(load_plan(rt, alloc, plan, desk))
+    settle(load_plan(rt, alloc, keys, plan, desk))
 }
 
 #[tactic(auto, using(pp_desk::proofs::AskingLemmas::asking, crate::proofs::Giving::given), unfolding(crate::specs::Load::load))]
 fn load_plan<R: Threads + Sync, D: Desk>(
     rt: &R,
     alloc: Global,
+    keys: HashKeys,
     plan: &Plan,
     desk: &mut D,
 ) -> Result<Loaded, Halt<LoadRefusal>>
@@ -63,6 +67,7 @@ fn load_plan<R: Threads + Sync, D: Desk>(
         rt,
         alloc,
         workers: plan.config.workers,
+        keys,
     };
     let read = read_plan(&with, plan, desk)?;
     let profile = combine_read(&with, plan, read)?;

@@ -14,11 +14,11 @@ ghost use Rattle.pp_load.specs.Load.{read_bytes, read_next, read_base, read_all,
 use crate::decode::decode;
 use crate::generator::gen_profile;
 use crate::refusal::LoadRefusal;
-use crate::resources::Resources;
 use pp_base::{List, Memory, Text};
 use pp_desk::{Desk, FileContent, Halt};
 use pp_options::{Origin, Plan};
 use pp_share::Hashed;
+use pp_steal::Resources;
 use std::alloc::Global;
 use std::thread::Threads;
 

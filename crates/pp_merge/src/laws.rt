@@ -1,17 +1,14 @@
 //! What holds of any profile that is written. These functions do nothing: their clauses are the laws.
 ghost use Rattle.pp_model.specs.Rules.{IsCompact, NoRuleFails};
-ghost use Rattle.std.specs.Prelude.{◌≡◌, ◌<◌, ◌≤◌, ◌^◌, ℕ, ℤ, Bool, List, [], ◌∷◌, filter, length, option_map};
+ghost use Rattle.std.specs.Prelude.{◌≡◌, ◌<◌, ◌≤◌, ◌^◌, ℕ, ℤ, List, [], ◌∷◌, length};
 ghost use Rattle.pp_merge.specs.Lengths.{IsNoLonger};
-ghost use Rattle.pp_merge.specs.Totals.{value_sum, value_sums, sum_passing};
+ghost use Rattle.pp_merge.specs.Totals.{value_sum, value_sums};
 ghost use Rattle.std.specs.List.{AllByRecursion, sum_by};
 ghost use Rattle.pp_model.specs.Sizes.{absolute_sum};
 ghost use Rattle.pp_model.specs.declared.profile.Profile.{Profile};
 ghost use Rattle.pp_share.specs.Written.{Contents, written, FitsTypes};
 ghost use Rattle.pp_merge.specs.Merge.{contents, merged, all_mappings};
 ghost use Rattle.pp_merge.specs.Settled.{IsSettled};
-ghost use Rattle.pp_share.specs.Sums.{counts, summed};
-ghost use Rattle.pp_share.specs.Alike.{same_sample, first_alike};
-ghost use Rattle.pp_share.specs.Described.{SampleText, mapping_found};
 
 /// In a written profile each id is its place plus 1, and no text stands twice.
 pub fn written_is_compact()

@@ -65,7 +65,7 @@ fn plan_has_sums<R: Threads + Sync>(
         matcher: &mut matcher,
         reader: &mut reader,
     };
-    let loading = load(rt, alloc, plan, &mut desk);
+    let loading = load(rt, alloc, HashKeys::fixed(), plan, &mut desk);
     let answer = have_sums(alloc, &loading, sums);
     mem::drop(loading);
     answer
