@@ -1,18 +1,32 @@
 -- What one more item does to the sums per key.
-use Rattle.std.proofs.Common.{◌≡◌, ℕ, ◌<◌, ◌≤◌, Bool, true, false, true≢false, ◌||◌, ℤ, pos, nat_abs, List, [], ◌∷◌, ◌++◌, Some, length, map, filter, get_or, sum_by, refl, sym, ap, ◌∙◌, if◌then◌else◌, arith}
-use Rattle.std.proofs.lemmas.List.{map-append, append-nil}
-use Rattle.std.proofs.lemmas.List.Sums.{sum_by-cons}
-use Rattle.std.specs.List.{list_any, All, AllByRecursion, IsDistinct}
-use Rattle.std.specs.Map.{lookup}
-use Rattle.std.specs.Option.{unwrap_or}
+use Rattle.std.proofs.Common.{◌≡◌, ℕ, Bool, true, false, true≢false, ◌&&◌, ◌||◌, ℤ, ◌+ℤ◌, pos, not, List, [], ◌∷◌, ◌++◌, length, map, filter, refl, sym, ap, ◌∙◌, if◌then◌else◌, arith}
+use Rattle.std.proofs.lemmas.Bool.{and_parts}
+use Rattle.std.proofs.lemmas.Bool.Decides.{Decides-int_eq}
+use Rattle.std.proofs.lemmas.List.{map-append, append-nil, append_assoc}
+use Rattle.std.proofs.lemmas.List.Elements.{filter-append}
+use Rattle.std.proofs.Math.IntN.{+ℤ_idl, +ℤ_comm}
+use Rattle.std.specs.List.{list_all, list_any, AllByRecursion}
+use Rattle.std.specs.Prelude.{⊤}
+use Rattle.std.specs.Ordering.{int_eq}
 use Rattle.std.specs.Cmp.{IsEquivalence}
-use Rattle.indexmap.specs.IndexMap.{insert_entry}
-use Rattle.pp_base.proofs.Lists.{all_by, map_agree}
+use Rattle.pp_base.proofs.Lists.{map_agree, all_by}
 use Rattle.pp_model.specs.FirstSight.{seen_with, distinct}
-use Rattle.pp_share.specs.Sums.{added, sum_with, column_totals, keys_of, rows_of, sum_of, summed, sum_at, sums_with, CanAdd}
-use Rattle.pp_model.proofs.FirstSightLemmas.{IsSeen, all_seen, distinct_push, distinct_apart}
-use Rattle.pp_share.proofs.Prefix.{IsNext, next_holds, seen_all, next_weight}
-use Rattle.pp_share.proofs.SumLemmas.{added-zeros, sum_with_row, total_push, length-total_of, abs-total_of, weight}
+use Rattle.pp_share.specs.Sums.{added, column_totals, counts, keys_of, rows_of, sum_of, summed}
+use Rattle.pp_model.proofs.FirstSightLemmas.{IsSeen, all_seen, distinct_push, all-seen_after}
+use Rattle.pp_share.proofs.SumLemmas.{added-zeros, total_push}
+
+-- all values of the row are 0
+abbrev pub IsZero : List ℤ → Type 0
+IsZero row = list_all (int_eq (pos 0)) row ≡ true
+
+-- a row of zeros adds nothing
+added_none : (sum row : List ℤ) → IsZero row → added sum row ≡ sum
+added_none [] row zero_row = refl
+added_none (x ∷ xs) [] zero_row = refl
+added_none (x ∷ xs) (y ∷ ys) zero_row =
+    let parts = and_parts (int_eq (pos 0) y) (list_all (int_eq (pos 0)) ys) zero_row in
+    let none : pos 0 ≡ y = (Decides-int_eq (pos 0) y).0 parts.0 in
+    (λ j. (ap (λ v. x +ℤ v) (sym none) ∙ +ℤ_comm x (pos 0) ∙ +ℤ_idl x) j ∷ added_none xs ys parts.1 j)
 
 module _ {K : Type 0} (same : K → K → Bool) (laws : IsEquivalence same) where
   any-congr : (k x : K) → same k x ≡ true → (zs : List K) → list_any (same k) zs ≡ list_any (same x) zs
@@ -27,22 +41,6 @@ module _ {K : Type 0} (same : K → K → Bool) (laws : IsEquivalence same) wher
       by : (b : Bool) → same k x ≡ b → (list_any (same k) xs ≡ true → IsSeen same seen k) → (b || list_any (same k) xs) ≡ true → IsSeen same seen k
       by true is rest h = any-congr k x is seen ∙ all.0
       by false is rest h = rest h
-
-  not_among : (k : K) (xs : List K) → list_any (same k) (distinct same xs) ≡ false → list_any (same k) xs ≡ false
-  not_among k xs new = by (list_any (same k) xs) refl
-    where
-      by : (b : Bool) → list_any (same k) xs ≡ b → b ≡ false
-      by true is = absurd (true≢false (sym (seen_among (distinct same xs) k xs (all_seen same laws.refl [] xs) is) ∙ new))
-      by false is = refl
-
-  none_is : (k : K) (xs : List K) → list_any (same k) xs ≡ false → AllByRecursion (λ q. same q k ≡ false) xs
-  none_is k [] none = tt
-  none_is k (x ∷ xs) none = by (same k x) refl (none_is k xs) none
-    where
-      by : (b : Bool) → same k x ≡ b → (list_any (same k) xs ≡ false → AllByRecursion (λ q. same q k ≡ false) xs) → (b || list_any (same k) xs) ≡ false
-          → AllByRecursion (λ q. same q k ≡ false) (x ∷ xs)
-      by true is rest h = absurd (true≢false h)
-      by false is rest h = (laws.symm x k ∙ is, rest h)
 
   -- the values of a key after one more item
   abbrev row_if : Bool → List ℤ → List (List ℤ)
@@ -87,55 +85,114 @@ module _ {K : Type 0} (same : K → K → Bool) (laws : IsEquivalence same) wher
     pub keys_push : distinct same (keys_of same (items ++ (k, row) ∷ [])) ≡ seen_with same (distinct same (keys_of same items)) k
     keys_push = ap (distinct same) (map-append (λ (item : K × List ℤ). item.0) items ((k, row) ∷ [])) ∙ distinct_push same laws.refl (keys_of same items) k
 
+  -- a key that no item has is not among the distinct ones either
+  any_of : (k : K) (xs : List K) → list_any (same k) xs ≡ false → AllByRecursion (λ x. same k x ≡ false) xs
+  any_of k [] none = tt
+  any_of k (x ∷ xs) none = by (same k x) refl (any_of k xs) none
+    where
+      by : (b : Bool) → same k x ≡ b → (list_any (same k) xs ≡ false → AllByRecursion (λ x. same k x ≡ false) xs) → (b || list_any (same k) xs) ≡ false
+          → AllByRecursion (λ x. same k x ≡ false) (x ∷ xs)
+      by true is rest none = absurd (true≢false none)
+      by false is rest none = (is, rest none)
+
+  any_none : (k : K) (xs : List K) → AllByRecursion (λ x. same k x ≡ false) xs → list_any (same k) xs ≡ false
+  any_none k [] all = refl
+  any_none k (x ∷ xs) all = ap (λ b. b || list_any (same k) xs) all.0 ∙ any_none k xs all.1
+
+  new_among : (k : K) (xs : List K) → list_any (same k) xs ≡ false → list_any (same k) (distinct same xs) ≡ false
+  new_among k xs none =
+      any_none k (distinct same xs)
+      (all-seen_after same same (λ x. x) (λ x. same k x ≡ false) (λ a b p q. refl) [] xs tt (any_of k xs none))
+
+  -- an item of zeros, where its key is known, and any item with a new key
+  abbrev pub Adds : List (K × List ℤ) → K × List ℤ → Type 0
+  Adds items item = list_any (same item.0) (keys_of same items) ≡ true → IsZero item.1
+
+  module _ (columns : ℕ) (items : List (K × List ℤ)) (k : K) (row : List ℤ) (wide : length row ≡ columns) (adds : Adds items (k, row)) where
     abbrev before : K → K × List ℤ
     before = with_sum columns items
 
     abbrev after : K → K × List ℤ
     after = with_sum columns (items ++ (k, row) ∷ [])
 
-    -- the sums from y on, where y is the key or another
-    abbrev put : K → List K → Bool → List ℤ → List (K × List ℤ)
-    put y ys b sum = if b then (y, sum) ∷ map before ys else before y ∷ insert_entry same (map before ys) k sum
+    abbrev known : Bool
+    known = list_any (same k) (distinct same (keys_of same items))
 
-    -- The item's row is added to the sum of its key, and goes last with a new one.
-    sums_at : length row ≡ columns → (keys : List K) → IsDistinct same keys → (list_any (same k) keys ≡ false → after k ≡ (k, row))
-        → map after (seen_with same keys k) ≡ sums_with same (map before keys) k row
-    unfolding IsDistinct
-    sums_at wide [] apart new = ap (λ e. e ∷ []) (new refl)
-    sums_at wide (y ∷ ys) apart new = by (same k y) refl (sums_at wide ys apart.1) new
+    seen : known ≡ true → list_any (same k) (keys_of same items) ≡ true
+    seen is = by (list_any (same k) (keys_of same items)) refl
       where
-        others : same k y ≡ true → map after ys ≡ map before ys
-        others is =
-            map_agree after before ys
-            (all_by (λ z. same y z ≡ false) (λ z. after z ≡ before z) (λ z no. ap (λ sum. (z, sum)) (sum_other z (laws.symm z k ∙ laws.congr k y z is ∙ no))) ys apart.0)
+        by : (b : Bool) → list_any (same k) (keys_of same items) ≡ b → b ≡ true
+        by true at = refl
+        by false at = absurd (true≢false (sym is ∙ new_among k (keys_of same items) at))
 
-        own : same k y ≡ true → after y ≡ (y, sum_with (sum_of same columns items y) row)
-        own is =
-            ap (λ sum. (y, sum)) (sum_own y (laws.symm y k ∙ is)
-            ∙ sym (sum_with_row (sum_of same columns items y) row (wide ∙ sym (length-total_of columns (rows_of same items y)))))
+    stays : IsZero row → (q : K) → after q ≡ before q
+    stays none q = by (same q k) refl
+      where
+        by : (b : Bool) → same q k ≡ b → after q ≡ before q
+        by true is = ap (λ sum. (q, sum)) (sum_own columns items k row q is ∙ added_none (sum_of same columns items q) row none)
+        by false is = ap (λ sum. (q, sum)) (sum_other columns items k row q is)
 
-        rest : (c : Bool) → same k y ≡ false → map after (if c then ys else ys ++ k ∷ []) ≡ sums_with same (map before ys) k row
-            → map after (if c then y ∷ ys else y ∷ (ys ++ k ∷ [])) ≡ before y ∷ sums_with same (map before ys) k row
-        rest true other is = (λ j. (y, sum_other y (laws.symm y k ∙ other) j) ∷ is j)
-        rest false other is = (λ j. (y, sum_other y (laws.symm y k ∙ other) j) ∷ is j)
+    new_stays : (xs : List K) → list_any (same k) xs ≡ false → map after xs ≡ map before xs
+    new_stays xs none =
+        map_agree after before xs
+        (all_by (λ x. same k x ≡ false) (λ x. after x ≡ before x)
+        (λ x no. ap (λ sum. (x, sum)) (sum_other columns items k row x (laws.symm x k ∙ no))) xs (any_of k xs none))
 
-        by : (b : Bool) → same k y ≡ b
-            → ((list_any (same k) ys ≡ false → after k ≡ (k, row)) → map after (seen_with same ys k) ≡ sums_with same (map before ys) k row)
-            → ((b || list_any (same k) ys) ≡ false → after k ≡ (k, row))
-            → map after (if b || list_any (same k) ys then y ∷ ys else y ∷ (ys ++ k ∷ []))
-            ≡ put y ys b (sum_with (unwrap_or (if b then Some (sum_of same columns items y) else lookup (same k) (map before ys)) []) row)
-        by true is rest_is new = (λ j. own is j ∷ others is j)
-        by false is rest_is new = rest (list_any (same k) ys) is (rest_is new)
+    new_row : list_any (same k) (keys_of same items) ≡ false → after k ≡ (k, row)
+    new_row none =
+        ap (λ sum. (k, sum)) (sum_own columns items k row k (laws.refl k)
+        ∙ ap (λ rows. added (column_totals columns rows) row) (no_rows items k none) ∙ added-zeros columns row wide)
 
-    pub summed_push : length row ≡ columns → summed same columns (items ++ (k, row) ∷ []) ≡ sums_with same (summed same columns items) k row
-    summed_push wide =
-        let keys = distinct same (keys_of same items) in
-        ap (map after) keys_push
-        ∙ sums_at wide keys (distinct_apart same laws (keys_of same items))
-        (λ new. ap (λ sum. (k, sum)) (sum_own k (laws.refl k)
-        ∙ ap (λ rows. added (column_totals columns rows) row) (no_rows items k (not_among k (keys_of same items) new)) ∙ added-zeros columns row wide))
+    not_seen : known ≡ false → list_any (same k) (keys_of same items) ≡ false
+    not_seen none = by (list_any (same k) (keys_of same items)) refl
+      where
+        by : (b : Bool) → list_any (same k) (keys_of same items) ≡ b → b ≡ false
+        by true is = absurd (true≢false (sym (seen_among (distinct same (keys_of same items)) k (keys_of same items) (all_seen same laws.refl [] (keys_of same items)) is) ∙ none))
+        by false is = refl
 
-  rows_wide : (columns : ℕ) (items : List (K × List ℤ)) (q : K) → AllByRecursion (λ item. length item.1 ≡ columns) items → AllByRecursion (λ row. length row ≡ columns) (rows_of same items q)
+    -- the sums that count, with the item at the end
+    counting_push : filter counts (summed same columns (items ++ (k, row) ∷ [])) ≡ filter counts (summed same columns items) ++ filter counts ((k, row) ∷ [])
+    counting_push = ap (λ keys. filter counts (map after keys)) (keys_push columns items k row) ∙ by known refl
+      where
+        keys : List K
+        keys = distinct same (keys_of same items)
+
+        none_counts : (b : Bool) → b ≡ true → if◌then◌else◌ {A = List (K × List ℤ)} (not b) ((k, row) ∷ []) [] ≡ []
+        none_counts true is = refl
+        none_counts false is = absurd (true≢false (sym is))
+
+        by : (b : Bool) → known ≡ b → filter counts (map after (if b then keys else keys ++ k ∷ [])) ≡ filter counts (map before keys) ++ filter counts ((k, row) ∷ [])
+        by true is =
+            let none = adds (seen is) in
+            ap (filter counts) (λ j. map (λ q. stays none q j) keys)
+            ∙ sym (append-nil (filter counts (map before keys)))
+            ∙ ap (λ l. filter counts (map before keys) ++ l) (sym (none_counts (list_all (int_eq (pos 0)) row) none))
+        by false is =
+            ap (filter counts) (map-append after keys (k ∷ []) ∙ (λ j. new_stays keys is j ++ new_row (not_seen is) j ∷ []))
+            ∙ filter-append counts (map before keys) ((k, row) ∷ [])
+
+  -- each of these adds to those before it
+  abbrev pub AllAdd : List (K × List ℤ) → List (K × List ℤ) → Type 0
+  AllAdd items [] = ⊤
+  AllAdd items (x ∷ xs) = Adds items x × AllAdd (items ++ x ∷ []) xs
+
+  -- Where each item of a known key has zeros, the sums that count are the items that do.
+  counting_from : (columns : ℕ) (items more : List (K × List ℤ)) → AllByRecursion (λ item. length item.1 ≡ columns) more → AllAdd items more
+      → filter counts (summed same columns (items ++ more)) ≡ filter counts (summed same columns items) ++ filter counts more
+  counting_from columns items [] wide add =
+      ap (λ l. filter counts (summed same columns l)) (append-nil items) ∙ sym (append-nil (filter counts (summed same columns items)))
+  counting_from columns items (x ∷ xs) wide add =
+      ap (λ l. filter counts (summed same columns l)) (sym (append_assoc items (x ∷ []) xs))
+      ∙ counting_from columns (items ++ x ∷ []) xs wide.1 add.1
+      ∙ ap (λ l. l ++ filter counts xs) (counting_push columns items x.0 x.1 wide.0 add.0)
+      ∙ append_assoc (filter counts (summed same columns items)) (filter counts (x ∷ [])) (filter counts xs)
+      ∙ ap (λ l. filter counts (summed same columns items) ++ l) (sym (filter-append counts (x ∷ []) xs))
+
+  pub counting_alone : (columns : ℕ) (items : List (K × List ℤ)) → AllByRecursion (λ item. length item.1 ≡ columns) items → AllAdd [] items
+      → filter counts (summed same columns items) ≡ filter counts items
+  counting_alone columns items wide add = counting_from columns [] items wide add
+
+  pub rows_wide : (columns : ℕ) (items : List (K × List ℤ)) (q : K) → AllByRecursion (λ item. length item.1 ≡ columns) items → AllByRecursion (λ row. length row ≡ columns) (rows_of same items q)
   rows_wide columns [] q wide = tt
   rows_wide columns (x ∷ xs) q wide = by (same q x.0) (rows_wide columns xs q wide.1)
     where
@@ -143,54 +200,3 @@ module _ {K : Type 0} (same : K → K → Bool) (laws : IsEquivalence same) wher
           → AllByRecursion (λ row. length row ≡ columns) (map (λ (item : K × List ℤ). item.1) (if b then x ∷ filter (λ item. same q item.0) xs else filter (λ item. same q item.0) xs))
       by true rest = (wide.0, rest)
       by false rest = rest
-
-  -- the absolute values of a column, over items
-  abbrev pub item_weight : ℕ → K × List ℤ → ℕ
-  item_weight column item = nat_abs (get_or item.1 column (pos 0))
-
-  rows_weight : (column : ℕ) (items : List (K × List ℤ)) (q : K) → weight column (rows_of same items q) ≤ sum_by (item_weight column) items
-  rows_weight column [] q = omega arith
-  rows_weight column (x ∷ xs) q = by (same q x.0) (rows_weight column xs q)
-    where
-      by : (b : Bool) → weight column (rows_of same xs q) ≤ sum_by (item_weight column) xs
-          → weight column (map (λ (item : K × List ℤ). item.1) (if b then x ∷ filter (λ item. same q item.0) xs else filter (λ item. same q item.0) xs)) ≤ sum_by (item_weight column) (x ∷ xs)
-      by true rest = omega (arith, rest, sum_by-cons (item_weight column) x xs, sum_by-cons (λ (r : List ℤ). nat_abs (get_or r column (pos 0))) x.1 (rows_of same xs q))
-      by false rest = omega (arith, rest, sum_by-cons (item_weight column) x xs)
-
-  -- the sum of a key is one that was made of its values, or empty
-  at_key : (columns : ℕ) (items : List (K × List ℤ)) (k : K) (P : List ℤ → Type 0) → P [] → ((q : K) → P (sum_of same columns items q)) → (keys : List K)
-      → P (sum_at same (map (with_sum columns items) keys) k)
-  at_key columns items k P none each [] = none
-  at_key columns items k P none each (y ∷ ys) = by (same k y) (at_key columns items k P none each ys)
-    where
-      by : (b : Bool) → P (sum_at same (map (with_sum columns items) ys) k)
-          → P (unwrap_or (if b then Some (sum_of same columns items y) else lookup (same k) (map (with_sum columns items) ys)) [])
-      by true rest = each y
-      by false rest = rest
-
--- At a loop over all items, the row of the next one can be added to the sum of its key.
-module _ {K : Type 0} (same : K → K → Bool) (laws : IsEquivalence same) (columns : ℕ) (all seen : List (K × List ℤ)) (k : K) (row : List ℤ)
-    (next : IsNext all seen (k, row)) (wide : All (λ item. length item.1 ≡ columns) all) where
-  pub row_wide : length row ≡ columns
-  row_wide = next_holds all seen (k, row) next (λ item. length item.1 ≡ columns) wide
-
-  pub can_add : ((column : ℕ) → column < columns → sum_by (item_weight same laws column) all ≤ 9223372036854775807) → CanAdd (sum_at same (summed same columns seen) k) row
-  can_add fits =
-      at_key same laws columns seen k (λ sum. CanAdd sum row)
-      (record { wide = λ some. absurd (omega arith); fits = λ column lower. absurd (omega arith) })
-      (λ q.
-      let rows = rows_of same seen q in
-      let long = length-total_of columns rows in
-      record {
-        wide = λ some. row_wide ∙ sym long;
-        fits = λ column lower.
-            let here : column < columns = omega (arith, lower, long) in
-            omega (
-              arith,
-              abs-total_of columns rows column here (rows_wide same laws columns seen q (seen_all all seen (k, row) next (λ item. length item.1 ≡ columns) wide)),
-              rows_weight same laws column seen q,
-              fits column here,
-              next_weight all seen (k, row) next (item_weight same laws column),
-            );
-      })
-      (distinct same (keys_of same seen))

@@ -1,20 +1,15 @@
--- Hashes of samples that are asked in parts, and samples that get their new ids later.
+-- Hashes of samples that are asked in parts.
 use Rattle.std.proofs.Common.{◌≡◌, ℕ, ◌+◌, ◌<◌, ◌==◌, Bool, true, false, true≢false, ◌&&◌, List, [], ◌∷◌, ◌++◌, length, map, filter, take, get_or, sum_by, nat_abs, refl, sym, ap, subst, ◌∙◌, if◌then◌else◌, arith}
-use Rattle.std.specs.List.{flat_map, list_all, AllByRecursion, IsDistinct}
+use Rattle.std.specs.List.{flat_map, list_all}
 use Rattle.std.proofs.lemmas.List.{map-append, map-id, map_more, take_more}
 use Rattle.std.proofs.lemmas.List.Folds.{list_all-append, list_all_more}
 use Rattle.std.proofs.lemmas.List.Sums.{sum_by-cons, sum_by-append}
 use Rattle.pp_base.specs.Capped.{capped}
-use Rattle.std.proofs.lemmas.Simd.{map-map}
 use Rattle.pp_steal.specs.Pieces.{IsCutInto}
 use Rattle.pp_model.specs.declared.profile.Sample.{Sample}
 use Rattle.pp_share.specs.declared.hashes.Hashes.{Hashes}
-use Rattle.pp_share.specs.Hashes.{hash_by, sum_together, AreHashesBy, AddsHash, JoinsHashes}
-use Rattle.pp_share.specs.Renumbered.{NewIds, new_ids, renumbered_sample, stays}
-use Rattle.pp_share.specs.SampleKeys.{sample_stack, sample_hash, has_values, summed_samples}
-use Rattle.pp_share.specs.SampleStacks.{stack_hash}
-use Rattle.pp_share.proofs.Apart.{stacks_apart, counting_alone}
-use Rattle.pp_share.proofs.Lists.{all_mapped, filter_kept}
+use Rattle.pp_share.specs.Hashes.{sum_together, AreHashesBy, AddsHash, JoinsHashes}
+use Rattle.pp_share.specs.SampleKeys.{has_values}
 
 -- one sample more
 pub one_more : (hash : Sample → ℕ) (samples : List Sample) (k : ℕ) (s : Sample) (old new : Hashes) → k < length samples → AreHashesBy hash (take k samples) old
@@ -60,19 +55,3 @@ all_kept (s ∷ samples) all = by (has_values s) refl (all_kept samples) all
     by : (b : Bool) → has_values s ≡ b → (list_all has_values samples ≡ true → samples ≡ filter has_values samples) → b && list_all has_values samples ≡ true → s ∷ samples ≡ filter has_values (s ∷ samples)
     by true is more rest = ap (λ l. s ∷ l) (more rest) ∙ ap (λ b. if b then s ∷ filter has_values samples else filter has_values samples) (sym is)
     by false is more rest = absurd (true≢false (sym rest))
-
--- samples whose ids all stay
-pub samples_stay : (samples : List Sample) → map (renumbered_sample (new_ids stays)) samples ≡ samples
-samples_stay [] = refl
-samples_stay (s ∷ samples) = (λ j. record s { location_id = map-id s.location_id j; label = map-id s.label j } ∷ samples_stay samples j)
-
--- samples that differ once they have their new ids are their own sums
-pub kept_apart : (by : NewIds) (columns : ℕ) (samples : List Sample) → IsDistinct (λ a b. a == b) (map (hash_by by) samples) → AllByRecursion (λ (s : Sample). length s.value ≡ columns) samples
-    → map (renumbered_sample by) (filter has_values samples) ≡ summed_samples columns (map (renumbered_sample by) samples)
-kept_apart by columns samples apart wide =
-    let moved = map (renumbered_sample by) samples in
-    sym (filter_kept has_values has_values (renumbered_sample by) (λ s. refl) samples)
-    ∙ counting_alone columns moved
-    (stacks_apart (map sample_stack moved)
-    (subst (IsDistinct (λ a b. a == b)) (sym (map-map sample_hash (renumbered_sample by) samples) ∙ sym (map-map stack_hash sample_stack moved)) apart))
-    (all_mapped (λ (s : Sample). length s.value ≡ columns) (renumbered_sample by) (λ (s : Sample). length s.value ≡ columns) (λ s is. is) samples wide)

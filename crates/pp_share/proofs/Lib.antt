@@ -24,12 +24,10 @@ pub mod Grouping
 pub mod Prefix
 pub mod Agreement
 pub mod SummedLemmas
-pub mod BloomLemmas
-pub mod RepeatLemmas
 pub mod SampleKeyLemmas
-pub mod WovenLemmas
-pub mod SlotLemmas
-pub mod Apart
+pub mod SummingLemmas
+pub mod StackOrderLemmas
+pub mod RepeatLemmas
 pub mod HashLemmas
 pub mod LocatedLemmas
 pub mod KeptHashes

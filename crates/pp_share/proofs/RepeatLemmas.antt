@@ -1,253 +1,266 @@
--- Numbers that stand more than once in a list.
-use Rattle.std.proofs.Common.{◌≡◌, ℕ, zero, suc, ◌+◌, ◌-◌, ◌/◌, ◌^◌, ◌<◌, ◌≤◌, ◌==◌, Bool, true, false, true≢false, cond, ◌||◌, List, [], ◌∷◌, ◌++◌, length, filter, take, get_or, ⊎_elim, refl, sym, ap, subst, ◌∙◌, if◌then◌else◌, arith}
-use Rattle.std.specs.Ordering.{nat_cmp}
-use Rattle.std.specs.Prelude.{nat_eq}
-use Rattle.std.specs.List.{list_any, flat_map, AllByRecursion, IsDistinct}
-use Rattle.std.specs.List.Sorted.{IsPermutation, IsSorted}
-use Rattle.std.proofs.lemmas.Bool.{cases_lt, ne_eqb}
-use Rattle.std.proofs.lemmas.Nat.{mod_below}
-use Rattle.std.proofs.lemmas.List.{take_more}
+-- Samples that were put in order, so that those of one kind stand side by side.
+use Rattle.std.proofs.Common.{◌≡◌, ◌≢◌, ℕ, zero, suc, ◌+◌, ◌-◌, ◌<◌, ◌≤◌, ◌==◌, Bool, true, false, true≢false, ◌||◌, ◌⊎◌, inl, inr, ⊎_elim, List, [], ◌∷◌, ◌++◌, length, map, get_or, refl, sym, ap, subst, ◌∙◌, if◌then◌else◌, arith}
+use Rattle.std.specs.Prelude.{nat_lt, All, Contains}
+use Rattle.std.specs.List.{list_any, AllByRecursion}
+use Rattle.std.specs.List.Sorted.{IsSorted, IsPermutation}
+use Rattle.std.specs.Cmp.{IsTotalOrder, nat_cmp_total, on_total, then_total, alike_right, tied_itself, Equal-is, ranks}
+use Rattle.std.specs.Ordering.{is_eq, is_lt, is_gt, nat_cmp, ordering_then, ordering_reverse, MatchOrdering}
+use Rattle.std.specs.declared.cmp.Ordering.{Ordering}
+use Rattle.std.specs.declared.cmp.Ordering.TheVariants.{Less, Equal, Greater}
+use Rattle.std.proofs.lemmas.Bool.{cases_lt, eqb-true, eq-eqb, ltb-true, ltb-false}
+use Rattle.std.proofs.lemmas.List.{get_or_default, get_or-map}
+use Rattle.std.proofs.lemmas.List.Elements.{All-append, All-push, All-contains, All-weaker}
 use Rattle.std.proofs.lemmas.List.Folds.{list_any-append}
-use Rattle.std.proofs.lemmas.List.Sorted.{IsNonDecreasingBy-from_sort, all_adjacent_from_non_decreasing, sum_by-IsPermutation}
-use Rattle.indexmap.specs.IndexSet.{insert_key}
-use Rattle.std.proofs.lemmas.Bool.Decides.{Decides-eqb}
-use Rattle.std.proofs.lemmas.List.Sums.{sum_by-cons, sum_by-append}
-use Rattle.pp_share.specs.BloomFilter.{may_contain}
-use Rattle.pp_share.specs.Repeats.{is_listed, times, class_of, is_in_class, HoldsRepeated, HoldsNext, ListsAll}
+use Rattle.std.proofs.lemmas.List.Sorted.{ranks_by, sorted_far, All-permutation, Contains-permutation, list_any-IsPermutation}
+use Rattle.pp_model.specs.declared.profile.Sample.{Sample}
+use Rattle.pp_model.specs.Values.{no_sample}
+use Rattle.pp_share.specs.declared.repeats.Placed.{Placed}
+use Rattle.pp_share.specs.declared.repeats.Repeat.{Repeat}
+use Rattle.pp_share.specs.Hashes.{hash_by}
+use Rattle.pp_share.specs.Renumbered.{NewIds, renumbered_sample}
+use Rattle.pp_share.specs.Repeats.{class_of, is_later, stack_at, IsFirst, IsRepeat, FindsOfClass, FindsBelow, IsLeast, BeginsKind, IsRepeated, FindsRepeats, IsPlaced, ArePlaced}
+use Rattle.pp_share.specs.SampleKeys.{sample_stack}
+use Rattle.pp_share.specs.SampleStacks.{same_stack, stack_hash, stack_decides}
+use Rattle.pp_share.specs.StackOrder.{stack_cmp, kind_cmp, placed_cmp}
+use Rattle.pp_share.proofs.Prefix.{by_recursion}
+use Rattle.pp_share.proofs.StackOrderLemmas.{kind_total, stack_ties, one_further}
 
--- one number more
-pub times-cons : (x n : ℕ) (ns : List ℕ) → times x (n ∷ ns) ≡ cond (x == n) 1 0 + times x ns
-times-cons x n ns = sum_by-cons (λ m. cond (x == m) 1 0) n ns
+-- A list that is sorted by kind, and in each kind by number: what begins a kind has its least number.
+module _ {X : Type 0} (R : X → X → Ordering) (o : IsTotalOrder R) (n : X → ℕ) (xs : List X)
+    (sorted : IsSorted (λ x y. ordering_then (R x y) (nat_cmp (n x) (n y))) xs) where
+  abbrev lower : X → X → Bool
+  lower x y = is_lt (ordering_then (R x y) (nat_cmp (n x) (n y)))
 
-pub times-append : (x : ℕ) (ns ms : List ℕ) → times x (ns ++ ms) ≡ times x ns + times x ms
-times-append x ns ms = sum_by-append (λ m. cond (x == m) 1 0) ns ms
+  ordered : (i j : ℕ) (d : X) → i ≤ j → j < length xs → lower (get_or xs j d) (get_or xs i d) ≡ false
+  ordered = sorted_far lower (ranks_by (then_total o (on_total n nat_cmp_total)) (λ x. x)) xs sorted
 
--- a number is itself
-pub itself : (x : ℕ) → (x == x) ≡ true
-itself x = (Decides-eqb x x).1 refl
-
--- a number that stands nowhere differs from each
-pub never : (x : ℕ) (ns : List ℕ) → times x ns ≡ 0 → AllByRecursion (λ n. (x == n) ≡ false) ns
-never x [] none = tt
-never x (n ∷ ns) none = by (x == n) refl (never x ns) (sym (times-cons x n ns) ∙ none)
-  where
-    by : (b : Bool) → (x == n) ≡ b → (times x ns ≡ 0 → AllByRecursion (λ n. (x == n) ≡ false) ns) → cond b 1 0 + times x ns ≡ 0 → AllByRecursion (λ n. (x == n) ≡ false) (n ∷ ns)
-    by true is rest none = absurd (omega (arith, none))
-    by false is rest none = (is, rest (omega (arith, none)))
-
--- numbers of which none stands more than once differ
-pub distinct_hashes : (ns : List ℕ) → ((x : ℕ) → times x ns ≤ 1) → IsDistinct (λ a b. a == b) ns
-unfolding IsDistinct
-distinct_hashes [] once = tt
-distinct_hashes (n ∷ ns) once = (
-  never n ns (omega (arith, once n, times-cons n n ns, ap {B = ℕ} (λ b. cond b 1 0) (itself n))),
-  distinct_hashes ns (λ x. omega (arith, once x, times-cons x n ns)),
-)
-
--- where none is repeated, all differ
-pub none_repeated : (ns : List ℕ) → HoldsRepeated ns [] → IsDistinct (λ a b. a == b) ns
-none_repeated ns none = distinct_hashes ns (λ x. by x (times x ns) refl)
-  where
-    by : (x k : ℕ) → times x ns ≡ k → k ≤ 1
-    by x zero is = omega arith
-    by x (suc zero) is = omega arith
-    by x (suc (suc k)) is = absurd (true≢false (sym (none x (omega (arith, is)))))
-
--- no number is less than the one before it
-abbrev pub Rises : List ℕ → Type 0
-Rises ns = (k : ℕ) → suc k < length ns → get_or ns k 0 ≤ get_or ns (suc k) 0
-
--- each number that stands next to itself is among the repeated ones
-abbrev HoldsNeighbours : List ℕ → List ℕ → Type 0
-HoldsNeighbours ns repeated = (k : ℕ) → suc k < length ns → get_or ns k 0 ≡ get_or ns (suc k) 0 → is_listed repeated (get_or ns k 0) ≡ true
-
--- the first of rising numbers is the least
-first_least : (x n : ℕ) (ns : List ℕ) → Rises (n ∷ ns) → 0 < times x (n ∷ ns) → n ≤ x
-first_least x n [] rises stands = by (x == n) refl (omega (arith, stands, times-cons x n []))
-  where
-    by : (b : Bool) → (x == n) ≡ b → 0 < cond b 1 0 + 0 → n ≤ x
-    by true is some = omega (arith, (Decides-eqb x n).0 is)
-    by false is some = absurd (omega (arith, some))
-first_least x n (m ∷ ms) rises stands =
-    by (x == n) refl (first_least x m ms (λ k within. rises (suc k) (omega (arith, within)))) (omega (arith, stands, times-cons x n (m ∷ ms)))
-  where
-    by : (b : Bool) → (x == n) ≡ b → (0 < times x (m ∷ ms) → m ≤ x) → 0 < cond b 1 0 + times x (m ∷ ms) → n ≤ x
-    by true is least some = omega (arith, (Decides-eqb x n).0 is)
-    by false is least some = omega (arith, rises 0 (omega arith), least (omega (arith, some)))
-
--- Rising numbers that stand more than once stand next to themselves.
-repeated_are : (ns repeated : List ℕ) → Rises ns → HoldsNeighbours ns repeated → HoldsRepeated ns repeated
-repeated_are [] repeated rises next x more = absurd (omega (arith, more))
-repeated_are (n ∷ ns) repeated rises next x more =
-    by (x == n) refl
-    (repeated_are ns repeated (λ k within. rises (suc k) (omega (arith, within))) (λ k within same. next (suc k) (omega (arith, within)) same) x)
-    (omega (arith, more, times-cons x n ns))
-  where
-    second : (ms : List ℕ) → Rises (n ∷ ms) → HoldsNeighbours (n ∷ ms) repeated → x ≡ n → 0 < times x ms → is_listed repeated x ≡ true
-    second [] up next is some = absurd (omega (arith, some))
-    second (m ∷ ms) up next is some =
-        let least : m ≤ x = first_least x m ms (λ k within. up (suc k) (omega (arith, within))) some in
-        let same : n ≡ m = omega (arith, least, is, up 0 (omega arith)) in
-        ap (is_listed repeated) is ∙ next 0 (omega arith) same
-
-    by : (b : Bool) → (x == n) ≡ b → (1 < times x ns → is_listed repeated x ≡ true) → 1 < cond b 1 0 + times x ns → is_listed repeated x ≡ true
-    by true is rest some = second ns rises next ((Decides-eqb x n).0 is) (omega (arith, some))
-    by false is rest some = rest (omega (arith, some))
-
--- the numbers below the place that stand next to themselves
-abbrev pub HoldsBelow : List ℕ → ℕ → List ℕ → Type 0
-HoldsBelow ns below repeated = (k : ℕ) → k + 1 < below → get_or ns k 0 ≡ get_or ns (k + 1) 0 → is_listed repeated (get_or ns k 0) ≡ true
-
--- a number more, which is among them where it stands next to itself
-pub one_more : (ns before after : List ℕ) (index : ℕ) → HoldsBelow ns index before → ((n : ℕ) → is_listed before n ≡ true → is_listed after n ≡ true)
-    → (get_or ns (index - 1) 0 ≡ get_or ns index 0 → is_listed after (get_or ns (index - 1) 0) ≡ true) → HoldsBelow ns (index + 1) after
-one_more ns before after index holds keeps here k within same =
-    ⊎_elim (λ lower. keeps (get_or ns k 0) (holds k lower same))
-    (λ last.
-    let next : index ≡ k + 1 = omega (arith, within, last) in
-    let at : index - 1 ≡ k = omega (arith, next) in
-    subst (λ i. is_listed after (get_or ns i 0) ≡ true) at (here (ap (λ i. get_or ns i 0) at ∙ same ∙ ap (λ i. get_or ns i 0) (sym next))))
-    (cases_lt (k + 1) index)
-
--- what is among the numbers once one is put behind them
-pub listed_push : (ks : List ℕ) (n m : ℕ) → is_listed (ks ++ n ∷ []) m ≡ (is_listed ks m || (m == n))
-listed_push ks n m = list_any-append (λ k. m == k) ks (n ∷ []) ∙ ap (λ b. is_listed ks m || b) (by (m == n))
-  where
-    by : (b : Bool) → (b || false) ≡ b
-    by true = refl
-    by false = refl
-
--- what was among them stays, and a number that is put in is among them
-pub stays_among : (ks : List ℕ) (n m : ℕ) → is_listed ks m ≡ true → is_listed (insert_key nat_eq ks n) m ≡ true
-stays_among ks n m is = by (list_any (nat_eq n) ks)
-  where
-    by : (b : Bool) → is_listed (if b then ks else ks ++ n ∷ []) m ≡ true
-    by true = is
-    by false = list_any-append (λ k. m == k) ks (n ∷ []) ∙ ap (λ b. b || ((m == n) || false)) is
-
-pub now_among : (ks : List ℕ) (n : ℕ) → is_listed (insert_key nat_eq ks n) n ≡ true
-now_among ks n = by (list_any (nat_eq n) ks) refl
-  where
-    by : (b : Bool) → list_any (nat_eq n) ks ≡ b → is_listed (if b then ks else ks ++ n ∷ []) n ≡ true
-    by true is = is
-    by false is = list_any-append (λ k. n == k) ks (n ∷ []) ∙ ap (λ b. b || ((n == n) || false)) is ∙ ap (λ b. b || false) (itself n)
-
--- what was among them stays once one is put behind them, and that number is among them
-pub stays_behind : (ks : List ℕ) (n m : ℕ) → is_listed ks m ≡ true → is_listed (ks ++ n ∷ []) m ≡ true
-stays_behind ks n m is = listed_push ks n m ∙ ap (λ b. b || (m == n)) is
-
-pub now_behind : (ks : List ℕ) (n : ℕ) → is_listed (ks ++ n ∷ []) n ≡ true
-now_behind ks n = listed_push ks n n ∙ ap (λ b. is_listed ks n || b) (itself n) ∙ by (is_listed ks n)
-  where
-    by : (b : Bool) → (b || true) ≡ true
-    by true = refl
-    by false = refl
-
--- what lists two lists, and what lists one number more
-pub lists_both : (xs ys all : List ℕ) → ListsAll xs all → ListsAll ys all → ListsAll (xs ++ ys) all
-lists_both xs ys all front back x among = by (is_listed xs x) refl (sym (list_any-append (λ n. x == n) xs ys) ∙ among)
-  where
-    by : (b : Bool) → is_listed xs x ≡ b → (b || is_listed ys x) ≡ true → is_listed all x ≡ true
-    by true is here = front x is
-    by false is here = back x here
-
-pub lists_push : (ks : List ℕ) (n : ℕ) (all : List ℕ) → ListsAll ks all → is_listed all n ≡ true → ListsAll (ks ++ n ∷ []) all
-lists_push ks n all listed here = lists_both ks (n ∷ []) all listed (λ x among. by x (x == n) refl among)
-  where
-    by : (x : ℕ) (b : Bool) → (x == n) ≡ b → (b || false) ≡ true → is_listed all x ≡ true
-    by x true is among = ap (is_listed all) ((Decides-eqb x n).0 is) ∙ here
-    by x false is among = absurd (true≢false (sym among))
-
--- a number of one part is among those of all
-listed_in_part : {T : Type 0} (items : T → List ℕ) (parts : List T) (k : ℕ) (other : T) (x : ℕ) → k < length parts
-    → is_listed (items (get_or parts k other)) x ≡ true → is_listed (flat_map items parts) x ≡ true
-listed_in_part items [] k other x within among = absurd (omega (arith, within))
-listed_in_part items (p ∷ parts) zero other x within among =
-    list_any-append (λ n. x == n) (items p) (flat_map items parts) ∙ ap (λ b. b || is_listed (flat_map items parts) x) among
-listed_in_part items (p ∷ parts) (suc k) other x within among =
-    list_any-append (λ n. x == n) (items p) (flat_map items parts)
-    ∙ ap (λ b. is_listed (items p) x || b) (listed_in_part items parts k other x (omega (arith, within)) among)
-    ∙ by (is_listed (items p) x)
-  where
-    by : (b : Bool) → (b || true) ≡ true
-    by true = refl
-    by false = refl
-
--- once they are sorted, the numbers that stand more than once stand next to themselves
-pub repeated_sorted : (old new repeated : List ℕ) → IsPermutation old new → IsSorted nat_cmp new → HoldsNext new repeated → HoldsRepeated old repeated
-repeated_sorted old new repeated shuffled sorted next x more =
-    repeated_are new repeated
-    (λ k within.
-    subst (λ j. get_or new k 0 ≤ get_or new j 0) (succeeds k)
-    (all_adjacent_from_non_decreasing (λ n. n) new (IsNonDecreasingBy-from_sort (λ n. n) new sorted) k 0 (omega (arith, within))))
-    (λ k within same. next k (omega (arith, within)) (same ∙ ap (λ j. get_or new j 0) (sym (succeeds k)))) x
-    (omega (arith, more, sum_by-IsPermutation (λ n. cond (x == n) 1 0) old new shuffled))
-  where
-    succeeds : (k : ℕ) → k + 1 ≡ suc k
-    succeeds k = omega arith
-
--- a number that a test keeps stands as often among what it keeps
-pub times_kept : (keeps : ℕ → Bool) (number : ℕ) (ns : List ℕ) → keeps number ≡ true → times number (filter keeps ns) ≡ times number ns
-times_kept keeps number [] kept = refl
-times_kept keeps number (n ∷ ns) kept = by (keeps n) refl (times_kept keeps number ns kept)
-  where
-    by : (b : Bool) → keeps n ≡ b → times number (filter keeps ns) ≡ times number ns → times number (if b then n ∷ filter keeps ns else filter keeps ns) ≡ times number (n ∷ ns)
-    by true is rest = times-cons number n (filter keeps ns) ∙ ap (λ k. cond (number == n) 1 0 + k) rest ∙ sym (times-cons number n ns)
-    by false is rest = omega (arith, rest, times-cons number n ns, ap {B = ℕ} (λ b. cond b 1 0) (ne_eqb number n (λ same. true≢false (sym kept ∙ ap keeps same ∙ is))))
-
--- The repeated numbers of all classes are those of the list.
-pub classes_hold : {T : Type 0} (items : T → List ℕ) (numbers : List ℕ) (parts : List T) (all : List ℕ) → length parts ≡ 8
-    → ((class : ℕ) (other : T) → class < 8 → HoldsRepeated (filter (is_in_class class) numbers) (items (get_or parts class other)))
-    → ListsAll (flat_map items parts) all → HoldsRepeated numbers all
-classes_hold items numbers [] all many holds listed x more = absurd (omega (arith, many))
-classes_hold items numbers (p ∷ parts) all many holds listed x more =
-    let class = class_of x in
-    let below : class < 8 = mod_below (x / 2 ^ 61) 8 (omega arith) in
-    let kept : is_in_class class x ≡ true = itself class in
-    listed x (listed_in_part items (p ∷ parts) class p x (omega (arith, below, many))
-    (holds class p below x (subst (λ k. 1 < k) (sym (times_kept (is_in_class class) x numbers kept)) more)))
-
--- how often a number stands among those so far, once there is one more
-times_next : (x : ℕ) (ns : List ℕ) (i n : ℕ) → i < length ns → n ≡ get_or ns i 0 → times x (take (i + 1) ns) ≡ times x (take i ns) + cond (x == n) 1 0
-times_next x ns i n within at =
-    omega (
-      arith,
-      ap (times x) (take_more ns i 0 within ∙ ap (λ m. take i ns ++ m ∷ []) (sym at)),
-      times-append x (take i ns) (n ∷ []),
-      times-cons x n [],
-    )
-
--- What a filter contains and a list holds of the numbers so far stays right with one more: it is listed where the filter tells of it, and else inserted.
-module _ (ns : List ℕ) (i n : ℕ) (within : i < length ns) (at : n ≡ get_or ns i 0) (words again : List ℕ)
-    (once : (x : ℕ) → 0 < times x (take i ns) → may_contain words x ≡ true) (listed : HoldsRepeated (take i ns) again) where
-  either_way : (x : ℕ) (P : Type 0) → (x ≡ n → P) → (times x (take (i + 1) ns) ≡ times x (take i ns) → P) → P
-  either_way x P same other = by (x == n) refl
+  -- an item that stands behind one of its kind has no lower number
+  behind : (x y : X) → lower y x ≡ false → R y x ≡ Equal → n x ≤ n y
+  behind x y not_lower is =
+      by (nat_cmp (n y) (n x)) (ranks (n y) (n x)) (ap (λ r. is_lt (ordering_then r (nat_cmp (n y) (n x)))) (sym is) ∙ not_lower)
     where
-      by : (b : Bool) → (x == n) ≡ b → P
-      by true is = same ((Decides-eqb x n).0 is)
-      by false is = other (omega (arith, times_next x ns i n within at, ap {B = ℕ} (λ b. cond b 1 0) is))
+      by : (r : Ordering) → MatchOrdering r (n y < n x) (n y ≡ n x) (n x < n y) → is_lt r ≡ false → n x ≤ n y
+      by Less is not_less = absurd (true≢false not_less)
+      by Equal is not_less = omega (arith, is)
+      by Greater is not_less = omega (arith, is)
 
-  pub still_once : may_contain words n ≡ true → (x : ℕ) → 0 < times x (take (i + 1) ns) → may_contain words x ≡ true
-  still_once here x some =
-      either_way x (may_contain words x ≡ true) (λ same. ap (may_contain words) same ∙ here) (λ kept. once x (omega (arith, some, kept)))
-
-  pub now_listed : HoldsRepeated (take (i + 1) ns) (again ++ n ∷ [])
-  now_listed x more =
-      either_way x (is_listed (again ++ n ∷ []) x ≡ true)
-      (λ same. listed_push again n x ∙ ap (λ b. is_listed again x || b) ((Decides-eqb x n).1 same) ∙ or_true (is_listed again x))
-      (λ kept. listed_push again n x ∙ ap (λ b. b || (x == n)) (listed x (omega (arith, more, kept))))
+  -- what stands between two of a kind is of that kind
+  between : (x y z : X) → lower y x ≡ false → lower z y ≡ false → R x z ≡ Equal → R y z ≡ Equal
+  between x y z first last is = by (R y z) refl
     where
-      or_true : (b : Bool) → (b || true) ≡ true
-      or_true true = refl
-      or_true false = refl
+      by : (r : Ordering) → R y z ≡ r → r ≡ Equal
+      by Less at =
+          absurd (true≢false (ap (λ q. is_lt (ordering_then q (nat_cmp (n y) (n x)))) (sym (alike_right o x z y is ∙ at)) ∙ first))
+      by Equal at = refl
+      by Greater at =
+          absurd (true≢false (ap (λ q. is_lt (ordering_then q (nat_cmp (n z) (n y)))) (sym (o.antisymm z y ∙ ap ordering_reverse at)) ∙ last))
 
-  pub now_once : (after : List ℕ) → may_contain after n ≡ true → ((x : ℕ) → may_contain words x ≡ true → may_contain after x ≡ true)
-      → (x : ℕ) → 0 < times x (take (i + 1) ns) → may_contain after x ≡ true
-  now_once after here stays x some =
-      either_way x (may_contain after x ≡ true) (λ same. ap (may_contain after) same ∙ here) (λ kept. stays x (once x (omega (arith, some, kept))))
+  pub begins : (k : ℕ) (d : X) → k < length xs → (k ≡ 0) ⊎ (is_eq (R (get_or xs (k - 1) d) (get_or xs k d)) ≡ false)
+      → (a : ℕ) → a < length xs → R (get_or xs a d) (get_or xs k d) ≡ Equal → n (get_or xs k d) ≤ n (get_or xs a d)
+  begins k d within new a within_too is =
+      ⊎_elim
+      (λ before. ⊎_elim
+      (λ none. absurd (omega (arith, none, before)))
+      (λ other. absurd (true≢false (sym (ap is_eq
+      (between (get_or xs a d) (get_or xs (k - 1) d) (get_or xs k d) (ordered a (k - 1) d (omega (arith, before)) (omega (arith, within))) (ordered (k - 1) k d (omega arith) within) is)) ∙ other)))
+      new)
+      (λ after. behind (get_or xs k d) (get_or xs a d) (ordered k a d after within_too) is)
+      (cases_lt a k)
 
-  pub still_listed : may_contain words n ≡ false → HoldsRepeated (take (i + 1) ns) again
-  still_listed here x more =
-      either_way x (is_listed again x ≡ true)
-      (λ same. absurd (true≢false (sym (once n (omega (arith, more, times_next x ns i n within at, ap {B = ℕ} (λ b. cond b 1 0) ((Decides-eqb x n).1 same), ap (λ y. times y (take i ns)) same))) ∙ here)))
-      (λ kept. listed x (omega (arith, more, kept)))
+or_parts : (a b : Bool) → (a || b) ≡ false → (a ≡ false) × (b ≡ false)
+or_parts true b is = absurd (true≢false is)
+or_parts false b is = (refl, is)
+
+or_last : (a : Bool) → (a || (true || false)) ≡ true
+or_last true = refl
+or_last false = refl
+
+-- an item that passes a test, and what is known of it
+some_item : {X : Type 0} (test : X → Bool) (P : X → Type 0) (xs : List X) → AllByRecursion P xs → list_any test xs ≡ true → (x : X) × (test x ≡ true) × P x
+some_item test P [] all is = absurd (true≢false (sym is))
+some_item {X} test P (x ∷ xs) all is = by (test x) refl (some_item test P xs all.1) is
+  where
+    by : (b : Bool) → test x ≡ b → (list_any test xs ≡ true → (y : X) × (test y ≡ true) × P y) → (b || list_any test xs) ≡ true → (y : X) × (test y ≡ true) × P y
+    by true here rest is = (x, here, all.0)
+    by false here rest is = rest is
+
+-- Where kinds begin, and the repeats that are found on the way.
+module _ (by : NewIds) (placed : List Placed) where
+  -- the kind of the sample before goes on
+  pub goes_on : (index before : ℕ) (x y : Placed) → index < length placed → x ≡ get_or placed (index - 1) x → y ≡ get_or placed index y → is_eq (kind_cmp by x y) ≡ true
+      → BeginsKind by placed (index - 1) before → BeginsKind by placed index before
+  goes_on index before x y within x_is y_is same begun = record {
+    one = begun.one;
+    has = begun.has;
+    at = begun.at;
+    kind = λ d.
+        ap (kind_cmp by begun.one) (get_or_default placed index d y within ∙ sym y_is)
+        ∙ sym (alike_right (kind_total by) x y begun.one ((Equal-is (kind_cmp by x y)).0 same))
+        ∙ ap (kind_cmp by begun.one) x_is ∙ begun.kind x;
+    least = begun.least;
+  }
+
+  -- another kind begins
+  pub starts : IsSorted (placed_cmp by) placed → (index : ℕ) (y : Placed) → index < length placed
+      → (index ≡ 0) ⊎ ((x : Placed) × (x ≡ get_or placed (index - 1) x) × (is_eq (kind_cmp by x (get_or placed index y)) ≡ false)) → BeginsKind by placed index (get_or placed index y).place
+  starts sorted index y within new =
+      let one : Placed = get_or placed index y in
+      let at : (d : Placed) → get_or placed index d ≡ one = λ d. get_or_default placed index d y within in
+      record {
+        one = one;
+        has = (index, within, at one);
+        at = refl;
+        kind = λ d. ap (kind_cmp by one) (at d) ∙ tied_itself (kind_total by) one;
+        least = λ k d below is.
+            let first = begins (kind_cmp by) (kind_total by) (λ (p : Placed). p.place) placed sorted index d within
+            (⊎_elim (λ none. inl none)
+            (λ other. inr (
+            (λ j. is_eq (kind_cmp by ((get_or_default placed (index - 1) d other.0 (omega (arith, within)) ∙ sym other.1) j) (at d j))) ∙ other.2)) new)
+            k below (ap (kind_cmp by (get_or placed k d)) (at d) ∙ is) in
+            subst (λ (p : Placed). p.place ≤ (get_or placed k d).place) (at d) first;
+      }
+
+  -- one sample more
+  pub found_more : (index first : ℕ) (y : Placed) (repeats now : List Repeat) → index < length placed → FindsRepeats by placed index repeats → BeginsKind by placed index first
+      → now ≡ (if nat_lt first (get_or placed index y).place then repeats ++ record { first = first; later = (get_or placed index y).place } ∷ [] else repeats) → FindsRepeats by placed (index + 1) now
+  found_more index first y repeats now within found begun is = cases (nat_lt first x.place) refl is
+    where
+      x : Placed
+      x = get_or placed index y
+
+      at : (d : Placed) → get_or placed index d ≡ x
+      at d = get_or_default placed index d y within
+
+      further : (list : List Repeat) → ((k : ℕ) (d : Placed) → k < index → is_later list (get_or placed k d).place ≡ false → IsLeast by placed (get_or placed k d))
+          → (is_later list x.place ≡ false → IsLeast by placed x)
+          → (k : ℕ) (d : Placed) → k < index + 1 → is_later list (get_or placed k d).place ≡ false → IsLeast by placed (get_or placed k d)
+      further list before here k d below =
+          one_further (λ i. is_later list (get_or placed i d).place ≡ false → IsLeast by placed (get_or placed i d)) index (λ i lower. before i d lower)
+          (subst (λ (p : Placed). is_later list p.place ≡ false → IsLeast by placed p) (sym (at d)) here) k below
+
+      more : List Repeat
+      more = repeats ++ record { first = first; later = x.place } ∷ []
+
+      split : (place : ℕ) → is_later more place ≡ false → (is_later repeats place ≡ false) × (((x.place == place) || false) ≡ false)
+      split place not_later =
+          or_parts (is_later repeats place) ((x.place == place) || false)
+          (sym (list_any-append (λ (r : Repeat). r.later == place) repeats (record { first = first; later = x.place } ∷ [])) ∙ not_later)
+
+      pushed : first < x.place → FindsRepeats by placed (index + 1) more
+      pushed less = record {
+        repeated = All-push (IsRepeated by placed) repeats (record { first = first; later = x.place }) found.repeated (record {
+          one = begun.one;
+          other = x;
+          has = begun.has;
+          has_other = (index, within, at x);
+          first = begun.at;
+          later = refl;
+          earlier = less;
+          kind = begun.kind y;
+          least = begun.least;
+        });
+        others =
+            further more (λ k d below not_later. found.others k d below (split (get_or placed k d).place not_later).0)
+            (λ not_later. absurd (true≢false (sym (ap (λ b. b || false) (eq-eqb x.place x.place refl)) ∙ (split x.place not_later).1)));
+      }
+
+      kept : x.place ≤ first → FindsRepeats by placed (index + 1) repeats
+      kept no_less = record {
+        repeated = found.repeated;
+        others =
+            further repeats found.others
+            (λ not_later k d below same.
+            let lowest = begun.least k d below (alike_right (kind_total by) begun.one x (get_or placed k d) (begun.kind y) ∙ same) in
+            omega (arith, lowest, no_less, begun.at));
+      }
+
+      cases : (b : Bool) → nat_lt first x.place ≡ b → now ≡ (if b then more else repeats) → FindsRepeats by placed (index + 1) now
+      cases true less is = subst (FindsRepeats by placed (index + 1)) (sym is) (pushed (ltb-true first x.place less))
+      cases false less is = subst (FindsRepeats by placed (index + 1)) (sym is) (kept (ltb-false first x.place less))
+
+-- What is found among the samples of a class.
+module _ (by : NewIds) (samples : List Sample) (hashes : List ℕ) (class : ℕ) (hashed : hashes ≡ map (hash_by by) samples) where
+  own_stack : (x : Placed) → IsPlaced hashes samples class x → sample_stack (renumbered_sample by x.sample.now) ≡ stack_at by samples x.place
+  own_stack x is = ap (λ (s : Sample). sample_stack (renumbered_sample by s)) is.sample
+
+  hash_at : (k : ℕ) → k < length samples → get_or hashes k 0 ≡ stack_hash (stack_at by samples k)
+  hash_at k within = ap (λ l. get_or l k 0) hashed ∙ get_or-map (hash_by by) samples k no_sample 0 within
+
+  second_level : (a b : Ordering) → ordering_then a b ≡ Equal → b ≡ Equal
+  second_level Less b is = absurd (true≢false (ap is_lt is))
+  second_level Equal b is = is
+  second_level Greater b is = absurd (true≢false (ap is_gt is))
+
+  alike : (x y : Placed) → IsPlaced hashes samples class x → IsPlaced hashes samples class y → kind_cmp by x y ≡ Equal → same_stack (stack_at by samples x.place) (stack_at by samples y.place) ≡ true
+  alike x y is_x is_y level =
+      (λ j. same_stack (sym (own_stack x is_x) j) (sym (own_stack y is_y) j)) ∙ stack_ties by x.sample.now y.sample.now
+      ∙ ap is_eq (second_level (nat_cmp x.hash y.hash) (stack_cmp by x.sample.now y.sample.now) level)
+
+  of_kind : (x y : Placed) → IsPlaced hashes samples class x → IsPlaced hashes samples class y → same_stack (stack_at by samples x.place) (stack_at by samples y.place) ≡ true → kind_cmp by x y ≡ Equal
+  of_kind x y is_x is_y same =
+      let equal = (stack_decides (stack_at by samples x.place) (stack_at by samples y.place)).0 same in
+      let hash : x.hash ≡ y.hash = is_x.hash ∙ hash_at x.place is_x.within ∙ ap stack_hash equal ∙ sym (hash_at y.place is_y.within) ∙ sym is_y.hash in
+      let level : stack_cmp by x.sample.now y.sample.now ≡ Equal =
+      (Equal-is (stack_cmp by x.sample.now y.sample.now)).0
+      (sym (stack_ties by x.sample.now y.sample.now) ∙ (λ j. same_stack (own_stack x is_x j) (own_stack y is_y j)) ∙ same) in
+      (λ j. ordering_then ((ap (λ h. nat_cmp h y.hash) hash ∙ tied_itself nat_cmp_total y.hash) j) (level j))
+
+  module _ (first placed : List Placed) (repeats : List Repeat) (are : ArePlaced hashes samples class (length samples) first)
+      (moved : IsPermutation first placed) (found : FindsRepeats by placed (length placed) repeats) where
+    all_placed : All (IsPlaced hashes samples class) placed
+    all_placed = All-permutation (IsPlaced hashes samples class) first placed moved are.are
+
+    stands : (k : ℕ) → k < length samples → class_of (get_or hashes k 0) ≡ class → list_any (λ (one : Placed). one.place == k) placed ≡ true
+    stands k within of_class = sym (list_any-IsPermutation (λ (one : Placed). one.place == k) first placed moved) ∙ are.whole k within of_class
+
+    -- what has the least place of its kind is the first of its kind
+    is_first : (y : Placed) → IsPlaced hashes samples class y → IsLeast by placed y → IsFirst by samples y.place
+    is_first y is_y least = λ k below. cases k below (same_stack (stack_at by samples k) (stack_at by samples y.place)) refl
+      where
+        cases : (k : ℕ) → k < y.place → (b : Bool) → same_stack (stack_at by samples k) (stack_at by samples y.place) ≡ b → b ≡ false
+        cases k below false same = refl
+        cases k below true same =
+            let within : k < length samples = omega (arith, below, is_y.within) in
+            let equal = (stack_decides (stack_at by samples k) (stack_at by samples y.place)).0 same in
+            let hash : get_or hashes k 0 ≡ y.hash = hash_at k within ∙ ap stack_hash equal ∙ sym (hash_at y.place is_y.within) ∙ sym is_y.hash in
+            let (x, here, (is_x, lowest)) =
+            some_item (λ (one : Placed). one.place == k) (λ (one : Placed). IsPlaced hashes samples class one × (kind_cmp by one y ≡ Equal → y.place ≤ one.place)) placed
+            (by_recursion _ placed (λ i d inside. (all_placed i d inside, least i d inside))) (stands k within (ap class_of hash ∙ is_y.of_class)) in
+            let at : x.place ≡ k = eqb-true x.place k here in
+            absurd (omega (arith, below, at, lowest (of_kind x y is_x is_y (ap (λ i. same_stack (stack_at by samples i) (stack_at by samples y.place)) at ∙ same))))
+
+    is_repeat : (r : Repeat) → IsRepeated by placed r → IsRepeat by samples r
+    is_repeat r is =
+        let is_one = All-contains (IsPlaced hashes samples class) placed is.one all_placed is.has in
+        let is_other = All-contains (IsPlaced hashes samples class) placed is.other all_placed is.has_other in
+        record {
+          earlier = is.earlier;
+          within = subst (λ k. k < length samples) (sym is.later) is_other.within;
+          same =
+              (λ j. same_stack (stack_at by samples (is.first j)) (stack_at by samples (is.later j))) ∙ alike is.one is.other is_one is_other is.kind;
+          first = subst (IsFirst by samples) (sym is.first) (is_first is.one is_one is.least);
+        }
+
+    pub class_found : FindsOfClass by samples class repeats
+    class_found = record {
+      repeated = All-weaker (IsRepeated by placed) (IsRepeat by samples) is_repeat repeats found.repeated;
+      others = λ place within of_class not_later.
+          let (x, here, (is_x, least)) =
+          some_item (λ (one : Placed). one.place == place) (λ (one : Placed). IsPlaced hashes samples class one × (is_later repeats one.place ≡ false → IsLeast by placed one)) placed
+          (by_recursion _ placed (λ i d inside. (all_placed i d inside, found.others i d inside))) (stands place within (ap class_of (hash_at place within) ∙ of_class)) in
+          let at : x.place ≡ place = eqb-true x.place place here in
+          subst (IsFirst by samples) at (is_first x is_x (least (ap (is_later repeats) at ∙ not_later)));
+    }
+
+-- one class more
+pub class_more : (by : NewIds) (samples : List Sample) (class : ℕ) (all part now : List Repeat) → FindsBelow by samples class all → FindsOfClass by samples class part → now ≡ all ++ part
+    → FindsBelow by samples (class + 1) now
+class_more by samples class all part now below found is = subst (FindsBelow by samples (class + 1)) (sym is) (record {
+  repeated = All-append (IsRepeat by samples) all part below.repeated found.repeated;
+  others = λ place within lower not_later.
+      let (front, back) = or_parts (is_later all place) (is_later part place) (sym (list_any-append (λ (r : Repeat). r.later == place) all part) ∙ not_later) in
+      ⊎_elim
+      (λ before. below.others place within before front)
+      (λ last. found.others place within (omega (arith, lower, last)) back)
+      (cases_lt (class_of (hash_by by (get_or samples place no_sample))) class);
+})

@@ -6,7 +6,7 @@ use Rattle.std.proofs.Common.{◌≡◌, subst, fold, sum_by, ℕ, zero, suc, �
 use Rattle.std.proofs.Math.IntN.{+ℤ_idl}
 use Rattle.std.proofs.lemmas.List.{ext_get_or}
 use Rattle.pp_base.proofs.Sums.{triangle}
-use Rattle.pp_share.specs.Sums.{added, sum_with, column_totals}
+use Rattle.pp_share.specs.Sums.{added, column_totals}
 
 pub length-added : (xs ys : List ℤ) → length (added xs ys) ≡ length xs
 length-added [] ys = refl
@@ -32,17 +32,6 @@ pub added-zeros : (n : ℕ) (ys : List ℤ) → length ys ≡ n → added (repli
 added-zeros n [] is = subst (λ m. added (replicate m (pos 0)) [] ≡ []) is refl
 added-zeros zero (y ∷ ys) is = absurd (omega arith)
 added-zeros (suc n) (y ∷ ys) is = (λ j. +ℤ_idl y j ∷ added-zeros n ys (omega arith) j)
-
--- the first row is the sum
-pub sum_with_none : (sum row : List ℤ) → length sum ≡ 0 → sum_with sum row ≡ row
-sum_with_none [] row none = refl
-sum_with_none (x ∷ xs) row none = absurd (omega arith)
-
--- and a row that is as wide is added
-pub sum_with_row : (sum row : List ℤ) → length row ≡ length sum → sum_with sum row ≡ added sum row
-sum_with_row [] [] wide = refl
-sum_with_row [] (y ∷ ys) wide = absurd (omega arith)
-sum_with_row (x ∷ xs) row wide = refl
 
 -- one more row
 pub total_push : (n : ℕ) (rows : List (List ℤ)) (row : List ℤ) → column_totals n (rows ++ row ∷ []) ≡ added (column_totals n rows) row

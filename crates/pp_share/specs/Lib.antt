@@ -11,10 +11,9 @@ pub mod FunctionKeys
 pub mod PlaceKeys
 pub mod SampleStacks
 pub mod SampleKeys
-pub mod BloomFilter
-pub mod Repeats
-pub mod Woven
 pub mod Hashes
+pub mod StackOrder
+pub mod Repeats
 pub mod Shared
 pub mod Walk
 pub mod Gathered

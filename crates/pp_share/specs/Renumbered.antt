@@ -8,7 +8,6 @@ use Rattle.pp_model.specs.declared.profile.Line.{Line}
 use Rattle.pp_model.specs.declared.profile.Location.{Location}
 use Rattle.pp_model.specs.declared.profile.Function.{Function}
 use Rattle.pp_model.specs.declared.profile.Profile.{Profile}
-use Rattle.pp_share.specs.declared.ids.Ids.TheVariants.{Same}
 use Rattle.pp_share.specs.declared.renumbering.Renumbering.{Renumbering}
 use Rattle.pp_share.specs.Ids.{new_id, new_text}
 
@@ -27,10 +26,6 @@ new_ids by = record {
   function = new_id by.function;
   location = new_id by.location;
 }
-
--- the renumbering under which all ids stay
-abbrev pub stays : Renumbering
-stays = record { text = Same; mapping = Same; function = Same; location = Same }
 
 module _ (by : NewIds) where
   -- the type with its texts renumbered

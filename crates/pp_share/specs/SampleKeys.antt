@@ -2,7 +2,6 @@
 use Rattle.std.specs.Prelude.{ℕ, Bool, ℤ, List, map, filter}
 use Rattle.pp_model.specs.declared.profile.Label.{Label}
 use Rattle.pp_model.specs.declared.profile.Sample.{Sample}
-use Rattle.pp_share.specs.declared.sample_key.SampleKey.{SampleKey}
 use Rattle.pp_share.specs.SampleStacks.{same_stack, stack_hash}
 use Rattle.pp_share.specs.Sums.{counts, summed}
 
@@ -25,18 +24,6 @@ has_values s = counts (sample_item s)
 -- the sample with these locations, labels and values
 abbrev pub sample_of : (List ℕ × List Label) × List ℤ → Sample
 sample_of item = record { location_id = item.0.0; value = item.1; label = item.0.1 }
-
--- the key as locations and labels
-abbrev pub key_lists : SampleKey → List ℕ × List Label
-key_lists key = (key.locations.items, key.labels.items)
-
--- the same, with its values
-abbrev pub item_of_key : SampleKey × List ℤ → (List ℕ × List Label) × List ℤ
-item_of_key item = (key_lists item.0, item.1)
-
--- keys are one where the locations and the labels are
-abbrev pub same_sample_key : SampleKey → SampleKey → Bool
-same_sample_key a b = same_stack (key_lists a) (key_lists b)
 
 -- The samples with different locations or labels, with the sums of their values, but for those whose
 -- values are all 0.

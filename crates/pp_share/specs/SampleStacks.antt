@@ -1,8 +1,7 @@
--- The locations and labels by which samples are told apart where texts and locations stand once, and the hash that a
--- hasher takes of them.
+-- The locations and labels by which samples are told apart where texts and locations stand once, and the hash of
+-- these.
 use Rattle.std.specs.Prelude.{◌≡◌, ℕ, ◌*◌, ◌/◌, ◌%◌, ◌^◌, ◌==◌, Bool, ◌&&◌, true, ℤ, List, fold, bit_xor}
 use Rattle.std.specs.Bool.{Decides}
-use Rattle.std.specs.Hash.{u64}
 use Rattle.std.specs.Int.{w64, cast_unsigned}
 use Rattle.std.specs.Ordering.{int_eq}
 use Rattle.std.specs.Cmp.Lexicographic.{pointwise}
@@ -57,7 +56,3 @@ stack_decides a b =
     (λ e. (ap (λ s. s.0) e, ap (λ s. s.1) e))
     (Decides-and _ _ (slice_eq-Decides (λ i j. Decides-eqb i j) a.0 b.0 (pointwise (λ i j. i == j) a.0 b.0) refl)
     (slice_eq-Decides label_decides a.1 b.1 (pointwise equal_label a.1 b.1) refl))
-
--- and then they have the same hash
-pub same_hash : (a b : List ℕ × List Label) → same_stack a b ≡ true → u64 (stack_hash a) ≡ u64 (stack_hash b)
-same_hash a b same = ap (λ stack. u64 (stack_hash stack)) ((stack_decides a b).0 same)

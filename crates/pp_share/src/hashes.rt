@@ -7,8 +7,8 @@ ghost use Rattle.pp_model.specs.declared.profile.Sample.{Sample as SampleValue};
 ghost use Rattle.pp_share.specs.Renumbered.{new_ids};
 ghost use Rattle.pp_share.specs.Hashes.{AreHashesBy, AreHashes, AreOwnHashes, AddsHash, JoinsHashes};
 
+use crate::hashing::{hash_by, sample_hash};
 use crate::renumbering::Renumbering;
-use crate::sample_key::{hash_by, sample_hash};
 use crate::samples::has_values;
 use pp_base::{Gate, List, Memory};
 use pp_model::Sample;

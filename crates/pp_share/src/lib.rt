@@ -2,13 +2,13 @@
 #![tactic(auto)]
 
 mod behind;
-mod bloom_filter;
 mod change;
 mod first_sight;
 mod functions;
 mod gather;
 mod hashed;
 mod hashes;
+mod hashing;
 mod ids;
 mod kept;
 mod known;
@@ -17,11 +17,10 @@ mod met;
 mod places;
 mod placing;
 mod renumbering;
-mod repeated;
-mod sample_key;
+mod repeats;
 mod samples;
 mod sharing;
-mod sums;
+mod stack_order;
 mod texts;
 mod walk;
 mod write;
@@ -30,8 +29,8 @@ pub use behind::Behind;
 pub use change::{Change, change_each};
 pub use hashed::Hashed;
 pub use hashes::{Hashes, join_hashes};
+pub use hashing::sample_hash;
 pub use ids::{Ids, Known};
 pub use known::{are_in_place, known_ids};
 pub use renumbering::{Renumbering, renumber};
-pub use sample_key::sample_hash;
 pub use sharing::{share, share_on};

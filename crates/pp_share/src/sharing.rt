@@ -3,11 +3,12 @@ ghost use Rattle.std.specs.Prelude.{◌≡◌, ℕ, ◌-◌, ◌^◌, ◌<◌, �
 ghost use Rattle.std.specs.List.{AllByRecursion, filter, list_all, sum_by};
 ghost use Rattle.pp_model.specs.Sizes.{value_in};
 ghost use Rattle.pp_share.specs.Placed.{gist, totalled};
-ghost use Rattle.pp_share.specs.Renumbered.{new_ids, renumbered_sample, stays};
+ghost use Rattle.pp_share.specs.Renumbered.{NewIds, new_ids, renumbered_sample};
 ghost use Rattle.pp_model.specs.FirstSight.{ids};
 ghost use Rattle.pp_share.specs.Ids.{GivesIds};
 ghost use Rattle.pp_share.specs.Hashes.{AreKnown, AreHashes, with_new_samples, with_sums};
-ghost use Rattle.pp_share.specs.Repeats.{HoldsRepeated};
+ghost use Rattle.pp_share.specs.Repeats.{FindsBelow, IsPair};
+ghost use Rattle.pp_share.specs.Sums.{CanSum};
 ghost use Rattle.pp_share.specs.PlaceKeys.{same_place};
 ghost use Rattle.pp_share.specs.SampleKeys.{has_values};
 ghost use Rattle.pp_share.specs.Shared.{distant_locations, with_shared_functions, with_shared_places};
@@ -21,12 +22,12 @@ use crate::ids::Ids;
 use crate::kept::kept_hashes;
 use crate::places::share_places;
 use crate::renumbering::Renumbering;
-use crate::repeated::Repeated;
-use crate::samples::{counting, sum_repeated};
+use crate::repeats::{Repeat, find_repeats, find_repeats_on};
+use crate::samples::{add_repeats, counting};
 use crate::texts::share_texts;
 use crate::write::{write, write_on};
 use pp_base::{Gate, List, Memory};
-use pp_model::Profile;
+use pp_model::{Profile, Sample};
 use std::alloc::Global;
 use std::mem;
 use std::thread::Threads;
@@ -40,8 +41,8 @@ pub fn share(alloc: Global, p: Profile) -> Result<Profile, Memory>
         → sum_by (λ s. nat_abs (value_in s column)) p.sample ≤ 2 ^ 63 - 1 }
     ensures { IfOk result (λ r. r ≡ written (totalled (length p.sample_type) (gist p))) }
 {
-    let (mut profile, mut by) = share_tables(alloc, p)?;
-    sum_plain(alloc, &mut profile, &mut by)?;
+    let (mut profile, by) = share_tables(alloc, p)?;
+    sum_plain(alloc, &mut profile, &by)?;
     let written = write(alloc, profile, &by);
     mem::drop(by);
     written
@@ -69,13 +70,10 @@ pub fn share_on<R: Threads + Sync, G: Gate>(
     ensures { IfOk result (λ r. r ≡ written (totalled (length p.sample_type) (gist p))) }
 {
     let texts = p.text.len();
-    let (mut profile, mut by) = share_tables(alloc, p)?;
-    match kept_hashes(known, profile.sample.as_slice(), texts, &by) {
-        Some(hashes) => {
-            sum_hashed_on(rt, alloc, &mut profile, &mut by, &hashes, workers, gate)?;
-        }
-        None => sum_plain_on(rt, alloc, &mut profile, &mut by, workers, gate)?,
-    }
+    let (mut profile, by) = share_tables(alloc, p)?;
+    let samples = profile.sample.as_slice();
+    let hashes = hashes_for(rt, alloc, samples, texts, &by, known, workers, gate)?;
+    sum_hashed_on(rt, alloc, &mut profile, &by, &hashes, workers)?;
     let written = write_on(rt, alloc, profile, &by, workers);
     mem::drop(by);
     written
@@ -114,114 +112,73 @@ fn share_entries(alloc: Global, p: Profile) -> Result<(Profile, Ids), Memory>
     share_places(alloc, called)
 }
 
-// Adds up the samples that are equal once they have their new ids, and tells what the ids of the samples become that are
-// left.
-fn sum_plain(alloc: Global, p: &mut Profile, by: &mut Renumbering) -> Result<(), Memory>
-    requires wide { All (λ s. length s.value ≡ length p.old.sample_type) p.old.sample }
-    requires fits { (column : ℕ) → column < length p.old.sample_type
-        → sum_by (λ s. nat_abs (value_in s column)) p.old.sample ≤ 2 ^ 63 - 1 }
-    ensures { OnOk result (with_new_samples (new_ids by.new) p.new ≡ with_sums (new_ids by.old) p.old) }
+// The hashes of the samples with their new ids, where their labels name some of the texts of this number: those that are
+// known, where they serve, or made by `workers` lanes.
+fn hashes_for<R: Threads + Sync, G: Gate>(
+    rt: &R,
+    alloc: Global,
+    samples: &[Sample],
+    texts: usize,
+    by: &Renumbering,
+    known: Option<Hashes>,
+    workers: u32,
+    gate: &G,
+) -> Result<Hashes, Memory>
+    requires known { IfSome known (AreKnown texts samples.now) }
+    requires some { 1 ≤ workers }
+    requires most { workers ≤ 64 }
+    ensures { IfOk result (AreHashes (new_ids by.now) samples.now) }
+{
+    match kept_hashes(known, samples, texts, by) {
+        Some(hashes) => Ok(hashes),
+        None => hash_samples_on(rt, alloc, samples, by, workers, gate),
+    }
+}
+
+// Adds up the samples that are equal once they have their new ids, and leaves out those without any value. The others
+// keep the ids that they have.
+fn sum_plain(alloc: Global, p: &mut Profile, by: &Renumbering) -> Result<(), Memory>
+    requires { CanSum (length p.old.sample_type) p.old.sample }
+    ensures { OnOk result (with_new_samples (new_ids by.now) p.new ≡ with_sums (new_ids by.now) p.old) }
 {
     let hashes = hash_samples(alloc, p.sample.as_slice(), by)?;
-    let repeated = Repeated::new(alloc, &hashes.list)?;
-    sum_equal(alloc, p, by, &hashes, &repeated)
-}
-
-// The same, with the samples hashed on so many lanes.
-fn sum_plain_on<R: Threads + Sync, G: Gate>(
-    rt: &R,
-    alloc: Global,
-    p: &mut Profile,
-    by: &mut Renumbering,
-    workers: u32,
-    gate: &G,
-) -> Result<(), Memory>
-    requires wide { All (λ s. length s.value ≡ length p.old.sample_type) p.old.sample }
-    requires fits { (column : ℕ) → column < length p.old.sample_type
-        → sum_by (λ s. nat_abs (value_in s column)) p.old.sample ≤ 2 ^ 63 - 1 }
-    requires some { 1 ≤ workers }
-    requires most { workers ≤ 64 }
-    ensures { OnOk result (with_new_samples (new_ids by.new) p.new ≡ with_sums (new_ids by.old) p.old) }
-{
-    let hashes = hash_samples_on(rt, alloc, p.sample.as_slice(), by, workers, gate)?;
-    sum_hashed_on(rt, alloc, p, by, &hashes, workers, gate)
-}
-
-// The same, where the samples are hashed. So many lanes look for hashes that stand more than once.
-fn sum_hashed_on<R: Threads + Sync, G: Gate>(
-    rt: &R,
-    alloc: Global,
-    p: &mut Profile,
-    by: &mut Renumbering,
-    hashes: &Hashes,
-    workers: u32,
-    gate: &G,
-) -> Result<(), Memory>
-    requires wide { All (λ s. length s.value ≡ length p.old.sample_type) p.old.sample }
-    requires fits { (column : ℕ) → column < length p.old.sample_type
-        → sum_by (λ s. nat_abs (value_in s column)) p.old.sample ≤ 2 ^ 63 - 1 }
-    requires hashes { AreHashes (new_ids by.old) p.old.sample hashes.now }
-    requires some { 1 ≤ workers }
-    requires most { workers ≤ 64 }
-    ensures { OnOk result (with_new_samples (new_ids by.new) p.new ≡ with_sums (new_ids by.old) p.old) }
-{
-    let repeated = Repeated::new_on(rt, alloc, &hashes.list, workers, gate)?;
-    sum_equal(alloc, p, by, hashes, &repeated)
-}
-
-// The same, where the hashes that stand more than once are known. Most profiles have each sample once. To ask that
-// first, by their hashes, takes far less time than to look each sample up, and the samples then get their new ids where
-// they are gone through next. Where some are equal, only those whose hash stands more than once are looked up.
-fn sum_equal(
-    alloc: Global,
-    p: &mut Profile,
-    by: &mut Renumbering,
-    hashes: &Hashes,
-    repeated: &Repeated,
-) -> Result<(), Memory>
-    requires wide { All (λ s. length s.value ≡ length p.old.sample_type) p.old.sample }
-    requires fits { (column : ℕ) → column < length p.old.sample_type
-        → sum_by (λ s. nat_abs (value_in s column)) p.old.sample ≤ 2 ^ 63 - 1 }
-    requires hashes { AreHashes (new_ids by.old) p.old.sample hashes.now }
-    requires repeated { HoldsRepeated hashes.now.list.items repeated.now }
-    ensures { OnOk result (with_new_samples (new_ids by.new) p.new ≡ with_sums (new_ids by.old) p.old) }
-{
-    if repeated.is_empty() {
-        keep_counting(alloc, p, hashes.have_values);
-        return Ok(());
-    }
-    add_up(alloc, p, by, hashes, repeated)?;
-    mem::drop(mem::replace(by, stays()));
+    let repeats = find_repeats(alloc, by, &hashes.list, p.sample.as_slice())?;
+    sum_repeats(alloc, p, &repeats, hashes.have_values);
     Ok(())
 }
 
-// Leaves out the samples without any value. Where all have values, they are not gone through.
-fn keep_counting(alloc: Global, p: &mut Profile, have_values: bool)
-    requires { have_values ≡ list_all has_values p.old.sample }
-    ensures { p.new ≡ record p.old { sample = filter has_values p.old.sample } }
-{
-    let samples = mem::replace(&mut p.sample, List::new(alloc));
-    p.sample = counting(samples, have_values);
-}
-
-// Gives the samples their new ids, and adds up those that are equal then.
-fn add_up(
+// Does what `sum_plain` does, where the hashes are known. `workers` lanes look for equal samples.
+fn sum_hashed_on<R: Threads + Sync>(
+    rt: &R,
     alloc: Global,
     p: &mut Profile,
     by: &Renumbering,
     hashes: &Hashes,
-    repeated: &Repeated,
+    workers: u32,
 ) -> Result<(), Memory>
-    requires wide { All (λ s. length s.value ≡ length p.old.sample_type) p.old.sample }
-    requires fits { (column : ℕ) → column < length p.old.sample_type
-        → sum_by (λ s. nat_abs (value_in s column)) p.old.sample ≤ 2 ^ 63 - 1 }
+    requires sums { CanSum (length p.old.sample_type) p.old.sample }
     requires hashes { AreHashes (new_ids by.now) p.old.sample hashes.now }
-    requires repeated { HoldsRepeated hashes.now.list.items repeated.now }
-    ensures { OnOk result (p.new ≡ with_sums (new_ids by.now) p.old) }
+    requires some { 1 ≤ workers }
+    requires most { workers ≤ 64 }
+    ensures { OnOk result (with_new_samples (new_ids by.now) p.new ≡ with_sums (new_ids by.now) p.old) }
 {
-    let samples = mem::replace(&mut p.sample, List::new(alloc));
-    p.sample = sum_repeated(alloc, p.sample_type.len(), samples, by, hashes, repeated)?;
+    let repeats = find_repeats_on(rt, alloc, by, &hashes.list, p.sample.as_slice(), workers)?;
+    sum_repeats(alloc, p, &repeats, hashes.have_values);
     Ok(())
+}
+
+// Adds each repeat to the first of its kind, and leaves out the samples without any value. Most profiles have each sample
+// once, and each with a value: then the samples are not gone through.
+fn sum_repeats(alloc: Global, p: &mut Profile, repeats: &[Repeat], have_values: bool)
+    requires sums { CanSum (length p.old.sample_type) p.old.sample }
+    requires values { have_values ≡ list_all has_values p.old.sample }
+    requires pairs { All (IsPair (length p.old.sample)) repeats.now }
+    ensures { (by : NewIds) → FindsBelow by p.old.sample 8 repeats.now
+        → with_new_samples by p.new ≡ with_sums by p.old }
+{
+    let mut samples = mem::replace(&mut p.sample, List::new(alloc));
+    add_repeats(alloc, &mut samples, repeats);
+    p.sample = counting(samples, have_values && repeats.is_empty());
 }
 
 // The profile, whose texts stand once, with each comment once.
@@ -232,16 +189,4 @@ fn share_comments(alloc: Global, mut p: Profile) -> Result<Profile, Memory>
     let (kept, _) = number_each(alloc, comments.into_vec())?;
     p.comment = List::from_vec(kept);
     Ok(p)
-}
-
-// All ids stay.
-fn stays() -> Renumbering
-    ensures { result ≡ stays }
-{
-    Renumbering {
-        text: Ids::Same,
-        mapping: Ids::Same,
-        function: Ids::Same,
-        location: Ids::Same,
-    }
 }

@@ -15,8 +15,8 @@ returns c =
     c.write-written.ensures
 
 -- values stay as they are
-pub sum_plain-requires-clause-wide : goal.sum_plain-requires-clause-wide
-sum_plain-requires-clause-wide c = still_wide c.args.p c.in_ok-profile.profile c.in_ok-profile.ensures.tables c.requires.wide
-
-pub sum_plain-requires-clause-fits : goal.sum_plain-requires-clause-fits
-sum_plain-requires-clause-fits c = still_fits c.args.p c.in_ok-profile.profile c.in_ok-profile.ensures.tables c.requires.fits
+pub sum_plain-requires : goal.sum_plain-requires
+sum_plain-requires c = record {
+  wide = still_wide c.args.p c.in_ok-profile.profile c.in_ok-profile.ensures.tables c.requires.wide;
+  fits = still_fits c.args.p c.in_ok-profile.profile c.in_ok-profile.ensures.tables c.requires.fits;
+}

@@ -1,0 +1,234 @@
+//! The samples that are equal to earlier ones once they have their new ids.
+ghost use Rattle.std.specs.Ordering.{is_eq};
+ghost use Rattle.std.specs.Prelude.{◌≡◌, ◌<◌, ◌≤◌, ◌-◌, ◌++◌, [], ◌∷◌, length, map, if◌then◌else◌, nat_lt, IfOk, OnOk};
+ghost use Rattle.std.specs.List.Sorted.{IsSorted, IsPermutation};
+ghost use Rattle.pp_share.specs.Hashes.{hash_by};
+ghost use Rattle.pp_share.specs.Renumbered.{new_ids};
+ghost use Rattle.pp_share.specs.StackOrder.{kind_cmp, placed_cmp};
+ghost use Rattle.pp_share.specs.Repeats.{class_of, ArePlaced, BeginsKind, FindsBelow, FindsOfClass, FindsRepeats};
+
+use crate::renumbering::Renumbering;
+use crate::stack_order::stack_order;
+use pp_base::{Gate, Memory, OpenGate};
+use pp_model::Sample;
+use pp_steal::{Deal, Job, run_pieces};
+use std::alloc::Global;
+use std::cmp::Ordering;
+use std::thread::Threads;
+
+/// A sample that is equal to an earlier one.
+#[derive(Clone, Copy, Debug)]
+pub struct Repeat {
+    /// The place of the first sample of its kind.
+    pub first: usize,
+    /// Its own place.
+    pub later: usize,
+}
+
+// A sample, its hash, and its place among all.
+#[derive(Clone, Copy, Debug)]
+struct Placed<'a> {
+    hash: u64,
+    place: usize,
+    sample: &'a Sample,
+}
+
+// How many classes the hashes have. Equal hashes are of one class. Only the samples of one class are put in order at a
+// time, so that this takes a few bytes a sample.
+const CLASSES: u32 = 8;
+
+// The class of the hash, by its upper bits.
+fn class_of(hash: u64) -> u32
+    ensures { result ≡ class_of hash }
+{
+    ((hash >> 61) % 8) as u32
+}
+
+/// The samples that are equal to earlier ones, where these are the hashes of all. The samples of equal hash are sorted by
+/// their locations and labels, so that equal ones stand side by side.
+pub fn find_repeats(
+    alloc: Global,
+    by: &Renumbering,
+    hashes: &[u64],
+    samples: &[Sample],
+) -> Result<Vec<Repeat>, Memory>
+    requires { hashes.now ≡ map (hash_by (new_ids by.now)) samples.now }
+    ensures { IfOk result (λ all. FindsBelow (new_ids by.now) samples.now 8 all.items) }
+{
+    let mut all = Vec::new(alloc);
+    for class in 0..CLASSES {
+        let part = repeats_of_class(alloc, by, hashes, samples, class)?;
+        all.extend_from_slice(&part)?;
+    }
+    Ok(all)
+}
+
+/// The samples that `find_repeats` gives, found by `workers` lanes, each of which looks at one class of hashes after
+/// another.
+pub fn find_repeats_on<R: Threads + Sync>(
+    rt: &R,
+    alloc: Global,
+    by: &Renumbering,
+    hashes: &[u64],
+    samples: &[Sample],
+    workers: u32,
+) -> Result<Vec<Repeat>, Memory>
+    requires some { 1 ≤ workers }
+    requires most { workers ≤ 64 }
+    requires hashes { hashes.now ≡ map (hash_by (new_ids by.now)) samples.now }
+    ensures { IfOk result (λ all. FindsBelow (new_ids by.now) samples.now 8 all.items) }
+{
+    let job = Classes {
+        alloc,
+        by,
+        hashes,
+        samples,
+    };
+    let lanes = workers.min(CLASSES);
+    let parts = run_pieces(rt, alloc, &job, CLASSES, lanes, Deal::Round, &OpenGate)?;
+    let mut all = Vec::new(alloc);
+    for class in 0..parts.len() {
+        all.extend_from_slice(&parts.as_slice()[class])?;
+    }
+    Ok(all)
+}
+
+// Samples as a job in classes of hashes.
+#[derive(Drop)]
+struct Classes<'a> {
+    // Where the parts are allocated.
+    alloc: Global,
+    by: &'a Renumbering,
+    hashes: &'a [u64],
+    samples: &'a [Sample],
+    ghost hashed: { hashes.now ≡ map (hash_by (new_ids by.now)) samples.now },
+}
+
+impl Job for Classes<'_> {
+    /// The repeats of the class.
+    type Out = Vec<Repeat>;
+
+    ghost use Rattle.pp_share.specs.Renumbered.{new_ids};
+    ghost use Rattle.pp_share.specs.Repeats.{FindsOfClass};
+
+    ghost pieces = { λ job. 8 };
+
+    ghost right = { λ job class part. FindsOfClass (new_ids job.by.now) job.samples.now class part.items };
+
+    fn run(&self, class: u32) -> Result<Vec<Repeat>, Memory> {
+        repeats_of_class(self.alloc, self.by, self.hashes, self.samples, class)
+    }
+}
+
+// The samples of the class that are equal to earlier ones.
+fn repeats_of_class(
+    alloc: Global,
+    by: &Renumbering,
+    hashes: &[u64],
+    samples: &[Sample],
+    class: u32,
+) -> Result<Vec<Repeat>, Memory>
+    requires { hashes.now ≡ map (hash_by (new_ids by.now)) samples.now }
+    ensures { IfOk result (λ repeats. FindsOfClass (new_ids by.now) samples.now class repeats.items) }
+{
+    let mut placed = of_class(alloc, hashes, samples, class)?;
+    sort_placed(by, &mut placed);
+    repeats_in(alloc, by, &placed)
+}
+
+// The samples of the class, in order.
+fn of_class<'a>(
+    alloc: Global,
+    hashes: &[u64],
+    samples: &'a [Sample],
+    class: u32,
+) -> Result<Vec<Placed<'a>>, Memory>
+    requires { length hashes.now ≡ length samples.now }
+    ensures { IfOk result (λ placed. ArePlaced hashes.now samples.now class (length samples.now) placed.items) }
+{
+    let mut placed = Vec::new(alloc);
+    for place in 0..samples.len() {
+        let hash = hashes[place];
+        if class_of(hash) == class {
+            let sample = &samples[place];
+            placed.push(Placed {
+                hash,
+                place,
+                sample,
+            })?;
+        }
+    }
+    Ok(placed)
+}
+
+// Sorts the samples by kind, and those of one kind by place.
+fn sort_placed(by: &Renumbering, placed: &mut Vec<Placed>)
+    ensures sorted { IsSorted (placed_cmp (new_ids by.now)) placed.new.items }
+    ensures same { IsPermutation placed.old.items placed.new.items }
+{
+    placed.sort_unstable_by(|a, b| placed_order(by, a, b));
+}
+
+fn placed_order(by: &Renumbering, a: &Placed, b: &Placed) -> Ordering
+    ensures { result ≡ placed_cmp (new_ids by.now) a.now b.now }
+{
+    match kind_order(by, a, b) {
+        Ordering::Equal => a.place.cmp(&b.place),
+        other => other,
+    }
+}
+
+// Compares the hashes, and where these are equal the samples.
+fn kind_order(by: &Renumbering, a: &Placed, b: &Placed) -> Ordering
+    ensures { result ≡ kind_cmp (new_ids by.now) a.now b.now }
+{
+    match a.hash.cmp(&b.hash) {
+        Ordering::Equal => stack_order(by, a.sample, b.sample),
+        other => other,
+    }
+}
+
+// The samples that follow one of their kind.
+fn repeats_in(alloc: Global, by: &Renumbering, placed: &[Placed]) -> Result<Vec<Repeat>, Memory>
+    requires { IsSorted (placed_cmp (new_ids by.now)) placed.now }
+    ensures { IfOk result (λ repeats. FindsRepeats (new_ids by.now) placed.now (length placed.now) repeats.items) }
+{
+    let mut repeats = Vec::new(alloc);
+    let mut first = 0;
+    for index in 0..placed.len() {
+        first = first_of(by, placed, index, first);
+        push_later(&mut repeats, first, placed[index].place)?;
+    }
+    Ok(repeats)
+}
+
+// The first place of the kind at the index, where `before` is that of the kind before it.
+fn first_of(by: &Renumbering, placed: &[Placed], index: usize, before: usize) -> usize
+    requires within { index < length placed.now }
+    requires sorted { IsSorted (placed_cmp (new_ids by.now)) placed.now }
+    requires before { 0 < index → BeginsKind (new_ids by.now) placed.now (index - 1) before }
+    ensures { BeginsKind (new_ids by.now) placed.now index result }
+{
+    if index > 0 && is_kind(by, &placed[index - 1], &placed[index]) {
+        return before;
+    }
+    placed[index].place
+}
+
+// Whether the samples are of one kind.
+fn is_kind(by: &Renumbering, a: &Placed, b: &Placed) -> bool
+    ensures { result ≡ is_eq (kind_cmp (new_ids by.now) a.now b.now) }
+{
+    kind_order(by, a, b).is_eq()
+}
+
+// Adds the sample at the later place, unless it is the first.
+fn push_later(repeats: &mut Vec<Repeat>, first: usize, later: usize) -> Result<(), Memory>
+    ensures { OnOk result (repeats.new.items
+        ≡ (if nat_lt first later then repeats.old.items ++ record { first = first; later = later } ∷ [] else repeats.old.items)) }
+{
+    if first < later {
+        repeats.push(Repeat { first, later })?;
+    }
+    Ok(())
+}
