@@ -13,7 +13,7 @@ use crate::join::{is_in_place, join, set};
 use crate::refusal::MergeRefusal;
 use crate::together::without_hashes;
 use crate::totals::too_large_column;
-use pp_base::{List, Memory, OpenGate};
+use pp_base::{List, Memory};
 use pp_model::{Compact, Profile, Valid};
 use pp_share::{Hashed, Hashes, share, share_on};
 use pp_steal::Resources;
@@ -59,7 +59,7 @@ pub fn merge_on<R: Threads + Sync>(
     let are_small = together <= i64::MAX as u64;
     let duration = admit(&first, others.as_slice(), are_small)?;
     let (whole, known) = join_hashed(with.alloc, first, others, duration, hashes)?;
-    let merged = share_on(with.rt, with.alloc, whole, known, with.workers, &OpenGate)?;
+    let merged = share_on(with, whole, known)?;
     Ok(Compact::claim(Valid::claim(merged)))
 }
 

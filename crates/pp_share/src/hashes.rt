@@ -10,9 +10,9 @@ ghost use Rattle.pp_share.specs.Hashes.{AreHashesBy, AreHashes, AreOwnHashes, Ad
 use crate::hashing::{hash_by, sample_hash};
 use crate::renumbering::Renumbering;
 use crate::samples::has_values;
-use pp_base::{Gate, List, Memory};
+use pp_base::{List, Memory, OpenGate};
 use pp_model::Sample;
-use pp_steal::{Deal, Job, PIECE, piece_of, pieces_of, run_pieces};
+use pp_steal::{Deal, Job, PIECE, Resources, piece_of, pieces_of, run_pieces};
 use std::alloc::Global;
 use std::thread::Threads;
 
@@ -30,7 +30,7 @@ pub struct Hashes {
 }
 
 impl Hashes {
-    /// Those of no samples, with room for so many.
+    /// The hashes of no samples, with room for those of `room` samples.
     pub fn with_room(alloc: Global, room: usize) -> Result<Hashes, Memory>
         ensures { IfOk result (λ n. (hash : SampleValue → ℕ) → AreHashesBy hash [] n) }
     {
@@ -86,32 +86,36 @@ pub fn hash_samples(alloc: Global, samples: &[Sample], by: &Renumbering) -> Resu
     Ok(hashes)
 }
 
-/// The same, in pieces of 1,024 on so many lanes, from 1 to 64. What it answers does not tell how many there were.
-pub fn hash_samples_on<R: Threads + Sync, G: Gate>(
-    rt: &R,
-    alloc: Global,
+/// The hashes that `hash_samples` gives, made in pieces of 1,024 on `with.workers` lanes. They do not tell how many there
+/// were.
+pub fn hash_samples_on<R: Threads + Sync>(
+    with: &Resources<'_, R>,
     samples: &[Sample],
     by: &Renumbering,
-    workers: u32,
-    gate: &G,
 ) -> Result<Hashes, Memory>
-    requires some { 1 ≤ workers }
-    requires most { workers ≤ 64 }
     ensures { IfOk result (AreHashes (new_ids by.now) samples.now) }
 {
     let len = samples.len();
-    if workers == 1 || len <= PIECE || len >= 1 << 32 {
-        return hash_samples(alloc, samples, by);
+    if with.workers == 1 || len <= PIECE || len >= 1 << 32 {
+        return hash_samples(with.alloc, samples, by);
     }
     let job = Pieces {
-        alloc,
+        alloc: with.alloc,
         samples,
         by,
         pieces: pieces_of(len),
     };
-    let lanes = workers.min(job.pieces.max(1));
-    let parts = run_pieces(rt, alloc, &job, job.pieces, lanes, Deal::Round, gate)?;
-    join_hashes(alloc, len, parts.as_slice())
+    let lanes = with.workers.min(job.pieces.max(1));
+    let parts = run_pieces(
+        with.rt,
+        with.alloc,
+        &job,
+        job.pieces,
+        lanes,
+        Deal::Round,
+        &OpenGate,
+    )?;
+    join_hashes(with.alloc, len, parts.as_slice())
 }
 
 // The samples as a job in pieces.
@@ -142,7 +146,7 @@ impl Job for Pieces<'_> {
     }
 }
 
-/// The hashes of all parts as one list, of so many.
+/// The hashes of all parts, `len` of them, as one list.
 pub fn join_hashes(alloc: Global, len: usize, parts: &[Hashes]) -> Result<Hashes, Memory>
     ensures { IfOk result (JoinsHashes parts.now) }
 {

@@ -15,21 +15,20 @@ use crate::placing::place_each;
 use crate::renumbering::Renumbering;
 use pp_base::{List, Memory};
 use pp_model::{Profile, Sample};
-use pp_steal::{PIECE, for_each_on};
+use pp_steal::{PIECE, Resources, for_each_on};
 use std::thread::Threads;
 
-/// The same as `place_samples`, of the samples of a profile. One thread goes over them until each location of the table
-/// was met, mostly soon, and over the labels of all. So many threads give the others the places of their locations.
+/// Does what `place_samples` does, with the samples of a profile. One thread goes over them until each location of the
+/// table was met, mostly soon, and over the labels of all. `with.workers` threads give the others the places of their
+/// locations.
 pub fn place_samples_on<R: Threads + Sync>(
-    rt: &R,
+    with: &Resources<'_, R>,
     p: &mut Profile,
     by: &Renumbering,
-    workers: u32,
     locations: &mut Met,
     texts: &mut Met,
 ) -> Result<(), Memory>
-    requires some { 1 ≤ workers }
-    requires named { AllByRecursion (NamesLocations (length p.old.location))
+    requires { AllByRecursion (NamesLocations (length p.old.location))
         (map (renumbered_sample (new_ids by.now)) p.old.sample) }
     ensures locations { OnOk result (locations.new ≡ met_after locations.old
         (flat_map location_refs (map (renumbered_sample (new_ids by.now)) p.old.sample))) }
@@ -43,7 +42,7 @@ pub fn place_samples_on<R: Threads + Sync>(
     let count = p.location.len();
     place_labels(&mut p.sample, by, texts)?;
     let first = locate_first(&mut p.sample, by, count, locations)?;
-    locate_rest(rt, &mut p.sample, by, first, workers, locations);
+    locate_rest(with, &mut p.sample, by, first, locations);
     Ok(())
 }
 
@@ -62,8 +61,8 @@ fn place_labels(samples: &mut List<Sample>, by: &Renumbering, texts: &mut Met) -
     Ok(())
 }
 
-// Gives the first of the samples the places of their new locations, which are added where they were not met yet, until
-// all of so many were met, and tells how many these are.
+// Gives the samples in front the places of their new locations, which are added where they were not met yet, until all
+// `count` locations were met. Gives how many samples these are.
 fn locate_first(
     samples: &mut List<Sample>,
     by: &Renumbering,
@@ -84,16 +83,14 @@ fn locate_first(
     Ok(samples.len())
 }
 
-// Gives the samples from the first of them on the places of their new locations, on so many threads.
+// Gives the samples from the place `first` on the places of their new locations, on `with.workers` threads.
 fn locate_rest<R: Threads + Sync>(
-    rt: &R,
+    with: &Resources<'_, R>,
     samples: &mut List<Sample>,
     by: &Renumbering,
     first: usize,
-    workers: u32,
     locations: &Met,
 )
-    requires { 1 ≤ workers }
     ensures long { length samples.new ≡ length samples.old }
     ensures each { (i : ℕ) → (other : SampleValue) → i < length samples.old → slice_index_or samples.new i other
         ≡ placed_from first (new_ids by.now) locations.now i (slice_index_or samples.old i other) }
@@ -102,7 +99,12 @@ fn locate_rest<R: Threads + Sync>(
         ensures { sample.exit.now
             ≡ placed_from first (new_ids by.entry.now) locations.entry.now index sample.entry.now }
     { locate_from(first, index, by, locations, sample) };
-    for_each_on(rt, samples.as_mut_slice(), workers as usize, &locate);
+    for_each_on(
+        with.rt,
+        samples.as_mut_slice(),
+        with.workers as usize,
+        &locate,
+    );
 }
 
 // Gives the sample at the index the places of its new locations, unless it stands before the first.

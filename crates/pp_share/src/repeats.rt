@@ -9,9 +9,9 @@ ghost use Rattle.pp_share.specs.Repeats.{class_of, ArePlaced, BeginsKind, FindsB
 
 use crate::renumbering::Renumbering;
 use crate::stack_order::stack_order;
-use pp_base::{Gate, Memory, OpenGate};
+use pp_base::{Memory, OpenGate};
 use pp_model::Sample;
-use pp_steal::{Deal, Job, run_pieces};
+use pp_steal::{Deal, Job, Resources, run_pieces};
 use std::alloc::Global;
 use std::cmp::Ordering;
 use std::thread::Threads;
@@ -63,30 +63,34 @@ pub fn find_repeats(
     Ok(all)
 }
 
-/// The samples that `find_repeats` gives, found by `workers` lanes, each of which looks at one class of hashes after
+/// The samples that `find_repeats` gives, found by `with.workers` lanes, each of which looks at one class of hashes after
 /// another.
 pub fn find_repeats_on<R: Threads + Sync>(
-    rt: &R,
-    alloc: Global,
+    with: &Resources<'_, R>,
     by: &Renumbering,
     hashes: &[u64],
     samples: &[Sample],
-    workers: u32,
 ) -> Result<Vec<Repeat>, Memory>
-    requires some { 1 ≤ workers }
-    requires most { workers ≤ 64 }
-    requires hashes { hashes.now ≡ map (hash_by (new_ids by.now)) samples.now }
+    requires { hashes.now ≡ map (hash_by (new_ids by.now)) samples.now }
     ensures { IfOk result (λ all. FindsBelow (new_ids by.now) samples.now 8 all.items) }
 {
     let job = Classes {
-        alloc,
+        alloc: with.alloc,
         by,
         hashes,
         samples,
     };
-    let lanes = workers.min(CLASSES);
-    let parts = run_pieces(rt, alloc, &job, CLASSES, lanes, Deal::Round, &OpenGate)?;
-    let mut all = Vec::new(alloc);
+    let lanes = with.workers.min(CLASSES);
+    let parts = run_pieces(
+        with.rt,
+        with.alloc,
+        &job,
+        CLASSES,
+        lanes,
+        Deal::Round,
+        &OpenGate,
+    )?;
+    let mut all = Vec::new(with.alloc);
     for class in 0..parts.len() {
         all.extend_from_slice(&parts.as_slice()[class])?;
     }

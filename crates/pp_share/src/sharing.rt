@@ -26,8 +26,9 @@ use crate::repeats::{Repeat, find_repeats, find_repeats_on};
 use crate::samples::{add_repeats, counting};
 use crate::texts::share_texts;
 use crate::write::{write, write_on};
-use pp_base::{Gate, List, Memory};
+use pp_base::{List, Memory};
 use pp_model::{Profile, Sample};
+use pp_steal::Resources;
 use std::alloc::Global;
 use std::mem;
 use std::thread::Threads;
@@ -48,33 +49,27 @@ pub fn share(alloc: Global, p: Profile) -> Result<Profile, Memory>
     written
 }
 
-/// The same. Where the hashes of the samples by the ids that they have are known, and none of the texts and locations
-/// that samples name gets another id, the samples are not gone over for their hashes. Else they are hashed in pieces
-/// of 1,024 on so many lanes, from 1 to 64. As many threads write most samples. The profile does not tell how many there
-/// were.
-pub fn share_on<R: Threads + Sync, G: Gate>(
-    rt: &R,
-    alloc: Global,
+/// The profile that `share` gives, made by `with.workers` lanes. It does not tell how many there were. `known` are the
+/// hashes of the samples by the ids that they have, if they are known. They serve where none of the texts and locations
+/// that samples name gets another id. Else the samples are hashed anew, in pieces of 1,024.
+pub fn share_on<R: Threads + Sync>(
+    with: &Resources<'_, R>,
     p: Profile,
     known: Option<Hashes>,
-    workers: u32,
-    gate: &G,
 ) -> Result<Profile, Memory>
     requires joined { IsJoined p }
     requires wide { All (λ s. length s.value ≡ length p.sample_type) p.sample }
     requires fits { (column : ℕ) → column < length p.sample_type
         → sum_by (λ s. nat_abs (value_in s column)) p.sample ≤ 2 ^ 63 - 1 }
     requires known { IfSome known (AreKnown (length p.text) p.sample) }
-    requires some { 1 ≤ workers }
-    requires most { workers ≤ 64 }
     ensures { IfOk result (λ r. r ≡ written (totalled (length p.sample_type) (gist p))) }
 {
     let texts = p.text.len();
-    let (mut profile, by) = share_tables(alloc, p)?;
+    let (mut profile, by) = share_tables(with.alloc, p)?;
     let samples = profile.sample.as_slice();
-    let hashes = hashes_for(rt, alloc, samples, texts, &by, known, workers, gate)?;
-    sum_hashed_on(rt, alloc, &mut profile, &by, &hashes, workers)?;
-    let written = write_on(rt, alloc, profile, &by, workers);
+    let hashes = hashes_for(with, samples, texts, &by, known)?;
+    sum_hashed_on(with, &mut profile, &by, &hashes)?;
+    let written = write_on(with, profile, &by);
     mem::drop(by);
     written
 }
@@ -112,26 +107,21 @@ fn share_entries(alloc: Global, p: Profile) -> Result<(Profile, Ids), Memory>
     share_places(alloc, called)
 }
 
-// The hashes of the samples with their new ids, where their labels name some of the texts of this number: those that are
-// known, where they serve, or made by `workers` lanes.
-fn hashes_for<R: Threads + Sync, G: Gate>(
-    rt: &R,
-    alloc: Global,
+// The hashes of the samples with their new ids: the known ones where they serve, or new ones. The labels name some of
+// `texts` texts.
+fn hashes_for<R: Threads + Sync>(
+    with: &Resources<'_, R>,
     samples: &[Sample],
     texts: usize,
     by: &Renumbering,
     known: Option<Hashes>,
-    workers: u32,
-    gate: &G,
 ) -> Result<Hashes, Memory>
-    requires known { IfSome known (AreKnown texts samples.now) }
-    requires some { 1 ≤ workers }
-    requires most { workers ≤ 64 }
+    requires { IfSome known (AreKnown texts samples.now) }
     ensures { IfOk result (AreHashes (new_ids by.now) samples.now) }
 {
     match kept_hashes(known, samples, texts, by) {
         Some(hashes) => Ok(hashes),
-        None => hash_samples_on(rt, alloc, samples, by, workers, gate),
+        None => hash_samples_on(with, samples, by),
     }
 }
 
@@ -147,23 +137,19 @@ fn sum_plain(alloc: Global, p: &mut Profile, by: &Renumbering) -> Result<(), Mem
     Ok(())
 }
 
-// Does what `sum_plain` does, where the hashes are known. `workers` lanes look for equal samples.
+// Does what `sum_plain` does, where the hashes are known. `with.workers` lanes look for equal samples.
 fn sum_hashed_on<R: Threads + Sync>(
-    rt: &R,
-    alloc: Global,
+    with: &Resources<'_, R>,
     p: &mut Profile,
     by: &Renumbering,
     hashes: &Hashes,
-    workers: u32,
 ) -> Result<(), Memory>
     requires sums { CanSum (length p.old.sample_type) p.old.sample }
     requires hashes { AreHashes (new_ids by.now) p.old.sample hashes.now }
-    requires some { 1 ≤ workers }
-    requires most { workers ≤ 64 }
     ensures { OnOk result (with_new_samples (new_ids by.now) p.new ≡ with_sums (new_ids by.now) p.old) }
 {
-    let repeats = find_repeats_on(rt, alloc, by, &hashes.list, p.sample.as_slice(), workers)?;
-    sum_repeats(alloc, p, &repeats, hashes.have_values);
+    let repeats = find_repeats_on(with, by, &hashes.list, p.sample.as_slice())?;
+    sum_repeats(with.alloc, p, &repeats, hashes.have_values);
     Ok(())
 }
 

@@ -17,7 +17,7 @@ use crate::renumbering::{Renumbering, renumber_tables};
 use crate::walk::{Functions, Mappings, Refers, Texts, meet_each};
 use pp_base::Memory;
 use pp_model::{Function, Location, Mapping, Profile, ValueType};
-use pp_steal::PIECE;
+use pp_steal::{PIECE, Resources};
 use std::alloc::Global;
 use std::mem;
 use std::thread::Threads;
@@ -33,24 +33,22 @@ pub fn write(alloc: Global, mut p: Profile, samples: &Renumbering) -> Result<Pro
     write_named(alloc, p, texts, locations)
 }
 
-/// The same, where the samples name locations of the table. So many threads write most of them, from 1 to 64.
+/// The profile that `write` gives, where the samples name locations of the table. `with.workers` threads write most of
+/// the samples.
 pub fn write_on<R: Threads + Sync>(
-    rt: &R,
-    alloc: Global,
+    with: &Resources<'_, R>,
     mut p: Profile,
     samples: &Renumbering,
-    workers: u32,
 ) -> Result<Profile, Memory>
-    requires some { 1 ≤ workers }
-    requires named { AllByRecursion (NamesLocations (length p.location)) (with_new_samples (new_ids samples.now) p).sample }
+    requires { AllByRecursion (NamesLocations (length p.location)) (with_new_samples (new_ids samples.now) p).sample }
     ensures { IfOk result (IsWalked (with_new_samples (new_ids samples.now) p)) }
 {
-    if workers == 1 || p.sample.len() <= PIECE {
-        return write(alloc, p, samples);
+    if with.workers == 1 || p.sample.len() <= PIECE {
+        return write(with.alloc, p, samples);
     }
-    let mut texts = first_texts(alloc, &p)?;
-    let locations = keep_locations_on(rt, alloc, &mut p, samples, workers, &mut texts)?;
-    write_named(alloc, p, texts, locations)
+    let mut texts = first_texts(with.alloc, &p)?;
+    let locations = keep_locations_on(with, &mut p, samples, &mut texts)?;
+    write_named(with.alloc, p, texts, locations)
 }
 
 // The profile, of which the samples and the locations are written, and name these texts and locations.
@@ -115,23 +113,20 @@ fn keep_locations(
     Ok(met)
 }
 
-// The same, on so many threads.
+// Does what `keep_locations` does, on `with.workers` threads.
 fn keep_locations_on<R: Threads + Sync>(
-    rt: &R,
-    alloc: Global,
+    with: &Resources<'_, R>,
     p: &mut Profile,
     by: &Renumbering,
-    workers: u32,
     texts: &mut Met,
 ) -> Result<Met, Memory>
-    requires some { 1 ≤ workers }
     requires named { AllByRecursion (NamesLocations (length p.old.location)) (with_new_samples (new_ids by.now) p.old).sample }
     requires first { texts.old ≡ met_after [] (first_text_ids p.old) }
     ensures { IfOk result (IsNamed (with_new_samples (new_ids by.now) p.old) p.new texts.new) }
 {
-    let mut met = Met::new(alloc, p.location.len().saturating_add(1))?;
-    place_samples_on(rt, p, by, workers, &mut met, texts)?;
-    p.location = gather(alloc, p.location.as_slice(), met.as_slice())?;
+    let mut met = Met::new(with.alloc, p.location.len().saturating_add(1))?;
+    place_samples_on(with, p, by, &mut met, texts)?;
+    p.location = gather(with.alloc, p.location.as_slice(), met.as_slice())?;
     Ok(met)
 }
 
