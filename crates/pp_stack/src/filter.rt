@@ -9,9 +9,9 @@ ghost use Rattle.pp_stack.specs.Runs.{kept_if};
 ghost use Rattle.pp_stack.specs.Filters.{filtered, kept_frames, left_of_cut, frames_of_sample, stack_of_sample};
 ghost use Rattle.pp_stack.specs.Tables.{AreTables};
 
+use crate::samples::lacks_focus;
 use crate::stages::{cut_by, kept_by, load_prune, prune_from, show_from_by};
 use crate::tables::VerdictTables;
-use crate::unfocused::lacks_focus;
 use pp_base::Memory;
 use pp_model::{Loaded, Sample, Stack, Verdicts, frames, frames_into};
 use std::alloc::Global;
