@@ -73,7 +73,7 @@ fn has_slot(matched: &Matched, place: usize) -> bool
     }
 }
 
-/// The matches of so many samples, of which the first has this number. Chosen samples are not searched.
+/// The matches of `count` samples from the number `first` on. Chosen samples are not searched.
 pub(crate) fn range_matches(
     alloc: Global,
     scope: &Scope,

@@ -41,7 +41,8 @@ pub fn filter_stack(
     }
 }
 
-/// The same, in the place of what the stack held, by tables of the patterns. False says that the sample is dropped.
+/// What all stack filters leave of the sample, by tables of the patterns, in the place of what the stack held. False says
+/// that the sample is dropped.
 pub fn filter_into(
     l: &Loaded,
     v: &Verdicts,
@@ -68,8 +69,8 @@ pub fn filter_into(
     Ok(kept)
 }
 
-// The same of frames that are there already, cut in place: load pruning, ignore and focus, hide, show, show_from,
-// prune_from. False says that the sample is dropped.
+// Cuts the frames in place: load pruning, ignore and focus, hide, show, show_from, prune_from. False says that the
+// sample is dropped.
 fn filter_frames(l: &Loaded, v: &Verdicts, tables: &VerdictTables, stack: &mut Stack) -> bool
     requires frames { IsStackOf l.now.profile stack.old }
     requires verdicts { HasVerdicts l.now.profile v.now }
