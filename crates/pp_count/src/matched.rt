@@ -17,7 +17,7 @@ use crate::finding::finds_key;
 use crate::scope::Scope;
 use pp_base::{List, Memory};
 use pp_model::{Loaded, Sample, Stack, Tag, frames_into};
-use pp_stack::{VerdictTable, finds_some, load_prune};
+use pp_stack::{VerdictTable, finds_sample, finds_some, load_prune};
 use pp_tags::{TagFilter, selects};
 use std::alloc::Global;
 
@@ -73,7 +73,7 @@ fn has_slot(matched: &Matched, place: usize) -> bool
     }
 }
 
-/// The matches of so many samples, of which the first has this number. Chosen samples are not searched.
+/// The matches of `count` samples from the number `first` on. Chosen samples are not searched.
 pub(crate) fn range_matches(
     alloc: Global,
     scope: &Scope,
@@ -189,7 +189,8 @@ fn some_stack(
     Ok(false)
 }
 
-// Whether it finds a frame of the sample. The stack is room for its frames, to be used again for the next sample.
+// Whether it finds a frame of the sample that load pruning leaves. Most samples have none, and no stack is made of them.
+// The stack is room for the frames of the others.
 fn has_frame(
     l: &Loaded,
     found: &List<bool>,
@@ -205,6 +206,9 @@ fn has_frame(
         (find : Finder) → AreVerdicts l.now.profile found.now find →
         IfOk result (λ some. some ≡ stack_has l.now.profile f find s.now) }
 {
+    if !finds_sample(l, found, table, s) {
+        return Ok(false);
+    }
     frames_into(l, s, stack)?;
     load_prune(l, stack);
     Ok(finds_some(l, found, table, stack.as_slice()))

@@ -97,13 +97,15 @@ fn is_counted(marked: &[bool], caller: u32, callee: u32) -> bool
     ensures { result ≡ (not (caller == callee)
         && (is_marked marked.now caller || is_marked marked.now callee)) }
 {
-    caller != callee && (is_marked(marked, caller) || is_marked(marked, callee))
+    caller != callee
+        && (is_marked(marked, u64::from(caller)) || is_marked(marked, u64::from(callee)))
 }
 
-fn is_marked(marked: &[bool], place: u32) -> bool
-    ensures { result ≡ is_marked marked.now place }
+/// Whether the entry of the number is true. A number past the end is not marked.
+pub(crate) fn is_marked(marked: &[bool], number: u64) -> bool
+    ensures { result ≡ is_marked marked.now number }
 {
-    match marked.get(place as usize) {
+    match marked.get(number as usize) {
         None => false,
         Some(marked) => *marked,
     }

@@ -38,7 +38,7 @@ pub struct Part {
     pub(crate) totals: Totals,
 }
 
-/// Counts so many samples, of which the first stands at this place among those that are counted.
+/// Counts `count` samples of those that are counted, from the place `first` on.
 pub fn count_range(alloc: Global, scope: &Scope, first: u32, count: u32) -> Result<Part, Memory>
     requires sound { IsSoundScope scope.now }
     requires countable { AreCountable scope.now (samples_in_scope scope.now) }
@@ -49,7 +49,7 @@ pub fn count_range(alloc: Global, scope: &Scope, first: u32, count: u32) -> Resu
     part_of(alloc, scope, &mut tallies, first, count)
 }
 
-// The same, by tallies that have none yet.
+// Counts them by tallies that have none yet.
 fn part_of(
     alloc: Global,
     scope: &Scope,

@@ -8,7 +8,7 @@ ghost use Rattle.pp_count.specs.EdgeSums.{AreEdgesOf, AreEdgesAbout, HasPairSums
 
 use crate::counted::Counted;
 use crate::edge::Edge;
-use crate::pairs::Pairing;
+use crate::pairs::{Pairing, is_marked};
 use crate::part::KeySum;
 use crate::scope::Scope;
 use crate::survey::Survey;
@@ -228,16 +228,7 @@ fn marks_of(alloc: Global, kept: &[u64], marked: &[bool]) -> Result<List<bool>, 
     Ok(marks)
 }
 
-fn is_marked(marked: &[bool], name: u64) -> bool
-    ensures { result ≡ is_marked marked.now name }
-{
-    match marked.get(name as usize) {
-        None => false,
-        Some(marked) => *marked,
-    }
-}
-
-// For each of so many key numbers its place among these, which are all different.
+// For each of the key numbers below `numbers` its place among `keys`, which are all different.
 fn places(alloc: Global, keys: &[u64], numbers: u64) -> Result<List<Option<u32>>, Memory>
     requires few { length keys.now < 2 ^ 32 }
     requires below { All (λ k. k < numbers) keys.now }

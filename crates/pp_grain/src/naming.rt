@@ -27,7 +27,7 @@ pub fn write_name(l: &Loaded, key: &Key, out: &mut Text) -> Result<(), Memory>
     write_texts_name(&texts_of(l.profile.get(), key), out)
 }
 
-/// The same of a key whose texts are at hand.
+/// Adds the name of a key whose texts are at hand. On want of memory `out` is as it was.
 pub fn write_texts_name(key: &KeyTexts, out: &mut Text) -> Result<(), Memory>
     ensures ok { OnOk result (out.new ≡ out.old ++ name_text (written_texts key.now)) }
     ensures err { OnErr result (out.new ≡ out.old) }

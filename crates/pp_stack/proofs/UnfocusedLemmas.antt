@@ -67,7 +67,7 @@ module _ {X : Type 0} (told : X → Written) where
       no_part _ _ (sym (list_any-append test (take n xs) (drop n xs)) ∙ ap (list_any test) (take-append-drop n xs) ∙ none)
 
   -- load pruning finds nothing that wasn't there
-  none_of_pruned : (f : Finders) (test : X → Bool) (xs : List X) → list_any test xs ≡ false → list_any test (load_pruned told f xs) ≡ false
+  pub none_of_pruned : (f : Finders) (test : X → Bool) (xs : List X) → list_any test xs ≡ false → list_any test (load_pruned told f xs) ≡ false
   none_of_pruned f test xs none = of_drop f.drop where
     of_drop : (o : Option Finder) → list_any test (option_map_or (λ d. drop (pruned_len (λ x. is_prunable d f.keep (told x)) xs) xs) o xs) ≡ false
     of_drop None = none

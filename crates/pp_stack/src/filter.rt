@@ -9,9 +9,9 @@ ghost use Rattle.pp_stack.specs.Runs.{kept_if};
 ghost use Rattle.pp_stack.specs.Filters.{filtered, kept_frames, left_of_cut, frames_of_sample, stack_of_sample};
 ghost use Rattle.pp_stack.specs.Tables.{AreTables};
 
+use crate::samples::lacks_focus;
 use crate::stages::{cut_by, kept_by, load_prune, prune_from, show_from_by};
 use crate::tables::VerdictTables;
-use crate::unfocused::lacks_focus;
 use pp_base::Memory;
 use pp_model::{Loaded, Sample, Stack, Verdicts, frames, frames_into};
 use std::alloc::Global;
@@ -41,7 +41,8 @@ pub fn filter_stack(
     }
 }
 
-/// The same, in the place of what the stack held, by tables of the patterns. False says that the sample is dropped.
+/// What all stack filters leave of the sample, by tables of the patterns, in the place of what the stack held. False says
+/// that the sample is dropped.
 pub fn filter_into(
     l: &Loaded,
     v: &Verdicts,
@@ -68,8 +69,8 @@ pub fn filter_into(
     Ok(kept)
 }
 
-// The same of frames that are there already, cut in place: load pruning, ignore and focus, hide, show, show_from,
-// prune_from. False says that the sample is dropped.
+// Cuts the frames in place: load pruning, ignore and focus, hide, show, show_from, prune_from. False says that the
+// sample is dropped.
 fn filter_frames(l: &Loaded, v: &Verdicts, tables: &VerdictTables, stack: &mut Stack) -> bool
     requires frames { IsStackOf l.now.profile stack.old }
     requires verdicts { HasVerdicts l.now.profile v.now }

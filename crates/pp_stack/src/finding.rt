@@ -42,7 +42,7 @@ pub fn finds_frame(
     }
 }
 
-/// The same, by the verdicts on the frame's texts.
+/// Whether the pattern finds the frame, by the verdicts on the frame's texts.
 pub fn finds_by_texts(l: &Loaded, found: &List<bool>, frame: &Frame) -> bool
     requires frame { IsFrameOf l.now.profile frame.now }
     requires fits { length found.now ≡ length l.now.profile.text }

@@ -6,13 +6,14 @@ mod filter;
 mod finding;
 mod retain;
 mod runs;
+mod samples;
 mod stages;
 mod table;
 mod tables;
-mod unfocused;
 
 pub use filter::{filter_into, filter_stack, keeps_all};
 pub use runs::finds_some;
+pub use samples::finds_sample;
 pub use stages::{cut, kept, load_prune, prune_from, show_from};
 pub use table::VerdictTable;
 pub use tables::VerdictTables;

@@ -45,7 +45,7 @@ pub fn kept(l: &Loaded, v: &Verdicts, stack: &Stack) -> bool
     kept_by(l, v, &VerdictTables::none(), stack)
 }
 
-/// The same, by these tables.
+/// Whether ignore finds no frame and focus finds one, each where it is in force, by these tables.
 pub(crate) fn kept_by(l: &Loaded, v: &Verdicts, tables: &VerdictTables, stack: &Stack) -> bool
     requires frames { IsStackOf l.now.profile stack.now }
     requires verdicts { HasVerdicts l.now.profile v.now }
@@ -69,7 +69,7 @@ pub fn cut(l: &Loaded, v: &Verdicts, stack: &mut Stack)
     cut_by(l, v, &VerdictTables::none(), stack);
 }
 
-/// The same, by these tables.
+/// Takes off what hide finds and then what show doesn't find, by these tables.
 pub(crate) fn cut_by(l: &Loaded, v: &Verdicts, tables: &VerdictTables, stack: &mut Stack)
     requires frames { IsStackOf l.now.profile stack.old }
     requires verdicts { HasVerdicts l.now.profile v.now }
@@ -98,7 +98,7 @@ pub fn show_from(l: &Loaded, v: &Verdicts, stack: &mut Stack) -> bool
     show_from_by(l, v, &VerdictTables::none(), stack)
 }
 
-/// The same, by these tables.
+/// Takes off what lies above the root-most frame that show_from finds, by these tables. False where it finds none.
 pub(crate) fn show_from_by(
     l: &Loaded,
     v: &Verdicts,

@@ -1,4 +1,4 @@
-use Rattle.pp_stack.proofs.unfocused.finds_if.Goals as goal
+use Rattle.pp_stack.proofs.samples.finds_if.Goals as goal
 
 -- the pattern is in force
 pub finds_sample-requires-clause-table : goal.finds_sample-requires-clause-table

@@ -8,7 +8,7 @@ use Rattle.pp_model.specs.FrameTexts.{written}
 use Rattle.pp_model.proofs.FrameLemmas.{one_le_read, within_read}
 use Rattle.pp_stack.specs.Filters.{finds_frame}
 use Rattle.pp_stack.proofs.UnfocusedLemmas.{location_asked, found_here, found_later}
-use Rattle.pp_stack.proofs.unfocused.finds_sample.Goals as goal
+use Rattle.pp_stack.proofs.samples.finds_sample.Goals as goal
 
 pub loop-place-init : goal.loop-place-init
 loop-place-init c = λ find are. refl

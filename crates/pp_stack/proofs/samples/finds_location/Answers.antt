@@ -6,8 +6,8 @@ use Rattle.pp_model.specs.Frames.{lines_at}
 use Rattle.pp_model.specs.FrameTexts.{written}
 use Rattle.pp_stack.specs.Filters.{finds_frame}
 use Rattle.pp_stack.proofs.UnfocusedLemmas.{row_asked, rows_long}
-use Rattle.pp_stack.proofs.unfocused.finds_location.Goals.{then-finds_frame, else-finds_frame}
-use Rattle.pp_stack.proofs.unfocused.finds_location.Goals as goal
+use Rattle.pp_stack.proofs.samples.finds_location.Goals.{then-finds_frame, else-finds_frame}
+use Rattle.pp_stack.proofs.samples.finds_location.Goals as goal
 
 pub loop-row-preserved : goal.loop-row-preserved
 loop-row-preserved c = λ find are.

@@ -4,7 +4,7 @@ use Rattle.pp_model.specs.Finders.{Finder}
 use Rattle.pp_model.specs.Frames.{frames_from}
 use Rattle.pp_model.specs.FrameTexts.{written}
 use Rattle.pp_stack.specs.Filters.{AreVerdicts, finds_frame}
-use Rattle.pp_stack.proofs.unfocused.finds_sample.Given as goal
+use Rattle.pp_stack.proofs.samples.finds_sample.Given as goal
 
 -- what is left decides
 abbrev pub invariant-loop-place : goal.invariant-loop-place

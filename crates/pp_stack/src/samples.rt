@@ -1,4 +1,4 @@
-//! Whether focus drops a sample, asked before a stack is made of it.
+//! What a pattern finds of a sample, asked without a stack of its frames.
 ghost use Rattle.std.specs.Prelude.{◌≡◌, ◌<◌, length, true, None, Option};
 ghost use Rattle.std.specs.List.{list_any};
 ghost use Rattle.std.specs.Option.{ForSome, option_map_or};
@@ -51,8 +51,13 @@ fn finds_if(
     }
 }
 
-// Whether the pattern finds a frame of the sample.
-fn finds_sample(l: &Loaded, found: &List<bool>, table: &Option<VerdictTable>, s: &Sample) -> bool
+/// Whether the pattern finds a frame of the sample, before load pruning.
+pub fn finds_sample(
+    l: &Loaded,
+    found: &List<bool>,
+    table: &Option<VerdictTable>,
+    s: &Sample,
+) -> bool
     requires sample { RefersTo l.now.profile s.now }
     requires fits { length found.now ≡ length l.now.profile.text }
     requires table { ForSome table.now (IsVerdictTable l.now.profile found.now) }

@@ -4,7 +4,7 @@ use Rattle.pp_model.specs.Frames.{stack_of}
 use Rattle.pp_model.specs.FrameTexts.{written}
 use Rattle.pp_model.proofs.FrameLemmas.{frames_written}
 use Rattle.pp_stack.proofs.UnfocusedLemmas.{unfocused, unfocused_texts, not_true}
-use Rattle.pp_stack.proofs.unfocused.lacks_focus.Goals as goal
+use Rattle.pp_stack.proofs.samples.lacks_focus.Goals as goal
 
 pub returns-clause-places : goal.returns-clause-places
 returns-clause-places c = λ f holds lacks.
