@@ -4,3 +4,4 @@ mod SteppedSamples
 mod SteppedHeader
 mod SteppedMerges
 mod Weights
+mod NamedMappings

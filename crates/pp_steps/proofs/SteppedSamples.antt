@@ -1,29 +1,29 @@
 -- The samples of merges that are merged again.
-use Rattle.std.proofs.Common.{◌≡◌, ◌<◌, ◌^◌, ℕ, Bool, true, List, [], ◌∷◌, ◌++◌, length, map, append-nil, refl, sym, ap, ◌∙◌, subst}
-use Rattle.std.specs.Prelude.{ℤ, Option, None, Some, filter, slice_get}
-use Rattle.std.specs.List.{AllByRecursion, flat_map, filter_map}
-use Rattle.std.specs.Option.{option_to_list}
+use Rattle.std.proofs.Common.{◌≡◌, ◌<◌, ◌^◌, ℕ, List, [], ◌∷◌, ◌++◌, length, map, append-nil, refl, sym, ap, ◌∙◌, subst}
+use Rattle.std.specs.Prelude.{ℤ, Some, find, filter, slice_get, if◌then◌else◌}
+use Rattle.std.specs.List.{AllByRecursion, flat_map}
+use Rattle.std.specs.Option.{option_to_list, unwrap_or}
 use Rattle.std.proofs.lemmas.Grind.{flat_map-append}
 use Rattle.std.proofs.lemmas.List.{length-map}
 use Rattle.std.proofs.lemmas.List.Folds.{flat_map-map}
 use Rattle.pp_base.proofs.Lists.{all_by}
 use Rattle.pp_model.specs.declared.profile.Profile.{Profile}
 use Rattle.pp_model.specs.FirstSight.{distinct}
-use Rattle.pp_share.specs.Described.{MappingText, LocationText, SampleText, mapping_text, samples_found}
-use Rattle.pp_share.specs.Alike.{same_location, equal_mapping, same_sample, first_alike}
+use Rattle.pp_share.specs.Described.{MappingText, SampleText, mapping_text, samples_found}
+use Rattle.pp_share.specs.Alike.{same_location, same_mapping, equal_mapping, same_sample, first_alike}
 use Rattle.pp_share.specs.Header.{type_text}
 use Rattle.pp_share.specs.Sums.{counts, keys_of, summed, sum_of}
 use Rattle.pp_share.specs.Written.{Contents, written_type, locations, mappings}
 use Rattle.pp_share.proofs.Deciding.{sample_decides}
-use Rattle.pp_share.proofs.MergedMapping.{IsFound}
+use Rattle.pp_share.proofs.MergedMapping.{IsFound, mapping_laws}
 use Rattle.pp_share.proofs.NumberedLemmas.{all_parts, all_mapped, all_both}
 use Rattle.pp_share.proofs.SummedLemmas.{summed-map}
 use Rattle.pp_merge.specs.Merge.{all_mappings, all_samples, contents, merged}
 use Rattle.pp_merge.specs.Settled.{IsSettled}
-use Rattle.pp_merge.proofs.SettledLemmas.{all_any, all_distinct, all_filtered, all_flat, all_join, all_some, all_unmapped, self_found, settled_contents}
+use Rattle.pp_merge.proofs.SettledLemmas.{all_any, all_distinct, all_filtered, all_flat, all_join, all_some, self_found, settled_contents}
 use Rattle.pp_merge.proofs.WrittenAgain.{mappings_back, samples_back}
 use Rattle.pp_merge.proofs.WrittenCompact.{mapping_walk}
-use Rattle.pp_steps.specs.Premises.{HasValues, KeepsSamples, AddUp}
+use Rattle.pp_steps.specs.Premises.{KeepsSamples, AddUp}
 use Rattle.pp_steps.specs.Steps.{Group, sources_of, all_sources, merged_group, remapped, remapped_text}
 use Rattle.pp_steps.proofs.Remapping.{InChosen, IsChosen, all_chosen, alike_again, counts_remapped, found_again, found_through, remapped_once, stay_apart}
 use Rattle.pp_steps.proofs.SumsOfSums.{flat_map_agree, map-flat_map, summed_again, sums_alike}
@@ -52,19 +52,24 @@ module _ (p : Profile) (ps : List Profile) where
       (all_distinct _ same_sample (keys_of same_sample (all_samples (p ∷ ps)))
       (all_mapped _ (λ item. item.0) (all_samples (p ∷ ps)) (all_chosen (p ∷ ps)))))
 
-  first_found : (ms : List MappingText) → AllByRecursion (IsFound all) ms → AllByRecursion (IsFound all) (option_to_list (slice_get ms 0))
-  first_found [] there = tt
-  first_found (m ∷ ms) there = (there.0, tt)
+  first_chosen : (ms : List MappingText) → AllByRecursion (IsChosen ms) (option_to_list (slice_get ms 0))
+  first_chosen [] = tt
+  first_chosen (m ∷ ms) =
+      let here : find (same_mapping m) (m ∷ ms) ≡ Some m = ap (λ b. if b then Some m else find (same_mapping m) ms) (mapping_laws.refl m) in
+      (record { found = (m, here); one = ap (λ o. unwrap_or o m) here }, tt)
 
-  -- each mapping of a merge is among those of its profiles
-  pub merged_found : AllByRecursion (IsFound all) (mappings (contents p ps))
-  merged_found =
-      all_distinct (IsFound all) equal_mapping (mapping_walk (contents p ps))
-      (all_join (IsFound all) (option_to_list (slice_get all 0)) _ (first_found all (self_found all))
-      (all_some (IsFound all) (λ l. l.mapping) (locations (contents p ps))
-      (all_by (InChosen all) _ (λ l is m at. (is m at).found) (locations (contents p ps))
+  -- each mapping of a merge is the first of its profiles' that is one with it
+  pub merged_chosen : AllByRecursion (IsChosen all) (mappings (contents p ps))
+  merged_chosen =
+      all_distinct (IsChosen all) equal_mapping (mapping_walk (contents p ps))
+      (all_join (IsChosen all) (option_to_list (slice_get all 0)) _ (first_chosen all)
+      (all_some (IsChosen all) (λ l. l.mapping) (locations (contents p ps))
       (all_distinct (InChosen all) same_location _
-      (all_flat (InChosen all) (λ s. s.0.locations) (contents p ps).samples kept_chosen)))))
+      (all_flat (InChosen all) (λ s. s.0.locations) (contents p ps).samples kept_chosen))))
+
+  -- so it is among them
+  pub merged_found : AllByRecursion (IsFound all) (mappings (contents p ps))
+  merged_found = all_by (IsChosen all) _ (λ m is. is.found) (mappings (contents p ps)) merged_chosen
 
 -- as many types after merging
 pub types_kept : (p : Profile) (ps : List Profile) → length (merged p ps).sample_type ≡ length p.sample_type
@@ -79,7 +84,8 @@ module _ (types : ℕ) (groups : List Group) (up : AddUp types groups) where
   abbrev pub kept_mappings : List MappingText
   kept_mappings = all_mappings (map merged_group groups)
 
-  by_groups : own_mappings ≡ flat_map mappings_of groups
+  -- the mappings of all profiles, group by group
+  pub by_groups : own_mappings ≡ flat_map mappings_of groups
   by_groups = flat_map-flat_map (λ q. map (mapping_text q) q.mapping) sources_of groups
 
   own_there : AllByRecursion (λ g. AllByRecursion (IsFound own_mappings) (mappings_of g)) groups
