@@ -5,3 +5,6 @@ mod SteppedHeader
 mod SteppedMerges
 mod Weights
 mod NamedMappings
+mod Admitted
+mod Exchanged
+mod Vanishing

@@ -40,7 +40,7 @@ find_flat test f h (x ∷ xs) same =
     ∙ sym (find-append test (h x) (flat_map h xs))
 
 -- one that passes a test is found
-found_of : (m : MappingText) (ms : List MappingText) → list_any (same_mapping m) ms ≡ true → IsFound ms m
+pub found_of : (m : MappingText) (ms : List MappingText) → list_any (same_mapping m) ms ≡ true → IsFound ms m
 found_of m [] h = absurd (true≢false (sym h))
 found_of m (y ∷ ys) h = by (same_mapping m y) (found_of m ys) h
   where

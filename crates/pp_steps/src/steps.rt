@@ -1,5 +1,6 @@
 //! What merging in steps gives.
 ghost use Rattle.pp_steps.specs.Premises.{AddUp, KeepsSamples, MergeInSteps};
+ghost use Rattle.pp_steps.specs.Refused.{CanMerge, merges, whole};
 ghost use Rattle.pp_steps.specs.Stay.{SamplesStay, SumsStay};
 ghost use Rattle.pp_steps.specs.Steps.{Group, at_once, in_steps};
 ghost use Rattle.std.specs.List.{AllByRecursion};
@@ -28,4 +29,13 @@ pub fn samples_stay_in_steps()
 /// sum in a group is 0 may stand in another place.
 pub fn sums_stay_in_steps()
     ensures { (columns : ℕ) → (groups : List Group) → AddUp columns groups → SumsStay columns groups }
+{}
+
+/// Profiles that can be merged at once can be merged in steps: neither the groups nor their merges are refused, but for
+/// want of memory.
+pub fn steps_are_not_refused()
+    ensures groups { (columns : ℕ) → (g : Group) → (groups : List Group) → AddUp columns (g ∷ groups)
+        → CanMerge (whole g groups) → AllByRecursion CanMerge (g ∷ groups) }
+    ensures merges { (columns : ℕ) → (g : Group) → (groups : List Group) → AddUp columns (g ∷ groups)
+        → CanMerge (whole g groups) → CanMerge (merges g groups) }
 {}
