@@ -23,8 +23,8 @@ use Rattle.pp_merge.proofs.MergeLemmas.{none_passes}
 use Rattle.pp_merge.proofs.MergedTotals.{absolutes_within, sum_by_is}
 use Rattle.pp_merge.proofs.SettledLemmas.{all_any}
 use Rattle.pp_merge.proofs.TotalLemmas.{total, total-flat_map, total-map, total_same, adding_ℕ}
-use Rattle.pp_steps.specs.Premises.{AddUp, HasValues}
-use Rattle.pp_steps.specs.Refused.{CanMerge, whole, merges}
+use Rattle.pp_steps.specs.Premises.{GroupsAddUp, GroupHasValues}
+use Rattle.pp_steps.specs.Refused.{IsMergeable, one_group, group_of_merges}
 use Rattle.pp_steps.specs.Steps.{Group, sources_of, all_sources, merged_group}
 use Rattle.pp_steps.proofs.SteppedHeader.{said_again}
 use Rattle.pp_steps.proofs.SteppedSamples.{all_settled, contents_of, types_kept}
@@ -98,7 +98,7 @@ none_large columns list small =
     none_found (λ c. nat_lt 9223372036854775807 (weight_of c list)) columns
     (λ column within. false_from_ne_true _ (λ large. absurd (omega (arith, ltb-true 9223372036854775807 (weight_of column list) large, small column within))))
 
-module _ (columns : ℕ) (g : Group) (groups : List Group) (up : AddUp columns (g ∷ groups)) (can : CanMerge (whole g groups)) where
+module _ (columns : ℕ) (g : Group) (groups : List Group) (up : GroupsAddUp columns (g ∷ groups)) (can : IsMergeable (one_group g groups)) where
   by_parts : (column : ℕ) → weight_of column (all_sources (g ∷ groups)) ≡ total adding_ℕ (λ x. weight_of column (sources_of x)) (g ∷ groups)
   by_parts column =
       sum_by_is (λ q. absolute_sum q column) (all_sources (g ∷ groups))
@@ -114,7 +114,7 @@ module _ (columns : ℕ) (g : Group) (groups : List Group) (up : AddUp columns (
       all_by _ _ (λ x part. let within_part : weight_of column (sources_of x) ≤ total adding_ℕ (λ y. weight_of column (sources_of y)) (g ∷ groups) = part in omega (arith, within_part, by_parts column, small column within)) (g ∷ groups)
       (part_within (λ x. weight_of column (sources_of x)) (g ∷ groups))
 
-  merge_within : (column : ℕ) → column < columns → (x : Group) → HasValues columns x → absolute_sum (merged_group x) column ≤ weight_of column (sources_of x)
+  merge_within : (column : ℕ) → column < columns → (x : Group) → GroupHasValues columns x → absolute_sum (merged_group x) column ≤ weight_of column (sources_of x)
   merge_within column within x own =
       absolutes_within x.first x.others column (subst (λ n. column < n) (sym own.types) within)
       (subst (λ n. AllByRecursion (λ q. AllByRecursion (λ s. length s.value ≡ n) q.sample) (sources_of x)) (sym own.types) own.values)
@@ -135,8 +135,8 @@ module _ (columns : ℕ) (g : Group) (groups : List Group) (up : AddUp columns (
   all_alike = all_parts (AreAlike g.first) sources_of (g ∷ groups) (record { types = refl; period = refl }, all_agree g.first 1 (g.others ++ all_sources groups) can.agree)
 
   -- each group can be merged
-  group_can : (x : Group) → HasValues columns x → AllByRecursion (AreAlike g.first) (sources_of x)
-      → ((column : ℕ) → column < columns → weight_of column (sources_of x) ≤ 9223372036854775807) → CanMerge x
+  group_can : (x : Group) → GroupHasValues columns x → AllByRecursion (AreAlike g.first) (sources_of x)
+      → ((column : ℕ) → column < columns → weight_of column (sources_of x) ≤ 9223372036854775807) → IsMergeable x
   group_can x own alike small_own = record {
     agree = none_disagrees x.first 1 x.others
         (all_by (AreAlike g.first) _ (λ q same. record { types = sym alike.0.types ∙ same.types; period = sym alike.0.period ∙ same.period }) x.others alike.1);
@@ -151,7 +151,7 @@ module _ (columns : ℕ) (g : Group) (groups : List Group) (up : AddUp columns (
       turned [] all = tt
       turned (x ∷ xs) all = (λ column within. (all column within).0, turned xs (λ column within. (all column within).1))
 
-  pub groups_can : AllByRecursion CanMerge (g ∷ groups)
+  pub groups_can : AllByRecursion IsMergeable (g ∷ groups)
   groups_can = all_by _ _ (λ x is. group_can x is.0 is.1.0 is.1.1) (g ∷ groups) (all_both _ _ (g ∷ groups) up.values (all_both _ _ (g ∷ groups) all_alike each_small))
 
   -- a merge has the types of its first profile
@@ -159,7 +159,7 @@ module _ (columns : ℕ) (g : Group) (groups : List Group) (up : AddUp columns (
   merge_alike x is = record { types = sym (ap (λ h. h.types) (said_again x is)); period = sym (ap (λ h. h.period_type) (said_again x is)) }
 
   -- and so can the merges
-  pub merges_can : CanMerge (merges g groups)
+  pub merges_can : IsMergeable (group_of_merges g groups)
   merges_can =
       let settled = all_settled columns (g ∷ groups) up in
       let own = merge_alike g settled.0 in

@@ -15,11 +15,11 @@ use Rattle.pp_merge.specs.Merge.{all_mappings, contents}
 use Rattle.pp_merge.specs.Settled.{IsSettled}
 use Rattle.pp_merge.proofs.SettledLemmas.{all_flat, found_holds}
 use Rattle.pp_merge.proofs.WrittenAgain.{mappings_back}
-use Rattle.pp_steps.specs.Premises.{AddUp, HasEqualMappings, HasFirstMappings, KeepsMappings}
+use Rattle.pp_steps.specs.Premises.{GroupsAddUp, HasEqualMappings, HasFirstMappings, LosesNoMapping}
 use Rattle.pp_steps.specs.Steps.{Group, all_sources, merged_group, in_steps}
 use Rattle.pp_steps.proofs.Remapping.{IsChosen, found_alike}
 use Rattle.pp_steps.proofs.SteppedMerges.{steps_settled}
-use Rattle.pp_steps.proofs.SteppedSamples.{all_settled, by_groups, contents_of, mappings_of, merge_mappings, merged_chosen}
+use Rattle.pp_steps.proofs.SteppedSamples.{all_settled, by_groups, contents_of, group_mappings, merge_mappings, merged_chosen}
 use Rattle.pp_steps.proofs.SumsOfSums.{flat_map_agree}
 
 -- what is found among lists one behind the other
@@ -74,7 +74,7 @@ module _ (all some : List MappingText) where
   holds_of_first : (P : MappingText → Type 0) → AllByRecursion P all → (m : MappingText) → IsChosen all m → P m
   holds_of_first P each m is = (found_holds P (same_mapping m) all each m (first_itself m is)).0
 
-module _ (columns : ℕ) (g : Group) (groups : List Group) (up : AddUp columns (g ∷ groups)) where
+module _ (columns : ℕ) (g : Group) (groups : List Group) (up : GroupsAddUp columns (g ∷ groups)) where
   abbrev own : List MappingText
   own = all_mappings (all_sources (g ∷ groups))
 
@@ -99,21 +99,21 @@ module _ (columns : ℕ) (g : Group) (groups : List Group) (up : AddUp columns (
   steps_chosen = merged_chosen (merged_group g) (map merged_group groups)
 
   -- Where each group keeps its mappings, each that is left is the first.
-  pub kept_are_first : AllByRecursion KeepsMappings (g ∷ groups) → HasFirstMappings (all_sources (g ∷ groups)) (in_steps g groups)
+  pub kept_are_first : AllByRecursion LosesNoMapping (g ∷ groups) → HasFirstMappings (all_sources (g ∷ groups)) (in_steps g groups)
   kept_are_first keep =
       of_steps (λ m. first_alike own m ≡ m)
       (all_by (IsChosen kept) _ (λ m is. ap (λ o. unwrap_or o m) (sym (same_found m)) ∙ is.one) (mappings (contents (merged_group g) (map merged_group groups))) steps_chosen)
     where
-      group_found : (m : MappingText) → AllByRecursion (λ x. find (same_mapping m) (mappings (contents_of x)) ≡ find (same_mapping m) (mappings_of x)) (g ∷ groups)
+      group_found : (m : MappingText) → AllByRecursion (λ x. find (same_mapping m) (mappings (contents_of x)) ≡ find (same_mapping m) (group_mappings x)) (g ∷ groups)
       group_found m =
-          all_by _ _ (λ x is. find_alike (mappings_of x) (mappings (contents_of x)) (merged_chosen x.first x.others)
-          (all_by _ _ (λ y there. found_of y (mappings (contents_of x)) (ap (list_any (same_mapping y)) (sym (mappings_back (contents_of x) is.0)) ∙ there)) (mappings_of x) is.1) m)
+          all_by _ _ (λ x is. find_alike (group_mappings x) (mappings (contents_of x)) (merged_chosen x.first x.others)
+          (all_by _ _ (λ y there. found_of y (mappings (contents_of x)) (ap (list_any (same_mapping y)) (sym (mappings_back (contents_of x) is.0)) ∙ there)) (group_mappings x) is.1) m)
           (g ∷ groups) (all_both _ _ (g ∷ groups) settled keep)
 
       same_found : (m : MappingText) → find (same_mapping m) kept ≡ find (same_mapping m) own
       same_found m =
           ap (find (same_mapping m)) kept_by_groups
-          ∙ find_flat (same_mapping m) (λ x. mappings (contents_of x)) mappings_of (g ∷ groups) (group_found m)
+          ∙ find_flat (same_mapping m) (λ x. mappings (contents_of x)) group_mappings (g ∷ groups) (group_found m)
           ∙ ap (find (same_mapping m)) (sym (by_groups columns (g ∷ groups) up))
 
   -- Where mappings that are one are equal, each is the first.
@@ -126,6 +126,6 @@ module _ (columns : ℕ) (g : Group) (groups : List Group) (up : AddUp columns (
       kept_equal =
           subst (AllByRecursion (λ m. first_alike own m ≡ m)) (sym kept_by_groups)
           (all_flat _ (λ x. mappings (contents_of x)) (g ∷ groups)
-          (all_by _ _ (λ x each. all_by (IsChosen (mappings_of x)) _ (holds_of_first (mappings_of x) [] (λ m. first_alike own m ≡ m) each) (mappings (contents_of x)) (merged_chosen x.first x.others))
+          (all_by _ _ (λ x each. all_by (IsChosen (group_mappings x)) _ (holds_of_first (group_mappings x) [] (λ m. first_alike own m ≡ m) each) (mappings (contents_of x)) (merged_chosen x.first x.others))
           (g ∷ groups)
-          (all_parts (λ m. first_alike own m ≡ m) mappings_of (g ∷ groups) (subst (AllByRecursion (λ m. first_alike own m ≡ m)) (by_groups columns (g ∷ groups) up) equal))))
+          (all_parts (λ m. first_alike own m ≡ m) group_mappings (g ∷ groups) (subst (AllByRecursion (λ m. first_alike own m ≡ m)) (by_groups columns (g ∷ groups) up) equal))))

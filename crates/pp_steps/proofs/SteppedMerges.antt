@@ -17,7 +17,7 @@ use Rattle.pp_merge.specs.Settled.{IsSettled}
 use Rattle.pp_merge.proofs.SettledLemmas.{all_flat, settled_contents}
 use Rattle.pp_merge.proofs.WrittenAgain.{at_seen, contents_again, mappings_back}
 use Rattle.pp_merge.proofs.WrittenValid.{seen_locations, seen_mappings}
-use Rattle.pp_steps.specs.Premises.{AddUp, KeepsSamples, MergeInSteps}
+use Rattle.pp_steps.specs.Premises.{GroupsAddUp, LosesNoSample, MergeInSteps}
 use Rattle.pp_steps.specs.Steps.{Group, sources_of, all_sources, merged_group, in_steps, at_once, remapped, remapped_location}
 use Rattle.pp_steps.proofs.SteppedHeader.{header_in_steps}
 use Rattle.pp_steps.proofs.SteppedSamples.{all_settled, contents_of, flat_map-flat_map, merge_mappings, samples_in_steps, types_kept}
@@ -56,7 +56,7 @@ remapped_same f (s ∷ samples) all = (λ j. (record { locations = each s.0.loca
     each [] ok = refl
     each (l ∷ ls) ok = (λ j. record { mapping = stays l.mapping ok.0 j; distance = l.distance; lines = l.lines; folded = l.folded } ∷ each ls ok.1 j)
 
-module _ (columns : ℕ) (g : Group) (groups : List Group) (up : AddUp columns (g ∷ groups)) where
+module _ (columns : ℕ) (g : Group) (groups : List Group) (up : GroupsAddUp columns (g ∷ groups)) where
   abbrev steps : Contents
   steps = contents (merged_group g) (map merged_group groups)
 
@@ -76,7 +76,7 @@ module _ (columns : ℕ) (g : Group) (groups : List Group) (up : AddUp columns (
   pub steps_settled : IsSettled steps
   steps_settled = settled_contents (merged_group g) (map merged_group groups) merge_starts
 
-  pub samples_alike : AllByRecursion (KeepsSamples columns) (g ∷ groups) → map (remapped (first_alike (all_mappings (all_sources (g ∷ groups))))) steps.samples ≡ once.samples
+  pub samples_alike : AllByRecursion (LosesNoSample columns) (g ∷ groups) → map (remapped (first_alike (all_mappings (all_sources (g ∷ groups))))) steps.samples ≡ once.samples
   samples_alike kept =
       ap (λ n. map (remapped (first_alike (all_mappings (all_sources (g ∷ groups))))) (filter counts (summed same_sample n (all_samples (map merged_group (g ∷ groups))))))
       (types_kept g.first g.others ∙ up.values.0.types)

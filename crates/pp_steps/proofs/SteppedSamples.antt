@@ -23,7 +23,7 @@ use Rattle.pp_merge.specs.Settled.{IsSettled}
 use Rattle.pp_merge.proofs.SettledLemmas.{all_any, all_distinct, all_filtered, all_flat, all_join, all_some, self_found, settled_contents}
 use Rattle.pp_merge.proofs.WrittenAgain.{mappings_back, samples_back}
 use Rattle.pp_merge.proofs.WrittenCompact.{mapping_walk}
-use Rattle.pp_steps.specs.Premises.{KeepsSamples, AddUp}
+use Rattle.pp_steps.specs.Premises.{LosesNoSample, GroupsAddUp}
 use Rattle.pp_steps.specs.Steps.{Group, sources_of, all_sources, merged_group, remapped, remapped_text}
 use Rattle.pp_steps.proofs.Remapping.{InChosen, IsChosen, all_chosen, alike_again, counts_remapped, found_again, found_through, remapped_once, stay_apart}
 use Rattle.pp_steps.proofs.SumsOfSums.{flat_map_agree, map-flat_map, summed_again, sums_alike}
@@ -38,8 +38,8 @@ abbrev pub contents_of : Group → Contents
 contents_of g = contents g.first g.others
 
 -- the mappings of the group's profiles
-abbrev pub mappings_of : Group → List MappingText
-mappings_of g = all_mappings (sources_of g)
+abbrev pub group_mappings : Group → List MappingText
+group_mappings g = all_mappings (sources_of g)
 
 module _ (p : Profile) (ps : List Profile) where
   abbrev all : List MappingText
@@ -75,7 +75,7 @@ module _ (p : Profile) (ps : List Profile) where
 pub types_kept : (p : Profile) (ps : List Profile) → length (merged p ps).sample_type ≡ length p.sample_type
 types_kept p ps = length-map (map (type_text p) p.sample_type) (written_type (contents p ps)) ∙ length-map p.sample_type (type_text p)
 
-module _ (types : ℕ) (groups : List Group) (up : AddUp types groups) where
+module _ (types : ℕ) (groups : List Group) (up : GroupsAddUp types groups) where
   -- the mappings of all profiles
   abbrev pub own_mappings : List MappingText
   own_mappings = all_mappings (all_sources groups)
@@ -85,17 +85,17 @@ module _ (types : ℕ) (groups : List Group) (up : AddUp types groups) where
   kept_mappings = all_mappings (map merged_group groups)
 
   -- the mappings of all profiles, group by group
-  pub by_groups : own_mappings ≡ flat_map mappings_of groups
+  pub by_groups : own_mappings ≡ flat_map group_mappings groups
   by_groups = flat_map-flat_map (λ q. map (mapping_text q) q.mapping) sources_of groups
 
-  own_there : AllByRecursion (λ g. AllByRecursion (IsFound own_mappings) (mappings_of g)) groups
-  own_there = all_parts (IsFound own_mappings) mappings_of groups (subst (AllByRecursion (IsFound own_mappings)) by_groups (self_found own_mappings))
+  own_there : AllByRecursion (λ g. AllByRecursion (IsFound own_mappings) (group_mappings g)) groups
+  own_there = all_parts (IsFound own_mappings) group_mappings groups (subst (AllByRecursion (IsFound own_mappings)) by_groups (self_found own_mappings))
 
   -- each group's merge is settled
   pub all_settled : AllByRecursion (λ g. IsSettled (contents_of g)) groups
   all_settled =
       all_by _ _ (λ g starts. settled_contents g.first g.others starts) groups
-      (all_parts (λ m. m.start < 2 ^ 64) mappings_of groups (subst (AllByRecursion (λ m. m.start < 2 ^ 64)) by_groups up.starts))
+      (all_parts (λ m. m.start < 2 ^ 64) group_mappings groups (subst (AllByRecursion (λ m. m.start < 2 ^ 64)) by_groups up.starts))
 
   -- the mappings of a group's merge, as it stands
   pub merge_mappings : (g : Group) → IsSettled (contents_of g) → map (mapping_text (merged_group g)) (merged_group g).mapping ≡ mappings (contents_of g)
@@ -107,7 +107,7 @@ module _ (types : ℕ) (groups : List Group) (up : AddUp types groups) where
       subst (AllByRecursion (IsFound own_mappings)) (sym (flat_map-map (λ q. map (mapping_text q) q.mapping) merged_group groups))
       (all_flat (IsFound own_mappings) (λ g. map (mapping_text (merged_group g)) (merged_group g).mapping) groups
       (all_by _ _ (λ g is. subst (AllByRecursion (IsFound own_mappings)) (sym (merge_mappings g is.0))
-      (all_by (IsFound (mappings_of g)) _ (λ m found. found_again own_mappings (mappings_of g) m is.1 found) (mappings (contents_of g)) (merged_found g.first g.others)))
+      (all_by (IsFound (group_mappings g)) _ (λ m found. found_again own_mappings (group_mappings g) m is.1 found) (mappings (contents_of g)) (merged_found g.first g.others)))
       groups (all_both _ _ groups all_settled own_there)))
 
   merges_there : AllByRecursion (λ g. AllByRecursion (IsFound kept_mappings) (all_mappings (merged_group g ∷ []))) groups
@@ -143,9 +143,9 @@ module _ (types : ℕ) (groups : List Group) (up : AddUp types groups) where
   own_samples =
       flat_map-flat_map (samples_found in_own) sources_of groups
       ∙ flat_map_agree (λ g. flat_map (samples_found in_own) (sources_of g)) (λ g. map (remapped in_own) (all_samples (sources_of g))) groups
-      (all_by _ _ (λ g there. flat_map_agree (samples_found in_own) (λ q. map (remapped in_own) (samples_found (first_alike (mappings_of g)) q)) (sources_of g)
-      (all_any _ (λ q. found_through in_own (first_alike (mappings_of g)) (λ m. alike_again own_mappings (mappings_of g) m there) q) (sources_of g))
-      ∙ sym (map-flat_map (remapped in_own) (samples_found (first_alike (mappings_of g))) (sources_of g))) groups own_there)
+      (all_by _ _ (λ g there. flat_map_agree (samples_found in_own) (λ q. map (remapped in_own) (samples_found (first_alike (group_mappings g)) q)) (sources_of g)
+      (all_any _ (λ q. found_through in_own (first_alike (group_mappings g)) (λ m. alike_again own_mappings (group_mappings g) m there) q) (sources_of g))
+      ∙ sym (map-flat_map (remapped in_own) (samples_found (first_alike (group_mappings g))) (sources_of g))) groups own_there)
 
   abbrev summed_of : Group → List (SampleText × List ℤ)
   summed_of g = summed same_sample types (all_samples (sources_of g))
@@ -158,7 +158,7 @@ module _ (types : ℕ) (groups : List Group) (up : AddUp types groups) where
 
   items_wide : AllByRecursion (λ g. AllByRecursion (λ item. length item.1 ≡ types) (all_samples (sources_of g))) groups
   items_wide =
-      all_by _ _ (λ g own. all_flat _ (samples_found (first_alike (mappings_of g))) (sources_of g)
+      all_by _ _ (λ g own. all_flat _ (samples_found (first_alike (group_mappings g))) (sources_of g)
       (all_by _ _ (λ q wide. all_mapped _ _ q.sample wide) (sources_of g) own.values)) groups up.values
 
   -- Each sample's sum is the same in steps, whatever signs values have.
@@ -169,7 +169,7 @@ module _ (types : ℕ) (groups : List Group) (up : AddUp types groups) where
       ∙ ap (λ items. sum_of same_sample types items key) (sym own_samples)
 
   -- Where no sample comes to nothing in a group, all samples are the same in steps, but for their mappings.
-  pub samples_in_steps : AllByRecursion (KeepsSamples types) groups
+  pub samples_in_steps : AllByRecursion (LosesNoSample types) groups
       → map (remapped in_own) (filter counts (summed same_sample types (all_samples (map merged_group groups))))
       ≡ filter counts (summed same_sample types (all_samples (all_sources groups)))
   samples_in_steps kept =

@@ -15,7 +15,7 @@ use Rattle.pp_merge.specs.Merge.{all_samples, contents}
 use Rattle.pp_merge.proofs.LengthLemmas.{self_seen}
 use Rattle.pp_merge.proofs.SettledLemmas.{all_any, all_distinct, all_filtered, all_unmapped}
 use Rattle.pp_merge.proofs.WrittenAgain.{map_back}
-use Rattle.pp_steps.specs.Premises.{KeepsSamples}
+use Rattle.pp_steps.specs.Premises.{LosesNoSample}
 use Rattle.pp_steps.specs.Stay.{HasSample}
 use Rattle.pp_steps.specs.Steps.{Group, sources_of}
 
@@ -36,7 +36,7 @@ module _ (g : Group) where
       (all_any _ (λ key. refl) (distinct same_sample keys))
 
   -- each sample stands in the merge, if none comes to nothing
-  pub all_stay : KeepsSamples types g → AllByRecursion (HasSample (contents g.first g.others).samples) items
+  pub all_stay : LosesNoSample types g → AllByRecursion (HasSample (contents g.first g.others).samples) items
   all_stay kept =
       all_by _ _ (λ s seen. ap (list_any (same_sample s.0)) (ap (keys_of same_sample) kept ∙ sum_keys) ∙ seen) items
       (all_unmapped (IsSeen same_sample (distinct same_sample keys)) (λ (item : SampleText × List ℤ). item.0) items

@@ -20,7 +20,7 @@ use Rattle.pp_merge.proofs.LengthLemmas.{self_seen}
 use Rattle.pp_merge.proofs.MergedTotals.{at_total, zero_at}
 use Rattle.pp_merge.proofs.SettledLemmas.{all_distinct, all_filtered, all_flat}
 use Rattle.pp_merge.proofs.TotalLemmas.{total, adding_ℤ}
-use Rattle.pp_steps.specs.Premises.{AddUp, HasWeights, KeepsSamples}
+use Rattle.pp_steps.specs.Premises.{GroupsAddUp, HasWeights, LosesNoSample}
 use Rattle.pp_steps.specs.Steps.{Group, sources_of, all_sources}
 
 -- a number that is not negative
@@ -119,7 +119,7 @@ module _ {K : Type 0} (same : K → K → Bool) (decides : (a b : K) → Decides
         (all_by (IsSeen same keys) _ key_counts (distinct same keys) (all_distinct (IsSeen same keys) same keys (self_seen same decides keys))))
 
 -- so it is of groups
-pub groups_keep : (columns : ℕ) (groups : List Group) → AddUp columns groups → AllByRecursion HasWeights (all_sources groups) → AllByRecursion (KeepsSamples columns) groups
+pub groups_keep : (columns : ℕ) (groups : List Group) → GroupsAddUp columns groups → AllByRecursion HasWeights (all_sources groups) → AllByRecursion (LosesNoSample columns) groups
 groups_keep columns groups up weigh =
     all_by _ _ (λ g is. all_count same_sample sample_decides columns (all_samples (sources_of g))
     (all_flat _ (samples_found (first_alike (all_mappings (sources_of g)))) (sources_of g)

@@ -1,7 +1,7 @@
 //! What any merge keeps.
 ghost use Rattle.pp_merge.specs.Merge.{all_samples, contents};
 ghost use Rattle.pp_model.specs.declared.profile.Profile.{Profile};
-ghost use Rattle.pp_steps.specs.Premises.{KeepsSamples};
+ghost use Rattle.pp_steps.specs.Premises.{LosesNoSample};
 ghost use Rattle.pp_steps.specs.Stay.{HasSample, SumsStayReordered};
 ghost use Rattle.pp_steps.specs.Steps.{Group, sources_of};
 ghost use Rattle.std.specs.List.Sorted.{IsPermutation};
@@ -18,7 +18,7 @@ pub fn order_of_profiles_keeps_sums()
 
 /// Each sample of the profiles is one of their merge, with all its functions and labels, where none comes to nothing.
 pub fn merging_drops_no_sample()
-    ensures { (g : Group) → KeepsSamples (length g.first.sample_type) g
+    ensures { (g : Group) → LosesNoSample (length g.first.sample_type) g
         → AllByRecursion (HasSample (contents g.first g.others).samples) (all_samples (sources_of g)) }
 {}
 

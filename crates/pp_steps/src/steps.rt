@@ -1,6 +1,6 @@
 //! What merging in steps gives.
-ghost use Rattle.pp_steps.specs.Premises.{AddUp, KeepsSamples, MergeInSteps};
-ghost use Rattle.pp_steps.specs.Refused.{CanMerge, merges, whole};
+ghost use Rattle.pp_steps.specs.Premises.{GroupsAddUp, LosesNoSample, MergeInSteps};
+ghost use Rattle.pp_steps.specs.Refused.{IsMergeable, group_of_merges, one_group};
 ghost use Rattle.pp_steps.specs.Stay.{SamplesStay, SumsStay};
 ghost use Rattle.pp_steps.specs.Steps.{Group, at_once, in_steps};
 ghost use Rattle.std.specs.List.{AllByRecursion};
@@ -21,21 +21,21 @@ pub fn steps_are_one_merge()
 /// Whatever their mappings, the samples in steps are those at once, with their values and in their order. Only the
 /// mapping of a location may be another: one of the same length, offset and file.
 pub fn samples_stay_in_steps()
-    ensures { (columns : ℕ) → (g : Group) → (groups : List Group) → AddUp columns (g ∷ groups)
-        → AllByRecursion (KeepsSamples columns) (g ∷ groups) → SamplesStay g groups }
+    ensures { (columns : ℕ) → (g : Group) → (groups : List Group) → GroupsAddUp columns (g ∷ groups)
+        → AllByRecursion (LosesNoSample columns) (g ∷ groups) → SamplesStay g groups }
 {}
 
 /// Whatever their mappings and the signs of values, each sample has the same sum in steps as at once. A sample whose
 /// sum in a group is 0 may stand in another place.
 pub fn sums_stay_in_steps()
-    ensures { (columns : ℕ) → (groups : List Group) → AddUp columns groups → SumsStay columns groups }
+    ensures { (columns : ℕ) → (groups : List Group) → GroupsAddUp columns groups → SumsStay columns groups }
 {}
 
 /// Profiles that can be merged at once can be merged in steps: neither the groups nor their merges are refused, but for
 /// want of memory.
 pub fn steps_are_not_refused()
-    ensures groups { (columns : ℕ) → (g : Group) → (groups : List Group) → AddUp columns (g ∷ groups)
-        → CanMerge (whole g groups) → AllByRecursion CanMerge (g ∷ groups) }
-    ensures merges { (columns : ℕ) → (g : Group) → (groups : List Group) → AddUp columns (g ∷ groups)
-        → CanMerge (whole g groups) → CanMerge (merges g groups) }
+    ensures groups { (columns : ℕ) → (g : Group) → (groups : List Group) → GroupsAddUp columns (g ∷ groups)
+        → IsMergeable (one_group g groups) → AllByRecursion IsMergeable (g ∷ groups) }
+    ensures merges { (columns : ℕ) → (g : Group) → (groups : List Group) → GroupsAddUp columns (g ∷ groups)
+        → IsMergeable (one_group g groups) → IsMergeable (group_of_merges g groups) }
 {}
