@@ -4,3 +4,7 @@ mod SteppedSamples
 mod SteppedHeader
 mod SteppedMerges
 mod Weights
+mod NamedMappings
+mod Admitted
+mod Exchanged
+mod Vanishing

@@ -1,7 +1,7 @@
 -- Samples whose mappings become others.
 use Rattle.std.proofs.Common.{◌≡◌, ℕ, Bool, true, false, List, [], ◌∷◌, map, refl, sym, ap, ◌∙◌, subst}
 use Rattle.std.specs.Prelude.{ℤ, Option, None, Some, ◌==◌, find, filter, if◌then◌else◌}
-use Rattle.std.specs.List.{AllByRecursion, flat_map}
+use Rattle.std.specs.List.{AllByRecursion}
 use Rattle.std.specs.Option.{option_map, option_map_or, unwrap_or}
 use Rattle.std.proofs.lemmas.Option.{none-some, same_Some}
 use Rattle.std.proofs.lemmas.Simd.{map-map}
@@ -16,7 +16,7 @@ use Rattle.pp_share.specs.Described.{MappingText, LocationText, SampleText, func
 use Rattle.pp_share.specs.Alike.{same_mapping, same_sample, first_alike}
 use Rattle.pp_share.specs.Sums.{counts}
 use Rattle.pp_share.proofs.Deciding.{sample_decides}
-use Rattle.pp_share.proofs.MergedMapping.{mapping_laws, IsFound, find_congr}
+use Rattle.pp_share.proofs.MergedMapping.{IsFound, find_congr}
 use Rattle.pp_share.proofs.NumberedLemmas.{all_parts, all_mapped}
 use Rattle.pp_merge.specs.Merge.{all_mappings, all_samples}
 use Rattle.pp_merge.proofs.SettledLemmas.{all_any, all_flat, all_unmapped, found_holds, self_found}
@@ -102,7 +102,7 @@ one_alike all m x is found =
     ap (λ o. unwrap_or o x) (sym (find_congr m x is all) ∙ found.1) ∙ sym (ap (λ o. unwrap_or o m) found.1)
 
 -- so is found what one of them is found as
-found_alike : (all : List MappingText) (m x : MappingText) → same_mapping m x ≡ true → IsFound all x → IsFound all m
+pub found_alike : (all : List MappingText) (m x : MappingText) → same_mapping m x ≡ true → IsFound all x → IsFound all m
 found_alike all m x is (y, at) = (y, find_congr m x is all ∙ at)
 
 nothing : (xs : List MappingText) → AllByRecursion (λ m. Unit {0}) xs

@@ -180,7 +180,7 @@ show_of xs ys same seen =
     ∙ show ys ∙ ap (seen_after bytes_eq seen) (map-same ys)
 
 -- a group's merge says what the group says
-said_again : (x : Group) → IsSettled (contents_of x) → header_of (merged_group x) [] ≡ (contents_of x).header
+pub said_again : (x : Group) → IsSettled (contents_of x) → header_of (merged_group x) [] ≡ (contents_of x).header
 said_again x is = ap (λ c. c.header) (contents_again (contents_of x) is)
 
 -- a text of the header that is the first one of the profiles

@@ -1,25 +1,23 @@
 -- Merges that are merged again are what merging all at once gives.
 use Rattle.std.proofs.Common.{◌≡◌, ◌<◌, ◌^◌, ℕ, List, [], ◌∷◌, ◌++◌, map, refl, sym, ap, ◌∙◌, subst}
-use Rattle.std.specs.Prelude.{ℤ, ◌≤ℤ◌, pos, Option, None, Some, filter, slice_get}
+use Rattle.std.specs.Prelude.{ℤ, Option, None, Some, filter, slice_get}
 use Rattle.std.specs.List.{AllByRecursion, flat_map}
 use Rattle.std.specs.Option.{option_map}
 use Rattle.std.proofs.lemmas.List.Folds.{flat_map-map}
 use Rattle.std.proofs.lemmas.Option.{none-some}
 use Rattle.pp_base.proofs.Lists.{all_by}
-use Rattle.pp_model.specs.declared.profile.Profile.{Profile}
 use Rattle.pp_share.specs.Described.{MappingText, LocationText, SampleText, mapping_text}
 use Rattle.pp_share.specs.Alike.{equal_mapping, same_location, same_sample, first_alike}
 use Rattle.pp_share.specs.Sums.{counts, summed}
 use Rattle.pp_share.specs.Written.{Contents, locations, mappings, written}
 use Rattle.pp_share.proofs.Deciding.{mapping_decides, location_decides}
 use Rattle.pp_model.proofs.FirstSightLemmas.{IsSeen}
-use Rattle.pp_merge.specs.Merge.{all_mappings, all_samples, contents, merged}
+use Rattle.pp_merge.specs.Merge.{all_mappings, all_samples, contents}
 use Rattle.pp_merge.specs.Settled.{IsSettled}
 use Rattle.pp_merge.proofs.SettledLemmas.{all_flat, settled_contents}
 use Rattle.pp_merge.proofs.WrittenAgain.{at_seen, contents_again, mappings_back}
 use Rattle.pp_merge.proofs.WrittenValid.{seen_locations, seen_mappings}
-use Rattle.pp_share.proofs.NumberedLemmas.{all_both}
-use Rattle.pp_steps.specs.Premises.{AddUp, HasFirstMappings, KeepsSamples, MergeInSteps}
+use Rattle.pp_steps.specs.Premises.{GroupsAddUp, LosesNoSample, MergeInSteps}
 use Rattle.pp_steps.specs.Steps.{Group, sources_of, all_sources, merged_group, in_steps, at_once, remapped, remapped_location}
 use Rattle.pp_steps.proofs.SteppedHeader.{header_in_steps}
 use Rattle.pp_steps.proofs.SteppedSamples.{all_settled, contents_of, flat_map-flat_map, merge_mappings, samples_in_steps, types_kept}
@@ -58,7 +56,7 @@ remapped_same f (s ∷ samples) all = (λ j. (record { locations = each s.0.loca
     each [] ok = refl
     each (l ∷ ls) ok = (λ j. record { mapping = stays l.mapping ok.0 j; distance = l.distance; lines = l.lines; folded = l.folded } ∷ each ls ok.1 j)
 
-module _ (columns : ℕ) (g : Group) (groups : List Group) (up : AddUp columns (g ∷ groups)) where
+module _ (columns : ℕ) (g : Group) (groups : List Group) (up : GroupsAddUp columns (g ∷ groups)) where
   abbrev steps : Contents
   steps = contents (merged_group g) (map merged_group groups)
 
@@ -78,7 +76,7 @@ module _ (columns : ℕ) (g : Group) (groups : List Group) (up : AddUp columns (
   pub steps_settled : IsSettled steps
   steps_settled = settled_contents (merged_group g) (map merged_group groups) merge_starts
 
-  pub samples_alike : AllByRecursion (KeepsSamples columns) (g ∷ groups) → map (remapped (first_alike (all_mappings (all_sources (g ∷ groups))))) steps.samples ≡ once.samples
+  pub samples_alike : AllByRecursion (LosesNoSample columns) (g ∷ groups) → map (remapped (first_alike (all_mappings (all_sources (g ∷ groups))))) steps.samples ≡ once.samples
   samples_alike kept =
       ap (λ n. map (remapped (first_alike (all_mappings (all_sources (g ∷ groups))))) (filter counts (summed same_sample n (all_samples (map merged_group (g ∷ groups))))))
       (types_kept g.first g.others ∙ up.values.0.types)

@@ -1,5 +1,5 @@
 -- Sums per key stay where items are added up in groups first, and keys become others between.
-use Rattle.std.proofs.Common.{◌≡◌, ℕ, ◌<◌, Bool, true, false, ◌||◌, List, [], ◌∷◌, ◌++◌, length, map, get_or, refl, sym, ap, ◌∙◌, subst, true≢false}
+use Rattle.std.proofs.Common.{◌≡◌, ℕ, ◌<◌, Bool, true, false, List, [], ◌∷◌, ◌++◌, length, map, get_or, refl, sym, ap, ◌∙◌, subst}
 use Rattle.std.specs.Prelude.{ℤ, pos, ◌+ℤ◌, filter, if◌then◌else◌}
 use Rattle.std.specs.Bool.{Decides}
 use Rattle.std.specs.List.{AllByRecursion, flat_map, list_any}
@@ -87,8 +87,16 @@ module _ {K : Type 0} (same : K → K → Bool) (decides : (a b : K) → Decides
       by true rest = ap (λ sum. get_or x.1 column (pos 0) +ℤ sum) rest
       by false rest = rest ∙ sym (+ℤ_idl (sum_passing (same key) column items))
 
+  -- the value of a column of a key's sum
+  pub column_sum : (n : ℕ) (items : List (K × List ℤ)) → AllByRecursion (λ item. length item.1 ≡ n) items → (key : K) (column : ℕ) → column < n
+      → get_or (sum_of same n items key) column (pos 0) ≡ sum_passing (same key) column items
+  column_sum n items all key column within =
+      at_total n column (rows_of same items key) within
+      (all_mapped (λ row. length row ≡ n) (λ (item : K × List ℤ). item.1) _ (all_filtered _ (λ item. same key item.0) items all))
+      ∙ rows_passing key column items
+
   -- what passes of a list of lists
-  flat_passing : {X : Type 0} (test : K → Bool) (column : ℕ) (g : X → List (K × List ℤ)) (xs : List X)
+  pub flat_passing : {X : Type 0} (test : K → Bool) (column : ℕ) (g : X → List (K × List ℤ)) (xs : List X)
       → sum_passing test column (flat_map g xs) ≡ total adding_ℤ (λ x. sum_passing test column (g x)) xs
   flat_passing test column g xs =
       sum_passing_is test column (flat_map g xs)
@@ -125,13 +133,6 @@ module _ {K : Type 0} (same : K → K → Bool) (decides : (a b : K) → Decides
       items_wide : AllByRecursion (λ item. length item.1 ≡ n) of_items
       items_wide = all_flat _ (λ x. map rekeyed (g x)) xs (all_by _ _ (λ x own. all_mapped _ rekeyed (g x) own) xs wide)
 
-      rows_wide : (items : List (K × List ℤ)) → AllByRecursion (λ item. length item.1 ≡ n) items → (key : K) → AllByRecursion (λ row. length row ≡ n) (rows_of same items key)
-      rows_wide items all key = all_mapped (λ row. length row ≡ n) (λ (item : K × List ℤ). item.1) _ (all_filtered _ (λ item. same key item.0) items all)
-
-      column_of : (items : List (K × List ℤ)) → AllByRecursion (λ item. length item.1 ≡ n) items → (key : K) (column : ℕ) → column < n
-          → get_or (sum_of same n items key) column (pos 0) ≡ sum_passing (same key) column items
-      column_of items all key column within = at_total n column (rows_of same items key) within (rows_wide items all key) ∙ rows_passing key column items
-
       passing_alike : (key : K) (column : ℕ) → column < n → sum_passing (same key) column of_sums ≡ sum_passing (same key) column of_items
       passing_alike key column within =
           flat_passing (same key) column (λ x. map rekeyed (filter counts (summed same n (g x)))) xs
@@ -149,7 +150,7 @@ module _ {K : Type 0} (same : K → K → Bool) (decides : (a b : K) → Decides
           ext_get_or (pos 0) (sum_of same n of_sums key) (sum_of same n of_items key) (long ∙ sym (length-total_of n (rows_of same of_items key)))
           (λ column within.
           let inside : column < n = subst (λ m. column < m) long within in
-          column_of of_sums sums_wide key column inside ∙ passing_alike key column inside ∙ sym (column_of of_items items_wide key column inside))
+          column_sum n of_sums sums_wide key column inside ∙ passing_alike key column inside ∙ sym (column_sum n of_items items_wide key column inside))
 
       -- the keys of sums are the distinct ones
       own_keys : (x : X) → keys_of same (map rekeyed (summed same n (g x))) ≡ map become (distinct same (keys_of same (g x)))

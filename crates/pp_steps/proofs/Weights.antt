@@ -1,18 +1,17 @@
 -- Where no value is negative and each sample has one that isn't 0, no sum comes to nothing.
-use Rattle.std.proofs.Common.{◌≡◌, ℕ, zero, suc, ◌+◌, ◌<◌, Bool, true, false, true≢false, not, ◌&&◌, ◌||◌, ℤ, pos, negsuc, nat_abs, List, [], ◌∷◌, length, map, get_or, refl, sym, ap, ◌∙◌, subst, arith}
+use Rattle.std.proofs.Common.{◌≡◌, ℕ, zero, suc, ◌+◌, ◌<◌, Bool, true, false, true≢false, ◌&&◌, ◌||◌, ℤ, pos, negsuc, nat_abs, List, [], ◌∷◌, length, map, get_or, refl, sym, ap, ◌∙◌, subst, arith}
 use Rattle.std.specs.Prelude.{◌+ℤ◌, ◌≤ℤ◌, filter, if◌then◌else◌}
 use Rattle.std.specs.Bool.{Decides}
-use Rattle.std.specs.List.{AllByRecursion, flat_map, list_all, list_any}
+use Rattle.std.specs.List.{AllByRecursion, list_all, list_any}
 use Rattle.std.specs.Ordering.{int_eq}
 use Rattle.std.proofs.Math.IntN.{pos-+ℤ-pos}
 use Rattle.std.proofs.lemmas.Bool.{not-false}
 use Rattle.std.proofs.lemmas.Bool.Decides.{Decides-int_eq}
 use Rattle.pp_base.proofs.Lists.{all_by}
 use Rattle.pp_model.specs.FirstSight.{distinct}
-use Rattle.pp_model.specs.Lookup.{text_of}
 use Rattle.pp_model.proofs.FirstSightLemmas.{IsSeen}
 use Rattle.pp_share.specs.Alike.{same_sample, first_alike}
-use Rattle.pp_share.specs.Described.{SampleText, samples_found}
+use Rattle.pp_share.specs.Described.{samples_found}
 use Rattle.pp_share.specs.Sums.{counts, keys_of, rows_of, summed, sum_of}
 use Rattle.pp_share.proofs.Deciding.{sample_decides}
 use Rattle.pp_share.proofs.NumberedLemmas.{all_both, all_mapped, all_parts}
@@ -21,7 +20,7 @@ use Rattle.pp_merge.proofs.LengthLemmas.{self_seen}
 use Rattle.pp_merge.proofs.MergedTotals.{at_total, zero_at}
 use Rattle.pp_merge.proofs.SettledLemmas.{all_distinct, all_filtered, all_flat}
 use Rattle.pp_merge.proofs.TotalLemmas.{total, adding_ℤ}
-use Rattle.pp_steps.specs.Premises.{AddUp, HasValues, HasWeights, KeepsSamples}
+use Rattle.pp_steps.specs.Premises.{GroupsAddUp, HasWeights, LosesNoSample}
 use Rattle.pp_steps.specs.Steps.{Group, sources_of, all_sources}
 
 -- a number that is not negative
@@ -120,7 +119,7 @@ module _ {K : Type 0} (same : K → K → Bool) (decides : (a b : K) → Decides
         (all_by (IsSeen same keys) _ key_counts (distinct same keys) (all_distinct (IsSeen same keys) same keys (self_seen same decides keys))))
 
 -- so it is of groups
-pub groups_keep : (columns : ℕ) (groups : List Group) → AddUp columns groups → AllByRecursion HasWeights (all_sources groups) → AllByRecursion (KeepsSamples columns) groups
+pub groups_keep : (columns : ℕ) (groups : List Group) → GroupsAddUp columns groups → AllByRecursion HasWeights (all_sources groups) → AllByRecursion (LosesNoSample columns) groups
 groups_keep columns groups up weigh =
     all_by _ _ (λ g is. all_count same_sample sample_decides columns (all_samples (sources_of g))
     (all_flat _ (samples_found (first_alike (all_mappings (sources_of g)))) (sources_of g)

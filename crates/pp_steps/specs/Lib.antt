@@ -1,2 +1,4 @@
 pub mod Steps
 pub mod Premises
+pub mod Stay
+pub mod Refused

@@ -9,18 +9,18 @@ use Rattle.pp_merge.specs.Merge.{all_mappings, all_samples}
 use Rattle.pp_steps.specs.Steps.{Group, sources_of, all_sources, merged_group, in_steps}
 
 -- the group's profiles have so many types, and each of their samples has a value for each
-pub record HasValues (columns : ℕ) (g : Group) : Type 0 where
+pub record GroupHasValues (columns : ℕ) (g : Group) : Type 0 where
   pub types : length g.first.sample_type ≡ columns
   pub values : AllByRecursion (λ q. AllByRecursion (λ s. length s.value ≡ columns) q.sample) (sources_of g)
 
 -- no sample of the group's merge comes to nothing
-abbrev pub KeepsSamples : ℕ → Group → Type 0
-KeepsSamples types g =
+abbrev pub LosesNoSample : ℕ → Group → Type 0
+LosesNoSample types g =
     filter counts (summed same_sample types (all_samples (sources_of g))) ≡ summed same_sample types (all_samples (sources_of g))
 
 -- Groups whose figures can be added up: values for each type, and no mapping that starts past 64 bits.
-pub record AddUp (types : ℕ) (groups : List Group) : Type 0 where
-  pub values : AllByRecursion (HasValues types) groups
+pub record GroupsAddUp (types : ℕ) (groups : List Group) : Type 0 where
+  pub values : AllByRecursion (GroupHasValues types) groups
   pub starts : AllByRecursion (λ m. m.start < 2 ^ 64) (all_mappings (all_sources groups))
 
 -- each mapping of the profile is the first of the sources' mappings that is one with it
@@ -30,8 +30,8 @@ HasFirstMappings sources p = AllByRecursion (λ m. first_alike (all_mappings sou
 -- Groups that give the same in steps as at once: their figures can be added up, no sample comes to nothing on the way, no
 -- duration is negative, and each mapping that is left is the first of all that is one with it.
 pub record MergeInSteps (columns : ℕ) (g : Group) (groups : List Group) : Type 0 where
-  pub up : AddUp columns (g ∷ groups)
-  pub samples : AllByRecursion (KeepsSamples columns) (g ∷ groups)
+  pub up : GroupsAddUp columns (g ∷ groups)
+  pub samples : AllByRecursion (LosesNoSample columns) (g ∷ groups)
   pub durations : AllByRecursion (λ q. pos 0 ≤ℤ q.duration_nanos) (all_sources (g ∷ groups))
   pub mappings : HasFirstMappings (all_sources (g ∷ groups)) (in_steps g groups)
 
@@ -41,8 +41,8 @@ pub record HasWeights (p : Profile) : Type 0 where
   pub some : AllByRecursion (λ s. list_all (int_eq (pos 0)) s.value ≡ false) p.sample
 
 -- Each mapping of the group's profiles is one with a mapping of the group's merge.
-abbrev pub KeepsMappings : Group → Type 0
-KeepsMappings g =
+abbrev pub LosesNoMapping : Group → Type 0
+LosesNoMapping g =
     AllByRecursion (λ m. list_any (same_mapping m) (all_mappings (merged_group g ∷ [])) ≡ true)
     (all_mappings (sources_of g))
 

@@ -1,8 +1,15 @@
-//! Profiles that are merged in steps.
+//! Laws of merging: in steps, where profiles are merged in groups and then the groups' merges, and in another order.
+//!
+//! Each law is the contract of a call that does nothing. `specs/Steps.antt` has the two ways to merge, `Premises.antt`
+//! what profiles have to be like, and `Stay.antt` what stays where they are less.
 #![tactic(auto)]
 
-ghost use Rattle.std.specs.Prelude.{◌≡◌, ℕ};
+mod kept;
+mod premises;
+mod steps;
 
-pub fn todo()
-    ensures { (n : ℕ) → n ≡ n }
-{}
+pub use kept::{merging_drops_no_sample, merging_makes_no_sample, order_of_profiles_keeps_sums};
+pub use premises::{equal_mappings_are_first, kept_mappings_are_first, weights_keep_samples};
+pub use steps::{
+    samples_stay_in_steps, steps_are_not_refused, steps_are_one_merge, sums_stay_in_steps,
+};
