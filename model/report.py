@@ -1,7 +1,5 @@
 """One report: in which order it is refused, what is asked of patterns, the notes, and the text (docs/messages.md)."""
 
-from collections import namedtuple
-
 from model import dumps, reports
 from model.counting import Selected, column_of
 from model.patterns import Refused, finder
@@ -14,10 +12,6 @@ TEXTS[b"list"] = dumps.listing
 SAVED = {b"raw": dumps.raw, b"proto": dumps.proto}
 STACKS = ("focus", "ignore", "hide", "show", "show_from")
 NOTED = STACKS + ("tagfocus", "tagignore", "tagshow", "taghide")
-
-
-# A profile, which of its frames it leaves out itself, and whether it was loaded with -diff_base.
-Loaded = namedtuple("Loaded", "profile is_prunable has_base")
 
 
 class ReportRefusal(Exception):
@@ -126,7 +120,7 @@ def basis(profile, report, config):
 
 def prepared(loaded, report, pattern, config, matcher, tell, read):
     """The text of a report. `tell` is called with the notes before any source is read, and `read` reads a source."""
-    profile, prunable = loaded.profile, loaded.is_prunable
+    profile, prunable = loaded
     if report == b"comments":
         return dumps.comments(profile)
     column, kind, unit = basis(profile, report, config)
@@ -142,6 +136,6 @@ def prepared(loaded, report, pattern, config, matcher, tell, read):
     subject = reports.Subject(profile, counts, config, kind, unit, filters.own, read)
     if filters.own and not reports.is_matched(subject):
         raise ReportRefusal(b"no function matches")
-    if report == b"compare" and not (loaded.has_base or reports.is_compared(subject)):
+    if report == b"compare" and not reports.is_compared(subject):
         raise ReportRefusal(b"compare: no -diff_base was given")
     return TEXTS[report](subject)

@@ -270,7 +270,7 @@ def table(subject):
 
 
 def is_compared(subject):
-    """Whether some sample is of a base, as in a difference that was saved."""
+    """Whether some sample is of a base to compare with."""
     return any(map(is_of_base, subject.profile.samples))
 
 

@@ -7,7 +7,7 @@ whether the path could be written; `out` and `err` take bytes; `input` gives all
 from model.legacy import LegacyFault, is_legacy, read_legacy
 from model.merging import LoadRefusal, agree, generated, merge, normalize, subtract
 from model.profile import Unspoken, numbered, plain
-from model.report import Loaded, ReportRefusal, is_prunable, prepared
+from model.report import ReportRefusal, is_prunable, prepared
 from model.rules import first_fault
 from model.shell import HELP, INPUT_LIMIT, Command, InputTooLong, LineFault, lines_of, read_line
 from model.wire import WireFault, read, written
@@ -78,7 +78,7 @@ def loaded_of(plan, outside):
         if plan.normalize:
             profile = normalize(profile, base)
         profile = subtract(profile, base, plan.base_word == b"diff_base")
-    return Loaded(profile, is_prunable(profile, outside.matcher), plan.base_word == b"diff_base")
+    return profile, is_prunable(profile, outside.matcher)
 
 
 class Session:
