@@ -28,6 +28,71 @@ fn an_edge_is_found(rt: HostRuntime) -> Result<(), Fail> {
     Ok(())
 }
 
+#[test]
+fn a_cut_edge_leaves_both_lists(rt: HostRuntime) -> Result<(), Fail> {
+    let mut graph = graph_of(rt.alloc(), &[(A, B), (A, C)])?.ok_or("no graph")?;
+    cut_between(&mut graph, A, B);
+    assert!(rt; are_callees(&graph, A, &[C]));
+    assert!(rt; are_callers(&graph, B, &[]));
+    Ok(())
+}
+
+#[test]
+fn two_cut_edges_leave_their_lists(rt: HostRuntime) -> Result<(), Fail> {
+    let pairs = [(A, B), (A, C), (B, C), (C, A)];
+    let mut graph = graph_of(rt.alloc(), &pairs)?.ok_or("no graph")?;
+    cut_between(&mut graph, A, C);
+    cut_between(&mut graph, A, B);
+    assert!(rt; are_callees(&graph, A, &[]));
+    assert!(rt; are_callers(&graph, C, &[B]));
+    assert!(rt; are_callers(&graph, B, &[]));
+    assert!(rt; are_callees(&graph, C, &[A]));
+    Ok(())
+}
+
+// Cuts the first edge from one node to another, if there is one.
+fn cut_between(graph: &mut Graph, from: u64, to: u64) {
+    if let Some(number) = edge_between(graph, from, to) {
+        graph.cut_edge(number);
+    }
+}
+
+// Whether the edges that leave the node lead to `callees`, in this order.
+fn are_callees(graph: &Graph, node: u64, callees: &[u64]) -> bool {
+    if node >= graph.nodes() {
+        return false;
+    }
+    let mut next = graph.first_out(node);
+    for place in 0..callees.len() {
+        let Some(number) = next else {
+            return false;
+        };
+        if graph.edge(number).to != callees[place] {
+            return false;
+        }
+        next = graph.next_out(number);
+    }
+    next.is_none()
+}
+
+// Whether the edges that enter the node come from `callers`, in this order.
+fn are_callers(graph: &Graph, node: u64, callers: &[u64]) -> bool {
+    if node >= graph.nodes() {
+        return false;
+    }
+    let mut next = graph.first_in(node);
+    for place in 0..callers.len() {
+        let Some(number) = next else {
+            return false;
+        };
+        if graph.edge(number).from != callers[place] {
+            return false;
+        }
+        next = graph.next_in(number);
+    }
+    next.is_none()
+}
+
 // The graph of the three nodes and these edges. `None` where an end is no node.
 fn graph_of(alloc: Global, pairs: &[Pair]) -> Result<Option<Graph>, Memory> {
     let mut sums = Sums {
