@@ -10,6 +10,7 @@ ghost use Rattle.pp_merge.specs.Joined.{behind_ids, moved_behind, chained, with_
 ghost use Rattle.pp_share.specs.Header.{greater, earlier};
 
 use pp_base::{List, Memory};
+use pp_keys::HashKeys;
 use pp_model::{Profile, Valid, text_of};
 use pp_share::{Behind, Ids, Known, Renumbering, are_in_place, known_ids, renumber};
 use std::alloc::Global;
@@ -17,17 +18,22 @@ use std::mem;
 
 /// The profiles as one, each behind those before it: their tables and comments one after the other, and the header by
 /// the rules of merging, but for the duration, which stays the first one's. References are by place.
-pub fn join(alloc: Global, first: Valid, others: Vec<Valid>) -> Result<Profile, Memory>
+pub fn join(
+    alloc: Global,
+    hash_keys: HashKeys,
+    first: Valid,
+    others: Vec<Valid>,
+) -> Result<Profile, Memory>
     ensures same { IfOk result (λ r. r ≡ joined first others.items) }
     ensures few { IfOk result (λ r. length r.text < 2 ^ 62) }
     ensures first { IfOk result (λ r. NoRuleFails first) }
     ensures others { IfOk result (λ r. AllByRecursion NoRuleFails others.items) }
 {
     let start = first.into_profile();
-    let mut joined = first_joined(alloc, start)?;
+    let mut joined = first_joined(alloc, hash_keys, start)?;
     for valid in others {
         let p = valid.into_profile();
-        let next = joined_behind(alloc, joined, p)?;
+        let next = joined_behind(alloc, hash_keys, joined, p)?;
         joined = next;
     }
     // A table fits in memory.
@@ -38,7 +44,7 @@ pub fn join(alloc: Global, first: Valid, others: Vec<Valid>) -> Result<Profile, 
 // The profile as the first one. Samples name many locations, so they are not gone through where all references are by
 // place already, as most writers leave them.
 #[tactic(auto, using(crate::proofs::InPlace::stays_in_place))]
-fn first_joined(alloc: Global, p: Profile) -> Result<Profile, Memory>
+fn first_joined(alloc: Global, hash_keys: HashKeys, p: Profile) -> Result<Profile, Memory>
     requires { NoRuleFails p }
     ensures { IfOk result (λ r. r ≡ moved_behind no_sizes p) }
 {
@@ -46,7 +52,7 @@ fn first_joined(alloc: Global, p: Profile) -> Result<Profile, Memory>
         return Ok(p);
     }
     let sizes = no_sizes();
-    let moved = moved_behind(alloc, &sizes, p)?;
+    let moved = moved_behind(alloc, hash_keys, &sizes, p)?;
     Ok(moved)
 }
 
@@ -66,12 +72,17 @@ pub(crate) fn is_in_place(alloc: Global, p: &Profile) -> Result<bool, Memory>
 }
 
 // The profile behind others.
-fn joined_behind(alloc: Global, joined: Profile, p: Profile) -> Result<Profile, Memory>
+fn joined_behind(
+    alloc: Global,
+    hash_keys: HashKeys,
+    joined: Profile,
+    p: Profile,
+) -> Result<Profile, Memory>
     requires { NoRuleFails p }
     ensures { IfOk result (λ r. r ≡ chained joined (moved_behind (sizes_of joined) p)) }
 {
     let sizes = sizes_of(&joined);
-    let moved = moved_behind(alloc, &sizes, p)?;
+    let moved = moved_behind(alloc, hash_keys, &sizes, p)?;
     let both = chain(alloc, joined, moved)?;
     Ok(both)
 }
@@ -110,29 +121,44 @@ fn sizes_of(p: &Profile) -> Sizes
 }
 
 // The profile with its references by place, as its tables stand behind tables of these sizes.
-fn moved_behind(alloc: Global, after: &Sizes, mut p: Profile) -> Result<Profile, Memory>
+fn moved_behind(
+    alloc: Global,
+    hash_keys: HashKeys,
+    after: &Sizes,
+    mut p: Profile,
+) -> Result<Profile, Memory>
     requires valid { NoRuleFails p }
     requires few { AreFew after.now }
     ensures { IfOk result (λ r. r ≡ moved_behind after.now p) }
 {
-    move_behind(alloc, after, &mut p)?;
+    move_behind(alloc, hash_keys, after, &mut p)?;
     Ok(p)
 }
 
 // Gives the profile's references their places behind tables of these sizes.
-fn move_behind(alloc: Global, after: &Sizes, p: &mut Profile) -> Result<(), Memory>
+fn move_behind(
+    alloc: Global,
+    hash_keys: HashKeys,
+    after: &Sizes,
+    p: &mut Profile,
+) -> Result<(), Memory>
     requires valid { NoRuleFails p.old }
     requires few { AreFew after.now }
     ensures { OnOk result (p.new ≡ moved_behind after.now p.old) }
 {
-    let by = behind(alloc, after, p)?;
+    let by = behind(alloc, hash_keys, after, p)?;
     renumber(p, &by);
     mem::drop(by);
     Ok(())
 }
 
 // What the profile's references become.
-fn behind(alloc: Global, after: &Sizes, p: &Profile) -> Result<Renumbering, Memory>
+fn behind(
+    alloc: Global,
+    hash_keys: HashKeys,
+    after: &Sizes,
+    p: &Profile,
+) -> Result<Renumbering, Memory>
     requires valid { NoRuleFails p.now }
     requires few { AreFew after.now }
     ensures { IfOk result (λ by. new_ids by ≡ behind_ids after.now p.now) }
@@ -141,9 +167,9 @@ fn behind(alloc: Global, after: &Sizes, p: &Profile) -> Result<Renumbering, Memo
     let mappings = Behind::new(after.mapping, p.mapping.as_slice().len());
     let functions = Behind::new(after.function, p.function.as_slice().len());
     let locations = Behind::new(after.location, p.location.as_slice().len());
-    let mapping = known_once(alloc, mapping_ids(alloc, p)?)?;
-    let function = known_once(alloc, function_ids(alloc, p)?)?;
-    let location = known_once(alloc, location_ids(alloc, p)?)?;
+    let mapping = known_once(alloc, hash_keys, mapping_ids(alloc, p)?)?;
+    let function = known_once(alloc, hash_keys, function_ids(alloc, p)?)?;
+    let location = known_once(alloc, hash_keys, location_ids(alloc, p)?)?;
     Ok(Renumbering {
         text: Ids::Moved(Known::InOrder, texts),
         mapping: Ids::Moved(mapping, mappings),
@@ -153,12 +179,12 @@ fn behind(alloc: Global, after: &Sizes, p: &Profile) -> Result<Renumbering, Memo
 }
 
 // How the entries of a table with these ids are found.
-fn known_once(alloc: Global, ids: Vec<u64>) -> Result<Known, Memory>
+fn known_once(alloc: Global, hash_keys: HashKeys, ids: Vec<u64>) -> Result<Known, Memory>
     requires { first_repeated ids.items ≡ None }
     ensures { IfOk result (λ known. (after : ℕ) → (id : ℕ) → behind_id after (length ids.items) (known_id known id)
         ≡ behind_id after (length ids.items) (place_id ids.items id)) }
 {
-    known_ids(alloc, ids.as_slice())
+    known_ids(alloc, hash_keys, ids.as_slice())
 }
 
 fn mapping_ids(alloc: Global, p: &Profile) -> Result<Vec<u64>, Memory>

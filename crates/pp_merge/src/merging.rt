@@ -14,6 +14,7 @@ use crate::refusal::MergeRefusal;
 use crate::together::without_hashes;
 use crate::totals::too_large_column;
 use pp_base::{List, Memory};
+use pp_keys::HashKeys;
 use pp_model::{Compact, Profile, Valid};
 use pp_share::{Hashed, Hashes, share, share_on};
 use pp_steal::Resources;
@@ -58,7 +59,7 @@ pub fn merge_on<R: Threads + Sync>(
     let (others, together) = without_hashes(with.alloc, behind, hashes.together)?;
     let are_small = together <= i64::MAX as u64;
     let duration = admit(&first, others.as_slice(), are_small)?;
-    let (whole, known) = join_hashed(with.alloc, first, others, duration, hashes)?;
+    let (whole, known) = join_hashed(with.alloc, with.keys, first, others, duration, hashes)?;
     let merged = share_on(with, whole, known)?;
     Ok(Compact::claim(Valid::claim(merged)))
 }
@@ -114,7 +115,7 @@ fn merge_admitted(
     requires { CanMerge first others.items duration }
     ensures { IfOk result (λ r. r ≡ merged first others.items) }
 {
-    let whole = join_whole(alloc, first, others, duration)?;
+    let whole = join_whole(alloc, HashKeys::fixed(), first, others, duration)?;
     let merged = share(alloc, whole)?;
     Ok(Compact::claim(Valid::claim(merged)))
 }
@@ -122,6 +123,7 @@ fn merge_admitted(
 // The profiles one behind the other, with the duration of all.
 fn join_whole(
     alloc: Global,
+    hash_keys: HashKeys,
     first: Valid,
     others: Vec<Valid>,
     duration: i64,
@@ -129,7 +131,7 @@ fn join_whole(
     requires { CanMerge first others.items duration }
     ensures { IfOk result (λ r. IsWhole first others.items r) }
 {
-    let joined = join(alloc, first, others)?;
+    let joined = join(alloc, hash_keys, first, others)?;
     Ok(with_duration(joined, duration))
 }
 
@@ -137,6 +139,7 @@ fn join_whole(
 // place, keeps those of the first one.
 fn join_hashed(
     alloc: Global,
+    hash_keys: HashKeys,
     first: Valid,
     others: Vec<Valid>,
     duration: i64,
@@ -153,7 +156,7 @@ fn join_hashed(
         return Ok((whole, Some(hashes)));
     }
     mem::drop(hashes);
-    let whole = join_whole(alloc, first, others, duration)?;
+    let whole = join_whole(alloc, hash_keys, first, others, duration)?;
     Ok((whole, None))
 }
 

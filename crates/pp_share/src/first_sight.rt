@@ -4,6 +4,7 @@ ghost use Rattle.pp_model.specs.FirstSight.{distinct, ids};
 
 use indexmap::IndexSet;
 use pp_base::{List, Memory};
+use pp_keys::HashKeys;
 use std::alloc::Global;
 use std::hash::Hash;
 
@@ -11,12 +12,13 @@ use std::hash::Hash;
 /// keys are taken, and those that were seen before are dropped.
 pub fn number_each<K: Hash + Eq + Drop>(
     alloc: Global,
+    hash_keys: HashKeys,
     keys: Vec<K>,
 ) -> Result<(Vec<K>, List<u64>), Memory>
     ensures table { IfOk result (λ r. r.0.items ≡ distinct K.eq keys.items) }
     ensures ids { IfOk result (λ r. r.1 ≡ ids K.eq keys.items) }
 {
-    let mut table = IndexSet::new(alloc);
+    let mut table = IndexSet::with_hasher(alloc, hash_keys);
     let mut ids = List::new(alloc);
     for key in keys {
         let (place, _) = table.insert_full(key)?;
@@ -29,7 +31,10 @@ pub fn number_each<K: Hash + Eq + Drop>(
 }
 
 /// The keys of the set, in order.
-pub fn keys_of<K: Hash + Eq + Drop>(alloc: Global, table: IndexSet<K>) -> Result<Vec<K>, Memory>
+pub fn keys_of<K: Hash + Eq + Drop>(
+    alloc: Global,
+    table: IndexSet<K, HashKeys>,
+) -> Result<Vec<K>, Memory>
     ensures { IfOk result (λ keys. keys.items ≡ table.keys) }
 {
     let keys = table.into_iter().collect(alloc)?;
@@ -50,6 +55,7 @@ pub trait Keyed<K: Hash + Eq> {
 /// place among these plus 1.
 pub fn keep_firsts<K: Hash + Eq + Drop, T: Copy + Keyed<K>>(
     alloc: Global,
+    hash_keys: HashKeys,
     items: &[T],
 ) -> Result<(List<T>, List<u64>), Memory>
     ensures kept { IfOk result (λ r. r.0
@@ -57,7 +63,7 @@ pub fn keep_firsts<K: Hash + Eq + Drop, T: Copy + Keyed<K>>(
     ensures ids { IfOk result (λ r. r.1
         ≡ ids (λ a b. K.eq (T.key_of a) (T.key_of b)) items.now) }
 {
-    let mut table = IndexSet::new(alloc);
+    let mut table = IndexSet::with_hasher(alloc, hash_keys);
     let mut kept = List::new(alloc);
     let mut ids = List::new(alloc);
     for item in items {

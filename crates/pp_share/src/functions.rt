@@ -8,6 +8,7 @@ use crate::first_sight::{Keyed, keep_firsts};
 use crate::ids::Ids;
 use crate::renumbering::Renumbering;
 use pp_base::Memory;
+use pp_keys::HashKeys;
 use pp_model::{Function, Profile};
 use std::alloc::Global;
 use std::mem;
@@ -39,10 +40,14 @@ impl Keyed<FunctionKey> for Function {
 }
 
 /// The profile, whose texts stand once, with each function once, in the order of first sight.
-pub fn share_functions(alloc: Global, mut p: Profile) -> Result<Profile, Memory>
+pub fn share_functions(
+    alloc: Global,
+    hash_keys: HashKeys,
+    mut p: Profile,
+) -> Result<Profile, Memory>
     ensures { IfOk result (λ r. r ≡ with_shared_functions p) }
 {
-    let (functions, ids) = keep_firsts(alloc, p.function.as_slice())?;
+    let (functions, ids) = keep_firsts(alloc, hash_keys, p.function.as_slice())?;
     p.function = functions;
     let by = Renumbering {
         text: Ids::Same,

@@ -8,6 +8,7 @@ use crate::behind::Behind;
 use crate::met::Met;
 use indexmap::IndexSet;
 use pp_base::List;
+use pp_keys::HashKeys;
 
 /// How the entries of a table are found by their ids.
 #[derive(Drop)]
@@ -15,7 +16,7 @@ pub enum Known {
     /// An id is its place plus 1.
     InOrder,
     /// The ids of the entries, in the order of the table.
-    KnownIds(IndexSet<u64>),
+    KnownIds(IndexSet<u64, HashKeys>),
 }
 
 impl Known {
@@ -31,7 +32,7 @@ impl Known {
 }
 
 /// The place of the id plus 1, which is past the ids where it isn't there. 0 stays.
-pub fn place_id(ids: &IndexSet<u64>, id: u64) -> u64
+pub fn place_id(ids: &IndexSet<u64, HashKeys>, id: u64) -> u64
     ensures { result ≡ place_id ids.now.keys id }
 {
     if id == 0 {

@@ -8,10 +8,11 @@ ghost use Rattle.pp_share.specs.Behind.{behind_id};
 use crate::ids::Known;
 use indexmap::IndexSet;
 use pp_base::Memory;
+use pp_keys::HashKeys;
 use std::alloc::Global;
 
 /// The ids of a table, of which none stands twice.
-pub fn known_ids(alloc: Global, ids: &[u64]) -> Result<Known, Memory>
+pub fn known_ids(alloc: Global, hash_keys: HashKeys, ids: &[u64]) -> Result<Known, Memory>
     requires { first_repeated ids.now ≡ None }
     ensures { IfOk result (λ known. (after : ℕ) → (id : ℕ) → behind_id after (length ids.now) (known_id known id)
         ≡ behind_id after (length ids.now) (place_id ids.now id)) }
@@ -19,16 +20,20 @@ pub fn known_ids(alloc: Global, ids: &[u64]) -> Result<Known, Memory>
     if are_in_place(ids) {
         return Ok(Known::InOrder);
     }
-    let listed = listed_ids(alloc, ids)?;
+    let listed = listed_ids(alloc, hash_keys, ids)?;
     Ok(Known::KnownIds(listed))
 }
 
 // The ids as a set, in order.
-fn listed_ids(alloc: Global, ids: &[u64]) -> Result<IndexSet<u64>, Memory>
+fn listed_ids(
+    alloc: Global,
+    hash_keys: HashKeys,
+    ids: &[u64],
+) -> Result<IndexSet<u64, HashKeys>, Memory>
     requires { first_repeated ids.now ≡ None }
     ensures { IfOk result (λ listed. listed.keys ≡ ids.now) }
 {
-    let mut listed = IndexSet::new(alloc);
+    let mut listed = IndexSet::with_hasher(alloc, hash_keys);
     for id in ids {
         listed.insert_full(*id)?;
     }

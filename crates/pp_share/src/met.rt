@@ -8,6 +8,7 @@ ghost use Rattle.pp_share.specs.Ids.{place_id};
 use crate::ids::place_id;
 use indexmap::IndexSet;
 use pp_base::Memory;
+use pp_keys::HashKeys;
 use std::alloc::Global;
 use std::marker::Model;
 
@@ -15,7 +16,7 @@ use std::marker::Model;
 /// met is found in a table, by index, and hashed only once.
 #[derive(Drop)]
 pub struct Met {
-    ids: IndexSet<u64>,
+    ids: IndexSet<u64, HashKeys>,
     // At the index of an id its place plus 1. With 0 it wasn't met, or is past the table.
     places: Vec<u64>,
 }
@@ -33,12 +34,12 @@ impl Model for Met {
 
 impl Met {
     /// No ids. Ids below `room` are found by index.
-    pub fn new(alloc: Global, room: usize) -> Result<Met, Memory>
+    pub fn new(alloc: Global, hash_keys: HashKeys, room: usize) -> Result<Met, Memory>
         ensures { IfOk result (λ met. met ≡ []) }
     {
         let places = vec![in alloc; 0u64; room]?;
         Ok(Met {
-            ids: IndexSet::new(alloc),
+            ids: IndexSet::with_hasher(alloc, hash_keys),
             places,
         })
     }
@@ -66,7 +67,7 @@ impl Met {
         self.place_new(id)
     }
 
-    // The same, where the table does not know the id.
+    // `place` for an id that the table `places` does not know.
     #[inline(never)]
     #[tactic(auto, using(crate::proofs::MetLemmas::placed_now))]
     fn place_new(&mut self, id: u64) -> Result<u64, Memory>

@@ -9,6 +9,7 @@ use crate::first_sight::{Keyed, keep_firsts, number_each};
 use crate::ids::Ids;
 use crate::known::are_in_place;
 use pp_base::{List, Memory};
+use pp_keys::HashKeys;
 use pp_model::{Line, Location, Mapping, Profile};
 use std::alloc::Global;
 use std::mem;
@@ -56,24 +57,28 @@ pub struct LocationKey {
 
 /// The profile, whose texts and functions stand once, with each mapping and each location once, in the order of first
 /// sight, and what the ids of locations become. Its samples stay as they are.
-pub fn share_places(alloc: Global, mut p: Profile) -> Result<(Profile, Ids), Memory>
+pub fn share_places(
+    alloc: Global,
+    hash_keys: HashKeys,
+    mut p: Profile,
+) -> Result<(Profile, Ids), Memory>
     ensures tables { IfOk result (λ r. r.0 ≡ record (with_shared_places p) { sample = p.sample }) }
     ensures ids { IfOk result (λ r. GivesIds (length p.location) r.1 (ids same_place (distant_locations p))) }
 {
-    let ids = keep_places(alloc, &mut p)?;
+    let ids = keep_places(alloc, hash_keys, &mut p)?;
     Ok((p, ids))
 }
 
 // Leaves each mapping and each location once, and gives what the ids of locations become.
-fn keep_places(alloc: Global, p: &mut Profile) -> Result<Ids, Memory>
+fn keep_places(alloc: Global, hash_keys: HashKeys, p: &mut Profile) -> Result<Ids, Memory>
     ensures tables { OnOk result (p.new ≡ record (with_shared_places p.old) { sample = p.old.sample }) }
     ensures ids { IfOk result (λ r. GivesIds (length p.old.location) r (ids same_place (distant_locations p.old))) }
 {
-    let (mappings, mapping_ids) = keep_firsts(alloc, p.mapping.as_slice())?;
+    let (mappings, mapping_ids) = keep_firsts(alloc, hash_keys, p.mapping.as_slice())?;
     let old = mem::replace(&mut p.mapping, mappings);
     let locations = mem::replace(&mut p.location, List::new(alloc));
     let keys = keys_by(alloc, locations, old.as_slice(), mapping_ids)?;
-    let (locations, ids) = share_locations(alloc, keys, p.mapping.as_slice())?;
+    let (locations, ids) = share_locations(alloc, hash_keys, keys, p.mapping.as_slice())?;
     p.location = locations;
     Ok(ids_by(ids))
 }
@@ -94,8 +99,8 @@ fn keys_by(
     keys
 }
 
-// What ids become that get these. Where no location repeats, all stay: samples name many, so they are not gone through
-// then.
+// What the ids of locations become, where `ids` has the new one of each. Where no location repeats, all stay, and the many
+// locations of samples need not be gone through.
 fn ids_by(ids: List<u64>) -> Ids
     ensures { GivesIds (length ids) result ids }
 {
@@ -109,6 +114,7 @@ fn ids_by(ids: List<u64>) -> Ids
 // The locations without repeats, in the order of first sight, and the id of each. Their mappings are these.
 fn share_locations(
     alloc: Global,
+    hash_keys: HashKeys,
     keys: Vec<LocationKey>,
     mappings: &[Mapping],
 ) -> Result<(List<Location>, List<u64>), Memory>
@@ -116,7 +122,7 @@ fn share_locations(
         ≡ map (near mappings.now) (distinct same_place (map place_of_key keys.items))) }
     ensures ids { IfOk result (λ r. r.1 ≡ ids same_place (map place_of_key keys.items)) }
 {
-    let (keys, ids) = number_each(alloc, keys)?;
+    let (keys, ids) = number_each(alloc, hash_keys, keys)?;
     let locations = locations_of(alloc, keys, mappings)?;
     Ok((locations, ids))
 }
@@ -131,7 +137,7 @@ fn location_keys(
     ensures { IfOk result (λ keys. map place_of_key keys.items
         ≡ map (distant mappings.now ids.now) locations) }
 {
-    let mut keys = Vec::new(alloc);
+    let mut keys = Vec::with_capacity(alloc, locations.len())?;
     for location in locations.into_vec() {
         keys.push(location_key(location, mappings, ids))?;
     }

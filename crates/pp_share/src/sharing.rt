@@ -27,6 +27,7 @@ use crate::samples::{add_repeats, counting};
 use crate::texts::share_texts;
 use crate::write::{write, write_on};
 use pp_base::{List, Memory};
+use pp_keys::HashKeys;
 use pp_model::{Profile, Sample};
 use pp_steal::Resources;
 use std::alloc::Global;
@@ -42,9 +43,10 @@ pub fn share(alloc: Global, p: Profile) -> Result<Profile, Memory>
         → sum_by (λ s. nat_abs (value_in s column)) p.sample ≤ 2 ^ 63 - 1 }
     ensures { IfOk result (λ r. r ≡ written (totalled (length p.sample_type) (gist p))) }
 {
-    let (mut profile, by) = share_tables(alloc, p)?;
+    let hash_keys = HashKeys::fixed();
+    let (mut profile, by) = share_tables(alloc, hash_keys, p)?;
     sum_plain(alloc, &mut profile, &by)?;
-    let written = write(alloc, profile, &by);
+    let written = write(alloc, hash_keys, profile, &by);
     mem::drop(by);
     written
 }
@@ -65,7 +67,7 @@ pub fn share_on<R: Threads + Sync>(
     ensures { IfOk result (λ r. r ≡ written (totalled (length p.sample_type) (gist p))) }
 {
     let texts = p.text.len();
-    let (mut profile, by) = share_tables(with.alloc, p)?;
+    let (mut profile, by) = share_tables(with.alloc, with.keys, p)?;
     let samples = profile.sample.as_slice();
     let hashes = hashes_for(with, samples, texts, &by, known)?;
     sum_hashed_on(with, &mut profile, &by, &hashes)?;
@@ -76,15 +78,19 @@ pub fn share_on<R: Threads + Sync>(
 
 // The profile with each entry of its tables once, and what the references of its samples become. The samples stay: they
 // are many, so they get new texts and new locations at once.
-fn share_tables(alloc: Global, p: Profile) -> Result<(Profile, Renumbering), Memory>
+fn share_tables(
+    alloc: Global,
+    hash_keys: HashKeys,
+    p: Profile,
+) -> Result<(Profile, Renumbering), Memory>
     requires names { AllByRecursion (NamesLocations (length p.location)) p.sample }
     ensures tables { IfOk result (λ r. r.0 ≡ record (with_tables_once p) { sample = p.sample }) }
     ensures samples { IfOk result (λ r.
         map (renumbered_sample (new_ids r.1)) p.sample ≡ (with_tables_once p).sample) }
     ensures few { OnOk result (length p.text < 2 ^ 62) }
 {
-    let (worded, text) = share_texts(alloc, p)?;
-    let (profile, location) = share_entries(alloc, worded)?;
+    let (worded, text) = share_texts(alloc, hash_keys, p)?;
+    let (profile, location) = share_entries(alloc, hash_keys, worded)?;
     let by = Renumbering {
         text,
         mapping: Ids::Same,
@@ -96,15 +102,15 @@ fn share_tables(alloc: Global, p: Profile) -> Result<(Profile, Renumbering), Mem
 
 // The profile, whose texts stand once, with each comment, function, mapping and location once, and what the ids of
 // locations become.
-fn share_entries(alloc: Global, p: Profile) -> Result<(Profile, Ids), Memory>
+fn share_entries(alloc: Global, hash_keys: HashKeys, p: Profile) -> Result<(Profile, Ids), Memory>
     ensures tables { IfOk result (λ r.
         r.0 ≡ record (with_shared_places (with_shared_functions (with_comments_once p))) { sample = p.sample }) }
     ensures ids { IfOk result (λ r. GivesIds (length p.location) r.1
         (ids same_place (distant_locations (with_shared_functions (with_comments_once p))))) }
 {
-    let noted = share_comments(alloc, p)?;
-    let called = share_functions(alloc, noted)?;
-    share_places(alloc, called)
+    let noted = share_comments(alloc, hash_keys, p)?;
+    let called = share_functions(alloc, hash_keys, noted)?;
+    share_places(alloc, hash_keys, called)
 }
 
 // The hashes of the samples with their new ids: the known ones where they serve, or new ones. The labels name some of
@@ -168,11 +174,11 @@ fn sum_repeats(alloc: Global, p: &mut Profile, repeats: &[Repeat], have_values: 
 }
 
 // The profile, whose texts stand once, with each comment once.
-fn share_comments(alloc: Global, mut p: Profile) -> Result<Profile, Memory>
+fn share_comments(alloc: Global, hash_keys: HashKeys, mut p: Profile) -> Result<Profile, Memory>
     ensures { IfOk result (λ r. r ≡ with_comments_once p) }
 {
     let comments = mem::replace(&mut p.comment, List::new(alloc));
-    let (kept, _) = number_each(alloc, comments.into_vec())?;
+    let (kept, _) = number_each(alloc, hash_keys, comments.into_vec())?;
     p.comment = List::from_vec(kept);
     Ok(p)
 }

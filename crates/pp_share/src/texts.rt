@@ -8,13 +8,18 @@ use crate::first_sight::number_each;
 use crate::ids::Ids;
 use crate::renumbering::{Renumbering, renumber_tables};
 use pp_base::{List, Memory, Text};
+use pp_keys::HashKeys;
 use pp_model::Profile;
 use std::alloc::Global;
 use std::mem;
 
 /// The profile with each text once, in the order of first sight, and what the ids of texts become. Its samples stay as
 /// they are.
-pub fn share_texts(alloc: Global, mut p: Profile) -> Result<(Profile, Ids), Memory>
+pub fn share_texts(
+    alloc: Global,
+    hash_keys: HashKeys,
+    mut p: Profile,
+) -> Result<(Profile, Ids), Memory>
     ensures tables { IfOk result (λ r. r.0 ≡ record (with_shared_texts p) { sample = p.sample }) }
     ensures ids { IfOk result (λ r. r.1 ≡ Ids.By (ids bytes_eq p.text)) }
 
@@ -22,7 +27,7 @@ pub fn share_texts(alloc: Global, mut p: Profile) -> Result<(Profile, Ids), Memo
     ensures few { OnOk result (length p.text < 2 ^ 62) }
 {
     let texts = mem::replace(&mut p.text, List::new(alloc));
-    let (texts, ids) = number_texts(alloc, texts)?;
+    let (texts, ids) = number_texts(alloc, hash_keys, texts)?;
     p.text = texts;
     let mut by = Renumbering {
         text: Ids::By(ids),
@@ -37,12 +42,16 @@ pub fn share_texts(alloc: Global, mut p: Profile) -> Result<(Profile, Ids), Memo
 }
 
 // The texts without repeats, and the id of each: its place among them plus 1.
-fn number_texts(alloc: Global, texts: List<Text>) -> Result<(List<Text>, List<u64>), Memory>
+fn number_texts(
+    alloc: Global,
+    hash_keys: HashKeys,
+    texts: List<Text>,
+) -> Result<(List<Text>, List<u64>), Memory>
     ensures table { IfOk result (λ r. r.0 ≡ distinct bytes_eq texts) }
     ensures ids { IfOk result (λ r. r.1 ≡ ids bytes_eq texts) }
 {
     let keys = text_keys(alloc, texts)?;
-    let (keys, ids) = number_each(alloc, keys)?;
+    let (keys, ids) = number_each(alloc, hash_keys, keys)?;
     let texts = texts_of(alloc, keys)?;
     Ok((texts, ids))
 }
@@ -51,7 +60,7 @@ fn number_texts(alloc: Global, texts: List<Text>) -> Result<(List<Text>, List<u6
 fn text_keys(alloc: Global, texts: List<Text>) -> Result<Vec<Vec<u8>>, Memory>
     ensures { IfOk result (λ keys. map (λ key. key.items) keys.items ≡ texts) }
 {
-    let mut keys = Vec::new(alloc);
+    let mut keys = Vec::with_capacity(alloc, texts.len())?;
     for text in texts.into_vec() {
         keys.push(text.into_vec())?;
     }

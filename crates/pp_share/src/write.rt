@@ -16,6 +16,7 @@ use crate::placing::place_samples;
 use crate::renumbering::{Renumbering, renumber_tables};
 use crate::walk::{Functions, Mappings, Refers, Texts, meet_each};
 use pp_base::Memory;
+use pp_keys::HashKeys;
 use pp_model::{Function, Location, Mapping, Profile, ValueType};
 use pp_steal::{PIECE, Resources};
 use std::alloc::Global;
@@ -25,12 +26,17 @@ use std::thread::Threads;
 /// The profile, whose samples still get new ids, with what these name, in the order in which a walk over them meets it:
 /// mappings after the first one, locations, functions, and texts after text 0. Ids are places plus 1, and all else is
 /// left out.
-pub fn write(alloc: Global, mut p: Profile, samples: &Renumbering) -> Result<Profile, Memory>
+pub fn write(
+    alloc: Global,
+    hash_keys: HashKeys,
+    mut p: Profile,
+    samples: &Renumbering,
+) -> Result<Profile, Memory>
     ensures { IfOk result (IsWalked (with_new_samples (new_ids samples.now) p)) }
 {
-    let mut texts = first_texts(alloc, &p)?;
-    let locations = keep_locations(alloc, &mut p, samples, &mut texts)?;
-    write_named(alloc, p, texts, locations)
+    let mut texts = first_texts(alloc, hash_keys, &p)?;
+    let locations = keep_locations(alloc, hash_keys, &mut p, samples, &mut texts)?;
+    write_named(alloc, hash_keys, p, texts, locations)
 }
 
 /// The profile that `write` gives, where the samples name locations of the table. `with.workers` threads write most of
@@ -44,23 +50,24 @@ pub fn write_on<R: Threads + Sync>(
     ensures { IfOk result (IsWalked (with_new_samples (new_ids samples.now) p)) }
 {
     if with.workers == 1 || p.sample.len() <= PIECE {
-        return write(with.alloc, p, samples);
+        return write(with.alloc, with.keys, p, samples);
     }
-    let mut texts = first_texts(with.alloc, &p)?;
+    let mut texts = first_texts(with.alloc, with.keys, &p)?;
     let locations = keep_locations_on(with, &mut p, samples, &mut texts)?;
-    write_named(with.alloc, p, texts, locations)
+    write_named(with.alloc, with.keys, p, texts, locations)
 }
 
 // The profile, of which the samples and the locations are written, and name these texts and locations.
 fn write_named(
     alloc: Global,
+    hash_keys: HashKeys,
     mut p: Profile,
     mut texts: Met,
     locations: Met,
 ) -> Result<Profile, Memory>
     ensures { (whole : Profile) → IsNamed whole p texts locations → IfOk result (IsWalked whole) }
 {
-    let (mappings, functions) = keep_entries(alloc, &mut p, &mut texts)?;
+    let (mappings, functions) = keep_entries(alloc, hash_keys, &mut p, &mut texts)?;
     let by = Renumbering {
         text: Ids::Listed(texts),
         mapping: Ids::Listed(mappings),
@@ -73,7 +80,12 @@ fn write_named(
 }
 
 // Keeps the mappings and the functions of the locations, and the texts of all, and gives the ids of the former in order.
-fn keep_entries(alloc: Global, p: &mut Profile, texts: &mut Met) -> Result<(Met, Met), Memory>
+fn keep_entries(
+    alloc: Global,
+    hash_keys: HashKeys,
+    p: &mut Profile,
+    texts: &mut Met,
+) -> Result<(Met, Met), Memory>
     ensures mappings { IfOk result (λ met. met.0 ≡ mappings_met p.old) }
     ensures functions { IfOk result (λ met. met.1 ≡ functions_met (with_mappings p.old)) }
     ensures met { OnOk result (texts.new
@@ -81,17 +93,17 @@ fn keep_entries(alloc: Global, p: &mut Profile, texts: &mut Met) -> Result<(Met,
     ensures few { OnOk result (length texts.new < 2 ^ 62) }
     ensures kept { OnOk result (p.new ≡ with_texts texts.new (with_functions (with_mappings p.old))) }
 {
-    let mappings = keep_mappings(alloc, p)?;
-    let functions = keep_functions(alloc, p)?;
+    let mappings = keep_mappings(alloc, hash_keys, p)?;
+    let functions = keep_functions(alloc, hash_keys, p)?;
     keep_texts(alloc, p, texts)?;
     Ok((mappings, functions))
 }
 
 // Meets the texts that are numbered before those of samples.
-fn first_texts(alloc: Global, p: &Profile) -> Result<Met, Memory>
+fn first_texts(alloc: Global, hash_keys: HashKeys, p: &Profile) -> Result<Met, Memory>
     ensures { IfOk result (λ met. met ≡ met_after [] (first_text_ids p.now)) }
 {
-    let mut met = Met::new(alloc, p.text.len().saturating_add(1))?;
+    let mut met = Met::new(alloc, hash_keys, p.text.len().saturating_add(1))?;
     met.meet(1)?;
     meet_each::<Texts, ValueType>(p.sample_type.as_slice(), &mut met)?;
     Ok(met)
@@ -100,6 +112,7 @@ fn first_texts(alloc: Global, p: &Profile) -> Result<Met, Memory>
 // Keeps the locations of the samples, which get their new ids, and gives the ids of what is kept in order.
 fn keep_locations(
     alloc: Global,
+    hash_keys: HashKeys,
     p: &mut Profile,
     by: &Renumbering,
     texts: &mut Met,
@@ -107,7 +120,7 @@ fn keep_locations(
     requires { texts.old ≡ met_after [] (first_text_ids p.old) }
     ensures { IfOk result (IsNamed (with_new_samples (new_ids by.now) p.old) p.new texts.new) }
 {
-    let mut met = Met::new(alloc, p.location.len().saturating_add(1))?;
+    let mut met = Met::new(alloc, hash_keys, p.location.len().saturating_add(1))?;
     place_samples(&mut p.sample, by, &mut met, texts)?;
     p.location = gather(alloc, p.location.as_slice(), met.as_slice())?;
     Ok(met)
@@ -124,18 +137,18 @@ fn keep_locations_on<R: Threads + Sync>(
     requires first { texts.old ≡ met_after [] (first_text_ids p.old) }
     ensures { IfOk result (IsNamed (with_new_samples (new_ids by.now) p.old) p.new texts.new) }
 {
-    let mut met = Met::new(with.alloc, p.location.len().saturating_add(1))?;
+    let mut met = Met::new(with.alloc, with.keys, p.location.len().saturating_add(1))?;
     place_samples_on(with, p, by, &mut met, texts)?;
     p.location = gather(with.alloc, p.location.as_slice(), met.as_slice())?;
     Ok(met)
 }
 
 // Keeps the first mapping and those of the locations, and gives their ids in order.
-fn keep_mappings(alloc: Global, p: &mut Profile) -> Result<Met, Memory>
+fn keep_mappings(alloc: Global, hash_keys: HashKeys, p: &mut Profile) -> Result<Met, Memory>
     ensures met { IfOk result (λ met. met ≡ mappings_met p.old) }
     ensures kept { OnOk result (p.new ≡ with_mappings p.old) }
 {
-    let mut met = Met::new(alloc, p.mapping.len().saturating_add(1))?;
+    let mut met = Met::new(alloc, hash_keys, p.mapping.len().saturating_add(1))?;
     met.meet(first_id(p))?;
     meet_each::<Mappings, Location>(p.location.as_slice(), &mut met)?;
     p.mapping = gather(alloc, p.mapping.as_slice(), met.as_slice())?;
@@ -150,11 +163,11 @@ fn first_id(p: &Profile) -> u64
 }
 
 // Keeps the functions of the locations, and gives their ids in order.
-fn keep_functions(alloc: Global, p: &mut Profile) -> Result<Met, Memory>
+fn keep_functions(alloc: Global, hash_keys: HashKeys, p: &mut Profile) -> Result<Met, Memory>
     ensures met { IfOk result (λ met. met ≡ functions_met p.old) }
     ensures kept { OnOk result (p.new ≡ with_functions p.old) }
 {
-    let mut met = Met::new(alloc, p.function.len().saturating_add(1))?;
+    let mut met = Met::new(alloc, hash_keys, p.function.len().saturating_add(1))?;
     meet_each::<Functions, Location>(p.location.as_slice(), &mut met)?;
     p.function = gather(alloc, p.function.as_slice(), met.as_slice())?;
     Ok(met)

@@ -5,5 +5,5 @@ use Rattle.pp_share.proofs.met.Met.new.Goals as goal
 
 pub invariant_of-result : goal.invariant_of-result
 invariant_of-result c =
-    subst (λ keys. HoldsPlaces keys c.in_ok-places.places.items) (sym c.new.ensures.empty)
+    subst (λ keys. HoldsPlaces keys c.in_ok-places.places.items) (sym c.with_hasher.ensures.empty)
     (subst (HoldsPlaces []) (sym (c.in_ok-places.ensures.items_if_clones_equal (λ y is. is))) (none_placed c.args.room))
