@@ -5,6 +5,7 @@ ghost use Rattle.pp_count.specs.Counts.{samples_at};
 ghost use Rattle.pp_dump.specs.Places.{CanCut, AddsSamples, PlacesLeft};
 
 use pp_base::{List, Memory};
+use pp_keys::HashKeys;
 use pp_model::{Label, Loaded, Profile, Sample, Stack, Verdicts};
 use pp_restack::{Places, no_items, place_stack, places_of, sample_with};
 use pp_stack::{VerdictTables, filter_into, keeps_all};
@@ -34,7 +35,7 @@ pub fn none_cut(alloc: Global, p: &Profile, room: usize) -> Result<Cut, Memory>
 {
     Ok(Cut {
         samples: no_items(alloc, room)?,
-        places: places_of(alloc, p)?,
+        places: places_of(alloc, HashKeys::fixed(), p)?,
         stack: List::new(alloc),
         ids: List::new(alloc),
         labels: List::new(alloc),

@@ -1,7 +1,7 @@
 //! CPU profiles as gperftools writes them (gperftools, "CPU Profile format"), read as the tables of a profile.
 //!
-//! A file is words of 64 bits, the lowest byte first: a header, records of a count, a depth and so many addresses, and
-//! a trailer. Behind it stands the text of the process's mapped regions. A file is read in one pass, whatever its words
+//! A file is words of 64 bits, the lowest byte first: a header, records of a count, a depth and as many addresses,
+//! and a trailer. Behind it stands the text of the process's mapped regions. A file is read in one pass, whatever its words
 //! say.
 #![tactic(auto)]
 

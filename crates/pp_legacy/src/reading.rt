@@ -15,6 +15,7 @@ use crate::regions::{mappings_of, regions_in, texts_of};
 use crate::samples::samples_of;
 use crate::words::bytes_from;
 use pp_base::{List, Memory};
+use pp_keys::HashKeys;
 use pp_model::{Profile, Valid, ValueType};
 use std::alloc::Global;
 
@@ -24,8 +25,7 @@ const SAMPLES: ValueType = ValueType { kind: 1, unit: 2 };
 const CPU: ValueType = ValueType { kind: 3, unit: 4 };
 
 /// Whether a file is a CPU profile as gperftools writes it: it has 16 bytes or more, and the first eight are 0. No
-/// message
-/// `Profile` of profile.proto begins so, since 0 is no field number.
+/// message `Profile` of profile.proto begins so, since 0 is no field number.
 pub fn is_legacy(bytes: &[u8]) -> bool
     ensures { result ≡ is_legacy bytes.now }
 {
@@ -36,8 +36,9 @@ pub fn is_legacy(bytes: &[u8]) -> bool
 }
 
 /// The profile of such a file: samples/count and cpu/nanoseconds, each stack of addresses a sample, each address a
-/// location in the first mapping that holds it. Or the first fault of the file.
-pub fn read_legacy(alloc: Global, bytes: &[u8]) -> Result<Valid, LegacyRefusal>
+/// location in the first mapping that holds it. Or the first fault of the file. `keys` are those of the table of
+/// addresses, on which no answer depends.
+pub fn read_legacy(alloc: Global, keys: HashKeys, bytes: &[u8]) -> Result<Valid, LegacyRefusal>
     requires { IsTrue (is_legacy bytes.now) }
     ensures read { GivesOrMemory (λ p. p) result (legacy bytes.now) }
     ensures few { IfOk result (HasAtMost (length bytes.now)) }
@@ -47,6 +48,7 @@ pub fn read_legacy(alloc: Global, bytes: &[u8]) -> Result<Valid, LegacyRefusal>
     let regions = regions_in(alloc, bytes_from(bytes, found.text))?;
     let profile = profile_of(
         alloc,
+        keys,
         head.nanos,
         found.records.as_slice(),
         regions.as_slice(),
@@ -54,10 +56,11 @@ pub fn read_legacy(alloc: Global, bytes: &[u8]) -> Result<Valid, LegacyRefusal>
     Ok(Valid::claim(profile))
 }
 
-// The tables, where a period has so many nanoseconds.
+// The tables, where a period has `nanos` nanoseconds.
 #[tactic(auto, unfolding(crate::specs::Tables::legacy_profile))]
 fn profile_of(
     alloc: Global,
+    keys: HashKeys,
     nanos: u64,
     records: &[Record<'_>],
     regions: &[Region<'_>],
@@ -65,7 +68,7 @@ fn profile_of(
     requires { nanos < 2 ^ 63 }
     ensures { IfOk result (λ p. p ≡ legacy_profile nanos (map entry_of records.now) (regions_of regions.now)) }
 {
-    let stacks = samples_of(alloc, records)?;
+    let stacks = samples_of(alloc, keys, records)?;
     let mappings = mappings_of(alloc, regions)?;
     let locations = locations_of(alloc, mappings.as_slice(), stacks.addresses.as_slice())?;
     Ok(Profile {

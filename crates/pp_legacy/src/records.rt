@@ -40,7 +40,7 @@ pub struct Records<'a> {
     pub text: u64,
 }
 
-/// The records from a word on, where a period has so many nanoseconds.
+/// The records from the word at `first` on, where a period has `nanos` nanoseconds.
 pub fn records_of<'a>(
     alloc: Global,
     bytes: &'a [u8],

@@ -10,6 +10,7 @@ use crate::records::Record;
 use crate::words::{word_count, word_of};
 use indexmap::IndexSet;
 use pp_base::{List, Memory};
+use pp_keys::HashKeys;
 use pp_model::Sample;
 use std::alloc::Global;
 
@@ -19,16 +20,16 @@ pub struct Samples {
     /// A sample for each record, in their order, with two values: the count, and its nanoseconds.
     pub samples: List<Sample>,
     /// The addresses without repeats, in the order of first sight. The location id of one is its place here plus 1.
-    pub addresses: IndexSet<u64>,
+    pub addresses: IndexSet<u64, HashKeys>,
 }
 
-/// The samples of the records, in order.
-pub fn samples_of(alloc: Global, records: &[Record<'_>]) -> Result<Samples, Memory>
+/// The samples of `records`, in order. `keys` are those of the table of addresses.
+pub fn samples_of(alloc: Global, keys: HashKeys, records: &[Record<'_>]) -> Result<Samples, Memory>
     ensures addresses { IfOk result (λ s. s.addresses.keys ≡ addresses_of (map entry_of records.now)) }
     ensures samples { IfOk result (λ s. s.samples ≡ map (entry_sample (addresses_of (map entry_of records.now))) (map entry_of records.now)) }
 {
     let mut samples = List::new(alloc);
-    let mut addresses = IndexSet::new(alloc);
+    let mut addresses = IndexSet::with_hasher(alloc, keys);
     for entry in records {
         samples.push(sample_of(alloc, entry, &mut addresses)?)?;
     }
@@ -39,7 +40,7 @@ pub fn samples_of(alloc: Global, records: &[Record<'_>]) -> Result<Samples, Memo
 fn sample_of(
     alloc: Global,
     entry: &Record<'_>,
-    addresses: &mut IndexSet<u64>,
+    addresses: &mut IndexSet<u64, HashKeys>,
 ) -> Result<Sample, Memory>
     ensures addresses { OnOk result (addresses.new.keys ≡ seen_after nat_eq addresses.old.keys (whole_words entry.now.stack.now)) }
     ensures sample { IfOk result (λ s. s ≡ entry_sample addresses.new.keys (entry_of entry.now)) }
@@ -56,7 +57,7 @@ fn sample_of(
 fn location_ids(
     alloc: Global,
     stack: &[u8],
-    addresses: &mut IndexSet<u64>,
+    addresses: &mut IndexSet<u64, HashKeys>,
 ) -> Result<Vec<u64>, Memory>
     ensures addresses { OnOk result (addresses.new.keys ≡ seen_after nat_eq addresses.old.keys (whole_words stack.now)) }
     ensures ids { IfOk result (λ ids. ids.items ≡ map (location_id addresses.new.keys) (whole_words stack.now)) }
@@ -71,7 +72,7 @@ fn location_ids(
 }
 
 // The id of an address's location: its place among the addresses, plus 1. An address that is new goes last.
-fn id_of(address: u64, addresses: &mut IndexSet<u64>) -> Result<u64, Memory>
+fn id_of(address: u64, addresses: &mut IndexSet<u64, HashKeys>) -> Result<u64, Memory>
     ensures addresses { OnOk result (addresses.new.keys ≡ seen_with nat_eq addresses.old.keys address) }
     ensures id { IfOk result (λ id. id ≡ place_of nat_eq addresses.old.keys address + 1) }
 {

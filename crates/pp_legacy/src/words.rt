@@ -68,7 +68,7 @@ pub fn word_at(bytes: &[u8], at: u64) -> Result<u64, LegacyFault>
     }
 }
 
-/// The place behind so many words, which have to be there.
+/// The place behind `count` words from `at` on, which have to be there.
 pub fn behind_words(bytes: &[u8], at: u64, count: u64) -> Result<u64, LegacyFault>
     ensures { result ≡ behind_words (whole_words bytes.now) at count }
 {

@@ -15,7 +15,7 @@ use pp_steal::Resources;
 use std::alloc::Global;
 use std::thread::Threads;
 
-/// The profiles, of which so many are sources and the others bases, as one. All are compared with the first source,
+/// The profiles as one: the first `sources` are sources, and the others bases. All are compared with the first source,
 /// then the sources are merged, then the bases, which are taken off the sources at last.
 #[tactic(auto, using(crate::proofs::Giving::giving), unfolding(crate::specs::Combine::combined))]
 pub fn combine<R: Threads + Sync>(

@@ -10,6 +10,7 @@ ghost use Rattle.pp_model.specs.Sizes.{HasAtMost};
 use crate::refusal::LoadRefusal;
 use pp_check::{CheckRefusal, check_on};
 use pp_desk::{Halt, Stop};
+use pp_keys::HashKeys;
 use pp_legacy::{LegacyRefusal, is_legacy, read_legacy};
 use pp_model::Profile;
 use pp_share::Hashed;
@@ -31,18 +32,23 @@ pub fn decode<R: Threads + Sync>(
     ensures few { IfOk result (HasAtMost (length bytes.now)) }
 {
     if is_legacy(bytes) {
-        return decode_legacy(with.alloc, source, bytes);
+        return decode_legacy(with.alloc, with.keys, source, bytes);
     }
     decode_tables(with, source, bytes)
 }
 
 #[tactic(auto, unfolding(crate::specs::Steps::Loads))]
-fn decode_legacy(alloc: Global, source: u32, bytes: &[u8]) -> Result<Hashed, Halt<LoadRefusal>>
+fn decode_legacy(
+    alloc: Global,
+    keys: HashKeys,
+    source: u32,
+    bytes: &[u8],
+) -> Result<Hashed, Halt<LoadRefusal>>
     requires { IsTrue (is_legacy bytes.now) }
     ensures is { Loads (legacy_given source (legacy bytes.now)) result }
     ensures few { IfOk result (HasAtMost (length bytes.now)) }
 {
-    match read_legacy(alloc, bytes) {
+    match read_legacy(alloc, keys, bytes) {
         Ok(valid) => Ok(Hashed::new(alloc, valid)?),
         Err(LegacyRefusal::Fault(fault)) => {
             Err(Halt::Refused(LoadRefusal::Legacy { source, fault }))

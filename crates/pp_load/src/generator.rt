@@ -9,7 +9,7 @@ use pp_model::{Function, Label, Line, Location, Profile, Sample, Valid, ValueTyp
 use pp_tables::write_profile;
 use std::alloc::Global;
 
-/// The bytes of a profile of so many samples, from 1 to 1,000,000, of the types samples/count and cpu/nanoseconds.
+/// The bytes of a profile with `samples` samples, from 1 to 1,000,000, of the types samples/count and cpu/nanoseconds.
 /// Sample i goes from main through fn0, fn1 and so on to fnd, where d is i modulo 8. Its values are 1 and (d + 1) *
 /// 1000, and a number label `id` has the value i.
 pub fn gen_profile(alloc: Global, samples: u32) -> Result<Text, Memory>
@@ -22,7 +22,7 @@ pub fn gen_profile(alloc: Global, samples: u32) -> Result<Text, Memory>
     write_profile(alloc, merged.valid())
 }
 
-// The profile of so many samples, as it is before it is merged alone.
+// The profile with `samples` samples, as it is before it is merged alone.
 fn made(alloc: Global, samples: u32) -> Result<Profile, Memory>
     ensures { IfOk result (λ p. p ≡ made samples) }
 {

@@ -194,7 +194,7 @@ fn add<R: Threads + Sync>(
     Ok(push(read, profile, len)?)
 }
 
-// So many bytes more are not too many.
+// Refuses `len` further bytes where all would be more than `SIZE_LIMIT`.
 #[tactic(auto, unfolding(crate::specs::Steps::Loads))]
 fn fit(read: &Read, len: u64) -> Result<(), Halt<LoadRefusal>>
     requires few { read.now.size ≤ size_limit }

@@ -12,6 +12,7 @@ use crate::frames::{FrameKeys, Frames, put_frames};
 use crate::growing::grow;
 use crate::names::FrameNames;
 use pp_base::{List, Memory, Text};
+use pp_keys::HashKeys;
 use pp_merge::merge_alone;
 use pp_model::{Loaded, Profile, Sample, Valid};
 use pp_restack::{no_items, places_of, sample_with, with_cut};
@@ -49,7 +50,7 @@ fn tagged_alone(alloc: Global, l: &Loaded, roots: &[Text], leaves: &[Text]) -> R
 {
     let p = l.profile.get();
     let mut samples = no_items(alloc, p.sample.len())?;
-    let places = places_of(alloc, p)?;
+    let places = places_of(alloc, HashKeys::fixed(), p)?;
     let mut frames = Frames {
         names: FrameNames::new(alloc),
         places,

@@ -53,7 +53,7 @@ pub fn sample_with(
     })
 }
 
-/// The same items, in a list of just their size.
+/// A copy of the items, in a list of just their size.
 pub fn same_items<T: Copy>(alloc: Global, items: &[T]) -> Result<List<T>, Memory>
     ensures { IfOk result (λ list. list ≡ items.now) }
 {
@@ -62,7 +62,7 @@ pub fn same_items<T: Copy>(alloc: Global, items: &[T]) -> Result<List<T>, Memory
     Ok(list)
 }
 
-/// No items, with room for so many.
+/// No items, with room for `room`.
 pub fn no_items<T>(alloc: Global, room: usize) -> Result<List<T>, Memory>
     ensures { IfOk result (λ items. items ≡ []) }
 {
@@ -93,7 +93,7 @@ fn same_texts(alloc: Global, texts: &[Text]) -> Result<List<Text>, Memory>
     Ok(list)
 }
 
-/// The same locations.
+/// A copy of the locations.
 pub fn same_locations(alloc: Global, locations: &[Location]) -> Result<List<Location>, Memory>
     ensures { IfOk result (λ list. list ≡ locations.now) }
 {

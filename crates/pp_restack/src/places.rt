@@ -7,39 +7,47 @@ ghost use Rattle.pp_model.specs.Rules.{NoRuleFails};
 ghost use Rattle.pp_restack.specs.Stacks.{lines_of_frames, cut_location};
 ghost use Rattle.pp_restack.specs.Places.{with_lines, without_id, line_location, KeepsPlaces, TakesPlace, IsEntry};
 
-use crate::copying::{no_items, same_items, same_locations};
+use crate::copying::{same_items, same_locations};
 use pp_base::{List, Memory};
+use pp_keys::HashKeys;
 use pp_model::{Frame, Line, Location, Profile};
 use std::alloc::Global;
+use std::collections::HashMap;
+use std::hash::BuildHasher;
 
 /// Locations whose ids are places plus 1.
 #[derive(Drop)]
 pub struct Places {
     /// Those of the profile, in its order, and behind them those that were cut from them.
     pub locations: List<Location>,
-    /// For each location of the profile the place of the one that was cut from it last, 0 where there is none.
-    pub hints: List<u64>,
+    /// The places of the locations that were cut, the last one of each key.
+    pub cuts: HashMap<Cut, u64, HashKeys>,
     /// The lines of the group that is placed.
     pub lines: List<Line>,
 }
 
-/// The locations of the profile, none of which is cut.
-pub fn places_of(alloc: Global, p: &Profile) -> Result<Places, Memory>
+/// What a location was cut by. Two cuts may have one such key, so the lines are compared too.
+#[derive(Clone, Copy, Debug, PartialEq, Eq, Hash, Drop)]
+pub struct Cut {
+    /// The place of the location that is cut, or the place behind all of them.
+    pub place: u64,
+    /// The hash of the lines that are left.
+    pub lines: u64,
+}
+
+/// The locations of the profile, none of which is cut. `keys` are those of the table of cut locations.
+pub fn places_of(alloc: Global, keys: HashKeys, p: &Profile) -> Result<Places, Memory>
     ensures { IfOk result (λ places. places.locations ≡ p.now.location) }
 {
-    let mut hints = no_items(alloc, p.location.len())?;
-    for _ in 0..p.location.len() {
-        hints.push(0)?;
-    }
     Ok(Places {
         locations: same_locations(alloc, p.location.as_slice())?,
-        hints,
+        cuts: HashMap::with_hasher(alloc, keys),
         lines: List::new(alloc),
     })
 }
 
-/// The id of a location with the lines of these frames alone. It is added where neither the whole location nor the last
-/// one that was cut from it has just these lines.
+/// The id of a location with the lines of the frames of `group` alone. It is added where neither the whole location nor
+/// one that was cut before has just these lines.
 pub fn place_group(
     alloc: Global,
     p: &Profile,
@@ -61,8 +69,7 @@ pub fn place_group(
     place_lines(alloc, location, place, places)
 }
 
-// The id of a location like this one, with the lines that were read. It may stand at the place already, or where the
-// hint says.
+// The id of a location like `location`, with the lines that were read. It may stand at `place`, or where one was cut.
 fn place_lines(
     alloc: Global,
     location: &Location,
@@ -78,24 +85,24 @@ fn place_lines(
     if let Some(id) = entry_at(places, place, location) {
         return Ok(id);
     }
-    let hint = hint_at(places, place);
-    if let Some(id) = entry_at(places, hint, location) {
+    let cut = cut_at(places, place);
+    if let Some(id) = cut_before(places, cut, location) {
         return Ok(id);
     }
     let id = add(alloc, location, places)?;
-    set_hint(places, place, id - 1);
+    keep(places, cut, id - 1)?;
     Ok(id)
 }
 
-/// The id of a location of this one line, of which nothing else is known. `place` tells where the hint to it is; the
-/// place behind all hints gets a new one.
+/// The id of a location of the one line `line`, of which nothing else is known. `place` is kept with it, so that it is
+/// found again by that place and that line.
 pub fn place_line(alloc: Global, line: Line, place: u64, places: &mut Places) -> Result<u64, Memory>
     ensures places { OnOk result (TakesPlace (line_location line)
         places.old.locations places.new.locations) }
     ensures front { OnOk result (IsFront places.old.locations places.new.locations) }
     ensures entry { IfOk result (λ id. IsEntry places.new.locations (line_location line) id) }
 {
-    set_line(line, place, places)?;
+    set_line(line, places)?;
     let bare = Location {
         id: 0,
         mapping_id: 0,
@@ -106,17 +113,13 @@ pub fn place_line(alloc: Global, line: Line, place: u64, places: &mut Places) ->
     place_lines(alloc, &bare, place, places)
 }
 
-// Has this line placed next, with a hint at the place.
-fn set_line(line: Line, place: u64, places: &mut Places) -> Result<(), Memory>
+// Has `line` placed next, alone.
+fn set_line(line: Line, places: &mut Places) -> Result<(), Memory>
     ensures locations { places.new.locations ≡ places.old.locations }
     ensures lines { OnOk result (places.new.lines ≡ line ∷ []) }
 {
     places.lines.truncate(0);
-    places.lines.push(line)?;
-    if places.hints.len() as u64 == place {
-        places.hints.push(0)?;
-    }
-    Ok(())
+    places.lines.push(line)
 }
 
 // The lines of the frames, in the place of what was there.
@@ -181,21 +184,31 @@ fn are_same(lines: &[Line], others: &[Line]) -> bool
     lines == others
 }
 
-// Where the location stands that was cut last from the one at this place, 0 where there is none.
-fn hint_at(places: &Places, place: u64) -> u64 {
-    match places.hints.as_slice().get(place as usize) {
-        None => 0,
-        Some(hint) => *hint,
+// By what the location at `place` is cut to the lines that were read.
+fn cut_at(places: &Places, place: u64) -> Cut {
+    Cut {
+        place,
+        lines: places.cuts.hasher().hash_one(places.lines.as_slice()),
     }
 }
 
-fn set_hint(places: &mut Places, place: u64, hint: u64)
+// The id of the location that was cut so, where it is `location` with the lines that were read.
+fn cut_before(places: &Places, cut: Cut, location: &Location) -> Option<u64>
+    ensures { IfSome result (IsEntry places.now.locations
+        (with_lines location.now places.now.lines)) }
+{
+    match places.cuts.get(&cut) {
+        None => None,
+        Some(at) => entry_at(places, *at, location),
+    }
+}
+
+// Keeps the place of the location that was cut so.
+fn keep(places: &mut Places, cut: Cut, at: u64) -> Result<(), Memory>
     ensures { places.new.locations ≡ places.old.locations }
 {
-    let place = place as usize;
-    if place < places.hints.len() {
-        *places.hints.item_mut(place) = hint;
-    }
+    places.cuts.insert(cut, at)?;
+    Ok(())
 }
 
 // Adds such a location with the lines that were read.

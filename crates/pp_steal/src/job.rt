@@ -15,8 +15,7 @@ pub trait Job: Sync {
     ghost right: { Self → ℕ → Self.Out → Type 0 };
 
     /// The outcome of the piece. By `Err` the lane that asked stops: it takes no further piece, and `run_pieces`
-    /// answers
-    /// `Memory`.
+    /// answers `Memory`.
     fn run(&self, piece: u32) -> Result<Self::Out, Memory>
         requires { piece < pieces self.now }
         ensures { IfOk result (right self.now piece) };

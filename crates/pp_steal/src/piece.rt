@@ -6,7 +6,7 @@ ghost use Rattle.pp_steal.specs.Pieces.{piece_of};
 /// How many items a piece has. The last piece may have fewer.
 pub const PIECE: usize = 1024;
 
-/// How many pieces so many items make.
+/// How many pieces `len` items make.
 pub fn pieces_of(len: usize) -> u32
     requires { len < 2 ^ 32 }
     ensures within { PIECE * result < len + PIECE }

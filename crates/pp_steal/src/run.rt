@@ -16,8 +16,7 @@ use std::thread::Threads;
 /// where one can be made.
 ///
 /// Around each piece the gate's `enter` and `leave` are called. A lane whose job wants memory stops, and the answer is
-/// then
-/// `Memory`. Where none stopped, the caller runs what the lanes left, the lowest piece first. Where `pieces` is 0,
+/// then `Memory`. Where none stopped, the caller runs what the lanes left, the lowest piece first. Where `pieces` is 0,
 /// neither the job nor the gate is called. The outcomes do not tell which lane took which piece, nor when.
 pub fn run_pieces<R: Threads + Sync, J: Job, G: Gate>(
     rt: &R,

@@ -83,7 +83,7 @@ pub(crate) fn push_packed<N: Packable>(
     Ok(())
 }
 
-// The place in the row for the next number, of which so many come before it. A full row is added first.
+// Where the number at index `count` goes in the row. A full row is added to the list first.
 fn next_place<N: Packable>(
     alloc: Global,
     list: &mut List<N>,
@@ -138,7 +138,7 @@ fn make_room<T: Drop>(
     Ok(())
 }
 
-/// An empty list with room for so many items.
+/// An empty list with room for `count` items.
 pub(crate) fn with_room<T>(alloc: Global, count: usize) -> Result<List<T>, Memory>
     ensures { IfOk result (λ list. list ≡ []) }
 {
