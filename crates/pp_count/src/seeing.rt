@@ -12,7 +12,7 @@ use crate::scope::Scope;
 use pp_base::Memory;
 use pp_grain::counted;
 use pp_model::{Frame, Sample, Stack};
-use pp_stack::{filter_into, keeps_all};
+use pp_stack::{cuts_nothing, filter_into, keeps_sample};
 use pp_tags::tag_kept;
 
 /// The key numbers of the sample's counted frames, leaf first, in the place of what `keys` held. False says that the
@@ -40,7 +40,10 @@ pub fn see(
     if !tag_kept(scope.l, scope.v, &filters.tagfocus, &filters.tagignore, s) {
         return Ok(false);
     }
-    if !scope.config.noinlines && keeps_all(scope.l, scope.v) {
+    if !scope.config.noinlines && cuts_nothing(scope.l, scope.v) {
+        if !keeps_sample(scope.l, scope.v, &filters.tables, s) {
+            return Ok(false);
+        }
         number_all(scope, s, keys)?;
         return Ok(true);
     }

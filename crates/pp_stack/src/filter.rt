@@ -6,7 +6,7 @@ ghost use Rattle.pp_model.specs.Finders.{Finders, HoldsFinders};
 ghost use Rattle.pp_model.specs.Frames.{stack_of};
 ghost use Rattle.pp_model.specs.FrameTexts.{written};
 ghost use Rattle.pp_stack.specs.Runs.{kept_if};
-ghost use Rattle.pp_stack.specs.Filters.{filtered, kept_frames, left_of_cut, frames_of_sample, stack_of_sample};
+ghost use Rattle.pp_stack.specs.Filters.{filtered, is_kept, kept_frames, left_of_cut, frames_of_sample, stack_of_sample};
 ghost use Rattle.pp_stack.specs.Tables.{AreTables};
 
 use crate::samples::lacks_focus;
@@ -117,6 +117,19 @@ fn shorten(l: &Loaded, v: &Verdicts, tables: &VerdictTables, stack: &mut Stack) 
     }
     prune_from(l, v, stack);
     true
+}
+
+/// Whether no filter takes frames off a stack: a sample that ignore and focus keep has its whole stack.
+pub fn cuts_nothing(l: &Loaded, v: &Verdicts) -> bool
+    ensures { (f : Finders) → HoldsFinders l.now v.now f → result ≡ true → (s : Sample) →
+        frames_of_sample l.now.profile f s ≡ kept_if
+        (is_kept (written l.now.profile) f (stack_of l.now.profile s)) (stack_of l.now.profile s) }
+{
+    l.drop.is_none()
+        && v.hide.is_none()
+        && v.show.is_none()
+        && v.show_from.is_none()
+        && v.prune_from.is_none()
 }
 
 /// Whether no stack filter is in force, so that each sample is kept with its whole stack.

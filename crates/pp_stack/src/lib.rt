@@ -11,9 +11,9 @@ mod stages;
 mod table;
 mod tables;
 
-pub use filter::{filter_into, filter_stack, keeps_all};
+pub use filter::{cuts_nothing, filter_into, filter_stack, keeps_all};
 pub use runs::finds_some;
-pub use samples::finds_sample;
+pub use samples::{finds_sample, keeps_sample};
 pub use stages::{cut, kept, load_prune, prune_from, show_from};
 pub use table::VerdictTable;
 pub use tables::VerdictTables;

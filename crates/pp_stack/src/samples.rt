@@ -7,7 +7,7 @@ ghost use Rattle.pp_model.specs.Finders.{Finder, Finders, HoldsFinders};
 ghost use Rattle.pp_model.specs.Frames.{rows, lines_at, stack_of};
 ghost use Rattle.pp_model.specs.FrameTexts.{written};
 ghost use Rattle.pp_model.specs.Judged.{judged};
-ghost use Rattle.pp_stack.specs.Filters.{AreVerdicts, finds_frame, frames_of_sample, stack_of_sample};
+ghost use Rattle.pp_stack.specs.Filters.{AreVerdicts, finds_frame, frames_of_sample, is_kept, stack_of_sample};
 ghost use Rattle.pp_stack.specs.Tables.{AreTables, FitsPattern, IsVerdictTable};
 
 use crate::finding::finds_frame;
@@ -27,15 +27,28 @@ pub fn lacks_focus(l: &Loaded, v: &Verdicts, tables: &VerdictTables, s: &Sample)
         stack_of_sample l.now.profile f s.now ≡ None }
 {
     let _compact = l.profile.get();
-    !finds_if(l, &v.focus, &tables.focus, s)
+    !finds_if(l, &v.focus, &tables.focus, s, true)
 }
 
-// Whether the pattern finds a frame of the sample. True where it isn't in force.
+/// Whether ignore finds no frame of the sample and focus finds one, each where it is in force. Load pruning is left out.
+pub fn keeps_sample(l: &Loaded, v: &Verdicts, tables: &VerdictTables, s: &Sample) -> bool
+    requires sample { RefersTo l.now.profile s.now }
+    requires verdicts { HasVerdicts l.now.profile v.now }
+    requires tables { AreTables l.now.profile v.now tables.now }
+    ensures { (f : Finders) → HoldsFinders l.now v.now f →
+        result ≡ is_kept (written l.now.profile) f (stack_of l.now.profile s.now) }
+{
+    !finds_if(l, &v.ignore, &tables.ignore, s, false)
+        && finds_if(l, &v.focus, &tables.focus, s, true)
+}
+
+// Whether the pattern finds a frame of the sample, or `otherwise` where it isn't in force.
 fn finds_if(
     l: &Loaded,
     found: &Option<List<bool>>,
     table: &Option<VerdictTable>,
     s: &Sample,
+    otherwise: bool,
 ) -> bool
     requires sample { RefersTo l.now.profile s.now }
     requires fits { HasOnePerText l.now.profile found.now }
@@ -43,10 +56,10 @@ fn finds_if(
     ensures { (pattern : Option Finder) → found.now ≡ judged l.now.profile pattern →
         result ≡ option_map_or
         (λ find. list_any (λ x. finds_frame find (written l.now.profile x))
-        (stack_of l.now.profile s.now)) pattern true }
+        (stack_of l.now.profile s.now)) pattern otherwise }
 {
     match found {
-        None => true,
+        None => otherwise,
         Some(found) => finds_sample(l, found, table, s),
     }
 }
