@@ -8,3 +8,5 @@ mod NamedMappings
 mod Admitted
 mod Exchanged
 mod Vanishing
+mod KeptMappings
+mod AnyGroups

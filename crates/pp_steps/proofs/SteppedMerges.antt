@@ -34,7 +34,7 @@ first_by_groups f h [] same = refl
 first_by_groups f h (x ∷ xs) same = first_of (f x) (h x) (flat_map f xs) (flat_map h xs) same.0 (first_by_groups f h xs same.1)
 
 -- what holds of each mapping of what is written holds of those of its samples
-sample_mappings : (c : Contents) (P : MappingText → Type 0) → AllByRecursion P (mappings c)
+pub sample_mappings : (c : Contents) (P : MappingText → Type 0) → AllByRecursion P (mappings c)
     → AllByRecursion (λ s. AllByRecursion (λ l. (m : MappingText) → l.mapping ≡ Some m → P m) s.0.locations) c.samples
 sample_mappings c P all =
     all_by _ _ (λ s seen. all_by (IsSeen same_location (locations c)) _ (λ l there m is.

@@ -1,5 +1,5 @@
 //! How to know that profiles can be merged in steps.
-ghost use Rattle.pp_steps.specs.Premises.{GroupsAddUp, HasEqualMappings, HasFirstMappings, HasWeights, LosesNoMapping, LosesNoSample};
+ghost use Rattle.pp_steps.specs.Premises.{GroupsAddUp, HasEqualMappings, HasFirstMappings, HasWeights, LosesNoMapping, LosesNoSample, NamesMappings};
 ghost use Rattle.pp_steps.specs.Steps.{Group, all_sources, in_steps};
 ghost use Rattle.std.specs.List.{AllByRecursion};
 ghost use Rattle.std.specs.Prelude.{ℕ, List, ◌∷◌};
@@ -8,6 +8,14 @@ ghost use Rattle.std.specs.Prelude.{ℕ, List, ◌∷◌};
 pub fn weights_keep_samples()
     ensures { (columns : ℕ) → (groups : List Group) → GroupsAddUp columns groups
         → AllByRecursion HasWeights (all_sources groups) → AllByRecursion (LosesNoSample columns) groups }
+{}
+
+/// Where in each mapping of the profiles lies a location that a sample names, and no sample comes to nothing, no group
+/// loses a mapping.
+pub fn named_mappings_are_kept()
+    ensures { (columns : ℕ) → (groups : List Group) → GroupsAddUp columns groups
+        → AllByRecursion (LosesNoSample columns) groups
+        → AllByRecursion NamesMappings (all_sources groups) → AllByRecursion LosesNoMapping groups }
 {}
 
 /// Where each mapping of the profiles is one with a mapping of its group's merge, as one that a sample names is, each
