@@ -10,3 +10,4 @@ mod Exchanged
 mod Vanishing
 mod KeptMappings
 mod AnyGroups
+mod MergesNamed

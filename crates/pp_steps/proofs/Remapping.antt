@@ -23,7 +23,7 @@ use Rattle.pp_merge.proofs.SettledLemmas.{all_any, all_flat, all_unmapped, found
 use Rattle.pp_steps.specs.Steps.{remapped_location, remapped_text, remapped}
 
 -- what is there stays as it is
-option_map-same : {A : Type 0} (o : Option A) → option_map (λ x. x) o ≡ o
+pub option_map-same : {A : Type 0} (o : Option A) → option_map (λ x. x) o ≡ o
 option_map-same None = refl
 option_map-same (Some x) = refl
 

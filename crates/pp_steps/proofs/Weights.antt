@@ -24,10 +24,10 @@ use Rattle.pp_steps.specs.Premises.{GroupsAddUp, HasWeights, LosesNoSample}
 use Rattle.pp_steps.specs.Steps.{Group, sources_of, all_sources}
 
 -- a number that is not negative
-abbrev IsNatural : ℤ → Type 0
+abbrev pub IsNatural : ℤ → Type 0
 IsNatural z = (n : ℕ) × (z ≡ pos n)
 
-natural : (z : ℤ) → pos 0 ≤ℤ z → IsNatural z
+pub natural : (z : ℤ) → pos 0 ≤ℤ z → IsNatural z
 natural (pos n) least = (n, refl)
 natural (negsuc n) least = absurd (least.le)
 

@@ -1,7 +1,7 @@
 -- What profiles that are merged in steps have to be like.
-use Rattle.std.specs.Prelude.{◌≡◌, ◌<◌, ◌^◌, ◌≤ℤ◌, ℕ, pos, Bool, true, false, List, [], ◌∷◌, length, map, filter, Some}
+use Rattle.std.specs.Prelude.{◌≡◌, ◌<◌, ◌^◌, ◌≤ℤ◌, ℕ, pos, Bool, true, false, List, [], ◌∷◌, length, map, filter, slice_get, Some}
 use Rattle.std.specs.List.{AllByRecursion, list_all, list_any}
-use Rattle.std.specs.Option.{option_eq}
+use Rattle.std.specs.Option.{option_eq, option_to_list}
 use Rattle.std.specs.Ordering.{int_eq}
 use Rattle.pp_model.specs.declared.profile.Profile.{Profile}
 use Rattle.pp_share.specs.Alike.{same_mapping, equal_mapping, same_sample, first_alike}
@@ -56,11 +56,17 @@ HasEqualMappings sources = AllByRecursion (λ m. first_alike (all_mappings sourc
 abbrev pub lies_in : MappingText → LocationText → Bool
 lies_in m l = option_eq equal_mapping l.mapping (Some m)
 
+-- in the mapping lies a location that a sample of the profile names
+abbrev pub IsNamed : Profile → MappingText → Type 0
+IsNamed p m = list_any (λ s. list_any (lies_in m) s.0.locations) (samples_found (λ x. x) p) ≡ true
+
 -- In each mapping of the profile lies a location that a sample names.
 abbrev pub NamesMappings : Profile → Type 0
-NamesMappings p =
-    AllByRecursion (λ m. list_any (λ s. list_any (lies_in m) s.0.locations) (samples_found (λ x. x) p) ≡ true)
-    (map (mapping_text p) p.mapping)
+NamesMappings p = AllByRecursion (IsNamed p) (map (mapping_text p) p.mapping)
+
+-- In the first mapping of the profile, if there is one, lies a location that a sample names.
+abbrev pub NamesFirst : Profile → Type 0
+NamesFirst p = AllByRecursion (IsNamed p) (option_to_list (slice_get (map (mapping_text p) p.mapping) 0))
 
 -- Profiles that merge in steps whatever the groups: they have as many types as columns, and each sample a value for each.
 -- No value and no duration is negative, and each sample has a value that isn't 0. No mapping starts past 64 bits, and in each
