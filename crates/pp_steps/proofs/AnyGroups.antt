@@ -10,7 +10,7 @@ use Rattle.pp_steps.proofs.SteppedMerges.{steps_are_one}
 use Rattle.pp_steps.proofs.Weights.{groups_keep}
 
 module _ (columns : ℕ) (g : Group) (groups : List Group) (any : MergeInAnyGroups columns (all_sources (g ∷ groups))) where
-  up : GroupsAddUp columns (g ∷ groups)
+  pub up : GroupsAddUp columns (g ∷ groups)
   up = record {
     values = all_by _ _ (λ x is. record { types = is.0.0; values = is.1 }) (g ∷ groups)
         (all_both _ _ (g ∷ groups) (all_parts _ sources_of (g ∷ groups) any.types) (all_parts _ sources_of (g ∷ groups) any.values));

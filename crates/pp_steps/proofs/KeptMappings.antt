@@ -59,41 +59,39 @@ module _ (g : Group) (kept : LosesNoSample (length g.first.sample_type) g) where
   abbrev become : MappingText → MappingText
   become = first_alike (group_mappings g)
 
-  -- a mapping of the merge is one with this one
-  abbrev IsKept : MappingText → Type 0
-  IsKept m = list_any (same_mapping m) (mappings (contents_of g)) ≡ true
+  -- What holds of each mapping of the merge's samples holds of what each mapping of the profiles becomes.
+  module _ (Holds : MappingText → Type 0)
+      (each : AllByRecursion (λ s. AllByRecursion (λ l. (m : MappingText) → l.mapping ≡ Some m → Holds m) s.0.locations) (contents_of g).samples) where
+    -- what is known of the locations of a sample of the merge
+    abbrev Mapped : SampleText → Type 0
+    Mapped s = AllByRecursion (λ l. (m : MappingText) → l.mapping ≡ Some m → Holds m) s.locations
 
-  -- what is known of the locations of a sample of the merge
-  abbrev Mapped : SampleText → Type 0
-  Mapped s = AllByRecursion (λ l. (m : MappingText) → l.mapping ≡ Some m → IsSeen equal_mapping (mappings (contents_of g)) m) s.locations
+    sample_kept : (s : SampleText × List ℤ) → HasSample (contents_of g).samples (remapped become s) → AllByRecursion (λ l. (m : MappingText) → l.mapping ≡ Some m → Holds (become m)) s.0.locations
+    sample_kept s has =
+        all_by _ _ (λ l known m at. known (become m) (ap (option_map become) at)) s.0.locations
+        (all_unmapped (λ l. (m : MappingText) → l.mapping ≡ Some m → Holds m) (remapped_location become) s.0.locations
+        (at_seen Mapped same_sample sample_decides (keys_of same_sample (contents_of g).samples)
+        (all_mapped Mapped (λ (item : SampleText × List ℤ). item.0) (contents_of g).samples each) (remapped become s).0 has))
 
-  merge_mapped : AllByRecursion Mapped (keys_of same_sample (contents_of g).samples)
-  merge_mapped =
-      all_mapped Mapped (λ (item : SampleText × List ℤ). item.0) (contents_of g).samples
-      (sample_mappings (contents_of g) (IsSeen equal_mapping (mappings (contents_of g))) (self_seen equal_mapping mapping_decides (mappings (contents_of g))))
+    profile_kept : (q : Profile) → AllByRecursion (HasSample (contents_of g).samples) (samples_found become q) → NamesMappings q
+        → AllByRecursion (λ m. Holds (become m)) (map (mapping_text q) q.mapping)
+    profile_kept q has names =
+        all_by _ (λ m. Holds (become m)) (λ m named. any_gives (λ s. list_any (lies_in m) s.0.locations) (Holds (become m)) (samples_found (λ x. x) q)
+        (all_by _ _ (λ s there. any_gives (lies_in m) (Holds (become m)) s.0.locations (all_by _ _ (λ l gives is. gives m (lying m l is)) s.0.locations (sample_kept s there))) (samples_found (λ x. x) q)
+        (all_unmapped (HasSample (contents_of g).samples) (remapped become) (samples_found (λ x. x) q) (subst (AllByRecursion (HasSample (contents_of g).samples)) (sym (own_remapped become q)) has))) named)
+        (map (mapping_text q) q.mapping) names
 
-  sample_kept : (s : SampleText × List ℤ) → HasSample (contents_of g).samples (remapped become s) → AllByRecursion (λ l. (m : MappingText) → l.mapping ≡ Some m → IsKept m) s.0.locations
-  sample_kept s has =
-      all_by _ _ (λ l known m at. any_one m (become m) (alike_one (group_mappings g) m) (mappings (contents_of g)) (known (become m) (ap (option_map become) at))) s.0.locations
-      (all_unmapped (λ l. (m : MappingText) → l.mapping ≡ Some m → IsSeen equal_mapping (mappings (contents_of g)) m) (remapped_location become) s.0.locations
-      (at_seen Mapped same_sample sample_decides (keys_of same_sample (contents_of g).samples) merge_mapped (remapped become s).0 has))
-
-  profile_kept : (q : Profile) → AllByRecursion (HasSample (contents_of g).samples) (samples_found become q) → NamesMappings q → AllByRecursion IsKept (map (mapping_text q) q.mapping)
-  profile_kept q has names =
-      all_by _ IsKept (λ m named. any_gives (λ s. list_any (lies_in m) s.0.locations) (IsKept m) (samples_found (λ x. x) q)
-      (all_by _ _ (λ s there. any_gives (lies_in m) (IsKept m) s.0.locations (all_by _ _ (λ l gives is. gives m (lying m l is)) s.0.locations (sample_kept s there))) (samples_found (λ x. x) q)
-      (all_unmapped (HasSample (contents_of g).samples) (remapped become) (samples_found (λ x. x) q) (subst (AllByRecursion (HasSample (contents_of g).samples)) (sym (own_remapped become q)) has))) named)
-      (map (mapping_text q) q.mapping) names
-
-  group_kept : AllByRecursion NamesMappings (sources_of g) → AllByRecursion IsKept (group_mappings g)
-  group_kept names =
-      all_flat IsKept (λ q. map (mapping_text q) q.mapping) (sources_of g)
-      (all_by _ _ (λ q is. profile_kept q is.0 is.1) (sources_of g)
-      (all_both _ _ (sources_of g) (all_parts (HasSample (contents_of g).samples) (samples_found become) (sources_of g) (all_stay g kept)) names))
+    pub group_kept : AllByRecursion NamesMappings (sources_of g) → AllByRecursion (λ m. Holds (become m)) (group_mappings g)
+    group_kept names =
+        all_flat (λ m. Holds (become m)) (λ q. map (mapping_text q) q.mapping) (sources_of g)
+        (all_by _ _ (λ q is. profile_kept q is.0 is.1) (sources_of g)
+        (all_both _ _ (sources_of g) (all_parts (HasSample (contents_of g).samples) (samples_found become) (sources_of g) (all_stay g kept)) names))
 
   pub loses_none : IsSettled (contents_of g) → AllByRecursion NamesMappings (sources_of g) → LosesNoMapping g
   loses_none settled names =
-      all_by _ _ (λ m is. ap (list_any (same_mapping m)) (mappings_back (contents_of g) settled) ∙ is) (group_mappings g) (group_kept names)
+      let own = mappings (contents_of g) in
+      all_by _ _ (λ m is. ap (list_any (same_mapping m)) (mappings_back (contents_of g) settled) ∙ any_one m (become m) (alike_one (group_mappings g) m) own is) (group_mappings g)
+      (group_kept (IsSeen equal_mapping own) (sample_mappings (contents_of g) (IsSeen equal_mapping own) (self_seen equal_mapping mapping_decides own)) names)
 
 -- so it is of groups
 pub groups_lose_none : (columns : ℕ) (groups : List Group) → GroupsAddUp columns groups → AllByRecursion (LosesNoSample columns) groups → AllByRecursion NamesMappings (all_sources groups)

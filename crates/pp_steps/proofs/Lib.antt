@@ -11,3 +11,4 @@ mod Vanishing
 mod KeptMappings
 mod AnyGroups
 mod MergesNamed
+mod MergesOrdinary

@@ -73,17 +73,25 @@ module _ (p : Profile) (ps : List Profile) (starts : AllByRecursion (λ m. m.sta
   lies : (m : MappingText) (l : LocationText) → l.mapping ≡ Some m → lies_in m l ≡ true
   lies m l at = ap (λ o. option_eq equal_mapping o (Some m)) at ∙ (mapping_decides m m).1 refl
 
+  samples_lie : AllByRecursion (λ s. AllByRecursion (λ l. (m : MappingText) → l.mapping ≡ Some m → Lies m) s.0.locations) c.samples
+  samples_lie =
+      all_by _ _ (λ s in_samples. all_by _ _ (λ l in_sample m at. in_samples (λ t. list_any (lies_in m) t.0.locations) (in_sample (lies_in m) (lies m l at))) s.0.locations (any_member s.0.locations))
+      c.samples (any_member c.samples)
+
   walk_lies : AllByRecursion (λ l. (m : MappingText) → l.mapping ≡ Some m → Lies m) (locations c)
-  walk_lies =
-      all_distinct _ same_location (flat_map (λ s. s.0.locations) c.samples)
-      (all_flat _ (λ s. s.0.locations) c.samples
-      (all_by _ _ (λ s in_samples. all_by _ _ (λ l in_sample m at. in_samples (λ t. list_any (lies_in m) t.0.locations) (in_sample (lies_in m) (lies m l at))) s.0.locations (any_member s.0.locations))
-      c.samples (any_member c.samples)))
+  walk_lies = all_distinct _ same_location (flat_map (λ s. s.0.locations) c.samples) (all_flat _ (λ s. s.0.locations) c.samples samples_lie)
+
+  named : (m : MappingText) → Lies m → IsNamed (merged p ps) m
+  named m is = subst (λ samples. list_any (λ s. list_any (lies_in m) s.0.locations) samples ≡ true) (sym own_samples) is
+
+  -- in each mapping of the merge's samples lies a location that a sample names
+  pub samples_named : AllByRecursion (λ s. AllByRecursion (λ l. (m : MappingText) → l.mapping ≡ Some m → IsNamed (merged p ps) m) s.0.locations) c.samples
+  samples_named = all_by _ _ (λ s own. all_by _ _ (λ l known m at. named m (known m at)) s.0.locations own) c.samples samples_lie
 
   own_mappings : map (mapping_text (merged p ps)) (merged p ps).mapping ≡ mappings c
   own_mappings = sym (append-nil _) ∙ mappings_back c settled
 
-  first_own : slice_get (map (mapping_text (merged p ps)) (merged p ps).mapping) 0 ≡ c.first_mapping
+  pub first_own : slice_get (map (mapping_text (merged p ps)) (merged p ps).mapping) 0 ≡ c.first_mapping
   first_own = ap (λ l. slice_get l 0) (sym (append-nil _)) ∙ ap (λ d. d.first_mapping) (contents_again c settled)
 
   -- where a location lies in the first mapping, one lies in each

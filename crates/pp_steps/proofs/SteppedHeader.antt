@@ -65,7 +65,7 @@ natural_sum m (q ∷ qs) all =
 abbrev lasting : Group → ℤ
 lasting g = fold (λ sum q. sum +ℤ q.duration_nanos) g.first.duration_nanos g.others
 
-natural_group : (g : Group) → AllByRecursion (λ q. pos 0 ≤ℤ q.duration_nanos) (sources_of g) → IsNatural (lasting g)
+pub natural_group : (g : Group) → AllByRecursion (λ q. pos 0 ≤ℤ q.duration_nanos) (sources_of g) → IsNatural (lasting g)
 natural_group g all =
     let (n, is) = natural g.first.duration_nanos all.0 in
     subst (λ z. IsNatural (fold (λ sum q. sum +ℤ q.duration_nanos) z g.others)) (sym is) (natural_sum n g.others all.1)

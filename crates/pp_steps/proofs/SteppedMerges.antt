@@ -66,7 +66,8 @@ module _ (columns : ℕ) (g : Group) (groups : List Group) (up : GroupsAddUp col
   settled : AllByRecursion (λ x. IsSettled (contents_of x)) (g ∷ groups)
   settled = all_settled columns (g ∷ groups) up
 
-  merge_starts : AllByRecursion (λ m. m.start < 2 ^ 64) (all_mappings (map merged_group (g ∷ groups)))
+  -- no mapping of the merges starts past 64 bits
+  pub merge_starts : AllByRecursion (λ m. m.start < 2 ^ 64) (all_mappings (map merged_group (g ∷ groups)))
   merge_starts =
       subst (AllByRecursion (λ m. m.start < 2 ^ 64)) (sym (flat_map-map (λ q. map (mapping_text q) q.mapping) merged_group (g ∷ groups)))
       (all_flat _ (λ x. map (mapping_text (merged_group x)) (merged_group x).mapping) (g ∷ groups)

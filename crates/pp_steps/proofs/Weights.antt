@@ -37,7 +37,7 @@ at_natural [] all column = (0, refl)
 at_natural (v ∷ row) all zero = natural v all.0
 at_natural (v ∷ row) all (suc column) = at_natural row all.1 column
 
-total_natural : (rows : List (List ℤ)) (column : ℕ) → AllByRecursion (λ row. AllByRecursion (λ v. pos 0 ≤ℤ v) row) rows → IsNatural (total adding_ℤ (λ row. get_or row column (pos 0)) rows)
+pub total_natural : (rows : List (List ℤ)) (column : ℕ) → AllByRecursion (λ row. AllByRecursion (λ v. pos 0 ≤ℤ v) row) rows → IsNatural (total adding_ℤ (λ row. get_or row column (pos 0)) rows)
 total_natural [] column all = (0, refl)
 total_natural (row ∷ rows) column all =
     let (m, first) = at_natural row all.0 column in

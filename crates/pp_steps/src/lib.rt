@@ -14,6 +14,6 @@ pub use premises::{
     named_mappings_are_kept, weights_keep_samples,
 };
 pub use steps::{
-    any_groups_are_one_merge, samples_stay_in_steps, steps_are_not_refused, steps_are_one_merge,
-    sums_stay_in_steps,
+    any_groups_are_one_merge, merges_merge_again, samples_stay_in_steps, steps_are_not_refused,
+    steps_are_one_merge, sums_stay_in_steps,
 };
