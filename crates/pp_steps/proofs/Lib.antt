@@ -8,3 +8,7 @@ mod NamedMappings
 mod Admitted
 mod Exchanged
 mod Vanishing
+mod KeptMappings
+mod AnyGroups
+mod MergesNamed
+mod MergesOrdinary

@@ -16,14 +16,14 @@ use Rattle.pp_share.specs.Described.{MappingText, LocationText, SampleText, func
 use Rattle.pp_share.specs.Alike.{same_mapping, same_sample, first_alike}
 use Rattle.pp_share.specs.Sums.{counts}
 use Rattle.pp_share.proofs.Deciding.{sample_decides}
-use Rattle.pp_share.proofs.MergedMapping.{IsFound, find_congr}
+use Rattle.pp_share.proofs.MergedMapping.{mapping_laws, IsFound, find_congr}
 use Rattle.pp_share.proofs.NumberedLemmas.{all_parts, all_mapped}
 use Rattle.pp_merge.specs.Merge.{all_mappings, all_samples}
 use Rattle.pp_merge.proofs.SettledLemmas.{all_any, all_flat, all_unmapped, found_holds, self_found}
 use Rattle.pp_steps.specs.Steps.{remapped_location, remapped_text, remapped}
 
 -- what is there stays as it is
-option_map-same : {A : Type 0} (o : Option A) → option_map (λ x. x) o ≡ o
+pub option_map-same : {A : Type 0} (o : Option A) → option_map (λ x. x) o ≡ o
 option_map-same None = refl
 option_map-same (Some x) = refl
 
@@ -84,7 +84,7 @@ module _ (h : MappingText → MappingText) (q : Profile) where
   )
 
   -- the profile's samples with their own mappings, of which each becomes another
-  own_remapped : map (remapped h) (samples_found (λ m. m) q) ≡ samples_found h q
+  pub own_remapped : map (remapped h) (samples_found (λ m. m) q) ≡ samples_found h q
   own_remapped =
       map-map (remapped h) (sample_text (location_found (λ m. m) q) (text_of q)) q.sample
       ∙ map_agree (λ s. remapped h (sample_text (location_found (λ m. m) q) (text_of q) s)) (sample_text (location_found h q) (text_of q)) q.sample (all_any _ sample_own q.sample)
@@ -107,6 +107,14 @@ found_alike all m x is (y, at) = (y, find_congr m x is all ∙ at)
 
 nothing : (xs : List MappingText) → AllByRecursion (λ m. Unit {0}) xs
 nothing xs = all_any (λ m. Unit {0}) (λ m. tt) xs
+
+-- what a mapping becomes is one with it
+pub alike_one : (all : List MappingText) (m : MappingText) → same_mapping m (first_alike all m) ≡ true
+alike_one all m = by (find (same_mapping m) all) refl
+  where
+    by : (o : Option MappingText) → find (same_mapping m) all ≡ o → same_mapping m (unwrap_or o m) ≡ true
+    by None is = mapping_laws.refl m
+    by (Some x) is = (found_holds (λ y. Unit {0}) (same_mapping m) all (nothing all) x is).1
 
 module _ (all some : List MappingText) (m : MappingText) where
   -- where the mapping is found among all, it does not matter what it became before

@@ -1,5 +1,5 @@
 -- What is said once of merges that are merged again.
-use Rattle.std.proofs.Common.{◌≡◌, ℕ, ◌+◌, Bool, true, false, not, ℤ, pos, negsuc, min, List, [], ◌∷◌, ◌++◌, map, fold, append-nil, refl, sym, ap, ◌∙◌, subst, arith}
+use Rattle.std.proofs.Common.{◌≡◌, ℕ, ◌+◌, Bool, true, false, not, ℤ, pos, min, List, [], ◌∷◌, ◌++◌, map, fold, append-nil, refl, sym, ap, ◌∙◌, subst, arith}
 use Rattle.std.specs.Prelude.{◌+ℤ◌, ◌≤ℤ◌, find, Some, int_lt, if◌then◌else◌}
 use Rattle.std.specs.Int.{int_max, int_min, saturate_to_bits}
 use Rattle.std.specs.List.{AllByRecursion, flat_map}
@@ -24,6 +24,7 @@ use Rattle.pp_merge.proofs.WrittenAgain.{contents_again}
 use Rattle.pp_steps.specs.Steps.{Group, sources_of, all_sources, merged_group}
 use Rattle.pp_steps.proofs.SteppedSamples.{contents_of, flat_map-flat_map}
 use Rattle.pp_steps.proofs.SumsOfSums.{distinct_show, map-flat_map, show_alike}
+use Rattle.pp_steps.proofs.Weights.{IsNatural, natural}
 
 -- Values that are joined one after another, in whatever groups.
 module _ {M : Type 0} (op : M → M → M) (assoc : (a b c : M) → op (op a b) c ≡ op a (op b c)) (value : Profile → M) where
@@ -53,14 +54,7 @@ fold-map : {A B M : Type 0} (f : M → B → M) (v : A → B) (a : M) (xs : List
 fold-map f v a [] = refl
 fold-map f v a (x ∷ xs) = fold-map f v (f a (v x)) xs
 
--- a number that is not negative
-abbrev IsNatural : ℤ → Type 0
-IsNatural z = (n : ℕ) × (z ≡ pos n)
-
-natural : (z : ℤ) → pos 0 ≤ℤ z → IsNatural z
-natural (pos n) least = (n, refl)
-natural (negsuc n) least = absurd (least.le)
-
+-- a sum of durations that are not negative
 natural_sum : (m : ℕ) (qs : List Profile) → AllByRecursion (λ q. pos 0 ≤ℤ q.duration_nanos) qs → IsNatural (fold (λ sum q. sum +ℤ q.duration_nanos) (pos m) qs)
 natural_sum m [] all = (m, refl)
 natural_sum m (q ∷ qs) all =
@@ -71,7 +65,7 @@ natural_sum m (q ∷ qs) all =
 abbrev lasting : Group → ℤ
 lasting g = fold (λ sum q. sum +ℤ q.duration_nanos) g.first.duration_nanos g.others
 
-natural_group : (g : Group) → AllByRecursion (λ q. pos 0 ≤ℤ q.duration_nanos) (sources_of g) → IsNatural (lasting g)
+pub natural_group : (g : Group) → AllByRecursion (λ q. pos 0 ≤ℤ q.duration_nanos) (sources_of g) → IsNatural (lasting g)
 natural_group g all =
     let (n, is) = natural g.first.duration_nanos all.0 in
     subst (λ z. IsNatural (fold (λ sum q. sum +ℤ q.duration_nanos) z g.others)) (sym is) (natural_sum n g.others all.1)

@@ -34,7 +34,7 @@ first_by_groups f h [] same = refl
 first_by_groups f h (x ∷ xs) same = first_of (f x) (h x) (flat_map f xs) (flat_map h xs) same.0 (first_by_groups f h xs same.1)
 
 -- what holds of each mapping of what is written holds of those of its samples
-sample_mappings : (c : Contents) (P : MappingText → Type 0) → AllByRecursion P (mappings c)
+pub sample_mappings : (c : Contents) (P : MappingText → Type 0) → AllByRecursion P (mappings c)
     → AllByRecursion (λ s. AllByRecursion (λ l. (m : MappingText) → l.mapping ≡ Some m → P m) s.0.locations) c.samples
 sample_mappings c P all =
     all_by _ _ (λ s seen. all_by (IsSeen same_location (locations c)) _ (λ l there m is.
@@ -66,7 +66,8 @@ module _ (columns : ℕ) (g : Group) (groups : List Group) (up : GroupsAddUp col
   settled : AllByRecursion (λ x. IsSettled (contents_of x)) (g ∷ groups)
   settled = all_settled columns (g ∷ groups) up
 
-  merge_starts : AllByRecursion (λ m. m.start < 2 ^ 64) (all_mappings (map merged_group (g ∷ groups)))
+  -- no mapping of the merges starts past 64 bits
+  pub merge_starts : AllByRecursion (λ m. m.start < 2 ^ 64) (all_mappings (map merged_group (g ∷ groups)))
   merge_starts =
       subst (AllByRecursion (λ m. m.start < 2 ^ 64)) (sym (flat_map-map (λ q. map (mapping_text q) q.mapping) merged_group (g ∷ groups)))
       (all_flat _ (λ x. map (mapping_text (merged_group x)) (merged_group x).mapping) (g ∷ groups)

@@ -24,10 +24,10 @@ use Rattle.pp_steps.specs.Premises.{GroupsAddUp, HasWeights, LosesNoSample}
 use Rattle.pp_steps.specs.Steps.{Group, sources_of, all_sources}
 
 -- a number that is not negative
-abbrev IsNatural : ℤ → Type 0
+abbrev pub IsNatural : ℤ → Type 0
 IsNatural z = (n : ℕ) × (z ≡ pos n)
 
-natural : (z : ℤ) → pos 0 ≤ℤ z → IsNatural z
+pub natural : (z : ℤ) → pos 0 ≤ℤ z → IsNatural z
 natural (pos n) least = (n, refl)
 natural (negsuc n) least = absurd (least.le)
 
@@ -37,7 +37,7 @@ at_natural [] all column = (0, refl)
 at_natural (v ∷ row) all zero = natural v all.0
 at_natural (v ∷ row) all (suc column) = at_natural row all.1 column
 
-total_natural : (rows : List (List ℤ)) (column : ℕ) → AllByRecursion (λ row. AllByRecursion (λ v. pos 0 ≤ℤ v) row) rows → IsNatural (total adding_ℤ (λ row. get_or row column (pos 0)) rows)
+pub total_natural : (rows : List (List ℤ)) (column : ℕ) → AllByRecursion (λ row. AllByRecursion (λ v. pos 0 ≤ℤ v) row) rows → IsNatural (total adding_ℤ (λ row. get_or row column (pos 0)) rows)
 total_natural [] column all = (0, refl)
 total_natural (row ∷ rows) column all =
     let (m, first) = at_natural row all.0 column in

@@ -1,14 +1,16 @@
 -- What profiles that are merged in steps have to be like.
-use Rattle.std.specs.Prelude.{◌≡◌, ◌<◌, ◌^◌, ◌≤ℤ◌, ℕ, pos, true, false, List, [], ◌∷◌, length, filter}
+use Rattle.std.specs.Prelude.{◌≡◌, ◌<◌, ◌^◌, ◌≤ℤ◌, ℕ, pos, Bool, true, false, List, [], ◌∷◌, length, map, filter, slice_get, Some}
 use Rattle.std.specs.List.{AllByRecursion, list_all, list_any}
+use Rattle.std.specs.Option.{option_eq, option_to_list}
 use Rattle.std.specs.Ordering.{int_eq}
 use Rattle.pp_model.specs.declared.profile.Profile.{Profile}
-use Rattle.pp_share.specs.Alike.{same_mapping, same_sample, first_alike}
+use Rattle.pp_share.specs.Alike.{same_mapping, equal_mapping, same_sample, first_alike}
+use Rattle.pp_share.specs.Described.{MappingText, LocationText, mapping_text, samples_found}
 use Rattle.pp_share.specs.Sums.{counts, summed}
 use Rattle.pp_merge.specs.Merge.{all_mappings, all_samples}
 use Rattle.pp_steps.specs.Steps.{Group, sources_of, all_sources, merged_group, in_steps}
 
--- the group's profiles have so many types, and each of their samples has a value for each
+-- the group's first profile has as many types as columns, and each sample of the group a value for each
 pub record GroupHasValues (columns : ℕ) (g : Group) : Type 0 where
   pub types : length g.first.sample_type ≡ columns
   pub values : AllByRecursion (λ q. AllByRecursion (λ s. length s.value ≡ columns) q.sample) (sources_of g)
@@ -49,3 +51,30 @@ LosesNoMapping g =
 -- Mappings that are one are equal.
 abbrev pub HasEqualMappings : List Profile → Type 0
 HasEqualMappings sources = AllByRecursion (λ m. first_alike (all_mappings sources) m ≡ m) (all_mappings sources)
+
+-- the location lies in the mapping
+abbrev pub lies_in : MappingText → LocationText → Bool
+lies_in m l = option_eq equal_mapping l.mapping (Some m)
+
+-- in the mapping lies a location that a sample of the profile names
+abbrev pub IsNamed : Profile → MappingText → Type 0
+IsNamed p m = list_any (λ s. list_any (lies_in m) s.0.locations) (samples_found (λ x. x) p) ≡ true
+
+-- In each mapping of the profile lies a location that a sample names.
+abbrev pub NamesMappings : Profile → Type 0
+NamesMappings p = AllByRecursion (IsNamed p) (map (mapping_text p) p.mapping)
+
+-- In the first mapping of the profile, if there is one, lies a location that a sample names.
+abbrev pub NamesFirst : Profile → Type 0
+NamesFirst p = AllByRecursion (IsNamed p) (option_to_list (slice_get (map (mapping_text p) p.mapping) 0))
+
+-- Profiles that merge in steps whatever the groups: they have as many types as columns, and each sample a value for each.
+-- No value and no duration is negative, and each sample has a value that isn't 0. No mapping starts past 64 bits, and in each
+-- lies a location that a sample names.
+pub record MergeInAnyGroups (columns : ℕ) (sources : List Profile) : Type 0 where
+  pub types : AllByRecursion (λ q. length q.sample_type ≡ columns) sources
+  pub values : AllByRecursion (λ q. AllByRecursion (λ s. length s.value ≡ columns) q.sample) sources
+  pub weights : AllByRecursion HasWeights sources
+  pub durations : AllByRecursion (λ q. pos 0 ≤ℤ q.duration_nanos) sources
+  pub starts : AllByRecursion (λ m. m.start < 2 ^ 64) (all_mappings sources)
+  pub named : AllByRecursion NamesMappings sources

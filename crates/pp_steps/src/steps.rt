@@ -1,10 +1,10 @@
 //! What merging in steps gives.
-ghost use Rattle.pp_steps.specs.Premises.{GroupsAddUp, LosesNoSample, MergeInSteps};
+ghost use Rattle.pp_steps.specs.Premises.{GroupsAddUp, LosesNoSample, MergeInAnyGroups, MergeInSteps};
 ghost use Rattle.pp_steps.specs.Refused.{IsMergeable, group_of_merges, one_group};
 ghost use Rattle.pp_steps.specs.Stay.{SamplesStay, SumsStay};
-ghost use Rattle.pp_steps.specs.Steps.{Group, at_once, in_steps};
+ghost use Rattle.pp_steps.specs.Steps.{Group, all_sources, at_once, in_steps, merged_group};
 ghost use Rattle.std.specs.List.{AllByRecursion};
-ghost use Rattle.std.specs.Prelude.{◌≡◌, ℕ, List, ◌∷◌};
+ghost use Rattle.std.specs.Prelude.{◌≡◌, ℕ, List, ◌∷◌, map};
 
 /// Profiles that are merged in groups, and then the groups' merges, give what merging all of them at once gives,
 /// whatever the groups.
@@ -16,6 +16,22 @@ ghost use Rattle.std.specs.Prelude.{◌≡◌, ℕ, List, ◌∷◌};
 pub fn steps_are_one_merge()
     ensures { (columns : ℕ) → (g : Group) → (groups : List Group) → MergeInSteps columns g groups
         → in_steps g groups ≡ at_once g groups }
+{}
+
+/// Merging in steps gives what merging at once gives, whatever the groups, where each profile by itself is as
+/// `MergeInAnyGroups` says: no value and no duration is negative, each sample has a value that isn't 0, and in each
+/// mapping lies a location that a sample names.
+pub fn any_groups_are_one_merge()
+    ensures { (columns : ℕ) → (g : Group) → (groups : List Group)
+        → MergeInAnyGroups columns (all_sources (g ∷ groups)) → in_steps g groups ≡ at_once g groups }
+{}
+
+/// The merges of groups of profiles that are as `MergeInAnyGroups` says are so too: they may be merged in groups again,
+/// to any depth.
+pub fn merges_merge_again()
+    ensures { (columns : ℕ) → (g : Group) → (groups : List Group)
+        → MergeInAnyGroups columns (all_sources (g ∷ groups))
+        → MergeInAnyGroups columns (map merged_group (g ∷ groups)) }
 {}
 
 /// Whatever their mappings, the samples in steps are those at once, with their values and in their order. Only the
