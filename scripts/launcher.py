@@ -15,7 +15,7 @@ from transcripts import sessions_of
 # How long another call is held up.
 HELD = 1.0
 # The longest that something may take that comes at once.
-PATIENCE = 20.0
+PATIENCE = 120.0
 
 # It runs in the copy that the launcher makes, and says what rt says of a proved crate. It tells the folder and the open
 # files that it has, and with a file `held` it does not end.
