@@ -244,6 +244,10 @@ def without_room(tree):
         copied = pathlib.Path(tree.text("copy").strip()).parent
         yield f"room of {there} and {here}", (out, status, copied), (tree.printed("-top p"), 0, folder)
     yield "what is left where there is room", tree.copies(), []
+    tree.source.write_text("// a disk that is full later\n")
+    tree.write_program(tree.path("bin") / "cp", "#!/bin/sh\nexit 1\n")
+    left = tree.call("-top", "p", ROOM_THERE="9000000", ROOM_HERE="9000000")
+    yield "a copy that fails", (left, tree.copies()), (("", COULD_NOT, 70), [])
 
 
 def odd_names(tree):
