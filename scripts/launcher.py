@@ -15,7 +15,7 @@ from transcripts import sessions_of
 # How long another call is held up.
 HELD = 1.0
 # The longest that something may take that comes at once.
-PATIENCE = 20.0
+PATIENCE = 120.0
 
 # It runs in the copy that the launcher makes, and says what rt says of a proved crate. It tells the folder and the open
 # files that it has, and with a file `held` it does not end.
@@ -244,6 +244,10 @@ def without_room(tree):
         copied = pathlib.Path(tree.text("copy").strip()).parent
         yield f"room of {there} and {here}", (out, status, copied), (tree.printed("-top p"), 0, folder)
     yield "what is left where there is room", tree.copies(), []
+    tree.source.write_text("// a disk that is full later\n")
+    tree.write_program(tree.path("bin") / "cp", "#!/bin/sh\nexit 1\n")
+    left = tree.call("-top", "p", ROOM_THERE="9000000", ROOM_HERE="9000000")
+    yield "a copy that fails", (left, tree.copies()), (("", COULD_NOT, 70), [])
 
 
 def odd_names(tree):
