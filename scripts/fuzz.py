@@ -4,7 +4,7 @@
 A case is words, files and standard input. Most files are profiles of random tables, written loosely: with numbers
 packed or one by one, fields out of order, unknown fields, scalars given twice. Others are spoiled, legacy or no profiles.
 Each case runs in a folder of its own. Of a difference its folder is kept, with a command that can be pasted. Cases that
-the model does not speak of are counted. With --minimize a difference is made smaller first.
+the model does not speak of are counted apart. With --minimize a difference is made smaller first.
 
 Case K of a seed is the same in each run. The last line says how many cases ran; the status is 1 where any differ.
 """
@@ -617,7 +617,7 @@ def main():
             ran, unspoken, differ = ran + count, unspoken + silent, differ + len(texts)
             for text in texts:
                 print(text, flush=True)
-    print(f"seed {given.seed}: {ran} cases, {differ} differ, {unspoken} not spoken of by the model")
+    print(f"seed {given.seed}: {ran + unspoken} cases, {differ} differ, {unspoken} not spoken of by the model")
     sys.exit(1 if differ else 0)
 
 
