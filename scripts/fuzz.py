@@ -4,7 +4,7 @@
 A case is words, files and standard input. Most files are profiles of random tables, written loosely: with numbers
 packed or one by one, fields out of order, unknown fields, scalars given twice. Others are spoiled, legacy or no profiles.
 Each case runs in a folder of its own. Of a difference its folder is kept, with a command that can be pasted. Cases that
-the model does not speak of are counted. With --minimize a difference is made smaller first.
+the model does not speak of are counted apart. With --minimize a difference is made smaller first.
 
 Case K of a seed is the same in each run. The last line says how many cases ran; the status is 1 where any differ.
 """
@@ -32,17 +32,33 @@ KEEP = 40
 
 # What random profiles are made of.
 
-NAMES = [b"", b"main", b"f", b"g", b"work", b"leaf", b"malloc", b"runtime.main", b"a;b\tc\n", b"std::v<int>::p", b"\xff\xfe"]
-NAMES += [b"f\r", b"fn7", b"a\\b", b"\xc3\xa9t\xc3\xa9", b"/src/app/work.c", b"work.c", b"../up.c", b"b/c.go", b"/abs/", b"/"]
-UNITS = [b"", b"count", b"nanoseconds", b"ns", b"MS", b"microseconds", b"sec", b"hours", b"bytes", b"kB", b"mb", b"TB", b"Widgets", b"widgets", b"sample"]
+NAMES = [
+    b"", b"main", b"f", b"g", b"work", b"leaf", b"malloc", b"runtime.main", b"a;b\tc\n", b"std::v<int>::p",
+    b"\xff\xfe",
+]
+NAMES += [
+    b"f\r", b"fn7", b"a\\b", b"\xc3\xa9t\xc3\xa9", b"/src/app/work.c", b"work.c", b"../up.c", b"b/c.go",
+    b"/abs/", b"/",
+]
+UNITS = [
+    b"", b"count", b"nanoseconds", b"ns", b"MS", b"microseconds", b"sec", b"hours", b"bytes", b"kB", b"mb",
+    b"TB", b"Widgets", b"widgets", b"sample",
+]
 KEYS = [b"thread", b"bytes", b"request", b"alignment", b"id", b"", b"pprof::base", b"key"]
 VALUES = [b"true", b"a", b"b", b"", b"aa,b", b"1kb", b"a=b"]
 NUMBERS = [0, 1, 2, 3, 5, 7, 10, 99, 100, 512, 1000, 1024, 4999, 5000, 1 << 20, 10**9, 36 * 10**11, 1 << 40, 1 << 52]
 ENDS = [(1 << 63) - 1, -(1 << 63), (1 << 62), -1, -5000, -1024]
 IDS = [1, 2, 3, 4, 5, 7, 255, 1 << 32, (1 << 64) - 1, 1 << 63]
-PATTERNS = [b"main", b"f", b"^f$", b"work|leaf", b".", b"a+b*", b"\\.c", b"^$", b"o.k", b"zzz", b"(?i)MAIN", b"[a-f]$", b"x{2}", b"\\d", b"malloc", b".*", b"", b"=", b"thread", b"^[^a]*$", b"runtime", b"a|", b"e$"]
+PATTERNS = [
+    b"main", b"f", b"^f$", b"work|leaf", b".", b"a+b*", b"\\.c", b"^$", b"o.k", b"zzz", b"(?i)MAIN", b"[a-f]$",
+    b"x{2}", b"\\d", b"malloc", b".*", b"", b"=", b"thread", b"^[^a]*$", b"runtime", b"a|", b"e$",
+]
 BAD_PATTERNS = [b"(", b"[", b"\xff", b"*a", b"a{2,1}", b"x\\", b")", b"[z-a]", b"(?=a)", b"\\1"]
-TAG_FILTERS = [b"thread=a", b"a,b", b"thread=a,b", b"512b:2kb", b"bytes=1kb", b"5", b":1024", b"1:", b"-7", b"+5:", b":", b"=a", b"id=1:3", b",", b"a,", b"thread=", b"thread:a", b"1widgets", b"key=1ms:2", b"0:9223372036854775808", b"=1kb:"]
+TAG_FILTERS = [
+    b"thread=a", b"a,b", b"thread=a,b", b"512b:2kb", b"bytes=1kb", b"5", b":1024", b"1:", b"-7", b"+5:", b":",
+    b"=a", b"id=1:3", b",", b"a,", b"thread=", b"thread:a", b"1widgets", b"key=1ms:2",
+    b"0:9223372036854775808", b"=1kb:",
+]
 RANGES = [b"0", b"1", b"0.5", b"0.005", b".1", b"0.000000001", b"0.2", b"0.9", b"1.0"]
 BAD_RANGES = [b"1.", b"1.000000001", b"x", b"0000000000", b"0.1234567891", b"", b"."]
 
@@ -74,7 +90,10 @@ class Writer:
     def number(self, field, value):
         if value == 0 and not self.chance(0.2):
             return []
-        out = [varint(field << 3, self.rng if self.is_loose else None) + varint(value, self.rng if self.is_loose else None)]
+        out = [
+
+            varint(field << 3, self.rng if self.is_loose else None) + varint(value, self.rng if self.is_loose else None),
+        ]
         if self.chance(0.05):
             out.insert(0, varint(field << 3) + varint(self.rng.choice(NUMBERS[:6])))
         return out
@@ -181,7 +200,10 @@ class ProfileMaker:
             for _ in range(rng.choice([0, 1, 1, 1, 2, 3])):
                 known = functions if functions and rng.random() < 0.9 else functions + [0]
                 row = [self.w.number(1, rng.choice(known))]
-                row += [self.w.number(2, rng.choice([0, 1, 7, 10, 21, 30, -3])), self.w.number(3, rng.choice([0, 0, 3, 9]))]
+                row += [
+                    self.w.number(2, rng.choice([0, 1, 7, 10, 21, 30, -3])),
+                    self.w.number(3, rng.choice([0, 0, 3, 9])),
+                ]
                 lines.append(self.w.block(4, self.w.message(*row)))
             parts = [self.w.number(1, id), self.w.number(2, rng.choice(mappings + [0]))]
             parts += [self.w.number(3, rng.choice([0, 0x1010, 0x1100, 0x401010, 0x500, (1 << 64) - 1])), lines]
@@ -270,7 +292,9 @@ def spoiled(rng, data):
         # A field of another kind.
         start, _, tag = rng.choice(tags)
         return data[:start] + bytes([data[start] & 0xF8 | rng.choice([0, 1, 2, 5])]) + data[start + 1 :]
-    return data + rng.choice([b"\x80" * 11, b"\x0b", b"\x00", b"\x32\x05a", b"\x78\x09", b"\x7a\x00", b"\x0d\0\0\0\0", b"\x12\x00"])
+    return data + rng.choice([
+        b"\x80" * 11, b"\x0b", b"\x00", b"\x32\x05a", b"\x78\x09", b"\x7a\x00", b"\x0d\0\0\0\0", b"\x12\x00",
+    ])
 
 
 def legacy(rng):
@@ -310,7 +334,10 @@ def random_format(rng):
     pick = rng.random()
     if pick < 0.72:
         return [rng.choice([b"-", b"--"]) + rng.choice(REPORTS)]
-    return [rng.choice([b"-peek=", b"-list="]) + rng.choice([b".", b"f", b"main|f|g", b"a", b"work", b"^$", b"(", b"r"])]
+    return [
+
+        rng.choice([b"-peek=", b"-list="]) + rng.choice([b".", b"f", b"main|f|g", b"a", b"work", b"^$", b"(", b"r"]),
+    ]
 
 
 PATTERNED = [b"focus", b"ignore", b"show", b"hide", b"show_from", b"prune_from", b"tagshow", b"taghide"]
@@ -340,10 +367,16 @@ def setting(rng):
     return rng.choice(names), rng.choice(good if rng.random() < 0.9 else bad)
 
 
+CHOICES = [
+    b"cum", b"flat", b"lines", b"files", b"addresses", b"filefunctions", b"noinlines", b"showcolumns", b"path_tree",
+    b"lines=no", b"inuse_space", b"total_delay", b"contentions=t", b"relative_percentages", b"alloc_space",
+]
+
+
 def random_option(rng):
     pick = rng.random()
     if pick < 0.15:
-        return [b"-" + rng.choice([b"cum", b"flat", b"lines", b"files", b"addresses", b"filefunctions", b"noinlines", b"showcolumns", b"path_tree", b"lines=no", b"inuse_space", b"total_delay", b"contentions=t", b"relative_percentages", b"alloc_space"])]
+        return [b"-" + rng.choice(CHOICES)]
     name, value = setting(rng)
     dashes = rng.choice([b"-", b"-", b"--"])
     if rng.random() < 0.75 or name in FLAGS:
@@ -352,7 +385,10 @@ def random_option(rng):
 
 
 def odd_word(rng):
-    return rng.choice([[b"-frob"], [b"--"], [b"-"], [b"-focus"], [b"---top"], [b"-=x"], [b"-top=no"], [b"-top"], [b"-peek"], [b"-gen=0"], [b"-h"], [b"missing"], [b"-normalize=x"], [b""], [b"-list="], [b"folder"]])
+    return rng.choice([
+        [b"-frob"], [b"--"], [b"-"], [b"-focus"], [b"---top"], [b"-=x"], [b"-top=no"], [b"-top"], [b"-peek"],
+        [b"-gen=0"], [b"-h"], [b"missing"], [b"-normalize=x"], [b""], [b"-list="], [b"folder"],
+    ])
 
 
 def shell_line(rng):
@@ -360,13 +396,22 @@ def shell_line(rng):
     if pick < 0.4:
         name = rng.choice(REPORTS + [b"peek", b"list"])
         words = [name + rng.choice([b"", b"", b"", b"3", b"10"])]
-        more = [b"main", b"-f", b"-", b"2", b">out", b"> out2", b">", b"|", b"-cum", b"--cum", b"work", b"(", b"-(", b"a b", b">src/o", b">folder", b">no/x", b"2147483648", b">>p"]
+        more = [
+            b"main", b"-f", b"-", b"2", b">out", b"> out2", b">", b"|", b"-cum", b"--cum", b"work", b"(",
+            b"-(", b"a b", b">src/o", b">folder", b">no/x", b"2147483648", b">>p",
+        ]
         words += [rng.choice(more) for _ in range(rng.choice([0, 0, 1, 1, 2, 3]))]
         return rng.choice([b" ", b"\t", b"  "]).join(words)
     if pick < 0.8:
         name, value = setting(rng)
-        return rng.choice([b"", b" "]) + name + rng.choice([b"=", b" = ", b"= "]) + value + rng.choice([b"", b" ", b"\t"])
-    others = [b"", b"q", b"o", b"options", b"help me", b"quit", b"exit", b"frob", b"cum", b"lines", b"noinlines", b"nodecount", b"sort", b"=", b"x=y", b"cum=1", b"\r", b" \t", b"tops", b"top x y z", b"peek", b"list", b"path_tree ", b"functions", b"10", b"a" * 65536, b"b" * 65537]
+        return rng.choice([b"", b" "]) + name + rng.choice([
+            b"=", b" = ", b"= ",
+        ]) + value + rng.choice([b"", b" ", b"\t"])
+    others = [
+        b"", b"q", b"o", b"options", b"help me", b"quit", b"exit", b"frob", b"cum", b"lines", b"noinlines",
+        b"nodecount", b"sort", b"=", b"x=y", b"cum=1", b"\r", b" \t", b"tops", b"top x y z", b"peek", b"list",
+        b"path_tree ", b"functions", b"10", b"a" * 65536, b"b" * 65537,
+    ]
     return rng.choice(others)
 
 
@@ -617,7 +662,7 @@ def main():
             ran, unspoken, differ = ran + count, unspoken + silent, differ + len(texts)
             for text in texts:
                 print(text, flush=True)
-    print(f"seed {given.seed}: {ran} cases, {differ} differ, {unspoken} not spoken of by the model")
+    print(f"seed {given.seed}: {ran + unspoken} cases, {differ} differ, {unspoken} not spoken of by the model")
     sys.exit(1 if differ else 0)
 
 
