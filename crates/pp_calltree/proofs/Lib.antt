@@ -16,6 +16,7 @@ pub mod Alone
 pub mod ListedPaths
 pub mod Built
 pub mod LinkLemmas
+pub mod Read
 pub mod Summing
 pub mod Pruning
 pub mod Written

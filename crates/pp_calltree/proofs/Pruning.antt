@@ -1,14 +1,13 @@
 -- The nodes that are shown are those of the tree without its light branches.
-use Rattle.std.proofs.Common.{◌≡◌, ℕ, zero, suc, ◌+◌, ◌<◌, ◌≤◌, Bool, true, false, cond, nat_abs, List, [], ◌∷◌, ◌++◌, length, map, drop, get_or, All, Option, Some, None, refl, sym, ap, subst, ◌∙◌, append_assoc, arith, length-append}
+use Rattle.std.proofs.Common.{◌≡◌, ℕ, zero, suc, ◌+◌, ◌<◌, ◌≤◌, Bool, true, false, cond, nat_abs, List, [], ◌∷◌, ◌++◌, length, map, drop, All, Option, Some, None, refl, sym, ap, subst, ◌∙◌, append_assoc, arith, length-append}
 use Rattle.std.specs.Prelude.{flat_map}
 use Rattle.std.specs.List.{slice_get}
 use Rattle.std.specs.declared.cmp.Ordering.{Ordering}
 use Rattle.std.proofs.lemmas.Bool.{lt-ltb, le-ltb}
-use Rattle.std.proofs.lemmas.List.{append-nil, drop_more, drop_all, map-append}
+use Rattle.std.proofs.lemmas.List.{append-nil, drop_all, map-append}
 use Rattle.std.proofs.lemmas.List.Concat.{flat_map-cons}
 use Rattle.std.proofs.lemmas.List.Elements.{All-nil, All-push}
 use Rattle.std.proofs.lemmas.List.Sums.{sum_by-cons, sum_by_push}
-use Rattle.std.proofs.lemmas.Option.{slice_get_within, get_or_from_slice_get}
 use Rattle.pp_model.specs.declared.profile.Profile.{Profile}
 use Rattle.pp_model.specs.FrameTexts.{Written}
 use Rattle.pp_grain.specs.Keys.{IsKeyOf}
@@ -17,6 +16,7 @@ use Rattle.pp_count.specs.Sums.{Seen}
 use Rattle.pp_calltree.specs.declared.tree.PathNode.{PathNode}
 use Rattle.pp_calltree.specs.CallTree.{TreeRow, any_row, under, siblings, tree_row, rows_below}
 use Rattle.pp_calltree.specs.Laid.{node_row}
+use Rattle.pp_calltree.proofs.Read.{drop_found, at_found}
 use Rattle.pp_calltree.specs.Shown.{is_cut, pruned, is_heavy_row, flat_sizes, ShownTo, AreShown}
 
 module _ {K : Type 0} (order : K → K → Ordering) (keep : TreeRow K → Bool) where
@@ -95,10 +95,7 @@ module _ {K : Type 0} (order : K → K → Ordering) (keep : TreeRow K → Bool)
   pruned_is most depth S =
       ap (pruned keep None) (sym (append-nil (rows_below order any_row most depth S))) ∙ pruned_below most depth S [] tt ∙ append-nil (rows_below order keep most depth S)
 
-module _ (total b : ℕ) (nodes : List PathNode) (i : ℕ) (d : PathNode) (here : i < length nodes) where
-  abbrev x : PathNode
-  x = get_or nodes i d
-
+module _ (total b : ℕ) (nodes : List PathNode) (i : ℕ) (x : PathNode) (found : slice_get nodes i ≡ Some x) where
   -- the nodes from the next one on
   abbrev after : Profile → List (TreeRow Written)
   after p = map (node_row p) (drop (i + 1) nodes)
@@ -106,18 +103,18 @@ module _ (total b : ℕ) (nodes : List PathNode) (i : ℕ) (d : PathNode) (here 
   step : (p : Profile) (cut : Option ℕ) → pruned (is_heavy_row total b) cut (map (node_row p) (drop i nodes))
       ≡ cond (is_cut cut x.depth) (pruned (is_heavy_row total b) cut (after p))
       (cond (is_heavy total b x.cum) (node_row p x ∷ pruned (is_heavy_row total b) None (after p)) (pruned (is_heavy_row total b) (Some x.depth) (after p)))
-  step p cut = ap (λ ns. pruned (is_heavy_row total b) cut (map (node_row p) ns)) (drop_more nodes i d here)
+  step p cut = ap (λ ns. pruned (is_heavy_row total b) cut (map (node_row p) ns)) (drop_found nodes i x found)
 
   sizes_step : flat_sizes (drop i nodes) ≡ nat_abs x.flat + flat_sizes (drop (i + 1) nodes)
-  sizes_step = ap flat_sizes (drop_more nodes i d here) ∙ sum_by-cons (λ (n : PathNode). nat_abs n.flat) x (drop (i + 1) nodes)
+  sizes_step = ap flat_sizes (drop_found nodes i x found) ∙ sum_by-cons (λ (n : PathNode). nat_abs n.flat) x (drop (i + 1) nodes)
 
   fewer_step : length (drop i nodes) ≡ 1 + length (drop (i + 1) nodes)
-  fewer_step = omega (arith, ap length (drop_more nodes i d here))
+  fewer_step = omega (arith, ap length (drop_found nodes i x found))
 
   module _ (cut : Option ℕ) (shown : List PathNode) (so_far : ShownTo total b i cut nodes shown) where
     -- a node below a cut
-    shown_cut : is_cut cut x.depth ≡ true → ShownTo total b (i + 1) cut nodes shown
-    shown_cut is = record {
+    pub read_cut : is_cut cut x.depth ≡ true → ShownTo total b (i + 1) cut nodes shown
+    read_cut is = record {
       rows = λ p. sym (ap (λ r. map (node_row p) shown ++ r) (step p cut
           ∙ ap (λ c. cond c (pruned (is_heavy_row total b) cut (after p)) (cond (is_heavy total b x.cum) (node_row p x ∷ pruned (is_heavy_row total b) None (after p)) (pruned (is_heavy_row total b) (Some x.depth) (after p)))) is))
           ∙ so_far.rows p;
@@ -127,8 +124,8 @@ module _ (total b : ℕ) (nodes : List PathNode) (i : ℕ) (d : PathNode) (here 
     }
 
     -- a heavy node
-    shown_more : (new : List PathNode) → is_cut cut x.depth ≡ false → is_heavy total b x.cum ≡ true → new ≡ shown ++ x ∷ [] → ShownTo total b (i + 1) None nodes new
-    shown_more new is heavy more = record {
+    pub read_more : (new : List PathNode) → is_cut cut x.depth ≡ false → is_heavy total b x.cum ≡ true → new ≡ shown ++ x ∷ [] → ShownTo total b (i + 1) None nodes new
+    read_more new is heavy more = record {
       rows = λ p. ap (λ ns. map (node_row p) ns ++ pruned (is_heavy_row total b) None (after p)) more
           ∙ ap (λ r. r ++ pruned (is_heavy_row total b) None (after p)) (map-append (node_row p) shown (x ∷ []))
           ∙ append_assoc (map (node_row p) shown) (node_row p x ∷ []) (pruned (is_heavy_row total b) None (after p))
@@ -137,12 +134,12 @@ module _ (total b : ℕ) (nodes : List PathNode) (i : ℕ) (d : PathNode) (here 
           ∙ so_far.rows p;
       sizes = omega (arith, so_far.sizes, sizes_step, ap flat_sizes more ∙ sum_by_push (λ (n : PathNode). nat_abs n.flat) shown x);
       fewer = omega (arith, so_far.fewer, fewer_step, ap length more, length-append shown (x ∷ []));
-      keys = λ p all. subst (All (λ (n : PathNode). IsKeyOf p n.key)) (sym more) (All-push (λ (n : PathNode). IsKeyOf p n.key) shown x (so_far.keys p all) (all i d here));
+      keys = λ p all. subst (All (λ (n : PathNode). IsKeyOf p n.key)) (sym more) (All-push (λ (n : PathNode). IsKeyOf p n.key) shown x (so_far.keys p all) (at_found (λ (n : PathNode). IsKeyOf p n.key) nodes i x found all));
     }
 
     -- a light node
-    shown_light : is_cut cut x.depth ≡ false → is_heavy total b x.cum ≡ false → ShownTo total b (i + 1) (Some x.depth) nodes shown
-    shown_light is light = record {
+    pub read_light : is_cut cut x.depth ≡ false → is_heavy total b x.cum ≡ false → ShownTo total b (i + 1) (Some x.depth) nodes shown
+    read_light is light = record {
       rows = λ p. sym (ap (λ r. map (node_row p) shown ++ r) (step p cut
           ∙ (λ j. cond (is j) (pruned (is_heavy_row total b) cut (after p)) (cond (light j) (node_row p x ∷ pruned (is_heavy_row total b) None (after p)) (pruned (is_heavy_row total b) (Some x.depth) (after p))))))
           ∙ so_far.rows p;
@@ -150,31 +147,6 @@ module _ (total b : ℕ) (nodes : List PathNode) (i : ℕ) (d : PathNode) (here 
       fewer = omega (arith, so_far.fewer, fewer_step);
       keys = so_far.keys;
     }
-
--- A node that was read: it stands at its place.
-module _ (total b : ℕ) (nodes : List PathNode) (i : ℕ) (x : PathNode) (found : slice_get nodes i ≡ Some x) (cut : Option ℕ) (shown : List PathNode)
-    (so_far : ShownTo total b i cut nodes shown) where
-  here : i < length nodes
-  here = slice_get_within nodes i x found
-
-  is_x : get_or nodes i x ≡ x
-  is_x = get_or_from_slice_get nodes i x x found
-
-  -- below a cut
-  pub read_cut : is_cut cut x.depth ≡ true → ShownTo total b (i + 1) cut nodes shown
-  read_cut is = shown_cut total b nodes i x here cut shown so_far (ap (λ (y : PathNode). is_cut cut y.depth) is_x ∙ is)
-
-  -- heavy
-  pub read_more : (new : List PathNode) → is_cut cut x.depth ≡ false → is_heavy total b x.cum ≡ true → new ≡ shown ++ x ∷ [] → ShownTo total b (i + 1) None nodes new
-  read_more new is heavy more =
-      shown_more total b nodes i x here cut shown so_far new (ap (λ (y : PathNode). is_cut cut y.depth) is_x ∙ is)
-      (ap (λ (y : PathNode). is_heavy total b y.cum) is_x ∙ heavy) (more ∙ ap (λ y. shown ++ y ∷ []) (sym is_x))
-
-  -- light
-  pub read_light : is_cut cut x.depth ≡ false → is_heavy total b x.cum ≡ false → ShownTo total b (i + 1) (Some x.depth) nodes shown
-  read_light is light =
-      subst (λ (y : PathNode). ShownTo total b (i + 1) (Some y.depth) nodes shown) is_x
-      (shown_light total b nodes i x here cut shown so_far (ap (λ (y : PathNode). is_cut cut y.depth) is_x ∙ is) (ap (λ (y : PathNode). is_heavy total b y.cum) is_x ∙ light))
 
 -- before the first node
 pub shown_none : (total b : ℕ) (nodes shown : List PathNode) → shown ≡ [] → ShownTo total b 0 None nodes shown

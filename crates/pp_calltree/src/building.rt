@@ -18,11 +18,10 @@ ghost use Rattle.pp_calltree.specs.Tree.{IsTreeOf, flats_at};
 ghost use Rattle.pp_calltree.specs.Walk.{IsWalkOf};
 
 use crate::laying::lay_out;
-use crate::linking::{nexts_of, parents_of};
 use crate::listing::{PathSum, list_paths};
 use crate::path::{Path, cut_paths, sort_paths};
 use crate::paths::{Paths, gather_paths};
-use crate::tree::{CallTree, NumberedNode};
+use crate::tree::{CallTree, NumberedNode, PathNodes};
 use pp_base::{List, Memory};
 use pp_count::{Counted, Scope, Survey};
 use pp_grain::Names;
@@ -133,32 +132,32 @@ impl<'a> CallTree<'a> {
             column,
             counted: c,
         };
-        let (names, nodes) = named_nodes(alloc, &survey)?;
-        let parents = parents_of(alloc, nodes.as_slice())?;
-        let nexts = nexts_of(alloc, nodes.as_slice())?;
+        let tree = PathNodes::build(alloc, &survey)?;
+        let parents = tree.parents(alloc)?;
+        let nexts = tree.nexts(alloc)?;
         Ok(CallTree {
-            names,
-            nodes,
+            tree,
             parents,
             nexts,
         })
     }
 }
 
-// The names of the report, and its nodes by the numbers of their keys.
-fn named_nodes<'a>(
-    alloc: Global,
-    survey: &Survey<'a>,
-) -> Result<(&'a Names, List<NumberedNode>), Memory>
-    ensures { IfOk result (λ t.
-        IsTreeOf survey.now.l.now survey.now.v.now survey.now.config.now survey.now.column
-        (nodes_by t.0.now t.1)) }
-{
-    let gathered = ReportPaths::gather(alloc, survey)?;
-    let scope = gathered.scope;
-    let nodes = gathered.nodes(alloc);
-    mem::drop(gathered);
-    Ok((&scope.table.names, nodes?))
+impl<'a> PathNodes<'a> {
+    /// The nodes of the tree that `CallTree::build` gives, without links. `Err` is want of memory.
+    pub fn build(alloc: Global, survey: &Survey<'a>) -> Result<PathNodes<'a>, Memory>
+        ensures { IfOk result (IsTreeOf survey.now.l.now survey.now.v.now survey.now.config.now
+            survey.now.column) }
+    {
+        let gathered = ReportPaths::gather(alloc, survey)?;
+        let scope = gathered.scope;
+        let nodes = gathered.nodes(alloc);
+        mem::drop(gathered);
+        Ok(PathNodes {
+            names: &scope.table.names,
+            nodes: nodes?,
+        })
+    }
 }
 
 // How all samples are seen, each key by its number in the report's table.

@@ -39,7 +39,7 @@ pub fn lay_out(
     ensures fits { IfOk result (λ nodes.
         sum_by (λ n. nat_abs n.flat) (nodes_by names.now nodes) < 2 ^ 63) }
 {
-    let texts = Texts::new(alloc, p, names)?;
+    let texts = Texts::new(p, names);
     let mut found = Vec::new(alloc);
     let mut waiting = Vec::new(alloc);
     push_branches(&texts, paths, 0, &mut found, &mut waiting)?;

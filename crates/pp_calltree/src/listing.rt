@@ -47,7 +47,7 @@ pub fn list_paths<'k>(
         ≡ filter has_sum (all_paths key_cmp (written_out p.now names.now (below 0 paths.now)))) }
     ensures keys { IfOk result (λ sums. All (HasKeysOf p.now names.now) sums.items) }
 {
-    let texts = Texts::new(alloc, p, names)?;
+    let texts = Texts::new(p, names);
     let mut found = Vec::new(alloc);
     let mut waiting = Vec::new(alloc);
     push_branches(&texts, paths, 0, &mut found, &mut waiting)?;

@@ -1,10 +1,11 @@
 //! The branches of a node, as siblings stand.
 ghost use Rattle.std.specs.Prelude.{◌≡◌, ◌<◌, ◌≤◌, ◌^◌, IfOk, OnOk};
+ghost use Rattle.std.specs.Ordering.{ordering_then};
 ghost use Rattle.std.specs.List.Sorted.{IsPermutation, IsSorted};
 ghost use Rattle.pp_count.specs.Sums.{absolute};
 ghost use Rattle.pp_calltree.specs.Listed.{AddsBranches};
 ghost use Rattle.pp_calltree.specs.Paths.{below, IsRising};
-ghost use Rattle.pp_calltree.specs.Siblings.{branch_cmp};
+ghost use Rattle.pp_calltree.specs.Siblings.{branch_cmp, size_cmp};
 
 use crate::branch::Branch;
 use crate::branching::find_branches;
@@ -47,9 +48,19 @@ fn sort_branches(texts: &Texts, list: &mut Vec<Branch>) -> Result<(), Memory>
 fn branch_order(texts: &Texts, a: &Branch, b: &Branch) -> Ordering
     ensures { result ≡ branch_cmp texts.now a.now b.now }
 {
+    let sums = sum_order(a, b);
+    if sums.is_ne() {
+        return sums;
+    }
+    texts_order(&texts.at(a.key as u64), &texts.at(b.key as u64))
+}
+
+// By absolute cum falling, then by absolute flat falling.
+fn sum_order(a: &Branch, b: &Branch) -> Ordering
+    ensures { result ≡ ordering_then (size_cmp a.now.cum b.now.cum) (size_cmp a.now.flat b.now.flat) }
+{
     b.cum
         .unsigned_abs()
         .cmp(&a.cum.unsigned_abs())
         .then(b.flat.unsigned_abs().cmp(&a.flat.unsigned_abs()))
-        .then(texts_order(&texts.at(a.key as u64), &texts.at(b.key as u64)))
 }

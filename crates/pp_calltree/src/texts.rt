@@ -1,47 +1,45 @@
 //! The texts of keys, by key number.
-ghost use Rattle.std.specs.Prelude.{◌≡◌, ◌≢◌, All, AllPairs, IfOk};
-ghost use Rattle.pp_model.specs.Rules.{IsCompact};
+ghost use Rattle.std.specs.Prelude.{All};
 ghost use Rattle.pp_grain.specs.Keys.{IsKeyOf};
-ghost use Rattle.pp_grain.specs.Told.{written_texts};
-ghost use Rattle.pp_calltree.specs.Laid.{CanLay};
-ghost use Rattle.pp_calltree.specs.Siblings.{texts_at};
 
-use pp_base::Memory;
 use pp_grain::{KeyTexts, Names, texts_of};
 use pp_model::Profile;
-use std::alloc::Global;
 
-/// The texts of all names.
-#[derive(Drop)]
+/// The names whose texts are looked up.
+#[derive(Clone, Copy)]
 pub struct Texts<'a> {
-    /// The texts of each name, at the place of its number.
-    pub all: Vec<KeyTexts<'a>>,
-    /// What stands for a number that no name has.
-    pub none: KeyTexts<'a>,
+    /// The profile whose texts they are.
+    pub p: &'a Profile,
+    /// The names, by number.
+    pub names: &'a Names,
+    pub ghost of_profile: { All (IsKeyOf p.now) names.now },
 }
 
 impl<'a> Texts<'a> {
+    ghost use Rattle.std.specs.Prelude.{◌≡◌, ◌≢◌, AllPairs};
+    ghost use Rattle.pp_model.specs.Rules.{IsCompact};
+    ghost use Rattle.pp_grain.specs.Told.{written_texts};
+    ghost use Rattle.pp_calltree.specs.Laid.{CanLay};
+    ghost use Rattle.pp_calltree.specs.Siblings.{texts_at};
+
     /// The texts of the names.
-    pub fn new(alloc: Global, p: &'a Profile, names: &Names) -> Result<Texts<'a>, Memory>
+    pub fn new(p: &'a Profile, names: &'a Names) -> Texts<'a>
         requires compact { IsCompact p.now }
         requires keys { All (IsKeyOf p.now) names.now }
         requires distinct { AllPairs (λ a b. a ≢ b) names.now }
-        ensures { IfOk result (CanLay p.now names.now) }
+        ensures { CanLay p.now names.now result }
     {
-        let mut all = Vec::new(alloc);
-        for number in 0..names.len() {
-            all.push(texts_of(p, &names.key(number)))?;
-        }
-        Ok(Texts { all, none: NOTHING })
+        Texts { p, names }
     }
 
-    /// The texts of the number.
+    /// The texts of the number, none where no name has it.
     pub fn at(&self, key: u64) -> KeyTexts<'a>
         ensures { written_texts result ≡ texts_at self.now key }
     {
-        match self.all.get(key as usize) {
-            Some(texts) => *texts,
-            None => self.none,
+        if key < self.names.len() {
+            texts_of(self.p, &self.names.key(key))
+        } else {
+            NOTHING
         }
     }
 }

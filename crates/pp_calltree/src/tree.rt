@@ -1,12 +1,13 @@
-//! A call tree, and the walk of its nodes.
-ghost use Rattle.std.specs.Prelude.{◌≡◌, ◌<◌, Some, None, length, slice_get, slice_index_or};
+//! The nodes of a call tree, and the walk of the tree.
+ghost use Rattle.std.specs.Prelude.{◌≡◌, ◌<◌, Some, None, length, slice_get, slice_index_or, IfOk};
 ghost use Rattle.pp_count.specs.Table.{no_key};
 ghost use Rattle.pp_calltree.specs.Tree.{first_root, first_child, next_sibling, parent};
-ghost use Rattle.pp_calltree.specs.Links.{node_by};
+ghost use Rattle.pp_calltree.specs.Links.{node_by, AreParents, AreNexts};
 
-use crate::linking::child_at;
-use pp_base::List;
+use crate::linking::{child_at, nexts_of, parents_of};
+use pp_base::{List, Memory};
 use pp_grain::{Key, Names};
+use std::alloc::Global;
 use std::marker::Model;
 
 /// A node of a call tree.
@@ -35,12 +36,78 @@ pub struct NumberedNode {
     pub cum: i64,
 }
 
-/// The call tree of a report. Contracts see the list of its nodes, parents before children.
+/// The nodes of a report's call tree, without links. Contracts see their list, parents before children.
 #[derive(Drop)]
-pub struct CallTree<'a> {
+pub struct PathNodes<'a> {
     /// The keys, by number.
     pub(crate) names: &'a Names,
     pub(crate) nodes: List<NumberedNode>,
+}
+
+impl<'a> Model for PathNodes<'a> {
+    ghost use Rattle.std.specs.Prelude.{List as Seq};
+    ghost use Rattle.pp_calltree.specs.declared.tree.PathNode.{PathNode};
+
+    ghost Value = { Seq PathNode };
+
+    ghost use Rattle.pp_calltree.specs.Links.{nodes_by};
+
+    ghost view = { λ t. nodes_by t.names.now t.nodes };
+}
+
+impl PathNodes<'_> {
+    /// The number of nodes.
+    pub fn len(&self) -> u64
+        ensures { result ≡ length self.now }
+    {
+        self.nodes.len() as u64
+    }
+
+    /// The node at index `n`.
+    pub fn node(&self, n: u64) -> PathNode
+        requires { n < length self.now }
+        ensures { slice_get self.now n ≡ Some result }
+    {
+        named(self.names, &self.nodes.as_slice()[n as usize])
+    }
+
+    // The first root, None where there is no node.
+    fn first_root(&self) -> Option<u64>
+        ensures { result ≡ first_root self.now }
+    {
+        match self.nodes.as_slice() {
+            [] => None,
+            [_, ..] => Some(0),
+        }
+    }
+
+    // The first child of the node at index `n`, None where it has none.
+    fn first_child(&self, n: u64) -> Option<u64>
+        requires { n < length self.now }
+        ensures { result ≡ first_child self.now n }
+    {
+        child_at(self.nodes.as_slice(), n as usize)
+    }
+
+    /// The parent of each node.
+    pub fn parents(&self, alloc: Global) -> Result<Vec<Option<u32>>, Memory>
+        ensures { IfOk result (λ parents. AreParents self.now parents.items) }
+    {
+        parents_of(alloc, self.nodes.as_slice())
+    }
+
+    /// The next sibling of each node.
+    pub fn nexts(&self, alloc: Global) -> Result<Vec<Option<u32>>, Memory>
+        ensures { IfOk result (λ nexts. AreNexts self.now nexts.items) }
+    {
+        nexts_of(alloc, self.nodes.as_slice())
+    }
+}
+
+/// The call tree of a report. Contracts see the list of its nodes, parents before children.
+#[derive(Drop)]
+pub struct CallTree<'a> {
+    pub(crate) tree: PathNodes<'a>,
     /// For each node, the place of its parent, none for a root.
     pub(crate) parents: Vec<Option<u32>>,
     /// For each node, the place of the sibling after it, none for the last one.
@@ -53,11 +120,11 @@ impl<'a> Model for CallTree<'a> {
 
     ghost Value = { Seq PathNode };
 
-    ghost use Rattle.pp_calltree.specs.Links.{nodes_by, AreLinked};
+    ghost use Rattle.pp_calltree.specs.Links.{AreLinked};
 
-    ghost view = { λ t. nodes_by t.names.now t.nodes };
+    ghost view = { λ t. t.tree };
 
-    ghost invariant = { λ t. AreLinked (nodes_by t.names.now t.nodes) t.parents.items t.nexts.items };
+    ghost invariant = { λ t. AreLinked t.tree t.parents.items t.nexts.items };
 }
 
 impl CallTree<'_> {
@@ -65,17 +132,14 @@ impl CallTree<'_> {
     pub fn nodes(&self) -> u64
         ensures { result ≡ length self.now }
     {
-        self.nodes.len() as u64
+        self.tree.len()
     }
 
     /// The first root, None where there is no node.
     pub fn first_root(&self) -> Option<u64>
         ensures { result ≡ first_root self.now }
     {
-        match self.nodes.as_slice() {
-            [] => None,
-            [_, ..] => Some(0),
-        }
+        self.tree.first_root()
     }
 
     /// The first of the node's children, None where it has none.
@@ -83,7 +147,7 @@ impl CallTree<'_> {
         requires { n < length self.now }
         ensures { result ≡ first_child self.now n }
     {
-        child_at(self.nodes.as_slice(), n as usize)
+        self.tree.first_child(n)
     }
 
     /// The sibling after the node, None where it is the last one.
@@ -107,7 +171,7 @@ impl CallTree<'_> {
         requires { n < length self.now }
         ensures { slice_get self.now n ≡ Some result }
     {
-        named(self.names, &self.nodes.as_slice()[n as usize])
+        self.tree.node(n)
     }
 }
 

@@ -16,7 +16,7 @@ ghost use Rattle.pp_calltree.specs.Tree.{IsTreeOf};
 
 use crate::branching::plus;
 use crate::shown::shown_nodes;
-use crate::tree::{CallTree, PathNode};
+use crate::tree::{CallTree, PathNode, PathNodes};
 use pp_base::{Memory, Text};
 use pp_grain::write_name;
 use pp_model::{Config, Loaded};
@@ -42,18 +42,38 @@ pub fn write_calltree(
         ≡ out.old ++ calltree_text l.now.profile f config.now column (facts head.now)) }
     ensures err { OnErr result (out.new ≡ out.old) }
 {
+    write_path_nodes(alloc, l, &t.tree, config, head, out)
+}
+
+/// What `write_calltree` does, for a tree without links.
+pub fn write_path_nodes(
+    alloc: Global,
+    l: &Loaded,
+    t: &PathNodes,
+    config: &Config,
+    head: &Head,
+    out: &mut Text,
+) -> Result<(), Memory>
+    requires keys { All (λ n. IsKeyOf l.now.profile n.key) t.now }
+    requires fits { flat_sizes t.now < 2 ^ 63 }
+    ensures ok { (v : Verdicts) (column : Option ℕ) (f : Finders) →
+        IsTreeOf l.now v config.now column t.now → HoldsFilters l.now v config.now f →
+        OnOk result (out.new
+        ≡ out.old ++ calltree_text l.now.profile f config.now column (facts head.now)) }
+    ensures err { OnErr result (out.new ≡ out.old) }
+{
     let shown = shown_nodes(alloc, t, head.total, config.nodefraction)?;
-    let dropped = t.nodes() - shown.len() as u64;
+    let dropped = t.len() - shown.len();
     let mut text = Text::new(alloc);
-    put_tree(alloc, l, shown.as_slice(), dropped, head, &mut text)?;
+    put_tree(alloc, l, &shown, dropped, head, &mut text)?;
     out.append(text)
 }
 
-// The text of these nodes, of which so many are left out.
+// The text of these nodes. `dropped` is how many are left out.
 fn put_tree(
     alloc: Global,
     l: &Loaded,
-    nodes: &[PathNode],
+    nodes: &PathNodes,
     dropped: u64,
     head: &Head,
     out: &mut Text,
@@ -72,7 +92,7 @@ fn put_tree(
 // What the nodes account for, and how many are left out.
 fn put_summary(
     l: &Loaded,
-    nodes: &[PathNode],
+    nodes: &PathNodes,
     dropped: u64,
     head: &Head,
     out: &mut Text,
@@ -87,13 +107,13 @@ fn put_summary(
 }
 
 // What the flats of the nodes add up to.
-fn sum_flats(nodes: &[PathNode]) -> i64
+fn sum_flats(nodes: &PathNodes) -> i64
     requires { flat_sizes nodes.now < 2 ^ 63 }
     ensures { (p : Tables) → result ≡ flats_sum (map (node_row p) nodes.now) }
 {
     let mut sum = 0;
-    for node in nodes {
-        sum = plus(sum, node.flat);
+    for n in 0..nodes.len() {
+        sum = plus(sum, nodes.node(n).flat);
     }
     sum
 }
@@ -102,7 +122,7 @@ fn sum_flats(nodes: &[PathNode]) -> i64
 fn put_rows(
     alloc: Global,
     l: &Loaded,
-    nodes: &[PathNode],
+    nodes: &PathNodes,
     head: &Head,
     out: &mut Text,
 ) -> Result<(), Memory>
@@ -114,9 +134,10 @@ fn put_rows(
 {
     let mut scratch = Text::new(alloc);
     let mut sum = 0;
-    for node in nodes {
+    for n in 0..nodes.len() {
+        let node = nodes.node(n);
         sum = plus(sum, node.flat);
-        put_row(l, head, node, sum, &mut scratch, out)?;
+        put_row(l, head, &node, sum, &mut scratch, out)?;
     }
     Ok(())
 }

@@ -128,8 +128,9 @@ fn size_at(sums: &List<i64>, place: u64) -> u64
 fn row_order(a: &Row, b: &Row) -> Ordering
     ensures { result ≡ row_cmp a.now b.now }
 {
-    b.major
-        .cmp(&a.major)
-        .then(b.minor.cmp(&a.minor))
-        .then(texts_order(&a.texts, &b.texts))
+    let sums = b.major.cmp(&a.major).then(b.minor.cmp(&a.minor));
+    if sums.is_ne() {
+        return sums;
+    }
+    texts_order(&a.texts, &b.texts)
 }

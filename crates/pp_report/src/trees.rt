@@ -10,7 +10,7 @@ use crate::resources::Resources;
 use crate::subject::Subject;
 use crate::texts::tree;
 use pp_base::{Gate, Memory, Text};
-use pp_calltree::{CallTree, write_calltree};
+use pp_calltree::{PathNodes, write_path_nodes};
 use std::alloc::Global;
 use std::thread::Threads;
 
@@ -40,8 +40,8 @@ fn call_tree(alloc: Global, subject: &Subject<'_, '_>) -> Result<Text, Memory>
         (facts subject.now.head.now)) }
 {
     let s = &subject.survey;
-    let tree = CallTree::build(alloc, s.l, s.v, s.counted, s.config, s.column)?;
+    let nodes = PathNodes::build(alloc, s)?;
     let mut text = Text::new(alloc);
-    write_calltree(alloc, s.l, &tree, s.config, subject.head, &mut text)?;
+    write_path_nodes(alloc, s.l, &nodes, s.config, subject.head, &mut text)?;
     Ok(text)
 }

@@ -8,7 +8,7 @@ use Rattle.pp_calltree.proofs.laying.lay_out.Goals as goal
 
 pub loop-branch-init : goal.loop-branch-init
 loop-branch-init c =
-    laying_start c.args.p.now c.args.names.now c.in_ok-texts.texts c.in_ok-texts.ensures c.args.paths.now c.in_ok-nodes.nodes.items c.push_branches.new.waiting.items c.requires.room
+    laying_start c.args.p.now c.args.names.now c.new-texts.result c.new-texts.ensures c.args.paths.now c.in_ok-nodes.nodes.items c.push_branches.new.waiting.items c.requires.room
     c.in_ok-nodes.ensures.items (rw c.new-waiting.ensures.items at c.in_ok-push_branches.ensures)
 
 pub put_node-requires-clause-rises : goal.put_node-requires-clause-rises
@@ -29,14 +29,14 @@ loop-branch-smaller c =
 
 pub loop-branch-preserved : goal.loop-branch-preserved
 loop-branch-preserved c =
-    laying_more c.args.p.now c.args.names.now c.in_ok-texts.texts c.in_ok-texts.ensures c.args.paths.now c.loop-branch.nodes.items c.put_node.new.nodes.items _
+    laying_more c.args.p.now c.args.names.now c.new-texts.result c.new-texts.ensures c.args.paths.now c.loop-branch.nodes.items c.put_node.new.nodes.items _
     c.loop-branch.waiting.items c.pop.new.self.items c.put_node.new.waiting.items c.in-Some.branch c.requires.keys c.in-Some.ensures.items
     c.in_ok-put_node.ensures.node refl c.in_ok-put_node.ensures.adds c.loop-branch.invariant
 
 -- no branch waits any more
 pub returns-clause-rows : goal.returns-clause-rows
 returns-clause-rows c =
-    rw c.from_vec.ensures (laying_end c.args.p.now c.args.names.now c.in_ok-texts.texts c.in_ok-texts.ensures c.args.paths.now c.loop-branch.nodes.items c.loop-branch.waiting.items
+    rw c.from_vec.ensures (laying_end c.args.p.now c.args.names.now c.new-texts.result c.new-texts.ensures c.args.paths.now c.loop-branch.nodes.items c.loop-branch.waiting.items
     (none_waits c.loop-branch.waiting.items c.pop.new.self.items _ c.in_default.ensures.items c.in_default.ensures.rest c.in_default.ensures.cases.0) c.loop-branch.invariant)
 
 pub returns-clause-keys : goal.returns-clause-keys

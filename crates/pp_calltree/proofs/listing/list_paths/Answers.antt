@@ -7,7 +7,7 @@ use Rattle.pp_calltree.proofs.listing.list_paths.Goals as goal
 
 pub loop-branch-init : goal.loop-branch-init
 loop-branch-init c =
-    listing_start c.args.p.now c.args.names.now c.args.paths.now c.in_ok-texts.texts c.in_ok-texts.ensures c.push_branches.new.waiting.items c.in_ok-sums.sums.items c.requires.room
+    listing_start c.args.p.now c.args.names.now c.args.paths.now c.new-texts.result c.new-texts.ensures c.push_branches.new.waiting.items c.in_ok-sums.sums.items c.requires.room
     c.in_ok-sums.ensures.items (rw c.new-waiting.ensures.items at c.in_ok-push_branches.ensures)
 
 pub pass_on-requires-clause-rises : goal.pass_on-requires-clause-rises
@@ -28,7 +28,7 @@ pass_on-requires-clause-long c =
 pub loop-branch-smaller : goal.loop-branch-smaller
 loop-branch-smaller c =
     let most : ℕ = all_lengths (below 0 c.args.paths.now) in
-    let pass = c.in_ok-pass_on.ensures c.args.p.now c.args.names.now most c.in_ok-texts.ensures
+    let pass = c.in_ok-pass_on.ensures c.args.p.now c.args.names.now most c.new-texts.ensures
     (next_listable c.args.p.now c.args.names.now c.args.paths.now c.loop-branch.waiting.items c.pop.new.self.items c.in-Some.branch c.loop-branch.sums.items c.in-Some.ensures.items
     c.loop-branch.invariant) in
     lighter c.loop-branch.waiting.items c.pop.new.self.items c.in-Some.branch c.in-Some.ensures.items c.pass_on.new.waiting.items pass.branches pass.added pass.lighter
@@ -36,7 +36,7 @@ loop-branch-smaller c =
 pub loop-branch-preserved : goal.loop-branch-preserved
 loop-branch-preserved c =
     let most : ℕ = all_lengths (below 0 c.args.paths.now) in
-    let pass = c.in_ok-pass_on.ensures c.args.p.now c.args.names.now most c.in_ok-texts.ensures
+    let pass = c.in_ok-pass_on.ensures c.args.p.now c.args.names.now most c.new-texts.ensures
     (next_listable c.args.p.now c.args.names.now c.args.paths.now c.loop-branch.waiting.items c.pop.new.self.items c.in-Some.branch c.loop-branch.sums.items c.in-Some.ensures.items
     c.loop-branch.invariant) in
     listing_more c.args.p.now c.args.names.now c.args.paths.now c.loop-branch.waiting.items c.pop.new.self.items c.pass_on.new.waiting.items c.in-Some.branch c.loop-branch.sums.items

@@ -1,12 +1,9 @@
-use Rattle.std.proofs.Common.{◌∙◌}
-use Rattle.pp_units.specs.Head.{facts}
-use Rattle.pp_base.proofs.TextLemmas.{appended}
-use Rattle.pp_calltree.proofs.Written.{text_is}
+use Rattle.std.proofs.Common.{List, subst, sym}
+use Rattle.pp_calltree.specs.declared.tree.PathNode.{PathNode}
+use Rattle.pp_calltree.specs.Tree.{IsTreeOf}
 use Rattle.pp_calltree.proofs.writing.write_calltree.Goals as goal
 
+-- the tree is its nodes
 pub returns-clause-ok : goal.returns-clause-ok
-returns-clause-ok c = λ v column f tree holds.
-    appended c.append.result c.append.new.self c.args.out.now c.put_tree.new.out _
-    ((rw (c.new-text.ensures, c.as_slice.ensures, c.nodes.ensures, c.len.ensures) at c.in_ok-put_tree.ensures)
-    ∙ text_is c.args.l.now v c.args.config.now column f c.args.t.now c.in_ok-shown.shown (facts c.args.head.now) tree holds c.in_ok-shown.ensures)
-    c.append.ensures.ok
+returns-clause-ok c v column f tree holds =
+    c.write_path_nodes.ensures.ok v column f (subst (λ (nodes : List PathNode). IsTreeOf c.args.l.now v c.args.config.now column nodes) (sym c.t.view_is) tree) holds

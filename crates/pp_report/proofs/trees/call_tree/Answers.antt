@@ -4,5 +4,5 @@ use Rattle.pp_report.proofs.trees.call_tree.Goals as goal
 -- it is the whole text
 pub returns : goal.returns
 returns c = λ f holds.
-    made_text c.write_calltree.new.out c.new-text.result _ c.new-text.ensures
-    (c.in_ok-write_calltree.ensures.ok c.args.subject.now.survey.v.now c.args.subject.now.survey.column f c.in_ok-tree.ensures.tree holds)
+    made_text c.write_path_nodes.new.out c.new-text.result _ c.new-text.ensures
+    (c.in_ok-write_path_nodes.ensures.ok c.args.subject.now.survey.v.now c.args.subject.now.survey.column f c.in_ok-nodes.ensures holds)

@@ -7,8 +7,8 @@ use Rattle.pp_calltree.proofs.tree.CallTree.build.Goals as goal
 pub returns-clause-walk : goal.returns-clause-walk
 returns-clause-walk c = λ f holds.
     let samples = path_samples c.args.l.now.profile f c.args.config.now c.args.column in
-    walks_over c.args.l.now.profile _ (all_lengths samples) samples (c.in_ok-names.ensures.rows f holds)
+    walks_over c.args.l.now.profile _ (all_lengths samples) samples (c.in_ok-tree.ensures.rows f holds)
 
 pub returns-clause-flats : goal.returns-clause-flats
 returns-clause-flats c = λ f holds.
-    flats_are c.args.l.now.profile c.args.c.now.sums _ (report_samples c.args.l.now.profile f c.args.config.now c.args.column) (c.in_ok-names.ensures.rows f holds) (c.requires.counted.sums_are f holds)
+    flats_are c.args.l.now.profile c.args.c.now.sums _ (report_samples c.args.l.now.profile f c.args.config.now c.args.column) (c.in_ok-tree.ensures.rows f holds) (c.requires.counted.sums_are f holds)

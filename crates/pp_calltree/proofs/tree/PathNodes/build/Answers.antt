@@ -1,7 +1,7 @@
 use Rattle.std.proofs.lemmas.Result.{IfOk-at_ok}
 use Rattle.pp_calltree.specs.Links.{nodes_by}
 use Rattle.pp_calltree.specs.Tree.{IsTreeOf}
-use Rattle.pp_calltree.proofs.building.named_nodes.Goals as goal
+use Rattle.pp_calltree.proofs.tree.PathNodes.build.Goals as goal
 
 pub returns : goal.returns
 returns c =
