@@ -46,7 +46,7 @@ samples_counted tagged before more all turn is at =
     ∙ ap (λ (n : ℕ). events_from 0 (map tagged before) ++ events_from n (map tagged more)) (let e : 0 + length (map tagged before) ≡ turn = omega (arith, at, length-map before tagged) in e)
 
 -- labels of the same parts are one
-pub known_label : (a b : Label) → same_label_parts a b ≡ true → a ≡ b
+known_label : (a b : Label) → same_label_parts a b ≡ true → a ≡ b
 known_label a b same =
     let text = and_parts _ _ (and_parts _ _ same).1 in
     let num = and_parts _ _ text.1 in

@@ -9,3 +9,4 @@ pub mod SmallLemmas
 pub mod PlacesLemmas
 pub mod Ranking
 pub mod Listed
+mod FrameLineLemmas

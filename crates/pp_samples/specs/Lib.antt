@@ -2,7 +2,6 @@ pub mod Comments
 pub mod Traces
 pub mod FrameLines
 pub mod Labels
-pub mod LabelLines
 pub mod Tracing
 pub mod TagLines
 pub mod Surveyed

@@ -1,15 +1,15 @@
 -- What the samples of a traces report are written by. No public clause cites it.
-use Rattle.std.specs.Prelude.{◌≡◌, ℕ, ◌<◌, List, length, map}
+use Rattle.std.specs.Prelude.{ℕ, ◌<◌, List, length}
 use Rattle.pp_model.specs.declared.profile.Sample.{Sample}
 use Rattle.pp_model.specs.declared.profile.Profile.{Profile}
 use Rattle.pp_model.specs.Finders.{Finders}
 use Rattle.pp_model.specs.FrameTexts.{Written}
 use Rattle.pp_units.specs.Shown.{shown}
-use Rattle.pp_count.specs.Scope.{IsSoundScope}
 use Rattle.pp_count.specs.Seeing.{HoldsFilters}
 use Rattle.pp_count.specs.Table.{written_key}
 use Rattle.pp_samples.specs.declared.traces.Traces.{Traces}
-use Rattle.pp_samples.specs.FrameLines.{bare_line}
+use Rattle.pp_samples.specs.declared.frame_lines.FrameLines.{FrameLines}
+use Rattle.pp_samples.specs.FrameLines.{AreFrameLines}
 use Rattle.pp_samples.specs.Traces.{trace_of}
 
 -- the profile of the samples
@@ -28,10 +28,9 @@ IsKeyNumber t number = number < length t.scope.table.now.names
 abbrev pub FindsInTraces : Traces → Finders → Type 0
 FindsInTraces t f = HoldsFilters t.scope.l.now t.scope.v.now t.scope.config.now f
 
--- The samples can be seen, and each key has its line.
-pub record AreTracesReady (t : Traces) : Type 0 where
-  pub sound : IsSoundScope t.scope
-  pub lines : t.lines.now ≡ map (bare_line (trace_profile t)) t.scope.table.now.names
+-- the lines that are made are those of their keys
+abbrev pub HasLinesOf : Traces → FrameLines → Type 0
+HasLinesOf t made = AreFrameLines (trace_profile t) t.scope.table.now.names made
 
 -- the lines of a sample
 abbrev pub sample_trace : Traces → Finders → Sample → List ℕ

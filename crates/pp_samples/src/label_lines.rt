@@ -1,14 +1,11 @@
-//! The lines of labels, each made at its first sight.
-ghost use Rattle.std.specs.Prelude.{◌≡◌, ◌++◌, IfOk, OnOk};
+//! The lines of labels.
+ghost use Rattle.std.specs.Prelude.{◌≡◌, ◌++◌, IfOk};
 ghost use Rattle.std.specs.List.{flat_map};
-ghost use Rattle.pp_model.specs.declared.profile.Profile.{Profile};
 ghost use Rattle.pp_model.specs.Conditions.{IsSampleOf};
 ghost use Rattle.pp_model.specs.Finders.{Finders, HoldsFinders};
 ghost use Rattle.pp_tags.specs.TagFilters.{shown_labels};
 ghost use Rattle.pp_samples.specs.Traces.{trace_label_line, trace_label_value, own_value};
-ghost use Rattle.pp_samples.specs.LabelLines.{AreLabelLines};
 
-use indexmap::IndexMap;
 use pp_base::{List, Memory, Text};
 use pp_count::Scope;
 use pp_model::{Label, Profile, Sample, text_of};
@@ -16,102 +13,53 @@ use pp_tags::{has_text, number_unit, show_tags_into};
 use pp_units::{pick_unit, put_right, put_value};
 use std::alloc::Global;
 
-/// The lines of the labels so far.
-#[derive(Drop)]
-pub struct LabelLines {
-    /// By a label, its line.
-    pub lines: IndexMap<Label, Text>,
-}
-
-/// No lines of labels.
-pub fn no_lines(alloc: Global) -> LabelLines
-    ensures { (p : Profile) → AreLabelLines p result }
-{
-    LabelLines {
-        lines: IndexMap::new(alloc),
-    }
-}
-
 /// Makes the lines of the labels that are shown of the sample the content of `text`. `shown` is room for those labels.
 pub fn write_labels(
     alloc: Global,
     scope: &Scope,
     s: &Sample,
     shown: &mut List<Label>,
-    made: &mut LabelLines,
     text: &mut Text,
 ) -> Result<(), Memory>
-    requires member { IsSampleOf scope.now.l.now.profile s.now }
-    requires made { AreLabelLines scope.now.l.now.profile made.old }
-    ensures made { OnOk result (AreLabelLines scope.now.l.now.profile made.new) }
-    ensures text { (f : Finders) → HoldsFinders scope.now.l.now scope.now.v.now f → IfOk result (λ _.
+    requires { IsSampleOf scope.now.l.now.profile s.now }
+    ensures { (f : Finders) → HoldsFinders scope.now.l.now scope.now.v.now f → IfOk result (λ _.
         text.new ≡ flat_map (trace_label_line scope.now.l.now.profile)
         (shown_labels scope.now.l.now.profile f s.now.label)) }
 {
     show_tags_into(scope.l, scope.v, s, shown)?;
     text.clear();
-    put_labels(alloc, scope.l.profile.get(), shown.as_slice(), made, text)
+    put_labels(alloc, scope.l.profile.get(), shown.as_slice(), text)
 }
 
-fn put_labels(
-    alloc: Global,
-    p: &Profile,
-    labels: &[Label],
-    made: &mut LabelLines,
-    text: &mut Text,
-) -> Result<(), Memory>
-    requires { AreLabelLines p.now made.old }
-    ensures made { OnOk result (AreLabelLines p.now made.new) }
-    ensures text { IfOk result (λ _.
+fn put_labels(alloc: Global, p: &Profile, labels: &[Label], text: &mut Text) -> Result<(), Memory>
+    ensures { IfOk result (λ _.
         text.new ≡ text.old ++ flat_map (trace_label_line p.now) labels.now) }
 {
     for label in labels {
-        put_label(alloc, p, label, made, text)?;
+        put_label(alloc, p, label, text)?;
     }
-    Ok(())
-}
-
-fn put_label(
-    alloc: Global,
-    p: &Profile,
-    label: &Label,
-    made: &mut LabelLines,
-    text: &mut Text,
-) -> Result<(), Memory>
-    requires { AreLabelLines p.now made.old }
-    ensures made { OnOk result (AreLabelLines p.now made.new) }
-    ensures text { OnOk result (text.new ≡ text.old ++ trace_label_line p.now label.now) }
-{
-    if let Some(line) = made.lines.get(label) {
-        return text.extend(line.as_slice());
-    }
-    let line = line_of(alloc, p, label)?;
-    text.extend(line.as_slice())?;
-    made.lines.insert(*label, line)?;
     Ok(())
 }
 
 #[tactic(auto, unfolding(crate::specs::Traces::trace_label_line))]
-fn line_of(alloc: Global, p: &Profile, label: &Label) -> Result<Text, Memory>
-    ensures { IfOk result (λ line. line ≡ trace_label_line p.now label.now) }
+fn put_label(alloc: Global, p: &Profile, label: &Label, text: &mut Text) -> Result<(), Memory>
+    ensures { IfOk result (λ _. text.new ≡ text.old ++ trace_label_line p.now label.now) }
 {
-    let mut line = Text::new(alloc);
-    put_right(10, text_of(p, label.key), &mut line)?;
-    line.extend(b":  ")?;
-    put_value_of(alloc, p, label, &mut line)?;
-    line.extend(b"\n")?;
-    Ok(line)
+    put_right(10, text_of(p, label.key), text)?;
+    text.extend(b":  ")?;
+    put_value_of(alloc, p, label, text)?;
+    text.extend(b"\n")
 }
 
 // The value of a label: its text, or its number.
 #[tactic(auto, unfolding(crate::specs::Traces::trace_label_value))]
-fn put_value_of(alloc: Global, p: &Profile, label: &Label, line: &mut Text) -> Result<(), Memory>
-    ensures { IfOk result (λ _. line.new ≡ line.old ++ trace_label_value p.now label.now) }
+fn put_value_of(alloc: Global, p: &Profile, label: &Label, text: &mut Text) -> Result<(), Memory>
+    ensures { IfOk result (λ _. text.new ≡ text.old ++ trace_label_value p.now label.now) }
 {
     if has_text(label) {
-        return line.extend(text_of(p, label.text));
+        return text.extend(text_of(p, label.text));
     }
-    put_own_value(alloc, label.num, number_unit(p, label), line)
+    put_own_value(alloc, label.num, number_unit(p, label), text)
 }
 
 /// Appends the number in the unit that is picked for its own absolute value.

@@ -263,9 +263,9 @@ fn key_order(a: &TagLine, b: &TagLine) -> Ordering
 fn line_order(a: &TagLine, b: &TagLine) -> Ordering
     ensures { result ≡ entry_cmp (line_entry a.now) (line_entry b.now) }
 {
-    b.sum
-        .sum
-        .unsigned_abs()
-        .cmp(&a.sum.sum.unsigned_abs())
-        .then(tag_order(a.name, b.name))
+    let sums = b.sum.sum.unsigned_abs().cmp(&a.sum.sum.unsigned_abs());
+    if sums.is_ne() {
+        return sums;
+    }
+    tag_order(a.name, b.name)
 }

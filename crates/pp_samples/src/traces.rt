@@ -1,5 +1,5 @@
 //! The traces report.
-ghost use Rattle.std.specs.Prelude.{◌≡◌, ◌++◌, [], ◌∷◌, map, All, IfOk, OnOk, OnErr};
+ghost use Rattle.std.specs.Prelude.{◌≡◌, ◌<◌, ◌++◌, [], length, map, All, IfOk, OnOk, OnErr};
 ghost use Rattle.std.specs.List.{flat_map};
 ghost use Rattle.pp_model.specs.Conditions.{IsSampleOf, RefersTo};
 ghost use Rattle.pp_model.specs.Finders.{Finders};
@@ -11,11 +11,12 @@ ghost use Rattle.pp_count.specs.Counts.{samples_at};
 ghost use Rattle.pp_count.specs.Counted.{CanCount, IsCountedOf};
 ghost use Rattle.pp_count.specs.Seeing.{HoldsFilters};
 ghost use Rattle.pp_samples.specs.Traces.{traces_text, trace_of, trace_separator, frame_line, trace_text};
-ghost use Rattle.pp_samples.specs.LabelLines.{AreLabelLines};
-ghost use Rattle.pp_samples.specs.Tracing.{trace_profile, trace_key, FindsInTraces, AreTracesReady, IsKeyNumber, sample_trace};
+ghost use Rattle.pp_count.specs.Scope.{IsSoundScope};
+ghost use Rattle.pp_samples.specs.FrameLines.{HasLine};
+ghost use Rattle.pp_samples.specs.Tracing.{trace_profile, trace_key, FindsInTraces, HasLinesOf, IsKeyNumber, sample_trace};
 
-use crate::frame_lines::lines_of;
-use crate::label_lines::{LabelLines, no_lines, write_labels};
+use crate::frame_lines::{FrameLines, make_line, no_lines};
+use crate::label_lines::write_labels;
 use pp_base::{List, Memory, Text};
 use pp_count::{Counted, Scope, Survey, see, selected};
 use pp_model::{Config, Label, Loaded, Sample, Stack, Verdicts};
@@ -32,8 +33,6 @@ pub struct Traces<'a> {
     pub scope: Scope<'a>,
     /// How their values are printed.
     pub unit: &'a Unit,
-    /// By the number of a key, the line of a frame that nothing stands in front of.
-    pub lines: &'a [Text],
 }
 
 /// What is written of one sample, in room that is used again.
@@ -45,8 +44,6 @@ pub struct Room {
     pub keys: Vec<u64>,
     /// Its labels that are shown.
     pub shown: List<Label>,
-    /// The lines of all labels so far.
-    pub made: LabelLines,
     /// The lines of its labels.
     pub labels: Text,
     /// The text of its value.
@@ -116,8 +113,6 @@ fn put_samples(
         ++ flat_map (trace_of survey.now.l.now.profile f survey.now.config.now survey.now.column
         (shown unit.now)) survey.now.l.now.profile.sample) }
 {
-    let table = survey.table();
-    let made = lines_of(alloc, survey.l, &table.names)?;
     let kept = survey.counted.kept.as_slice();
     let traces = Traces {
         scope: Scope {
@@ -126,19 +121,18 @@ fn put_samples(
             config: survey.config,
             filters: survey.filters(),
             column: survey.column,
-            table,
+            table: survey.table(),
             over: None,
             chosen: None,
         },
         unit,
-        lines: made.as_slice(),
     };
     put_traces(alloc, &traces, kept, lines)
 }
 
 // The samples with these numbers.
 fn put_traces(alloc: Global, t: &Traces, kept: &[u32], lines: &mut Text) -> Result<(), Memory>
-    requires { AreTracesReady t.now }
+    requires { IsSoundScope t.now.scope }
     ensures { (f : Finders) → FindsInTraces t.now f → IfOk result (λ _. lines.new ≡ lines.old
         ++ flat_map (sample_trace t.now f) (samples_at (trace_profile t.now) kept.now)) }
 {
@@ -147,13 +141,13 @@ fn put_traces(alloc: Global, t: &Traces, kept: &[u32], lines: &mut Text) -> Resu
         stack: List::new(alloc),
         keys: Vec::new(alloc),
         shown: List::new(alloc),
-        made: no_lines(alloc),
         labels: Text::new(alloc),
         value: Text::new(alloc),
     };
+    let mut made = no_lines(alloc, t.scope.table.names.len())?;
     for number in kept {
         if let Some(s) = samples.get(*number as usize) {
-            put_sample(alloc, t, s, &mut room, lines)?;
+            put_sample(alloc, t, s, &mut room, &mut made, lines)?;
         }
     }
     Ok(())
@@ -165,29 +159,23 @@ fn put_sample(
     t: &Traces,
     s: &Sample,
     room: &mut Room,
+    made: &mut FrameLines,
     lines: &mut Text,
 ) -> Result<(), Memory>
-    requires ready { AreTracesReady t.now }
+    requires sound { IsSoundScope t.now.scope }
     requires member { IsSampleOf (trace_profile t.now) s.now }
     requires refers { RefersTo (trace_profile t.now) s.now }
-    requires made { AreLabelLines (trace_profile t.now) room.old.made }
-    ensures made { OnOk result (AreLabelLines (trace_profile t.now) room.new.made) }
+    requires made { HasLinesOf t.now made.old }
+    ensures made { IfOk result (λ _. HasLinesOf t.now made.new) }
     ensures lines { (f : Finders) → FindsInTraces t.now f →
         IfOk result (λ _. lines.new ≡ lines.old ++ sample_trace t.now f s.now) }
 {
     if !see(&t.scope, s, &mut room.stack, &mut room.keys)? {
         return Ok(());
     }
-    write_labels(
-        alloc,
-        &t.scope,
-        s,
-        &mut room.shown,
-        &mut room.made,
-        &mut room.labels,
-    )?;
+    write_labels(alloc, &t.scope, s, &mut room.shown, &mut room.labels)?;
     write_own_value(t, s, &mut room.value)?;
-    put_room(t, room, lines)
+    put_room(alloc, t, room, made, lines)
 }
 
 // The text of the sample's value, in the place of what was there.
@@ -202,67 +190,77 @@ fn write_own_value(t: &Traces, s: &Sample, text: &mut Text) -> Result<(), Memory
 }
 
 // The sample that the room holds.
-fn put_room(t: &Traces, room: &Room, lines: &mut Text) -> Result<(), Memory>
-    requires ready { AreTracesReady t.now }
+fn put_room(
+    alloc: Global,
+    t: &Traces,
+    room: &Room,
+    made: &mut FrameLines,
+    lines: &mut Text,
+) -> Result<(), Memory>
+    requires sound { IsSoundScope t.now.scope }
     requires keys { All (IsKeyNumber t.now) room.now.keys.items }
-    ensures { IfOk result (λ _. lines.new ≡ lines.old ++ trace_text room.now.labels room.now.value
+    requires made { HasLinesOf t.now made.old }
+    ensures made { IfOk result (λ _. HasLinesOf t.now made.new) }
+    ensures lines { IfOk result (λ _. lines.new ≡ lines.old ++ trace_text room.now.labels room.now.value
         (map (trace_key t.now) room.now.keys.items)) }
 {
     let [first, others @ ..] = room.keys.as_slice() else {
         return Ok(());
     };
-    put_frames(t, room, *first, others, lines)
-}
-
-// A sample with the labels and the value of the room, and with frames of these keys.
-fn put_frames(
-    t: &Traces,
-    room: &Room,
-    first: u64,
-    others: &[u64],
-    lines: &mut Text,
-) -> Result<(), Memory>
-    requires ready { AreTracesReady t.now }
-    requires first { IsKeyNumber t.now first }
-    requires others { All (IsKeyNumber t.now) others.now }
-    ensures { IfOk result (λ _. lines.new ≡ lines.old ++ trace_text room.now.labels room.now.value
-        (map (trace_key t.now) (first ∷ others.now))) }
-{
     lines.extend(SEPARATOR)?;
     lines.extend(room.labels.as_slice())?;
-    put_frame(t, room.value.as_slice(), first, lines)?;
-    put_others(t, others, lines)
+    put_frame(alloc, t, room.value.as_slice(), *first, made, lines)?;
+    put_others(alloc, t, others, made, lines)
 }
 
 // The frames above the first one.
-fn put_others(t: &Traces, keys: &[u64], lines: &mut Text) -> Result<(), Memory>
-    requires ready { AreTracesReady t.now }
+fn put_others(
+    alloc: Global,
+    t: &Traces,
+    keys: &[u64],
+    made: &mut FrameLines,
+    lines: &mut Text,
+) -> Result<(), Memory>
+    requires sound { IsSoundScope t.now.scope }
     requires keys { All (IsKeyNumber t.now) keys.now }
-    ensures { IfOk result (λ _. lines.new ≡ lines.old
+    requires made { HasLinesOf t.now made.old }
+    ensures made { IfOk result (λ _. HasLinesOf t.now made.new) }
+    ensures lines { IfOk result (λ _. lines.new ≡ lines.old
         ++ flat_map (frame_line []) (map (trace_key t.now) keys.now)) }
 {
     for key in keys {
-        lines.extend(bare_line(t, *key))?;
+        make_line(alloc, t.scope.l, &t.scope.table.names, *key, made)?;
+        lines.extend(bare_line(t, made, *key))?;
     }
     Ok(())
 }
 
-// The line of a frame that nothing stands in front of.
-fn bare_line<'a>(t: &Traces<'a>, key: u64) -> &'a [u8]
-    requires ready { AreTracesReady t.now }
-    requires key { IsKeyNumber t.now key }
+// The line of a frame that nothing stands in front of, which is made.
+fn bare_line<'a>(t: &Traces, made: &'a FrameLines, key: u64) -> &'a [u8]
+    requires room { key < length made.now.lines.items }
+    requires there { HasLine (trace_profile t.now) t.now.scope.table.now.names made.now key }
     ensures { result.now ≡ frame_line [] (trace_key t.now key) }
 {
-    t.lines[key as usize].as_slice()
+    made.lines[key as usize].as_slice()
 }
 
 // A frame below what stands in front of it, in the first ten places of its line.
-fn put_frame(t: &Traces, front: &[u8], key: u64, lines: &mut Text) -> Result<(), Memory>
-    requires ready { AreTracesReady t.now }
+fn put_frame(
+    alloc: Global,
+    t: &Traces,
+    front: &[u8],
+    key: u64,
+    made: &mut FrameLines,
+    lines: &mut Text,
+) -> Result<(), Memory>
+    requires sound { IsSoundScope t.now.scope }
     requires key { IsKeyNumber t.now key }
-    ensures { IfOk result (λ _. lines.new ≡ lines.old ++ frame_line front.now (trace_key t.now key)) }
+    requires made { HasLinesOf t.now made.old }
+    ensures made { IfOk result (λ _. HasLinesOf t.now made.new) }
+    ensures lines { IfOk result (λ _. lines.new ≡ lines.old ++ frame_line front.now (trace_key t.now key)) }
 {
     put_right(10, front, lines)?;
-    let (_, name) = bare_line(t, key).split_at(10);
+    make_line(alloc, t.scope.l, &t.scope.table.names, key, made)?;
+    let (_, name) = bare_line(t, made, key).split_at(10);
     lines.extend(name)
 }

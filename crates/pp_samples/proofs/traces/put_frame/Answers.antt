@@ -36,8 +36,8 @@ pub split_at-requires : goal.split_at-requires
 split_at-requires c = let most = ten_places (trace_key c.args.t.now c.args.key) in omega (arith, most, ap length c.bare_line.ensures)
 
 -- what stands in front, and then what stands behind it
-pub returns : goal.returns
-returns c =
+pub returns-clause-lines : goal.returns-clause-lines
+returns-clause-lines c =
     let key = trace_key c.args.t.now c.args.key in
     let front = c.args.front.now in
     then_behind c.extend.result c.args.lines.now c.put_right.new.out c.extend.new.self (right_text 10 front) _ (frame_line front key)

@@ -6,17 +6,14 @@ use Rattle.pp_samples.specs.Traces.{trace_of}
 use Rattle.pp_samples.proofs.TraceLemmas.{traced_kept}
 use Rattle.pp_samples.proofs.traces.put_samples.Goals as goal
 
--- the report sees its samples so, and the lines are those of its keys
+-- the report sees its samples so
 pub put_traces-requires : goal.put_traces-requires
 put_traces-requires c = record {
-  sound = record {
-    filters = c.filters.ensures;
-    verdicts = c.args.survey.now.can.verdicts;
-    table = c.table-table.ensures;
-    few_kept = tt;
-    chosen = tt;
-  };
-  lines = c.as_slice.ensures.value ∙ c.in_ok-made.ensures;
+  filters = c.filters.ensures;
+  verdicts = c.args.survey.now.can.verdicts;
+  table = c.table.ensures;
+  few_kept = tt;
+  chosen = tt;
 }
 
 -- the samples with the kept numbers are those that have lines

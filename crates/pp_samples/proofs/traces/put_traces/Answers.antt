@@ -13,7 +13,7 @@ use Rattle.pp_samples.proofs.traces.put_traces.Goals as goal
 
 pub loop-number-init : goal.loop-number-init
 loop-number-init c = record {
-  made = c.no_lines.ensures (trace_profile c.args.t.now);
+  made = c.in_ok-made.ensures (trace_profile c.args.t.now) c.args.t.now.scope.table.now.names (sym c.len.ensures.len);
   lines = λ f finds. sym (append-nil c.args.lines.now);
 }
 
@@ -35,7 +35,7 @@ loop-number-preserved c =
           let s = w.in-Some.s.now in
           let there = rw (c.as_slice-samples.ensures, c.get.ensures.same) at w.in-Some.ensures.lookup in
           let all = more ∙ ap (λ (o : Option Sample). before ++ cons_option o []) (looked_up p.sample _ s there.0 there.1) in
-          rw (w.room-is, w.lines-is) (record {
+          rw (w.made-is, w.lines-is) (record {
             made = w.in_ok-put_sample.ensures.made;
             lines = λ f finds.
                 let trace = sample_trace c.args.t.now f in
@@ -45,7 +45,7 @@ loop-number-preserved c =
           })
       | in_default w ↦
           let none = not_there p.sample _ (rw (c.as_slice-samples.ensures, c.get.ensures.same) at w.in_default.ensures.lookup).0 in
-          rw (w.room-is, w.lines-is, more ∙ ap (λ (o : Option Sample). before ++ cons_option o []) none ∙ append-nil before) so_far
+          rw (w.made-is, w.lines-is, more ∙ ap (λ (o : Option Sample). before ++ cons_option o []) none ∙ append-nil before) so_far
     ]
 
 pub returns : goal.returns
