@@ -8,5 +8,6 @@ mod Walks
 mod Shown
 mod Marking
 mod Owned
+mod Named
 mod Peeking
 mod Rows

@@ -1,5 +1,5 @@
 -- What the own pattern finds, by keys and over all samples.
-use Rattle.std.proofs.Common.{◌≡◌, ℕ, Bool, true, false, cond, not, ◌&&◌, ◌||◌, pos, List, [], ◌∷◌, length, map, All, Option, Some, None, refl, sym, ap, ◌∙◌, arith}
+use Rattle.std.proofs.Common.{◌≡◌, ℕ, Bool, true, false, cond, not, ◌&&◌, ◌||◌, pos, List, [], ◌∷◌, map, All, Option, Some, None, Result, Ok, Err, IfOk, refl, sym, ap, ◌∙◌}
 use Rattle.std.specs.List.{filter, filter_map, cons_option, list_any, slice_get}
 use Rattle.std.specs.Option.{option_map_or, option_map, is_some}
 use Rattle.std.specs.Ordering.{eq_by_cmp, int_eq}
@@ -31,7 +31,7 @@ use Rattle.pp_tree.specs.Peek.{is_own_of, is_found_key}
 use Rattle.pp_tree.specs.Found.{holds_key, is_own_frame, has_own_frame, has_own_sample, has_own_number}
 use Rattle.pp_tree.proofs.Marking.{has_same}
 
-any_implies : {X : Type 0} (t u : X → Bool) → ((x : X) → t x ≡ true → u x ≡ true) → (xs : List X) → list_any t xs ≡ true → list_any u xs ≡ true
+pub any_implies : {X : Type 0} (t u : X → Bool) → ((x : X) → t x ≡ true → u x ≡ true) → (xs : List X) → list_any t xs ≡ true → list_any u xs ≡ true
 any_implies t u implies [] some = some
 any_implies t u implies (x ∷ xs) some =
     elim (t x) as (λ b. t x ≡ b → (b || list_any t xs) ≡ true → (u x || list_any u xs) ≡ true) [
@@ -167,16 +167,6 @@ module _ (p : Profile) (f : Finders) (config : Config) (column : Option ℕ) whe
         → (k : Written) → holds_key p keys k ≡ is_found_key p f config column k
     keys_found numbers kept keys lent is gathered k = gathered k ∙ own_key_is numbers (lent ∙ is) k
 
-pub no_keys : (p : Profile) (keys : List Key) (k : Written) → length keys ≡ 0 → holds_key p keys k ≡ false
-no_keys p [] k none = refl
-no_keys p (x ∷ keys) k none = absurd (omega (arith, none))
-
-pub some_key : (p : Profile) (keys : List Key) → (length keys ≡ 0 → ⊥) → (k : Written) × (holds_key p keys k ≡ true)
-some_key p [] some = absurd (some refl)
-some_key p (x ∷ keys) some =
-    let is : holds_key p (x ∷ keys) (key_written p x) ≡ true = ap (λ b. b || holds_key p keys (key_written p x)) (tied_self (key_written p x)) in
-    (key_written p x, is)
-
 -- names among keys, by texts
 module _ (p : Profile) (compact : IsCompact p) (keys : List Key) (of_profile : All (IsKeyOf p) keys) where
   same_there : (key : Key) → IsKeyOf p key → (ks : List Key) → All (IsKeyOf p) ks → holds_key p ks (key_written p key) ≡ true → list_any (same_key key) ks ≡ true
@@ -199,3 +189,8 @@ module _ (p : Profile) (compact : IsCompact p) (keys : List Key) (of_profile : A
       (same_bool (list_any (same_key key) keys) (holds_key p keys (key_written p key)) (λ e. has_same p keys key (key_written p key) e (tied_self (key_written p key)))
       (λ e. same_there key (All-head (IsKeyOf p) key names all) keys of_profile e) ∙ is (key_written p key)) i
       ∷ names_marked test is names (All-tail (IsKeyOf p) key names all) i
+
+-- marks in another form
+pub then_marked : {E : Type 0} (r : Result (List Bool) E) (a b : List Bool) → IfOk r (λ marks. marks ≡ a) → a ≡ b → IfOk r (λ marks. marks ≡ b)
+then_marked (Ok marks) a b are is = are ∙ is
+then_marked (Err e) a b are is = tt

@@ -1,11 +1,13 @@
 -- Which keys the own pattern of a report finds, frame by frame. No public clause cites this file.
-use Rattle.std.specs.Prelude.{◌≡◌, ℕ, pos, length, Bool, false, not, ◌&&◌, List, map, slice_get, slice_index_or, Option}
+use Rattle.std.specs.Prelude.{◌≡◌, ℕ, pos, length, Bool, true, false, not, ◌&&◌, List, map, slice_get, slice_index_or, Option}
 use Rattle.std.specs.List.{list_any}
 use Rattle.std.specs.Option.{option_map_or}
 use Rattle.std.specs.Ordering.{eq_by_cmp, int_eq}
 use Rattle.pp_tree.specs.declared.own.Asked.{Asked}
 use Rattle.pp_model.specs.Conditions.{HasVerdicts}
 use Rattle.pp_model.specs.declared.config.Config.{Config}
+use Rattle.pp_model.specs.declared.config.Grain.{Grain}
+use Rattle.pp_model.specs.declared.config.Grain.TheVariants.{Functions, FileFunctions, Files, Lines, Addresses}
 use Rattle.pp_model.specs.declared.frame.Frame.{Frame}
 use Rattle.pp_model.specs.declared.profile.Profile.{Profile}
 use Rattle.pp_model.specs.declared.profile.Sample.{Sample}
@@ -16,6 +18,14 @@ use Rattle.pp_grain.specs.Keys.{key_cmp, key_written, frame_counts}
 use Rattle.pp_stack.specs.Filters.{frames_of_sample}
 use Rattle.pp_count.specs.Column.{selected}
 use Rattle.pp_count.specs.Seeing.{counted_frames, key_of_frame}
+
+-- the keys of the grain have their frames' function
+abbrev pub keeps_function : Grain → Bool
+keeps_function Functions = true
+keeps_function FileFunctions = true
+keeps_function Files = false
+keeps_function Lines = true
+keeps_function Addresses = true
 
 -- one of the keys is this one
 abbrev pub holds_key : Profile → List Key → Written → Bool

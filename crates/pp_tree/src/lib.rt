@@ -3,6 +3,7 @@
 #![tactic(auto)]
 
 mod ends;
+mod found;
 mod near;
 mod nodes;
 mod own;

@@ -45,10 +45,11 @@ pub fn near_at<'a>(p: &'a Profile, names: &Names, number: u64, value: i64) -> Ne
 pub fn near_order(a: &Near, b: &Near) -> Ordering
     ensures { result ≡ near_cmp a.now b.now }
 {
-    b.value
-        .unsigned_abs()
-        .cmp(&a.value.unsigned_abs())
-        .then(texts_order(&a.texts, &b.texts))
+    let values = b.value.unsigned_abs().cmp(&a.value.unsigned_abs());
+    if values.is_ne() {
+        return values;
+    }
+    texts_order(&a.texts, &b.texts)
 }
 
 /// Appends the lines of the edges of a node whose cum has this absolute value.

@@ -1,5 +1,5 @@
-//! Which names the own pattern of a report finds.
-ghost use Rattle.std.specs.Prelude.{◌≡◌, ◌||◌, ◌<◌, length, map, slice_index_or, slice_get, All, IfOk, IfErr, true, false};
+//! Which names the own pattern of a report finds, asked frame by frame.
+ghost use Rattle.std.specs.Prelude.{◌≡◌, ◌||◌, ◌<◌, length, map, slice_index_or, slice_get, All, Some, IfOk, true, false};
 ghost use Rattle.std.specs.List.{list_any};
 ghost use Rattle.std.specs.Option.{option_map_or};
 ghost use Rattle.pp_model.specs.Conditions.{IsFrameOf, IsStackOf};
@@ -9,13 +9,12 @@ ghost use Rattle.pp_grain.specs.Keys.{key_written, IsKeyOf};
 ghost use Rattle.pp_grain.specs.Sight.{same_key};
 ghost use Rattle.pp_stack.specs.Filters.{AreVerdicts};
 ghost use Rattle.pp_stack.specs.Tables.{AreTables};
-ghost use Rattle.pp_count.specs.Counted.{has_own_match};
 ghost use Rattle.pp_count.specs.Seeing.{HoldsFilters};
 ghost use Rattle.pp_tree.specs.Peek.{is_found_key};
 ghost use Rattle.pp_tree.specs.Found.{holds_key, has_own_frame, has_own_number, is_own_at, no_frame, CanAsk};
 
 use indexmap::IndexSet;
-use pp_base::{List, MatchRefusal, Memory};
+use pp_base::{List, Memory};
 use pp_count::{Survey, selected};
 use pp_grain::{Key, Names, counted, key_of};
 use pp_model::{Config, Frame, Loaded, Stack, Verdicts, function_of};
@@ -37,29 +36,22 @@ pub struct Asked<'a> {
     pub column: Option<u32>,
 }
 
-/// For each name whether the own pattern finds the function of a frame that counts and has the name's key. `NoMatch`
-/// says that it finds none of any frame.
-pub fn found_names(alloc: Global, survey: &Survey<'_>) -> Result<List<bool>, MatchRefusal>
-    ensures found { (f : Finders) →
+/// For each name whether the own pattern, of which `own` are the verdicts, finds the function of a frame that counts
+/// and has the name's key. Goes over all samples that the filters leave.
+pub fn found_by_frames(
+    alloc: Global,
+    survey: &Survey<'_>,
+    own: &List<bool>,
+) -> Result<List<bool>, Memory>
+    requires { survey.now.v.now.own ≡ Some own.now }
+    ensures { (f : Finders) →
         HoldsFilters survey.now.l.now survey.now.v.now survey.now.config.now f →
         IfOk result (λ found. found ≡ map (λ key. is_found_key survey.now.l.now.profile f
         survey.now.config.now survey.now.column (key_written survey.now.l.now.profile key))
         survey.now.counted.now.sums.names) }
-    ensures some { (f : Finders) →
-        HoldsFilters survey.now.l.now survey.now.v.now survey.now.config.now f →
-        IfOk result (λ _. has_own_match survey.now.l.now.profile f survey.now.config.now
-        survey.now.column ≡ true) }
-    ensures none { (f : Finders) →
-        HoldsFilters survey.now.l.now survey.now.v.now survey.now.config.now f →
-        IfErr result (λ e. e ≡ MatchRefusal.NoMatch →
-        has_own_match survey.now.l.now.profile f survey.now.config.now
-        survey.now.column ≡ false) }
 {
     let (l, v, counted) = (survey.l, survey.v, survey.counted);
     let _compact = l.profile.get();
-    let Some(own) = &v.own else {
-        return Err(MatchRefusal::NoMatch);
-    };
     let asked = Asked {
         l,
         v,
@@ -69,11 +61,7 @@ pub fn found_names(alloc: Global, survey: &Survey<'_>) -> Result<List<bool>, Mat
     };
     let tables = &survey.filters().tables;
     let keys = own_keys(alloc, &asked, tables, counted.kept.as_slice())?;
-    if keys.len() == 0 {
-        return Err(MatchRefusal::NoMatch);
-    }
-    let found = marks(alloc, &counted.sums.names, &keys)?;
-    Ok(found)
+    marks(alloc, &counted.sums.names, &keys)
 }
 
 // The keys of the frames that count and that the pattern finds, over the samples of these numbers whose value isn't 0.

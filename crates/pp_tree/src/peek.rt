@@ -11,8 +11,8 @@ ghost use Rattle.pp_tree.specs.Peek.{peek_text};
 ghost use Rattle.pp_tree.specs.Ends.{Pairs, ShowsPairs, CanWalk, peeked_text};
 ghost use Rattle.pp_tree.specs.Whole.{all_pairs, pairs_about};
 
+use crate::found::found_names;
 use crate::nodes::{NodeTable, put_nodes, put_table_heading};
-use crate::own::found_names;
 use pp_base::{Gate, List, MatchRefusal, Memory, Text};
 use pp_count::{Counted, Ends, Survey, edges_about};
 use pp_graph::{Graph, rank_all};

@@ -3,7 +3,7 @@ use Rattle.std.proofs.lemmas.Int.{to_z-of_z}
 use Rattle.pp_units.specs.Head.{facts, facts_text}
 use Rattle.pp_units.specs.Rows.{showing_line}
 use Rattle.pp_units.specs.Shown.{shown}
-use Rattle.pp_base.proofs.TextLemmas.{put_is, joined_four}
+use Rattle.pp_base.proofs.TextLemmas.{joined_four}
 use Rattle.pp_tree.specs.Nodes.{table_heading, tree_nodes_text}
 use Rattle.pp_tree.specs.Ends.{node_at}
 use Rattle.pp_tree.proofs.peek.put_peek.Goals as goal
