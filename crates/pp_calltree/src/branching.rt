@@ -11,7 +11,7 @@ use crate::path::Path;
 use crate::paths::number;
 use pp_base::Memory;
 
-/// The branches of these sorted paths below so many keys, in the place of what was found before.
+/// Makes the branches of these sorted paths below `depth` keys the content of `found`.
 pub fn find_branches<'p, 'k>(
     paths: &'p [Path<'k>],
     depth: usize,
@@ -34,7 +34,7 @@ pub fn find_branches<'p, 'k>(
     Ok(())
 }
 
-// How many of the paths have the key of the first one below so many others. 1, where it has none.
+// How many of the paths have the first one's key below `depth` others. 1 if it has none there.
 fn first_run(paths: &[Path], depth: usize) -> usize
     requires { 0 < length paths.now }
     ensures value { result ≡ first_run depth paths.now }
@@ -46,7 +46,7 @@ fn first_run(paths: &[Path], depth: usize) -> usize
     }
 }
 
-// How many of the paths, from the first on, have this key below so many others.
+// How many of the paths, from the first on, have this key below `depth` others.
 fn run_length(paths: &[Path], depth: usize, key: u32) -> usize
     ensures value { result ≡ run_length (has_key_below depth key) paths.now }
     ensures within { result ≤ length paths.now }
@@ -86,7 +86,7 @@ fn add_branch<'p, 'k>(
     Ok(())
 }
 
-// The branch of the key, which all these paths have below so many others.
+// The branch of the key, which all these paths have below `depth` others.
 fn branch_of<'p, 'k>(run: &'p [Path<'k>], depth: usize, key: u32) -> Result<Branch<'p, 'k>, Memory>
     requires deep { depth ≤ 2 ^ 32 }
     requires fits { absolute (below (depth + 1) run.now) < 2 ^ 63 }
@@ -102,7 +102,7 @@ fn branch_of<'p, 'k>(run: &'p [Path<'k>], depth: usize, key: u32) -> Result<Bran
     })
 }
 
-// The sums over the paths that have no key below so many others, and over all.
+// The sums over the paths that have no key below `depth` others, and over all.
 fn sums_of(run: &[Path], depth: usize) -> (i64, i64)
     requires { absolute (below depth run.now) < 2 ^ 63 }
     ensures flat { result.0 ≡ sum_where is_end (below depth run.now) }
@@ -117,7 +117,7 @@ fn sums_of(run: &[Path], depth: usize) -> (i64, i64)
     (flat, cum)
 }
 
-// The value of a path that has no key below so many others, and else 0.
+// The value of a path that has no key below `depth` others, and else 0.
 fn own_value(path: &Path, depth: usize) -> i64
     ensures { result ≡ own_path_value depth path.now }
 {

@@ -17,5 +17,5 @@ mod writing;
 
 pub use building::{PathSums, ReportPaths};
 pub use listing::PathSum;
-pub use tree::{CallTree, PathNode, PathNodes, key_at};
-pub use writing::{write_calltree, write_path_nodes};
+pub use tree::{CallTree, PathNode, key_at};
+pub use writing::{write_calltree, write_calltree_of};

@@ -15,7 +15,7 @@ use pp_base::Memory;
 use pp_grain::texts_order;
 use std::cmp::Ordering;
 
-/// Adds the branches of the paths below so many keys, the last one first. What was found before is written over.
+/// Adds the branches of the paths below `depth` keys to `waiting`, the last one first. `found` is room for them.
 pub fn push_branches<'p, 'k>(
     texts: &Texts,
     paths: &'p [Path<'k>],

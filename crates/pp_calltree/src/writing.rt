@@ -18,6 +18,7 @@ use crate::branching::plus;
 use crate::shown::shown_nodes;
 use crate::tree::{CallTree, PathNode, PathNodes};
 use pp_base::{Memory, Text};
+use pp_count::Survey;
 use pp_grain::write_name;
 use pp_model::{Config, Loaded};
 use pp_units::{HEADING, Head, put_dropped_nodes, write_head};
@@ -45,8 +46,25 @@ pub fn write_calltree(
     write_path_nodes(alloc, l, &t.tree, config, head, out)
 }
 
-/// What `write_calltree` does, for a tree without links.
-pub fn write_path_nodes(
+/// Appends the text of the report's call tree, as `write_calltree` does. No links are made.
+pub fn write_calltree_of(
+    alloc: Global,
+    survey: &Survey<'_>,
+    head: &Head,
+    out: &mut Text,
+) -> Result<(), Memory>
+    ensures ok { (f : Finders) →
+        HoldsFilters survey.now.l.now survey.now.v.now survey.now.config.now f →
+        OnOk result (out.new ≡ out.old ++ calltree_text survey.now.l.now.profile f
+        survey.now.config.now survey.now.column (facts head.now)) }
+    ensures err { OnErr result (out.new ≡ out.old) }
+{
+    let nodes = PathNodes::build(alloc, survey)?;
+    write_path_nodes(alloc, survey.l, &nodes, survey.config, head, out)
+}
+
+// The text of the tree of these nodes.
+fn write_path_nodes(
     alloc: Global,
     l: &Loaded,
     t: &PathNodes,

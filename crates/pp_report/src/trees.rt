@@ -10,7 +10,7 @@ use crate::host::Host;
 use crate::subject::Subject;
 use crate::texts::tree;
 use pp_base::{Gate, Memory, Text};
-use pp_calltree::{PathNodes, write_path_nodes};
+use pp_calltree::write_calltree_of;
 use std::alloc::Global;
 use std::thread::Threads;
 
@@ -39,9 +39,7 @@ fn call_tree(alloc: Global, subject: &Subject<'_, '_>) -> Result<Text, Memory>
         IfOk result (λ text. text ≡ calltree_text s.l.now.profile f s.config.now s.column
         (facts subject.now.head.now)) }
 {
-    let s = &subject.survey;
-    let nodes = PathNodes::build(alloc, s)?;
     let mut text = Text::new(alloc);
-    write_path_nodes(alloc, s.l, &nodes, s.config, subject.head, &mut text)?;
+    write_calltree_of(alloc, &subject.survey, subject.head, &mut text)?;
     Ok(text)
 }

@@ -7,6 +7,7 @@ ghost use Rattle.pp_samples.specs.Places.{AreEven, EachEven, Renames, IsPlaceIn,
 use crate::tag_name::TagName;
 use crate::tag_table::{TagTable, add_known, add_tag, no_tags};
 use pp_base::Memory;
+use pp_keys::HashKeys;
 use std::alloc::Global;
 
 /// Keys with their sums, and by a key's number the table of its tags.
@@ -28,12 +29,12 @@ pub struct TagPlace {
 }
 
 /// A table without keys.
-pub fn no_keys(alloc: Global) -> Result<KeyTable, Memory>
+pub fn no_keys(alloc: Global, hash_keys: HashKeys) -> Result<KeyTable, Memory>
     ensures even { IfOk result AreEven }
     ensures keys { IfOk result (λ keys. AreKeys [] keys) }
 {
     Ok(KeyTable {
-        keys: no_tags(alloc)?,
+        keys: no_tags(alloc, hash_keys)?,
         tags: Vec::new(alloc),
     })
 }
@@ -58,7 +59,8 @@ pub fn add_label(
         OnOk result (AreKeys (events ++ e ∷ []) keys.new) }
 {
     let k = add_tag(&mut keys.keys, key, value, turn)?;
-    make_room(alloc, &mut keys.tags, k as usize)?;
+    let hash_keys = keys.keys.names.hash_keys();
+    make_room(alloc, hash_keys, &mut keys.tags, k as usize)?;
     let t = add_at(&mut keys.tags, k as usize, tag, value, turn)?;
     Ok(TagPlace { key: k, tag: t })
 }
@@ -78,14 +80,19 @@ pub fn add_known_label(keys: &mut KeyTable, place: TagPlace, value: i64, turn: u
 }
 
 // Room for a table at this place, which is at most the first one that there is none at.
-fn make_room(alloc: Global, tables: &mut Vec<TagTable>, place: usize) -> Result<(), Memory>
+fn make_room(
+    alloc: Global,
+    hash_keys: HashKeys,
+    tables: &mut Vec<TagTable>,
+    place: usize,
+) -> Result<(), Memory>
     ensures even { EachEven tables.old.items → OnOk result (EachEven tables.new.items) }
     ensures room { OnOk result (Roomed tables.old.items tables.new.items place) }
 {
     if place < tables.len() {
         return Ok(());
     }
-    let empty = no_tags(alloc)?;
+    let empty = no_tags(alloc, hash_keys)?;
     tables.push(empty)?;
     Ok(())
 }

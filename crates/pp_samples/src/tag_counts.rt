@@ -16,6 +16,7 @@ use crate::tag_name::{key_name, tag_name};
 use indexmap::IndexMap;
 use pp_base::{List, Memory};
 use pp_count::{Survey, selected};
+use pp_keys::HashKeys;
 use pp_model::{Label, Profile, Sample};
 use pp_tags::show_tags_into;
 use std::alloc::Global;
@@ -26,7 +27,7 @@ pub struct TagCounts {
     /// The keys and their tags so far.
     pub keys: KeyTable,
     /// Where the tag of a label stands that was seen before.
-    pub places: IndexMap<Label, TagPlace>,
+    pub places: IndexMap<Label, TagPlace, HashKeys>,
 }
 
 /// The sums of the tags that are shown of the samples with these numbers, and of their keys.
@@ -39,7 +40,7 @@ pub fn count_tags(alloc: Global, survey: &Survey<'_>, kept: &[u32]) -> Result<Ke
         (map (survey_tagged survey.now f) (samples_at (survey_profile survey.now) kept.now)))) }
 {
     let samples = survey.l.profile.get().sample.as_slice();
-    let mut counts = no_counts(alloc)?;
+    let mut counts = no_counts(alloc, survey.hash_keys())?;
     let mut shown = List::new(alloc);
     let mut turn: u64 = 0;
     for number in kept {
@@ -52,13 +53,13 @@ pub fn count_tags(alloc: Global, survey: &Survey<'_>, kept: &[u32]) -> Result<Ke
 }
 
 // No tags.
-fn no_counts(alloc: Global) -> Result<TagCounts, Memory>
+fn no_counts(alloc: Global, hash_keys: HashKeys) -> Result<TagCounts, Memory>
     ensures sound { IfOk result (λ counts. (p : Tables) → AreSound p counts) }
     ensures keys { IfOk result (λ counts. AreKeys [] counts.keys) }
 {
     Ok(TagCounts {
-        keys: no_keys(alloc)?,
-        places: IndexMap::new(alloc),
+        keys: no_keys(alloc, hash_keys)?,
+        places: IndexMap::with_hasher(alloc, hash_keys),
     })
 }
 
@@ -138,7 +139,7 @@ fn count_label(
 }
 
 // The place of the label's tag, where the label was seen.
-fn place_of(places: &IndexMap<Label, TagPlace>, label: &Label) -> Option<TagPlace>
+fn place_of(places: &IndexMap<Label, TagPlace, HashKeys>, label: &Label) -> Option<TagPlace>
     ensures { result ≡ get same_label_parts places.now label.now }
 {
     match places.get(label) {

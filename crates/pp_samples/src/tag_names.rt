@@ -3,13 +3,14 @@
 use crate::tag_name::TagName;
 use indexmap::IndexSet;
 use pp_base::Memory;
+use pp_keys::HashKeys;
 use std::alloc::Global;
 use std::marker::Model;
 
 /// The tags seen so far, without repeats. A tag's number is its place in the order of first sight.
 #[derive(Drop)]
 pub struct TagNames {
-    seen: IndexSet<TagName>,
+    seen: IndexSet<TagName, HashKeys>,
 }
 
 impl Model for TagNames {
@@ -29,12 +30,17 @@ impl TagNames {
     ghost use Rattle.pp_samples.specs.Names.{name_texts};
 
     /// No tags.
-    pub fn new(alloc: Global) -> Result<TagNames, Memory>
+    pub fn new(alloc: Global, hash_keys: HashKeys) -> Result<TagNames, Memory>
         ensures { IfOk result (λ names. names ≡ []) }
     {
         Ok(TagNames {
-            seen: IndexSet::new(alloc),
+            seen: IndexSet::with_hasher(alloc, hash_keys),
         })
+    }
+
+    /// What the tags are hashed by, for other tables of the same file.
+    pub fn hash_keys(&self) -> HashKeys {
+        *self.seen.hasher()
     }
 
     /// The tag's number. A tag that is new gets the next one.

@@ -9,6 +9,7 @@ ghost use Rattle.pp_samples.specs.Places.{IsEven};
 use crate::tag_name::TagName;
 use crate::tag_names::TagNames;
 use pp_base::Memory;
+use pp_keys::HashKeys;
 use std::alloc::Global;
 
 /// What the samples come to that have a tag.
@@ -41,12 +42,12 @@ pub struct TagTable {
 }
 
 /// A table without tags.
-pub fn no_tags(alloc: Global) -> Result<TagTable, Memory>
+pub fn no_tags(alloc: Global, hash_keys: HashKeys) -> Result<TagTable, Memory>
     ensures even { IfOk result IsEven }
     ensures table { IfOk result (λ table. IsTableOf [] table) }
 {
     Ok(TagTable {
-        names: TagNames::new(alloc)?,
+        names: TagNames::new(alloc, hash_keys)?,
         sums: Vec::new(alloc),
     })
 }

@@ -14,6 +14,7 @@ use crate::split::SplitSource;
 use indexmap::IndexSet;
 use pp_base::{List, Memory};
 use pp_desk::{Desk, Stop};
+use pp_keys::HashKeys;
 use pp_model::Config;
 use std::alloc::Global;
 
@@ -21,7 +22,7 @@ use std::alloc::Global;
 #[derive(Drop)]
 pub struct Sources<'a, 's> {
     /// The files, in the order of the reads.
-    pub files: IndexSet<&'a [u8]>,
+    pub files: IndexSet<&'a [u8], HashKeys>,
     /// The source of each, cut into lines, in the same order.
     pub sources: Vec<SplitSource<'s>>,
 }
@@ -38,11 +39,15 @@ impl<'s> Sources<'_, 's> {
 }
 
 /// The files of the lines, each once, in the order in which the lines need them. `Err` is want of memory.
-pub fn files_of<'a>(alloc: Global, lines: &[FoundLine<'a>]) -> Result<IndexSet<&'a [u8]>, Memory>
+pub fn files_of<'a>(
+    alloc: Global,
+    hash_keys: HashKeys,
+    lines: &[FoundLine<'a>],
+) -> Result<IndexSet<&'a [u8], HashKeys>, Memory>
     ensures { IfOk result (λ files.
         map (λ f. f.now) files.keys ≡ files_of_lines (lines_texts lines.now)) }
 {
-    let mut files = IndexSet::new(alloc);
+    let mut files = IndexSet::with_hasher(alloc, hash_keys);
     for line in lines {
         files.insert(line.texts.file)?;
     }

@@ -9,6 +9,7 @@ ghost use Rattle.pp_source.specs.Found.{IsFoundOf, has_own_function, key_at, par
 use indexmap::IndexSet;
 use pp_base::Memory;
 use pp_grain::{Key, Names};
+use pp_keys::HashKeys;
 use pp_model::{Loaded, Verdicts};
 use std::alloc::Global;
 
@@ -25,7 +26,7 @@ pub enum KeyPart {
 #[derive(Debug, Drop)]
 pub struct FoundKeys {
     /// The parts, by number.
-    pub names: IndexSet<Key>,
+    pub names: IndexSet<Key, HashKeys>,
     /// For each key, by its number, the number of its part; the count of the parts where the pattern does not find it.
     pub numbers: Vec<u64>,
 }
@@ -54,12 +55,12 @@ fn names_found(
     v: &Verdicts,
     part: KeyPart,
     keys: &Names,
-) -> Result<IndexSet<Key>, Memory>
+) -> Result<IndexSet<Key, HashKeys>, Memory>
     requires verdicts { HasOnePerText l.now.profile v.now.own }
     requires keys { All (IsKeyOf l.now.profile) keys.now }
     ensures { IfOk result (λ names. names.keys ≡ found_parts v.now.own part keys.now) }
 {
-    let mut names = IndexSet::new(alloc);
+    let mut names = IndexSet::with_hasher(alloc, keys.hash_keys());
     for number in 0..keys.len() {
         let key = keys.key(number);
         if is_own(l, v, &key) {
@@ -73,7 +74,7 @@ fn names_found(
 fn numbers_of(
     alloc: Global,
     part: KeyPart,
-    names: &IndexSet<Key>,
+    names: &IndexSet<Key, HashKeys>,
     keys: &Names,
 ) -> Result<Vec<u64>, Memory>
     ensures { IfOk result (λ numbers.
@@ -99,7 +100,7 @@ fn is_own(l: &Loaded, v: &Verdicts, key: &Key) -> bool
 }
 
 // The number of the key's part.
-fn part_number(part: KeyPart, names: &IndexSet<Key>, key: &Key) -> u64
+fn part_number(part: KeyPart, names: &IndexSet<Key, HashKeys>, key: &Key) -> u64
     ensures { result ≡ part_number part names.now.keys key.now }
 {
     match names.get_index_of(&part_key(part, key)) {

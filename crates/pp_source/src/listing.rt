@@ -24,6 +24,7 @@ use indexmap::IndexSet;
 use pp_base::{Memory, Text};
 use pp_count::{Counted, Survey};
 use pp_desk::{Desk, Stop};
+use pp_keys::HashKeys;
 use pp_model::{Config, Loaded, Verdicts};
 use pp_units::{Head, put_size};
 use std::alloc::Global;
@@ -154,7 +155,7 @@ fn list_lines<D: Desk>(
         Went (D.world desk.old) (D.world desk.new) (list_lines listing.now.survey.now.config.now
         samples (facts listing.now.head.now) (lines_texts lines.now)) result }
 {
-    let files = files_of(alloc, lines)?;
+    let files = files_of(alloc, listing.survey.hash_keys(), lines)?;
     match read_sources(alloc, listing.survey.config, files.as_slice(), desk) {
         Ok(sources) => {
             let text = text_of_files(alloc, listing, files, sources.as_slice(), lines);
@@ -172,7 +173,7 @@ fn list_lines<D: Desk>(
 fn text_of_files<'a>(
     alloc: Global,
     listing: &Listing<'_>,
-    files: IndexSet<&'a [u8]>,
+    files: IndexSet<&'a [u8], HashKeys>,
     sources: &[Source],
     lines: &[FoundLine<'a>],
 ) -> Result<Text, Memory>

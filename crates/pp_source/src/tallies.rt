@@ -7,12 +7,13 @@ use crate::amounts::Amounts;
 use indexmap::IndexSet;
 use pp_count::{Tallies, Tally, tally_of};
 use pp_grain::Key;
+use pp_keys::HashKeys;
 
 /// Keys, and what samples come to in each.
 #[derive(Drop)]
 pub struct KeyTallies {
     /// The keys, by number.
-    pub names: IndexSet<Key>,
+    pub names: IndexSet<Key, HashKeys>,
     /// What each has, by number. One number more has what is none of them.
     pub sums: Tallies,
 }

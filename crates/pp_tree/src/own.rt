@@ -17,6 +17,7 @@ use indexmap::IndexSet;
 use pp_base::{List, Memory};
 use pp_count::{Survey, selected};
 use pp_grain::{Key, Names, counted, key_of};
+use pp_keys::HashKeys;
 use pp_model::{Config, Frame, Loaded, Stack, Verdicts, function_of};
 use pp_stack::{VerdictTables, filter_into};
 use std::alloc::Global;
@@ -60,17 +61,24 @@ pub fn found_by_frames(
         column: survey.column,
     };
     let tables = &survey.filters().tables;
-    let keys = own_keys(alloc, &asked, tables, counted.kept.as_slice())?;
+    let keys = own_keys(
+        alloc,
+        survey.hash_keys(),
+        &asked,
+        tables,
+        counted.kept.as_slice(),
+    )?;
     marks(alloc, &counted.sums.names, &keys)
 }
 
 // The keys of the frames that count and that the pattern finds, over the samples of these numbers whose value isn't 0.
 fn own_keys(
     alloc: Global,
+    hash_keys: HashKeys,
     asked: &Asked<'_>,
     tables: &VerdictTables,
     kept: &[u32],
-) -> Result<IndexSet<Key>, Memory>
+) -> Result<IndexSet<Key, HashKeys>, Memory>
     requires can { CanAsk asked.now }
     requires tables { AreTables asked.now.l.now.profile asked.now.v.now tables.now }
     ensures of_profile { IfOk result (λ keys. All (IsKeyOf asked.now.l.now.profile) keys.keys) }
@@ -81,7 +89,7 @@ fn own_keys(
         kept.now) }
 {
     let mut stack = List::new(alloc);
-    let mut keys = IndexSet::new(alloc);
+    let mut keys = IndexSet::with_hasher(alloc, hash_keys);
     for number in kept {
         add_sample(asked, tables, *number, &mut stack, &mut keys)?;
     }
@@ -94,7 +102,7 @@ fn add_sample(
     tables: &VerdictTables,
     number: u32,
     stack: &mut Stack,
-    keys: &mut IndexSet<Key>,
+    keys: &mut IndexSet<Key, HashKeys>,
 ) -> Result<(), Memory>
     requires can { CanAsk asked.now }
     requires tables { AreTables asked.now.l.now.profile asked.now.v.now tables.now }
@@ -119,7 +127,11 @@ fn add_sample(
     add_stack(asked, stack, keys)
 }
 
-fn add_stack(asked: &Asked<'_>, stack: &Stack, keys: &mut IndexSet<Key>) -> Result<(), Memory>
+fn add_stack(
+    asked: &Asked<'_>,
+    stack: &Stack,
+    keys: &mut IndexSet<Key, HashKeys>,
+) -> Result<(), Memory>
     requires can { CanAsk asked.now }
     requires frames { IsStackOf asked.now.l.now.profile stack.now }
     ensures of_profile { All (IsKeyOf asked.now.l.now.profile) keys.old.keys →
@@ -140,7 +152,7 @@ fn add_frame(
     asked: &Asked<'_>,
     stack: &Stack,
     place: usize,
-    keys: &mut IndexSet<Key>,
+    keys: &mut IndexSet<Key, HashKeys>,
 ) -> Result<(), Memory>
     requires can { CanAsk asked.now }
     requires place { place < length stack.now }
@@ -176,7 +188,7 @@ fn is_own(asked: &Asked<'_>, frame: &Frame) -> bool
 }
 
 // For each name whether it is one of these keys.
-fn marks(alloc: Global, names: &Names, keys: &IndexSet<Key>) -> Result<List<bool>, Memory>
+fn marks(alloc: Global, names: &Names, keys: &IndexSet<Key, HashKeys>) -> Result<List<bool>, Memory>
     ensures { IfOk result (λ marks.
         marks ≡ map (λ key. list_any (same_key key) keys.now.keys) names.now) }
 {

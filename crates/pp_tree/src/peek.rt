@@ -135,7 +135,7 @@ fn graph_about<R: Threads + Sync, G: Gate>(
     Graph::make(alloc, sums, edges)
 }
 
-// So many names, all of them kept.
+// A mark for each of `names` names, all of them set.
 fn all_kept(alloc: Global, names: u64) -> Result<List<bool>, Memory>
     ensures { IfOk result (λ keep. keep ≡ replicate names true) }
 {

@@ -3,6 +3,4 @@ use Rattle.pp_report.proofs.trees.call_tree.Goals as goal
 
 -- it is the whole text
 pub returns : goal.returns
-returns c = λ f holds.
-    made_text c.write_path_nodes.new.out c.new-text.result _ c.new-text.ensures
-    (c.in_ok-write_path_nodes.ensures.ok c.args.subject.now.survey.v.now c.args.subject.now.survey.column f c.in_ok-nodes.ensures holds)
+returns c = λ f holds. made_text c.write_calltree_of.new.out c.new-text.result _ c.new-text.ensures (c.in_ok-write_calltree_of.ensures.ok f holds)
