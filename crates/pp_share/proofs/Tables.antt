@@ -183,7 +183,7 @@ module _ {A B : Type 0} {same : B → B → Bool} {say : A → B} {items : List 
       ∙ ap (λ n. n + 1) (sym (place-map same_id same (said say items none) (Names (length items)) said_tell id is ids walk_names)
       ∙ ap (λ t. place_of same t (said say items none id)) (sym walk_told))
 
-  -- the same of a reference, which may be none
+  -- what is read by a reference, which may be none
   pub walk_ref : (id : ℕ) → IsRef (length items) id → place_id ids id ≡ option_map_or (λ x. place_of same told x + 1) (place_read (map say items) id) 0
   walk_ref id is = elim (cases_eq id 0) as (λ _. place_id ids id ≡ option_map_or (λ x. place_of same told x + 1) (place_read (map say items) id) 0) [
     | inl none_is ↦

@@ -24,11 +24,11 @@ pub record AreHashesBy (hash : Sample → ℕ) (samples : List Sample) (n : Hash
   pub values : n.have_values ≡ list_all has_values samples
   pub together : n.together ≡ capped (sum_together samples)
 
--- the same, once the samples have their new ids
+-- the hashes of the samples once they have their new ids
 abbrev pub AreHashes : NewIds → List Sample → Hashes → Type 0
 AreHashes by samples n = AreHashesBy (hash_by by) samples n
 
--- the same, by the ids that the samples have
+-- the hashes of the samples by the ids that they have
 abbrev pub AreOwnHashes : List Sample → Hashes → Type 0
 AreOwnHashes samples n = AreHashesBy sample_hash samples n
 

@@ -24,7 +24,7 @@ new_id (Moved known behind) id = behind_id behind.after behind.len (known_id kno
 new_id (Listed ids) id = place_id ids id
 new_id (By ids) id = listed_id ids id
 
--- each of so many ids becomes the one at its place among these
+-- each of the first `count` ids becomes the one at its place among these
 abbrev pub GivesIds : ℕ → Ids → List ℕ → Type 0
 GivesIds count by ids = (id : ℕ) → 1 ≤ id → id ≤ count → new_id by id ≡ listed_id ids id
 

@@ -15,7 +15,7 @@ with_placed_labels by texts s = record s { label = map (placed_label texts) (map
 abbrev pub with_placed_locations : NewIds → List ℕ → Sample → Sample
 with_placed_locations by met s = record s { location_id = map (place_id met) (map by.location s.location_id) }
 
--- the same from the index on
+-- the sample at the index, placed so where it is not one of the `first` samples in front
 abbrev pub placed_from : ℕ → NewIds → List ℕ → ℕ → Sample → Sample
 placed_from first by met index s = if nat_le first index then with_placed_locations by met s else s
 

@@ -94,6 +94,6 @@ module _ (by : NewIds) where
         comment = map by.text p.comment;
       })
 
-  -- the same, but for the samples, which stay
+  -- the profile with all tables but the samples renumbered
   abbrev pub renumbered_tables : Profile → Profile
   renumbered_tables p = record (renumbered p) { sample = p.sample }

@@ -9,7 +9,7 @@ use Rattle.pp_share.specs.Sums.{counts, summed}
 abbrev pub sample_stack : Sample → List ℕ × List Label
 sample_stack s = (s.location_id, s.label)
 
--- the same, and its values
+-- the sample's locations and labels, and its values
 abbrev pub sample_item : Sample → (List ℕ × List Label) × List ℤ
 sample_item s = (sample_stack s, s.value)
 

@@ -17,7 +17,7 @@ pub record CanSum (columns : ℕ) (samples : List Sample) : Type 0 where
   pub wide : All (λ s. length s.value ≡ columns) samples
   pub fits : (column : ℕ) → column < columns → sum_by (λ s. nat_abs (value_in s column)) samples ≤ 2 ^ 63 - 1
 
--- rows of so many columns added up
+-- rows added up, of this number of columns
 abbrev pub column_totals : ℕ → List (List ℤ) → List ℤ
 column_totals columns rows = fold added (replicate columns (pos 0)) rows
 

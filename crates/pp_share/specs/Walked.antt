@@ -39,7 +39,7 @@ locations_met p = met_after [] (flat_map location_refs p.sample)
 abbrev pub with_locations : Profile → Profile
 with_locations p = record p { location = gathered location_entry p.location (locations_met p) }
 
--- the same, and with its samples by places, where those are their texts
+-- the profile with these locations, and with its samples by places, where those are their texts
 abbrev pub with_placed_samples : List ℕ → Profile → Profile
 with_placed_samples texts p =
     record (with_locations p) { sample = map (placed_sample (locations_met p) texts) p.sample }

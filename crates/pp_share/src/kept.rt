@@ -12,8 +12,8 @@ use crate::known::are_in_place;
 use crate::renumbering::Renumbering;
 use pp_model::Sample;
 
-/// The hashes that are known of the samples, where they are also those of the samples with their new ids: where none
-/// of the entries that samples name got another id. Their labels name some of so many texts.
+/// The known hashes of the samples, if they are also those of the samples with their new ids: if none of the entries that
+/// samples name got another id. The labels name some of `texts` texts.
 pub fn kept_hashes(
     known: Option<Hashes>,
     samples: &[Sample],
@@ -29,14 +29,14 @@ pub fn kept_hashes(
     None
 }
 
-// Whether samples keep their ids, where their labels name some of so many texts.
+// Whether samples whose labels name some of `texts` texts keep their ids.
 fn keeps_samples(by: &Renumbering, texts: usize) -> bool
     ensures { OnTrue result (KeepsSamples texts (new_ids by.now)) }
 {
     by.location.keeps_all() && keeps_texts(&by.text, texts)
 }
 
-// Whether the index of each of so many texts stays.
+// Whether the index of each of `texts` texts stays.
 fn keeps_texts(ids: &Ids, texts: usize) -> bool
     ensures { OnTrue result ((i : ℤ) → is_text_of texts i ≡ true → new_text ids.now i ≡ i) }
 {

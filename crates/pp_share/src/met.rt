@@ -67,7 +67,7 @@ impl Met {
         self.place_new(id)
     }
 
-    // The same, where the table does not know the id.
+    // `place` for an id that the table `places` does not know.
     #[inline(never)]
     #[tactic(auto, using(crate::proofs::MetLemmas::placed_now))]
     fn place_new(&mut self, id: u64) -> Result<u64, Memory>

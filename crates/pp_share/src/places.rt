@@ -99,8 +99,8 @@ fn keys_by(
     keys
 }
 
-// What ids become that get these. Where no location repeats, all stay: samples name many, so they are not gone through
-// then.
+// What the ids of locations become, where `ids` has the new one of each. Where no location repeats, all stay, and the many
+// locations of samples need not be gone through.
 fn ids_by(ids: List<u64>) -> Ids
     ensures { GivesIds (length ids) result ids }
 {
@@ -137,7 +137,7 @@ fn location_keys(
     ensures { IfOk result (λ keys. map place_of_key keys.items
         ≡ map (distant mappings.now ids.now) locations) }
 {
-    let mut keys = Vec::new(alloc);
+    let mut keys = Vec::with_capacity(alloc, locations.len())?;
     for location in locations.into_vec() {
         keys.push(location_key(location, mappings, ids))?;
     }

@@ -172,7 +172,7 @@ pub fn renumber(p: &mut Profile, by: &Renumbering)
     renumber_tables(p, by);
 }
 
-/// The same, but for the samples, which stay.
+/// Gives the ids and references of all tables but the samples their new numbers.
 pub fn renumber_tables(p: &mut Profile, by: &Renumbering)
     ensures { p.new ≡ renumbered_tables (new_ids by.now) p.old }
 {

@@ -60,7 +60,7 @@ fn number_texts(
 fn text_keys(alloc: Global, texts: List<Text>) -> Result<Vec<Vec<u8>>, Memory>
     ensures { IfOk result (λ keys. map (λ key. key.items) keys.items ≡ texts) }
 {
-    let mut keys = Vec::new(alloc);
+    let mut keys = Vec::with_capacity(alloc, texts.len())?;
     for text in texts.into_vec() {
         keys.push(text.into_vec())?;
     }
