@@ -1,9 +1,9 @@
 -- Places that are searched for.
-use Rattle.std.proofs.Common.{◌≡◌, ℕ, ◌+◌, ◌≤◌, Bool, true, false, cond, not, List, [], ◌∷◌, length, nat_lt, refl, sym, arith}
+use Rattle.std.proofs.Common.{◌≡◌, ◌+◌, ◌≤◌, Bool, true, false, cond, not, List, [], ◌∷◌, length, nat_lt, refl, sym, arith}
 use Rattle.std.specs.Prelude.{position, Some, None}
 use Rattle.std.specs.List.{position_or_len}
 use Rattle.std.proofs.lemmas.Bool.{ltb-false}
-use Rattle.std.proofs.lemmas.Option.{none-some, same_Some}
+use Rattle.std.proofs.lemmas.Option.{none-some}
 
 pub place_within : {A : Type 0} (p : A → Bool) (xs : List A) → position_or_len p xs ≤ length xs
 place_within p [] = omega arith
@@ -12,14 +12,6 @@ place_within p (x ∷ xs) = by (p x) (place_within p xs)
     by : (b : Bool) → position_or_len p xs ≤ length xs → cond (not b) (1 + position_or_len p xs) 0 ≤ length (x ∷ xs)
     by true rest = omega arith
     by false rest = omega (arith, rest)
-
--- a place that is found
-pub place_found : {A : Type 0} (p : A → Bool) (xs : List A) (k : ℕ) → position p xs ≡ Some k → position_or_len p xs ≡ k
-place_found p xs k is = by (nat_lt (position_or_len p xs) (length xs)) is
-  where
-    by : (b : Bool) → cond b (Some (position_or_len p xs)) None ≡ Some k → position_or_len p xs ≡ k
-    by true e = same_Some _ _ e
-    by false e = absurd (none-some k e)
 
 -- a place that is not found
 pub place_missed : {A : Type 0} (p : A → Bool) (xs : List A) → position p xs ≡ None → position_or_len p xs ≡ length xs

@@ -1,9 +1,8 @@
 -- Samples of which the values of later ones were added to the first of their kind.
-use Rattle.std.proofs.Common.{◌≡◌, ◌≢◌, ℕ, zero, suc, ◌+◌, ◌/◌, ◌^◌, ◌<◌, ◌≤◌, ◌==◌, Bool, true, false, true≢false, ◌||◌, ◌⊎◌, inl, inr, ℤ, ◌+ℤ◌, pos, nat_abs, List, [], ◌∷◌, ◌++◌, length, map, filter, fold, get_or, set, replicate, sum_by, refl, sym, ap, subst, ◌∙◌, if◌then◌else◌, arith}
-use Rattle.std.specs.List.{All, AllByRecursion, list_any, list_all}
-use Rattle.std.specs.Ordering.{int_eq}
+use Rattle.std.proofs.Common.{◌≡◌, ◌≢◌, ℕ, zero, suc, ◌+◌, ◌/◌, ◌^◌, ◌<◌, ◌≤◌, ◌==◌, Bool, true, false, true≢false, ◌||◌, ◌⊎◌, inl, inr, ℤ, ◌+ℤ◌, pos, nat_abs, List, [], ◌∷◌, ◌++◌, length, map, filter, fold, get_or, set, replicate, refl, sym, ap, subst, ◌∙◌, if◌then◌else◌, arith}
+use Rattle.std.specs.List.{AllByRecursion, list_any}
 use Rattle.std.specs.Cmp.{IsEquivalence}
-use Rattle.std.proofs.lemmas.Bool.{eq-eqb, eqb-true, cases_eq}
+use Rattle.std.proofs.lemmas.Bool.{eqb-true, cases_eq}
 use Rattle.std.proofs.lemmas.Int.{ints}
 use Rattle.std.proofs.lemmas.Nat.{mod_below}
 use Rattle.std.proofs.lemmas.List.{length-append, length-map, length-replicate, length-set, map-append, get_or-map, get_or-set_same, get_or-set_other, set-set, set_comm, get_or_append_left, ext_get_or, append_assoc, append-nil}
@@ -22,7 +21,7 @@ use Rattle.pp_model.specs.Values.{no_sample}
 use Rattle.pp_share.specs.declared.repeats.Repeat.{Repeat}
 use Rattle.pp_share.specs.Hashes.{hash_by}
 use Rattle.pp_share.specs.Renumbered.{NewIds, renumbered_label, renumbered_sample}
-use Rattle.pp_share.specs.Repeats.{class_of, is_later, stack_at, IsFirst, IsPair, IsRepeat, FindsBelow, with_row, with_repeat}
+use Rattle.pp_share.specs.Repeats.{is_later, stack_at, IsFirst, IsPair, IsRepeat, FindsBelow, with_row, with_repeat}
 use Rattle.pp_share.specs.SampleKeys.{sample_item, sample_of, sample_stack, has_values, summed_samples}
 use Rattle.pp_share.specs.SampleStacks.{same_stack}
 use Rattle.pp_share.specs.Sums.{added, column_totals, counts, keys_of, rows_of, sum_of, summed, CanSum}

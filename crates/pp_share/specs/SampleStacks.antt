@@ -1,6 +1,6 @@
 -- The locations and labels by which samples are told apart where texts and locations stand once, and the hash of
 -- these.
-use Rattle.std.specs.Prelude.{◌≡◌, ℕ, ◌*◌, ◌/◌, ◌%◌, ◌^◌, ◌==◌, Bool, ◌&&◌, true, ℤ, List, fold, bit_xor}
+use Rattle.std.specs.Prelude.{◌≡◌, ℕ, ◌*◌, ◌/◌, ◌%◌, ◌^◌, ◌==◌, Bool, ◌&&◌, ℤ, List, fold, bit_xor}
 use Rattle.std.specs.Bool.{Decides}
 use Rattle.std.specs.Int.{w64, cast_unsigned}
 use Rattle.std.specs.Ordering.{int_eq}

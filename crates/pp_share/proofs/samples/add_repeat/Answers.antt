@@ -1,4 +1,4 @@
-use Rattle.std.proofs.Common.{◌≡◌, ◌<◌, List, ℤ, ℕ, pos, nat_abs, get_or, length, map, sym, ap, ◌∙◌, arith}
+use Rattle.std.proofs.Common.{◌≡◌, List, ℤ, pos, nat_abs, get_or, length, map, sym, ap, ◌∙◌, arith}
 use Rattle.pp_model.specs.declared.profile.Sample.{Sample}
 use Rattle.pp_model.specs.Sizes.{value_in}
 use Rattle.pp_model.specs.Values.{no_sample}
