@@ -496,6 +496,8 @@ def main():
     parser.add_argument("parts", nargs="*", metavar="PART", help=", ".join(part.__name__ for part in PARTS))
     parser.add_argument("--large", type=int, metavar="COUNT")
     told = parser.parse_args()
+    # What a part has started ends with it.
+    signal.signal(signal.SIGTERM, lambda *_: sys.exit(128 + signal.SIGTERM))
     chosen = [part for part in PARTS if not told.parts or part.__name__ in told.parts]
     if told.large:
         chosen.append(lambda room: large(room, told.large))

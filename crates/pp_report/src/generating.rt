@@ -12,8 +12,8 @@ ghost use Rattle.pp_report.specs.SavedText.{OnText, IsSavedText};
 
 use crate::ReportRefusal;
 use crate::finishing::finish;
-use crate::preparing::prepare;
 use crate::host::Host;
+use crate::preparing::prepare;
 use pp_base::{Gate, Memory, Text};
 use pp_desk::{Desk, Stop};
 use pp_keys::HashKeys;

@@ -10,9 +10,9 @@ ghost use Rattle.pp_report.specs.Tagged.{basis_of};
 
 use crate::ReportRefusal;
 use crate::asking::ask_patterns;
+use crate::host::Host;
 use crate::notes::notes_by;
 use crate::prepared::{Counts, Prepared};
-use crate::host::Host;
 use crate::shows::{Shows, shows_for};
 use crate::tagging::tagged_of;
 use pp_base::{Gate, Memory, Text};
@@ -184,14 +184,7 @@ fn counted_by<R: Threads + Sync, G: Gate>(
     ensures notes { IfOk result (λ r. r.1 ≡ notes_by config.now r.0.matched.slots) }
 {
     let counted = count(
-        with.rt,
-        with.alloc,
-        with.keys,
-        l,
-        verdicts,
-        config,
-        column,
-        with.gate,
+        with.rt, with.alloc, with.keys, l, verdicts, config, column, with.gate,
     )?;
     match notes_by(with.alloc, config, counted.matched.slots.as_slice()) {
         Ok(notes) => Ok((counted, notes)),
