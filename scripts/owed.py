@@ -56,12 +56,12 @@ def text_lines(tag, content):
     """The lines of a transcript that stand for the bytes."""
     lines = content.split(b"\n")
     last = lines.pop()
-    texts = [spelled_text(line) for line in lines] + ([spelled_text(last) + "\\"] if last else [])
+    texts = [ended(spelled_text(line)) for line in lines] + ([spelled_text(last) + "\\"] if last else [])
     out, at = [], 0
     while at < len(texts):
         count = next((k for k in range(at, len(texts)) if texts[k] != texts[at]), len(texts)) - at
         if count >= MANY and tag == ">":
-            out.append(f">* {count} {texts[at]}".rstrip(" "))
+            out.append(f">* {count} {texts[at]}" if texts[at] else f">* {count}")
         else:
             count = 1
             out.append(f"{tag} {texts[at]}" if texts[at] else tag)
@@ -71,6 +71,11 @@ def text_lines(tag, content):
 
 def spelled_text(line):
     return spelled(line).replace("\\x09", "\\t")
+
+
+def ended(text):
+    """A line with a space at its end that can be seen."""
+    return text[:-1] + "\\x20" if text.endswith(" ") else text
 
 
 def spelled_word(word):
