@@ -16,6 +16,7 @@ import sys
 
 sys.path.insert(0, str(pathlib.Path(__file__).resolve().parent.parent))
 
+from fuzz import FolderMemory, folders_of
 from model.outside import Memory
 from model.patterns import expression, literal
 from model.profile import Unspoken
@@ -39,7 +40,11 @@ def owed_by(session, words):
     """Both outputs, the status and the files at the end, as the model has them."""
     matcher = literal(session.refused) if session.is_literal else expression
     files = {path: bytes(content) for path, content in session.files.items()}
-    outside = Memory(files, bytes(session.texts[ord("<")]), session.locked, matcher)
+    given = bytes(session.texts[ord("<")])
+    if session.is_real:
+        outside = FolderMemory(files, given, folders=folders_of(files) | set(session.locked))
+    else:
+        outside = Memory(files, given, session.locked, matcher)
     status = run(words, outside)
     return (*outside.left(), status, outside.files)
 
