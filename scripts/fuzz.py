@@ -482,10 +482,14 @@ def owed(case):
     """Both outputs, the status and the files, as the model has them."""
     files = {path: content for path, content in case.files.items() if not path.endswith(b"/")}
     folders = {path[:-1] for path in case.files if path.endswith(b"/")}
-    folders |= {b".", b"/", b"//"} | {path[:at] for path in files for at, byte in enumerate(path) if byte == 47}
-    outside = FolderMemory(files, case.given, folders=folders)
+    outside = FolderMemory(files, case.given, folders=folders | folders_of(files))
     status = run(case.words, outside)
     return (*outside.left(), status, outside.files)
+
+
+def folders_of(files):
+    """The folders that files are in, and those that are there in any case."""
+    return {b".", b"/", b"//"} | {path[:at] for path in files for at, byte in enumerate(path) if byte == 47}
 
 
 class FolderMemory(Memory):

@@ -16,6 +16,7 @@ import sys
 
 sys.path.insert(0, str(pathlib.Path(__file__).resolve().parent.parent))
 
+from fuzz import FolderMemory, folders_of
 from model.outside import Memory
 from model.patterns import expression, literal
 from model.profile import Unspoken
@@ -39,7 +40,11 @@ def owed_by(session, words):
     """Both outputs, the status and the files at the end, as the model has them."""
     matcher = literal(session.refused) if session.is_literal else expression
     files = {path: bytes(content) for path, content in session.files.items()}
-    outside = Memory(files, bytes(session.texts[ord("<")]), session.locked, matcher)
+    given = bytes(session.texts[ord("<")])
+    if session.is_real:
+        outside = FolderMemory(files, given, folders=folders_of(files) | set(session.locked))
+    else:
+        outside = Memory(files, given, session.locked, matcher)
     status = run(words, outside)
     return (*outside.left(), status, outside.files)
 
@@ -56,12 +61,12 @@ def text_lines(tag, content):
     """The lines of a transcript that stand for the bytes."""
     lines = content.split(b"\n")
     last = lines.pop()
-    texts = [spelled_text(line) for line in lines] + ([spelled_text(last) + "\\"] if last else [])
+    texts = [ended(spelled_text(line)) for line in lines] + ([spelled_text(last) + "\\"] if last else [])
     out, at = [], 0
     while at < len(texts):
         count = next((k for k in range(at, len(texts)) if texts[k] != texts[at]), len(texts)) - at
         if count >= MANY and tag == ">":
-            out.append(f">* {count} {texts[at]}".rstrip(" "))
+            out.append(f">* {count} {texts[at]}" if texts[at] else f">* {count}")
         else:
             count = 1
             out.append(f"{tag} {texts[at]}" if texts[at] else tag)
@@ -71,6 +76,11 @@ def text_lines(tag, content):
 
 def spelled_text(line):
     return spelled(line).replace("\\x09", "\\t")
+
+
+def ended(text):
+    """A line with a space at its end that can be seen."""
+    return text[:-1] + "\\x20" if text.endswith(" ") else text
 
 
 def spelled_word(word):

@@ -16,6 +16,7 @@ class Session:
     locked: list = dataclasses.field(default_factory=list)
     workers: list = dataclasses.field(default_factory=list)
     is_literal: bool = False
+    is_real: bool = False
     refused: list = dataclasses.field(default_factory=list)
     texts: dict = dataclasses.field(default_factory=lambda: {tag: bytearray() for tag in b"<>!"})
     status: int = 0
@@ -146,6 +147,9 @@ class Reader:
     def read_workers(self, rest):
         self.session.workers += words_of(rest)
 
+    def read_real(self, _rest):
+        self.session.is_real = True
+
     def read_command(self, rest):
         name, *words = words_of(rest)
         if name != b"pprof":
@@ -175,7 +179,7 @@ class Reader:
         b"put": put,
         b"put*": put_often,
         b"locked": read_locked,
-        b"real": pass_over,
+        b"real": read_real,
         b"literal": read_literal,
         b"workers": read_workers,
         b"faults": pass_over,
