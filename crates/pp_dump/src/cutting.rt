@@ -29,13 +29,13 @@ pub struct Cut {
 }
 
 /// No samples, with room for so many, and the locations of the profile.
-pub fn none_cut(alloc: Global, p: &Profile, room: usize) -> Result<Cut, Memory>
+pub fn none_cut(alloc: Global, hash_keys: HashKeys, p: &Profile, room: usize) -> Result<Cut, Memory>
     ensures samples { IfOk result (λ cut. cut.samples ≡ []) }
     ensures locations { IfOk result (λ cut. cut.places.locations ≡ p.now.location) }
 {
     Ok(Cut {
         samples: no_items(alloc, room)?,
-        places: places_of(alloc, HashKeys::fixed(), p)?,
+        places: places_of(alloc, hash_keys, p)?,
         stack: List::new(alloc),
         ids: List::new(alloc),
         labels: List::new(alloc),

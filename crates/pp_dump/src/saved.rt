@@ -18,6 +18,7 @@ ghost use Rattle.pp_dump.specs.Places.{IsCutOf};
 use crate::cutting::{cut_samples, none_cut};
 use pp_base::Memory;
 use pp_count::Counted;
+use pp_keys::HashKeys;
 use pp_merge::merge_alone;
 use pp_model::{Compact, Loaded, Profile, Valid, Verdicts};
 use pp_restack::with_cut;
@@ -63,18 +64,25 @@ pub fn saved_profile(
     // The mappings were read, and no number that was read has more than 64 bits.
     ensures starts { IfOk result (λ _. AllByRecursion (λ m. m.start < 2 ^ 64) l.now.profile.mapping) }
 {
-    let cut = cut_profile(alloc, l, v, c.kept.as_slice())?;
-    let q = merge_alone(alloc, cut)?;
+    let hash_keys = c.sums.names.hash_keys();
+    let cut = cut_profile(alloc, hash_keys, l, v, c.kept.as_slice())?;
+    let q = merge_alone(alloc, hash_keys, cut)?;
     Ok(q)
 }
 
 // The profile that is merged alone.
-fn cut_profile(alloc: Global, l: &Loaded, v: &Verdicts, kept: &[u32]) -> Result<Valid, Memory>
+fn cut_profile(
+    alloc: Global,
+    hash_keys: HashKeys,
+    l: &Loaded,
+    v: &Verdicts,
+    kept: &[u32],
+) -> Result<Valid, Memory>
     requires { HasVerdicts l.now.profile v.now }
     ensures { IfOk result (λ q. IsCutOf l.now v.now kept.now q) }
 {
     let tables = VerdictTables::new(alloc, l, v)?;
-    let cut = cut_by_tables(alloc, l, v, &tables, kept);
+    let cut = cut_by_tables(alloc, hash_keys, l, v, &tables, kept);
     mem::drop(tables);
     let q = cut?;
     Ok(Valid::claim(q))
@@ -83,6 +91,7 @@ fn cut_profile(alloc: Global, l: &Loaded, v: &Verdicts, kept: &[u32]) -> Result<
 // The profile that is merged alone, as tables, by the tables of these verdicts.
 fn cut_by_tables(
     alloc: Global,
+    hash_keys: HashKeys,
     l: &Loaded,
     v: &Verdicts,
     tables: &VerdictTables,
@@ -93,7 +102,7 @@ fn cut_by_tables(
     ensures { IfOk result (λ q. IsCutOf l.now v.now kept.now q) }
 {
     let p = l.profile.get();
-    let mut cut = none_cut(alloc, p, kept.len())?;
+    let mut cut = none_cut(alloc, hash_keys, p, kept.len())?;
     cut_samples(alloc, l, v, tables, kept, &mut cut)?;
     let places = cut.places;
     with_cut(alloc, p, cut.samples, places.locations)

@@ -28,7 +28,7 @@ fn both_hours(rt: &HostRuntime) -> Result<Loaded> {
     let mut hours = List::new(rt.alloc());
     hours.push(hour(rt, "hour-1.pb", 300)?)?;
     hours.push(hour(rt, "hour-2.pb", 500)?)?;
-    let both = pp_edit::without_patterns(pp_merge::merge(rt.alloc(), hours)?);
+    let both = pp_edit::without_patterns(pp_merge::merge(rt.alloc(), HashKeys::random(rt), hours)?);
     Ok(both)
 }
 

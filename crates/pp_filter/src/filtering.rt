@@ -63,7 +63,7 @@ fn filter_at<R: Threads + Sync, D: Desk>(
     ensures { IfOk result (SavesFiltered D.finds profile config.now) }
 {
     let l = load(alloc, profile, desk)?;
-    let framed = framed_for(alloc, &l, config)?;
+    let framed = framed_for(alloc, HashKeys::fixed(), &l, config)?;
     filter_loaded(rt, alloc, basis(&framed, &l), config, desk)
 }
 

@@ -8,6 +8,7 @@ ghost use Rattle.pp_load.specs.Combine.{agreeing, agreeing_with, merging, scalin
 use crate::refusal::LoadRefusal;
 use pp_base::{List, Memory};
 use pp_desk::{Halt, Stop};
+use pp_keys::HashKeys;
 use pp_merge::{MergeRefusal, NothingToScale, agree, merge_on, normalize, subtract};
 use pp_model::{BaseKind, Compact};
 use pp_share::Hashed;
@@ -162,7 +163,7 @@ fn take_off<R: Threads + Sync>(
 {
     let base = merge_all(with, bases)?;
     let source = scale_if(normalize, source, &base)?;
-    subtract_base(with.alloc, source, base, kind)
+    subtract_base(with.alloc, with.keys, source, base, kind)
 }
 
 // The source scaled to the base, where that is asked for.
@@ -186,6 +187,7 @@ fn scale_if(wanted: bool, mut source: Compact, base: &Compact) -> Result<Compact
 // The source without the base.
 fn subtract_base(
     alloc: Global,
+    hash_keys: HashKeys,
     source: Compact,
     base: Compact,
     kind: BaseKind,
@@ -195,7 +197,7 @@ fn subtract_base(
     ensures ready { IfOk result IsReady }
 {
     let (_source, _base) = (source.get(), base.get());
-    match subtract(alloc, source, base, kind) {
+    match subtract(alloc, hash_keys, source, base, kind) {
         Ok(merged) => Ok(merged),
         Err(refusal) => Err(halt_of(refusal)),
     }

@@ -4,6 +4,7 @@ ghost use Rattle.std.specs.List.{range_with_len};
 ghost use Rattle.pp_load.specs.Generator.{made, made_sample, made_function, made_location, made_texts, generator_texts, ids_down, generated};
 
 use pp_base::{List, Memory, Text};
+use pp_keys::HashKeys;
 use pp_merge::merge_alone;
 use pp_model::{Function, Label, Line, Location, Profile, Sample, Valid, ValueType};
 use pp_tables::write_profile;
@@ -18,7 +19,7 @@ pub fn gen_profile(alloc: Global, samples: u32) -> Result<Text, Memory>
     ensures { IfOk result (λ bytes. bytes ≡ generated samples) }
 {
     let profile = made(alloc, samples)?;
-    let merged = merge_alone(alloc, Valid::claim(profile))?;
+    let merged = merge_alone(alloc, HashKeys::fixed(), Valid::claim(profile))?;
     write_profile(alloc, merged.valid())
 }
 

@@ -6,18 +6,19 @@ ghost use Rattle.pp_merge.specs.Merge.{merged};
 use crate::merging::merge;
 use crate::refusal::MergeRefusal;
 use pp_base::{List, Memory};
+use pp_keys::HashKeys;
 use pp_model::{Compact, Valid};
 use std::alloc::Global;
 
 /// The profile merged alone: equal things once, the values of equal samples added up, and what no sample with a value
 /// names left out. One profile agrees with itself and its columns can be added up, so nothing is refused.
-pub fn merge_alone(alloc: Global, p: Valid) -> Result<Compact, Memory>
+pub fn merge_alone(alloc: Global, hash_keys: HashKeys, p: Valid) -> Result<Compact, Memory>
     requires { IsCountable p }
     ensures { IfOk result (λ q. q ≡ merged p []) }
 {
     let mut list = List::new(alloc);
     list.push(p)?;
-    match merge(alloc, list) {
+    match merge(alloc, hash_keys, list) {
         Ok(q) => Ok(q),
         Err(MergeRefusal::Memory) => Err(Memory),
         Err(MergeRefusal::Incompatible { .. }) => unreachable!(),

@@ -26,7 +26,9 @@ use std::thread::Threads;
 /// first sight, and the values of equal samples are added up. What no sample with a value names is left out. The first
 /// profile whose types differ from those of the one at place 0 is refused, and else the least column whose absolute
 /// values add up to more than 2^63-1. The list is spent, also on a refusal.
-pub fn merge(alloc: Global, list: List<Valid>) -> Result<Compact, MergeRefusal>
+///
+/// The hash tables have the keys `hash_keys`, on which no answer depends.
+pub fn merge(alloc: Global, hash_keys: HashKeys, list: List<Valid>) -> Result<Compact, MergeRefusal>
     requires some { 0 < length list }
     requires few { length list < 2 ^ 32 }
 
@@ -37,7 +39,7 @@ pub fn merge(alloc: Global, list: List<Valid>) -> Result<Compact, MergeRefusal>
 {
     let (first, others) = split(list);
     let duration = admit(&first, others.as_slice(), false)?;
-    let merged = merge_admitted(alloc, first, others, duration)?;
+    let merged = merge_admitted(alloc, hash_keys, first, others, duration)?;
     Ok(merged)
 }
 
@@ -108,6 +110,7 @@ fn large_column(first: &Valid, others: &[Valid], are_small: bool) -> Option<usiz
 // The profiles as one, where they can be merged and have this duration together.
 fn merge_admitted(
     alloc: Global,
+    hash_keys: HashKeys,
     first: Valid,
     others: Vec<Valid>,
     duration: i64,
@@ -115,8 +118,8 @@ fn merge_admitted(
     requires { CanMerge first others.items duration }
     ensures { IfOk result (λ r. r ≡ merged first others.items) }
 {
-    let whole = join_whole(alloc, HashKeys::fixed(), first, others, duration)?;
-    let merged = share(alloc, whole)?;
+    let whole = join_whole(alloc, hash_keys, first, others, duration)?;
+    let merged = share(alloc, hash_keys, whole)?;
     Ok(Compact::claim(Valid::claim(merged)))
 }
 

@@ -8,6 +8,7 @@ ghost use Rattle.pp_merge.specs.Scale.{base_label, base_texts, labelled_sample, 
 use crate::merging::merge;
 use crate::refusal::MergeRefusal;
 use pp_base::{List, Memory, Text};
+use pp_keys::HashKeys;
 use pp_model::{BaseKind, Compact, Label, Profile, Sample, Valid};
 use pp_share::{Change, change_each};
 use std::alloc::Global;
@@ -16,6 +17,7 @@ use std::alloc::Global;
 /// `pprof::base` of the text `true` after its own. It is never `Incompatible`.
 pub fn subtract(
     alloc: Global,
+    hash_keys: HashKeys,
     source: Compact,
     base: Compact,
     kind: BaseKind,
@@ -31,7 +33,7 @@ pub fn subtract(
     let _valid = base.get();
     let base = negate(alloc, base, kind)?;
     let list = pair(alloc, source.into_valid(), base)?;
-    merge(alloc, list)
+    merge(alloc, hash_keys, list)
 }
 
 // The two profiles as a list.

@@ -6,24 +6,31 @@ ghost use Rattle.pp_pseudo.specs.Basis.{framed_by, framed_for};
 use crate::keys::key_list;
 use crate::tagging::with_tags;
 use pp_base::{List, Memory, Text};
+use pp_keys::HashKeys;
 use pp_model::{Config, Loaded};
 use std::alloc::Global;
 
 /// The profile with the frames that `tagroot` and `tagleaf` ask for, None where these name no key. `Err` is want of
 /// memory.
-pub fn framed_for(alloc: Global, l: &Loaded, config: &Config) -> Result<Option<Loaded>, Memory>
+pub fn framed_for(
+    alloc: Global,
+    hash_keys: HashKeys,
+    l: &Loaded,
+    config: &Config,
+) -> Result<Option<Loaded>, Memory>
     requires { IsCountable l.now.profile }
     ensures framed { IfOk result (λ framed. unwrap_or framed l.now ≡ framed_for l.now config.now) }
     ensures countable { IfOk result (λ framed. IsCountable (unwrap_or framed l.now).profile) }
 {
     let roots = key_list(alloc, config.tagroot.as_slice())?;
     let leaves = key_list(alloc, config.tagleaf.as_slice())?;
-    framed_by(alloc, l, &roots, &leaves)
+    framed_by(alloc, hash_keys, l, &roots, &leaves)
 }
 
 // The profile with the frames of these keys, None where there is no key.
 fn framed_by(
     alloc: Global,
+    hash_keys: HashKeys,
     l: &Loaded,
     roots: &List<Text>,
     leaves: &List<Text>,
@@ -36,7 +43,7 @@ fn framed_by(
     if roots.len() == 0 && leaves.len() == 0 {
         return Ok(None);
     }
-    Ok(Some(with_tags(alloc, l, roots, leaves)?))
+    Ok(Some(with_tags(alloc, hash_keys, l, roots, leaves)?))
 }
 
 /// The profile with frames from labels, and where there is none the loaded one.

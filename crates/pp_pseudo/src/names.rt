@@ -3,13 +3,14 @@ ghost use Rattle.std.specs.Prelude.{◌≡◌, map, IfOk};
 
 use indexmap::IndexSet;
 use pp_base::{List, Memory, Text};
+use pp_keys::HashKeys;
 use std::alloc::Global;
 use std::marker::Model;
 
 /// The names seen so far, without repeats. A name's number is its place in the order of first sight.
 #[derive(Drop)]
 pub struct FrameNames {
-    seen: IndexSet<Vec<u8>>,
+    seen: IndexSet<Vec<u8>, HashKeys>,
 }
 
 impl Model for FrameNames {
@@ -25,11 +26,11 @@ impl FrameNames {
     ghost use Rattle.pp_pseudo.specs.Names.{IsNumberedName};
 
     /// No names.
-    pub fn new(alloc: Global) -> FrameNames
+    pub fn new(alloc: Global, hash_keys: HashKeys) -> FrameNames
         ensures { result ≡ [] }
     {
         FrameNames {
-            seen: IndexSet::new(alloc),
+            seen: IndexSet::with_hasher(alloc, hash_keys),
         }
     }
 
@@ -66,7 +67,7 @@ impl FrameNames {
 }
 
 // The names of the set, in order.
-fn keys_of(alloc: Global, seen: IndexSet<Vec<u8>>) -> Result<Vec<Vec<u8>>, Memory>
+fn keys_of(alloc: Global, seen: IndexSet<Vec<u8>, HashKeys>) -> Result<Vec<Vec<u8>>, Memory>
     ensures { IfOk result (λ names. names.items ≡ seen.keys) }
 {
     let names = seen.into_iter().collect(alloc)?;

@@ -22,8 +22,11 @@ use std::alloc::Global;
 /// at the leaf for those of `leaves`, each list root first. The frame's function is named by the key, `=` and the
 /// values of the labels, joined by commas. Load pruning is done, so that the profile has neither patterns nor verdicts.
 /// All labels and values stay, and samples that became equal are added up. `Err` is want of memory.
+///
+/// The hash tables have the keys `hash_keys`, on which no answer depends.
 pub fn with_tags(
     alloc: Global,
+    hash_keys: HashKeys,
     l: &Loaded,
     roots: &List<Text>,
     leaves: &List<Text>,
@@ -35,8 +38,8 @@ pub fn with_tags(
 {
     let root_keys = roots.as_slice();
     let leaf_keys = leaves.as_slice();
-    let p = tagged_alone(alloc, l, root_keys, leaf_keys)?;
-    let profile = merge_alone(alloc, p)?;
+    let p = tagged_alone(alloc, hash_keys, l, root_keys, leaf_keys)?;
+    let profile = merge_alone(alloc, hash_keys, p)?;
     Ok(Loaded {
         profile,
         drop: None,
@@ -45,14 +48,20 @@ pub fn with_tags(
 }
 
 // The profile that is merged alone.
-fn tagged_alone(alloc: Global, l: &Loaded, roots: &[Text], leaves: &[Text]) -> Result<Valid, Memory>
+fn tagged_alone(
+    alloc: Global,
+    hash_keys: HashKeys,
+    l: &Loaded,
+    roots: &[Text],
+    leaves: &[Text],
+) -> Result<Valid, Memory>
     ensures { IfOk result (λ q. IsTagged l.now roots.now leaves.now q) }
 {
     let p = l.profile.get();
     let mut samples = no_items(alloc, p.sample.len())?;
-    let places = places_of(alloc, HashKeys::fixed(), p)?;
+    let places = places_of(alloc, hash_keys, p)?;
     let mut frames = Frames {
-        names: FrameNames::new(alloc),
+        names: FrameNames::new(alloc, hash_keys),
         places,
         name: Text::new(alloc),
         stack: List::new(alloc),

@@ -66,7 +66,7 @@ fn prepare_over<R: Threads + Sync, D: Desk, G: Gate>(
     ensures counted { IfOk result (λ answer. IfOk answer
         (IsCountedOver D.finds l.now (basis_of report.now l.now config.now) report.now config.now shows)) }
 {
-    let tagged = tagged_of(with.alloc, report, l, config)?;
+    let tagged = tagged_of(with.alloc, with.keys, report, l, config)?;
     let over = basis(&tagged, l);
     match prepare_showing(with, over, report, config, shows, desk) {
         Ok(Ok(prepared)) => Ok(Ok(made_of(prepared, tagged))),

@@ -4,6 +4,7 @@ ghost use Rattle.pp_model.specs.Sizes.{IsCountable};
 ghost use Rattle.pp_report.specs.Tagged.{basis_of};
 
 use pp_base::Memory;
+use pp_keys::HashKeys;
 use pp_model::{Config, Loaded, Report};
 use pp_pseudo::framed_for;
 use std::alloc::Global;
@@ -12,6 +13,7 @@ use std::alloc::Global;
 #[tactic(auto, unfolding(crate::specs::Tagged::basis_of))]
 pub fn tagged_of(
     alloc: Global,
+    hash_keys: HashKeys,
     report: &Report,
     l: &Loaded,
     config: &Config,
@@ -24,5 +26,5 @@ pub fn tagged_of(
     if !report.is_counted() {
         return Ok(None);
     }
-    framed_for(alloc, l, config)
+    framed_for(alloc, hash_keys, l, config)
 }

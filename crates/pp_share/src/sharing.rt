@@ -36,14 +36,13 @@ use std::thread::Threads;
 
 /// What the profile says, with equal samples added up, and those without any value left out, written anew. Its
 /// references are by place.
-pub fn share(alloc: Global, p: Profile) -> Result<Profile, Memory>
+pub fn share(alloc: Global, hash_keys: HashKeys, p: Profile) -> Result<Profile, Memory>
     requires joined { IsJoined p }
     requires wide { All (λ s. length s.value ≡ length p.sample_type) p.sample }
     requires fits { (column : ℕ) → column < length p.sample_type
         → sum_by (λ s. nat_abs (value_in s column)) p.sample ≤ 2 ^ 63 - 1 }
     ensures { IfOk result (λ r. r ≡ written (totalled (length p.sample_type) (gist p))) }
 {
-    let hash_keys = HashKeys::fixed();
     let (mut profile, by) = share_tables(alloc, hash_keys, p)?;
     sum_plain(alloc, &mut profile, &by)?;
     let written = write(alloc, hash_keys, profile, &by);
