@@ -6,6 +6,7 @@ import launcher
 from running import ROOT, run
 
 FILES = """bin/pprof
+bin/pprof-merge
 share/man/man1/pprof.1
 share/bash-completion/completions/pprof
 share/zsh/site-functions/_pprof
@@ -20,7 +21,7 @@ class Tree(launcher.Tree):
         super().__init__(place, name)
         for folder in ("completions", "samples"):
             shutil.copytree(ROOT / folder, self.root / folder)
-        for file in ("docs/pprof.1", "scripts/install"):
+        for file in ("docs/pprof.1", "scripts/install", "scripts/merge-many"):
             (self.root / file).parent.mkdir(exist_ok=True)
             shutil.copy(ROOT / file, self.root / file)
 
@@ -49,7 +50,7 @@ def prefixes(tree):
     for prefix in ("p", "p/", "a folder/with 'q'", str(place / "whole") + "/"):
         whole = str(place / prefix).rstrip("/")
         out, _, status = tree.install(prefix)
-        yield f"what {prefix} says", (out[:6], status), ([f"{whole}/{file}" for file in FILES], 0)
+        yield f"what {prefix} says", (out[:7], status), ([f"{whole}/{file}" for file in FILES], 0)
         yield f"what {prefix} has", tree.installed(prefix), sorted(FILES)
         advice = out[6:]
         yield f"what {prefix} advises", (len(advice), advice[0]), (3, f"put {whole}/bin on PATH to call it by its name")
