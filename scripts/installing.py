@@ -52,7 +52,7 @@ def prefixes(tree):
         out, _, status = tree.install(prefix)
         yield f"what {prefix} says", (out[:7], status), ([f"{whole}/{file}" for file in FILES], 0)
         yield f"what {prefix} has", tree.installed(prefix), sorted(FILES)
-        advice = out[6:]
+        advice = out[7:]
         yield f"what {prefix} advises", (len(advice), advice[0]), (3, f"put {whole}/bin on PATH to call it by its name")
         yield "its words for zsh", "fpath=(" in advice[1] and "/share/zsh/site-functions" in advice[1], True
     yield "builds for four prefixes", tree.builds(), 1
