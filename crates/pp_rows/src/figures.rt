@@ -89,6 +89,14 @@ impl Figures {
         })
     }
 
+    // Whether some flat or cum isn't 0.
+    pub(crate) fn has_figures(&self) -> bool {
+        let entries = self.entries.as_slice();
+        entries
+            .iter()
+            .any(|entry| entry.flat != 0 || entry.cum != 0)
+    }
+
     // Flat and cum of the entry, 0 where there is none.
     pub(crate) fn at(&self, caller: &[u8], name: &[u8]) -> (i64, i64) {
         for entry in self.entries.as_slice() {

@@ -16,7 +16,7 @@ const LAWS: &str = "1 1|P1|-focus=work P1|-ignore=work P1
 1 -1|-base=P5 requests|requests|P5
 1 -1|-base=P5 P5 requests|P5 requests|P5
 1 -1|-diff_base=requests P5|P5|requests
-0 0|-base=requests -base=P5 P5 requests||
+0 0|-base=requests -base=P5 P5 requests|P5|requests
 -1 0|-base=P5 -base=requests requests|P5|
 3 0|P5 P5 P5|P5|
 10000000 0|P1|-unit=count -sample_index=samples P1|
@@ -48,7 +48,8 @@ fn is_seen<R: Threads + Sync>(rt: &R, alloc: Global, law: &str) -> Result<bool, 
         third: all_figures(rt, alloc, third)?,
     };
     Ok(
-        seen.is_sum_over(&seen.first)
+        seen.has_figures()
+            && seen.is_sum_over(&seen.first)
             && seen.is_sum_over(&seen.second)
             && seen.is_sum_over(&seen.third),
     )
@@ -74,6 +75,11 @@ struct Seen {
 }
 
 impl Seen {
+    // Whether a report has a figure that isn't 0. A law over figures that are all 0 would show nothing.
+    fn has_figures(&self) -> bool {
+        self.first.has_figures() || self.second.has_figures()
+    }
+
     // Whether the first report is the sum at each entry of these figures.
     fn is_sum_over(&self, figures: &Figures) -> bool {
         for entry in figures.entries.as_slice() {
