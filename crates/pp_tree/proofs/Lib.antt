@@ -1,13 +1,14 @@
-pub mod CallerLemmas
-mod Walking
 mod Alike
-mod Ordered
-mod Sides
 mod Arranged
-mod Walks
-mod Shown
+pub mod CallerLemmas
+mod Lookups
 mod Marking
-mod Owned
 mod Named
+mod Ordered
+mod Owned
 mod Peeking
 mod Rows
+mod Shown
+mod Sides
+mod Walking
+mod Walks

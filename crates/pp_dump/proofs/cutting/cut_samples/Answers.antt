@@ -4,7 +4,8 @@ use Rattle.std.proofs.lemmas.List.{append-nil}
 use Rattle.pp_model.specs.declared.profile.Sample.{Sample}
 use Rattle.pp_count.specs.Counts.{samples_at}
 use Rattle.pp_count.proofs.Chosen.{is_read}
-use Rattle.pp_count.proofs.Totals.{at_more, looked_up, not_there}
+use Rattle.pp_count.proofs.Totals.{at_more}
+use Rattle.pp_dump.proofs.Lookups.{looked_up, not_there}
 use Rattle.pp_restack.proofs.Placing.{front_front}
 use Rattle.pp_dump.proofs.AddingSamples.{adds_none, adds_both}
 use Rattle.pp_dump.proofs.cutting.cut_samples.Goals.{in-Some+in_ok-cut_sample, in_default}

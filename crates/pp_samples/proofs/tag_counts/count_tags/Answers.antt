@@ -6,7 +6,8 @@ use Rattle.pp_count.specs.Counts.{samples_at}
 use Rattle.pp_samples.specs.Surveyed.{survey_profile}
 use Rattle.pp_samples.specs.Tables.{Event, AreKeys, AreSmall, events_from, sample_events}
 use Rattle.pp_samples.specs.Surveyed.{survey_tagged}
-use Rattle.pp_count.proofs.Totals.{at_more, looked_up, not_there}
+use Rattle.pp_count.proofs.Totals.{at_more}
+use Rattle.pp_samples.proofs.Lookups.{looked_up, not_there}
 use Rattle.pp_samples.proofs.CountLemmas.{samples_counted}
 use Rattle.pp_samples.proofs.SmallLemmas.{small_before}
 use Rattle.pp_samples.proofs.tag_counts.count_tags.Goals.{in-Some+in_ok-count_sample, in_default}

@@ -7,7 +7,8 @@ use Rattle.pp_count.specs.Counts.{samples_at}
 use Rattle.pp_samples.specs.Tracing.{trace_profile, sample_trace}
 use Rattle.pp_base.proofs.TextLemmas.{then_more}
 use Rattle.pp_count.proofs.Chosen.{is_read}
-use Rattle.pp_count.proofs.Totals.{at_more, looked_up, not_there}
+use Rattle.pp_count.proofs.Totals.{at_more}
+use Rattle.pp_samples.proofs.Lookups.{looked_up, not_there}
 use Rattle.pp_samples.proofs.traces.put_traces.Goals.{in-Some+in_ok-put_sample, in_default}
 use Rattle.pp_samples.proofs.traces.put_traces.Goals as goal
 

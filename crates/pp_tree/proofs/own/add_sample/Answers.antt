@@ -1,7 +1,7 @@
 use Rattle.std.proofs.Common.{w64, of_z, to_z, FitsSigned, sym, ap, ◌∙◌, rules}
 use Rattle.std.proofs.lemmas.Int.{to_z-of_z}
 use Rattle.pp_stack.specs.Runs.{kept_if}
-use Rattle.pp_count.proofs.Totals.{looked_up, not_there}
+use Rattle.pp_tree.proofs.Lookups.{looked_up, not_there}
 use Rattle.pp_tree.specs.Found.{holds_key, has_own_frame, has_own_number}
 use Rattle.pp_tree.proofs.Marking.{found_as, not_read, dropped, without_value, asked, is_member}
 use Rattle.pp_tree.proofs.own.add_sample.Goals as goal
