@@ -1,13 +1,13 @@
+pub mod TraceLemmas
+pub mod TagNamesLemmas
+pub mod Slots
+pub mod TablesLemmas
+pub mod KeysLemmas
 pub mod CountLemmas
 pub mod EventSums
-mod FrameLineLemmas
-pub mod KeysLemmas
-pub mod Listed
-mod Lookups
+pub mod SmallLemmas
 pub mod PlacesLemmas
 pub mod Ranking
-pub mod Slots
-pub mod SmallLemmas
-pub mod TablesLemmas
-pub mod TagNamesLemmas
-pub mod TraceLemmas
+pub mod Listed
+mod FrameLineLemmas
+mod Lookups

@@ -1,14 +1,14 @@
-mod Alike
-mod Arranged
 pub mod CallerLemmas
-mod Lookups
-mod Marking
-mod Named
+mod Walking
+mod Alike
 mod Ordered
+mod Sides
+mod Arranged
+mod Walks
+mod Shown
+mod Marking
 mod Owned
+mod Named
 mod Peeking
 mod Rows
-mod Shown
-mod Sides
-mod Walking
-mod Walks
+mod Lookups
