@@ -70,13 +70,9 @@ class Program:
         start = START + seed % 1024 * 4096
         parts = [payload(3, message({1: 1, 2: start, 3: start + LENGTH, 5: 5, 6: 6, 7: 1}))]
         functions = Table(1)
-        known = {}
         for place, number in numbers.items():
-            function = place % self.functions
-            if function not in known:
-                known[function] = len(known) + 1
-                functions.entries.append(function)
-            line = payload(4, message({1: known[function], 2: 10 + place // self.functions}))
+            function = functions.number(place % self.functions)
+            line = payload(4, message({1: function, 2: 10 + place // self.functions}))
             parts.append(payload(4, message({1: number + 1, 2: 1, 3: start + 64 * place}) + line))
         for number, function in enumerate(functions.entries):
             name = len(TEXTS) + 2 * number
