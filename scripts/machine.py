@@ -1,11 +1,13 @@
 """What the built program does where the machine takes part, and no transcript can say it: words of any length, fifos,
-folders, full devices, closed pipes, missing rights, files and input of the greatest lengths.
+folders, full devices, closed pipes, missing rights, files and input of the greatest lengths, threads.
 """
 
 import os
+import struct
+import subprocess
 import threading
 
-from running import DATA, SECONDS, run
+from running import DATA, ROOT, SECONDS, run
 
 
 TOP_OF_P1 = b"""Type: cpu
@@ -60,6 +62,16 @@ class Machine:
 
     def run(self, *words, **how):
         return run(self.command, list(words), self.place, **how)
+
+    def run_counted(self, library, *words, **environment):
+        """The run, how many threads it started, and how many of these ran at once at most."""
+        count = self.path(b"count")
+        how = {"LD_PRELOAD": library, "THREADS_COUNT": os.fsdecode(count), **environment}
+        left = self.run(*words, env={**os.environ, **how})
+        with open(count, "rb") as file:
+            started, most = struct.unpack("@LL", file.read())
+        os.remove(count)
+        return left, started, most
 
     def run_as_nobody(self, *words, given=b""):
         """The run of a user without rights."""
@@ -274,7 +286,25 @@ def spoiled_profiles(machine):
         yield f"{name}, spoiled at each place", unanswered, []
 
 
+def threads(machine):
+    library = os.fsdecode(machine.path(b"threads.so"))
+    compiler = os.environ.get("CC", "cc")
+    source = ROOT / "scripts" / "threads.c"
+    subprocess.run([compiler, "-O2", "-shared", "-fPIC", "-o", library, source, "-ldl"], check=True)
+    # -comments loads and counts nothing. A wave of loading has 131,072 samples.
+    for report in (b"-comments", b"-top"):
+        owed = machine.run(report, b"-workers=1", b"-gen=300000")
+        for workers in (1, 2, 4):
+            words = (report, b"-workers=%d" % workers, b"-gen=300000")
+            left, started, most = machine.run_counted(library, *words)
+            yield f"{report} by {workers} workers", left, owed
+            yield f"threads of {report} by {workers} workers", (started > 0, most), (workers > 1, workers - 1)
+            left, _, _ = machine.run_counted(library, *words, THREADS_REFUSED="1")
+            yield f"{report} by {workers} workers, where no thread can be made", left, owed
+
+
 CHECKS = (
+    threads,
     long_words,
     long_paths,
     words_in_order,
