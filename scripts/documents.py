@@ -105,7 +105,8 @@ def cases(place):
 def run_scripts(place, text):
     """Runs the scripts of a document: each of their runs with what differs, or nothing."""
     for script in blocks(text):
-        if not script.startswith("#!/bin/bash\n"):
+        # A script of another kind names its scheduler in the second line.
+        if not script.startswith("#!/bin/bash\n") or script.startswith("#!/bin/bash\n#SBATCH"):
             continue
         for title, before, after, owed in cases(place):
             for name, content in (("before.pb", before), ("after.pb", after)):
