@@ -29,8 +29,8 @@ pub record GroupsAddUp (types : ℕ) (groups : List Group) : Type 0 where
 abbrev pub HasFirstMappings : List Profile → Profile → Type 0
 HasFirstMappings sources p = AllByRecursion (λ m. first_alike (all_mappings sources) m ≡ m) (all_mappings (p ∷ []))
 
--- Groups that give the same in steps as at once: their figures can be added up, no sample comes to nothing on the way, no
--- duration is negative, and each mapping that is left is the first of all that is one with it.
+-- Groups that give the same in steps as at once: their figures can be added up, no sample comes to nothing on the
+-- way, no duration is negative, and each mapping that is left is the first of all that is one with it.
 pub record MergeInSteps (columns : ℕ) (g : Group) (groups : List Group) : Type 0 where
   pub up : GroupsAddUp columns (g ∷ groups)
   pub samples : AllByRecursion (LosesNoSample columns) (g ∷ groups)
@@ -68,9 +68,9 @@ NamesMappings p = AllByRecursion (IsNamed p) (map (mapping_text p) p.mapping)
 abbrev pub NamesFirst : Profile → Type 0
 NamesFirst p = AllByRecursion (IsNamed p) (option_to_list (slice_get (map (mapping_text p) p.mapping) 0))
 
--- Profiles that merge in steps whatever the groups: they have as many types as columns, and each sample a value for each.
--- No value and no duration is negative, and each sample has a value that isn't 0. No mapping starts past 64 bits, and in each
--- lies a location that a sample names.
+-- Profiles that merge in steps whatever the groups: they have as many types as columns, and each sample a value for
+-- each. No value and no duration is negative, and each sample has a value that isn't 0. No mapping starts past 64
+-- bits, and in each lies a location that a sample names.
 pub record MergeInAnyGroups (columns : ℕ) (sources : List Profile) : Type 0 where
   pub types : AllByRecursion (λ q. length q.sample_type ≡ columns) sources
   pub values : AllByRecursion (λ q. AllByRecursion (λ s. length s.value ≡ columns) q.sample) sources
