@@ -33,10 +33,8 @@ def raw(profile):
     lines = [b"Comment: " + text for text in profile.comments]
     lines += [b"DocURL: " + profile.doc_url] if profile.doc_url else []
     lines += [b"PeriodType: %s %s" % profile.period_type] if any(profile.period_type) else []
-    named = (b"Period", "period"), (b"TimeNanos", "time"), (b"DurationNanos", "duration")
-    for name, part in named:
-        value = getattr(profile, part)
-        lines += [b"%s: %d" % (name, value)] if value else []
+    times = (b"Period", profile.period), (b"TimeNanos", profile.time), (b"DurationNanos", profile.duration)
+    lines += [b"%s: %d" % (name, value) for name, value in times if value]
     lines += [b"Samples:", b" ".join(kind + b"/" + unit for kind, unit in profile.types)]
     for ids, sample in zip(tables.sample, profile.samples):
         lines += sample_lines(ids, sample)
@@ -77,9 +75,6 @@ def mapping_line(mapping, texts):
     line = b"%d: 0x%x/0x%x/0x%x " % parts + texts[mapping.file] + b" " + texts[mapping.build]
     signs = zip((b"FN", b"FL", b"LN", b"IN"), flags_of(mapping))
     return line + b"".join(b" [%s]" % sign for sign, flag in signs if flag)
-
-
-# List.
 
 
 def tried_paths(file, config):

@@ -4,17 +4,13 @@ Sources are merged, then bases. A report on several files is that on their merge
 told by texts and numbers, never by ids (docs/GLOSSARY.md, docs/laws.md).
 """
 
-from model.profile import GREATEST, LEAST, Counted, Place, Plain, Routine, Row, Tag
+from model.profile import GREATEST, LEAST, Counted, Place, Plain, Routine, Row, Tag, Told
 
 BASE = Tag(b"pprof::base", b"true", 0, b"")
 
 
-class LoadRefusal(Exception):
-    """A profile that can't be loaded; its text is the message after `pprof: `."""
-
-    def __init__(self, text):
-        super().__init__(text)
-        self.text = text
+class LoadRefusal(Told):
+    """A profile that can't be loaded."""
 
 
 def region_key(region):

@@ -15,6 +15,14 @@ class Unspoken(Exception):
     """Something that the model does not speak of."""
 
 
+class Told(Exception):
+    """What ends a session, a report or a line; `text` is its message behind `pprof: `."""
+
+    def __init__(self, text):
+        super().__init__(text)
+        self.text = text
+
+
 # The messages of profile.proto: for each field in the order of its number its name and form, which is u, i or b for
 # an unsigned or signed number or a flag, t for a text, or a message; `*` behind it for a list.
 MESSAGES = {
@@ -120,12 +128,10 @@ def plain(tables):
         (text[tables.period_type.kind], text[tables.period_type.unit]),
         text[tables.drop_frames],
         text[tables.keep_frames],
-        tables.time,
-        tables.duration,
-        tables.period,
-        tuple(text[at] for at in tables.comment),
-        text[tables.default_type],
-        text[tables.doc_url],
+        **{name: getattr(tables, name) for name in ("time", "duration", "period")},
+        comments=tuple(text[at] for at in tables.comment),
+        default_type=text[tables.default_type],
+        doc_url=text[tables.doc_url],
     )
 
 
@@ -173,16 +179,12 @@ def numbered(profile):
             Message("Location", id, regions.of(p.region), p.address, rows_of(p, routines), p.folded)
             for p, id in places.items()
         ],
-        drop_frames=at(profile.drop_frames),
-        keep_frames=at(profile.keep_frames),
-        time=profile.time,
-        duration=profile.duration,
-        period_type=Message("ValueType", *map(at, profile.period_type)),
-        period=profile.period,
-        comment=[at(text) for text in profile.comments],
-        default_type=at(profile.default_type),
-        doc_url=at(profile.doc_url),
+        **{name: getattr(profile, name) for name in ("time", "duration", "period")},
     )
+    tables.drop_frames, tables.keep_frames = at(profile.drop_frames), at(profile.keep_frames)
+    tables.period_type = Message("ValueType", *map(at, profile.period_type))
+    tables.comment = [at(text) for text in profile.comments]
+    tables.default_type, tables.doc_url = at(profile.default_type), at(profile.doc_url)
     tables.text = list(texts)
     return tables
 

@@ -4,13 +4,13 @@ A session works on an Outside: `read(path, limit)` gives bytes, None for no file
 whether the path could be written; `out` and `err` take bytes; `input` gives all of standard input.
 """
 
-from model.legacy import LegacyFault, is_legacy, read_legacy
+from model.legacy import is_legacy, read_legacy
 from model.merging import LoadRefusal, agree, generated, merge, normalize, subtract
-from model.profile import Unspoken, numbered, plain
+from model.profile import Told, Unspoken, numbered, plain
 from model.report import ReportRefusal, is_prunable, prepared
 from model.rules import first_fault
-from model.shell import HELP, INPUT_LIMIT, Command, InputTooLong, LineFault, lines_of, read_line
-from model.wire import WireFault, read, written
+from model.shell import HELP, Command, LineFault, lines_of, read_line
+from model.wire import read, written
 from model.words import UsageFault, options_text, read_words
 
 FILE_LIMIT = 268_435_456
@@ -60,12 +60,12 @@ class Reading:
             if self.size > FILE_LIMIT:
                 raise LoadRefusal(b"all files together are longer than %d bytes" % FILE_LIMIT)
             return made or profile_of(data)
-        except (LoadRefusal, WireFault, LegacyFault) as refusal:
+        except Told as refusal:
             raise LoadRefusal(path + b": " + refusal.text) from None
 
 
 def loaded_of(plan, outside):
-    """The profile that all reports of a session are on, and which of its frames it leaves out."""
+    """The profile that all reports of a session are on, which of its frames it leaves out, and whether it has a -diff_base."""
     reading = Reading(outside)
     profiles = [reading.profile(source) for source in plan.sources + plan.bases]
     for number, other in enumerate(profiles):
@@ -78,7 +78,7 @@ def loaded_of(plan, outside):
         if plan.normalize:
             profile = normalize(profile, base)
         profile = subtract(profile, base, plan.base_word == b"diff_base")
-    return profile, is_prunable(profile, outside.matcher)
+    return profile, is_prunable(profile, outside.matcher), plan.base_word == b"diff_base"
 
 
 class Session:
@@ -146,12 +146,11 @@ def run(words, outside):
         return 0
     except UsageFault as fault:
         return told(outside, fault.text, 2)
-    except (LoadRefusal, ReportRefusal) as refusal:
+    except Told as refusal:
         return told(outside, refusal.text, 1)
-    except InputTooLong:
-        return told(outside, b"standard input is longer than %d bytes" % INPUT_LIMIT, 1)
     except Fault as fault:
-        return failed(outside, fault)
+        # One of standard error is told to nobody.
+        return told(outside, fault.object.encode() + b" fault", 3) if fault.object != "error" else 3
 
 
 def told(outside, text, status):
@@ -161,10 +160,3 @@ def told(outside, text, status):
         return status
     except Fault:
         return 3
-
-
-def failed(outside, fault):
-    """The status after a fault of the outside. One of standard error is told to nobody."""
-    if fault.object != "error":
-        told(outside, fault.object.encode() + b" fault", 3)
-    return 3

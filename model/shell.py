@@ -2,6 +2,7 @@
 
 from collections import namedtuple
 
+from model.profile import Told
 from model.words import ASKED, FLAGS, FORMATS, BadValue, choice_of, is_digits, need, set_variable, variable_of
 
 INPUT_LIMIT, LINE_LIMIT = 16_777_216, 65_536
@@ -11,30 +12,24 @@ HELP = (
     b"Set a variable by name=value; add a number, patterns, -patterns or >file to a command.\n"
 )
 
+COMMANDS = {b"q": "quit", b"quit": "quit", b"exit": "quit", b"o": "options", b"options": "options", b"help": "help"}
+
 # A report with the settings for it alone, and the file behind `>` or None.
 Command = namedtuple("Command", "report pattern config file")
 
 
-class LineFault(Exception):
+class LineFault(Told):
     """What is wrong with a line."""
-
-    def __init__(self, text):
-        super().__init__(text)
-        self.text = text
-
-
-class InputTooLong(Exception):
-    """More input than a session takes."""
 
 
 def lines_of(data):
-    """The lines of the input. Raises InputTooLong where it is longer than a session takes."""
+    """The lines of the input. Raises Told where it is longer than a session takes."""
     taken = data[:INPUT_LIMIT]
     lines = taken.split(b"\n")
     rest = lines.pop()
     yield from lines
     if len(data) >= INPUT_LIMIT:
-        raise InputTooLong()
+        raise Told(b"standard input is longer than %d bytes" % INPUT_LIMIT)
     if rest:
         yield rest
 
@@ -105,7 +100,7 @@ def with_words(report, pattern, words, config):
     for name, parts in ("focus", focus), ("ignore", ignore):
         if parts:
             config[("tag" if report == b"tags" else "") + name] = b"|".join(parts)
-    if report in (b"top", b"compare") and config["nodecount"] == -1:
+    if report in (b"top", b"compare", b"account") and config["nodecount"] == -1:
         config["nodecount"] = 10
     return Command(report, pattern, config, file)
 
@@ -122,10 +117,4 @@ def read_line(line, config):
         return setting
     words = line.replace(b"\t", b" ").split(b" ")
     words = [word for word in words if word]
-    if words[0] in (b"q", b"quit", b"exit"):
-        return "quit"
-    if words[0] in (b"o", b"options"):
-        return "options"
-    if words[0] == b"help":
-        return "help"
-    return read_command(words, config)
+    return COMMANDS.get(words[0]) or read_command(words, config)

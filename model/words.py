@@ -2,6 +2,7 @@
 
 from dataclasses import dataclass, field
 
+from model.profile import Told
 from model.units import fraction_text, read_fraction
 
 TRUE, FALSE = (b"true", b"t", b"yes", b"y", b"1"), (b"false", b"f", b"no", b"n", b"0")
@@ -9,7 +10,7 @@ SORTS = (b"flat", b"cum")
 GRAINS = (b"functions", b"filefunctions", b"files", b"lines", b"addresses")
 # Formats whose value is a pattern, and those that are flags; the report that each word stands for.
 ASKED = (b"peek", b"list")
-NAMED = b"top tree traces tags raw comments proto peek list folded table compare".split()
+NAMED = b"top tree traces tags raw comments proto peek list folded table compare changes account".split()
 FORMATS = {b"text": b"top", **{name: name for name in NAMED}}
 TYPES = {name: name for name in b"inuse_space inuse_objects alloc_space alloc_objects contentions".split()}
 TYPES[b"total_delay"] = b"delay"
@@ -108,7 +109,6 @@ def set_variable(config, name, text):
 
 
 def choice_of(name):
-    """The variable that a choice word sets, or None."""
     return "sort" if name in SORTS else "granularity" if name in GRAINS else None
 
 
@@ -119,12 +119,11 @@ def options_text(config):
     )
 
 
-class UsageFault(Exception):
+class UsageFault(Told):
     """The first fault of the words: its word, counted from 1, and what it is."""
 
     def __init__(self, word, text):
-        super().__init__(word, text)
-        self.text = b"word %d: %s" % (word, text)
+        super().__init__(b"word %d: %s" % (word, text))
 
 
 @dataclass
