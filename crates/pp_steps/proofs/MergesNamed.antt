@@ -19,7 +19,7 @@ use Rattle.pp_merge.proofs.SettledLemmas.{all_distinct, all_flat, all_join, all_
 use Rattle.pp_merge.proofs.WrittenAgain.{contents_again, mappings_back, samples_back}
 use Rattle.pp_merge.proofs.WrittenCompact.{mapping_walk}
 use Rattle.pp_merge.proofs.WrittenPlaces.{mappings_stay}
-use Rattle.pp_steps.specs.Premises.{IsNamed, NamesFirst, NamesMappings, lies_in}
+use Rattle.pp_steps.specs.Premises.{HasNamedLocation, NamesFirst, NamesMappings, lies_in}
 use Rattle.pp_steps.proofs.Remapping.{option_map-same}
 
 -- a test that an item passes is passed by some item
@@ -81,11 +81,11 @@ module _ (p : Profile) (ps : List Profile) (starts : AllByRecursion (λ m. m.sta
   walk_lies : AllByRecursion (λ l. (m : MappingText) → l.mapping ≡ Some m → Lies m) (locations c)
   walk_lies = all_distinct _ same_location (flat_map (λ s. s.0.locations) c.samples) (all_flat _ (λ s. s.0.locations) c.samples samples_lie)
 
-  named : (m : MappingText) → Lies m → IsNamed (merged p ps) m
+  named : (m : MappingText) → Lies m → HasNamedLocation (merged p ps) m
   named m is = subst (λ samples. list_any (λ s. list_any (lies_in m) s.0.locations) samples ≡ true) (sym own_samples) is
 
   -- in each mapping of the merge's samples lies a location that a sample names
-  pub samples_named : AllByRecursion (λ s. AllByRecursion (λ l. (m : MappingText) → l.mapping ≡ Some m → IsNamed (merged p ps) m) s.0.locations) c.samples
+  pub samples_named : AllByRecursion (λ s. AllByRecursion (λ l. (m : MappingText) → l.mapping ≡ Some m → HasNamedLocation (merged p ps) m) s.0.locations) c.samples
   samples_named = all_by _ _ (λ s own. all_by _ _ (λ l known m at. named m (known m at)) s.0.locations own) c.samples samples_lie
 
   own_mappings : map (mapping_text (merged p ps)) (merged p ps).mapping ≡ mappings c
@@ -97,8 +97,8 @@ module _ (p : Profile) (ps : List Profile) (starts : AllByRecursion (λ m. m.sta
   -- where a location lies in the first mapping, one lies in each
   pub names_all : NamesFirst (merged p ps) → NamesMappings (merged p ps)
   names_all first =
-      subst (AllByRecursion (IsNamed (merged p ps))) (sym own_mappings)
-      (all_distinct (IsNamed (merged p ps)) equal_mapping (mapping_walk c)
-      (all_join (IsNamed (merged p ps)) (option_to_list c.first_mapping) _ (subst (λ o. AllByRecursion (IsNamed (merged p ps)) (option_to_list o)) first_own first)
-      (all_some (IsNamed (merged p ps)) (λ l. l.mapping) (locations c)
+      subst (AllByRecursion (HasNamedLocation (merged p ps))) (sym own_mappings)
+      (all_distinct (HasNamedLocation (merged p ps)) equal_mapping (mapping_walk c)
+      (all_join (HasNamedLocation (merged p ps)) (option_to_list c.first_mapping) _ (subst (λ o. AllByRecursion (HasNamedLocation (merged p ps)) (option_to_list o)) first_own first)
+      (all_some (HasNamedLocation (merged p ps)) (λ l. l.mapping) (locations c)
       (all_by _ _ (λ l known m at. subst (λ samples. list_any (λ s. list_any (lies_in m) s.0.locations) samples ≡ true) (sym own_samples) (known m at)) (locations c) walk_lies))))

@@ -20,7 +20,7 @@ use Rattle.pp_merge.specs.Merge.{all_samples}
 use Rattle.pp_merge.specs.Settled.{IsSettled}
 use Rattle.pp_merge.proofs.MergedTotals.{at_total}
 use Rattle.pp_merge.proofs.SettledLemmas.{all_any, all_filtered, all_flat}
-use Rattle.pp_steps.specs.Premises.{GroupHasValues, HasWeights, IsNamed, LosesNoSample, MergeInAnyGroups, NamesMappings}
+use Rattle.pp_steps.specs.Premises.{GroupHasValues, HasWeights, HasNamedLocation, LosesNoSample, MergeInAnyGroups, NamesMappings}
 use Rattle.pp_steps.specs.Steps.{Group, sources_of, all_sources, merged_group}
 use Rattle.pp_steps.proofs.AnyGroups.{up}
 use Rattle.pp_steps.proofs.KeptMappings.{group_kept}
@@ -78,18 +78,18 @@ module _ (columns : ℕ) (x : Group) (own : GroupHasValues columns x) (weights :
         all_mapped _ (written_sample (contents_of x)) (contents_of x).samples
         (all_by _ _ (λ s is. is ∙ length-map x.first.sample_type (type_text x.first) ∙ own.types) (contents_of x).samples settled.fits.rows)
 
-    first_named : (ms : List MappingText) → AllByRecursion (λ m. IsNamed (merged_group x) (first_alike ms m)) ms → AllByRecursion (IsNamed (merged_group x)) (option_to_list (slice_get ms 0))
+    first_named : (ms : List MappingText) → AllByRecursion (λ m. HasNamedLocation (merged_group x) (first_alike ms m)) ms → AllByRecursion (HasNamedLocation (merged_group x)) (option_to_list (slice_get ms 0))
     first_named [] each = tt
     first_named (m ∷ ms) each =
         let here : first_alike (m ∷ ms) m ≡ m = ap (λ b. unwrap_or (if b then Some m else find (same_mapping m) ms) m) (mapping_laws.refl m) in
-        (subst (IsNamed (merged_group x)) here each.0, tt)
+        (subst (HasNamedLocation (merged_group x)) here each.0, tt)
 
     pub names : LosesNoSample columns x → AllByRecursion NamesMappings (sources_of x) → NamesMappings (merged_group x)
     names kept named =
         names_all x.first x.others starts
-        (subst (λ o. AllByRecursion (IsNamed (merged_group x)) (option_to_list o)) (sym (first_own x.first x.others starts))
+        (subst (λ o. AllByRecursion (HasNamedLocation (merged_group x)) (option_to_list o)) (sym (first_own x.first x.others starts))
         (first_named (group_mappings x)
-        (group_kept x (subst (λ n. LosesNoSample n x) (sym own.types) kept) (IsNamed (merged_group x)) (samples_named x.first x.others starts) named)))
+        (group_kept x (subst (λ n. LosesNoSample n x) (sym own.types) kept) (HasNamedLocation (merged_group x)) (samples_named x.first x.others starts) named)))
 
 -- a group's duration is not negative
 duration_least : (x : Group) → AllByRecursion (λ q. pos 0 ≤ℤ q.duration_nanos) (sources_of x) → pos 0 ≤ℤ (merged_group x).duration_nanos

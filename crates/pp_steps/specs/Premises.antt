@@ -57,16 +57,16 @@ abbrev pub lies_in : MappingText → LocationText → Bool
 lies_in m l = option_eq equal_mapping l.mapping (Some m)
 
 -- in the mapping lies a location that a sample of the profile names
-abbrev pub IsNamed : Profile → MappingText → Type 0
-IsNamed p m = list_any (λ s. list_any (lies_in m) s.0.locations) (samples_found (λ x. x) p) ≡ true
+abbrev pub HasNamedLocation : Profile → MappingText → Type 0
+HasNamedLocation p m = list_any (λ s. list_any (lies_in m) s.0.locations) (samples_found (λ x. x) p) ≡ true
 
 -- In each mapping of the profile lies a location that a sample names.
 abbrev pub NamesMappings : Profile → Type 0
-NamesMappings p = AllByRecursion (IsNamed p) (map (mapping_text p) p.mapping)
+NamesMappings p = AllByRecursion (HasNamedLocation p) (map (mapping_text p) p.mapping)
 
 -- In the first mapping of the profile, if there is one, lies a location that a sample names.
 abbrev pub NamesFirst : Profile → Type 0
-NamesFirst p = AllByRecursion (IsNamed p) (option_to_list (slice_get (map (mapping_text p) p.mapping) 0))
+NamesFirst p = AllByRecursion (HasNamedLocation p) (option_to_list (slice_get (map (mapping_text p) p.mapping) 0))
 
 -- Profiles that merge in steps whatever the groups: they have as many types as columns, and each sample a value for
 -- each. No value and no duration is negative, and each sample has a value that isn't 0. No mapping starts past 64

@@ -14,16 +14,16 @@ first_of_all groups = first_alike (all_mappings (all_sources groups))
 
 -- The values of each sample add up to the same over the groups' merges as over all profiles. Samples are told apart by
 -- the mappings that theirs become at once.
-abbrev pub SumsStay : ℕ → List Group → Type 0
-SumsStay columns groups =
+abbrev pub SumsStayInSteps : ℕ → List Group → Type 0
+SumsStayInSteps columns groups =
     (key : SampleText)
     → sum_of same_sample columns (map (remapped (first_of_all groups)) (all_samples (map merged_group groups))) key
     ≡ sum_of same_sample columns (all_samples (all_sources groups)) key
 
 -- The samples in steps are those at once, in their order and with their values, in the mappings that theirs become at
 -- once.
-abbrev pub SamplesStay : Group → List Group → Type 0
-SamplesStay g groups =
+abbrev pub SamplesStayInSteps : Group → List Group → Type 0
+SamplesStayInSteps g groups =
     map (remapped (first_of_all (g ∷ groups))) (contents (merged_group g) (map merged_group groups)).samples
     ≡ (contents g.first (g.others ++ all_sources groups)).samples
 

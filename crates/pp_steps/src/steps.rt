@@ -1,7 +1,7 @@
 //! What merging in steps gives.
 ghost use Rattle.pp_steps.specs.Premises.{GroupsAddUp, LosesNoSample, MergeInAnyGroups, MergeInSteps};
 ghost use Rattle.pp_steps.specs.Refused.{IsMergeable, group_of_merges, one_group};
-ghost use Rattle.pp_steps.specs.Stay.{SamplesStay, SumsStay};
+ghost use Rattle.pp_steps.specs.Stay.{SamplesStayInSteps, SumsStayInSteps};
 ghost use Rattle.pp_steps.specs.Steps.{Group, all_sources, at_once, in_steps, merged_group};
 ghost use Rattle.std.specs.List.{AllByRecursion};
 ghost use Rattle.std.specs.Prelude.{◌≡◌, ℕ, List, ◌∷◌, map};
@@ -38,13 +38,13 @@ pub fn merges_merge_again()
 /// mapping of a location may be another: one of the same length, offset and file.
 pub fn samples_stay_in_steps()
     ensures { (columns : ℕ) → (g : Group) → (groups : List Group) → GroupsAddUp columns (g ∷ groups)
-        → AllByRecursion (LosesNoSample columns) (g ∷ groups) → SamplesStay g groups }
+        → AllByRecursion (LosesNoSample columns) (g ∷ groups) → SamplesStayInSteps g groups }
 {}
 
 /// Whatever their mappings and the signs of values, each sample has the same sum in steps as at once. A sample whose
 /// sum in a group is 0 may stand in another place.
 pub fn sums_stay_in_steps()
-    ensures { (columns : ℕ) → (groups : List Group) → GroupsAddUp columns groups → SumsStay columns groups }
+    ensures { (columns : ℕ) → (groups : List Group) → GroupsAddUp columns groups → SumsStayInSteps columns groups }
 {}
 
 /// Profiles that can be merged at once can be merged in steps: neither the groups nor their merges are refused, but for
