@@ -80,6 +80,8 @@ without_pattern flags.Proto = refl
 without_pattern flags.Folded = refl
 without_pattern flags.Table = refl
 without_pattern flags.Compare = refl
+without_pattern flags.Changes = refl
+without_pattern flags.Account = refl
 
 flag_fair : (flag : FlagFormat) (on : Bool) → IsFairOption (option_map Format (if on then Some (flag_report flag) else None))
 flag_fair flag true = without_pattern flag

@@ -50,6 +50,8 @@ facts_of (reports.List pattern) =
 facts_of reports.Folded = usual
 facts_of reports.Table = usual
 facts_of reports.Compare = record usual { is_short = true }
+facts_of reports.Changes = usual
+facts_of reports.Account = record usual { is_short = true }
 
 -- the option whose value is its own pattern
 abbrev pub own_option : Report → List ℕ

@@ -33,6 +33,10 @@ pub enum Report {
     Table,
     /// The figures of each key before and after a change; it needs a base of the kind `DiffBase`.
     Compare,
+    /// The same figures, exact, a line each, divided by tabs.
+    Changes,
+    /// What each filter drops, and what the limits leave out.
+    Account,
 }
 
 // Each fact has a line for each report, so that a new one does not compile before it is thought of.
@@ -46,7 +50,8 @@ impl Report {
             Report::List(_) => b"list",
             Report::Top | Report::Tree | Report::Traces | Report::Tags => b"",
             Report::Raw | Report::Comments | Report::Proto => b"",
-            Report::Folded | Report::Table | Report::Compare => b"",
+            Report::Folded | Report::Table => b"",
+            Report::Compare | Report::Changes | Report::Account => b"",
         }
     }
 
@@ -58,7 +63,8 @@ impl Report {
             Report::Peek(pattern) | Report::List(pattern) => Some(pattern),
             Report::Top | Report::Tree | Report::Traces | Report::Tags => None,
             Report::Raw | Report::Comments | Report::Proto => None,
-            Report::Folded | Report::Table | Report::Compare => None,
+            Report::Folded | Report::Table => None,
+            Report::Compare | Report::Changes | Report::Account => None,
         }
     }
 
@@ -69,7 +75,8 @@ impl Report {
         match self {
             Report::Top | Report::Tree | Report::Peek(_) | Report::List(_) => true,
             Report::Traces | Report::Tags => true,
-            Report::Folded | Report::Table | Report::Compare => true,
+            Report::Folded | Report::Table => true,
+            Report::Compare | Report::Changes | Report::Account => true,
             Report::Raw | Report::Comments | Report::Proto => false,
         }
     }
@@ -81,7 +88,8 @@ impl Report {
         match self {
             Report::Top | Report::Tree | Report::Peek(_) | Report::List(_) => true,
             Report::Traces | Report::Tags | Report::Raw | Report::Proto => true,
-            Report::Folded | Report::Table | Report::Compare => true,
+            Report::Folded | Report::Table => true,
+            Report::Compare | Report::Changes | Report::Account => true,
             Report::Comments => false,
         }
     }
@@ -91,9 +99,10 @@ impl Report {
         ensures { result ≡ is_short self.now }
     {
         match self {
-            Report::Top | Report::Compare => true,
+            Report::Top | Report::Compare | Report::Account => true,
             Report::Tree | Report::Peek(_) | Report::List(_) => false,
             Report::Traces | Report::Tags | Report::Folded | Report::Table => false,
+            Report::Changes => false,
             Report::Raw | Report::Comments | Report::Proto => false,
         }
     }
@@ -105,7 +114,8 @@ impl Report {
         match self {
             Report::Tags => true,
             Report::Top | Report::Tree | Report::Peek(_) | Report::List(_) => false,
-            Report::Traces | Report::Folded | Report::Table | Report::Compare => false,
+            Report::Traces | Report::Folded | Report::Table => false,
+            Report::Compare | Report::Changes | Report::Account => false,
             Report::Raw | Report::Comments | Report::Proto => false,
         }
     }

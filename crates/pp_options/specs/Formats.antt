@@ -5,7 +5,7 @@ use Rattle.pp_model.specs.declared.report.Report.TheVariants as reports
 use Rattle.pp_options.specs.declared.format.TheConstants.{FORMATS}
 use Rattle.pp_options.specs.declared.format.Format.{Format}
 use Rattle.pp_options.specs.declared.format.FlagFormat.{FlagFormat}
-use Rattle.pp_options.specs.declared.format.FlagFormat.TheVariants.{Top, Tree, Traces, Tags, Raw, Comments, Proto, Folded, Table, Compare}
+use Rattle.pp_options.specs.declared.format.FlagFormat.TheVariants.{Top, Tree, Traces, Tags, Raw, Comments, Proto, Folded, Table, Compare, Changes, Account}
 use Rattle.pp_options.specs.declared.format.PatternFormat.{PatternFormat}
 use Rattle.pp_options.specs.declared.format.PatternFormat.TheVariants as patterns
 use Rattle.pp_options.specs.Tables.{option_in}
@@ -22,6 +22,8 @@ flag_report Proto = reports.Proto
 flag_report Folded = reports.Folded
 flag_report Table = reports.Table
 flag_report Compare = reports.Compare
+flag_report Changes = reports.Changes
+flag_report Account = reports.Account
 
 -- the report of a pattern
 abbrev pub pattern_report : PatternFormat → List ℕ → Report

@@ -29,6 +29,8 @@ pub enum FlagFormat {
     Folded,
     Table,
     Compare,
+    Changes,
+    Account,
 }
 
 /// A report that a word and a pattern ask for.
@@ -39,7 +41,7 @@ pub enum PatternFormat {
 }
 
 /// The formats. `text` and `top` are one.
-pub static FORMATS: [OptionRow<Format>; 27] = [
+pub static FORMATS: [OptionRow<Format>; 31] = [
     Row::Text(b"Formats, one at most; without one the shell starts:\n"),
     Row::Option(b"top", Format::Flag(FlagFormat::Top)),
     Row::Also(b"text", Format::Flag(FlagFormat::Top)),
@@ -72,6 +74,10 @@ pub static FORMATS: [OptionRow<Format>; 27] = [
         b"                     each function before and after the change, of a
                                profile with -diff_base\n",
     ),
+    Row::Option(b"changes", Format::Flag(FlagFormat::Changes)),
+    Row::Text(b"                     the same figures, exact, divided by tabs\n"),
+    Row::Option(b"account", Format::Flag(FlagFormat::Account)),
+    Row::Text(b"                     what each filter drops, and what the limits leave out\n"),
     Row::Text(b"Example: pprof -top cpu.pb\n\n"),
 ];
 
@@ -100,6 +106,8 @@ impl FlagFormat {
             FlagFormat::Folded => Report::Folded,
             FlagFormat::Table => Report::Table,
             FlagFormat::Compare => Report::Compare,
+            FlagFormat::Changes => Report::Changes,
+            FlagFormat::Account => Report::Account,
         }
     }
 }
