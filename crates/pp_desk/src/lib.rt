@@ -19,6 +19,6 @@ pub use desk::Desk;
 pub use file_content::FileContent;
 pub use halt::{Halt, settle};
 pub use input_line::InputLine;
-pub use line_reader::{INPUT_LIMIT, LINE_LIMIT, LineRead, LineReader};
+pub use line_reader::{INPUT_LIMIT, LINE_LIMIT, LineRead, LineReader, limits_of_input};
 pub use objects::Objects;
 pub use stop::Stop;

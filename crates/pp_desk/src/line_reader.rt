@@ -19,6 +19,14 @@ pub const LINE_LIMIT: usize = 65_536;
 /// The most bytes that are read of an input: 16 MiB.
 pub const INPUT_LIMIT: u32 = 16_777_216;
 
+/// The limits of a session's input, as the pages give them: a line of 65,536 bytes, 16,777,216 bytes in all, and at
+/// most 131,072 bytes that are held at once.
+pub fn limits_of_input()
+    ensures line { LINE_LIMIT ≡ 65536 }
+    ensures input { INPUT_LIMIT ≡ 16777216 }
+    ensures window { WINDOW_LIMIT ≡ 131072 }
+{}
+
 /// The answer of a reader of lines.
 #[derive(Debug, Drop)]
 pub enum LineRead {

@@ -11,7 +11,9 @@ mod report;
 mod valid;
 mod verdicts;
 
-pub use config::{Config, EDGE_FRACTION, Grain, NODE_FRACTION, Sort, WORKERS};
+pub use config::{
+    Config, EDGE_FRACTION, Grain, NODE_FRACTION, Sort, WORKERS, numbers_by_default,
+};
 pub use frame::{Frame, Stack, frames, frames_at, frames_into};
 pub use ids::HasId;
 pub use loaded::Loaded;
