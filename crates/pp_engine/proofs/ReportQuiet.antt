@@ -104,6 +104,8 @@ module _ (test : Step → Bool) where
     only_text p f config column h reports.Folded = tt
     only_text p f config column h reports.Table = tt
     only_text p f config column h reports.Compare = tt
+    only_text p f config column h reports.Changes = tt
+    only_text p f config column h reports.Account = tt
 
     only_finish : (finds : Finds) (l : Loaded) (report : Report) (config : Config) (showing : Showing) → Only test (finish_on finds l report config showing)
     unfolding finish_on

@@ -157,6 +157,8 @@ uncounted_comments (reports.List pattern) uncounted = absurd (true≢false uncou
 uncounted_comments reports.Folded uncounted = absurd (true≢false uncounted)
 uncounted_comments reports.Table uncounted = absurd (true≢false uncounted)
 uncounted_comments reports.Compare uncounted = absurd (true≢false uncounted)
+uncounted_comments reports.Changes uncounted = absurd (true≢false uncounted)
+uncounted_comments reports.Account uncounted = absurd (true≢false uncounted)
 
 module _ (finds : Finds) (l : Loaded) (report : Report) (config : Config) where
   -- a report that isn't counted asks for nothing

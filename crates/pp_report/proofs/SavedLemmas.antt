@@ -137,6 +137,8 @@ on_figures P top tree peek (reports.List pattern) reads = absurd (false≢true r
 on_figures P top tree peek reports.Folded reads = absurd (false≢true reads)
 on_figures P top tree peek reports.Table reads = absurd (false≢true reads)
 on_figures P top tree peek reports.Compare reads = absurd (false≢true reads)
+on_figures P top tree peek reports.Changes reads = absurd (false≢true reads)
+on_figures P top tree peek reports.Account reads = absurd (false≢true reads)
 
 module _ (finds : Finds) (l r : Loaded) (config : Config) (by_keys : config.path_tree ≡ false) (s : Showing) (within : IsColumnOf l.profile s.column)
     (can : CanSave l.profile config) (is : IsSavedOf finds l config r) where

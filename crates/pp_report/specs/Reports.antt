@@ -83,6 +83,9 @@ text_by p f config column h reports.Folded = Give (Ok (folded_text p f config co
 text_by p f config column h reports.Table =
     Give (Ok (exact_table p f config column (node_limit config.nodecount 0) (unit_text p column)))
 text_by p f config column h reports.Compare = Give (compare_outcome p f config column h)
+text_by p f config column h reports.Changes = Give (compare_outcome p f config column h)
+text_by p f config column h reports.Account =
+    Give (Ok (top_text p f config column (node_limit config.nodecount 0) h))
 
 -- the answer of a report that reads no file, or that memory was wanting
 abbrev pub answer_of_outcome : Result (Result (List ℕ) ReportRefusal) Memory → Result (Result (List ℕ) ReportRefusal) Stop

@@ -149,6 +149,8 @@ fn text_by<R: Threads + Sync, D: Desk, G: Gate>(
         Report::Folded => answer_of_text(folded(alloc, survey)),
         Report::Table => answer_of_text(table(alloc, survey)),
         Report::Compare => answer_of_outcome(compare(with, subject)),
+        Report::Changes => answer_of_outcome(compare(with, subject)),
+        Report::Account => answer_of_text(top(alloc, subject)),
     }
 }
 
