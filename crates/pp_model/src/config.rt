@@ -1,6 +1,5 @@
 //! The variables that reports are made by.
 ghost use Rattle.std.specs.Prelude.{◌≡◌, ◌<◌, ◌≤◌, ◌≤ℤ◌, ◌^◌, negsuc, IfOk};
-ghost use Rattle.pp_model.specs.Defaults.{defaults};
 
 use pp_base::{Fraction, Memory, Text};
 use std::alloc::Global;
@@ -102,17 +101,9 @@ pub struct Config {
     pub ghost workers_to: { workers ≤ 64 },
 }
 
-/// The defaults that are numbers, as the pages give them: a row needs 5 parts in 1,000 of the total and an edge 1 part
-/// in 1,000, 4 threads work, a value is divided by 1, and the number of rows is the report's own.
-pub fn numbers_by_default()
-    ensures nodefraction { defaults.nodefraction.billionths ≡ 5000000 }
-    ensures edgefraction { defaults.edgefraction.billionths ≡ 1000000 }
-    ensures workers { defaults.workers ≡ 4 }
-    ensures divide_by { defaults.divide_by ≡ 1 }
-    ensures nodecount { defaults.nodecount ≡ negsuc 0 }
-{}
-
 impl Config {
+    ghost use Rattle.pp_model.specs.Defaults.{defaults};
+
     /// Each variable at its default.
     pub fn standard(alloc: Global) -> Result<Config, Memory>
         ensures { IfOk result (λ config. config ≡ defaults) }

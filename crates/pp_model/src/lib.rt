@@ -2,6 +2,7 @@
 #![tactic(auto)]
 
 mod config;
+mod defaults;
 mod frame;
 mod ids;
 mod loaded;
@@ -11,9 +12,8 @@ mod report;
 mod valid;
 mod verdicts;
 
-pub use config::{
-    Config, EDGE_FRACTION, Grain, NODE_FRACTION, Sort, WORKERS, numbers_by_default,
-};
+pub use config::{Config, EDGE_FRACTION, Grain, NODE_FRACTION, Sort, WORKERS};
+pub use defaults::numbers_by_default;
 pub use frame::{Frame, Stack, frames, frames_at, frames_into};
 pub use ids::HasId;
 pub use loaded::Loaded;
