@@ -7,10 +7,12 @@ from model.stacks import by_texts, filtered, frames_of, load_pruned
 from model.tags import key_list, read_filter, selects, with_tags
 from model.units import forced
 
-TEXTS = {name: getattr(reports, name.decode()) for name in b"top tree peek traces tags folded table compare".split()}
+NAMES = b"top tree peek traces tags folded table compare changes account".split()
+TEXTS = {name: getattr(reports, name.decode()) for name in NAMES}
 TEXTS[b"list"] = dumps.listing
 SAVED = {b"raw": dumps.raw, b"proto": dumps.proto}
 STACKS = ("focus", "ignore", "hide", "show", "show_from")
+DROPPING = ("ignore", "focus", "hide", "show", "show_from", "tagfocus", "tagignore")
 NOTED = STACKS + ("tagfocus", "tagignore", "tagshow", "taghide")
 
 
@@ -67,11 +69,11 @@ class Filters:
     def selects(self, name, sample):
         return selects(self.tags[name], self.parts[name], sample)
 
-    def keeps(self, sample):
-        """Whether tagfocus and tagignore keep the sample."""
+    def dropper(self, sample):
+        """Which of tagfocus and tagignore drops the sample, or None."""
         if "tagfocus" in self.tags and not self.selects("tagfocus", sample):
-            return False
-        return not ("tagignore" in self.tags and self.selects("tagignore", sample))
+            return "tagfocus"
+        return "tagignore" if "tagignore" in self.tags and self.selects("tagignore", sample) else None
 
     def shows(self, tag):
         """Whether a label is shown."""
@@ -79,12 +81,18 @@ class Filters:
             return False
         return not ("taghide" in self.shown and self.shown["taghide"](tag.key))
 
-    def kept(self, profile, is_prunable):
-        """The samples that are left, each with its stack and its labels as they are left."""
+    def sorted_out(self, profile, is_prunable):
+        """The samples that are left, each with its stack and its labels as they are left, and those that each filter in
+        force is the first to drop."""
+        kept, dropped = [], {name: [] for name in DROPPING if name in self.stacks or name in self.tags}
         for sample in profile.samples:
-            stack = filtered(load_pruned(frames_of(sample), is_prunable), self.stacks)
-            if stack is not None and self.keeps(sample):
-                yield sample, stack, [tag for tag in sample.tags if self.shows(tag)]
+            name, stack = filtered(load_pruned(frames_of(sample), is_prunable), self.stacks)
+            name = name or self.dropper(sample)
+            if name:
+                dropped[name].append(sample)
+            else:
+                kept.append((sample, stack, [tag for tag in sample.tags if self.shows(tag)]))
+        return kept, dropped
 
     def matches(self, name, sample, stack):
         """Whether an option finds something in a loaded sample."""
@@ -120,7 +128,7 @@ def basis(profile, report, config):
 
 def prepared(loaded, report, pattern, config, matcher, tell, read):
     """The text of a report. `tell` is called with the notes before any source is read, and `read` reads a source."""
-    profile, prunable = loaded
+    profile, prunable, has_base = loaded
     if report == b"comments":
         return dumps.comments(profile)
     column, kind, unit = basis(profile, report, config)
@@ -129,13 +137,13 @@ def prepared(loaded, report, pattern, config, matcher, tell, read):
         profile, prunable = with_tags(profile, prunable, roots, leaves), nobody
     filters = Filters(config, report, pattern, matcher)
     tell(b"".join(filters.notes(profile, prunable)))
-    kept = list(filters.kept(profile, prunable))
+    kept, dropped = filters.sorted_out(profile, prunable)
     if report in SAVED:
         return SAVED[report](dumps.saved(profile, kept))
     counts = Selected(profile, kept, config, column)
-    subject = reports.Subject(profile, counts, config, kind, unit, filters.own, read)
+    subject = reports.Subject(profile, counts, config, kind, unit, filters.own, read, dropped)
     if filters.own and not reports.is_matched(subject):
         raise ReportRefusal(b"no function matches")
-    if report == b"compare" and not reports.is_compared(subject):
+    if report in (b"compare", b"changes") and not (has_base or reports.is_compared(subject)):
         raise ReportRefusal(b"compare: no -diff_base was given")
     return TEXTS[report](subject)

@@ -1,4 +1,4 @@
-"""The reports on counted samples: top, tree, peek, path tree, traces, tags, folded, table and compare (docs/reports.md).
+"""The reports on counted samples: all but list, raw, comments and proto (docs/reports.md).
 
 Each is made of a Subject: the profile, what was selected of it, the configuration, and how values are printed.
 """
@@ -10,7 +10,7 @@ from model.counting import report_order, sums_of, without_light
 from model.tags import is_text, unit_of
 from model.units import forced, percent_text, picked, value_text
 
-Subject = namedtuple("Subject", "profile counts config kind unit own read")
+Subject = namedtuple("Subject", "profile counts config kind unit own read dropped")
 
 SEPARATOR = b"-" * 69 + b"+" + b"-" * 20
 TRACES_SEPARATOR = b"-" * 11 + b"+" + b"-" * 55
@@ -270,7 +270,7 @@ def table(subject):
 
 
 def is_compared(subject):
-    """Whether some sample is of a base to compare with."""
+    """Whether some sample is of a base."""
     return any(map(is_of_base, subject.profile.samples))
 
 
@@ -283,17 +283,66 @@ def compare_line(subject, before, change, name):
     return b" ".join(parts + [right(change_percent(before, change), 8)]) + b"  " + name
 
 
+def base_entries(subject):
+    return [entry for entry in subject.counts.counted if is_of_base(entry.sample)]
+
+
+def figure_of(subject, entries):
+    """The figure of each key: its flat, or its cum where that is the order."""
+    return sums_of(entries)[1 if subject.config["sort"] == b"cum" else 0]
+
+
 def compare(subject):
-    entries, sort = subject.counts.counted, subject.config["sort"]
+    entries, base, sort = subject.counts.counted, base_entries(subject), subject.config["sort"]
     ranking = Ranking(subject.counts, subject.config, limit_of(subject, 0))
-    base = [entry for entry in entries if is_of_base(entry.sample)]
-    at = 1 if sort == b"cum" else 0
-    changes, bases = sums_of(entries)[at], sums_of(base)[at]
+    changed, bases = figure_of(subject, entries), figure_of(subject, base)
     titles = right(b"before", 10), right(b"after", 10), right(b"change", 10), right(b"change%", 8)
     lines = head_lines(subject) + limits_lines(ranking) + [b" ".join(titles) + b"  " + sort]
     before, change = (sum(entry.value for entry in some) for some in (base, entries))
     lines.append(compare_line(subject, -before, change, b"(all)"))
     lines += [
-        compare_line(subject, -bases[key], changes[key], name_of(key)) for key in ranking.shown
+        compare_line(subject, -bases[key], changed[key], name_of(key)) for key in ranking.shown
     ]
+    return joined(lines)
+
+
+def changes(subject):
+    """The figures of compare as whole numbers."""
+    keys = all_keys(subject)[0]
+    changed = figure_of(subject, subject.counts.counted)
+    bases = figure_of(subject, base_entries(subject))
+    lines = [with_unit(subject, [b"before", b"after", b"change"])]
+    for key in keys:
+        parts = -bases[key], changed[key] - bases[key], changed[key], escaped(name_of(key))
+        lines.append(b"%d\t%d\t%d\t%s" % parts)
+    return joined(lines)
+
+
+# Account.
+
+
+def account_line(subject, count, value, name):
+    part = right(percent(subject, value), 8)
+    return b"%s %s %s  %s" % (right(b"%d" % count, 10), right(spelled(subject, value), 10), part, name)
+
+
+def account(subject):
+    """What each filter is the first to drop, and what the limits leave out."""
+    counts, config = subject.counts, subject.config
+    ranking = Ranking(counts, config, limit_of(subject, 0))
+    groups = [(b"loaded", subject.profile.samples)]
+    groups += [(name.encode() + b"=" + config[name], some) for name, some in subject.dropped.items()]
+    groups.append((b"left", [entry.sample for entry in counts.entries]))
+    bare = [entry.sample for entry in counts.counted if not entry.frames]
+    groups += [(b"left without a frame", bare)] if bare else []
+    heavy, shown = len(ranking.heavy), len(ranking.shown)
+    light = [key for key in ranking.all if key not in set(ranking.heavy)]
+    keys = [(b"counted", ranking.all), (b"below nodefraction", light)]
+    keys += [(b"beyond nodecount", ranking.heavy[shown:heavy]), (b"shown", ranking.shown)]
+    lines = head_lines(subject) + [b"   samples      value   value%  account"]
+    for name, some in groups:
+        lines.append(account_line(subject, len(some), sum(map(counts.value, some)), name))
+    lines.append(b"     nodes      value   value%  account")
+    for name, some in keys:
+        lines.append(account_line(subject, len(some), sum(ranking.flats[key] for key in some), name))
     return joined(lines)

@@ -65,7 +65,8 @@ class Reading:
 
 
 def loaded_of(plan, outside):
-    """The profile that all reports of a session are on, and which of its frames it leaves out."""
+    """The profile that all reports of a session are on, which of its frames it leaves out, and whether a base for it to be
+    compared with was given."""
     reading = Reading(outside)
     profiles = [reading.profile(source) for source in plan.sources + plan.bases]
     for number, other in enumerate(profiles):
@@ -78,7 +79,7 @@ def loaded_of(plan, outside):
         if plan.normalize:
             profile = normalize(profile, base)
         profile = subtract(profile, base, plan.base_word == b"diff_base")
-    return profile, is_prunable(profile, outside.matcher)
+    return profile, is_prunable(profile, outside.matcher), plan.base_word == b"diff_base"
 
 
 class Session:

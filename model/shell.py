@@ -105,7 +105,7 @@ def with_words(report, pattern, words, config):
     for name, parts in ("focus", focus), ("ignore", ignore):
         if parts:
             config[("tag" if report == b"tags" else "") + name] = b"|".join(parts)
-    if report in (b"top", b"compare") and config["nodecount"] == -1:
+    if report in (b"top", b"compare", b"account") and config["nodecount"] == -1:
         config["nodecount"] = 10
     return Command(report, pattern, config, file)
 

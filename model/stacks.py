@@ -39,28 +39,27 @@ def by_texts(finds):
 
 
 def filtered(stack, filters):
-    """What ignore, focus, hide, show, show_from and prune_from leave of a stack, or None where the sample is dropped."""
+    """Which of ignore, focus, hide, show and show_from drops the sample, or None, and what they and prune_from leave."""
     found = {name: by_texts(finds) for name, finds in filters.items()}
     if "ignore" in found and any(map(found["ignore"], stack)):
-        return None
+        return "ignore", []
     if "focus" in found and not any(map(found["focus"], stack)):
-        return None
+        return "focus", []
     left = stack
-    if "hide" in found:
-        left = [frame for frame in left if not found["hide"](frame)]
-    if "show" in found:
-        left = [frame for frame in left if found["show"](frame)]
-    if stack and not left:
-        return None
+    for name, stays in ("hide", False), ("show", True):
+        if name in found:
+            left = [frame for frame in left if found[name](frame) == stays]
+            if stack and not left:
+                return name, []
     if "show_from" in found:
         last = max((at for at, frame in enumerate(left) if found["show_from"](frame)), default=None)
         if last is None:
-            return None
+            return "show_from", []
         left = left[: last + 1]
     if "prune_from" in filters:
         names = enumerate(filters["prune_from"](frame.function) for frame in left)
         left = left[next((at for at, is_found in names if is_found), 0) :]
-    return left
+    return None, left
 
 
 def of_one_place(stack):

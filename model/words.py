@@ -9,7 +9,7 @@ SORTS = (b"flat", b"cum")
 GRAINS = (b"functions", b"filefunctions", b"files", b"lines", b"addresses")
 # Formats whose value is a pattern, and those that are flags; the report that each word stands for.
 ASKED = (b"peek", b"list")
-NAMED = b"top tree traces tags raw comments proto peek list folded table compare".split()
+NAMED = b"top tree traces tags raw comments proto peek list folded table compare changes account".split()
 FORMATS = {b"text": b"top", **{name: name for name in NAMED}}
 TYPES = {name: name for name in b"inuse_space inuse_objects alloc_space alloc_objects contentions".split()}
 TYPES[b"total_delay"] = b"delay"

@@ -327,7 +327,7 @@ def legacy(rng):
 
 # Words and lines.
 
-REPORTS = [b"top", b"tree", b"traces", b"tags", b"raw", b"comments", b"proto", b"folded", b"table", b"compare", b"text"]
+REPORTS = b"top tree traces tags raw comments proto folded table compare changes account text".split()
 
 
 def random_format(rng):
