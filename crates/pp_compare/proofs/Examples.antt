@@ -4,6 +4,7 @@ use Rattle.std.specs.Prelude.{codes}
 use Rattle.std.specs.Fmt.{digits}
 use Rattle.pp_model.specs.declared.config.Sort.TheVariants.{Cum}
 use Rattle.pp_units.specs.Numbers.{number_text, value_text, percent_text}
+use Rattle.pp_compare.specs.Changes.{changes_heading, change_line}
 use Rattle.pp_compare.specs.Compare.{difference_of, compare_heading, difference_line}
 
 -- A key that has three times as much in the source, and one that the base doesn't have.
@@ -13,3 +14,11 @@ two_rows : compare_heading Cum
     ≡ codes "    before      after     change  change%  cum\n         2          6          4  200.00%  leaf\n         0          2          2      new  work\n"
 unfolding value_text number_text percent_text digits
 two_rows = refl
+
+-- The second key of two, whose name has a tab, lost all that it had.
+two_lines : changes_heading (codes "ms")
+    ++ change_line (record { figures = difference_of (negsuc 1) (pos 4); name = codes "leaf" })
+    ++ change_line (record { figures = difference_of (negsuc 11) (negsuc 11); name = codes "a\tb" })
+    ≡ codes "before/ms\tafter/ms\tchange/ms\tname\n2\t6\t4\tleaf\n12\t0\t-12\ta\\tb\n"
+unfolding digits
+two_lines = refl

@@ -10,7 +10,6 @@ use Rattle.pp_model.specs.declared.config.Sort.TheVariants as sorts
 use Rattle.pp_model.specs.declared.profile.Profile.{Profile}
 use Rattle.pp_model.specs.Finders.{Finders}
 use Rattle.pp_model.specs.FrameTexts.{Written}
-use Rattle.pp_units.specs.Shown.{Shown}
 use Rattle.pp_grain.specs.declared.key.Key.{Key}
 use Rattle.pp_grain.specs.Keys.{key_cmp, key_written}
 use Rattle.pp_grain.specs.Naming.{name_text}
@@ -23,7 +22,7 @@ use Rattle.pp_count.specs.Table.{no_key, written_key}
 use Rattle.pp_count.specs.Base.{base_report_samples, AreBaseSums}
 use Rattle.pp_count.specs.declared.base.BaseSums.{BaseSums}
 use Rattle.pp_graph.specs.Ranks.{sum_of_name}
-use Rattle.pp_compare.specs.Compare.{difference_of, figure, compared_row, difference_line}
+use Rattle.pp_compare.specs.Compare.{ComparedRow, difference_of, figure, compared_row}
 use Rattle.pp_compare.specs.Rows.{wrapped, figures_at, compared_at}
 use Rattle.pp_compare.proofs.Fitting.{figures_differ}
 
@@ -53,13 +52,13 @@ module _ (p : Profile) (f : Finders) (config : Config) (column : Option ℕ) (sm
       ∙ figures_differ p f config column small (has key_cmp (written_key p sums.names n))
 
   -- the lines of names are those of their keys
-  pub rows_are : (unit : Shown) (order : List ℕ) → All (λ n. n < length sums.names) order
-      → flat_map (λ n. difference_line unit (compared_at p config.sort sums base n)) order
-      ≡ flat_map (λ k. difference_line unit (compared_row p f config column k)) (map (written_key p sums.names) order)
-  rows_are unit [] below = refl
-  rows_are unit (n ∷ order) below = λ i.
-      difference_line unit (record {
+  pub rows_are : (line : ComparedRow → List ℕ) (order : List ℕ) → All (λ n. n < length sums.names) order
+      → flat_map (λ n. line (compared_at p config.sort sums base n)) order
+      ≡ flat_map (λ k. line (compared_row p f config column k)) (map (written_key p sums.names) order)
+  rows_are line [] below = refl
+  rows_are line (n ∷ order) below = λ i.
+      line (record {
         figures = figures_are config.sort n (All-head (λ m. m < length sums.names) n order below) i;
         name = name_text (written_key p sums.names n);
       })
-      ++ rows_are unit order (All-tail (λ m. m < length sums.names) n order below) i
+      ++ rows_are line order (All-tail (λ m. m < length sums.names) n order below) i

@@ -71,23 +71,23 @@ fn put_row(
     ensures { IfOk result (λ _. out.new ≡ out.old ++ difference_line (shown table.now.head.now.unit)
         (compared_at table.now.l.now.profile table.now.sort table.now.sums.now table.now.base.now number)) }
 {
-    let figures = figures(table, number);
+    let figures = figures(table.sums, table.base, table.sort, number);
     put_columns(table.head, &figures, scratch, out)?;
     put_name(table.l, &table.sums.names.key(number), out)
 }
 
-// What is compared of the name with this number.
-fn figures(table: &CompareTable, number: u64) -> Difference
-    requires fits { FitSums table.now.sums.now }
-    requires base { FitBase table.now.sums.now.names table.now.base.now }
-    requires below { number < length table.now.sums.now.names }
-    ensures { result ≡ figures_at table.now.sort table.now.sums.now table.now.base.now number }
+/// What is compared of the name with this number.
+pub fn figures(sums: &Sums, base: &BaseSums, sort: Sort, number: u64) -> Difference
+    requires fits { FitSums sums.now }
+    requires base { FitBase sums.now.names base.now }
+    requires below { number < length sums.now.names }
+    ensures { result ≡ figures_at sort sums.now base.now number }
 {
-    let (base, sums) = match table.sort {
-        Sort::Flat => (&table.base.flat, &table.sums.flat),
-        Sort::Cum => (&table.base.cum, &table.sums.cum),
+    let (before, all) = match sort {
+        Sort::Flat => (&base.flat, &sums.flat),
+        Sort::Cum => (&base.cum, &sums.cum),
     };
-    difference_of(at(base, number), at(sums, number))
+    difference_of(at(before, number), at(all, number))
 }
 
 // The figure at the place.

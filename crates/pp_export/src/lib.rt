@@ -1,12 +1,14 @@
 //! Reports for other programs: the paths of samples in one line each, and the sums of keys as a table.
 #![tactic(auto)]
 
+mod cells;
 mod escaped;
 mod folded;
 mod laws;
 mod path_names;
 mod table;
 
+pub use cells::{put_heading_cell, put_name_cell, put_value_cell};
 pub use folded::write_folded;
 pub use laws::{folded_lines_add_up, table_limits_only_cut};
 pub use table::write_table;

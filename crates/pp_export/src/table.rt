@@ -1,23 +1,18 @@
 //! The table report.
 ghost use Rattle.std.specs.Prelude.{◌≡◌, ◌++◌, ◌<◌, ℕ, length, map, All, Option, IfOk, OnOk, OnErr};
-ghost use Rattle.std.specs.Fmt.{signed_decimal};
 ghost use Rattle.pp_model.specs.declared.config.Config.{Config};
 ghost use Rattle.pp_model.specs.declared.verdicts.Verdicts.{Verdicts};
 ghost use Rattle.pp_model.specs.Finders.{Finders};
-ghost use Rattle.pp_grain.specs.Keys.{IsKeyOf, key_written};
-ghost use Rattle.pp_grain.specs.Naming.{name_text};
+ghost use Rattle.pp_grain.specs.Keys.{IsKeyOf};
 ghost use Rattle.pp_count.specs.Counted.{FitSums, IsCountedOf};
 ghost use Rattle.pp_count.specs.Seeing.{HoldsFilters};
 ghost use Rattle.pp_graph.specs.KeyRows.{row_at, CanShow};
 ghost use Rattle.pp_graph.specs.Trimmed.{IsWholeRanking};
-ghost use Rattle.pp_export.specs.Escaped.{cell_text};
-ghost use Rattle.pp_export.specs.Table.{behind_slash, cell, last_cell, exact_heading, row_line, table_rows, exact_table};
+ghost use Rattle.pp_export.specs.Table.{exact_heading, row_line, table_rows, exact_table};
 
-use crate::escaped::put_cell;
-use itoa::Buffer;
+use crate::cells::{put_heading_cell, put_name_cell, put_value_cell};
 use pp_base::{Memory, Text};
 use pp_count::{Counted, Sums};
-use pp_grain::{Key, write_name};
 use pp_graph::Ranked;
 use pp_model::Loaded;
 use std::alloc::Global;
@@ -51,28 +46,9 @@ pub fn write_table(
 fn put_heading(unit: &[u8], out: &mut Text) -> Result<(), Memory>
     ensures { IfOk result (λ _. out.new ≡ out.old ++ exact_heading unit.now) }
 {
-    put_column(b"flat", unit, out)?;
-    put_column(b"cum", unit, out)?;
+    put_heading_cell(b"flat", unit, out)?;
+    put_heading_cell(b"cum", unit, out)?;
     out.extend(b"name\n")
-}
-
-// The heading of a column of values.
-fn put_column(name: &[u8], unit: &[u8], out: &mut Text) -> Result<(), Memory>
-    ensures { IfOk result (λ _. out.new ≡ out.old ++ cell (name.now ++ behind_slash unit.now)) }
-{
-    out.extend(name)?;
-    put_unit(unit, out)?;
-    out.extend(b"\t")
-}
-
-fn put_unit(unit: &[u8], out: &mut Text) -> Result<(), Memory>
-    ensures { IfOk result (λ _. out.new ≡ out.old ++ behind_slash unit.now) }
-{
-    if unit.is_empty() {
-        return Ok(());
-    }
-    out.extend(b"/")?;
-    put_cell(unit, out)
 }
 
 // A line for each of the names with these numbers.
@@ -110,25 +86,7 @@ fn put_row(
     ensures { IfOk result (λ _.
         out.new ≡ out.old ++ row_line (row_at l.now.profile sums.now number)) }
 {
-    put_value(sums.flat.as_slice()[number as usize], out)?;
-    put_value(sums.cum.as_slice()[number as usize], out)?;
-    put_name(l, &sums.names.key(number), name, out)
-}
-
-fn put_value(value: i64, out: &mut Text) -> Result<(), Memory>
-    ensures { IfOk result (λ _. out.new ≡ out.old ++ cell (signed_decimal value)) }
-{
-    out.extend(Buffer::new().format(value).as_bytes())?;
-    out.extend(b"\t")
-}
-
-fn put_name(l: &Loaded, key: &Key, name: &mut Text, out: &mut Text) -> Result<(), Memory>
-    requires { IsKeyOf l.now.profile key.now }
-    ensures { IfOk result (λ _. out.new ≡ out.old
-        ++ last_cell (cell_text (name_text (key_written l.now.profile key.now)))) }
-{
-    name.clear();
-    write_name(l, key, name)?;
-    put_cell(name.as_slice(), out)?;
-    out.extend(b"\n")
+    put_value_cell(sums.flat.as_slice()[number as usize], out)?;
+    put_value_cell(sums.cum.as_slice()[number as usize], out)?;
+    put_name_cell(l, &sums.names.key(number), name, out)
 }
