@@ -16,6 +16,7 @@ use Rattle.pp_tables.specs.Encode.{encode}
 use Rattle.pp_pattern.specs.Report.{Finds}
 use Rattle.pp_count.specs.Counted.{has_own_match}
 use Rattle.pp_graph.specs.Trim.{node_limit}
+use Rattle.pp_account.specs.Account.{account_text}
 use Rattle.pp_top.specs.Top.{top_text}
 use Rattle.pp_tree.specs.Tree.{tree_text}
 use Rattle.pp_calltree.specs.Text.{calltree_text}
@@ -83,7 +84,7 @@ text_by p f config column h reports.Compare =
 text_by p f config column h reports.Changes =
     Give (Ok (changes_text p f config column (node_limit config.nodecount 0) (unit_text p column)))
 text_by p f config column h reports.Account =
-    Give (Ok (top_text p f config column (node_limit config.nodecount 0) h))
+    Give (Ok (account_text p f config column (node_limit config.nodecount 0) h))
 
 -- the answer of a report that reads no file, or that memory was wanting
 abbrev pub answer_of_outcome : Result (Result (List ℕ) ReportRefusal) Memory → Result (Result (List ℕ) ReportRefusal) Stop

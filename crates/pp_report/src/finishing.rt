@@ -21,7 +21,7 @@ use crate::prepared::{Counts, Prepared};
 use crate::shows::Shows;
 use crate::subject::Subject;
 use crate::task::Task;
-use crate::texts::{comments, peek, proto, raw, tags, top, traces};
+use crate::texts::{account, comments, peek, proto, raw, tags, top, traces};
 use crate::trees::tree_report;
 use pp_base::{Gate, Memory, Text};
 use pp_count::Survey;
@@ -175,7 +175,7 @@ fn text_by<R: Threads + Sync, D: Desk, G: Gate>(
         Report::Table => answer_of_text(table(alloc, survey)),
         Report::Compare => answer_of_text(compare(with, subject)),
         Report::Changes => answer_of_text(changes(with, subject)),
-        Report::Account => answer_of_text(top(alloc, subject)),
+        Report::Account => answer_of_text(account(alloc, subject)),
     }
 }
 

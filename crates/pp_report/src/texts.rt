@@ -5,6 +5,7 @@ ghost use Rattle.pp_model.specs.Finders.{Finders};
 ghost use Rattle.pp_units.specs.Head.{facts};
 ghost use Rattle.pp_count.specs.Seeing.{HoldsFilters};
 ghost use Rattle.pp_graph.specs.Trim.{node_limit};
+ghost use Rattle.pp_account.specs.Account.{account_text};
 ghost use Rattle.pp_top.specs.Top.{top_text};
 ghost use Rattle.pp_tree.specs.Tree.{tree_text};
 ghost use Rattle.pp_samples.specs.Traces.{traces_text};
@@ -20,6 +21,7 @@ ghost use Rattle.pp_report.specs.SavedText.{IsProtoOf};
 use crate::ReportRefusal;
 use crate::host::Host;
 use crate::subject::Subject;
+use pp_account::write_account;
 use pp_base::{Gate, MatchRefusal, Memory, Text};
 use pp_count::Survey;
 use pp_dump::{saved_profile, write_raw};
@@ -47,6 +49,20 @@ pub fn top(alloc: Global, subject: &Subject<'_, '_>) -> Result<Text, Memory>
     let ranked = rank(alloc, s.l, s.counted, s.config, limit)?;
     let mut text = Text::new(alloc);
     write_top(alloc, s.l, s.counted, &ranked, subject.head, &mut text)?;
+    Ok(text)
+}
+
+/// The account report, whose nodes have no limit of their own.
+pub fn account(alloc: Global, subject: &Subject<'_, '_>) -> Result<Text, Memory>
+    ensures { let s = subject.now.survey in (f : Finders) →
+        HoldsFilters s.l.now s.v.now s.config.now f →
+        IfOk result (λ text. text ≡ account_text s.l.now.profile f s.config.now s.column
+        (node_limit s.config.now.nodecount 0) (facts subject.now.head.now)) }
+{
+    let s = &subject.survey;
+    let limit = limit_of(s.config, 0);
+    let mut text = Text::new(alloc);
+    write_account(alloc, s, limit, subject.head, &mut text)?;
     Ok(text)
 }
 

@@ -1,0 +1,53 @@
+-- The rows of an account add up.
+use Rattle.std.specs.Prelude.{◌≡◌, ℕ, ◌+◌, pos, ◌+ℤ◌, false, List, [], ◌∷◌, ◌++◌, map, Option}
+use Rattle.pp_model.specs.declared.config.Config.{Config}
+use Rattle.pp_model.specs.declared.profile.Profile.{Profile}
+use Rattle.pp_model.specs.declared.verdicts.Slot.{Slot}
+use Rattle.pp_model.specs.Finders.{Finders}
+use Rattle.pp_count.specs.Counts.{filtered_samples}
+use Rattle.pp_graph.specs.Trim.{all_report_keys, report_keys}
+use Rattle.pp_account.specs.declared.portion.Portion.{Portion}
+use Rattle.pp_account.specs.Account.{dropping}
+use Rattle.pp_account.specs.First.{is_in_force}
+use Rattle.pp_account.specs.Nodes.{keys_portion, light_keys, keys_beyond}
+use Rattle.pp_account.specs.Portions.{portion_of, dropped_samples, bare_samples}
+
+-- what portions come to together
+abbrev pub together : List Portion → Portion
+together [] = record { count = 0; value = pos 0 }
+together (portion ∷ portions) = record {
+  count = portion.count + (together portions).count;
+  value = portion.value +ℤ (together portions).value;
+}
+
+-- The samples that each filter is the first to drop, and those that are left, add up to all samples.
+abbrev pub SamplesAddUp : Type 0
+SamplesAddUp =
+    (p : Profile) (f : Finders) (config : Config) (column : Option ℕ)
+    → portion_of config column p.sample
+    ≡ together (map (λ slot. portion_of config column (dropped_samples p f config slot p.sample)) dropping
+    ++ portion_of config column (filtered_samples p f config p.sample) ∷ [])
+
+-- A filter that isn't in force, which has no row, drops no sample.
+abbrev pub OthersDropNone : Type 0
+OthersDropNone =
+    (p : Profile) (f : Finders) (config : Config) (slot : Slot)
+    → is_in_force f config slot ≡ false → dropped_samples p f config slot p.sample ≡ []
+
+-- The rows of the keys that are too light, past the limit and shown add up to that of all keys.
+abbrev pub NodesAddUp : Type 0
+NodesAddUp =
+    (p : Profile) (f : Finders) (config : Config) (column : Option ℕ) (limit : ℕ)
+    → keys_portion p f config column (all_report_keys p f config column)
+    ≡ together (keys_portion p f config column (light_keys p f config column)
+    ∷ keys_portion p f config column (keys_beyond p f config column limit)
+    ∷ keys_portion p f config column (report_keys p f config column limit) ∷ [])
+
+-- The flats of all keys and the values of the samples that are left without a frame add up to the values of the samples
+-- that are left.
+abbrev pub ValuesAddUp : Type 0
+ValuesAddUp =
+    (p : Profile) (f : Finders) (config : Config) (column : Option ℕ)
+    → (portion_of config column (filtered_samples p f config p.sample)).value
+    ≡ (keys_portion p f config column (all_report_keys p f config column)).value
+    +ℤ (portion_of config column (bare_samples p f config column p.sample)).value
