@@ -46,7 +46,7 @@ module _ (finds : Finds) (files : FileMap) (locked : List (List ℕ)) (lines : L
   settled_looks l report config (Ok settled) = (refl, λ _. finish_looks finds l report config settled.showing)
   settled_looks l report config (Err refusal) = tt
 
-  noted_looks : (l : Loaded) (report : Report) (config : Config) → Only only_looks (noted_report finds l report config)
+  pub noted_looks : (l : Loaded) (report : Report) (config : Config) → Only only_looks (noted_report finds l report config)
   unfolding noted_report
   noted_looks l report config = only_then only_looks (prepare finds l report config) (note_and_finish finds l report config) (prepare_looks finds l report config) (settled_looks l report config)
 
