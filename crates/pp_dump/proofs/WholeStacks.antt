@@ -51,7 +51,7 @@ all_lines lines d =
     get_or-map-range_with_len read 0 (length lines) k k e below (omega arith) ∙ get_or_default lines k d e below)
 
 -- without tagshow and taghide all labels are shown
-all_shown : (p : Profile) (labels : List Label) → shown_labels p no_finders labels ≡ labels
+pub all_shown : (p : Profile) (labels : List Label) → shown_labels p no_finders labels ≡ labels
 all_shown p [] = refl
 all_shown p (label ∷ labels) = ap (λ rest. label ∷ rest) (all_shown p labels)
 
@@ -95,7 +95,7 @@ module _ (p : Profile) where
       grouped (f ∷ more) some all = one_group place f more (frames_from p (place + 1) ids) all.0 all.1 (places_from p (place + 1) ids)
 
   -- the locations of the groups of ids are those of the ids
-  groups_located : (place : ℕ) (ids : List ℕ) → map (cut_location p) (by_place (frames_from p place ids)) ≡ map (λ id. location_at p (id - 1)) ids
+  pub groups_located : (place : ℕ) (ids : List ℕ) → map (cut_location p) (by_place (frames_from p place ids)) ≡ map (λ id. location_at p (id - 1)) ids
   groups_located place [] = refl
   groups_located place (id ∷ ids) =
       ap (map (cut_location p)) (first_group place id ids)
@@ -152,7 +152,7 @@ module _ (p : Profile) where
 
     module _ (config : Config) (tagfocus : config.tagfocus ≡ []) (tagignore : config.tagignore ≡ []) where
       -- what is left of a sample is its stack
-      none_dropped : (s : Sample) → filtered_stack p no_finders config s ≡ Some (stack_of p s)
+      pub none_dropped : (s : Sample) → filtered_stack p no_finders config s ≡ Some (stack_of p s)
       none_dropped s =
           (λ i. if is_tag_kept p (filter_in_force (tagfocus i)) (filter_in_force (tagignore i)) no_finders s then filtered (written p) no_finders (stack_of p s) else None)
           ∙ none_cut p (stack_of p s)

@@ -73,7 +73,7 @@ after_write_apart path at bytes true kept kept_there written written_there unrea
 after_write_apart path at bytes false kept kept_there written written_there unread same same_written = ap (does (ToFile at bytes)) (same_written unread)
 
 -- a course in which the path is not read does not look at it
-course_apart : {T : Type 0} (path : List ℕ) (p : Script T) (files other : FileMap) (locked : List (List ℕ)) (lines : List InputLine) (answers : List Answer) → AgreeBut path files other
+pub course_apart : {T : Type 0} (path : List ℕ) (p : Script T) (files other : FileMap) (locked : List (List ℕ)) (lines : List InputLine) (answers : List Answer) → AgreeBut path files other
     → among (reads_of (course p files locked lines answers).effects) path ≡ false → course p files locked lines answers ≡ course p other locked lines answers
 course_apart path (Give x) files other locked lines answers agree unread = refl
 course_apart path (Make (WriteOut bytes) p) files other locked lines answers agree unread = ap (does (ToOut bytes)) (course_apart path (p tt) files other locked lines answers agree unread)

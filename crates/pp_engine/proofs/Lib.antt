@@ -15,3 +15,5 @@ pub mod Lasting
 pub mod ValidEnds
 pub mod Runs
 pub mod AlikeLemmas
+pub mod ReportSessions
+pub mod SavedFileLemmas

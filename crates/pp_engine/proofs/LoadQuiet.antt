@@ -16,7 +16,7 @@ use Rattle.pp_options.specs.declared.plan.Plan.{Plan}
 use Rattle.pp_pattern.specs.Load.{judge_load}
 use Rattle.pp_pattern.specs.Report.{Finds}
 use Rattle.pp_pattern.proofs.AskQuiet.{only_asking, only_load}
-use Rattle.pp_engine.proofs.Courses.{only_looks}
+use Rattle.pp_engine.proofs.Courses.{only_looks, writes_nothing}
 
 module _ (test : Step → Bool) (reads : (path : List ℕ) (limit : ℕ) → test (ReadFile path limit) ≡ true) where
   only_path : (source : ℕ) (path : List ℕ) → Only test (read_path source path)
@@ -58,6 +58,10 @@ module _ (test : Step → Bool) (reads : (path : List ℕ) (limit : ℕ) → tes
 -- Loading only looks.
 pub load_looks : (finds : Finds) (plan : Plan) → Only only_looks (load finds plan)
 load_looks finds plan = only_loading only_looks (λ path limit. refl) (λ pattern. refl) finds plan
+
+-- Loading writes nothing.
+pub load_writes_nothing : (finds : Finds) (plan : Plan) → Only writes_nothing (load finds plan)
+load_writes_nothing finds plan = only_loading writes_nothing (λ path limit. refl) (λ pattern. refl) finds plan
 
 -- Loading reads no line.
 pub load_reads_no_line : (finds : Finds) (plan : Plan) → Only reads_no_line (load finds plan)

@@ -47,7 +47,7 @@ module _ (finds : Finds) (files : FileMap) (locked : List (List ℕ)) (lines : L
   settled_looks l base report config (Ok settled) = (refl, λ _. finish_looks finds l base report config settled.showing)
   settled_looks l base report config (Err refusal) = tt
 
-  noted_looks : (l : Loaded) (base : Option BaseKind) (report : Report) (config : Config) → Only only_looks (noted_report finds l base report config)
+  pub noted_looks : (l : Loaded) (base : Option BaseKind) (report : Report) (config : Config) → Only only_looks (noted_report finds l base report config)
   unfolding noted_report
   noted_looks l base report config = only_then only_looks (prepare finds l report config) (note_and_finish finds l base report config) (prepare_looks finds l report config) (settled_looks l base report config)
 

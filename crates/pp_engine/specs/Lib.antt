@@ -9,4 +9,5 @@ pub mod Words
 pub mod Session
 pub mod Validity
 pub mod Alike
+pub mod SavedFiles
 pub mod Run

@@ -8,6 +8,7 @@ ghost use Rattle.pp_options.specs.Words as options;
 ghost use Rattle.pp_tables.specs.Encode.{encode};
 ghost use Rattle.pp_tables.specs.Fits.{ProfileFits};
 ghost use Rattle.pp_engine.specs.Alike.{DifferAt, RunAlike};
+ghost use Rattle.pp_engine.specs.SavedFiles.{SavedFilesReportAlike, SavedFilesSaveAlike};
 ghost use Rattle.pp_engine.specs.Words.{planned, said_by};
 
 /// The plan of a session asks for what its words do, and the fault that it tells is their first one.
@@ -24,4 +25,29 @@ pub fn bytes_decoded_alike_run_alike()
     ensures gperftools { (path : List ℕ) (files other : FileMap) (bytes : List ℕ) (p : Profile)
         → DifferAt path files other bytes (encode p) → is_legacy bytes ≡ true → legacy bytes ≡ Ok p
         → ProfileFits p → length (encode p) < 2 ^ 64 → RunAlike path files other }
+{}
+
+// What would break it: a saved file that isn't read as what was saved, filters that are lost or applied twice, a report
+// that reads more of a profile than is saved.
+/// A file that a session saved with filters is reported as its sources are with them: a session that makes a top,
+/// tree, peek, table or folded report of the file alone prints what one prints that makes it of the sources by the
+/// filters, and ends alike. What that one tells of filters that match nothing stands before.
+///
+/// Premises: the profile of the sources stays as it is when it is merged alone, as each loaded one does; none of its
+/// values is below 0 and no sample carries `pprof::base` of the text `true`; relative_percentages is on, path_tree is
+/// off and divide_by is 1; tagroot and tagleaf name no key; the matcher refuses no pattern; the file is no longer than
+/// one may be, and none of the sources.
+pub fn saved_files_report_alike()
+    ensures { SavedFilesReportAlike }
+{}
+
+// What would break it: a saved file that isn't read as what was saved, patterns that it keeps of its own, tables in
+// another order.
+/// A file that a session saved is saved again as it is: a session that makes a proto report of the file alone, without
+/// filters, prints the bytes of the file.
+///
+/// Premises: the profile of the sources stays as it is when it is merged alone, as each loaded one does; tagroot and
+/// tagleaf name no key in either session; the matcher refuses no pattern; the file is no longer than one may be.
+pub fn saved_files_save_alike()
+    ensures { SavedFilesSaveAlike }
 {}

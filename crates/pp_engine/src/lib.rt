@@ -11,7 +11,10 @@ mod session;
 mod shell;
 
 pub use ending::{Cause, Ending};
-pub use laws::{bytes_decoded_alike_run_alike, words_ask_for_a_plan};
+pub use laws::{
+    bytes_decoded_alike_run_alike, saved_files_report_alike, saved_files_save_alike,
+    words_ask_for_a_plan,
+};
 pub use pp_load::{LoadRefusal, gen_profile, load};
 pub use pp_report::{Host, ReportRefusal, generate};
 pub use reporting::reports_are_told;

@@ -22,6 +22,8 @@ use Rattle.pp_top.specs.Top.{top_text}
 use Rattle.pp_tree.specs.Tree.{tree_text}
 use Rattle.pp_tree.specs.Peek.{peek_text}
 use Rattle.pp_calltree.specs.Text.{calltree_text}
+use Rattle.pp_export.specs.Folded.{folded_text}
+use Rattle.pp_export.specs.Table.{exact_table}
 use Rattle.pp_dump.specs.Saved.{saved}
 use Rattle.pp_saved.specs.Figures.{Figures, figures}
 use Rattle.pp_saved.specs.Kept.{PrintAlike}
@@ -30,8 +32,8 @@ use Rattle.pp_saved.proofs.SavedAlike.{saved_figures, saved_texts}
 use Rattle.pp_saved.proofs.Saving.{is_saved}
 use Rattle.pp_report.specs.declared.refusal.ReportRefusal.TheVariants.{NoMatch}
 use Rattle.pp_report.specs.declared.texts.TheConstants.{TREE_NODES}
-use Rattle.pp_report.specs.Heads.{report_head}
-use Rattle.pp_model.specs.ReportFacts.{is_counted, own_pattern, reads_figures}
+use Rattle.pp_report.specs.Heads.{report_head, unit_text}
+use Rattle.pp_model.specs.ReportFacts.{is_counted, own_pattern}
 use Rattle.pp_report.specs.Patterns.{report_finders}
 use Rattle.pp_stack.specs.LoadFinders.{finder_by}
 use Rattle.pp_report.specs.Prepared.{Showing, showing_for}
@@ -39,7 +41,8 @@ use Rattle.pp_report.specs.Reports.{finish, finish_made, finish_on, text_by}
 use Rattle.pp_pseudo.specs.Basis.{framed_by}
 use Rattle.pp_report.specs.Tagged.{basis_of}
 use Rattle.pp_report.specs.SavedReports.{SavedReports, IsSavedOf, NamesNoKey}
-use Rattle.pp_report.proofs.TypesLemmas.{HasTypesOf, same_showing, type_is, types_by_header}
+use Rattle.pp_report.specs.StaysSaved.{stays_saved}
+use Rattle.pp_report.proofs.TypesLemmas.{HasTypesOf, same_showing, same_unit, type_is, types_by_header}
 
 -- the head follows from the figures
 abbrev head_by : Figures → Option Shown → Facts
@@ -120,26 +123,34 @@ module _ (finds : Finds) (l r : Loaded) (report : Report) (config : Config) (can
     peek_same : peek_text r.profile g (unfiltered config) column theirs ≡ peek_text l.profile f config column ours
     peek_same = ap (peek_text r.profile g (unfiltered config) column) heads_are ∙ texts_are.peek ours
 
+    table_same : (limit : ℕ) → exact_table r.profile g (unfiltered config) column limit (unit_text r.profile column) ≡ exact_table l.profile f config column limit (unit_text l.profile column)
+    table_same limit =
+        ap (exact_table r.profile g (unfiltered config) column limit) (same_unit l.profile r.profile types_are column)
+        ∙ texts_are.table limit (unit_text l.profile column)
+
+    folded_same : folded_text r.profile g (unfiltered config) column ≡ folded_text l.profile f config column
+    folded_same = texts_are.folded
+
     found_same : has_own_match r.profile g (unfiltered config) column ≡ has_own_match l.profile f config column
     found_same = texts_are.found
 
--- what holds of each report that reads figures alone
-pub on_figures : (P : Report → Type 0) → P reports.Top → P reports.Tree → ((pattern : List ℕ) → P (reports.Peek pattern))
-    → (report : Report) → reads_figures report ≡ true → P report
-on_figures P top tree peek reports.Top reads = top
-on_figures P top tree peek reports.Tree reads = tree
-on_figures P top tree peek (reports.Peek pattern) reads = peek pattern
-on_figures P top tree peek reports.Traces reads = absurd (false≢true reads)
-on_figures P top tree peek reports.Tags reads = absurd (false≢true reads)
-on_figures P top tree peek reports.Raw reads = absurd (false≢true reads)
-on_figures P top tree peek reports.Comments reads = absurd (false≢true reads)
-on_figures P top tree peek reports.Proto reads = absurd (false≢true reads)
-on_figures P top tree peek (reports.List pattern) reads = absurd (false≢true reads)
-on_figures P top tree peek reports.Folded reads = absurd (false≢true reads)
-on_figures P top tree peek reports.Table reads = absurd (false≢true reads)
-on_figures P top tree peek reports.Compare reads = absurd (false≢true reads)
-on_figures P top tree peek reports.Changes reads = absurd (false≢true reads)
-on_figures P top tree peek reports.Account reads = absurd (false≢true reads)
+-- what holds of each report that stays
+pub on_staying : (P : Report → Type 0) → P reports.Top → P reports.Tree → ((pattern : List ℕ) → P (reports.Peek pattern)) → P reports.Folded → P reports.Table
+    → (report : Report) → stays_saved report ≡ true → P report
+on_staying P top tree peek folded table reports.Top stays = top
+on_staying P top tree peek folded table reports.Tree stays = tree
+on_staying P top tree peek folded table (reports.Peek pattern) stays = peek pattern
+on_staying P top tree peek folded table reports.Traces stays = absurd (false≢true stays)
+on_staying P top tree peek folded table reports.Tags stays = absurd (false≢true stays)
+on_staying P top tree peek folded table reports.Raw stays = absurd (false≢true stays)
+on_staying P top tree peek folded table reports.Comments stays = absurd (false≢true stays)
+on_staying P top tree peek folded table reports.Proto stays = absurd (false≢true stays)
+on_staying P top tree peek folded table (reports.List pattern) stays = absurd (false≢true stays)
+on_staying P top tree peek folded table reports.Folded stays = folded
+on_staying P top tree peek folded table reports.Table stays = table
+on_staying P top tree peek folded table reports.Compare stays = absurd (false≢true stays)
+on_staying P top tree peek folded table reports.Changes stays = absurd (false≢true stays)
+on_staying P top tree peek folded table reports.Account stays = absurd (false≢true stays)
 
 module _ (finds : Finds) (l r : Loaded) (config : Config) (by_keys : config.path_tree ≡ false) (s : Showing) (within : IsColumnOf l.profile s.column)
     (can : CanSave l.profile config) (is : IsSavedOf finds l config r) where
@@ -171,28 +182,36 @@ module _ (finds : Finds) (l r : Loaded) (config : Config) (by_keys : config.path
       λ i. Give (if found_same finds l r (reports.Peek pattern) config can is s.column within s.wanted i
       then Ok (peek_same finds l r (reports.Peek pattern) config can is s.column within s.wanted i) else Err NoMatch)
 
-  text_same : (report : Report) → reads_figures report ≡ true → IsSame report
-  text_same report reads = on_figures IsSame top_is tree_is peek_is report reads
+  table_is : IsSame reports.Table
+  unfolding finish_on text_by
+  table_is = λ i. Give (Ok (table_same finds l r reports.Table config can is s.column within s.wanted (node_limit config.nodecount 0) i))
+
+  folded_is : IsSame reports.Folded
+  unfolding finish_on text_by
+  folded_is = λ i. Give (Ok (folded_same finds l r reports.Folded config can is s.column within s.wanted i))
+
+  text_same : (report : Report) → stays_saved report ≡ true → IsSame report
+  text_same report stays = on_staying IsSame top_is tree_is peek_is folded_is table_is report stays
 
 -- shows what the configuration shows, filtered or not
-unfiltered_shows : (report : Report) (p : Profile) (config : Config) → reads_figures report ≡ true → showing_for report p (unfiltered config) ≡ showing_for report p config
-unfiltered_shows report p config reads = refl
+unfiltered_shows : (report : Report) (p : Profile) (config : Config) → showing_for report p (unfiltered config) ≡ showing_for report p config
+unfiltered_shows report p config = refl
 
 -- none of them compares with a base
-pub lacks_none : (finds : Finds) (l : Loaded) (report : Report) (config : Config) (base : Option BaseKind) (s : Showing) → reads_figures report ≡ true
+pub lacks_none : (finds : Finds) (l : Loaded) (report : Report) (config : Config) (base : Option BaseKind) (s : Showing) → stays_saved report ≡ true
     → finish finds l base report config s ≡ finish_made finds l report config s
-lacks_none finds l report config base s reads =
-    on_figures (λ r. finish finds l base r config s ≡ finish_made finds l r config s) refl refl (λ pattern. refl) report reads
+lacks_none finds l report config base s stays =
+    on_staying (λ r. finish finds l base r config s ≡ finish_made finds l r config s) refl refl (λ pattern. refl) refl refl report stays
 
 -- The reports are alike.
 pub saved_reports : SavedReports
-saved_reports finds l r report config reads can plain is = record {
-  shows = unfiltered_shows report r.profile config reads ∙ same_showing l.profile r.profile (types_are finds l r report config can is) report config;
+saved_reports finds l r report config stays can plain is = record {
+  shows = unfiltered_shows report r.profile config ∙ same_showing l.profile r.profile (types_are finds l r report config can is) report config;
   comes_to = λ showing within base other.
-      lacks_none finds r report (unfiltered config) other showing reads
+      lacks_none finds r report (unfiltered config) other showing stays
       ∙ ap (λ (x : Loaded). finish_on finds x report (unfiltered config) showing)
       (plain_basis report r (unfiltered config) (record { roots = plain.keyless.roots; leaves = plain.keyless.leaves }))
-      ∙ text_same finds l r config plain.path_tree showing within can is report reads
+      ∙ text_same finds l r config plain.path_tree showing within can is report stays
       ∙ ap (λ (x : Loaded). finish_on finds x report config showing) (sym (plain_basis report l config plain.keyless))
-      ∙ sym (lacks_none finds l report config base showing reads);
+      ∙ sym (lacks_none finds l report config base showing stays);
 }

@@ -11,7 +11,7 @@ use Rattle.pp_base.specs.FileMap.{FileMap}
 use Rattle.pp_base.specs.Judges.{Answer}
 use Rattle.pp_desk.specs.declared.stop.Stop.{Stop}
 use Rattle.pp_desk.specs.Asking.{go_on}
-use Rattle.pp_desk.specs.Script.{Give}
+use Rattle.pp_desk.specs.Script.{Give, Script}
 use Rattle.pp_model.specs.declared.config.Config.{Config}
 use Rattle.pp_model.specs.declared.loaded.Loaded.{Loaded}
 use Rattle.pp_model.specs.declared.profile.Profile.{Profile}
@@ -21,10 +21,11 @@ use Rattle.pp_model.specs.declared.report.Report.TheVariants as reports
 use Rattle.pp_model.specs.Conditions.{IsColumnOf}
 use Rattle.pp_model.specs.Finders.{Finders}
 use Rattle.pp_model.specs.Lookup.{text_of}
-use Rattle.pp_model.specs.ReportFacts.{is_counted, reads_figures}
+use Rattle.pp_model.specs.ReportFacts.{is_counted}
 use Rattle.pp_model.specs.Rules.{NoRuleFails}
 use Rattle.pp_model.specs.Sizes.{IsCountable}
 use Rattle.pp_units.specs.Shown.{Shown}
+use Rattle.pp_count.specs.Matches.{matches_of}
 use Rattle.pp_share.specs.Header.{HeaderText}
 use Rattle.pp_merge.specs.Merge.{merged}
 use Rattle.pp_pattern.specs.Report.{Finds}
@@ -39,14 +40,16 @@ use Rattle.pp_saved.specs.Premises.{CanSave, CountsFiltered, HasFiltersOf, IsSou
 use Rattle.pp_saved.proofs.SavedSizes.{saved_sizes}
 use Rattle.pp_report.specs.declared.refusal.ReportRefusal.{ReportRefusal}
 use Rattle.pp_report.specs.Heads.{wanted_unit, unit_text}
+use Rattle.pp_report.specs.Notes.{note_unless, notes_by}
 use Rattle.pp_report.specs.Patterns.{report_finders}
 use Rattle.pp_report.specs.Prepared.{Showing, Settled, in_column, in_unit, prepare, prepare_on, prepare_showing, settled_of, showing_for}
 use Rattle.pp_report.specs.Reports.{Reported, finish, finish_on, report_script, report_settled, reported_with, text_by}
 use Rattle.pp_report.specs.SavedReports.{IsPlain, IsSavedOf, NamesNoKey, ReportAlike, saved_by}
 use Rattle.pp_report.specs.SavedText.{AllTaken, IsProtoBy, IsProtoOf, IsSavedText, OnText, ReportsAlike, outcome_over, report_figures}
+use Rattle.pp_report.specs.StaysSaved.{stays_saved}
 use Rattle.pp_report.specs.Tagged.{basis_of}
 use Rattle.pp_report.proofs.PreparingLemmas.{showing_counts}
-use Rattle.pp_report.proofs.SavedLemmas.{figures_are, on_figures, plain_basis, saved_reports, types_are}
+use Rattle.pp_report.proofs.SavedLemmas.{figures_are, on_staying, plain_basis, saved_reports, types_are}
 use Rattle.pp_report.proofs.Taken.{GivesTaken, gives_counts, taken_course, taken_then}
 use Rattle.pp_report.proofs.TypesLemmas.{same_column}
 
@@ -107,23 +110,24 @@ module _ (p : Profile) where
     values_bound : in_column p config (column_of p config.sample_index) ≡ Ok s → IsColumnOf p s.column
     values_bound = in_bound (column_of p config.sample_index) (column_bound config.sample_index)
 
-    -- what a report shows that reads figures
-    showing_bound : (report : Report) → reads_figures report ≡ true → showing_for report p config ≡ Ok s → IsColumnOf p s.column
-    showing_bound report reads = on_figures (λ r. showing_for r p config ≡ Ok s → IsColumnOf p s.column) values_bound values_bound (λ pattern. values_bound) report reads
+    -- what a report shows that stays
+    showing_bound : (report : Report) → stays_saved report ≡ true → showing_for report p config ≡ Ok s → IsColumnOf p s.column
+    showing_bound report stays = on_staying (λ r. showing_for r p config ≡ Ok s → IsColumnOf p s.column) values_bound values_bound (λ pattern. values_bound) values_bound values_bound report stays
 
--- ---- what a report comes to that reads figures, where no pattern is refused
+-- ---- what a report comes to, where no pattern is refused
 
 -- its text is made by no step
-made_at_once : (finds : Finds) (l : Loaded) (report : Report) (config : Config) → reads_figures report ≡ true → (base : Option BaseKind) (s : Showing)
+made_at_once : (finds : Finds) (l : Loaded) (report : Report) (config : Config) → stays_saved report ≡ true → (base : Option BaseKind) (s : Showing)
     → (x : Result (List ℕ) ReportRefusal) × GivesTaken (finish finds l base report config s) x
 unfolding finish_on text_by
-made_at_once finds l report config reads base s =
-    on_figures (λ r. (x : Result (List ℕ) ReportRefusal) × GivesTaken (finish finds l base r config s) x) (_, refl) (_, refl) (λ pattern. (_, refl)) report reads
+made_at_once finds l report config stays base s =
+    on_staying (λ r. (x : Result (List ℕ) ReportRefusal) × GivesTaken (finish finds l base r config s) x) (_, refl) (_, refl) (λ pattern. (_, refl)) (_, refl) (_, refl) report stays
 
-module _ (finds : Finds) (l : Loaded) (report : Report) (config : Config) (reads : reads_figures report ≡ true) (base : Option BaseKind) where
-  counted : is_counted report ≡ true
-  counted = on_figures (λ r. is_counted r ≡ true) refl refl (λ pattern. refl) report reads
+-- it is counted
+staying_counted : (report : Report) → stays_saved report ≡ true → is_counted report ≡ true
+staying_counted report stays = on_staying (λ r. is_counted r ≡ true) refl refl (λ pattern. refl) refl refl report stays
 
+module _ (finds : Finds) (l : Loaded) (report : Report) (config : Config) (counted : is_counted report ≡ true) (base : Option BaseKind) where
   abbrev over : Loaded
   over = basis_of report l config
 
@@ -150,7 +154,32 @@ module _ (finds : Finds) (l : Loaded) (report : Report) (config : Config) (reads
         → outcome_over finds l base report config files answers ≡ x
     comes_to notes x gives = ap (λ (r : Reported). r.outcome) (taken_course (report_script finds l base report config) (reported_with notes x) files [] [] answers taken gives)
 
+-- a proto report comes to the bytes of what is saved, where no frames are made from labels
+pub proto_taken : (finds : Finds) (l : Loaded) (base : Option BaseKind) (config : Config) → NamesNoKey config
+    → (notes : List ℕ) × GivesTaken (report_script finds l base reports.Proto config) (reported_with notes (Ok (encode (saved_by finds l config))))
+unfolding finish_on text_by
+proto_taken finds l base config keyless =
+    let shown : Showing = record { column = None; wanted = None } in
+    let over : Loaded = basis_of reports.Proto l config in
+    let notes : List ℕ = (settled_of finds over reports.Proto config shown).notes in (
+      notes,
+      subst (λ (q : Loaded). GivesTaken (report_script finds l base reports.Proto config) (reported_with notes (Ok (encode (saved_by finds q config))))) (plain_basis reports.Proto l config keyless)
+          (made_taken finds l reports.Proto config refl base shown (Ok (encode (saved_by finds over config))) refl refl),
+    )
+
 -- ---- a saved profile and the one that it was saved of
+
+-- Both scripts come to one outcome, where each pattern is taken: the first without notes, and the second with some.
+pub record ComeToOne (first second : Script Reported) : Type 0 where
+  pub notes : List ℕ
+  pub outcome : Result (List ℕ) ReportRefusal
+  pub silent : GivesTaken first (reported_with [] outcome)
+  pub noted : GivesTaken second (reported_with notes outcome)
+
+-- without filters there are no notes
+unfiltered_silent : (c : Config) (matched : List Bool) → notes_by (unfiltered c) matched ≡ []
+unfolding notes_by note_unless
+unfiltered_silent c matched = refl
 
 module _ (finds : Finds) (l r : Loaded) (c : Config) (can : CanSave l.profile c) (is : IsSavedOf finds l c r) where
   abbrev d : Config
@@ -166,10 +195,9 @@ module _ (finds : Finds) (l r : Loaded) (c : Config) (can : CanSave l.profile c)
       by None known = refl
       by (Some column) known = ap Some (figures_are finds l r report c can is column (known column refl) None)
 
-  module _ (plain : IsPlain c) (report : Report) (reads : reads_figures report ≡ true) (base other : Option BaseKind) (files : FileMap) (answers others : List Answer)
-      (taken : AllTaken answers) (others_taken : AllTaken others) where
+  module _ (plain : IsPlain c) (report : Report) (stays : stays_saved report ≡ true) (base other : Option BaseKind) where
     alike : ReportAlike finds l r report c d
-    alike = saved_reports finds l r report c reads can plain is
+    alike = saved_reports finds l r report c stays can plain is
 
     -- what is shown is known of the profile that a report is made of
     own : (known : Result Showing ReportRefusal) → showing_for report l.profile c ≡ known → showing_for report (basis_of report l c).profile c ≡ known
@@ -180,28 +208,45 @@ module _ (finds : Finds) (l r : Loaded) (c : Config) (can : CanSave l.profile c)
         ap (λ (q : Loaded). showing_for report q.profile d) (plain_basis report r d (record { roots = plain.keyless.roots; leaves = plain.keyless.leaves }))
         ∙ alike.shows ∙ shows
 
-    both : (known : Result Showing ReportRefusal) → showing_for report l.profile c ≡ known
-        → outcome_over finds r other report d files others ≡ outcome_over finds l base report c files answers
-    both (Err e) shows =
-        comes_to finds r report d reads other files others others_taken [] (Err e) (refused_taken finds r report d reads other e (saved_own (Err e) shows))
-        ∙ sym (comes_to finds l report c reads base files answers taken [] (Err e) (refused_taken finds l report c reads base e (own (Err e) shows)))
-    both (Ok s) shows =
-        let made = made_at_once finds l report c reads base s in
+    one_outcome : (known : Result Showing ReportRefusal) → showing_for report l.profile c ≡ known → ComeToOne (report_script finds r other report d) (report_script finds l base report c)
+    one_outcome (Err e) shows =
+        let count = staying_counted report stays in
+        record {
+          notes = [];
+          outcome = Err e;
+          silent = refused_taken finds r report d count other e (saved_own (Err e) shows);
+          noted = refused_taken finds l report c count base e (own (Err e) shows);
+        }
+    one_outcome (Ok s) shows =
+        let count = staying_counted report stays in
+        let made = made_at_once finds l report c stays base s in
         let theirs : GivesTaken (finish finds r other report d s) made.0 =
-        subst (λ script. GivesTaken script made.0) (sym (alike.comes_to s (showing_bound l.profile c s report reads shows) base other)) made.1 in
-        comes_to finds r report d reads other files others others_taken _ made.0 (made_taken finds r report d reads other s made.0 (saved_own (Ok s) shows) theirs)
-        ∙ sym (comes_to finds l report c reads base files answers taken _ made.0 (made_taken finds l report c reads base s made.0 (own (Ok s) shows) made.1))
+        subst (λ script. GivesTaken script made.0) (sym (alike.comes_to s (showing_bound l.profile c s report stays shows) base other)) made.1 in
+        record {
+          notes = (settled_of finds (basis_of report l c) report c s).notes;
+          outcome = made.0;
+          silent = subst (λ notes. GivesTaken (report_script finds r other report d) (reported_with notes made.0)) (unfiltered_silent c (matches_of (basis_of report r d).profile (report_finders finds (basis_of report r d) report d) d))
+              (made_taken finds r report d count other s made.0 (saved_own (Ok s) shows) theirs);
+          noted = made_taken finds l report c count base s made.0 (own (Ok s) shows) made.1;
+        }
+
+    -- Both come to one outcome.
+    pub both : ComeToOne (report_script finds r other report d) (report_script finds l base report c)
+    both = one_outcome (showing_for report l.profile c) refl
 
   -- They report alike.
   reports_alike : IsPlain c → ReportsAlike finds l r c
   reports_alike plain = record {
     figures = figures_alike;
-    texts = λ report reads base other files answers others taken others_taken.
-        both plain report reads base other files answers others taken others_taken (showing_for report l.profile c) refl;
+    texts = λ report stays base other files answers others taken others_taken.
+        let one = both plain report stays base other in
+        let count = staying_counted report stays in
+        comes_to finds r report d count other files others others_taken [] one.outcome one.silent
+        ∙ sym (comes_to finds l report c count base files answers taken one.notes one.outcome one.noted);
   }
 
 -- the filters alone tell what is saved
-saved_same : (finds : Finds) (l : Loaded) (config c : Config) → HasFiltersOf config c → saved_by finds l c ≡ saved_by finds l config
+pub saved_same : (finds : Finds) (l : Loaded) (config c : Config) → HasFiltersOf config c → saved_by finds l c ≡ saved_by finds l config
 saved_same finds l config c has = λ i. saved_by finds l (record config {
   focus = has.focus i;
   ignore = has.ignore i;
@@ -216,7 +261,7 @@ saved_same finds l config c has = λ i. saved_by finds l (record config {
 })
 
 -- what holds of the loaded profile and of the configuration
-can_save : (p : Profile) (c : Config) → NoRuleFails p → AllByRecursion (λ m. m.start < 2 ^ 64) p.mapping → IsSource p → CountsFiltered c → CanSave p c
+pub can_save : (p : Profile) (c : Config) → NoRuleFails p → AllByRecursion (λ m. m.start < 2 ^ 64) p.mapping → IsSource p → CountsFiltered c → CanSave p c
 can_save p c valid starts source counts = record {
   valid = valid;
   starts = starts;

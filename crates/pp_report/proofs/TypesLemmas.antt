@@ -54,7 +54,7 @@ module _ (p q : Profile) (same : HasTypesOf p q) where
       sym (map-map (λ (t : TypeText). t.kind) (type_text q) q.sample_type) ∙ ap (λ (types : List TypeText). map (λ t. t.kind) types) same.types
       ∙ map-map (λ (t : TypeText). t.kind) (type_text p) p.sample_type
 
-  same_unit : (column : Option ℕ) → unit_text q column ≡ unit_text p column
+  pub same_unit : (column : Option ℕ) → unit_text q column ≡ unit_text p column
   same_unit column =
       sym (type_is (λ t. t.unit) q column) ∙ ap (λ types. option_map_or (λ (t : TypeText). t.unit) (option_and_then (slice_get types) column) []) same.types
       ∙ type_is (λ t. t.unit) p column

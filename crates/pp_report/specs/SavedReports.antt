@@ -7,7 +7,6 @@ use Rattle.pp_model.specs.declared.report.BaseKind.{BaseKind}
 use Rattle.pp_model.specs.declared.report.Report.{Report}
 use Rattle.pp_model.specs.declared.report.Report.TheVariants as reports
 use Rattle.pp_model.specs.Conditions.{IsColumnOf}
-use Rattle.pp_model.specs.ReportFacts.{reads_figures}
 use Rattle.pp_pattern.specs.Report.{Finds}
 use Rattle.pp_pseudo.specs.KeyList.{key_list}
 use Rattle.pp_dump.specs.Saved.{saved}
@@ -15,6 +14,7 @@ use Rattle.pp_saved.specs.Premises.{CanSave, unfiltered}
 use Rattle.pp_report.specs.Patterns.{report_finders}
 use Rattle.pp_report.specs.Prepared.{Showing, showing_for}
 use Rattle.pp_report.specs.Reports.{finish}
+use Rattle.pp_report.specs.StaysSaved.{stays_saved}
 
 -- the profile that a proto report writes
 abbrev pub saved_by : Finds → Loaded → Config → Profile
@@ -44,10 +44,10 @@ pub record ReportAlike (finds : Finds) (l r : Loaded) (report : Report) (config 
       → (base other : Option BaseKind)
       → finish finds r other report d showing ≡ finish finds l base report config showing
 
--- So it is with each report that reads nothing but figures, of a profile and of what was saved of it by the filters of
--- the configuration, which are empty in the second one.
+-- So it is with each report that stays, of a profile and of what was saved of it by the filters of the configuration,
+-- which are empty in the second one.
 abbrev pub SavedReports : Type 0
 SavedReports =
     (finds : Finds) (l r : Loaded) (report : Report) (config : Config)
-    → reads_figures report ≡ true → CanSave l.profile config → IsPlain config
+    → stays_saved report ≡ true → CanSave l.profile config → IsPlain config
     → IsSavedOf finds l config r → ReportAlike finds l r report config (unfiltered config)

@@ -12,7 +12,6 @@ use Rattle.pp_model.specs.declared.report.BaseKind.{BaseKind}
 use Rattle.pp_model.specs.declared.report.Report.{Report}
 use Rattle.pp_model.specs.declared.report.Report.TheVariants as reports
 use Rattle.pp_model.specs.Finders.{Finders}
-use Rattle.pp_model.specs.ReportFacts.{reads_figures}
 use Rattle.pp_model.specs.Rules.{NoRuleFails}
 use Rattle.pp_model.specs.Sizes.{absolute_sum}
 use Rattle.pp_pattern.specs.Report.{Finds}
@@ -26,6 +25,7 @@ use Rattle.pp_report.specs.declared.refusal.ReportRefusal.{ReportRefusal}
 use Rattle.pp_report.specs.Patterns.{report_finders}
 use Rattle.pp_report.specs.Reports.{report_script}
 use Rattle.pp_report.specs.SavedReports.{IsPlain, IsSavedOf, saved_by}
+use Rattle.pp_report.specs.StaysSaved.{stays_saved}
 
 -- what holds of the text of a report that was made
 abbrev pub OnText : Result (Result (List ℕ) ReportRefusal) Stop → (List ℕ → Type 0) → Type 0
@@ -59,7 +59,7 @@ ComesToSame finds l r report config d =
 pub record ReportsAlike (finds : Finds) (l r : Loaded) (c : Config) : Type 0 where
   pub figures : (report : Report)
       → report_figures finds r report (unfiltered c) ≡ report_figures finds l report c
-  pub texts : (report : Report) → reads_figures report ≡ true
+  pub texts : (report : Report) → stays_saved report ≡ true
       → ComesToSame finds l r report c (unfiltered c)
 
 -- So does the saved profile, once it is loaded: for each configuration with the same filters, whatever else stands in

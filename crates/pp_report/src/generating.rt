@@ -37,10 +37,11 @@ use std::thread::Threads;
 ///
 /// Where no frames are made from labels, the text of a proto report is read as the profile that was saved. That profile
 /// keeps the table rules, stays as it is when it is merged alone, and has no patterns of its own. Without filters it
-/// has the figures that the loaded one has with them, and its top, tree and peek come to the same text or refusal. This
-/// holds under each configuration with the same filters that has relative_percentages on, path_tree off and divide_by 1
-/// and makes no frames from labels, where the loaded profile stays as it is when it is merged alone, none of its values
-/// is below 0, no sample carries `pprof::base` of the text `true`, and the matcher refuses no pattern.
+/// has the figures that the loaded one has with them, and its top, tree, peek, table and folded come to the same text
+/// or refusal. This holds under each configuration with the same filters that has relative_percentages on, path_tree
+/// off and divide_by 1 and makes no frames from labels, where the loaded profile stays as it is when it is merged
+/// alone, none of its values is below 0, no sample carries `pprof::base` of the text `true`, and the matcher refuses no
+/// pattern.
 pub fn generate<'x, R: Threads + Sync, D: Desk, G: Gate>(
     rt: &'x R,
     alloc: Global,

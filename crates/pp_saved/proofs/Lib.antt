@@ -8,4 +8,7 @@ pub mod OwnAlone
 pub mod CutSamples
 pub mod SettledSaved
 pub mod Saving
+pub mod PathsAlike
 pub mod SavedAlike
+pub mod SavedFits
+pub mod SavedWhole

@@ -15,7 +15,7 @@ use Rattle.pp_count.specs.Sums.{Seen, weighed, all_keys, flat, cum}
 use Rattle.pp_count.specs.EdgeSums.{edge_occurs, edge_sum}
 use Rattle.pp_count.specs.Seeing.{filtered_stack, seen_with, framed_with}
 use Rattle.pp_count.specs.Counts.{total_over}
-use Rattle.pp_count.specs.Counted.{report_frames}
+use Rattle.pp_count.specs.Counted.{report_frames, report_samples}
 use Rattle.pp_count.specs.Ranks.{each_once}
 use Rattle.pp_saved.specs.Figures.{Figures, figures, column_type, mapped_file, is_found_frame}
 use Rattle.pp_saved.specs.Premises.{unfiltered, own_alone}
@@ -55,6 +55,9 @@ module _ (q : Profile) (f : Finders) (config : Config) (column : Option ℕ) whe
 
   pub own_figures : figures q (own_alone f) d column ≡ figures q no_finders d column
   own_figures = ap figures_by same_stacks
+
+  pub own_samples : report_samples q (own_alone f) d column ≡ report_samples q no_finders d column
+  own_samples = ap samples_by same_stacks
 
   pub own_frames : report_frames q (own_alone f) d column ≡ report_frames q no_finders d column
   own_frames = ap frames_by same_stacks

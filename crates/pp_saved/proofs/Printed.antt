@@ -1,4 +1,4 @@
--- The texts of top, tree and peek follow from the figures of their reports.
+-- The texts of top, tree, peek and table follow from the figures of their reports.
 use Rattle.std.proofs.Common.{◌≡◌, ℕ, ℤ, pos, Bool, true, not, List, ◌++◌, length, map, Option, refl, ap, ◌∙◌}
 use Rattle.std.specs.List.{filter}
 use Rattle.pp_model.specs.declared.config.Config.{Config}
@@ -22,6 +22,7 @@ use Rattle.pp_top.specs.Top as top
 use Rattle.pp_tree.specs.Nodes.{Node, table_heading, tree_nodes_text}
 use Rattle.pp_tree.specs.Tree as tree
 use Rattle.pp_tree.specs.Peek.{peek_text}
+use Rattle.pp_export.specs.Table.{exact_heading, exact_table, table_rows}
 use Rattle.pp_saved.specs.Figures.{Figures, figures}
 use Rattle.pp_saved.specs.Layouts as layouts
 use Rattle.pp_saved.proofs.Relisted.{relisted, relisted_all, counted_once}
@@ -102,10 +103,15 @@ module _ (p : Profile) (f : Finders) (config : Config) (column : Option ℕ) whe
       ++ tree_nodes_text h.unit h.total (pos 0)
       (map (node_by (lists_are i) (λ _. true) 0) (filter (g.finds (layouts.own_finds f.own)) all))
 
--- All three.
+  -- The text of table.
+  pub table_is : (limit : ℕ) (unit : List ℕ) → exact_table p f config column limit unit ≡ layouts.table_layout g config limit unit
+  table_is limit unit = λ i. exact_heading unit ++ table_rows (map (layouts.row g) (shown_keys limit (all_are i)))
+
+-- All four.
 pub layouts_are : layouts.LayoutsReadFigures
 layouts_are p f config column = record {
   top = top_is p f config column;
   tree = tree_is p f config column;
   peek = peek_is p f config column;
+  table = table_is p f config column;
 }

@@ -1,5 +1,5 @@
 -- A saved profile has the figures that its filters left, so the texts over them are the same.
-use Rattle.std.proofs.Common.{◌≡◌, ℕ, pos, Bool, List, [], ◌∷◌, get_or, Option, Some, None, refl, sym, ap, ◌∙◌, subst}
+use Rattle.std.proofs.Common.{◌≡◌, ℕ, pos, Bool, List, [], ◌∷◌, map, get_or, Option, Some, None, refl, sym, ap, ◌∙◌, subst}
 use Rattle.std.specs.Prelude.{option_map}
 use Rattle.std.specs.List.{AllByRecursion, cons_option, filter_map, list_any}
 use Rattle.pp_model.specs.declared.config.Config.{Config}
@@ -25,6 +25,9 @@ use Rattle.pp_merge.proofs.WrittenCompact.{compact_written}
 use Rattle.pp_dump.specs.Saved.{saved}
 use Rattle.pp_dump.specs.Stacks.{left_stacks, whole_stacks}
 use Rattle.pp_dump.specs.Unfiltered.{SeesAlike}
+use Rattle.pp_calltree.specs.CallPaths.{all_paths, report_paths}
+use Rattle.pp_calltree.specs.CallTree.{rooted}
+use Rattle.pp_export.specs.Folded.{path_lines}
 use Rattle.pp_dump.proofs.SeenSums.{IsNatural}
 use Rattle.pp_dump.proofs.WholeStacks.{whole_left}
 use Rattle.pp_laws.proofs.Listed.{each_once_same}
@@ -32,10 +35,11 @@ use Rattle.pp_laws.proofs.Sampling.{sum_where-weighed}
 use Rattle.pp_saved.specs.Figures.{Figures, figures, is_found_frame, mapped_file}
 use Rattle.pp_saved.specs.Premises.{CanSave, unfiltered, own_alone}
 use Rattle.pp_saved.specs.Kept.{SavedFigures, SavedTexts, SavedColumns, SavedLasts}
-use Rattle.pp_saved.specs.Layouts.{top_layout, tree_layout, peek_layout}
+use Rattle.pp_saved.specs.Layouts.{top_layout, tree_layout, peek_layout, table_layout}
 use Rattle.pp_saved.proofs.FramedStacks.{own_natural, saved_natural, frames_found}
-use Rattle.pp_saved.proofs.OwnAlone.{own_figures, own_frames}
-use Rattle.pp_saved.proofs.Printed.{top_is, tree_is, peek_is}
+use Rattle.pp_saved.proofs.OwnAlone.{own_figures, own_frames, own_samples}
+use Rattle.pp_saved.proofs.Printed.{top_is, tree_is, peek_is, table_is}
+use Rattle.pp_saved.proofs.PathsAlike.{AddUpAlike, rooted_alike, all_paths_alike}
 use Rattle.pp_saved.proofs.SavedHead.{same_type, same_duration, same_file}
 use Rattle.pp_saved.proofs.Saving.{IsSaved, is_saved}
 use Rattle.pp_saved.proofs.SavedTotals.{none_of_base, relative_total, nothing_adds_up}
@@ -112,6 +116,11 @@ module _ (p : Profile) (f : Finders) (config : Config) (q : Profile) (can : CanS
     same : Counted p f config q d column
     same = counted column within
 
+    paths_are : report_paths q no_finders d column ≡ report_paths p f config column
+    paths_are =
+        let samples : AddUpAlike (report_samples q no_finders d column) (report_samples p f config column) = record { sums = same.sums; some = same.some } in
+        all_paths_alike key_cmp_total key_cmp_ties (rooted_alike samples)
+
     total_is : total_of q no_finders d column ≡ total_of p f config column
     total_is =
         relative_total q no_finders d column can.relative (none_of_base p f config q is.stacks can.plain)
@@ -159,6 +168,9 @@ saved_texts p f config column can within =
       found = ap (list_any (λ (s : Seen Written). list_any (finds_own f) s.keys)) (own_frames q f config column)
           ∙ (counted p f config q can (saving p f config can) column within).frames (list_any (finds_own f));
       peek = λ h. peek_is q g d column h ∙ ap (λ (a : Figures). peek_layout a config f.own h) figs ∙ sym (peek_is p f config column h);
+      table = λ limit unit. table_is q g d column limit unit ∙ ap (λ (a : Figures). table_layout a config limit unit) figs ∙ sym (table_is p f config column limit unit);
+      folded = ap (λ (ss : List (Seen Written)). path_lines (all_paths key_cmp (map rooted ss))) (own_samples q f config column)
+          ∙ ap path_lines (paths_are p f config q can (saving p f config can) column within);
     }
 
 -- A text asks for the same column,
@@ -167,8 +179,8 @@ saved_columns p f config text can = (saving p f config can).header.columns text
 
 -- and what was saved is valid and merged.
 pub saved_lasts : SavedLasts
-saved_lasts p f config can =
-    let is = saving p f config can in
+saved_lasts p f config valid starts settled =
+    let is = is_saved p f config valid starts settled in
     record {
       valid = is.valid;
       settled = is.again;

@@ -1,4 +1,4 @@
--- The figures of a report: all that the layouts of top, tree and peek read of a profile.
+-- The figures of a report: all that the layouts of top, tree, peek and table read of a profile.
 use Rattle.std.specs.Prelude.{ℕ, ℤ, ◌&&◌, Bool, List, [], map, slice_get, Option, option_map}
 use Rattle.std.specs.List.{list_any}
 use Rattle.std.specs.Option.{option_and_then, option_map_or}

@@ -1,9 +1,10 @@
 -- A saved profile reports as its filters did.
-use Rattle.std.specs.Prelude.{◌≡◌, ◌<◌, ◌≤◌, ℕ, List, [], length, Option}
+use Rattle.std.specs.Prelude.{◌≡◌, ◌<◌, ◌≤◌, ◌^◌, ℕ, List, [], length, Option}
+use Rattle.std.specs.List.{AllByRecursion}
 use Rattle.pp_model.specs.declared.config.Config.{Config}
 use Rattle.pp_model.specs.declared.profile.Profile.{Profile}
 use Rattle.pp_model.specs.Conditions.{IsColumnOf}
-use Rattle.pp_model.specs.Finders.{Finders}
+use Rattle.pp_model.specs.Finders.{Finders, no_finders}
 use Rattle.pp_model.specs.Lookup.{text_of}
 use Rattle.pp_units.specs.Head.{Facts}
 use Rattle.pp_model.specs.Rules.{NoRuleFails}
@@ -15,6 +16,8 @@ use Rattle.pp_dump.specs.Saved.{saved}
 use Rattle.pp_top.specs.Top.{top_text}
 use Rattle.pp_tree.specs.Tree.{tree_text}
 use Rattle.pp_tree.specs.Peek.{peek_text}
+use Rattle.pp_export.specs.Folded.{folded_text}
+use Rattle.pp_export.specs.Table.{exact_table}
 use Rattle.pp_saved.specs.Figures.{figures}
 use Rattle.pp_saved.specs.Premises.{CanSave, unfiltered, own_alone}
 
@@ -25,7 +28,8 @@ SavedFigures =
     → CanSave p config → IsColumnOf p column
     → figures (saved p f config) (own_alone f) (unfiltered config) column ≡ figures p f config column
 
--- The two reports print the same under the same head: top, tree and peek, and whether peek finds anything.
+-- The two reports print the same: top, tree and peek under the same head, whether peek finds anything, table of the
+-- same unit, and folded.
 pub record PrintAlike (p : Profile) (f : Finders) (config : Config) (q : Profile) (g : Finders) (d : Config)
     (column : Option ℕ) : Type 0 where
   pub top : (limit : ℕ) (h : Facts)
@@ -34,6 +38,9 @@ pub record PrintAlike (p : Profile) (f : Finders) (config : Config) (q : Profile
       → tree_text q g d column limit h ≡ tree_text p f config column limit h
   pub found : has_own_match q g d column ≡ has_own_match p f config column
   pub peek : (h : Facts) → peek_text q g d column h ≡ peek_text p f config column h
+  pub table : (limit : ℕ) (unit : List ℕ)
+      → exact_table q g d column limit unit ≡ exact_table p f config column limit unit
+  pub folded : folded_text q g d column ≡ folded_text p f config column
 
 -- So do a saved profile without filters and the profile with them.
 abbrev pub SavedTexts : Type 0
@@ -55,10 +62,17 @@ pub record IsLasting (q : Profile) : Type 0 where
   pub drop : text_of q q.drop_frames ≡ []
   pub keep : text_of q q.keep_frames ≡ []
 
--- So it is with each saved profile.
+-- So it is with each saved profile, where the table rules hold of the other one, its mappings start below 2^64, and it
+-- stays as it is when it is merged alone.
 abbrev pub SavedLasts : Type 0
 SavedLasts =
-    (p : Profile) (f : Finders) (config : Config) → CanSave p config → IsLasting (saved p f config)
+    (p : Profile) (f : Finders) (config : Config)
+    → NoRuleFails p → AllByRecursion (λ m. m.start < 2 ^ 64) p.mapping → merged p [] ≡ p
+    → IsLasting (saved p f config)
+
+-- Such a profile is itself when it is saved without filters. So saving a saved profile again changes nothing.
+abbrev pub SavedWhole : Type 0
+SavedWhole = (p : Profile) (config : Config) → IsLasting p → saved p no_finders (unfiltered config) ≡ p
 
 -- The absolute values of a column add up to no more in the saved profile, so it can be merged where the other one can.
 abbrev pub SavedSizes : Type 0

@@ -1,4 +1,4 @@
--- The layouts of top, tree and peek, as they follow from the figures and the configuration.
+-- The layouts of top, tree, peek and table, as they follow from the figures and the configuration.
 use Rattle.std.specs.Prelude.{◌≡◌, ℕ, pos, Bool, false, true, not, ◌&&◌, List, ◌++◌, length, map, Option}
 use Rattle.std.specs.List.{filter, sum_by}
 use Rattle.std.specs.Option.{option_map_or}
@@ -24,6 +24,7 @@ use Rattle.pp_top.specs.Top as top
 use Rattle.pp_tree.specs.Nodes.{Node, table_heading, tree_nodes_text}
 use Rattle.pp_tree.specs.Tree as tree
 use Rattle.pp_tree.specs.Peek.{peek_text}
+use Rattle.pp_export.specs.Table as table
 use Rattle.pp_saved.specs.Figures.{Figures, figures}
 
 -- what the report's own pattern finds of a text, nothing where there is none
@@ -109,7 +110,13 @@ module _ (g : Figures) where
         ++ tree_nodes_text h.unit h.total (pos 0)
         (map (node (λ _. true) 0) (filter (g.finds (own_finds own)) all))
 
--- The texts of the three reports are these layouts of their figures.
+    -- the text of the table report with this limit, where 0 is none, and with this unit of the values
+    abbrev pub table_layout : ℕ → List ℕ → List ℕ
+    table_layout limit unit =
+        let all = each_once (order_by config.sort) g.keys in
+        table.exact_heading unit ++ table.table_rows (map row (shown_keys limit all))
+
+-- The texts of the four reports are these layouts of their figures.
 pub record AreLayouts (p : Profile) (f : Finders) (config : Config) (column : Option ℕ) : Type 0 where
   pub top : (limit : ℕ) (h : Facts)
       → top.top_text p f config column limit h ≡ top_layout (figures p f config column) config limit h
@@ -117,6 +124,9 @@ pub record AreLayouts (p : Profile) (f : Finders) (config : Config) (column : Op
       → tree.tree_text p f config column limit h ≡ tree_layout (figures p f config column) config limit h
   pub peek : (h : Facts)
       → peek_text p f config column h ≡ peek_layout (figures p f config column) config f.own h
+  pub table : (limit : ℕ) (unit : List ℕ)
+      → table.exact_table p f config column limit unit
+      ≡ table_layout (figures p f config column) config limit unit
 
 -- So they read nothing of the profile but its figures.
 abbrev pub LayoutsReadFigures : Type 0

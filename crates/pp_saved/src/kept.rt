@@ -1,5 +1,5 @@
 //! A saved profile reports without filters as the profile did with them.
-ghost use Rattle.pp_saved.specs.Kept.{SavedFigures, SavedTexts, SavedColumns, SavedLasts, SavedSizes};
+ghost use Rattle.pp_saved.specs.Kept.{SavedFigures, SavedTexts, SavedColumns, SavedLasts, SavedSizes, SavedWhole};
 
 // What would break it: a saved location with the lines that were cut, labels that are not shown, one column alone, a
 // mapping table in another order.
@@ -13,20 +13,24 @@ pub fn saved_figures()
     ensures figures { SavedFigures }
 {}
 
-// What would break it: a layout that reads more of the profile than its figures.
-/// So top, tree and peek print the same for both, or peek finds no function in both.
+// What would break it: a layout that reads more of the profile than its figures, or than the sums of call paths.
+/// So top, tree, peek, table and folded print the same for both, or peek finds no function in both.
 ///
 /// The premises are those of `saved_figures`.
 pub fn saved_texts()
     ensures { SavedTexts }
 {}
 
-// What would break it: a sample of 0 that is kept, two equal samples, a location in no mapping's place.
+// What would break it: a sample of 0 that is kept, two equal samples, a location in no mapping's place, the lines of a
+// location in another order.
 /// A saved profile keeps the table rules, stays as it is when it is merged alone, so it can be saved again, and has no
-/// patterns of its own. The absolute values of its columns add up to no more than the profile's.
+/// patterns of its own. So saving it again without filters changes nothing. The absolute values of its columns add up
+/// to no more than the profile's.
 ///
-/// The premises are those of `saved_figures`; for the sums, that the profile keeps the table rules.
+/// Premises: the profile keeps the table rules and stays as it is when it is merged alone, as each loaded one does; for
+/// the sums the first of them. Each profile that lasts so is itself when it is saved without filters.
 pub fn saved_lasts()
     ensures lasts { SavedLasts }
     ensures sizes { SavedSizes }
+    ensures whole { SavedWhole }
 {}
