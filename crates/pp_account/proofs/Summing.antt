@@ -310,7 +310,7 @@ module _ (value : Written → ℤ) (t : Written → Bool) where
 
   limit_count : (limit : ℕ) (ks : List Written) → length ks ≡ length (past_limit limit ks) + length (shown_keys limit ks)
   limit_count limit ks = elim (limit == 0) as (λ b. length ks ≡ length (cond b [] (drop limit ks)) + length (cond b ks (take limit ks))) [
-    | true ↦ refl
+    | true ↦ omega arith
     | false ↦ omega (arith, ap length (take-append-drop limit ks), length-append (take limit ks) (drop limit ks))
   ]
 
