@@ -165,7 +165,7 @@ fn text_by<R: Threads + Sync, D: Desk, G: Gate>(
         Report::Top => answer_of_text(top(alloc, subject)),
         Report::Tree => answer_of_text(tree_report(with, subject)),
         Report::Peek(_) => answer_of_outcome(peek(with, subject)),
-        Report::Traces => answer_of_text(traces(alloc, subject)),
+        Report::Traces => answer_of_text(traces(with, subject)),
         Report::Tags => answer_of_text(tags(alloc, subject)),
         Report::Raw => answer_of_text(raw(alloc, survey)),
         Report::Comments => answer_of_text(comments(alloc, survey.l)),

@@ -111,14 +111,25 @@ pub fn peek<R: Threads + Sync, G: Gate>(
 }
 
 /// The traces report.
-pub fn traces(alloc: Global, subject: &Subject<'_, '_>) -> Result<Text, Memory>
+pub fn traces<R: Threads + Sync, G: Gate>(
+    with: &Host<'_, R, G>,
+    subject: &Subject<'_, '_>,
+) -> Result<Text, Memory>
     ensures { let s = subject.now.survey in (f : Finders) →
         HoldsFilters s.l.now s.v.now s.config.now f →
         IfOk result (λ text. text ≡ traces_text s.l.now.profile f s.config.now s.column
         (facts subject.now.head.now)) }
 {
+    let alloc = with.alloc;
     let mut text = Text::new(alloc);
-    write_traces_of(alloc, &subject.survey, subject.head, &mut text)?;
+    write_traces_of(
+        with.rt,
+        alloc,
+        &subject.survey,
+        subject.head,
+        with.gate,
+        &mut text,
+    )?;
     Ok(text)
 }
 

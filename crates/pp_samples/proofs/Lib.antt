@@ -9,5 +9,5 @@ pub mod SmallLemmas
 pub mod PlacesLemmas
 pub mod Ranking
 pub mod Listed
-mod FrameLineLemmas
+pub mod Waves
 mod Lookups

@@ -1,6 +1,5 @@
 pub mod Comments
 pub mod Traces
-pub mod FrameLines
 pub mod Labels
 pub mod Tracing
 pub mod TagLines

@@ -2,7 +2,6 @@
 #![tactic(auto)]
 
 mod comments;
-mod frame_lines;
 mod key_table;
 mod label_lines;
 mod tag_counts;
@@ -10,7 +9,9 @@ mod tag_lines;
 mod tag_name;
 mod tag_names;
 mod tag_table;
+mod trace;
 mod traces;
+mod tracing;
 
 pub use comments::write_comments;
 pub use tag_lines::{write_tags, write_tags_of};

@@ -9,7 +9,7 @@ use Rattle.pp_samples.proofs.traces.write_traces_of.Goals as goal
 -- the head, the samples that the filters leave, and the last separator
 pub returns-clause-ok : goal.returns-clause-ok
 unfolding trace_separator
-returns-clause-ok c f holds =
+returns-clause-ok g c = λ f holds.
     let survey = c.args.survey.now in
     let p = survey.l.now.profile in
     let head = head_text c.args.head.now in

@@ -9,14 +9,11 @@ use Rattle.pp_base.proofs.TextLemmas.{then_more}
 use Rattle.pp_count.proofs.Chosen.{is_read}
 use Rattle.pp_count.proofs.Totals.{at_more}
 use Rattle.pp_samples.proofs.Lookups.{looked_up, not_there}
-use Rattle.pp_samples.proofs.traces.put_traces.Goals.{in-Some+in_ok-put_sample, in_default}
-use Rattle.pp_samples.proofs.traces.put_traces.Goals as goal
+use Rattle.pp_samples.proofs.trace.put_traces.Goals.{in-Some+in_ok-put_sample, in_default}
+use Rattle.pp_samples.proofs.trace.put_traces.Goals as goal
 
 pub loop-number-init : goal.loop-number-init
-loop-number-init c = record {
-  made = c.in_ok-made.ensures (trace_profile c.args.t.now) c.args.t.now.scope.table.now.names (sym c.len.ensures.len);
-  lines = λ f finds. sym (append-nil c.args.lines.now);
-}
+loop-number-init c = λ f finds. sym (append-nil c.args.lines.now)
 
 pub put_sample-requires-clause-refers : goal.put_sample-requires-clause-refers
 put_sample-requires-clause-refers c =
@@ -36,21 +33,18 @@ loop-number-preserved c =
           let s = w.in-Some.s.now in
           let there = rw (c.as_slice-samples.ensures, c.get.ensures.same) at w.in-Some.ensures.lookup in
           let all = more ∙ ap (λ (o : Option Sample). before ++ cons_option o []) (looked_up p.sample _ s there.0 there.1) in
-          rw (w.made-is, w.lines-is) (record {
-            made = w.in_ok-put_sample.ensures.made;
-            lines = λ f finds.
-                let trace = sample_trace c.args.t.now f in
-                then_more old _ _ (flat_map trace before) (trace s) (so_far.lines f finds) (w.in_ok-put_sample.ensures.lines f finds)
-                ∙ ap (λ text. old ++ (flat_map trace before ++ text)) (sym (append-nil (trace s)))
-                ∙ ap (λ text. old ++ text) (sym (ap (flat_map trace) all ∙ flat_map-append trace before (s ∷ [])));
-          })
+          rw w.lines-is (λ f finds.
+          let trace = sample_trace c.args.t.now f in
+          then_more old _ _ (flat_map trace before) (trace s) (so_far f finds) (w.in_ok-put_sample.ensures f finds)
+          ∙ ap (λ text. old ++ (flat_map trace before ++ text)) (sym (append-nil (trace s)))
+          ∙ ap (λ text. old ++ text) (sym (ap (flat_map trace) all ∙ flat_map-append trace before (s ∷ []))))
       | in_default w ↦
           let none = not_there p.sample _ (rw (c.as_slice-samples.ensures, c.get.ensures.same) at w.in_default.ensures.lookup).0 in
-          rw (w.made-is, w.lines-is, more ∙ ap (λ (o : Option Sample). before ++ cons_option o []) none ∙ append-nil before) so_far
+          rw (w.lines-is, more ∙ ap (λ (o : Option Sample). before ++ cons_option o []) none ∙ append-nil before) so_far
     ]
 
 pub returns : goal.returns
 returns c f finds =
     let whole = take_all c.loop-number.number-index c.args.kept.now (omega (arith, c.loop-number-test.false)) in
     subst (λ (kept : List ℕ). c.loop-number.lines ≡ c.args.lines.now ++ flat_map (sample_trace c.args.t.now f) (samples_at (trace_profile c.args.t.now) kept)) whole
-    (c.loop-number.invariant.lines f finds)
+    (c.loop-number.invariant f finds)

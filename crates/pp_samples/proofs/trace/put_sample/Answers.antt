@@ -5,11 +5,11 @@ use Rattle.pp_units.specs.Shown.{shown}
 use Rattle.pp_samples.specs.Traces.{trace_text}
 use Rattle.pp_samples.specs.Tracing.{trace_profile, trace_key}
 use Rattle.pp_samples.proofs.TraceLemmas.{trace_seen}
-use Rattle.pp_samples.proofs.traces.put_sample.Goals as goal
+use Rattle.pp_samples.proofs.trace.put_sample.Goals as goal
 
 -- the filters drop the sample
-pub returns-then-not-branch-clause-lines : goal.returns-then-not-branch-clause-lines
-returns-then-not-branch-clause-lines c f finds =
+pub returns-then-not-branch : goal.returns-then-not-branch
+returns-then-not-branch c f finds =
     let t = c.args.t.now in
     let keys = map (trace_key t) c.see.new.keys.items in
     let seen = c.in_ok-see.ensures.seen f finds ∙ ap (λ (kept : Bool). kept_if kept keys) c.if-not-branch.true in
@@ -18,12 +18,12 @@ returns-then-not-branch-clause-lines c f finds =
     (sym (trace_seen (trace_profile t) f t.scope.config.now t.scope.column (shown t.unit.now) c.args.s.now false keys seen))
 
 -- the room holds the lines of the sample's labels, its value and its keys
-pub returns-clause-lines : goal.returns-clause-lines
-returns-clause-lines c f finds =
+pub returns : goal.returns
+returns c f finds =
     let t = c.args.t.now in
     let keys = map (trace_key t) c.see.new.keys.items in
     let seen = c.in_ok-see.ensures.seen f finds ∙ ap (λ (kept : Bool). kept_if kept keys) c.if-not-branch.false in
     subst (λ (text : List ℕ). IfOk c.put_room.result (λ _. c.put_room.new.lines ≡ c.args.lines.now ++ text))
     ((λ i. trace_text (c.in_ok-write_labels.ensures f finds.found i) (c.in_ok-write_own_value.ensures i) keys)
     ∙ sym (trace_seen (trace_profile t) f t.scope.config.now t.scope.column (shown t.unit.now) c.args.s.now true keys seen))
-    c.put_room.ensures.lines
+    c.put_room.ensures
