@@ -1,0 +1,7 @@
+mod Signs
+mod Told
+mod Plain
+mod Above
+mod RowsAlike
+mod Sizes
+mod Passed

@@ -1,0 +1,10 @@
+//! Laws of sums: what figures of reports owe one another, and what merging and writing leave of them.
+//!
+//! Each law is the contract of a call that does nothing. It is stated over the definitions that the reports are proved
+//! against, so it holds of every figure that they print. `specs/` has the statements, a file for each module, and what
+//! several of them say of two reports in `Same.antt`.
+#![tactic(auto)]
+
+mod coarser;
+
+pub use coarser::coarser_files_report_alike;
