@@ -5,3 +5,4 @@ mod Above
 mod RowsAlike
 mod Sizes
 mod Passed
+mod Parts

@@ -6,5 +6,7 @@
 #![tactic(auto)]
 
 mod coarser;
+mod finer;
 
 pub use coarser::coarser_files_report_alike;
+pub use finer::parts_add_up;
