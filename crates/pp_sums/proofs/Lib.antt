@@ -6,3 +6,4 @@ mod RowsAlike
 mod Sizes
 mod Passed
 mod Parts
+mod Sourced

@@ -1,3 +1,4 @@
 pub mod Same
 pub mod Coarser
 pub mod Finer
+pub mod Sources

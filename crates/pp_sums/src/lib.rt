@@ -7,6 +7,8 @@
 
 mod coarser;
 mod finer;
+mod sources;
 
 pub use coarser::coarser_files_report_alike;
 pub use finer::parts_add_up;
+pub use sources::{no_key_vanishes_in_a_merge, source_order_is_free};
