@@ -6,4 +6,5 @@ mod RowsAlike
 mod Sizes
 mod Passed
 mod Parts
+mod Accounting
 mod Sourced

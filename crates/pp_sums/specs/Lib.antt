@@ -1,4 +1,5 @@
 pub mod Same
 pub mod Coarser
 pub mod Finer
+pub mod Callers
 pub mod Sources

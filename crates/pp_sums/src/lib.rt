@@ -5,10 +5,12 @@
 //! several of them say of two reports in `Same.antt`.
 #![tactic(auto)]
 
+mod callers;
 mod coarser;
 mod finer;
 mod sources;
 
+pub use callers::edges_account_for_keys;
 pub use coarser::coarser_files_report_alike;
 pub use finer::parts_add_up;
 pub use sources::{no_key_vanishes_in_a_merge, source_order_is_free};
