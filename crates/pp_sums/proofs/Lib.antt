@@ -8,3 +8,4 @@ mod Passed
 mod Parts
 mod Accounting
 mod Sourced
+mod Showing

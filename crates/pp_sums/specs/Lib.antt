@@ -3,3 +3,4 @@ pub mod Coarser
 pub mod Finer
 pub mod Callers
 pub mod Sources
+pub mod Shown

@@ -8,9 +8,11 @@
 mod callers;
 mod coarser;
 mod finer;
+mod shown;
 mod sources;
 
 pub use callers::edges_account_for_keys;
 pub use coarser::coarser_files_report_alike;
 pub use finer::parts_add_up;
+pub use shown::{tags_add_up, traces_add_up};
 pub use sources::{no_key_vanishes_in_a_merge, source_order_is_free};
