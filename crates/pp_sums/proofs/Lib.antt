@@ -7,5 +7,6 @@ mod Sizes
 mod Passed
 mod Parts
 mod Accounting
+mod Moved
 mod Sourced
 mod Showing

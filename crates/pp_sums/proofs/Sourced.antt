@@ -41,6 +41,7 @@ use Rattle.pp_laws.proofs.Within.{values_within}
 use Rattle.pp_sums.specs.Same.{HasNoNegative}
 use Rattle.pp_sums.specs.Sources.{HasKeysOfSources, NoKeyVanishes, SourceOrderKeepsSums, SourceOrderKeepsRows}
 use Rattle.pp_sums.proofs.Above.{merged_above}
+use Rattle.pp_sums.proofs.Moved.{add_up_moved}
 use Rattle.pp_sums.proofs.Passed.{types_of}
 use Rattle.pp_sums.proofs.Plain.{loaded_plain, merges_are_loaded, starts_said, values_of}
 use Rattle.pp_sums.proofs.RowsAlike.{sums_alike, rows_alike}
@@ -182,12 +183,13 @@ pub no_key_vanishes : NoKeyVanishes
 no_key_vanishes p ps f config column can none = keys_stay f config column p ps can none
 
 pub source_order_keeps_sums : SourceOrderKeepsSums
-source_order_keeps_sums p q ps qs f config column moved first second =
-    sums_alike (merged p ps) (merged q qs) f config (Some column) (same_sums f config column p q ps qs moved first second)
+source_order_keeps_sums p q ps qs f config column moved can =
+    sums_alike (merged p ps) (merged q qs) f config (Some column) (same_sums f config column p q ps qs moved can (add_up_moved p q ps qs config column moved can))
 
 pub source_order_keeps_rows : SourceOrderKeepsRows
-source_order_keeps_rows p q ps qs f config column moved first second none =
-    rows_alike (merged p ps) (merged q qs) f config (Some column) (same_sums f config column p q ps qs moved first second)
-    (values_within (merged p ps) f config column (all_above f config column p ps first none))
-    (values_within (merged q qs) f config column (all_above f config column q qs second (none_moved f config column p q ps qs moved first second none)))
-    (same_total f config column p q ps qs moved first second none)
+source_order_keeps_rows p q ps qs f config column moved can none =
+    let second : AddUp q qs config column = add_up_moved p q ps qs config column moved can in
+    rows_alike (merged p ps) (merged q qs) f config (Some column) (same_sums f config column p q ps qs moved can second)
+    (values_within (merged p ps) f config column (all_above f config column p ps can none))
+    (values_within (merged q qs) f config column (all_above f config column q qs second (none_moved f config column p q ps qs moved can second none)))
+    (same_total f config column p q ps qs moved can second none)

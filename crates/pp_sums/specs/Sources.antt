@@ -34,13 +34,12 @@ NoKeyVanishes =
 abbrev pub SourceOrderKeepsSums : Type 0
 SourceOrderKeepsSums =
     (p q : Profile) (ps qs : List Profile) (f : Finders) (config : Config) (column : ℕ)
-    → IsPermutation (p ∷ ps) (q ∷ qs) → AddUp p ps config column → AddUp q qs config column
+    → IsPermutation (p ∷ ps) (q ∷ qs) → AddUp p ps config column
     → HaveSameSums (merged p ps) (merged q qs) f config (Some column)
 
 -- Where no value is negative, they have the same keys, total and rows, too.
 abbrev pub SourceOrderKeepsRows : Type 0
 SourceOrderKeepsRows =
     (p q : Profile) (ps qs : List Profile) (f : Finders) (config : Config) (column : ℕ)
-    → IsPermutation (p ∷ ps) (q ∷ qs) → AddUp p ps config column → AddUp q qs config column
-    → AllByRecursion (HasNoNegative column) (p ∷ ps)
+    → IsPermutation (p ∷ ps) (q ∷ qs) → AddUp p ps config column → AllByRecursion (HasNoNegative column) (p ∷ ps)
     → HaveSameRows (merged p ps) (merged q qs) f config (Some column)

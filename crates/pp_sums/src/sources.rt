@@ -17,7 +17,7 @@ pub fn no_key_vanishes_in_a_merge()
 /// keys, the total, nor the rows and their order. It decides which mapping is the first, and whose patterns and default
 /// sample type the merge has.
 ///
-/// Premises: those of `merged_reports_are_sums`, in both orders.
+/// Premises: those of `merged_reports_are_sums`, in one of the orders.
 pub fn source_order_is_free()
     ensures sums { SourceOrderKeepsSums }
     ensures rows { SourceOrderKeepsRows }
