@@ -1,0 +1,12 @@
+mod Signs
+mod Told
+mod Plain
+mod Above
+mod RowsAlike
+mod Sizes
+mod Passed
+mod Parts
+mod Accounting
+mod Moved
+mod Sourced
+mod Showing

@@ -1,0 +1,6 @@
+pub mod Same
+pub mod Coarser
+pub mod Finer
+pub mod Callers
+pub mod Sources
+pub mod Shown
