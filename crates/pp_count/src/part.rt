@@ -1,17 +1,20 @@
 //! What a range of the samples comes to.
 ghost use Rattle.std.specs.Prelude.{◌≡◌, ℕ, ◌+◌, ◌<◌, ◌≤◌, ◌^◌, nat_abs, length, take, drop, IfOk};
+ghost use Rattle.pp_model.specs.Conditions.{RefersTo};
 ghost use Rattle.pp_count.specs.Edges.{counted_keys};
 ghost use Rattle.pp_count.specs.Tally.{tally_at, no_tally, with_seen};
+ghost use Rattle.pp_count.specs.Table.{IsKeyTable};
 ghost use Rattle.pp_count.specs.Scope.{over_of, samples_in_scope, IsSoundScope, AreCountable, IsPartOf, CountedTo, HasTotals};
 
 use crate::matched::{Matched, range_matches};
 use crate::pairs::gather_pairs;
 use crate::scope::{Scope, sample_at};
 use crate::seeing::see;
-use crate::tallies::{Tallies, add_sample, entries};
+use crate::tallies::{LISTED, Tallies, add_sample, entries};
 use crate::total::{Totals, totals_of};
 use crate::value::selected;
 use pp_base::{List, Memory};
+use pp_model::Sample;
 use std::alloc::Global;
 
 /// The sums of one key over a range of samples.
@@ -45,8 +48,44 @@ pub fn count_range(alloc: Global, scope: &Scope, first: u32, count: u32) -> Resu
     requires within { first + count ≤ length (samples_in_scope scope.now) }
     ensures { IfOk result (IsPartOf scope.now first (take count (drop first (samples_in_scope scope.now)))) }
 {
-    let mut tallies = Tallies::new(alloc, scope.hash_keys(), scope.numbers())?;
+    let numbers = scope.numbers();
+    // A list suits few numbers, however many are added.
+    let adds = if numbers > LISTED {
+        frames_in(scope, first, count)
+    } else {
+        0
+    };
+    let mut tallies = Tallies::new(alloc, scope.hash_keys(), numbers, adds)?;
     part_of(alloc, scope, &mut tallies, first, count)
+}
+
+// How many frames the samples of the range have before filters, or the greatest number where they are more.
+fn frames_in(scope: &Scope, first: u32, count: u32) -> usize
+    requires sound { IsSoundScope scope.now }
+    requires few { length (samples_in_scope scope.now) < 2 ^ 32 }
+    requires within { first + count ≤ length (samples_in_scope scope.now) }
+{
+    let mut frames = 0;
+    for index in 0..count {
+        let sample = sample_at(scope, (first + index) as usize);
+        frames = frames_on(scope, sample, frames);
+    }
+    frames
+}
+
+// That number with the frames of one more sample.
+fn frames_on(scope: &Scope, s: &Sample, before: usize) -> usize
+    requires refers { RefersTo scope.now.l.now.profile s.now }
+    requires table { IsKeyTable scope.now.l.now.profile scope.now.config.now scope.now.table.now }
+{
+    // Each id is a place plus 1.
+    let _compact = scope.l.profile.get();
+    let mut frames: usize = before;
+    for id in s.location_id.as_slice() {
+        let row = scope.table.location.row((*id - 1) as usize);
+        frames = frames.saturating_add(row.len());
+    }
+    frames
 }
 
 // Counts them by tallies that have none yet.

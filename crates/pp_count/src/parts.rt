@@ -50,7 +50,7 @@ pub fn join_parts(alloc: Global, parts: List<Part>) -> Result<Part, Memory>
     ensures { IfOk result (IsJoinedPart parts) }
 {
     // The parts don't tell how many key numbers there are, nor by what they were hashed.
-    let mut sofar = Sofar::new(alloc, HashKeys::fixed(), 0)?;
+    let mut sofar = Sofar::new(alloc, HashKeys::fixed(), 0, 0)?;
     for part in parts.as_slice() {
         sofar.add(alloc, part)?;
     }

@@ -27,14 +27,19 @@ pub struct Sofar {
 }
 
 impl Sofar {
-    /// Nothing, with tallies in the form that suits `numbers` key numbers.
-    pub fn new(alloc: Global, hash_keys: HashKeys, numbers: usize) -> Result<Self, Memory>
+    /// Nothing, with tallies in the form that suits `numbers` key numbers, of which about `adds` are added.
+    pub fn new(
+        alloc: Global,
+        hash_keys: HashKeys,
+        numbers: usize,
+        adds: usize,
+    ) -> Result<Self, Memory>
         ensures kept { IfOk result (λ sofar. sofar.kept ≡ []) }
         ensures none { IfOk result (λ sofar. (k : ℕ) → tally_at sofar.tallies k ≡ no_tally) }
         ensures matched { IfOk result (λ sofar. sofar.matched.slots ≡ no_matches) }
         ensures totals { IfOk result (λ sofar. sofar.totals ≡ record { all = 0; base = 0 }) }
     {
-        let tallies = Tallies::new(alloc, hash_keys, numbers)?;
+        let tallies = Tallies::new(alloc, hash_keys, numbers, adds)?;
         let matched = Matched::none(alloc)?;
         Ok(Sofar {
             kept: List::new(alloc),

@@ -1,4 +1,4 @@
-//! Tallies by key number: in a list where key numbers are few, by slots where they are more, else in a map.
+//! Tallies by key number: in a list where they are few, by slots where enough are added, else in a map.
 ghost use Rattle.std.specs.Prelude.{◌≡◌, ◌≢◌, ℕ, ◌+◌, ◌+ℤ◌, ◌<◌, ◌^◌, nat_abs, nat_eq, nat_lt, slice_index_or, length, IfOk, if◌then◌else◌, [], ◌++◌};
 ghost use Rattle.pp_count.specs.Tally.{tally_at, no_tally, placed_tally, has_place, credited, with_cum, with_flat, with_sample, with_seen, tally_plus, tally_added, tally_entry};
 ghost use Rattle.pp_count.specs.Parts.{sums_of, flat_size, cum_size};
@@ -14,27 +14,33 @@ use std::alloc::Global;
 /// A report that has more key numbers has no list of tallies. A list that is mostly empty costs more than slots.
 pub const LISTED: usize = 30_000;
 
-/// A report that has more key numbers has no slots. A piece of samples would see few of them.
-pub const SLOTTED: usize = 500_000;
+/// Where there are more key numbers than this for each that is added, there are no slots. Clearing them would cost more
+/// than adding.
+pub const SPARSE: usize = 32;
 
 /// What each key number has so far.
 #[derive(Drop)]
 pub struct Tallies {
     /// A tally for each key number, where they are few; else none.
     pub listed: Vec<Tally>,
-    /// A slot for each key number, where they are too many for a list, but not for slots; else none.
+    /// A slot for each key number, where they are too many for a list, and enough are added; else none.
     pub slots: Slots,
     /// The tallies of other key numbers that were seen, which are all where there are neither list nor slots.
     pub others: IndexMap<u64, Tally, HashKeys>,
 }
 
 impl Tallies {
-    /// None, in the form that suits `numbers` key numbers.
+    /// None, in the form that suits `numbers` key numbers, of which about `adds` are added, each as often as it occurs.
     #[tactic(auto, unfolding(crate::specs::Tally::tally_at))]
-    pub fn new(alloc: Global, hash_keys: HashKeys, numbers: usize) -> Result<Tallies, Memory>
+    pub fn new(
+        alloc: Global,
+        hash_keys: HashKeys,
+        numbers: usize,
+        adds: usize,
+    ) -> Result<Tallies, Memory>
         ensures { IfOk result (λ tallies. (k : ℕ) → tally_at tallies k ≡ no_tally) }
     {
-        let (listed, slotted) = forms(numbers);
+        let (listed, slotted) = forms(numbers, adds);
         let listed = vec![in alloc; Tally::NONE; listed]?;
         let slots = Slots::new(alloc, slotted)?;
         Ok(Tallies {
@@ -45,11 +51,11 @@ impl Tallies {
     }
 }
 
-// The lengths of the list and of the slots for `numbers` key numbers.
-fn forms(numbers: usize) -> (usize, usize) {
+// The lengths of the list and of the slots for `numbers` key numbers, of which about `adds` are added.
+fn forms(numbers: usize, adds: usize) -> (usize, usize) {
     if numbers <= LISTED {
         (numbers, 0)
-    } else if numbers <= SLOTTED {
+    } else if numbers / SPARSE <= adds {
         (0, numbers)
     } else {
         (0, 0)

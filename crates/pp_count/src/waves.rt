@@ -26,7 +26,9 @@ pub fn count_all<'x, R: Threads + Sync, G: Gate>(
     requires countable { AreCountable scope.now (samples_in_scope scope.now) }
     ensures { IfOk result (AreCounted scope.now (samples_in_scope scope.now)) }
 {
-    let mut sofar = Sofar::new(alloc, scope.hash_keys(), scope.numbers())?;
+    // Slots for every key are cleared once. Those for pairs are no more than go with the samples.
+    let adds = count_of(scope).max(scope.table.names.len() as usize);
+    let mut sofar = Sofar::new(alloc, scope.hash_keys(), scope.numbers(), adds)?;
     match count_waves(rt, alloc, scope, gate, &mut sofar) {
         Ok(()) => Ok(sofar),
         Err(Memory) => {

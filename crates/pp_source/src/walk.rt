@@ -72,8 +72,10 @@ fn no_sums(alloc: Global, walk: &Walk<'_>) -> Result<WalkSums, Memory>
     ensures { IfOk result (HasWalkedTo walk.now 0 []) }
 {
     let hash_keys = walk.scope.hash_keys();
-    let lines = Tallies::new(alloc, hash_keys, walk.lines.names.len() + 1)?;
-    let routines = Tallies::new(alloc, hash_keys, walk.routines.names.len() + 1)?;
+    // They are made once, so there may be a slot for each number.
+    let (lines, routines) = (walk.lines.names.len() + 1, walk.routines.names.len() + 1);
+    let lines = Tallies::new(alloc, hash_keys, lines, lines)?;
+    let routines = Tallies::new(alloc, hash_keys, routines, routines)?;
     Ok(WalkSums { lines, routines })
 }
 
