@@ -2,14 +2,15 @@
 """Checks what the documents, the edits and the transcripts say against the repository, without running the program.
 
 It finds links and anchors that lead nowhere; files and names in backticks that are not in the repository; functions that a
-table places in another file; crates whose row differs from crates.txt; clauses that their crate does not have; edits whose
-text does not stand once in its file; transcripts that are not run, or whose stored counts are wrong; and counts in the
-documents that are not those of the repository.
+table places in another file; crates whose row differs from crates.txt; clauses that their crate does not have; names that
+a file takes from a module in which they do not stand; edits whose text does not stand once in its file; transcripts that are
+not run, or whose stored counts are wrong; and counts in the documents that are not those of the repository.
 
 The status is 1 where something is wrong, else 0.
 """
 
 import functools
+import os
 import pathlib
 import re
 import sys
@@ -39,8 +40,11 @@ def prose(path):
 @functools.cache
 def files():
     """All files but what is built, by their paths from the top."""
-    paths = (path.relative_to(ROOT) for path in ROOT.rglob("*") if path.is_file())
-    return [str(path) for path in paths if path.parts[0] != ".git" and "out" not in path.parts]
+    found = []
+    for folder, below, own in os.walk(ROOT):
+        below[:] = [name for name in below if name not in (".git", "out")]
+        found += [os.path.relpath(os.path.join(folder, name), ROOT) for name in own]
+    return found
 
 
 @functools.cache
@@ -57,9 +61,9 @@ def words():
 @functools.cache
 def words_of(crate):
     found = set()
-    for path in (CRATES / crate).rglob("*"):
-        if path.suffix in (".rt", ".antt") and not {"out", "must-fail"} & set(path.parts):
-            found |= set(re.findall(r"\w+", path.read_text()))
+    for path in files():
+        if path.startswith(f"crates/{crate}/") and path.endswith((".rt", ".antt")) and "/must-fail/" not in path:
+            found |= set(re.findall(r"\w+", (ROOT / path).read_text()))
     return found
 
 
@@ -163,6 +167,33 @@ def clauses():
                     yield None if part in known or part == "pprof" else f"PROVED.md: {crates} has no {name}"
 
 
+IMPORT = re.compile(r"^\s*(?:ghost |pub )*use Rattle\.(\w+)\.(specs|proofs)\.([\w.]+)\.\{([^}]*)\}", re.M)
+PASSED_ON = re.compile(r"^pub use Rattle\.(\w+)\.(specs|proofs)\.([\w.]+)(?:\.\*)?$", re.M)
+
+
+@functools.cache
+def exported(crate, folder, module):
+    """The words of a module of definitions or lemmas, with those that it passes on; None where no file is that module."""
+    path = (CRATES / crate / folder).joinpath(*module.split(".")).with_suffix(".antt")
+    if folder == "specs" and module.startswith("declared."):
+        return words_of(crate)
+    if not path.exists():
+        return None
+    text = path.read_text()
+    return set(re.findall(r"\w+", text)).union(*(exported(*it) or set() for it in PASSED_ON.findall(text)))
+
+
+def imports():
+    """Each name that a file takes from a module of this repository, with what is wrong with it."""
+    for path in sorted([*CRATES.glob("*/src/**/*.rt"), *CRATES.glob("*/[sp]*/**/*.antt")]):
+        for crate, folder, module, names_taken in IMPORT.findall(path.read_text()):
+            if not (CRATES / crate).is_dir() or exported(crate, folder, module) is None:
+                continue
+            for name in re.findall(r"(?<![\w◌])(\w+)(?: as \S+)?(?=\s*(?:,|$))", names_taken.strip()):
+                is_there = name in exported(crate, folder, module)
+                yield None if is_there else f"{path.relative_to(CRATES)}: {crate}.{folder}.{module} has no {name}"
+
+
 def edits():
     """Each edit, with what is wrong with it."""
     for path in sorted(CRATES.glob("*/must-fail/*")):
@@ -241,7 +272,7 @@ def numbers():
                 yield None if is_right else f"{path}: {told} in place of {count} where {pattern}"
 
 
-CHECKS = (links, names, places, crate_rows, clauses, edits, transcripts, numbers)
+CHECKS = (links, names, places, crate_rows, clauses, imports, edits, transcripts, numbers)
 
 
 def main():

@@ -50,14 +50,19 @@ class FormFault(Exception):
     """A line of a transcript that can't be understood."""
 
 
-ESCAPE = re.compile(rb"\\(x[0-9a-fA-F]{2}|[nt\\])")
+ESCAPE = re.compile(rb"\\(x[0-9a-fA-F]{2}|[nt\\#])")
 NAMED = {b"n": b"\n", b"t": b"\t", b"\\": b"\\"}
 WORD = re.compile(rb"(?:'[^']*'|[^' ])+")
 
 
-def plain(text):
-    """The bytes that a text stands for."""
-    return ESCAPE.sub(byte_named, text)
+def plain(text, number=b"\\#"):
+    """The bytes that a text stands for. In `put#` a `\\#` is the number."""
+    return ESCAPE.sub(lambda found: number if found[1] == b"#" else byte_named(found), text)
+
+
+def in_three_bytes(number):
+    """The number as a varint of three bytes."""
+    return bytes([number & 127 | 128, number >> 7 & 127 | 128, number >> 14 & 127])
 
 
 def byte_named(found):
@@ -137,6 +142,12 @@ class Reader:
         count, rest = cut_count(rest)
         self.put(rest, count)
 
+    def put_numbered(self, rest):
+        count, rest = cut_count(rest)
+        path, text = cut_word(rest)
+        parts = (plain(text, in_three_bytes(number)) for number in range(1, count + 1))
+        self.session.files.setdefault(path, bytearray()).extend(b"".join(parts))
+
     def read_locked(self, rest):
         self.session.locked += words_of(rest)
 
@@ -178,6 +189,7 @@ class Reader:
         b"files": read_files,
         b"put": put,
         b"put*": put_often,
+        b"put#": put_numbered,
         b"locked": read_locked,
         b"real": read_real,
         b"literal": read_literal,

@@ -1,11 +1,16 @@
-//! Bytes as they are spelled in transcripts: `\n`, `\t`, `\\` and `\xHH` name bytes, and every other character stands
-//! for itself.
+//! Bytes as they are spelled in transcripts: `\n`, `\t`, `\\` and `\xHH` name bytes, `\#` a number where there is one,
+//! and every other character stands for itself.
 
 use crate::problem::Problem;
 use pp_base::{Memory, Text};
 
-/// Adds the bytes that the text spells.
+/// Adds the bytes that the text spells, in which there is no number.
 pub fn put_unescaped(into: &mut Text, text: &str) -> Result<(), Problem> {
+    put_numbered(into, text, None)
+}
+
+/// Adds the bytes that the text spells. `\#` stands for these bytes of a number.
+pub fn put_numbered(into: &mut Text, text: &str, number: Option<[u8; 3]>) -> Result<(), Problem> {
     let mut is_escape = false;
     for piece in text.split('\\') {
         if !is_escape {
@@ -15,7 +20,7 @@ pub fn put_unescaped(into: &mut Text, text: &str) -> Result<(), Problem> {
             into.extend(b"\\")?;
             is_escape = false;
         } else {
-            put_escape(into, piece)?;
+            put_escape(into, piece, number)?;
         }
     }
     if is_escape {
@@ -25,8 +30,8 @@ pub fn put_unescaped(into: &mut Text, text: &str) -> Result<(), Problem> {
     }
 }
 
-// Adds the byte that is named behind a `\`, and what follows its name.
-fn put_escape(into: &mut Text, piece: &str) -> Result<(), Problem> {
+// Adds the byte or the number that is named behind a `\`, and what follows its name.
+fn put_escape(into: &mut Text, piece: &str, number: Option<[u8; 3]>) -> Result<(), Problem> {
     if let Some(rest) = piece.strip_prefix('n') {
         put_byte_and(into, b'\n', rest)
     } else if let Some(rest) = piece.strip_prefix('t') {
@@ -34,6 +39,10 @@ fn put_escape(into: &mut Text, piece: &str) -> Result<(), Problem> {
     } else if let Some(rest) = piece.strip_prefix('x') {
         let (digits, rest) = rest.split_at_checked(2).ok_or(Problem::Escape)?;
         put_byte_and(into, byte_of(digits)?, rest)
+    } else if let Some(rest) = piece.strip_prefix('#') {
+        into.extend(&number.ok_or(Problem::Escape)?)?;
+        into.extend(rest.as_bytes())?;
+        Ok(())
     } else {
         Err(Problem::Escape)
     }
@@ -43,6 +52,19 @@ fn put_byte_and(into: &mut Text, byte: u8, rest: &str) -> Result<(), Problem> {
     into.extend(&[byte])?;
     into.extend(rest.as_bytes())?;
     Ok(())
+}
+
+/// The number as a varint of three bytes. Of one above 2,097,151 the lowest 21 bits.
+pub fn in_three_bytes(number: u64) -> [u8; 3] {
+    [
+        low_bits(number) | 128,
+        low_bits(number >> 7) | 128,
+        low_bits(number >> 14),
+    ]
+}
+
+fn low_bits(number: u64) -> u8 {
+    (number % 128) as u8
 }
 
 fn byte_of(digits: &str) -> Result<u8, Problem> {

@@ -4,6 +4,7 @@
 //!     files PATH=NAME ..   at the begin PATH holds what the file NAME holds
 //!     put PATH BYTES       adds BYTES at the end of what PATH holds at the begin
 //!     put* N PATH BYTES    the same, N times over
+//!     put# N PATH BYTES    the same for each number from 1 to N: `\#` in BYTES is the number, as a varint of three bytes
 //!     locked PATH ..       paths that can't be written
 //!     real                 the session runs over the machine's files, which are removed afterwards
 //!     literal PATTERN ..   the matcher finds plain texts, and refuses these patterns
@@ -18,7 +19,7 @@
 //!     += PATH=NAME ..      at the end PATH holds what the file NAME holds
 //!     - PATH ..            at the end there is no such file
 
-use crate::escapes::put_unescaped;
+use crate::escapes::{in_three_bytes, put_numbered, put_unescaped};
 use crate::problem::Problem;
 use crate::trials::{Fault, fault_named};
 use crate::words::{head_of, words_of};
@@ -58,6 +59,7 @@ enum Tag {
     Files,
     Put,
     PutOften,
+    PutNumbered,
     Locked,
     Real,
     Literal,
@@ -89,6 +91,7 @@ fn tag_of(spelling: &str) -> Option<Tag> {
         ("+=", Tag::HoldsFiles),
         ("-", Tag::Gone),
         ("put*", Tag::PutOften),
+        ("put#", Tag::PutNumbered),
         ("<*", Tag::InputOften),
         (">*", Tag::OutOften),
         ("locked", Tag::Locked),
@@ -109,6 +112,7 @@ pub fn line_of(alloc: Global, line: &str) -> Result<Line, Problem> {
         Tag::Files => Ok(Line::Files(named_files(alloc, rest)?)),
         Tag::Put => put_line(alloc, rest, 1),
         Tag::PutOften => put_often(alloc, rest),
+        Tag::PutNumbered => put_each(alloc, rest),
         Tag::Locked => Ok(Line::Locked(words_of(alloc, rest)?)),
         Tag::Real => Ok(Line::Real),
         Tag::Literal => Ok(Line::Literal(any_words_of(alloc, rest)?)),
@@ -168,6 +172,16 @@ fn put_line(alloc: Global, rest: &str, count: u64) -> Result<Line, Problem> {
     let mut bytes = Text::new(alloc);
     put_unescaped(&mut bytes, spelled)?;
     Ok(Line::Put(path, repeated(alloc, bytes, count)?))
+}
+
+fn put_each(alloc: Global, rest: &str) -> Result<Line, Problem> {
+    let (count, rest) = counted(rest)?;
+    let (path, spelled) = head_of(alloc, rest)?;
+    let mut bytes = Text::new(alloc);
+    for number in 1..=count {
+        put_numbered(&mut bytes, spelled, Some(in_three_bytes(number)))?;
+    }
+    Ok(Line::Put(path, bytes))
 }
 
 fn holds_line(alloc: Global, rest: &str) -> Result<Line, Problem> {
