@@ -7,8 +7,6 @@
 mod files;
 mod input;
 mod output;
-#[cfg(test)]
-mod tests;
 mod words;
 
 pub use files::RealFiles;
