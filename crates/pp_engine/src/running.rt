@@ -34,7 +34,8 @@ struct Invocation<'a, R, G> {
 /// of an ending is written last.
 ///
 /// The profile that was loaded is left in `profile`, `None` where loading refused it, and what
-/// stood there where nothing was loaded. To give up a large one takes longer than to end the process.
+/// stood there where nothing was loaded. No clause speaks of it. To give up a large one takes longer than to end the
+/// process.
 pub fn run<R: Threads + Sync, F: Files, I: Source, O: Sink, E: Sink, M: Matcher, G: Gate>(
     with: &Host<'_, R, G>,
     words: &[Text],

@@ -1,2 +1,3 @@
 mod FilterLemmas
+mod GivingLemmas
 mod StopLemmas

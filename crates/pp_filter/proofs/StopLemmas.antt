@@ -1,18 +1,26 @@
--- Where only patterns are asked, nothing but want of memory stops the asking.
-use Rattle.std.proofs.Common.{◌≡◌, ℕ, Bool, true, false, List, Option, inl, inr, refl}
-use Rattle.std.specs.Prelude.{Err}
+-- Where only patterns are asked, the matcher alone tells how it went, and nothing but want of memory stops the asking.
+use Rattle.std.proofs.Common.{◌≡◌, ℕ, Bool, true, false, List, Option, inl, inr, refl, ap}
+use Rattle.std.specs.Prelude.{Result, Ok, Err, None}
 use Rattle.std.proofs.lemmas.Bool.{false≢true}
+use Rattle.pp_base.specs.Judges.{Answer}
 use Rattle.pp_desk.specs.declared.stop.Stop.{Stop}
 use Rattle.pp_desk.specs.declared.stop.Stop.TheVariants as stops
+use Rattle.pp_desk.specs.Asking.{Asking, ◌>>=◌}
 use Rattle.pp_desk.specs.Script.{Script, Give, Make, Step, WriteOut, WriteErr, ReadFile, WriteFile, Ask, NextLine}
-use Rattle.pp_desk.specs.Went.{Went, Ways, Halts, AtRest, InPart, after, parts}
+use Rattle.pp_desk.specs.Went.{Went, Ways, Goes, Halts, AtRest, after, parts}
 use Rattle.pp_desk.specs.World.{Told, World}
-use Rattle.pp_desk.proofs.Quiet.{Only}
+use Rattle.pp_desk.proofs.Quiet.{Only, only_then}
 use Rattle.pp_model.specs.declared.config.Config.{Config}
+use Rattle.pp_model.specs.declared.loaded.Loaded.{Loaded}
 use Rattle.pp_model.specs.declared.profile.Profile.{Profile}
+use Rattle.pp_pattern.specs.declared.load.FramesRefused.TheVariants.{DropFrames, KeepFrames}
 use Rattle.pp_pattern.specs.Load.{judge_load}
 use Rattle.pp_pattern.specs.Report.{Finds, judge}
-use Rattle.pp_pattern.proofs.AskQuiet.{only_load, only_judge}
+use Rattle.pp_pattern.proofs.AskQuiet.{only_asking, only_load, only_judge}
+use Rattle.pp_pseudo.specs.Basis.{framed_for}
+use Rattle.pp_filter.specs.declared.refusal.Refused.{Refused}
+use Rattle.pp_filter.specs.declared.refusal.Refused.TheVariants.{OfProfile, OfOption}
+use Rattle.pp_filter.specs.Asked.{Asks, told_by, load, verdicts, filter_loaded, filter, refusal_of}
 
 -- a step that asks a pattern
 abbrev asks : Step → Bool
@@ -23,36 +31,77 @@ asks (WriteFile path bytes) = false
 asks (Ask pattern) = true
 asks NextLine = false
 
--- between two steps nothing else is wanting
-stopped_at_rest : (old new : Told) (stop : Stop) → AtRest old new stop → stop ≡ stops.Memory
-stopped_at_rest old new stops.Memory is = refl
-stopped_at_rest old new stop is = absurd is
+-- the matcher tells no more where nothing has changed
+same_told : {old new : Told} → new ≡ old → told_by new.answers ≡ told_by old.answers
+same_told is = ap (λ (told : Told). told_by told.answers) is
 
--- in the asking of a pattern nothing stops it
-stopped_in_part : (old new : Told) (step : Step) (stop : Stop) → asks step ≡ true → InPart old new step stop → stop ≡ stops.Memory
-stopped_in_part old new (WriteOut bytes) stop ask is = absurd (false≢true ask)
-stopped_in_part old new (WriteErr bytes) stop ask is = absurd (false≢true ask)
-stopped_in_part old new (ReadFile path limit) stop ask is = absurd (false≢true ask)
-stopped_in_part old new (WriteFile path bytes) stop ask is = absurd (false≢true ask)
-stopped_in_part old new (Ask pattern) stop ask is = absurd is
-stopped_in_part old new NextLine stop ask is = absurd (false≢true ask)
+-- between two steps nothing but memory is wanting
+at_rest : (old new : Told) (stop : Stop) → AtRest old new stop → told_by new.answers ≡ told_by old.answers
+at_rest old new stops.Memory is = same_told is
+at_rest old new stop is = absurd is
 
-stopped_on_way : {T : Type 0} (p : Script T) (old new : Told) (stop : Stop) → Only asks p → Halts old new p stop → stop ≡ stops.Memory
+goes_by : {T : Type 0} (p : Script T) (old new : Told) (x : T) → Only asks p → Goes old new p x
+    → Goes (told_by old.answers) (told_by new.answers) p x
+unfolding Goes
+goes_by (Give y) old new x only went = (same_told went.0, went.1)
+goes_by (Make (WriteOut bytes) p) old new x only went = absurd (false≢true only.0)
+goes_by (Make (WriteErr bytes) p) old new x only went = absurd (false≢true only.0)
+goes_by (Make (ReadFile path limit) p) old new x only went = absurd (false≢true only.0)
+goes_by (Make (WriteFile path bytes) p) old new x only went = absurd (false≢true only.0)
+goes_by (Make (Ask pattern) p) old new x only went =
+    (went.0, tt, goes_by (p went.0) (after old (Ask pattern) went.0) new x (only.1 went.0) went.2)
+goes_by (Make NextLine p) old new x only went = absurd (false≢true only.0)
+
+halts_by : {T : Type 0} (p : Script T) (old new : Told) (stop : Stop) → Only asks p → Halts old new p stop
+    → Halts (told_by old.answers) (told_by new.answers) p stops.Memory
 unfolding Halts
-stopped_on_way (Give x) old new stop only is = stopped_at_rest old new stop is
-stopped_on_way (Make step p) old new stop only (inl is) = stopped_at_rest old new stop is
-stopped_on_way (Make step p) old new stop only (inr (inl is)) = stopped_in_part old new step stop only.0 is
-stopped_on_way (Make step p) old new stop only (inr (inr is)) = stopped_on_way (p is.0) (after old step is.0) new stop (only.1 is.0) is.2
+halts_by (Give y) old new stop only is = at_rest old new stop is
+halts_by (Make step p) old new stop only (inl is) = inl (at_rest old new stop is)
+halts_by (Make (WriteOut bytes) p) old new stop only (inr is) = absurd (false≢true only.0)
+halts_by (Make (WriteErr bytes) p) old new stop only (inr is) = absurd (false≢true only.0)
+halts_by (Make (ReadFile path limit) p) old new stop only (inr is) = absurd (false≢true only.0)
+halts_by (Make (WriteFile path bytes) p) old new stop only (inr is) = absurd (false≢true only.0)
+halts_by (Make (Ask pattern) p) old new stop only (inr (inl is)) = absurd is
+halts_by (Make (Ask pattern) p) old new stop only (inr (inr is)) =
+    inr (inr (is.0, tt, halts_by (p is.0) (after old (Ask pattern) is.0) new stop (only.1 is.0) is.2))
+halts_by (Make NextLine p) old new stop only (inr is) = absurd (false≢true only.0)
 
-stopped : {T : Type 0} (p : Script T) (old new : World) (stop : Stop) → Only asks p → Went old new p (Err stop) → stop ≡ stops.Memory
-unfolding Ways
-stopped p old new stop only went = let known = parts went in stopped_on_way p old.told new.told stop only known.ways
+-- the patterns of a profile, and then those of a configuration, are all that is asked
+loads_only : (finds : Finds) (p : Profile) → Only asks (load finds p)
+unfolding load
+loads_only finds p = only_then asks (judge_load finds p) _ (only_load asks (λ pattern. refl) finds p) (λ answer. tt)
 
--- So it is where a profile's own patterns are asked.
-pub load_stopped : (finds : Finds) (p : Profile) (old new : World) (stop : Stop) → Went old new (judge_load finds p) (Err stop) → stop ≡ stops.Memory
-load_stopped finds p old new stop went = stopped (judge_load finds p) old new stop (only_load asks (λ pattern. refl) finds p) went
+judges_only : (finds : Finds) (l : Loaded) (config : Config) → Only asks (verdicts finds l config)
+unfolding verdicts
+judges_only finds l config =
+    only_then asks (judge finds config None l.profile) _ (only_judge asks (λ pattern. refl) finds config None l.profile) (λ answer. tt)
 
--- And where those of a configuration are.
-pub judge_stopped : (finds : Finds) (config : Config) (own : Option (List ℕ)) (p : Profile) (old new : World) (stop : Stop)
-    → Went old new (judge finds config own p) (Err stop) → stop ≡ stops.Memory
-judge_stopped finds config own p old new stop went = stopped (judge finds config own p) old new stop (only_judge asks (λ pattern. refl) finds config own p) went
+filters_only : (finds : Finds) (l : Loaded) (config : Config) → Only asks (filter_loaded finds l config)
+unfolding filter_loaded
+filters_only finds l config = only_asking asks (verdicts finds l config) _ (judges_only finds l config) (λ found. tt)
+
+asks_only : (finds : Finds) (p : Profile) (config : Config) → Only asks (filter finds p config)
+unfolding filter
+asks_only finds p config = only_asking asks (load finds p) _ (loads_only finds p) (λ l. filters_only finds (framed_for l config) config)
+
+module _ (finds : Finds) (p : Profile) (config : Config) (old new : World) where
+  -- The asking was done.
+  pub asked_whole : (outcome : Result Profile Refused) → Went old new (filter finds p config) (Ok outcome)
+      → Goes (told_by old.told.answers) (told_by new.told.answers) (filter finds p config) outcome
+  unfolding Ways
+  asked_whole outcome went =
+      let known = parts went in goes_by (filter finds p config) old.told new.told outcome (asks_only finds p config) known.ways
+
+  -- The asking was stopped.
+  pub asked_in_part : (stop : Stop) → Went old new (filter finds p config) (Err stop)
+      → Halts (told_by old.told.answers) (told_by new.told.answers) (filter finds p config) stops.Memory
+  unfolding Ways
+  asked_in_part stop went =
+      let known = parts went in halts_by (filter finds p config) old.told new.told stop (asks_only finds p config) known.ways
+
+-- The refusal tells of the pattern that was refused.
+pub asks_refused : {T : Type 0} (old new : Option (List Answer)) (script : Asking Refused T) (refused : Refused)
+    → Goes (told_by old) (told_by new) script (Err refused) → Asks old new script (Err (refusal_of refused))
+asks_refused old new script (OfProfile DropFrames) went = went
+asks_refused old new script (OfProfile KeepFrames) went = went
+asks_refused old new script (OfOption refused) went = went

@@ -1,29 +1,35 @@
 //! The whole call.
 ghost use Rattle.std.specs.Prelude.{◌≡◌, IfOk, None};
+ghost use Rattle.pp_desk.specs.Asking.{settled};
+ghost use Rattle.pp_desk.specs.Went.{Went};
+ghost use Rattle.pp_filter.specs.Asked.{Asks, filter, filter_loaded, refusal_of};
+ghost use Rattle.pp_filter.specs.Filtered.{saved_of, SavesFiltered};
 ghost use Rattle.pp_model.specs.Finders.{Finders};
 ghost use Rattle.pp_model.specs.Sizes.{IsCountable};
 ghost use Rattle.pp_count.specs.Counted.{CanCount};
 ghost use Rattle.pp_count.specs.Seeing.{HoldsFilters};
 ghost use Rattle.pp_dump.specs.Saved.{saved};
-ghost use Rattle.pp_filter.specs.Filtered.{saved_of, SavesFiltered};
 
 use crate::FilterRefusal;
 use crate::judging::{load, verdicts};
+use crate::refusal::Refused;
 use pp_base::{CalmFiles, CalmSink, CalmSource, List, Matcher, Memory, OpenGate, Text};
 use pp_count::count;
-use pp_desk::{Desk, Objects};
+use pp_desk::{Desk, Halt, Objects};
 use pp_dump::saved_profile;
 use pp_keys::HashKeys;
 use pp_model::{Compact, Config, Loaded, Verdicts};
+use pp_pattern::{FramesRefused, PatternRefused};
 use pp_pseudo::{basis, framed_for};
 use std::alloc::Global;
 use std::thread::Threads;
 
 /// What the filters of the configuration leave of the profile: just the profile that the command's proto report saves.
 ///
-/// The profile's own two patterns are asked first, and then those of the configuration that aren't empty. Where tagroot
-/// or tagleaf names a key, the profile first gets the frames from labels. As many threads may work as the configuration has
-/// workers. The profile is spent, also on a refusal.
+/// The profile's own two patterns are asked first, and then those of the configuration that aren't empty; the first that
+/// the matcher refuses is told, and none is asked after it. Where tagroot or tagleaf names a key, the profile first gets
+/// the frames from labels. As many threads may work as the configuration has workers. The profile is spent, also on a
+/// refusal.
 pub fn filtered<R: Threads + Sync, M: Matcher>(
     rt: &R,
     alloc: Global,
@@ -32,6 +38,7 @@ pub fn filtered<R: Threads + Sync, M: Matcher>(
     matcher: &mut M,
 ) -> Result<Compact, FilterRefusal>
     requires { IsCountable profile }
+    ensures went { Asks (M.answers matcher.old) (M.answers matcher.new) (filter M.finds profile config.now) result }
     ensures saved { IfOk result (SavesFiltered M.finds profile config.now) }
 {
     // No step of the work but the matcher's touches these.
@@ -45,7 +52,7 @@ pub fn filtered<R: Threads + Sync, M: Matcher>(
         input: &mut input,
         out: &mut out,
         err: &mut err,
-        matcher,
+        matcher: &mut *matcher,
         reader: &mut None,
     };
     filter_at(rt, alloc, profile, config, &mut desk)
@@ -60,7 +67,43 @@ fn filter_at<R: Threads + Sync, D: Desk>(
     desk: &mut D,
 ) -> Result<Compact, FilterRefusal>
     requires { IsCountable profile }
-    ensures { IfOk result (SavesFiltered D.finds profile config.now) }
+    ensures went { Asks (D.world desk.old).told.answers (D.world desk.new).told.answers
+        (filter D.finds profile config.now) result }
+    ensures saved { IfOk result (SavesFiltered D.finds profile config.now) }
+    ensures same { (D.world desk.new).names ≡ (D.world desk.old).names }
+{
+    match filter(rt, alloc, profile, config, desk) {
+        Ok(saved) => Ok(saved),
+        Err(Halt::Refused(refused)) => Err(refusal_of(refused)),
+        // Nothing but memory can be wanting where only patterns are asked.
+        Err(Halt::Stopped(_)) => Err(FilterRefusal::Memory),
+    }
+}
+
+// The refusal that tells which pattern was refused.
+fn refusal_of(refused: Refused) -> FilterRefusal
+    ensures { result ≡ refusal_of refused }
+{
+    match refused {
+        Refused::OfProfile(FramesRefused::DropFrames) => FilterRefusal::DropFrames,
+        Refused::OfProfile(FramesRefused::KeepFrames) => FilterRefusal::KeepFrames,
+        Refused::OfOption(PatternRefused { option }) => FilterRefusal::Pattern { option },
+    }
+}
+
+// The patterns of the profile, and then the filters.
+#[tactic(auto, using(pp_desk::proofs::AskingLemmas::asking), unfolding(crate::specs::Asked::filter))]
+fn filter<R: Threads + Sync, D: Desk>(
+    rt: &R,
+    alloc: Global,
+    profile: Compact,
+    config: &Config,
+    desk: &mut D,
+) -> Result<Compact, Halt<Refused>>
+    requires { IsCountable profile }
+    ensures went { Went (D.world desk.old) (D.world desk.new) (filter D.finds profile config.now)
+        (settled result) }
+    ensures saved { IfOk result (SavesFiltered D.finds profile config.now) }
 {
     let l = load(alloc, profile, desk)?;
     let framed = framed_for(alloc, HashKeys::fixed(), &l, config)?;
@@ -68,15 +111,18 @@ fn filter_at<R: Threads + Sync, D: Desk>(
 }
 
 // What is saved of the profile that is filtered.
+#[tactic(auto, using(pp_desk::proofs::AskingLemmas::asking), unfolding(crate::specs::Asked::filter_loaded))]
 fn filter_loaded<R: Threads + Sync, D: Desk>(
     rt: &R,
     alloc: Global,
     l: &Loaded,
     config: &Config,
     desk: &mut D,
-) -> Result<Compact, FilterRefusal>
+) -> Result<Compact, Halt<Refused>>
     requires { IsCountable l.now.profile }
-    ensures { IfOk result (λ q. q ≡ saved_of D.finds l.now config.now) }
+    ensures went { Went (D.world desk.old) (D.world desk.new) (filter_loaded D.finds l.now config.now)
+        (settled result) }
+    ensures saved { IfOk result (λ q. q ≡ saved_of D.finds l.now config.now) }
 {
     // A profile's texts are distinct, so that verdicts on them tell what is found.
     let _profile = l.profile.get();

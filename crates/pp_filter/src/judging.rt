@@ -1,44 +1,36 @@
 //! What the patterns find, of the profile and of the configuration.
-ghost use Rattle.std.specs.Prelude.{◌≡◌, IfOk, None};
+ghost use Rattle.std.specs.Prelude.{◌≡◌, IfOk, None, Ok};
+ghost use Rattle.pp_desk.specs.Asking.{settled};
+ghost use Rattle.pp_desk.specs.Went.{Went};
+ghost use Rattle.pp_filter.specs.Asked.{load, loaded_or, verdicts, verdicts_or};
 ghost use Rattle.pp_pattern.specs.Load.{load_verdicts};
 ghost use Rattle.pp_pattern.specs.Report.{AreVerdictsOf};
 
-use crate::FilterRefusal;
+use crate::refusal::Refused;
 use pp_base::List;
-use pp_desk::{Desk, Stop};
+use pp_desk::{Desk, Halt};
 use pp_model::{Compact, Config, Loaded, Verdicts};
-use pp_pattern::{FramesRefused, PatternRefused, judge, judge_load};
+use pp_pattern::{FramesRefused, judge, judge_load};
 use std::alloc::Global;
 
 /// The profile with what its own patterns find.
-pub fn load<D: Desk>(alloc: Global, profile: Compact, desk: &mut D) -> Result<Loaded, FilterRefusal>
+#[tactic(auto, using(pp_desk::proofs::Going::going, crate::proofs::GivingLemmas::given), unfolding(crate::specs::Asked::load))]
+pub fn load<D: Desk>(alloc: Global, profile: Compact, desk: &mut D) -> Result<Loaded, Halt<Refused>>
+    ensures went { Went (D.world desk.old) (D.world desk.new) (load D.finds profile) (settled result) }
     ensures same { IfOk result (λ l. l.profile ≡ profile) }
     ensures found { IfOk result (λ l. (l.drop, l.keep) ≡ load_verdicts D.finds l.profile) }
 {
-    match judge_load(alloc, desk, &profile) {
-        Ok(answer) => loaded::<D>(profile, answer),
-        Err(stop) => Err(refusal_of(stop)),
-    }
-}
-
-// The refusal where the asking of patterns is stopped: it asks nothing but the matcher, and so is stopped for want of
-// memory alone.
-fn refusal_of(stop: Stop) -> FilterRefusal
-    requires { stop ≡ Stop.Memory }
-    ensures { result ≡ FilterRefusal.Memory }
-{
-    match stop {
-        Stop::Memory => FilterRefusal::Memory,
-        Stop::File | Stop::Input | Stop::Out | Stop::Err => unreachable!(),
-    }
+    let answer = judge_load(alloc, desk, &profile)?;
+    loaded::<D>(profile, answer)
 }
 
 // The profile with the verdicts of its patterns, where none of them was refused.
 fn loaded<D: Desk>(
     profile: Compact,
     answer: Result<(Option<List<bool>>, Option<List<bool>>), FramesRefused>,
-) -> Result<Loaded, FilterRefusal>
+) -> Result<Loaded, Halt<Refused>>
     requires { IfOk answer (λ v. v ≡ load_verdicts D.finds profile) }
+    ensures is { settled result ≡ Ok (loaded_or D.finds profile answer) }
     ensures same { IfOk result (λ l. l.profile ≡ profile) }
     ensures found { IfOk result (λ l. (l.drop, l.keep) ≡ load_verdicts D.finds l.profile) }
 {
@@ -48,23 +40,24 @@ fn loaded<D: Desk>(
             drop,
             keep,
         }),
-        Err(FramesRefused::DropFrames) => Err(FilterRefusal::DropFrames),
-        Err(FramesRefused::KeepFrames) => Err(FilterRefusal::KeepFrames),
+        Err(refused) => Err(Halt::Refused(Refused::OfProfile(refused))),
     }
 }
 
 /// What the patterns of the configuration find.
+#[tactic(auto, using(pp_desk::proofs::Going::going, crate::proofs::GivingLemmas::given), unfolding(crate::specs::Asked::verdicts))]
 pub fn verdicts<D: Desk>(
     alloc: Global,
     l: &Loaded,
     config: &Config,
     desk: &mut D,
-) -> Result<Verdicts, FilterRefusal>
-    ensures { IfOk result (AreVerdictsOf D.finds config.now None l.now) }
+) -> Result<Verdicts, Halt<Refused>>
+    ensures went { Went (D.world desk.old) (D.world desk.new) (verdicts D.finds l.now config.now)
+        (settled result) }
+    ensures found { IfOk result (AreVerdictsOf D.finds config.now None l.now) }
 {
-    match judge(alloc, desk, config, None, l) {
-        Ok(Ok(verdicts)) => Ok(verdicts),
-        Ok(Err(PatternRefused { option })) => Err(FilterRefusal::Pattern { option }),
-        Err(stop) => Err(refusal_of(stop)),
+    match judge(alloc, desk, config, None, l)? {
+        Ok(verdicts) => Ok(verdicts),
+        Err(refused) => Err(Halt::Refused(Refused::OfOption(refused))),
     }
 }

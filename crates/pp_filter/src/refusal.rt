@@ -4,6 +4,7 @@ ghost use Rattle.pp_filter.specs.declared.refusal.FilterRefusal.TheVariants as r
 
 use pp_base::Memory as WantOfMemory;
 use pp_model::Slot;
+use pp_pattern::{FramesRefused, PatternRefused};
 use thiserror::Error;
 
 /// The first pattern that the matcher refused, or want of memory.
@@ -29,4 +30,13 @@ impl From<WantOfMemory> for FilterRefusal {
     fn from(_: WantOfMemory) -> Self {
         FilterRefusal::Memory
     }
+}
+
+/// The first pattern that the matcher refused.
+#[derive(Clone, Copy, Debug, PartialEq, Eq)]
+pub enum Refused {
+    /// One of the profile's own two.
+    OfProfile(FramesRefused),
+    /// That of an option.
+    OfOption(PatternRefused),
 }

@@ -6,8 +6,8 @@ ghost use Rattle.pp_laws.specs.Flats.{FlatsAddUp, RowsAddUp, AllKeysAddUp};
 /// The flats of all keys add up to the selected values of the filtered samples of which some frame counts.
 ///
 /// `counted` says so of what `pp_count::count` gives, `rows` of the rows of a report without limit, where nodefraction
-/// is 0, and `all` of the rows of a table report without limit. Values may have either sign. A sample whose stack the filters leave empty has no row, so its
-/// value isn't among the flats.
+/// is 0, and `all` of the rows of a table report without limit. Values may have either sign. A sample whose stack the
+/// filters leave empty has no row, so its value isn't among the flats.
 pub fn nothing_is_lost()
     ensures counted { FlatsAddUp }
     ensures rows { RowsAddUp }

@@ -15,7 +15,7 @@ abbrev pub legacy_given : ℕ → Reading Profile → Loading Profile
 legacy_given source (Ok p) = Ok p
 legacy_given source (Err fault) = Err (refusals.Legacy source fault)
 
--- the profile of other bytes; what bytes are is never want of memory, so that the last case does not come
+-- the profile of other bytes; the last case does not come (`pp_tables::bytes_are_never_memory`)
 abbrev pub tables_given : ℕ → Result Profile ReadRefusal → Loading Profile
 tables_given source (Ok p) = Ok p
 tables_given source (Err reading.Empty) = Err (refusals.Empty source)

@@ -19,4 +19,5 @@ pub use laws::{
 };
 pub use loading::load;
 pub use message::refusal_line;
+pub use reading::limit_of_files;
 pub use refusal::LoadRefusal;

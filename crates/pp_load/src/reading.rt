@@ -25,6 +25,11 @@ use std::thread::Threads;
 /// The most bytes of one file, and of all sources and bases together: 256 MiB.
 pub const SIZE_LIMIT: u64 = 268_435_456;
 
+/// The limit in bytes.
+pub fn limit_of_files()
+    ensures { SIZE_LIMIT ≡ 268435456 }
+{}
+
 /// What was read so far.
 #[derive(Debug, Drop)]
 pub struct Read {

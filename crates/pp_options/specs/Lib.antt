@@ -15,3 +15,4 @@ pub mod Words
 pub mod Plans
 pub mod Drafts
 pub mod Help
+pub mod PlainNames

@@ -4,39 +4,41 @@ ghost use Rattle.pp_base.specs.FileAnswers.{AnswersRead};
 ghost use Rattle.pp_real.specs.Reading.{FitsLimit, ReadsToEnd};
 
 use pp_base::{FileRead, FileWrite, Files, Text};
+use std::fs::Files as FileSystem;
 use std::io::{self, ErrorKind, Read, Write};
 use std::{fs, str};
 
 /// How many bytes are read at a time: 64 KiB.
 const PIECE: usize = 65_536;
 
-/// The files of the machine, by paths as the system takes them: a relative one starts at the program's folder.
+/// The files of a file system, as that of the machine, by paths as it takes them: a relative one starts at the program's
+/// folder.
 ///
-/// What they hold is not told, nor which can't be written, nor which were read. A path that is no UTF-8 is missing to a read and locked to a
-/// write, and so is each that the system does not open: no file, no permission, a folder to a write. A fault is an error
-/// that comes once a file is open: a folder that is read, a disk that is full.
+/// What they hold is not told, nor which can't be written, nor which were read. A path that is no UTF-8 is missing to a
+/// read and locked to a write, and so is each that the system does not open: no file, no permission, a folder to a
+/// write. A fault is an error that comes once a file is open: a folder that is read, a disk that is full.
 #[derive(Drop)]
-pub struct RealFiles<'a> {
-    rt: &'a HostRuntime,
+pub struct RealFiles<'a, S: FileSystem> {
+    system: &'a S,
     faults: u64,
 }
 
-impl<'a> RealFiles<'a> {
-    /// The files that the runtime reaches. It takes no memory and opens none.
-    pub fn new(rt: &'a HostRuntime) -> Self
+impl<'a, S: FileSystem> RealFiles<'a, S> {
+    /// The files of the system. It takes no memory and opens none.
+    pub fn new(system: &'a S) -> Self
         ensures faults { result.faults ≡ 0 }
     {
-        RealFiles { rt, faults: 0 }
+        RealFiles { system, faults: 0 }
     }
 }
 
 // The answer to the read of a path.
-fn read_path(rt: &HostRuntime, path: &Text, into: &mut Text, limit: u64) -> FileRead
+fn read_path<S: FileSystem>(system: &S, path: &Text, into: &mut Text, limit: u64) -> FileRead
     ensures { AnswersRead None path.now limit into.new result }
 {
     into.clear();
     let answer = match str::from_utf8(path.as_slice()) {
-        Ok(name) => read_name(rt, name, into, limit),
+        Ok(name) => read_name(system, name, into, limit),
         Err(_) => FileRead::Missing,
     };
     if !matches!(answer, FileRead::Read) {
@@ -46,11 +48,11 @@ fn read_path(rt: &HostRuntime, path: &Text, into: &mut Text, limit: u64) -> File
 }
 
 // Adds the content of the file of the name.
-fn read_name(rt: &HostRuntime, name: &str, into: &mut Text, limit: u64) -> FileRead
+fn read_name<S: FileSystem>(system: &S, name: &str, into: &mut Text, limit: u64) -> FileRead
     requires { length into.old ≤ limit }
     ensures { FitsLimit limit into.new result }
 {
-    match fs::open(rt, name) {
+    match fs::open(system, name) {
         Ok(mut file) => read_to_end(&mut file, into, limit),
         Err(error) if is_memory(&error) => FileRead::Memory,
         Err(_) => FileRead::Missing,
@@ -87,7 +89,7 @@ fn is_memory(error: &io::Error) -> bool {
     error.kind() == ErrorKind::OutOfMemory
 }
 
-impl<'a> Files for RealFiles<'a> {
+impl<'a, S: FileSystem> Files for RealFiles<'a, S> {
     ghost content = { λ _. None };
 
     ghost locked = { λ _. None };
@@ -98,7 +100,7 @@ impl<'a> Files for RealFiles<'a> {
 
     /// Reads the whole file anew, `limit` in bytes. A file that grows meanwhile is read to its later end.
     fn read(&mut self, path: &Text, into: &mut Text, limit: u64) -> FileRead {
-        let answer = read_path(self.rt, path, into, limit);
+        let answer = read_path(self.system, path, into, limit);
         if let FileRead::Failed = answer {
             self.faults = self.faults.saturating_add(1);
         }
@@ -111,7 +113,7 @@ impl<'a> Files for RealFiles<'a> {
         let Ok(name) = str::from_utf8(path.as_slice()) else {
             return FileWrite::Locked;
         };
-        match fs::create(self.rt, name) {
+        match fs::create(self.system, name) {
             Ok(mut file) => match file.write_all(bytes) {
                 Ok(()) => FileWrite::Written,
                 Err(_) => {

@@ -7,6 +7,8 @@
 mod files;
 mod input;
 mod output;
+#[cfg(test)]
+mod tests;
 mod words;
 
 pub use files::RealFiles;

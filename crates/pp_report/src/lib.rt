@@ -32,3 +32,4 @@ pub use preparing::prepare;
 pub use refusal::ReportRefusal;
 pub use saved::saved_reports;
 pub use shows::Shows;
+pub use texts::limit_of_trees;

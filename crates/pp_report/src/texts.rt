@@ -37,6 +37,11 @@ use std::thread::Threads;
 /// The most nodes of a tree report, unless `nodecount` says otherwise. A top report has no limit of its own.
 pub const TREE_NODES: u32 = 80;
 
+/// The number of nodes, plainly.
+pub fn limit_of_trees()
+    ensures { TREE_NODES ≡ 80 }
+{}
+
 /// The top report, whose nodes have no limit of their own.
 pub fn top(alloc: Global, subject: &Subject<'_, '_>) -> Result<Text, Memory>
     ensures { let s = subject.now.survey in (f : Finders) →

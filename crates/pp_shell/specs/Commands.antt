@@ -1,5 +1,5 @@
 -- Commands: the words of a line that is no assignment.
-use Rattle.std.specs.Prelude.{ℕ, ℤ, pos, negsuc, Bool, true, false, ◌&&◌, List, [], ◌∷◌, drop, length, Option, Some, None, Result, Ok, Err, if◌then◌else◌}
+use Rattle.std.specs.Prelude.{ℕ, ℤ, pos, negsuc, Bool, true, false, ◌&&◌, List, [], ◌∷◌, drop, length, codes, Option, Some, None, Result, Ok, Err, if◌then◌else◌}
 use Rattle.std.specs.Char.{is_ascii_digit}
 use Rattle.pp_model.specs.declared.config.Sort.TheVariants.{Cum}
 use Rattle.pp_model.specs.declared.config.Config.{Config}
@@ -23,6 +23,17 @@ use Rattle.pp_shell.specs.declared.name.Plain.{Plain}
 use Rattle.pp_shell.specs.declared.name.Plain.TheVariants.{Quit, Options, Help}
 use Rattle.pp_shell.specs.declared.narrowing.Narrowing.{Narrowing}
 use Rattle.pp_shell.specs.Arguments.{arguments, together}
+
+-- the commands that take no words, by name
+abbrev pub plain_names : List (List ℕ × Plain)
+plain_names =
+    (codes "q", Quit)
+    ∷ (codes "quit", Quit)
+    ∷ (codes "exit", Quit)
+    ∷ (codes "o", Options)
+    ∷ (codes "options", Options)
+    ∷ (codes "help", Help)
+    ∷ []
 
 -- the command of the name, where it takes no words
 unfoldable pub plain_named : List ℕ → Option Plain

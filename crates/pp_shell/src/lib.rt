@@ -13,3 +13,4 @@ mod run;
 pub use command::Command;
 pub use fault::{LineFault, LineRefusal};
 pub use line::read_line;
+pub use name::names_of_commands;

@@ -2,7 +2,8 @@
 ghost use Rattle.std.specs.Prelude.{◌≡◌, ◌≤◌, length, map, IfOk};
 ghost use Rattle.std.specs.Char.{is_ascii_digit};
 ghost use Rattle.pp_options.specs.Ends.{without_end};
-ghost use Rattle.pp_shell.specs.Commands.{plain_named, without_digits, report_digits, with_digits};
+ghost use Rattle.pp_options.specs.PlainNames.{names_in};
+ghost use Rattle.pp_shell.specs.Commands.{plain_named, plain_names, without_digits, report_digits, with_digits};
 
 use pp_base::Memory;
 use pp_options::{Named, value_named};
@@ -25,6 +26,11 @@ pub static PLAINS: [Named<Plain>; 6] = [
     (b"options", Plain::Options),
     (b"help", Plain::Help),
 ];
+
+/// What each name of such a command stands for, in plain texts.
+pub fn names_of_commands()
+    ensures { names_in PLAINS ≡ plain_names }
+{}
 
 /// The command of the name, where it takes no words.
 #[tactic(auto, unfolding(crate::specs::Commands::plain_named))]

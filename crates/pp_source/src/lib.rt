@@ -20,4 +20,4 @@ mod walk;
 
 pub use listing::{write_list, write_list_of};
 pub use refusal::ListRefusal;
-pub use source::SOURCE_LIMIT;
+pub use source::{SOURCE_LIMIT, limit_of_sources};

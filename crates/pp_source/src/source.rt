@@ -1,9 +1,15 @@
 //! The source of a file text.
+ghost use Rattle.std.specs.Prelude.{◌≡◌};
 
 use pp_base::Text;
 
 /// The most bytes of a source file: 128 MB.
 pub const SOURCE_LIMIT: u64 = 134_217_728;
+
+/// The limit in bytes.
+pub fn limit_of_sources()
+    ensures { SOURCE_LIMIT ≡ 134217728 }
+{}
 
 /// What there is of a file's source.
 #[derive(Debug, Drop)]

@@ -1,9 +1,10 @@
 //! What holds of any profile and any bytes. These functions do nothing: their clauses are the laws.
-ghost use Rattle.std.specs.Prelude.{◌≡◌, ◌<◌, ◌^◌, ℕ, List, length, Ok};
+ghost use Rattle.std.specs.Prelude.{◌≡◌, ◌≢◌, ◌<◌, ◌^◌, ℕ, List, length, Ok, Err};
 ghost use Rattle.std.specs.List.{flat_map, AllByRecursion};
 ghost use Rattle.pp_wire.specs.Fields.{fields};
 ghost use Rattle.pp_model.specs.declared.profile.Profile.{Profile};
 ghost use Rattle.pp_model.specs.Rules.{NoRuleFails};
+ghost use Rattle.pp_tables.specs.declared.refusal.ReadRefusal.TheVariants as refusals;
 ghost use Rattle.pp_tables.specs.Fits.{ProfileFits};
 ghost use Rattle.pp_tables.specs.Encode.{encode};
 ghost use Rattle.pp_tables.specs.Read.{read};
@@ -20,6 +21,11 @@ pub fn written_is_read()
 /// The numbers of a profile that was read lie in their types, as `written_is_read` asks of a profile.
 pub fn read_fits()
     ensures { (bytes : List ℕ) (p : Profile) → read bytes ≡ Ok p → ProfileFits p }
+{}
+
+/// What bytes are is never want of memory, which is an answer of the reader alone.
+pub fn bytes_are_never_memory()
+    ensures { (bytes : List ℕ) → read bytes ≢ Err refusals.Memory }
 {}
 
 /// A value type that comes in several payloads is the message of these payloads joined, wherever that would lie. So the

@@ -24,7 +24,7 @@ mod spelled;
 mod writing;
 
 pub use lanes::read_profile_on;
-pub use laws::{payloads_are_joined, read_fits, written_is_read};
+pub use laws::{bytes_are_never_memory, payloads_are_joined, read_fits, written_is_read};
 pub use reading::read_profile;
 pub use refusal::ReadRefusal;
 pub use writing::write_profile;

@@ -39,7 +39,7 @@ pub struct Session<'t> {
 #[derive(Drop)]
 pub struct Folder<'a> {
     alloc: Global,
-    files: RealFiles<'a>,
+    files: RealFiles<'a, HostRuntime>,
     // What stands before a name.
     front: Text,
 }

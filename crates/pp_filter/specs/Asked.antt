@@ -1,0 +1,86 @@
+-- The patterns that are asked of a matcher before a profile is filtered, and what comes of their answers.
+use Rattle.std.specs.Prelude.{Bool, List, None, Option, Result, Ok, Err}
+use Rattle.pp_base.specs.Judges.{Answer}
+use Rattle.pp_desk.specs.declared.stop.Stop.TheVariants as stops
+use Rattle.pp_desk.specs.Asking.{Asking, ◌>>=◌}
+use Rattle.pp_desk.specs.Script as scripts
+use Rattle.pp_desk.specs.Script.{Give}
+use Rattle.pp_desk.specs.Went.{Goes, Halts}
+use Rattle.pp_desk.specs.World.{Told}
+use Rattle.pp_model.specs.declared.config.Config.{Config}
+use Rattle.pp_model.specs.declared.loaded.Loaded.{Loaded}
+use Rattle.pp_model.specs.declared.profile.Profile.{Profile}
+use Rattle.pp_model.specs.declared.verdicts.Verdicts.{Verdicts}
+use Rattle.pp_model.specs.Judged.{loaded_of}
+use Rattle.pp_pattern.specs.declared.load.FramesRefused.{FramesRefused}
+use Rattle.pp_pattern.specs.declared.load.FramesRefused.TheVariants.{DropFrames, KeepFrames}
+use Rattle.pp_pattern.specs.declared.report.PatternRefused.{PatternRefused}
+use Rattle.pp_pattern.specs.Load.{judge_load, drop_finder, keep_finder}
+use Rattle.pp_pattern.specs.Report.{Finds, judge}
+use Rattle.pp_pseudo.specs.Basis.{framed_for}
+use Rattle.pp_filter.specs.declared.refusal.FilterRefusal.{FilterRefusal}
+use Rattle.pp_filter.specs.declared.refusal.FilterRefusal.TheVariants as refusals
+use Rattle.pp_filter.specs.declared.refusal.Refused.{Refused}
+use Rattle.pp_filter.specs.declared.refusal.Refused.TheVariants.{OfProfile, OfOption}
+use Rattle.pp_filter.specs.Filtered.{saved_of}
+
+-- the profile with what its own patterns find, where none of them is refused
+abbrev pub loaded_or : Finds → Profile → Result (Option (List Bool) × Option (List Bool)) FramesRefused → Result Loaded Refused
+loaded_or finds p (Ok verdicts) = Ok (loaded_of p (drop_finder finds p) (keep_finder finds p))
+loaded_or finds p (Err refused) = Err (OfProfile refused)
+
+-- Asks for the profile's own patterns.
+unfoldable pub load : Finds → Profile → Asking Refused Loaded
+load finds p = scripts.◌>>=◌ (judge_load finds p) (λ answer. Give (loaded_or finds p answer))
+
+-- the verdicts of the configuration's patterns, where none of them is refused
+abbrev pub verdicts_or : Result Verdicts PatternRefused → Result Verdicts Refused
+verdicts_or (Ok verdicts) = Ok verdicts
+verdicts_or (Err refused) = Err (OfOption refused)
+
+-- Asks for the patterns of the configuration.
+unfoldable pub verdicts : Finds → Loaded → Config → Asking Refused Verdicts
+verdicts finds l config = scripts.◌>>=◌ (judge finds config None l.profile) (λ answer. Give (verdicts_or answer))
+
+-- Asks for the patterns of the configuration, and gives the profile that is saved of a loaded one.
+unfoldable pub filter_loaded : Finds → Loaded → Config → Asking Refused Profile
+filter_loaded finds l config = do
+  found ← verdicts finds l config
+  Give (Ok (saved_of finds l config))
+
+-- Asks for the profile's own patterns and then for those of the configuration. It gives the profile that is saved; the
+-- first pattern that is refused is named, and none is asked after it.
+unfoldable pub filter : Finds → Profile → Config → Asking Refused Profile
+filter finds p config = do
+  l ← load finds p
+  filter_loaded finds (framed_for l config) config
+
+-- the refusal that tells of a pattern
+abbrev pub refusal_of : Refused → FilterRefusal
+refusal_of (OfProfile DropFrames) = refusals.DropFrames
+refusal_of (OfProfile KeepFrames) = refusals.KeepFrames
+refusal_of (OfOption refused) = refusals.Pattern refused.option
+
+-- what is told where a matcher alone tells something
+abbrev pub told_by : Option (List Answer) → Told
+told_by answers = record {
+  out = None;
+  err = None;
+  files = None;
+  locked = None;
+  reads = None;
+  lines = None;
+  unread = None;
+  answers = answers;
+}
+
+-- The answers of the matcher have grown by those to the script's patterns, and the outcome is the script's; or memory
+-- was wanting on its way.
+abbrev pub Asks : {T : Type 0} → Option (List Answer) → Option (List Answer) → Asking Refused T → Result T FilterRefusal
+    → Type 0
+Asks old new script (Ok value) = Goes (told_by old) (told_by new) script (Ok value)
+Asks old new script (Err refusals.DropFrames) = Goes (told_by old) (told_by new) script (Err (OfProfile DropFrames))
+Asks old new script (Err refusals.KeepFrames) = Goes (told_by old) (told_by new) script (Err (OfProfile KeepFrames))
+Asks old new script (Err (refusals.Pattern option)) =
+    Goes (told_by old) (told_by new) script (Err (OfOption (record { option = option })))
+Asks old new script (Err refusals.Memory) = Halts (told_by old) (told_by new) script stops.Memory
