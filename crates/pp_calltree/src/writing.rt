@@ -24,9 +24,9 @@ use pp_model::{Config, Loaded};
 use pp_units::{HEADING, Head, put_dropped_nodes, write_head};
 use std::alloc::Global;
 
-/// Appends the text of the tree: the lines of the head, the heading, and a row for each node that is shown, with two
-/// spaces before its name for each key above its own. Nodes whose cum is less than `nodefraction` of the head's total
-/// are left out with all below them. `Err` is want of memory, and `out` is then as it was.
+/// Appends the text of the tree: the lines of the head, the heading, and a row for each node that is shown. A name has
+/// two spaces before it for each key above its own. Nodes whose cum is less than `nodefraction` of the head's total are
+/// left out with all below them. `Err` is want of memory, and `out` is then as it was.
 pub fn write_calltree(
     alloc: Global,
     l: &Loaded,

@@ -99,7 +99,7 @@ fn none_kept(alloc: Global, names: u64) -> Result<List<bool>, Memory>
     Ok(keep)
 }
 
-// Cuts the edges that are too light, of which so many are there and none is cut, and counts them.
+// Cuts the edges that are too light and counts them. `count` edges are there, and none is cut yet.
 fn cut_light(graph: &mut Graph, count: u64, total: u64, least: Fraction) -> u64
     requires count { count ≡ length graph.old.edges }
     requires whole { graph.old.edges ≡ map Some (live_edges graph.old) }

@@ -42,8 +42,8 @@ pub record ReportAlike (finds : Finds) (l r : Loaded) (report : Report) (config 
   pub comes_to : (showing : Showing) → IsColumnOf l.profile showing.column
       → finish finds r report d showing ≡ finish finds l report config showing
 
--- So it is with each report that reads nothing but figures, of a profile and of what was saved of it by the filters of
--- the configuration, which are empty in the second one.
+-- So it is with each report that reads nothing but figures, of a profile and of what was saved of it. The filters of
+-- the configuration by which it was saved are empty in the second one.
 abbrev pub SavedReports : Type 0
 SavedReports =
     (finds : Finds) (l r : Loaded) (report : Report) (config : Config)

@@ -32,8 +32,8 @@ use std::alloc::Global;
 use std::mem;
 use std::thread::Threads;
 
-/// The text of a report that was prepared, `NoMatch` where the pattern of a peek or list report finds nothing, or
-/// `NoBase` where a compare report has no base. Only a list report reads files.
+/// The text of a report that was prepared. It is `NoMatch` where the pattern of a peek or list report finds nothing,
+/// and `NoBase` where a compare report has no base. Only a list report reads files.
 pub fn finish<R: Threads + Sync, D: Desk, G: Gate>(
     with: &Host<'_, R, G>,
     l: &Loaded,

@@ -22,8 +22,8 @@ pub fn saved_texts()
 {}
 
 // What would break it: a sample of 0 that is kept, two equal samples, a location in no mapping's place.
-/// A saved profile keeps the table rules, stays as it is when it is merged alone, so it can be saved again, and has no
-/// patterns of its own. The absolute values of its columns add up to no more than the profile's.
+/// A saved profile keeps the table rules and has no patterns of its own. It stays as it is when it is merged alone, so
+/// it can be saved again. The absolute values of its columns add up to no more than the profile's.
 ///
 /// The premises are those of `saved_figures`; for the sums, that the profile keeps the table rules.
 pub fn saved_lasts()

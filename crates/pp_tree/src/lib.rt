@@ -1,4 +1,4 @@
-//! The tree report, which shows each node between its callers and its callees, and the peek report, which does so for
+//! The tree report and the peek report. Tree shows each node between its callers and its callees, and peek does so for
 //! the nodes that a pattern finds.
 #![tactic(auto)]
 

@@ -22,7 +22,7 @@ use std::alloc::Global;
 use std::thread::Threads;
 
 /// Appends the peek report: the lines of the head, the heading, and each node that the own pattern finds, in report
-/// order, between all its callers and all its callees, as in a tree report. Nothing is trimmed.
+/// order. A node stands between all its callers and all its callees, as in a tree report. Nothing is trimmed.
 ///
 /// A node is found where the pattern finds the function of a frame that counts and has the node's key. `NoMatch` comes
 /// where no node is. After an error `out` is as it was.
