@@ -18,4 +18,4 @@ mod writing;
 pub use building::{PathSums, ReportPaths};
 pub use listing::PathSum;
 pub use tree::{CallTree, PathNode, key_at};
-pub use writing::{write_calltree};
+pub use writing::write_calltree;

@@ -18,6 +18,6 @@ mod split;
 mod tallies;
 mod walk;
 
-pub use listing::{write_list};
+pub use listing::write_list;
 pub use refusal::ListRefusal;
 pub use source::SOURCE_LIMIT;

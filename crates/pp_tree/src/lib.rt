@@ -10,5 +10,5 @@ mod own;
 mod peek;
 mod tree;
 
-pub use peek::{write_peek};
+pub use peek::write_peek;
 pub use tree::write_tree;
