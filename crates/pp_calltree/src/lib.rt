@@ -26,4 +26,4 @@ mod writing;
 pub use building::{PathSums, ReportPaths};
 pub use listing::PathSum;
 pub use tree::{CallTree, PathNode, key_at};
-pub use writing::{write_calltree, write_calltree_of};
+pub use writing::write_calltree;

@@ -20,4 +20,4 @@ pub use graph::Graph;
 pub use limit::node_limit;
 pub use node::Node;
 pub use ranking::{Ranked, rank, rank_all};
-pub use trimming::{Trimmed, trim, trim_of};
+pub use trimming::{Trimmed, trim};

@@ -27,7 +27,7 @@ use pp_count::Survey;
 use pp_desk::{Desk, Stop};
 use pp_model::{Config, Loaded, Report};
 use pp_pseudo::basis;
-use pp_source::write_list_of;
+use pp_source::write_list;
 use std::alloc::Global;
 use std::mem;
 use std::thread::Threads;
@@ -188,7 +188,7 @@ fn list<D: Desk>(
         s.column (facts subject.now.head.now)) result }
 {
     let mut text = Text::new(alloc);
-    match write_list_of(alloc, &subject.survey, subject.head, desk, &mut text)? {
+    match write_list(alloc, &subject.survey, subject.head, desk, &mut text)? {
         Ok(()) => Ok(Ok(text)),
         Err(_) => Ok(Err(ReportRefusal::NoMatch)),
     }

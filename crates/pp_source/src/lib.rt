@@ -22,6 +22,6 @@ mod split;
 mod tallies;
 mod walk;
 
-pub use listing::{write_list, write_list_of};
+pub use listing::write_list;
 pub use refusal::ListRefusal;
 pub use source::SOURCE_LIMIT;

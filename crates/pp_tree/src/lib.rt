@@ -13,5 +13,5 @@ mod own;
 mod peek;
 mod tree;
 
-pub use peek::{write_peek, write_peek_of};
+pub use peek::write_peek;
 pub use tree::write_tree;
