@@ -62,12 +62,12 @@ SumsStay =
     → AreSumsOf p (report_samples p f config column) sums
     → AreSumsOf (aggregated keep p) (report_samples (aggregated keep p) f config column) sums
 
--- The same column is meant.
+-- a text means one and the same column before and after
 abbrev pub ColumnsStay : Type 0
 ColumnsStay = (keep : Kept) (p : Profile) (text : List ℕ) → column_of (aggregated keep p) text ≡ column_of p text
 
--- Patterns find the same of what is left where functions and files keep their names, whatever the patterns, and
--- where no pattern is asked of frames.
+-- Patterns find in what is left what they found before. So it is for all patterns where functions and files keep their
+-- names, and else where no pattern is asked of frames.
 pub record PatternsStay : Type 0 where
   pub named : (keep : Kept) (p : Profile) (f : Finders)
       → keep.functions ≡ true → keep.filenames ≡ true → FindsLeft keep p f

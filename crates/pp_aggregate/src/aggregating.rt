@@ -37,8 +37,8 @@ pub fn aggregate(p: Valid, keep: &Kept) -> Valid
     Valid::claim(p)
 }
 
-/// The same of a compact profile, which stays compact. It can be counted as it is, or merged, so that what is equal now
-/// becomes one.
+/// Drops from a compact profile what is not kept. The profile stays compact: it can be counted as it is, or merged, so
+/// that what is equal now becomes one.
 pub fn aggregate_compact(p: Compact, keep: &Kept) -> Compact
     ensures same { result ≡ aggregated keep.now p }
     ensures countable { IsCountable p → IsCountable result }

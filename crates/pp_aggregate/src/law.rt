@@ -2,7 +2,7 @@
 ghost use Rattle.pp_aggregate.specs.Laws.{KeysStay, FramesAreLeft, SamplesStay, SumsStay, ColumnsStay, PatternsStay};
 
 // What would break it: an `outermost` (`Aggregated`) that keeps another line of a location than the last, which is the
-// one that `noinlines` counts, or a key (pp_grain, `Keys`) that falls back to what its grain does not look at.
+// one that `noinlines` counts. Or a key (pp_grain, `Keys`) that falls back to what its grain does not look at.
 /// A report that looks at nothing that is dropped has the same samples by keys, and the same total. Its figures, edges
 /// and rows are made of these alone.
 ///

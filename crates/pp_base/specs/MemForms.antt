@@ -51,8 +51,8 @@ noted files path = record {
   reads = files.reads ++ path ∷ [];
 }
 
--- A read of files in memory fails exactly at the calls that fail, and changes nothing but the count of calls and
--- the paths that were read. A call that fails adds no path, and want of memory may come before the path is added.
+-- A read of files in memory fails exactly at the calls that fail. It changes the count of calls and the paths that were
+-- read, and no more. A call that fails adds no path, and want of memory may come before the path is added.
 abbrev pub MemReads : MemFilesHeld → MemFilesHeld → List ℕ → FileRead → Type 0
 MemReads old new path reads.Failed = (fails_next old.calls ≡ true)
     × (new ≡ record { calm = old.calm; calls = after_call old.calls })

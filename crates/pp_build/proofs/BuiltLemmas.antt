@@ -17,7 +17,7 @@ use Rattle.pp_model.specs.Rules.{NoRuleFails, AreNumbered, is_text, header_texts
 use Rattle.pp_share.proofs.NumberedLemmas.{all_pass, nowhere, nonzero, unrepeated, stands_at}
 use Rattle.pp_build.specs.Growing.{IsBuilt, IdIn, TypeIn, LabelIn, MappingIn, FunctionIn, LocationIn, SampleIn}
 
--- an id of one of so many entries is there
+-- an id of one of `entries` entries is there
 id_stands : (ids : List ℕ) (entries id : ℕ) → AreNumbered ids → length ids ≡ entries → IdIn entries id → stands_in ids id ≡ true
 id_stands ids entries id numbered long is =
     let e : id - 1 + 1 ≡ id = omega (arith, is.some) in

@@ -36,7 +36,7 @@ use Rattle.pp_build.proofs.ChangeLemmas.{mapping_built, function_built, location
 pub front_at : {X : Type 0} (xs ys : List X) (k : ℕ) (d : X) → IsFront xs ys → k < length xs → get_or ys k d ≡ get_or xs k d
 front_at xs ys k d front low = ap (λ zs. get_or zs k d) front.1 ∙ get_or_append_left xs front.0 d k low
 
--- the same by an id
+-- what stands at an id of the front is at that id of the whole
 front_read : {X : Type 0} (xs ys : List X) (id : ℕ) (d : X) → IsFront xs ys → id ≤ length xs → place_read ys id ≡ place_read xs id
 front_read xs ys id d front low = by (id == 0) refl
   where

@@ -78,12 +78,12 @@ given_sample locations values labels = record {
   label = map label_of labels;
 }
 
--- the value's text or unit is among the first of so many, and a text isn't empty
+-- the value's text or unit has an index below `texts`, and a text isn't empty
 abbrev pub ValueFits : ℕ → LabelValue → Type 0
 ValueFits texts (Text t) = (0 < t.index) × (t.index < texts)
 ValueFits texts (Number n unit) = unit.index < texts
 
--- The label's texts are among the first of so many, and a text label isn't empty.
+-- The label's texts have an index below `texts`, and a text label isn't empty.
 pub record LabelIsWithin (texts : ℕ) (l : SampleLabel) : Type 0 where
   pub key : l.key.index < texts
   pub value : ValueFits texts l.value

@@ -11,7 +11,7 @@ use Rattle.pp_model.specs.declared.profile.Sample.{Sample}
 use Rattle.pp_model.specs.declared.profile.Profile.{Profile}
 use Rattle.pp_model.specs.Rules.{is_text_of, begins_empty, header_texts, AreNumbered, mapping_ids, function_ids, location_ids}
 
--- the index of one of so many texts
+-- the index of a text, where there are `texts`
 abbrev pub TextIn : ℕ → ℤ → Type 0
 TextIn texts i = is_text_of texts i ≡ true
 
@@ -31,17 +31,17 @@ MappingIn texts m = TextIn texts m.file × TextIn texts m.build_id
 abbrev pub FunctionIn : ℕ → Function → Type 0
 FunctionIn texts f = TextIn texts f.name × (TextIn texts f.system_name × TextIn texts f.filename)
 
--- the location's mapping and functions are among so many
+-- the location's mapping and functions are there, of the numbers of these that there are
 abbrev pub LocationIn : ℕ → ℕ → Location → Type 0
 LocationIn mappings functions l =
     (l.mapping_id ≤ mappings) × AllByRecursion (λ line. line.function_id ≤ functions) l.line
 
--- the id of one of so many entries
+-- the id of an entry, where there are `entries`
 pub record IdIn (entries id : ℕ) : Type 0 where
   pub some : 1 ≤ id
   pub within : id ≤ entries
 
--- the sample's locations and labels are there, and it has so many values
+-- the sample's locations and labels are there, and it has a value for each type
 pub record SampleIn (texts locations types : ℕ) (s : Sample) : Type 0 where
   pub places : AllByRecursion (IdIn locations) s.location_id
   pub labels : AllByRecursion (LabelIn texts) s.label

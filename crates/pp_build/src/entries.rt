@@ -33,7 +33,7 @@ pub fn no_tables(alloc: Global) -> Profile
     }
 }
 
-/// The id of the next entry of a table that has so many.
+/// The id of the next entry of a table of `len` entries.
 pub fn next_id(len: usize) -> Result<u64, Memory>
     ensures { IfOk result (λ id. id ≡ len + 1) }
 {

@@ -77,8 +77,8 @@ paths_same scope samples i s keys old here at_i is so_far = record {
   stands = so_far.stands;
 }
 
--- The paths of the first samples are those of the numbers before this place, and the numbers from there on are those of
--- the samples that the filters leave of the others.
+-- The paths of the first samples are those of the numbers before the place `met`. The numbers from there on are those
+-- of the samples that the filters leave of the others.
 pub record GatheredTo (scope : Scope) (samples : List Sample) (kept : List ℕ) (met i : ℕ) (old : Paths) : Type 0 where
   pub paths_are : HasPaths scope (take i samples) old
   pub left_are : (f : Finders) → HoldsFilters scope.l.now scope.v.now (config_of scope) f

@@ -83,7 +83,7 @@ pub cut_all : (keys : List ℕ) (parts : List Part) (i : ℕ) (rest : List ℕ) 
 cut_all keys parts i rest paths past so_far =
     sym (append-nil (map path_of paths)) ∙ ap (λ ps. map path_of paths ++ parts_of rest ps) (sym (drop_all i parts past)) ∙ so_far.are
 
--- Of the keys, so many are left to be added in reverse.
+-- Of the keys, `left` are left to be added in reverse.
 pub turned_more : (keys out new : List ℕ) (left next d : ℕ) → next + 1 ≡ left → left ≤ length keys → new ≡ out ++ get_or keys next d ∷ []
     → new ++ reverse (take next keys) ≡ out ++ reverse (take left keys)
 turned_more keys out new left next d same fits more =

@@ -121,7 +121,7 @@ module _ (p : Profile) (names : List Key) (texts : Texts) (can : CanLay p names 
         λ j. record { depth = child.depth_is j; key = name b.key; flat = child.flat_is j; cum = child.cum_is j }
         ∷ rows_below key_cmp any_row (child.left_is j) (child.depth_is j + 1) (child.samples_are j)
 
-    -- The branches below so many keys give the rows below them.
+    -- The branches below `depth` keys give the rows below them.
     pub laid : (left : ℕ) → HasRoom names left S → most ≡ depth + left
         → (rows_below key_cmp any_row left depth (written_out p names S) ≡ flat_map (whole_branch p names most) list) × All (IsLayable names most) list
     laid zero room same =

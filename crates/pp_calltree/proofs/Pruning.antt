@@ -35,7 +35,7 @@ module _ {K : Type 0} (order : K → K → Ordering) (keep : TreeRow K → Bool)
   abbrev one : (TreeRow K → Bool) → ℕ → ℕ → List (Seen K) → K → List (TreeRow K)
   one test most depth S k = cond (test (tree_row order depth S k)) (tree_row order depth S k ∷ rows_below order test most (depth + 1) (under order k S)) []
 
-  -- the nodes below so many keys begin with one of that depth
+  -- the nodes below `depth` keys begin with one of that depth
   ends_with : (most depth : ℕ) (S : List (Seen K)) (ks : List K) (tail : List (TreeRow K)) → Ends depth tail → Ends depth (flat_map (one any_row most depth S) ks ++ tail)
   ends_with most depth S [] tail ends = ends
   ends_with most depth S (k ∷ ks) tail ends = omega arith

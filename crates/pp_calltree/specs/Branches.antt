@@ -25,7 +25,7 @@ abbrev pub branch_said : Branch → Said
 branch_said b =
     record { depth = b.depth; key = b.key; flat = b.flat; cum = b.cum; samples = branch_samples b }
 
--- what the branch of the key says, over samples below so many keys
+-- what the branch of the key says, over samples below `depth` keys
 abbrev pub branch_of : ℕ → List (Seen ℕ) → ℕ → Said
 branch_of depth samples k = record {
   depth = depth;
@@ -35,7 +35,7 @@ branch_of depth samples k = record {
   samples = under nat_cmp k samples;
 }
 
--- The list has the branches of these samples below so many keys, each once.
+-- The list has the branches of these samples below `depth` keys, each once.
 pub record AreBranches (depth : ℕ) (samples : List (Seen ℕ)) (list : List Branch) : Type 0 where
   pub said_are : All (λ b. branch_said b ≡ branch_of depth samples b.key) list
   pub present : (m : ℕ) → list_any (nat_eq m) (map (λ b. b.key) list)
@@ -52,11 +52,11 @@ pub record AreOrdered (depth : ℕ) (samples : List (Seen ℕ)) (list : List Bra
   pub rise : All (λ b. IsRising (branch_samples b)) list
   pub lighter : sum_by weight list ≤ all_lengths samples
 
--- the branches of what is left of these paths below so many keys
+-- the branches of what is left of these paths below `depth` keys
 abbrev pub HasBranches : ℕ → List Path → List Branch → Type 0
 HasBranches depth paths list = AreOrdered depth (below depth paths) list
 
--- The branch is that of the key, over the paths that have it below so many others.
+-- The branch is that of the key, over the paths that have it below `depth` others.
 pub record IsBranchOf (depth key : ℕ) (run : List Path) (b : Branch) : Type 0 where
   pub depth_is : b.depth ≡ depth
   pub key_is : b.key ≡ key
@@ -70,7 +70,7 @@ pub record GainsBranch (depth key : ℕ) (run : List Path) (old new : List Branc
   pub is : IsBranchOf depth key run branch
   pub added : new ≡ old ++ branch ∷ []
 
--- The branch of a run is added at the end, if its first path has a key below so many others.
+-- The branch of a run is added at the end, if its first path has a key below `depth` others.
 abbrev pub IsStep : ℕ → List Path → List Branch → List Branch → Type 0
 IsStep depth [] old new = new ≡ old
 IsStep depth (first ∷ run) old new =

@@ -12,8 +12,8 @@ use Rattle.pp_count.specs.Sums.{Seen, sum_where}
 use Rattle.pp_count.specs.Ranks.{is_heavy, by_size, each_once}
 use Rattle.pp_count.specs.Counted.{report_samples}
 
--- A node: how many keys stand above its own, its key, and the sums over the samples whose path ends at it and over
--- those whose path goes through it.
+-- A node: how many keys stand above its own, its key, and two sums. One is over the samples whose path ends at it, the
+-- other over those whose path goes through it.
 pub record TreeRow (K : Type 0) : Type 0 where
   pub depth : ℕ
   pub key : K
@@ -74,13 +74,13 @@ module _ {K : Type 0} (order : K → K → Ordering) where
   abbrev pub siblings : List (Seen K) → List K
   siblings samples = each_once (sibling_order samples) (first_keys samples)
 
-  -- the node of the key, below so many others
+  -- the node of the key, below `depth` others
   abbrev pub tree_row : ℕ → List (Seen K) → K → TreeRow K
   tree_row depth samples k =
       record { depth = depth; key = k; flat = path_flat samples k; cum = path_cum samples k }
 
-  -- The nodes of the paths that are left below so many keys, parents before children, with as many keys on each path as
-  -- the first number says at most. Where a node is not kept, neither are those below it.
+  -- The nodes of the paths that are left below `depth` keys, parents before children. A path has at most as many keys
+  -- as the first number says. Where a node is not kept, neither are those below it.
   abbrev pub rows_below : (TreeRow K → Bool) → ℕ → ℕ → List (Seen K) → List (TreeRow K)
   rows_below keep zero depth samples = []
   rows_below keep (suc most) depth samples =

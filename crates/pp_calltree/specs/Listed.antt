@@ -26,13 +26,13 @@ pub record GoesOnFrom (above : List ℕ) (b : Branch) : Type 0 where
   pub some : 0 < length b.paths.now
   pub begin : All (BeginsWith (above ++ b.key ∷ [])) b.paths.now
 
--- Where all paths begin with the same keys, so many, the branches go on from there.
+-- Where all paths begin with the same `depth` keys, the branches go on from there.
 abbrev pub GoOn : ℕ → List Path → List Branch → Type 0
 GoOn depth paths branches =
     (above : List ℕ) → length above ≡ depth → All (BeginsWith above) paths
     → All (GoesOnFrom above) branches
 
--- The branches of the paths below so many keys are added as siblings stand, the last of them first.
+-- The branches of the paths below `depth` keys are added as siblings stand, the last of them first.
 pub record AddsBranches (texts : Texts) (depth : ℕ) (paths : List Path) (old new : List Branch)
     : Type 0 where
   pub branches : List Branch

@@ -44,7 +44,7 @@ path_of path = record { value = path.value; keys = path.keys.now }
 abbrev pub path_cmp : Path → Path → Ordering
 path_cmp a b = slice_cmp nat_cmp a.keys.now b.keys.now
 
--- what is left of the path below so many keys
+-- what is left of the path below `depth` keys
 abbrev pub path_below : ℕ → Path → Seen ℕ
 path_below depth path = record { value = path.value; keys = drop depth path.keys.now }
 
@@ -52,11 +52,11 @@ path_below depth path = record { value = path.value; keys = drop depth path.keys
 abbrev pub below : ℕ → List Path → List (Seen ℕ)
 below depth paths = map (path_below depth) paths
 
--- the path has this key below so many others
+-- the path has this key below `depth` others
 abbrev pub has_key_below : ℕ → ℕ → Path → Bool
 has_key_below depth key path = option_map_or (λ other. other == key) (slice_get path.keys.now depth) false
 
--- its value, where it has no key below so many others
+-- its value, where it has no key below `depth` others
 abbrev pub own_path_value : ℕ → Path → ℤ
 own_path_value depth path = option_map_or (λ key. pos 0) (slice_get path.keys.now depth) path.value
 
@@ -65,7 +65,7 @@ abbrev pub run_length : {X : Type 0} → (X → Bool) → List X → ℕ
 run_length test [] = 0
 run_length test (x ∷ xs) = if test x then suc (run_length test xs) else 0
 
--- how many paths, from the first on, have the key that it has below so many others, and 1 where it has none
+-- how many paths, from the first on, have the key that it has below `depth` others, and 1 where it has none
 abbrev pub first_run : ℕ → List Path → ℕ
 first_run depth [] = 0
 first_run depth (first ∷ paths) =

@@ -32,7 +32,7 @@ abbrev pub flats_sum : List (TreeRow Written) → ℤ
 flats_sum [] = pos 0
 flats_sum (row ∷ rows) = row.flat +ℤ flats_sum rows
 
--- the text of these nodes, of which so many are left out
+-- the text of these nodes, of which `dropped` are left out
 abbrev pub path_nodes_text : Facts → ℕ → List (TreeRow Written) → List ℕ
 path_nodes_text h dropped rows =
     facts_text h

@@ -42,8 +42,8 @@ sibling_in depth place (node ∷ nodes) =
 abbrev pub next_sibling : List PathNode → ℕ → Option ℕ
 next_sibling nodes n = sibling_in (depth_at nodes n) (n + 1) (drop (n + 1) nodes)
 
--- the place of the last of these nodes that is less deep, and the other one where none is, where these stand from that
--- place on
+-- the place of the last of these nodes that is less deep, where the first of them stands at `place`; `other` where none
+-- is
 abbrev pub above_in : ℕ → ℕ → Option ℕ → List PathNode → Option ℕ
 above_in depth place other [] = other
 above_in depth place other (node ∷ nodes) =

@@ -34,8 +34,9 @@ LeadsOver next IsOf node [] = node ≡ None
 LeadsOver next IsOf node (k ∷ keys) =
     (n : ℕ) × ((node ≡ Some n) × (IsOf k n × LeadsOver next IsOf (next n) keys))
 
--- From this node on the walk goes over the siblings of the samples, below so many keys and below the node above, and
--- from the first child of each over those of the samples under its key. No path has more keys than the number says.
+-- The walk from this node on goes over the siblings of the samples, below `depth` keys and below the node above. From
+-- the first child of each it goes over the siblings of the samples under its key. No path has more keys than the first
+-- number says.
 abbrev pub WalksOver : Links → ℕ → ℕ → List (Seen Written) → Option ℕ → Option ℕ → Type 0
 WalksOver links zero depth samples above node = node ≡ None
 WalksOver links (suc most) depth samples above node =

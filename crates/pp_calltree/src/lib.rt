@@ -1,4 +1,12 @@
 //! The call tree of a report: what its samples come to by the path of their keys from the root, and its text.
+//!
+//! A call tree is laid out from paths: `paths` gathers the keys of each sample root first, `path` sorts them, and
+//! samples below one path then stand together. `branching` cuts such a run by its next key, and `laying` writes the
+//! nodes of all branches into one list, parents before children.
+//!
+//! Begin with `writing` (`write_calltree_of`), which makes the text from that list; `shown` leaves out what is light.
+//! `listing` has the paths with sums that the folded report prints, without nodes. `building` and `tree` are for
+//! callers that walk the tree by links.
 #![tactic(auto)]
 
 mod branch;
@@ -18,4 +26,4 @@ mod writing;
 pub use building::{PathSums, ReportPaths};
 pub use listing::PathSum;
 pub use tree::{CallTree, PathNode, key_at};
-pub use writing::{write_calltree, write_calltree_of};
+pub use writing::write_calltree;

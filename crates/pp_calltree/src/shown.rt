@@ -9,8 +9,8 @@ use pp_base::{Fraction, List, Memory};
 use pp_count::is_heavy;
 use std::alloc::Global;
 
-/// The nodes of the tree whose cum is at least this fraction of the total, but for those below one whose cum isn't, in
-/// their order.
+/// The nodes of the tree whose cum is at least this fraction of the total, in their order. A node below one that is
+/// left out is left out too.
 pub fn shown_nodes<'a>(
     alloc: Global,
     t: &PathNodes<'a>,

@@ -1,5 +1,5 @@
 //! The text of a call tree.
-ghost use Rattle.std.specs.Prelude.{◌≡◌, ◌++◌, ◌<◌, ◌^◌, ℕ, pos, codes, length, map, All, Option, IfOk, OnOk, OnErr};
+ghost use Rattle.std.specs.Prelude.{◌≡◌, ◌++◌, ◌<◌, ◌^◌, ℕ, pos, codes, map, All, Option, IfOk, OnOk, OnErr};
 ghost use Rattle.std.specs.List.{repeat};
 ghost use Rattle.pp_model.specs.declared.profile.Profile.{Profile as Tables};
 ghost use Rattle.pp_model.specs.declared.verdicts.Verdicts.{Verdicts};
@@ -16,7 +16,7 @@ ghost use Rattle.pp_calltree.specs.Tree.{IsTreeOf};
 
 use crate::branching::plus;
 use crate::shown::shown_nodes;
-use crate::tree::{CallTree, PathNode, PathNodes};
+use crate::tree::{PathNode, PathNodes};
 use pp_base::{Memory, Text};
 use pp_count::Survey;
 use pp_grain::write_name;
@@ -24,30 +24,10 @@ use pp_model::{Config, Loaded};
 use pp_units::{HEADING, Head, put_dropped_nodes, write_head};
 use std::alloc::Global;
 
-/// Appends the text of the tree: the lines of the head, the heading, and a row for each node that is shown, with two
-/// spaces before its name for each key above its own. Nodes whose cum is less than `nodefraction` of the head's total
-/// are left out with all below them. `Err` is want of memory, and `out` is then as it was.
+/// Appends the text of the tree: the lines of the head, the heading, and a row for each node that is shown. A name has
+/// two spaces before it for each key above its own. Nodes whose cum is less than `nodefraction` of the head's total are
+/// left out with all below them. `Err` is want of memory, and `out` is then as it was.
 pub fn write_calltree(
-    alloc: Global,
-    l: &Loaded,
-    t: &CallTree,
-    config: &Config,
-    head: &Head,
-    out: &mut Text,
-) -> Result<(), Memory>
-    requires keys { All (λ n. IsKeyOf l.now.profile n.key) t.now }
-    requires fits { flat_sizes t.now < 2 ^ 63 }
-    ensures ok { (v : Verdicts) (column : Option ℕ) (f : Finders) →
-        IsTreeOf l.now v config.now column t.now → HoldsFilters l.now v config.now f →
-        OnOk result (out.new
-        ≡ out.old ++ calltree_text l.now.profile f config.now column (facts head.now)) }
-    ensures err { OnErr result (out.new ≡ out.old) }
-{
-    write_path_nodes(alloc, l, &t.tree, config, head, out)
-}
-
-/// Appends the text of the report's call tree, as `write_calltree` does. No links are made.
-pub fn write_calltree_of(
     alloc: Global,
     survey: &Survey<'_>,
     head: &Head,

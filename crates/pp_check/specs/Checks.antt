@@ -5,7 +5,7 @@ use Rattle.pp_check.specs.declared.fault.CheckRefusal.{CheckRefusal}
 use Rattle.pp_check.specs.declared.fault.CheckRefusal.TheVariants.{Fault, Memory}
 use Rattle.pp_check.specs.FirstFault.{first_fault}
 
--- The same profile where no rule fails, or its first fault, or want of memory.
+-- The answer is the profile where no rule fails, or its first fault, or want of memory.
 abbrev pub Checks : Profile → Result Profile CheckRefusal → Type 0
 Checks p (Ok valid) = (first_fault p ≡ None) × (valid ≡ p)
 Checks p (Err (Fault fault)) = first_fault p ≡ Some fault

@@ -1,10 +1,10 @@
 //! The table rules of a profile: which of them fails first, and at which index.
 //!
-//! Rule 1: text 0 is there and empty. Rule 2: all text indices are in range, asked of the header, the comments, the
-//! sample types, the samples' labels, the mappings and the functions, in this order. Rule 3: a profile with samples has
-//! a sample type. Rules 4 and 5: mapping ids are not 0, and distinct; rules 6 and 7, 8 and 9 say the same of functions
-//! and of locations. Rule 10: each location's mapping and its lines' functions are 0 or there. Rule 11: each sample's
-//! locations are there. Rule 12: each sample has one value per sample type.
+//! Rule 1: text 0 is there and empty. Rule 2: all text indices are in range. It is asked of the header, the comments,
+//! the sample types, the samples' labels, the mappings and the functions, in this order. Rule 3: a profile with samples
+//! has a sample type. Rules 4 and 5: mapping ids are not 0, and distinct; rules 6 and 7, 8 and 9 say the same of
+//! functions and of locations. Rule 10: each location's mapping and its lines' functions are 0 or there. Rule 11: each
+//! sample's locations are there. Rule 12: each sample has one value per sample type.
 //!
 //! `checking` has the rules in the order in which they decide, over `texts`, `ids` and `references`. Samples are many, so
 //! one walk asks each of them for all its rules (`asking`); `lanes` does so in pieces on several lanes, and hashes the

@@ -58,7 +58,7 @@ module _ (p : Profile) (f : Finders) (config : Config) (column : Option ℕ) whe
       keyed_option s (filtered_stack p f config s) (framed_samples p f config column samples)
       ∙ ap (cons_option (option_map (seen_with p config column s) (filtered_stack p f config s))) (keyed_frames samples)
 
-  -- The same of those that put keys into the report.
+  -- The samples that put frames into the report put keys into it, each frame its key.
   pub keyed_report : map (renamed (key_of_written config)) (report_frames p f config column) ≡ report_samples p f config column
   keyed_report =
       sym (weighed-renamed (key_of_written config) (framed_samples p f config column p.sample)) ∙ ap weighed (keyed_frames p.sample)

@@ -255,7 +255,7 @@ module _ {K : Type 0} (order : K → K → Ordering) (f : ℕ → K) (n : ℕ) (
 succ_mul : (k n : ℕ) → (k + 1) * n ≡ k * n + n
 succ_mul k n = omega arith
 
--- the numbers of pairs over so many names are below their square
+-- the numbers of pairs over n names are below their square
 pair_below : (n k u : ℕ) → k < n → u < n → k * n + u < n * n
 pair_below n k u in_k in_u =
     let wide : (k + 1) * n ≤ n * n = mul-le-mul_right n (omega (arith, in_k)) in

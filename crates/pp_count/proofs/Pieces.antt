@@ -132,7 +132,7 @@ part_room scope number m a b at kept part fits before is k =
           ));
     }
 
--- the samples of so many pieces
+-- the samples of the first `pieces` pieces
 abbrev pub front_of : List Sample → ℕ → List Sample
 front_of samples pieces = take (PIECE * pieces) samples
 

@@ -13,7 +13,7 @@ use Rattle.pp_model.specs.Values.{no_sample}
 use Rattle.pp_count.specs.Counts.{samples_at}
 use Rattle.pp_count.specs.Rising.{AreRisingBetween}
 
--- the same, number by number
+-- the numbers rise from `low` on and stay below `high`
 abbrev Rises : ℕ → ℕ → List ℕ → Type 0
 Rises low high [] = ⊤
 Rises low high (n ∷ ns) = (low ≤ n) × ((n < high) × Rises (n + 1) high ns)

@@ -88,7 +88,7 @@ numbered_more p config table stack i keys f n here is counted below named so_far
       ∙ so_far.named;
 }
 
--- the same of a frame that was read from the stack
+-- the numbers of the frames that were read from the stack
 pub numbered_read : (p : Profile) (config : Config) (table : KeyTable) (stack read : List Frame) (i : ℕ) (keys : List ℕ) (d : Frame) (n : ℕ)
     → read ≡ stack → i < length read → frame_counts stack i config.noinlines ≡ true
     → n < length table.names → written_key p table.names n ≡ key_of_frame p config (get_or read i d)

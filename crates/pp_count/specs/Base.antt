@@ -40,8 +40,8 @@ selected_all column divide_by [] = pos 0
 selected_all column divide_by (s ∷ samples) =
     selected column divide_by s +ℤ selected_all column divide_by samples
 
--- The sums are those of the base's samples for each name of the report's sums, which is 0 where none of them has the
--- key, and the sum of the selected values of those that the filters leave.
+-- For each name of the report's sums, the base's sum is that of the base's samples, 0 where none of them has the key.
+-- The other sum is that of the selected values of the base's samples that the filters leave.
 pub record AreBaseSums (p : Profile) (f : Finders) (config : Config) (column : Option ℕ) (sums : Sums)
     (base : BaseSums) : Type 0 where
   pub flat

@@ -9,7 +9,7 @@ use Rattle.pp_model.specs.declared.profile.Profile.{Profile}
 use Rattle.pp_model.specs.Lookup.{text_of}
 use Rattle.pp_model.specs.Sizes.{value_in}
 
--- the place of the last of so many
+-- the place of the last of `count` items
 abbrev pub last_of : ℕ → Option ℕ
 last_of count = if count == 0 then None else Some (count - 1)
 

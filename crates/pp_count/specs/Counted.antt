@@ -39,7 +39,7 @@ pub record CanCount (p : Profile) (v : Verdicts) (config : Config) (of_column : 
 abbrev pub report_samples : Profile → Finders → Config → Option ℕ → List (Seen Written)
 report_samples p f config column = weighed (seen_samples p f config column p.sample)
 
--- The same samples with their frames that count, written out, in the place of keys.
+-- The samples that count, with the frames that count, written out, in the place of keys.
 abbrev pub report_frames : Profile → Finders → Config → Option ℕ → List (Seen Written)
 report_frames p f config column = weighed (framed_samples p f config column p.sample)
 

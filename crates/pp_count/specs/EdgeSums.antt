@@ -33,7 +33,7 @@ module _ {K : Type 0} (order : K → K → Ordering) where
   has_pair caller callee [] = false
   has_pair caller callee (k ∷ keys) = stands_over caller callee k keys
 
-  -- the same of different keys, after those that are not kept are left out
+  -- the list has the edge of two different keys, after those that are not kept are left out
   abbrev pub has_edge : (K → Bool) → K → K → List K → Bool
   has_edge kept caller callee keys =
       not (eq_by_cmp order caller callee) && has_pair caller callee (filter kept keys)

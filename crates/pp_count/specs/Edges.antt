@@ -11,7 +11,7 @@ use Rattle.pp_count.specs.declared.pairs.Pairing.{Pairing}
 abbrev pub is_kept_key : List Bool → ℕ → Bool
 is_kept_key keep k = slice_index_or keep k false
 
--- the number of the pair of a caller and a callee, where there are so many places
+-- the number of the pair of a caller and a callee, where there are `names` places
 abbrev pub pair_number : ℕ → ℕ → ℕ → ℕ
 pair_number names caller callee = caller * names + callee
 

@@ -39,8 +39,9 @@ pub record AreWithin (size : ℕ) (sums : List KeySum) : Type 0 where
   pub flat : flat_size sums ≤ size
   pub cum : cum_size sums ≤ size
 
--- The part is what these samples come to, of which the first has this number, whatever the patterns find: the numbers
--- of those that the filters leave, in order, the sums of the names that occur in them, and the matches of all of them.
+-- The part is what these samples come to, whatever the patterns find, where the first of them has the number `number`.
+-- It has the numbers of those that the filters leave, in order, the sums of the names that occur in them, and the
+-- matches of all of them.
 pub record IsRangePart (l : Loaded) (v : Verdicts) (config : Config) (column : Option ℕ)
     (names : List Key) (number : ℕ) (samples : List Sample) (part : Part) : Type 0 where
   pub kept : (f : Finders) → HoldsFilters l v config f

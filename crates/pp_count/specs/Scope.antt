@@ -99,7 +99,7 @@ pub record IsPartOf (scope : Scope) (number : ℕ) (samples : List Sample) (part
   pub matched : HasMatches scope samples part.matched.slots
   pub totals : HasTotals scope samples part.totals
 
--- The samples so far are added to the tallies, none of them at a turn after this one, and the numbers of those that the
+-- The samples so far are added to the tallies, none of them at a turn after this one. The numbers of those that the
 -- filters leave are listed. No public clause cites it.
 pub record CountedTo (scope : Scope) (number turn : ℕ) (samples : List Sample) (at : ℕ → Tally)
     (numbers : List ℕ) : Type 0 where

@@ -75,7 +75,7 @@ with_flat value keys k t =
 abbrev pub with_sample : ℤ → ℕ → List ℕ → ℕ → Tally → Tally
 with_sample value turn keys k t = with_flat value keys k (with_cum value turn keys k t)
 
--- the same of any sample: one of value 0 leaves the tally
+-- the tally with any sample: one of value 0 leaves it as it is
 abbrev pub with_seen : ℤ → ℕ → List ℕ → ℕ → Tally → Tally
 with_seen value turn keys k t =
     if int_eq value (pos 0) then t else with_sample value turn keys k t

@@ -1,4 +1,12 @@
 //! What a report counts: its column and total, its key numbers, and sums over the samples, in pieces on the lanes.
+//!
+//! Begin with `survey`, which is what a report looks at, and `counted` (`count`). A count has three parts: `table`
+//! numbers the keys of each location's lines, `filters` makes the filters ready, and `waves` runs pieces of samples on
+//! the lanes.
+//!
+//! Of a piece, `counting` is the job and `part` the loop over its samples; `seeing` gives a sample's keys, `value` its
+//! value, and `tallies` adds them up. `sofar` joins parts in order. `recounting` and `pairs` count edges by the same
+//! tables, and `base` the samples of a base.
 #![tactic(auto)]
 
 mod base;

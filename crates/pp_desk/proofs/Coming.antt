@@ -55,7 +55,7 @@ same_lines f g None e = refl
 same_lines f g (Some l) e = ap Some (e l)
 
 module _ (r mid : ReaderHeld) (same : (left : List ℕ) → to_come mid left ≡ to_come r left) (old new : Option (List ℕ)) (reading : mid.ended ≡ false) where
-  -- the same lines are to come after a read that gave some bytes
+  -- a read that gave some bytes leaves the lines that are to come
   pub more_held : (more : List ℕ) (room : ℕ) → mid.room ≡ length more + room → old ≡ before more new → option_map (to_come (record mid { held = mid.held ++ more; room = room })) new ≡ option_map (to_come r) old
   more_held more room n o = takes_more mid more room old new reading n o ∙ same_lines (to_come mid) (to_come r) old same
 

@@ -43,7 +43,7 @@ front_part (x ∷ xs) bytes part parts none e =
 pub too_long : (line : List ℕ) → LINE_LIMIT < length line → line_of line ≡ TooLong
 too_long line long = grind (arith, nat_tests)
 
--- the same where nothing ends it
+-- the lines of what nothing ends, where it is too long
 ending_long : (line : List ℕ) → LINE_LIMIT < length line → ending_of line true ≡ TooLong ∷ End ∷ []
 ending_long [] long = absurd (omega arith)
 ending_long (x ∷ xs) long = ap (λ l. l ∷ End ∷ []) (too_long (x ∷ xs) long)

@@ -11,9 +11,8 @@ use Rattle.pp_desk.specs.declared.window.TheConstants.{WINDOW_LIMIT}
 use Rattle.pp_base.specs.Marks.{is_line_end}
 use Rattle.pp_desk.specs.Reader.{ReaderHeld, pending}
 
--- What is true of each reader: only a line that is too long is passed over, no more bytes are held
--- than a window has, no more than the input's limit is taken, and the end of the source was met
--- before it.
+-- What is true of each reader. Only a line that is too long is passed over, and no more bytes are held than a window
+-- has. No more than the input's limit is taken, and the end of the source was met before it.
 pub record IsSound (passed held room : ℕ) (ended : Type 0) : Type 0 where
   pub too_long : 0 < passed → LINE_LIMIT < passed
   pub few : held ≤ WINDOW_LIMIT
@@ -58,8 +57,7 @@ GivesFront old new len whole reads.TooLong = (LINE_LIMIT < len)
 GivesFront old new len whole reads.Memory = new ≡ old
 GivesFront old new len whole answer = ⊥
 
--- What one read adds, where no byte that is held ends a line: to as many bytes as were held, none
--- of which ends a line, so many are added.
+-- What one read adds, where no byte that is held ends a line: `count` bytes behind those that were held.
 abbrev pub Adds : ReaderHeld → ReaderHeld → SourceRead → Type 0
 Adds old new (source.Got count) = (0 < count) × (new.room + count ≡ old.room)
     × (new.ended ≡ false)

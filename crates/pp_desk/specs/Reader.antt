@@ -10,9 +10,8 @@ use Rattle.pp_desk.specs.declared.window.TheConstants.{WINDOW_LIMIT}
 use Rattle.pp_desk.specs.Lines.{lines_in, lines_of, next_of, after_next}
 use Rattle.pp_base.specs.Marks.{is_line_end}
 
--- What a reader holds: how many bytes of the present line it passed over, since the line is too
--- long, the bytes behind them that it took of the source, how many it may still take, and whether
--- the source has ended.
+-- What a reader holds: how many bytes of the present line it passed over, since the line is too long, and the bytes
+-- behind them that it took of the source. Also how many bytes it may still take, and whether the source has ended.
 pub record ReaderHeld : Type 0 where
   pub passed : ℕ
   pub held : List ℕ
@@ -79,9 +78,8 @@ abbrev pub held_by : Option ReaderHeld → ℕ
 held_by None = 0
 held_by (Some r) = length r.held
 
--- What is left of an input behind the lines that were read of it: the lines that are to come are
--- those of the bytes that were taken already, at most 131,072 and those of a line that is too long,
--- and then of this.
+-- What is left of an input behind the lines that were read of it. The lines to come are those of the bytes that the
+-- reader holds, and then of what is left. It holds at most 131,072 bytes, and those of a line that is too long.
 pub record IsLeftBehind (lines : Option (List InputLine)) (left : Option (List ℕ)) : Type 0 where
   pub reader : Option ReaderHeld
   pub few : held_by reader ≤ WINDOW_LIMIT

@@ -3,8 +3,8 @@ use Rattle.std.specs.Prelude.{ℕ, Bool, List, [], ◌∷◌, Option, Some, None
 use Rattle.pp_desk.specs.declared.file_content.FileContent.{FileContent}
 use Rattle.pp_desk.specs.declared.input_line.InputLine.{InputLine}
 
--- One step at the outside: bytes to standard output, bytes to standard error, the read of a path up
--- to a limit, the write of a path, a pattern for the matcher, the next line of standard input.
+-- One step at the outside: bytes to standard output, bytes to standard error, the read of a path up to a limit, the
+-- write of a path. Or a pattern for the matcher, or the next line of standard input.
 pub data Step : Type 0 where
   WriteOut : List ℕ → Step
   WriteErr : List ℕ → Step
@@ -71,8 +71,8 @@ each script (x ∷ xs) = do
   _ ← script x
   each script xs
 
--- One turn after another from a state, while the turns say so, and at most so many: what is given
--- where a turn ends the loop, and where no turn is left.
+-- One turn after another from a state, while the turns say so, and at most as many as the number says. The second and
+-- third arguments are given where a turn ends the loop and where no turn is left.
 unfoldable pub repeated : {S T : Type 0} → (S → Script (S × Bool)) → T → T → ℕ → S → Script T
 repeated turn ended spent zero state = Give spent
 repeated turn ended spent (suc turns) state = do

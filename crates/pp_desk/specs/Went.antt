@@ -72,7 +72,7 @@ abbrev pub PutsOut : Told → Told → List ℕ → Type 0
 PutsOut old new bytes = (sent : ℕ) × (sent < length bytes)
     × (new ≡ record old { out = extended old.out (take sent bytes) })
 
--- the same on standard error
+-- a part of the bytes goes to standard error, and not all
 abbrev pub PutsErr : Told → Told → List ℕ → Type 0
 PutsErr old new bytes = (sent : ℕ) × (sent < length bytes)
     × (new ≡ record old { err = extended old.err (take sent bytes) })
@@ -116,8 +116,8 @@ HasFailed old new stops.Out = Rose old.out new.out
 HasFailed old new stops.Err = Rose old.err new.err
 HasFailed old new stops.Memory = ⊤
 
--- What is known of the input: bytes were taken of its front, and those that stand in no line that
--- was read are held for the lines that are to come, if all were so before.
+-- What is known of the input: bytes were taken of its front. Those that stand in no line that was read are held for the
+-- lines that are to come, if all were so before.
 unfoldable pub IsTakenOn : World → World → Type 0
 IsTakenOn old new = HasTaken old.intake new.intake
     × (IsLeftBehind old.told.lines old.intake.left → IsLeftBehind new.told.lines new.intake.left)

@@ -4,7 +4,7 @@ use Rattle.pp_base.specs.Told.{before}
 use Rattle.pp_base.specs.declared.source.SourceRead.{SourceRead}
 use Rattle.pp_base.specs.declared.source.SourceRead.TheVariants.{Got, End, Failed}
 
--- These bytes were taken of the source, at least one and at most so many.
+-- These bytes were taken of the source, at least one and at most `most`.
 pub record TakesMore (old new : Option (List ℕ)) (more : List ℕ) (most : ℕ) : Type 0 where
   pub some : 0 < length more
   pub few : length more ≤ most

@@ -7,10 +7,9 @@ use Rattle.pp_base.specs.Judges.{Answer}
 use Rattle.pp_base.specs.Told.{before}
 use Rattle.pp_desk.specs.declared.input_line.InputLine.{InputLine}
 
--- What the objects tell, each of them only where it can be known: the bytes of both outputs, the
--- files, the paths that can't be written, the paths that were read, the lines that are still to
--- come from the input, the bytes of the input as long as no line was asked for, and the answers of
--- the matcher.
+-- What the objects tell, each of them only where it can be known. Outputs tell their bytes, and files what they hold,
+-- the paths that can't be written and the paths that were read. The input tells its lines that are still to come, and
+-- its bytes as long as no line was asked for. The matcher tells its answers.
 pub record Told : Type 0 where
   pub out : Option (List ℕ)
   pub err : Option (List ℕ)

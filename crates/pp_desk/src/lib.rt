@@ -1,5 +1,5 @@
-//! The outside in one hand, and what stages do with it: scripts of steps, how a stage went by its script, the desk that
-//! holds files, input, both outputs and a matcher, and the lines of an input.
+//! The outside in one hand, and what stages do with it. The desk holds files, input, both outputs and a matcher. A
+//! script is a sequence of steps, and says how a stage went. Lines of an input are read here too.
 //!
 //! A stage is a function over a desk. Its main clause says that it went as its script, `Went old new script result`. A
 //! script is a definition, mostly of the stage's name and with its cases: it gives a value, or makes a step at the

@@ -1,5 +1,5 @@
--- What a report sees of samples follows from their stacks, so the sums of a saved profile are those of the samples
--- that the filters left.
+-- What a report sees of samples follows from their stacks. So the sums of a saved profile are those of the samples that
+-- the filters left.
 use Rattle.std.proofs.Common.{◌≡◌, ℕ, suc, ◌/◌, ℤ, pos, negsuc, neg_ℤ, ◌+ℤ◌, Bool, List, [], ◌∷◌, map, get_or, refl, sym, ap, ◌∙◌, arith}
 use Rattle.std.specs.Prelude.{Option, Some, None, option_map, int_div}
 use Rattle.std.specs.List.{filter_map, cons_option}

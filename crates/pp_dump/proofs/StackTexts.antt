@@ -38,7 +38,7 @@ use Rattle.pp_dump.proofs.StackGroups.{IsGroup, Coheres, are_groups, left_cohere
 abbrev pub stack_text : SampleText → StackText
 stack_text s = record { places = map place_of s.locations; labels = s.labels }
 
--- the same beside its values
+-- the stack of a sample beside its values
 abbrev pub with_stack : SampleText × List ℤ → StackText × List ℤ
 with_stack s = (stack_text s.0, s.1)
 

@@ -47,7 +47,7 @@ is_unknown _ _ = false
 unfoldable pub known_type_line : List ℕ → List ℕ → List ℕ
 known_type_line kind unit = codes "PeriodType: " ++ kind ++ codes " " ++ unit ++ codes "\n"
 
--- the same where its kind or its unit isn't empty
+-- the line of the period's type, where its kind or its unit isn't empty
 unfoldable pub period_type_line : List ℕ → List ℕ → List ℕ
 period_type_line kind unit = if is_unknown kind unit then [] else known_type_line kind unit
 

@@ -83,8 +83,8 @@ left_stacks p f config =
 abbrev pub without_values : List (StackText × List ℤ) → List StackText
 without_values samples = map (λ s. s.0) samples
 
--- The samples of the saved profile are those that the filters leave, where equal ones became one and those of 0 went:
--- each is one of them, no two are equal, each has a value that isn't 0, and the sum of each column is what it was over
+-- The samples of the saved profile are those that the filters leave, where equal ones became one and those of 0 went.
+-- Each is one of them, no two are equal, and each has a value that isn't 0. The sum of each column is what it was over
 -- the samples that pass a test, whatever the test asks of stack and labels.
 pub record KeepsStacks (p : Profile) (f : Finders) (config : Config) (q : Profile) : Type 0 where
   pub each

@@ -21,8 +21,8 @@ pub record SeesAlike (config d : Config) : Type 0 where
   pub tagfocus : d.tagfocus ≡ []
   pub tagignore : d.tagignore ≡ []
 
--- Without filters, the sum of a column of q over the samples whose keys pass a test is what it is of p with them,
--- whatever the test asks of the keys of a sample: so are the sums of each key, of each leaf and of each pair.
+-- Without filters, the sum of a column of q over the samples whose keys pass a test is what it is of p with them. The
+-- test may ask anything of the keys of a sample, so this gives the sums of each key, of each leaf and of each pair.
 abbrev pub KeepsSums : Profile → Finders → Config → Profile → Type 0
 KeepsSums p f config q =
     (d : Config) → SeesAlike config d → (test : List Written → Bool) → (column : ℕ)

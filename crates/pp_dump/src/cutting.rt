@@ -28,7 +28,7 @@ pub struct Cut {
     pub labels: List<Label>,
 }
 
-/// No samples, with room for so many, and the locations of the profile.
+/// No samples, with space for `room` of them, and the locations of the profile.
 pub fn none_cut(alloc: Global, hash_keys: HashKeys, p: &Profile, room: usize) -> Result<Cut, Memory>
     ensures samples { IfOk result (λ cut. cut.samples ≡ []) }
     ensures locations { IfOk result (λ cut. cut.places.locations ≡ p.now.location) }

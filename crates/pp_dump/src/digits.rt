@@ -16,7 +16,7 @@ pub fn put_signed(n: i64, out: &mut Text) -> Result<(), Memory>
     out.extend(Buffer::new().format(n).as_bytes())
 }
 
-/// The same at the right of ten places.
+/// Appends the number in decimal, at the right of ten places.
 pub fn put_right_signed(n: i64, out: &mut Text) -> Result<(), Memory>
     ensures { IfOk result (λ _. out.new ≡ out.old ++ right_text 10 (signed_decimal n)) }
 {

@@ -1,4 +1,7 @@
 //! The profile that a report saves, and the report raw, which prints it table by table.
+//!
+//! `saved` makes the profile that a report saves: `cutting` filters each sample's stack, and pp_restack makes a profile
+//! of the stacks that are left. `raw` prints a profile, with `samples`, `locations` and `digits` below it.
 #![tactic(auto)]
 
 mod cutting;

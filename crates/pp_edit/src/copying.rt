@@ -5,7 +5,7 @@ use pp_base::{List, Memory, Text};
 use pp_model::{Compact, Location, Profile, Sample, Valid};
 use std::alloc::Global;
 
-/// The same profile once more: each table, entry by entry, and the header. Nothing is asked of it, and nothing of it is
+/// A copy of the profile: each table, entry by entry, and the header. Nothing is asked of it, and nothing of it is
 /// checked. `Err` is want of memory.
 pub fn copy_profile(alloc: Global, p: &Profile) -> Result<Profile, Memory>
     ensures { IfOk result (λ copy. copy ≡ p.now) }
@@ -29,7 +29,7 @@ pub fn copy_profile(alloc: Global, p: &Profile) -> Result<Profile, Memory>
     })
 }
 
-/// The same valid profile once more. No table rule is tried again. `Err` is want of memory.
+/// A copy of the valid profile. No table rule is tried again. `Err` is want of memory.
 pub fn copy_valid(alloc: Global, p: &Valid) -> Result<Valid, Memory>
     ensures { IfOk result (λ copy. copy ≡ p.now) }
 {
@@ -37,7 +37,7 @@ pub fn copy_valid(alloc: Global, p: &Valid) -> Result<Valid, Memory>
     Ok(Valid::claim(copy))
 }
 
-/// The same compact profile once more. `Err` is want of memory.
+/// A copy of the compact profile. `Err` is want of memory.
 pub fn copy_compact(alloc: Global, p: &Compact) -> Result<Compact, Memory>
     ensures { IfOk result (λ copy. copy ≡ p.now) }
 {

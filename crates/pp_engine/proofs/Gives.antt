@@ -23,7 +23,7 @@ unfolding ◌>>=◌
 gives_then P (Give x) q h = h x
 gives_then P (Make step p) q h = λ reply. gives_then P (p reply) q h
 
--- the same, where something is known of what the first gives
+-- what a script gives after another, where something is known of what the first gives
 pub gives_after : {A B : Type 0} (P : A → Type 0) (Q : B → Type 0) (p : Script A) (q : A → Script B) → Gives P p → ((x : A) → P x → Gives Q (q x)) → Gives Q (p >>= q)
 unfolding ◌>>=◌
 gives_after P Q (Give x) q g h = h x g

@@ -46,7 +46,7 @@ pub lines_ended : (input : List ℕ) → AreEnded (lines_of input)
 unfolding lines_in
 lines_ended input = parts_ended (slice_split is_line_end (take INPUT_LIMIT input)) (nat_lt (length input) INPUT_LIMIT)
 
--- so many lines more than parts
+-- 1 where there is one line more than parts
 abbrev one_if : Bool → ℕ
 one_if true = 1
 one_if false = 0

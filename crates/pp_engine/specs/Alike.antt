@@ -39,8 +39,8 @@ after_loading finds plan files locked lines answers =
     let loading = course (load finds plan) files locked lines answers in
     course (serve_loaded finds plan loading.value) files locked lines (answers_left loading answers)
 
--- A session that performs a plan is the same over both files, where both loadings are within the limits, and the path
--- is not read again after loading, as a list report can.
+-- A session that performs a plan is the same over both files, where both loadings are within the limits. The path is
+-- not read again after loading, as a list report can.
 abbrev pub RunAlike : List ℕ → FileMap → FileMap → Type 0
 RunAlike path files other =
     (finds : Finds) (words : List (List ℕ)) (plan : Plan) (locked : List (List ℕ))

@@ -27,7 +27,7 @@ told_at o locked input answers = record {
   answers = answers;
 }
 
--- What is left of an input is what was left of it, without some bytes at the front: at most so many.
+-- What is left of an input is what was left of it, without at most `most` bytes at the front.
 pub record TakesFront (most : ℕ) (old new : Option (List ℕ)) : Type 0 where
   pub taken : List ℕ
   pub few : length taken ≤ most
@@ -37,10 +37,10 @@ pub record TakesFront (most : ℕ) (old new : Option (List ℕ)) : Type 0 where
 abbrev pub fault_counts : ℕ → ℕ → ℕ → ℕ → Faults
 fault_counts file input out err = record { file = file; input = input; out = out; err = err }
 
--- A run of a session's script: it went some way to a moment `mid`, and its result alone decides how
--- the run ended. After that moment at most a front of the line of its stop was told, whatever
--- standard error answered then, and the ending stayed what it was. Of the input nothing is taken
--- behind the lines that the session reads, but for the bytes that a reader holds.
+-- A run of a session's script: it went some way to a moment `mid`, and its result alone decides how the run ended.
+-- After that moment at most a front of the line of its stop was told, whatever standard error answered then, and the
+-- ending stayed. Of the input nothing is taken behind the lines that the session reads, but for the bytes that a reader
+-- holds.
 pub record Ran (script : Script Cause) (old : Told) (new : Outside)
     (answers : Option (List Answer)) (left left_now : Option (List ℕ)) (before now : Faults)
     (cause : Cause) : Type 0 where

@@ -77,8 +77,8 @@ pub record RanWhole (t : ToldCourse Cause) (old new : Outside) (cause : Cause) :
   pub did : Did old new t.course.effects
   pub asked : t.asked ≡ t.course.asked
 
--- The run was stopped: a front of the session's effects was done, the last of them perhaps in part,
--- and then a front of the line of what stopped it was told.
+-- The run was stopped: a front of the session's effects was done, the last of them perhaps in part. Then a front of the
+-- line of what stopped it was told.
 pub record RanFront (t : ToldCourse Cause) (old new : Outside) (line : List ℕ) : Type 0 where
   pub done : List Effect
   pub front : IsFrontOf done t.course.effects

@@ -7,8 +7,8 @@ abbrev pub given_or : {T : Type 0} → Script T → Option T → Script T
 given_or other (Some given) = Give given
 given_or other None = other
 
--- One turn after another, each from the state that the one before it left, until one gives how all
--- ends. There are at most so many, and then this is given.
+-- One turn after another, each from the state that the one before it left, until one gives how all ends. Where as many
+-- turns were made as the number says, `spent` is given.
 unfoldable pub turns : {S T : Type 0} → (S → Script (S × Option T)) → T → ℕ → S → Script T
 turns turn spent zero state = Give spent
 turns turn spent (suc left) state = do

@@ -57,7 +57,7 @@ can_end report (causes.Report refusal) = is_some report
 can_end report causes.InputTooLong = not (is_some report)
 can_end report cause = false
 
--- the same of all words: where one is wrong, by that alone
+-- how a run ends by all its words: by a word that is wrong, where one is, by that alone
 abbrev pub EndsBy : Option Topic → Result Plan UsageFault → Cause → Type 0
 EndsBy (Some topic) said cause = cause ≡ causes.Done
 EndsBy None (Ok plan) cause = IsTrue (can_end plan.report cause)

@@ -35,7 +35,8 @@ pub enum Cause {
 /// The end of a run: its cause, and the exit status that tells it.
 #[derive(Clone, Copy, Debug, PartialEq, Eq)]
 pub struct Ending {
-    /// 0 where all was done, 1 for a refusal, 2 for a wrong word, 3 for a fault of the outside, 4 for want of memory.
+    /// 0 where all was done, 1 for a refusal, 2 for a wrong word. 3 is for a fault of the outside, 4 for want of
+    /// memory.
     pub status: u8,
     /// Why the run ended.
     pub cause: Cause,

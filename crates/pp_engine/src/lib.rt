@@ -1,5 +1,9 @@
 //! The session: all that is done for the words after the program's name, by one report or in the shell, and how it
 //! ends.
+//!
+//! Begin with `running` (`run`), the program's one call. `session` reads the words, loads, and goes on with one report
+//! (`reporting`) or the shell (`shell`). `ending` has the causes of an end and `message` the lines that tell them. The
+//! definition that `run` is proved against is `specs/Session.antt`. `laws` holds of any words and files.
 #![tactic(auto)]
 
 mod ending;

@@ -29,9 +29,9 @@ struct Invocation<'a, R, G> {
     profile: &'a mut Option<Loaded>,
 }
 
-/// The whole program: what it does for the words after its name, with what it has of the machine, over files, standard
-/// input, both outputs and a matcher of patterns. A report's text is whole before its first byte goes out, and the line
-/// of an ending is written last.
+/// The whole program: what it does for the words after its name. It works over what it has of the machine, files,
+/// standard input, both outputs and a matcher of patterns. A report's text is whole before its first byte goes out, and
+/// the line of an ending is written last.
 ///
 /// The profile that was loaded is left in `profile`, `None` where loading refused it, and what
 /// stood there where nothing was loaded. No clause speaks of it. To give up a large one takes longer than to end the

@@ -32,7 +32,7 @@ fn both_hours(rt: &HostRuntime) -> Result<Loaded> {
     Ok(both)
 }
 
-// An hour of so many requests, written to the file and read back.
+// An hour of `requests` requests, written to the file and read back.
 fn hour(rt: &HostRuntime, path: &str, requests: u32) -> Result<Valid>
     ensures { IfOk result (HasAtMost 16777216) }
 {

@@ -46,7 +46,7 @@ printed_sum t [] = refl
 printed_sum t (path ∷ paths) =
     one_more t path (filter has_sum paths) (sum_if t paths) (printed_sum t paths) (int_eq path.sum (pos 0)) (no_sum path.sum)
 
--- The same of the paths of a call tree by their last keys, which are those of its nodes.
+-- What the paths of a call tree add up to by their last keys, which are those of its nodes.
 module _ (t : Written → Bool) (of_path : CallPath Written → Bool) (last : (keys : List Written) (k : Written) (sum : ℤ) → of_path (record { keys = keys ++ k ∷ []; sum = sum }) ≡ t k) where
   sum_if-append : (a b : List (CallPath Written)) → sum_if of_path (a ++ b) ≡ sum_if of_path a +ℤ sum_if of_path b
   sum_if-append [] b = omega (arith, ints)

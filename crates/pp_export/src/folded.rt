@@ -21,8 +21,8 @@ use std::alloc::Global;
 
 /// Appends the folded report, which programs for flame graphs read: a line for each path of the tree whose own sum
 /// isn't 0, parents before children. A line is the names of the path's keys, root first and joined by `;`, a space and
-/// the sum in decimal, in the unit of the sample type. A `;` in a name is written `:`, and a line feed or carriage
-/// return as a space. `Err` is want of memory, and `out` is then as it was.
+/// the sum. The sum is in decimal, in the unit of the sample type. A `;` in a name is written `:`, and a line feed or
+/// carriage return as a space. `Err` is want of memory, and `out` is then as it was.
 pub fn write_folded(alloc: Global, l: &Loaded, t: &PathSums, out: &mut Text) -> Result<(), Memory>
     requires { All (HasKeysOf l.now.profile t.now.names.now) t.now.paths.items }
     ensures ok { (v : Verdicts) (config : Config) (column : Option ℕ) (f : Finders) →

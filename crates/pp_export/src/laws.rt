@@ -3,9 +3,8 @@ ghost use Rattle.pp_export.specs.Laws.{LinesAddUp, LinesOfKeysAddUp, LimitsCut};
 
 /// The lines of the folded report account for all that was measured.
 ///
-/// `all` says that their sums add up to the selected values of the filtered samples of which some frame counts, and
-/// `keys` that those of the lines whose last key is a given one add up to the key's flat. Lines whose sum is 0 are not
-/// printed.
+/// `all`: their sums add up to the selected values of the filtered samples of which some frame counts. `keys`: the sums
+/// of the lines whose last key is a given one add up to the key's flat. Lines whose sum is 0 are not printed.
 pub fn folded_lines_add_up()
     ensures all { LinesAddUp }
     ensures keys { LinesOfKeysAddUp }

@@ -1,4 +1,7 @@
 //! Reports for other programs: the paths of samples in one line each, and the sums of keys as a table.
+//!
+//! `folded` writes a line for each path and `table` a line for each key; `escaped` spells names and units so that lines
+//! can be cut again. `laws` says what the lines add up to.
 #![tactic(auto)]
 
 mod cells;

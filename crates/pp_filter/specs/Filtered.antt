@@ -20,7 +20,7 @@ own_finders finds l config =
 abbrev pub saved_of : Finds → Loaded → Config → Profile
 saved_of finds l config = saved l.profile (own_finders finds l config) config
 
--- the same, where the profile first gets the frames that the configuration asks for
+-- the profile that the filters leave of the loaded one, which first gets the frames that the configuration asks for
 abbrev pub filtered_profile : Finds → Loaded → Config → Profile
 filtered_profile finds l config = saved_of finds (framed_for l config) config
 

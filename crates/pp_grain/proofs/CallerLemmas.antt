@@ -47,7 +47,7 @@ key_cmp_ties a b tie =
       object = slice_cmp-IsAntisymmetric nat_cmp-IsAntisymmetric a.object b.object object.1 i;
     }
 
--- the same text stands at one place only
+-- a text stands at one place only
 same_text : (texts : List (List ℕ)) (i j : ℕ) → AllPairs (λ a b. a ≢ b) texts → i < length texts → j < length texts → get_or texts i [] ≡ get_or texts j [] → i ≡ j
 same_text texts i j distinct first second same = elim (cases_order i j) [
   | inl is ↦ is

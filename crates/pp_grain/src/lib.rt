@@ -1,5 +1,8 @@
 //! The keys that the rows of a report stand for: which frames count, the key of a frame, the order
 //! of keys, their names, and their numbers at first sight.
+//!
+//! Begin with `keys` (`key_of`): the key of a frame. `order` sorts keys, `naming` writes their names, and `names`
+//! numbers them at first sight.
 #![tactic(auto)]
 
 mod key;

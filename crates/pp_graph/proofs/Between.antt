@@ -240,7 +240,7 @@ module _ (p : Profile) (samples : List (Seen Written)) (names : List Key) (disti
       (All-with {P = λ n. n < length names} (λ b in_b. ap length (filter-both (λ (e : Edge). eqb e.to b) (λ (e : Edge). eqb e.from a) light) ∙ light_between a b in_a in_b) order below)
       ∙ sym (length-filter_map (has_light_edge key_cmp kept samples total billionths (key_at a)) key_at order)
 
-  -- so many edges between the keys that are shown are too light
+  -- the count of edges between the keys that are shown that are too light
   pub light_count_is : length light ≡ light_edge_count key_cmp shown samples total billionths
   light_count_is =
       sym (split_count (λ (e : Edge). e.from) order light once (All-with {P = λ (e : Edge). (among e.from order ≡ true) × (among e.to order ≡ true)} (λ e h. h.0) light light_ends))

@@ -44,7 +44,7 @@ module _ (total billionths : ℕ) where
     | false ↦ all_cut edges
   ]
 
-  -- The first so many edges have been looked at, and so many of them are cut.
+  -- The first n edges have been looked at, and `cut` of them are cut.
   pub record Pruned (edges : List Edge) (n : ℕ) (left : List (Option Edge)) (cut : ℕ) : Type 0 where
     pub left_are : left ≡ cut_to total billionths n edges
     pub cut_is : cut ≡ length (filter (is_light_edge total billionths) (take n edges))

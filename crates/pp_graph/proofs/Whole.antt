@@ -28,7 +28,7 @@ pub light-none : (total : ℕ) (sum : ℤ) → is_heavy total 0 sum ≡ true
 light-none total sum = le-leb (total * 0) (nat_abs sum * 1000000000) (omega arith)
 
 module _ (l : Loaded) (v : Verdicts) (config : Config) (column : Option ℕ) (c : Counted) (none : Fraction) (is_none : none.billionths ≡ 0) where
-  -- the same variables, but that no fraction of the total is asked of a key
+  -- the variables, where no fraction of the total is asked of a key
   abbrev pub free : Config
   free = record config { nodefraction = none }
 

@@ -2,7 +2,7 @@
 use Rattle.std.specs.Prelude.{◌≡◌, ℕ, zero, suc, ◌==◌, Bool, false, List, [], ◌∷◌, Option, Some, None}
 use Rattle.std.specs.Option.{option_map_or}
 
--- the numbers from the first on, each after the one before it, at most so many
+-- the numbers from the first on, each after the one before it, at most as many as the number says
 abbrev pub walk : (ℕ → Option ℕ) → ℕ → Option ℕ → List ℕ
 walk next zero place = []
 walk next (suc most) None = []

@@ -23,7 +23,7 @@ abbrev pub heavy_only : ℕ → ℕ → Edge → Option Edge
 heavy_only total billionths edge =
     if is_heavy total billionths edge.value then Some edge else None
 
--- the edges by number once the first so many have been looked at
+-- the edges by number once the first n have been looked at
 abbrev pub cut_to : ℕ → ℕ → ℕ → List Edge → List (Option Edge)
 cut_to total billionths n edges =
     map (heavy_only total billionths) (take n edges) ++ map Some (drop n edges)

@@ -20,8 +20,8 @@ pub record KeyRow : Type 0 where
   -- how the key is printed
   pub name : List ℕ
 
--- The texts of items in turn, each of which is told what the flats up to it add up to, where those before the first
--- have this sum.
+-- The texts of items in turn. Each is told what the flats up to it add up to, where those before the first have the sum
+-- `before`.
 abbrev pub running_text : {A : Type 0} → (A → ℤ) → (ℤ → A → List ℕ) → ℤ → List A → List ℕ
 running_text flat text before [] = []
 running_text flat text before (x ∷ xs) =

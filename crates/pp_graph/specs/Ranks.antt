@@ -64,14 +64,14 @@ abbrev pub light_numbers : ℕ → ℕ → Sums → ℕ → List ℕ
 light_numbers total billionths sums n =
     filter (λ k. not (is_heavy_number total billionths sums k)) (range_with_len 0 n)
 
--- The rows are those of the heavy numbers below n, in order, and so many are light.
+-- The rows are those of the heavy numbers below n, in order, and `light` of them are light.
 pub record Collected (p : Profile) (sort : Sort) (sums : Sums) (total billionths n : ℕ)
     (rows : List Row) (light : ℕ) : Type 0 where
   pub rows_are : All (IsRankedRow p sort sums) rows
   pub numbers : map (λ row. row.number) rows ≡ heavy_numbers total billionths sums n
   pub too_light : light ≡ length (light_numbers total billionths sums n)
 
--- The rows are those of the heavy numbers, in report order, and so many are light.
+-- The rows are those of the heavy numbers, in report order, and `light` numbers are light.
 pub record AreRanked (p : Profile) (sort : Sort) (sums : Sums) (total billionths : ℕ)
     (rows : List Row) (light : ℕ) : Type 0 where
   pub sorted : IsSortedBy (λ a b. is_lt (row_cmp a b)) rows

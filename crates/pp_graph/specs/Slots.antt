@@ -198,6 +198,6 @@ bare_spot sums n = record {
   first_in = None;
 }
 
--- the nodes of so many names
+-- the nodes of the first n names
 abbrev pub bare_spots : Sums → ℕ → List Spot
 bare_spots sums n = map (bare_spot sums) (range_with_len 0 n)

@@ -1,7 +1,6 @@
 //! The graph that a report shows.
 ghost use Rattle.std.specs.Prelude.{◌≡◌, ◌<◌, false, length, map, replicate, All, IfOk};
 ghost use Rattle.std.specs.List.{filter};
-ghost use Rattle.pp_count.specs.Counted.{CanCount, IsCountedOf};
 ghost use Rattle.pp_graph.specs.Links.{AreEdgesLinked, live_edges};
 ghost use Rattle.pp_graph.specs.Cuts.{kept_flags, is_heavy_edge, is_light_edge};
 ghost use Rattle.pp_graph.specs.Trimmed.{IsTrimmedOf};
@@ -9,8 +8,7 @@ ghost use Rattle.pp_graph.specs.Trimmed.{IsTrimmedOf};
 use crate::graph::Graph;
 use crate::ranking::{Ranked, rank};
 use pp_base::{Fraction, Gate, List, Memory};
-use pp_count::{Counted, Edge, Survey, edges, is_heavy};
-use pp_model::{Config, Loaded, Verdicts};
+use pp_count::{Edge, Survey, edges, is_heavy};
 use std::alloc::Global;
 use std::thread::Threads;
 
@@ -27,32 +25,6 @@ pub struct Trimmed {
 
 /// Ranks the keys, counts the edges between those that are shown, and cuts those below `edgefraction` of the total.
 pub fn trim<R: Threads + Sync, G: Gate>(
-    rt: &R,
-    alloc: Global,
-    l: &Loaded,
-    v: &Verdicts,
-    counted: &Counted,
-    config: &Config,
-    column: Option<u32>,
-    limit: u32,
-    gate: &G,
-) -> Result<Trimmed, Memory>
-    requires can { CanCount l.now.profile v.now config.now column }
-    requires counted { IsCountedOf l.now v.now config.now column counted.now }
-    ensures { IfOk result (IsTrimmedOf l.now v.now config.now column limit counted.now) }
-{
-    let survey = Survey {
-        l,
-        v,
-        config,
-        column,
-        counted,
-    };
-    trim_of(rt, alloc, &survey, limit, gate)
-}
-
-/// What `trim` gives for the report.
-pub fn trim_of<R: Threads + Sync, G: Gate>(
     rt: &R,
     alloc: Global,
     survey: &Survey<'_>,
@@ -99,7 +71,7 @@ fn none_kept(alloc: Global, names: u64) -> Result<List<bool>, Memory>
     Ok(keep)
 }
 
-// Cuts the edges that are too light, of which so many are there and none is cut, and counts them.
+// Cuts the edges that are too light and counts them. `count` edges are there, and none is cut yet.
 fn cut_light(graph: &mut Graph, count: u64, total: u64, least: Fraction) -> u64
     requires count { count ≡ length graph.old.edges }
     requires whole { graph.old.edges ≡ map Some (live_edges graph.old) }

@@ -77,7 +77,7 @@ module _ {X Y : Type 0} (g : X → Y) (told : Y → Written) where
       ∙ ap (option_map (pruned_from told f)) (shown_from-map f (cut under f xs)) ∙ ends-map f _)
       ∙ unless _ _ _ refl
 
-  -- the same of what stays, where it stays
+  -- what stays of texts is what stays of frames, where it stays
   where_kept : (kept : Bool) (texts : Option (List Y)) (frames : Option (List X)) → texts ≡ option_map (map g) frames →
       cond kept texts None ≡ option_map (map g) (cond kept frames None)
   where_kept true texts frames is = is

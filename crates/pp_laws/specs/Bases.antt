@@ -40,7 +40,7 @@ BasesSubtract =
     (p base : Profile) (f : Finders) (config : Config) (column : ℕ)
     → AddUp p (base ∷ []) config column → AreDifferences Base p base f config column
 
--- So it is of a base whose samples are labelled, where no table rule fails of it and no tag filter is in force, which
+-- A base with labelled samples subtracts so too, where no table rule fails of it. No tag filter is in force, which
 -- would see the label.
 abbrev pub LabelledBasesSubtract : Type 0
 LabelledBasesSubtract =

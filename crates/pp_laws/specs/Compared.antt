@@ -73,8 +73,8 @@ pub record AreBothShown (p base : Profile) (f : Finders) (config : Config) (colu
       → after_change (cum_of k) (less_base DiffBase p base) f config (Some column)
       ≡ cum key_cmp (report_samples (merged p []) f config (Some column)) k
 
--- So it is where their figures could be added up, no table rule fails of the base, no sample of the profile carries the
--- base's label, and no tag filter is in force, which would see it.
+-- So it is where their figures could be added up and no table rule fails of the base. No sample of the profile carries
+-- the base's label, and no tag filter is in force, which would see it.
 abbrev pub BothAreShown : Type 0
 BothAreShown =
     (p base : Profile) (f : Finders) (config : Config) (column : ℕ)

@@ -29,7 +29,7 @@ KeepsMappings grain sources q =
     (λ m. IsPlacedAs grain (first_alike (all_mappings sources) (mapping_text q m))
     (first_alike (all_mappings (q ∷ [])) (mapping_text q m))) q.mapping
 
--- each sample has a value for each of so many types
+-- each sample has a value for each type, where there are `types`
 abbrev pub HasValues : ℕ → Profile → Type 0
 HasValues types p = AllByRecursion (λ s. length s.value ≡ types) p.sample
 

@@ -14,7 +14,7 @@ use Rattle.pp_graph.specs.Trim.{report_keys}
 abbrev pub with_unit : List ℕ → Config → Config
 with_unit unit config = record config { unit = unit }
 
--- A report in this unit is over the same samples, so its figures are the same, and it shows the same rows in the same
+-- A report in this unit is over the same samples, so its figures are the same. It shows the same rows in the same
 -- order.
 pub record HasSameRows (unit : List ℕ) (p : Profile) (f : Finders) (config : Config) (column : Option ℕ) : Type 0 where
   pub samples : report_samples p f (with_unit unit config) column ≡ report_samples p f config column

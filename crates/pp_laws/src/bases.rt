@@ -1,7 +1,7 @@
 //! A difference is a difference.
 ghost use Rattle.pp_laws.specs.Bases.{BasesSubtract, LabelledBasesSubtract, NothingIsLeft};
 
-// What would break it: a `negated` (pp_merge, `Scale`) that leaves the least value as it is, or a `counts` (pp_merge,
+// What would break it: a `negated` (pp_merge, `Scale`) that leaves the least value as it is. Or a `counts` (pp_merge,
 // `Sums`) that keeps a sample whose values are all 0.
 /// Flat, cum and edge of each key in a profile less a base are the profile's less the base's, each reported alone. A
 /// profile less itself has no sample, so no report of it has a key.

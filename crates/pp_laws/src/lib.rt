@@ -1,7 +1,8 @@
 //! Laws of the figures: what may be relied on when a report is read, whatever the profile.
 //!
 //! Each law is the contract of a call that does nothing. It is stated over the definitions that the reports are proved
-//! against, so it holds of every figure that they print. `specs/` has the statements, a file for each module.
+//! against, so it holds of every figure that they print. `specs/` has the statements, a file for each module. Begin with
+//! `flats` (nothing is lost) and `merged` (reports of a merge are sums).
 #![tactic(auto)]
 
 mod bases;

@@ -7,9 +7,9 @@ ghost use Rattle.pp_laws.specs.Merged.{MergedAreSums};
 /// Keys are told apart by their texts and numbers.
 ///
 /// Premises, `AddUp`: the sources have as many columns, and each sample a value for each. Each mapping keeps its file,
-/// and where keys are addresses its start: a mapping that becomes one with that of another source takes over its file
-/// and start, and names of objects, patterns on them and addresses may then change. Values are divided by 1, since a
-/// sum is cut off once and its parts each. Values may have either sign.
+/// and where keys are addresses its start. A mapping that becomes one with that of another source takes over its file
+/// and start. Names of objects, patterns on them and addresses may then change. Values are divided by 1, since a sum is
+/// cut off once and its parts each. Values may have either sign.
 pub fn merged_reports_are_sums()
     ensures { MergedAreSums }
 {}

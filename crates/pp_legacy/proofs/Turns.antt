@@ -44,7 +44,7 @@ no_entry ws r depth p is =
     let none = zero_read.2 in
     cc
 
--- the same entry and the same cursor
+-- equal records have equal entries and equal cursors
 same_parts : (e f : StackRecord) (c d : Cursor) → (let r : Reading Found = Ok (Some (e, c)) in r) ≡ Ok (Some (f, d)) → (e.stack ≡ f.stack) × (c.word ≡ d.word)
 same_parts e f c d same = (ap stack_in same, ap word_in same)
   where
@@ -75,7 +75,7 @@ behind_entry ws nanos at count depth next entry is =
         let len = ap length are in
         (omega (arith, len, length-take (to - from) (drop from xs), length-drop from xs), omega arith)
 
--- the same of any record
+-- the entry of any record lies in front of the next cursor
 pub entry_behind : (ws : List ℕ) (nanos : ℕ) (at next : Cursor) (entry : StackRecord)
     → record_at ws nanos at ≡ Ok (Some (entry, next)) → (at.word + 2 + length entry.stack ≡ next.word) × (next.word ≤ length ws)
 unfolding record_at

@@ -1,6 +1,6 @@
--- The header of a CPU profile (gperftools, "CPU Profile format", "Header"): word 1 is the
--- number of words behind it that belong to the header, word 2 the version of the format,
--- word 3 the period of sampling in microseconds, word 4 padding.
+-- The header of a CPU profile (gperftools, "CPU Profile format", "Header"). Word 1 is the number of words behind it
+-- that belong to the header, word 2 the version of the format. Word 3 is the period of sampling in microseconds, and
+-- word 4 padding.
 use Rattle.std.specs.Prelude.{ℕ, ◌*◌, ◌==◌, ◌&&◌, List, nat_le, Ok}
 use Rattle.pp_legacy.specs.declared.fault.LegacyKind.TheVariants.{BadHeader}
 use Rattle.pp_legacy.specs.declared.header.Header.{Header}

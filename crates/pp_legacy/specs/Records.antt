@@ -45,7 +45,7 @@ entry_at ws nanos at count depth = do
     record { word = next; counts = at.counts + count },
   ))
 
--- the record at the cursor, where a period has so many nanoseconds
+-- the record at the cursor, where a period has `nanos` nanoseconds
 unfoldable pub record_at : List ℕ → ℕ → Cursor → Reading Found
 record_at ws nanos at = do
   count ← word_at ws at.word
@@ -65,7 +65,7 @@ onto entry found = record { entries = entry ∷ found.entries; text = found.text
 abbrev pub in_front : StackRecord → Reading Entries → Reading Entries
 in_front entry read = read >>= λ found. Ok (onto entry found)
 
--- the entries from the cursor on, at most so many
+-- the entries from the cursor on, at most as many as the number says
 unfoldable pub entries_in : ℕ → List ℕ → ℕ → Cursor → Reading Entries
 entries_in zero ws nanos at = Err (truncated ws)
 entries_in (suc more) ws nanos at =

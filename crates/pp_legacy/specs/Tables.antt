@@ -64,7 +64,7 @@ numbered_location place mapping_id address = record {
   folded = false;
 }
 
--- the same in the first mapping that holds the address
+-- the location of an address in the first mapping that holds it
 abbrev pub location_of : List Mapping → ℕ → ℕ → Location
 location_of mappings place address = numbered_location place (holder_of mappings address) address
 
@@ -90,7 +90,7 @@ samples_type = record { kind = pos 1; unit = pos 2 }
 abbrev pub cpu_type : ValueType
 cpu_type = record { kind = pos 3; unit = pos 4 }
 
--- the profile of the entries and of the regions, where a period has so many nanoseconds
+-- the profile of the entries and of the regions, where a period has `nanos` nanoseconds
 unfoldable pub legacy_profile : ℕ → List StackRecord → List Region → Profile
 legacy_profile nanos entries regions = record {
   sample_type = samples_type ∷ cpu_type ∷ [];

@@ -23,6 +23,6 @@ truncated ws = fault_at Truncated (length ws)
 abbrev pub word_at : List ℕ → ℕ → Reading ℕ
 word_at ws i = ok_or (slice_get ws i) (truncated ws)
 
--- the number of the word behind so many words from word i on, which are all needed
+-- the number of the word behind `count` words from word i on, which are all needed
 abbrev pub behind_words : List ℕ → ℕ → ℕ → Reading ℕ
 behind_words ws i count = if nat_le (i + count) (length ws) then Ok (i + count) else Err (truncated ws)

@@ -83,7 +83,7 @@ made_countable samples few = record {
 pub one_more : {A : Type 0} (f : ℕ → A) (before : List A) (n : ℕ) → before ≡ map f (range_with_len 0 n) → before ++ f n ∷ [] ≡ map f (range_with_len 0 (n + 1))
 one_more f before n so_far = ap (λ xs. xs ++ f n ∷ []) so_far ∙ sym (map-range_with_len_more f 0 n n (omega arith))
 
--- the same behind other items
+-- one item more, behind other items
 pub one_behind : {A : Type 0} (f : ℕ → A) (first before : List A) (n : ℕ) → before ≡ first ++ map f (range_with_len 0 n) → before ++ f n ∷ [] ≡ first ++ map f (range_with_len 0 (n + 1))
 one_behind f first before n so_far =
     ap (λ xs. xs ++ f n ∷ []) so_far ∙ append_assoc first (map f (range_with_len 0 n)) (f n ∷ []) ∙ ap (λ xs. first ++ xs) (one_more f (map f (range_with_len 0 n)) n refl)

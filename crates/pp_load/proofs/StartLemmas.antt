@@ -143,7 +143,7 @@ decoded_starts source bytes p is = by (is_legacy bytes) is
     by true h = of_legacy (legacy bytes) refl h
     by false h = of_read (read bytes) refl h
 
--- the same of what was given
+-- the mappings of what was loaded start within 64 bits
 pub decoded_has : (source : ℕ) (bytes : List ℕ) (p : Profile) → Loads (decoded source bytes) (Ok p) → HasStarts p
 unfolding Loads
 decoded_has source bytes p is = decoded_starts source bytes p is

@@ -28,8 +28,8 @@ pub record HasOneFile (plan : Plan) (path : List ℕ) : Type 0 where
   pub origins : plan.origins ≡ Path path ∷ []
   pub bases : plan.bases ≡ []
 
--- Such a profile loads as it is and without verdicts of patterns, where the file's bytes are that profile and no more
--- than a file may have. The file is read once, nothing is written, and no pattern is asked.
+-- Such a profile loads as it is and without verdicts of patterns, where the file's bytes are that profile and within
+-- the limit. The file is read once, nothing is written, and no pattern is asked.
 abbrev pub SettledFilesLoad : Type 0
 SettledFilesLoad =
     (finds : Finds) (plan : Plan) (path bytes : List ℕ) (p : Profile)

@@ -40,7 +40,7 @@ subtracting kind normalize source bases = do
   scaled ← scaling_if normalize source base
   merging (scaled ∷ negated kind base ∷ [])
 
--- the same where there are bases, and the sources alone where there are none
+-- the sources less the bases where there are some, and the sources alone where there are none
 unfoldable pub less_bases : Option BaseKind → Bool → Profile → List Profile → Loading Profile
 less_bases None normalize source bases = Ok source
 less_bases (Some kind) normalize source bases = subtracting kind normalize source bases
@@ -51,8 +51,8 @@ joining sources kind normalize profiles = do
   source ← merging (take sources profiles)
   less_bases kind normalize source (drop sources profiles)
 
--- What profiles come to, of which so many are sources and the others bases: all are compared with the first, then the
--- sources are merged, then the bases, and these are taken off.
+-- What profiles come to, of which the first `sources` are sources and the others bases. All are compared with the
+-- first, then the sources are merged, then the bases, and these are taken off.
 unfoldable pub combined : ℕ → Option BaseKind → Bool → List Profile → Loading Profile
 combined sources kind normalize profiles = do
   _ ← agreeing profiles

@@ -1,4 +1,4 @@
--- The profile that is made of a number: so many samples of nine functions.
+-- The synthetic profile of a number of samples, over nine functions.
 use Rattle.std.specs.Prelude.{ℕ, ◌+◌, ◌*◌, ◌%◌, suc, zero, pos, false, List, [], ◌∷◌, ◌++◌, map, codes}
 use Rattle.std.specs.List.{range_with_len}
 use Rattle.pp_model.specs.declared.profile.Function.{Function}
@@ -56,7 +56,7 @@ made_sample number = record {
   label = record { key = pos 5; text = pos 0; num = pos number; num_unit = pos 0 } ∷ [];
 }
 
--- the profile of so many samples, of types samples/count and cpu/nanoseconds
+-- the profile of `samples` samples, of types samples/count and cpu/nanoseconds
 abbrev pub made : ℕ → Profile
 made samples = record {
   sample_type = record { kind = pos 1; unit = pos 2 } ∷ record { kind = pos 3; unit = pos 4 } ∷ [];

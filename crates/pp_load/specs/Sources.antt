@@ -14,13 +14,13 @@ use Rattle.pp_load.specs.Joining.{HasStarts}
 abbrev pub nothing_read : Read
 nothing_read = record { profiles = []; size = 0 }
 
--- nothing, unless the bytes of all sources up to this one, which has so many, are too many
+-- nothing, unless the bytes of all sources up to this one, which has `len` bytes, are too many
 abbrev pub within_size_limit : Read → ℕ → Loading (Unit {0})
 within_size_limit read len =
     if nat_lt size_limit (read.size + len) then Err (refusals.AllTooLong (length read.profiles))
     else Ok tt
 
--- one profile more of so many bytes, behind those that were read
+-- one profile more, of `len` bytes, behind those that were read
 abbrev pub with_profile : Read → ℕ → Profile → Read
 with_profile read len p = record { profiles = read.profiles ++ p ∷ []; size = read.size + len }
 
@@ -31,7 +31,7 @@ with_bytes read bytes = do
   p ← decoded (length read.profiles) bytes
   Ok (with_profile read (length bytes) p)
 
--- What was read can be counted: its profiles are valid, their mappings lie in the address space, their samples are
+-- What was read can be counted: its profiles are valid, and their mappings lie in the address space. Their samples are
 -- together at most as many as their bytes, and these are within the limit. No public clause cites it.
 pub record IsCountableRead (read : Read) : Type 0 where
   pub bytes : read.size ≤ size_limit

@@ -31,7 +31,8 @@ pub fn legacy_is_loaded_as_written()
         → ProfileFits p → length (encode p) < 2 ^ 64 → decoded source bytes ≡ decoded source (encode p) }
 {}
 
-/// A profile that stays as it is when it is merged alone, and has no patterns of its own, loads from a file as it is.
+/// A profile loads from a file as it is, where it has no patterns of its own and stays as it is when it is merged
+/// alone.
 pub fn settled_files_load()
     ensures { SettledFilesLoad }
 {}

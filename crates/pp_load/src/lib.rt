@@ -2,6 +2,9 @@
 //!
 //! Loading is one stage over a desk. Which files are read, and in which order, is its script; what the bytes come to is
 //! a plain definition beside it. The first refusal ends all, so that no later file is read.
+//!
+//! Begin with `loading`. `reading` reads each file, `decode` makes a profile of its bytes, and `combine` merges and
+//! subtracts. `generator` makes a synthetic source. `laws` holds of any bytes.
 #![tactic(auto)]
 
 mod combine;

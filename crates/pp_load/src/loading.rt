@@ -26,9 +26,9 @@ use std::alloc::Global;
 use std::thread::Threads;
 
 /// Loads the profile of a plan: its sources and bases are read in the order of their words, combined to one profile,
-/// and that profile's own patterns are asked. The first refusal ends all. A file's bytes are given up once they are
-/// decoded, on as many lanes as the configuration has workers, and the decoded profiles once they are merged. The hash
-/// tables have the keys `keys`, on which no answer depends.
+/// and that profile's own patterns are asked. The first refusal ends all. Files are decoded on as many lanes as the
+/// configuration has workers. A file's bytes are given up once they are decoded, and the decoded profiles once they are
+/// merged. The hash tables have the keys `keys`, on which no answer depends.
 pub fn load<R: Threads + Sync, D: Desk>(
     rt: &R,
     alloc: Global,

@@ -1,4 +1,5 @@
--- The sum of a column over the keys that pass a test stays where items of equal keys are added up and those of 0 are dropped.
+-- Items of equal keys are added up and those of 0 are dropped. The sum of a column over the keys that pass a test
+-- stays.
 use Rattle.std.proofs.Common.{◌≡◌, ℕ, ◌<◌, Bool, true, false, List, [], ◌∷◌, length, map, get_or, refl, sym, ap, ◌∙◌}
 use Rattle.std.specs.Prelude.{ℤ, pos, ◌+ℤ◌, filter, if◌then◌else◌}
 use Rattle.std.specs.Bool.{Decides}

@@ -165,7 +165,7 @@ nearest_samples p valid countable =
 pub base_is : (p : Profile) (samples : List Sample) → NoRuleFails p → IsCountable p → samples ≡ map negated_nearest p.sample → record p { sample = samples } ≡ negated Base p
 base_is p samples valid countable is = ap (λ ss. record p { sample = ss }) (is ∙ nearest_samples p valid countable)
 
--- the same with labels
+-- a base with labels is the negated base, labelled
 pub diff_base_is : (p : Profile) (samples labelled : List Sample) (label : Label) (texts : List (List ℕ)) → NoRuleFails p → IsCountable p → samples ≡ map negated_nearest p.sample
     → label ≡ base_label (length p.text) → texts ≡ p.text ++ base_texts → labelled ≡ map (labelled_sample (label ∷ [])) samples
     → record p { sample = labelled; text = texts } ≡ negated DiffBase p
@@ -201,6 +201,6 @@ negated_agrees DiffBase p q valid =
     type_same : (t : ValueType) → type_has_texts q t ≡ true → type_text (negated DiffBase q) t ≡ type_text q t
     type_same t inside = let (kind, unit) = and_parts _ _ inside in (λ j. record { kind = text_same t.kind kind j; unit = text_same t.unit unit j })
 
--- the same of a base that was read
+-- a base that was read agrees still, once it is negated
 pub agrees_still : (kind : BaseKind) (p q r : Profile) → r ≡ q → NoRuleFails r → difference p q ≡ None → difference p (negated kind q) ≡ None
 agrees_still kind p q r same valid agree = negated_agrees kind p q (subst NoRuleFails same valid) ∙ agree

@@ -35,8 +35,8 @@ difference p q =
     if has_types_of p q then if has_period_type_of p q then None else Some PeriodType
     else Some SampleTypes
 
--- The first of these profiles that does not agree with p, by its place when they are counted from n
--- on, and what it does not agree in.
+-- The first of these profiles that does not agree with p, and what it does not agree in. Its place is counted from n
+-- on.
 abbrev pub disagreeing : Profile → ℕ → List Profile → Option (ℕ × What)
 disagreeing p n [] = None
 disagreeing p n (q ∷ qs) =
@@ -73,8 +73,8 @@ contents p ps = record {
 abbrev pub merged : Profile → List Profile → Profile
 merged p ps = written (contents p ps)
 
--- What `merge` answers: the first profile that does not agree with the first one, or else the least
--- column whose sum is too large, or else the profiles as one. Want of memory may come at any time.
+-- What `merge` answers: the first profile that does not agree with the first one. If all agree, it is the least column
+-- whose sum is too large, or else the profiles as one. Want of memory may come at any time.
 abbrev pub Merges : List Profile → Result Profile MergeRefusal → Type 0
 Merges [] result = ⊤
 Merges (p ∷ ps) (Ok r) =

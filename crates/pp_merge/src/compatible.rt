@@ -7,8 +7,8 @@ ghost use Rattle.pp_merge.specs.Merge.{same_type, has_types_of, difference, disa
 use crate::refusal::What;
 use pp_model::{Profile, Valid, ValueType, text_of};
 
-/// What the second profile does not agree in with the first, the sample types before the period type, or `None` where
-/// the two can be merged. Names and units are compared as texts.
+/// In what the second profile differs from the first, or `None` where the two can be merged. Sample types come before
+/// the period type. Names and units are compared as texts.
 pub fn agree(first: &Valid, p: &Valid) -> Option<What>
     ensures { result ≡ difference first.now p.now }
 {

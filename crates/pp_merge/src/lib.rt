@@ -1,4 +1,10 @@
 //! Profiles merged, scaled, and subtracted from one another.
+//!
+//! Begin with `merging`: `compatible` says whether the profiles agree, `totals` and `together` whether their sums fit,
+//! and `join` puts their tables one behind the other. pp_share then makes equal things one.
+//!
+//! `alone` merges one profile, `scaling` and `normalizing` change values, and `subtracting` merges the negated base
+//! with a source. `laws` says what holds of every merged profile.
 #![tactic(auto)]
 
 mod alone;

@@ -23,9 +23,9 @@ use std::mem;
 use std::thread::Threads;
 
 /// The profiles as one. Functions, mappings, locations, samples and comments that are equal become one, in the order of
-/// first sight, and the values of equal samples are added up. What no sample with a value names is left out. The first
-/// profile whose types differ from those of the one at place 0 is refused, and else the least column whose absolute
-/// values add up to more than 2^63-1. The list is spent, also on a refusal.
+/// first sight. The values of equal samples are added up. What no sample with a value names is left out. The first
+/// profile is refused whose types differ from those of the one at place 0. If there is none, it is the least column
+/// whose absolute values add up to more than 2^63-1. The list is spent, also on a refusal.
 ///
 /// The hash tables have the keys `hash_keys`, on which no answer depends.
 pub fn merge(alloc: Global, hash_keys: HashKeys, list: List<Valid>) -> Result<Compact, MergeRefusal>

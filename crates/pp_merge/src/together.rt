@@ -8,9 +8,9 @@ use pp_model::Valid;
 use pp_share::Hashed;
 use std::alloc::Global;
 
-/// The profiles without the hashes of their samples, and what the absolute values of all their columns add up to behind
-/// those that were added up before, or 2^64-1 where they are more. Where that is at most 2^63-1, as it is in most
-/// profiles, no column has to be added up for itself.
+/// The profiles without the hashes of their samples, and a sum: that of the absolute values of all their columns and of
+/// those added up before, or 2^64-1 where it is more. Where that is at most 2^63-1, as it is in most profiles, no
+/// column has to be added up for itself.
 pub fn without_hashes(
     alloc: Global,
     list: Vec<Hashed>,

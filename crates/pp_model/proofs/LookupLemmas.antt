@@ -60,7 +60,7 @@ passes_read test xs id x is all =
           subst (λ y. test y ≡ true) (get_or_from_slice_get xs (id - 1) x x at) (all (id - 1) x (slice_get_within xs (id - 1) x at))
     ]) is
 
--- the same of a reference
+-- what a reference reads passes the test
 pub reference_passes :
     {X : Type 0} (test : X → Bool) (xs given : List X) (id : ℕ) (read : Option (Bor X)) → given ≡ xs → option_copied read ≡ place_read given id →
     AllPass test xs → IfSome read (λ x. test x.now ≡ true)

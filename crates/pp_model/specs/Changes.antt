@@ -16,7 +16,7 @@ with_nodecount c (negsuc n) =
     where_true (nat_le n 0)
     (λ _. record c { nodecount = negsuc 0; nodecount_from = record { le = tt } }) c
 
--- the fraction of so many billionths, where it is at most 1
+-- the fraction of n billionths, where it is at most 1
 abbrev pub fraction_or : Fraction → ℕ → Fraction
 fraction_or other n =
     where_true (nat_le n 1000000000)

@@ -143,7 +143,7 @@ impl Config {
         })
     }
 
-    /// The same variables.
+    /// A copy of all variables.
     pub fn copy(&self, alloc: Global) -> Result<Config, Memory>
         ensures { IfOk result (λ config. config ≡ self.now) }
     {

@@ -61,7 +61,7 @@ pub fn frames_at(alloc: Global, l: &Loaded, location: u64) -> Result<Stack, Memo
     rows_at(alloc, l.profile.get(), location)
 }
 
-// The same, of the profile's tables.
+// The frames of the location, by the profile's tables.
 fn rows_at(alloc: Global, p: &Profile, location: u64) -> Result<Stack, Memory>
     requires compact { IsCompact p.now }
     requires within { location < length p.now.location }

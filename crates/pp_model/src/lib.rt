@@ -1,4 +1,11 @@
 //! The plain data of a profile, of a loaded profile and of the options, with what its parts refer to.
+//!
+//! Begin with `profile`, the tables as the message has them. `valid` has the two kinds of profiles that keep the table
+//! rules, and `loaded` one with the verdicts of its own patterns. `frame` and `lookup` say what a sample's stack stands
+//! for.
+//!
+//! `config` has the variables and `defaults` their values, `report` the reports and the facts in which they differ, and
+//! `verdicts` what patterns have found. `specs/Rules.antt` states the table rules.
 #![tactic(auto)]
 
 mod config;

@@ -33,7 +33,7 @@ pub enum Report {
     Table,
     /// The figures of each key before and after a change; it needs a base of the kind `DiffBase`.
     Compare,
-    /// The same figures, exact, a line each, divided by tabs.
+    /// What compare shows, exact, a line each, separated by tabs.
     Changes,
     /// What each filter drops, and what the limits leave out.
     Account,
@@ -158,6 +158,7 @@ impl Slot {
 pub enum BaseKind {
     /// The negated samples of the base are merged with the source's (`-base`).
     Base,
-    /// The same, under the label `pprof::base` of the text `true`, and percentages are of the base (`-diff_base`).
+    /// The negated samples carry the label `pprof::base` of the text `true`, and percentages are of the base
+    /// (`-diff_base`).
     DiffBase,
 }

@@ -50,7 +50,7 @@ impl Valid {
         self.profile
     }
 
-    // The same change as that of a `Compact`.
+    // What `set_value` of a `Compact` changes.
     fn set_value(&mut self, sample: usize, column: usize, value: i64)
         requires sample { sample < length self.old.sample }
         requires column { column < length self.old.sample_type }
@@ -101,7 +101,7 @@ impl Compact {
         self.valid.get()
     }
 
-    /// The same profile, as one that keeps the table rules.
+    /// This profile, as one that keeps the table rules.
     pub fn valid(&self) -> &Valid
         ensures same { result.now ≡ self.now }
         ensures compact { IsCompact result.now }
@@ -109,7 +109,7 @@ impl Compact {
         &self.valid
     }
 
-    /// The same profile, as one that keeps the table rules.
+    /// This profile, as one that keeps the table rules.
     pub fn into_valid(self) -> Valid
         ensures same { result ≡ self }
         ensures compact { IsCompact result }

@@ -66,7 +66,7 @@ pub read_whole : (draft : Draft) (whole : List Entry) → IsReading draft whole 
 read_whole draft whole reading =
     (reading.same_fault, subst (λ es. IsDraftOf draft es) (sym (append-nil reading.before) ∙ sym reading.split) reading.has)
 
--- the same, by the test
+-- what is left is shorter, whichever way the test goes
 shorter : (b : Bool) (next : List ℕ) (words : List (List ℕ)) → length (cond b words (next ∷ words)) ≤ length (next ∷ words)
 shorter true next words = omega arith
 shorter false next words = omega arith
@@ -81,7 +81,7 @@ pub entries_end : (at : ℕ) (word : List ℕ) (after : List (List ℕ)) → end
 entries_end at word [] ends = rw ends refl
 entries_end at word (next ∷ words) ends = rw ends refl
 
--- the same, by the test
+-- the next entry, whichever way the test goes
 next_entry :
     (b : Bool) (at : ℕ) (word next : List ℕ) (words : List (List ℕ))
     → cond b (entry at word (Some next) ∷ entries (at + 2) words) (entry at word None ∷ entries (at + 1) (next ∷ words))

@@ -59,7 +59,7 @@ kept : {A : Type 0} (known : Option A) → option_or known None ≡ known
 kept None = refl
 kept (Some x) = refl
 
--- the same, by the item
+-- the request with an item pushed is the request with the item, by the kind of the item
 pushed_is : (r : Request) (item : Item) → pushed r item ≡ with_item r item
 pushed_is r (Source path) = same_request _ _ refl (append-nil r.bases) (kept r.base_kind) refl (kept r.report) refl
 pushed_is r (Gen samples) = same_request _ _ refl (append-nil r.bases) (kept r.base_kind) refl (kept r.report) refl
@@ -96,7 +96,7 @@ noted_is known at (Normalize false) = kept known
 noted_is known at (Format report) = kept known
 noted_is known at (Set setting) = kept known
 
--- the same, of all entries
+-- where `-normalize` first stands, once one entry more is noted
 pub noted_push : (es : List Entry) (at : ℕ) (item : Item) → normalized_at (es ++ record { at = at; asked = Ok item } ∷ []) ≡ normalized_first (normalized_at es) at item
 noted_push es at item =
     let e : Entry = record { at = at; asked = Ok item } in

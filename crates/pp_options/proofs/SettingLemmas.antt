@@ -66,7 +66,7 @@ pub workers_is :
 workers_is c w h r_from d_from d_below w_from w_to =
     renumbered c _ _ _ _ w w refl refl refl _ _ _ _ _ _ _ _ _ _ ∙ sym (where_true_is _ h _ c)
 
--- the same fraction, where it is known by its billionths
+-- a fraction is known by its billionths
 pub read_fraction_is :
     {A : Type 0} (make : Fraction → A) (found : Option Fraction) (read : Option ℕ) → option_map (λ (f : Fraction). f.billionths) found ≡ read
     → option_map make found ≡ option_map (λ n. make (fraction n)) read

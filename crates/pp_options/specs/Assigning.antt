@@ -13,7 +13,7 @@ abbrev pub set_value : Config → Option Setting → Result Config SetRefusal
 set_value c None = Err BadValue
 set_value c (Some setting) = Ok (assigned c setting)
 
--- the same, where the name is a variable's
+-- the configuration with a variable set to a text, where the name is a variable's
 abbrev pub set_variable : Config → List ℕ → Option Variable → Result Config SetRefusal
 set_variable c value None = Err UnknownName
 set_variable c value (Some variable) = set_value c (setting_of variable value)

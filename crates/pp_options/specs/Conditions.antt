@@ -6,7 +6,7 @@ use Rattle.pp_model.specs.ReportFacts.{own_pattern}
 use Rattle.pp_options.specs.declared.origin.Origin.{Origin}
 use Rattle.pp_options.specs.declared.origin.Origin.TheVariants.{Path, Gen}
 
--- a profile can be made of so many samples
+-- a synthetic profile may have this number of samples
 abbrev pub is_fair_number : ℕ → Bool
 is_fair_number samples = nat_le 1 samples && nat_le samples 1000000
 
@@ -19,7 +19,7 @@ is_fair (Gen samples) = is_fair_number samples
 abbrev pub is_patterned : Report → Bool
 is_patterned report = option_map_or (λ (pattern : List ℕ). nat_lt 0 (length pattern)) (own_pattern report) true
 
--- the same, where there is a report
+-- there is no report, or the pattern of its own that it has isn't empty
 abbrev pub has_pattern : Option Report → Bool
 has_pattern None = true
 has_pattern (Some report) = is_patterned report

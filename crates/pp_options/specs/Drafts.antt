@@ -101,7 +101,7 @@ ReadsAll whole new (Ok done) = (first_entry_fault [] whole ≡ None) × IsDraftO
 ReadsAll whole new (Err (Fault fault)) = first_entry_fault [] whole ≡ Some fault
 ReadsAll whole new (Err Memory) = ⊤
 
--- the plan has what the draft has, or something is missing after so many words
+-- the plan has what the draft has, or something is missing after the last of `count` words
 abbrev pub Finishes : ℕ → Draft → Result Plan UsageRefusal → Type 0
 Finishes count draft (Ok plan) =
     (late_fault count (request_in draft) draft.normalized_at ≡ None)

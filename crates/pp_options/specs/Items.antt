@@ -92,7 +92,7 @@ abbrev pub option_item : OptionName → Option (List ℕ) → Result Item UsageK
 option_item name None = flag_item name
 option_item name (Some value) = valued_item name value
 
--- the same, where an option has the name
+-- the item of an option and its value, where an option has the name
 abbrev pub named_item : Option OptionName → Option (List ℕ) → Result Item UsageKind
 named_item None value = Err UnknownOption
 named_item (Some name) value = option_item name value

@@ -47,8 +47,8 @@ is_zero_digit digit = digit == 48
 abbrev pub without_zeros : List ℕ → List ℕ
 without_zeros digits = without_end is_zero_digit digits
 
--- the nine decimals of so many billionths, without the zeros at the end: the digits of that many
--- and a billion together, after the first
+-- the nine decimals of a number of billionths, without the zeros at the end: the digits of that number and a billion
+-- together, after the first
 abbrev pub decimals_text : ℕ → List ℕ
 decimals_text billionths = codes "0." ++ without_zeros (drop 1 (decimal (1000000000 + billionths)))
 

@@ -17,7 +17,7 @@ use Rattle.pp_options.specs.declared.setting.Setting.{Setting}
 use Rattle.pp_options.specs.declared.setting.Setting.TheVariants as set
 use Rattle.pp_options.specs.Values.{sort_named, grain_named, truth_of, whole_number, nodecount_of}
 
--- the fraction of so many billionths, which is at most 1
+-- the fraction of a number of billionths, which is at most 1
 abbrev pub fraction : ℕ → BaseFraction
 fraction billionths = fraction_or (record { billionths = 0; at_most_one = lit≤ tt }) billionths
 

@@ -138,7 +138,7 @@ abbrev pub asked_fault : Request → Result Item UsageKind → Option UsageKind
 asked_fault r (Err kind) = Some kind
 asked_fault r (Ok item) = item_fault r item
 
--- the same, with the number of the word
+-- the fault of an entry, with the number of its word
 abbrev pub entry_fault : Request → Entry → Option UsageFault
 entry_fault r e = option_map (λ kind. word_fault kind e.at) (asked_fault r e.asked)
 
@@ -161,7 +161,7 @@ normalized_at es = slice_get (filter_map normalizes es) 0
 abbrev pub is_empty : {A : Type 0} → List A → Bool
 is_empty xs = not (nat_lt 0 (length xs))
 
--- The fault that shows only after the last of so many words: no source, or nothing to normalize by.
+-- The fault that shows only after the last of `count` words: no source, or nothing to normalize by.
 abbrev pub late_fault : ℕ → Request → Option ℕ → Option UsageFault
 late_fault count r normalized_at =
     if is_empty r.origins then Some (word_fault NoSource (count + 1))

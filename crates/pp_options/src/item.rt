@@ -24,7 +24,7 @@ pub enum Item {
     Source(Text),
     /// A base of this path.
     Base(BaseKind, Text),
-    /// A source that is made, of so many samples.
+    /// A synthetic source with this number of samples.
     Gen(u32),
     /// That the sources are scaled to the bases, or are not.
     Normalize(bool),

@@ -2,6 +2,10 @@
 //!
 //! The tables of variables, formats and other names are data. Words, the lines of a shell and the
 //! list of variables look names up in the same ones.
+//!
+//! Begin with `words`: each word is an `item`, which `drafting` adds to a `draft`, and without a fault the draft is a
+//! `plan`. `variable`, `format`, `name` and `value` are the tables; `setting` and `assigning` set a variable, `listing`
+//! lists all, and `help` tells them.
 #![tactic(auto)]
 
 mod assigning;

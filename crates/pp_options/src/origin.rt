@@ -7,6 +7,6 @@ use pp_base::Text;
 pub enum Origin {
     /// A file.
     Path(Text),
-    /// A profile that is made, of so many samples: from 1 to 1,000,000.
+    /// A synthetic profile with this number of samples, from 1 to 1,000,000.
     Gen(u32),
 }

@@ -105,7 +105,7 @@ impl Draft {
         self.take(at, item)
     }
 
-    // The plan, where nothing is missing after so many words.
+    // The plan, where nothing is missing after `count` words.
     fn finish(self, count: u64) -> Result<Plan, UsageRefusal>
         requires { count + 1 < 2 ^ 64 }
         ensures { Finishes count self result }
@@ -126,7 +126,7 @@ impl Draft {
         }
     }
 
-    // What shows only after so many words: no source, or nothing to normalize by.
+    // What shows only after the last of `count` words: no source, or nothing to normalize by.
     fn late_fault(&self, count: u64) -> Option<UsageFault>
         requires { count + 1 < 2 ^ 64 }
         ensures fault { result ≡ late_fault count (request_in self.now) self.now.normalized_at }

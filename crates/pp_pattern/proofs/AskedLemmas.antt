@@ -19,7 +19,7 @@ module _ {R : Type 0} (finds : List ℕ → List ℕ → Bool) (refused : R) (pa
   of_answer None = Give (Err refused)
   of_answer (Some found) = Give (Ok (map (finder finds pattern) subjects))
 
-  -- the same reply by reply
+  -- what the matcher's answer gives, reply by reply
   by_reply : (taken : Bool) →
       ◌≡◌ {A = Asking R (List Bool)} (Give (cond taken (Ok (map (finder finds pattern) subjects)) (Err refused))) (of_answer (verdicts finds pattern subjects taken))
   unfolding of_answer

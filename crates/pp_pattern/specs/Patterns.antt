@@ -13,12 +13,12 @@ any_text text = not (is_empty_text text)
 abbrev pub finder : (List ℕ → List ℕ → Bool) → List ℕ → Finder
 finder finds pattern text = not (is_empty_text text) && finds pattern text
 
--- the same of an option's value, where it isn't empty
+-- the finder of an option's value, where it isn't empty
 abbrev pub finder_in_force : (List ℕ → List ℕ → Bool) → List ℕ → Option Finder
 finder_in_force finds [] = None
 finder_in_force finds (b ∷ bs) = Some (finder finds (b ∷ bs))
 
--- the same of a part of a tag filter: an empty part finds each text but the empty one
+-- the finder of a part of a tag filter: an empty part finds each text but the empty one
 abbrev pub part_finder : (List ℕ → List ℕ → Bool) → List ℕ → Finder
 part_finder finds [] = any_text
 part_finder finds (b ∷ bs) = finder finds (b ∷ bs)

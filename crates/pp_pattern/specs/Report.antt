@@ -115,7 +115,7 @@ judge finds config own p =
 abbrev pub found_in : Finds → List (List ℕ) → List ℕ → Option (List Bool)
 found_in finds texts pattern = option_map (λ find. map find texts) (finder_in_force finds pattern)
 
--- the same of the parts of a tag filter
+-- what the parts of a tag filter find
 abbrev pub parts_found : Finds → Profile → List Tag → Option TagFilter → List (List Bool)
 parts_found finds p tags None = []
 parts_found finds p tags (Some f) =

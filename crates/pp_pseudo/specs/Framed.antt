@@ -41,7 +41,7 @@ pub record AddsFrames (p : Profile) (before after : Placing) (texts : List Locat
   pub told : (final : List (List ℕ)) → IsFront after.names final
       → map (located (grown p final)) (map (entry_in after.locations) added) ≡ texts
 
--- These samples, made of those of the profile, may stand in each profile that has grown so, and say there what the
+-- These samples, made of those of the profile, may stand in each profile that has grown so. There they say what the
 -- samples with the frames of the keys say.
 pub record AreTagged (l : Loaded) (roots leaves : List (List ℕ)) (done : List Sample) (names : List (List ℕ))
     (locations : List Location) (samples : List Sample) : Type 0 where

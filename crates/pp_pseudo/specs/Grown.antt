@@ -19,7 +19,7 @@ name_function p number = record {
   start_line = pos 0;
 }
 
--- the functions of so many names
+-- the functions of the first `count` names
 abbrev pub name_functions : Profile → ℕ → List Function
 name_functions p count = map (name_function p) (range_with_len 0 count)
 

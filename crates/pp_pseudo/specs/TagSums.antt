@@ -27,9 +27,9 @@ IsNoFunction p name = All (λ f. text_of p f.name ≢ name) p.function
 abbrev pub HaveNoEquals : List (List ℕ) → Type 0
 HaveNoEquals keys = All (λ key. All (λ b. b ≢ 61) key) keys
 
--- In each column, for each listed key and each value text that isn't empty, the values of the samples with a frame of
--- the function named so add up to those of the samples with that value text. No function of the profile has the name,
--- and no listed key contains an equals sign.
+-- In each column, for each listed key and each value text that isn't empty: the values of the samples with a frame of
+-- the function named so add up to those of the samples with that value text. No function of the profile has the name.
+-- No listed key contains an equals sign.
 abbrev pub KeepsTagSums : Loaded → List (List ℕ) → Profile → Type 0
 KeepsTagSums l keys q =
     (column : ℕ) → column < length l.profile.sample_type → (key value : List ℕ) → Contains keys key → value ≢ []

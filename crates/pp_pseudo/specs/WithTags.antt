@@ -60,6 +60,6 @@ tagged_contents l roots leaves =
 abbrev pub with_tags : Loaded → List (List ℕ) → List (List ℕ) → Profile
 with_tags l roots leaves = profile_of (tagged_contents l roots leaves)
 
--- The same, loaded. It has no patterns, and so no verdicts of them.
+-- The profile with frames from labels, loaded. It has no patterns, and so no verdicts of them.
 abbrev pub tagged : Loaded → List (List ℕ) → List (List ℕ) → Loaded
 tagged l roots leaves = loaded_of (with_tags l roots leaves) None None

@@ -28,7 +28,7 @@ fn push_texts(texts: List<Text>, all: &mut List<Text>) -> Result<(), Memory>
     Ok(())
 }
 
-// The functions of so many names.
+// The functions of `count` names.
 fn named_functions(alloc: Global, p: &Profile, count: u64) -> Result<List<Function>, Memory>
     requires { count < 2 ^ 60 }
     ensures { IfOk result (λ functions. functions ≡ name_functions p.now count) }

@@ -18,10 +18,10 @@ use pp_model::{Loaded, Profile, Sample, Valid};
 use pp_restack::{no_items, places_of, sample_with, with_cut};
 use std::alloc::Global;
 
-/// The profile with a frame for each listed key of which a sample has a label, at the root for the keys of `roots` and
-/// at the leaf for those of `leaves`, each list root first. The frame's function is named by the key, `=` and the
-/// values of the labels, joined by commas. Load pruning is done, so that the profile has neither patterns nor verdicts.
-/// All labels and values stay, and samples that became equal are added up. `Err` is want of memory.
+/// The profile with a frame for each listed key of which a sample has a label. Frames of the keys of `roots` stand at
+/// the root and those of `leaves` at the leaf, each list root first. The frame's function is named by the key, `=` and
+/// the values of the labels, joined by commas. Load pruning is done, so that the profile has neither patterns nor
+/// verdicts. All labels and values stay, and samples that became equal are added up. `Err` is want of memory.
 ///
 /// The hash tables have the keys `hash_keys`, on which no answer depends.
 pub fn with_tags(

@@ -15,8 +15,8 @@ const PIECE: usize = 65_536;
 /// folder.
 ///
 /// What they hold is not told, nor which can't be written, nor which were read. A path that is no UTF-8 is missing to a
-/// read and locked to a write, and so is each that the system does not open: no file, no permission, a folder to a
-/// write. A fault is an error that comes once a file is open: a folder that is read, a disk that is full.
+/// read and locked to a write. So is each that the system does not open: no file, no permission, a folder to a write. A
+/// fault is an error that comes once a file is open: a folder that is read, a disk that is full.
 #[derive(Drop)]
 pub struct RealFiles<'a, S: FileSystem> {
     system: &'a S,

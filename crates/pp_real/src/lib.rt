@@ -2,6 +2,8 @@
 //!
 //! What these objects hold is told to no contract, since other programs may change it at any time. Each keeps a count of
 //! its faults, which starts at 0 and stays at its last value once a 64-bit counter is full.
+//!
+//! `files` opens, reads and writes paths, `input` and `output` take any stream, and `words` reads the program's words.
 #![tactic(auto)]
 
 mod files;

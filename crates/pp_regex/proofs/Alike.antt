@@ -69,7 +69,7 @@ no_pattern_of_refusal text kind refuses other =
     (λ rest. ⊎_elim (λ none. inl none) (λ deep. too_deep _ _ deep.1) rest)
     refuses)
 
--- the same, of the whole error that the crate regex gives
+-- no pattern is read, by the whole error that the crate regex gives
 pub no_pattern_of_syntax : (text : List ℕ) (error : Error) (syntax_error : parser.Error) → error ≡ Syntax syntax_error →
     IsRefusal options text error → failures.IsRightKind options text error → IsNoPattern text
 no_pattern_of_syntax text error e is refusal right =

@@ -314,7 +314,7 @@ on_text P Q (Ok (Ok text)) each holds = each text holds
 on_text P Q (Ok (Err refusal)) each holds = tt
 on_text P Q (Err stop) each holds = tt
 
--- The same, where no frames are made from labels.
+-- The text of a proto report, where no frames are made from labels.
 pub saved_text : (finds : Finds) (l : Loaded) (config : Config) (text : List ℕ) → IsCountable l.profile → NamesNoKey config
     → IsProtoBy finds (basis_of reports.Proto l config) config text → IsSavedText finds l config text
 saved_text finds l config text countable keyless is =

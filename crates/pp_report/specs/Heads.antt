@@ -38,8 +38,8 @@ wanted_unit (b ∷ wanted) unit =
     if bytes_eq (b ∷ wanted) each_word then Some (Some (picked_for_each unit))
     else option_map Some (forced (b ∷ wanted) unit)
 
--- The head of a report over a total, whose values are printed in the unit that is wanted,
--- else in the one picked for the total.
+-- The head of a report over a total. Its values are printed in the unit that is wanted, else in the one picked for the
+-- total.
 abbrev pub head_of : Profile → Option ℕ → Option Shown → ℕ → Facts
 head_of p column wanted total = record {
   file = first_file p;

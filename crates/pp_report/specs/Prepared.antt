@@ -36,7 +36,7 @@ abbrev pub in_unit : Option ℕ → Option (Option Shown) → Result Showing Rep
 in_unit column None = Err UnitMismatch
 in_unit column (Some wanted) = Ok (record { column = column; wanted = wanted })
 
--- the same, if there is such a column
+-- what a report shows, if there is such a column
 abbrev pub in_column : Profile → Config → Option (Option ℕ) → Result Showing ReportRefusal
 in_column p config None = Err BadSampleIndex
 in_column p config (Some column) = in_unit column (wanted_unit config.unit (unit_text p column))
@@ -67,7 +67,7 @@ prepare_counts finds l report config showing = do
   _ ← ask_patterns finds l report config
   Give (Ok (settled_of finds l report config showing))
 
--- The same where the report is counted. One that isn't asks for none and has no notes.
+-- What asking comes to where the report is counted. One that isn't asks for none and has no notes.
 unfoldable pub prepare_showing : Finds → Loaded → Report → Config → Showing → Asking ReportRefusal Settled
 prepare_showing finds l report config showing =
     if is_counted report then prepare_counts finds l report config showing
@@ -79,7 +79,7 @@ unfoldable pub prepare_on : Finds → Loaded → Report → Config → Asking Re
 prepare_on finds l report config =
     go_on (prepare_showing finds l report config) (showing_for report l.profile config)
 
--- The same of the loaded profile, which may first get frames from labels.
+-- What asking comes to for a report of the loaded profile, which may first get frames from labels.
 abbrev pub prepare : Finds → Loaded → Report → Config → Asking ReportRefusal Settled
 prepare finds l report config = prepare_on finds (basis_of report l config) report config
 
@@ -116,20 +116,21 @@ pub record IsPreparedOn (finds : Finds) (l : Loaded) (report : Report) (config :
   pub has_counts : HasCounts finds l report config prepared.shows.column prepared.counts
   pub notes_front : IsFront prepared.notes (notes_of finds l report config)
 
--- The same over the loaded profile.
+-- What was prepared is so over the loaded profile.
 pub record IsPrepared (finds : Finds) (l : Loaded) (report : Report) (config : Config) (prepared : Prepared)
     : Type 0 where
   pub basis : unwrap_or prepared.tagged l ≡ basis_of report l config
   pub settled : IsPreparedOn finds (basis_of report l config) report config prepared
 
--- The same, where it is known what the report shows. No public clause cites it.
+-- What was prepared is so, where it is known what the report shows. No public clause cites it.
 pub record IsCounted (finds : Finds) (l : Loaded) (report : Report) (config : Config) (known : Shows)
     (prepared : Prepared) : Type 0 where
   pub shows_that : prepared.shows ≡ known
   pub has_counts : HasCounts finds l report config known.column prepared.counts
   pub notes_front : IsFront prepared.notes (notes_of finds l report config)
 
--- The same, with the profile that the report is made of in the place of the loaded one. No public clause cites it.
+-- What was prepared is so, where it is known what the report shows, over the profile that the report is made of. No
+-- public clause cites it.
 pub record IsCountedOver (finds : Finds) (l made_of : Loaded) (report : Report) (config : Config) (known : Shows)
     (prepared : Prepared) : Type 0 where
   pub basis : unwrap_or prepared.tagged l ≡ made_of

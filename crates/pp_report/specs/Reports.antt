@@ -91,7 +91,7 @@ abbrev pub answer_of_outcome : Result (Result (List ℕ) ReportRefusal) Memory �
 answer_of_outcome (Ok outcome) = Ok outcome
 answer_of_outcome (Err e) = Err stops.Memory
 
--- the same of a report that is never refused
+-- the answer of a report that is never refused, or that memory was wanting
 abbrev pub answer_of_text : Result (List ℕ) Memory → Result (Result (List ℕ) ReportRefusal) Stop
 answer_of_text (Ok text) = Ok (Ok text)
 answer_of_text (Err e) = Err stops.Memory
@@ -108,7 +108,7 @@ unfoldable pub finish_on : Finds → Loaded → Report → Config → Showing
 finish_on finds l report config showing =
     finish_by l.profile (report_finders finds l report config) config showing report
 
--- The same of the loaded profile, which may first get frames from labels.
+-- What a report of the loaded profile comes to, which may first get frames from labels.
 abbrev pub finish_made : Finds → Loaded → Report → Config → Showing
     → Script (Result (List ℕ) ReportRefusal)
 finish_made finds l report config showing = finish_on finds (basis_of report l config) report config showing

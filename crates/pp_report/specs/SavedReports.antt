@@ -44,8 +44,8 @@ pub record ReportAlike (finds : Finds) (l r : Loaded) (report : Report) (config 
       → (base other : Option BaseKind)
       → finish finds r other report d showing ≡ finish finds l base report config showing
 
--- So it is with each report that stays, of a profile and of what was saved of it by the filters of the configuration,
--- which are empty in the second one.
+-- So it is with each report that stays, of a profile and of what was saved of it. The filters of the configuration by
+-- which it was saved are empty in the second one.
 abbrev pub SavedReports : Type 0
 SavedReports =
     (finds : Finds) (l r : Loaded) (report : Report) (config : Config)

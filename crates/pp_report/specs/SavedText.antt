@@ -62,9 +62,8 @@ pub record ReportsAlike (finds : Finds) (l r : Loaded) (c : Config) : Type 0 whe
   pub texts : (report : Report) → stays_saved report ≡ true
       → ComesToSame finds l r report c (unfiltered c)
 
--- So does the saved profile, once it is loaded: for each configuration with the same filters, whatever else stands in
--- it, where Total is that of the filtered samples, values are not divided, the tree is by keys and no frames are made
--- from labels.
+-- The saved profile, once it is loaded, reports so for each configuration with the same filters. Total is that of the
+-- filtered samples, values are not divided, the tree is by keys, and no frames are made from labels.
 abbrev pub ReportsAsFiltered : Finds → Loaded → Config → Type 0
 ReportsAsFiltered finds l config =
     (c : Config) → HasFiltersOf config c → CountsFiltered c → IsPlain c
@@ -91,6 +90,6 @@ pub record IsProtoOf (p : Profile) (f : Finders) (config : Config) (text : List 
   pub valid : NoRuleFails p
   pub starts : AllByRecursion (λ m. m.start < 2 ^ 64) p.mapping
 
--- the same of the report's own patterns
+-- the text is that of the profile saved by what the patterns of a proto report find
 abbrev pub IsProtoBy : Finds → Loaded → Config → List ℕ → Type 0
 IsProtoBy finds l config text = IsProtoOf l.profile (report_finders finds l reports.Proto config) config text

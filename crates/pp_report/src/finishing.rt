@@ -28,14 +28,14 @@ use pp_count::Survey;
 use pp_desk::{Desk, Stop};
 use pp_model::{BaseKind, Config, Loaded, Report};
 use pp_pseudo::basis;
-use pp_source::write_list_of;
+use pp_source::write_list;
 use std::alloc::Global;
 use std::mem;
 use std::thread::Threads;
 
-/// The text of a report that was prepared, `NoMatch` where the pattern of a peek or list report finds nothing, or
-/// `NoBase` where a compare or changes report has no base: `base` is the kind of the base that was given, if one was.
-/// Only a list report reads files.
+/// The text of a report that was prepared. It is `NoMatch` where the pattern of a peek or list report finds nothing,
+/// and `NoBase` where a compare or changes report has no base: `base` is the kind of the base that was given, if one
+/// was. Only a list report reads files.
 pub fn finish<R: Threads + Sync, D: Desk, G: Gate>(
     with: &Host<'_, R, G>,
     l: &Loaded,
@@ -213,7 +213,7 @@ fn list<D: Desk>(
         s.column (facts subject.now.head.now)) result }
 {
     let mut text = Text::new(alloc);
-    match write_list_of(alloc, &subject.survey, subject.head, desk, &mut text)? {
+    match write_list(alloc, &subject.survey, subject.head, desk, &mut text)? {
         Ok(()) => Ok(Ok(text)),
         Err(_) => Ok(Err(ReportRefusal::NoMatch)),
     }

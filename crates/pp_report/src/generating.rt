@@ -29,19 +29,18 @@ use std::thread::Threads;
 /// labels.
 ///
 /// It is refused for its column, then for its unit, both before any pattern is asked, then for the first pattern that
-/// the matcher refuses, and last where the pattern of a peek or list report finds no function that could be shown, or
-/// where a compare or changes report has no base. It has one where a base was given to compare with, of which `base` is
-/// the kind, also where none of its samples is left; or where a sample carries `pprof::base` of the text `true`, as in a
-/// difference that was saved.
-/// `Err` is the failure of a file that a list report reads, or want of memory; a front of the notes is appended then.
+/// the matcher refuses. Last it is refused where the pattern of a peek or list report finds no function that could be
+/// shown, or where a compare or changes report has no base. It has one where a base was given to compare with, of which
+/// `base` is the kind, also where none of its samples is left. It has one too where a sample carries `pprof::base` of
+/// the text `true`, as in a difference that was saved. `Err` is the failure of a file that a list report reads, or want
+/// of memory; a front of the notes is appended then.
 ///
 /// Where no frames are made from labels, the text of a proto report is read as the profile that was saved. That profile
 /// keeps the table rules, stays as it is when it is merged alone, and has no patterns of its own. Without filters it
-/// has the figures that the loaded one has with them, and its top, tree, peek, table and folded come to the same text
-/// or refusal. This holds under each configuration with the same filters that has relative_percentages on, path_tree
-/// off and divide_by 1 and makes no frames from labels, where the loaded profile stays as it is when it is merged
-/// alone, none of its values is below 0, no sample carries `pprof::base` of the text `true`, and the matcher refuses no
-/// pattern.
+/// has the figures that the loaded one has with them. Its top, tree, peek, table and folded come to the same text or
+/// refusal. This holds under each configuration with the same filters that has relative_percentages on, path_tree off
+/// and divide_by 1, and makes no frames from labels. The loaded profile stays as it is when it is merged alone, and none
+/// of its values is below 0. No sample carries `pprof::base` of the text `true`, and the matcher refuses no pattern.
 pub fn generate<'x, R: Threads + Sync, D: Desk, G: Gate>(
     rt: &'x R,
     alloc: Global,

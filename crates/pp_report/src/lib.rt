@@ -1,5 +1,12 @@
 //! Reports of a loaded profile: which column and unit a report shows, the patterns that it asks for, its notes, and its
 //! text, or why it is not made.
+//!
+//! A report has two stages, which `generating` calls one after the other. `preparing` decides column and unit
+//! (`shows`), makes frames from labels (`tagging`), asks the patterns (`asking`), counts, and notes what matched
+//! nothing (`notes`). `finishing` makes the text, by `texts`, `trees`, `comparing` or `exports`, under the head of
+//! `heads`.
+//!
+//! `refusal` and `message` have why a report is not made. `saved` states what a saved profile keeps.
 #![tactic(auto)]
 
 mod asking;

@@ -25,12 +25,12 @@ use pp_account::write_account;
 use pp_base::{Gate, MatchRefusal, Memory, Text};
 use pp_count::Survey;
 use pp_dump::{saved_profile, write_raw};
-use pp_graph::{node_limit, rank, trim_of};
+use pp_graph::{node_limit, rank, trim};
 use pp_model::{Compact, Config, Loaded};
 use pp_samples::{write_comments, write_tags_of, write_traces_of};
 use pp_tables::write_profile;
 use pp_top::write_top;
-use pp_tree::{write_peek_of, write_tree};
+use pp_tree::{write_peek, write_tree};
 use std::alloc::Global;
 use std::thread::Threads;
 
@@ -83,7 +83,7 @@ pub fn tree<R: Threads + Sync, G: Gate>(
 {
     let (alloc, s) = (with.alloc, &subject.survey);
     let limit = limit_of(s.config, TREE_NODES);
-    let trimmed = trim_of(with.rt, alloc, s, limit, with.gate)?;
+    let trimmed = trim(with.rt, alloc, s, limit, with.gate)?;
     let mut text = Text::new(alloc);
     write_tree(alloc, s.l, s.counted, &trimmed, subject.head, &mut text)?;
     Ok(text)
@@ -108,7 +108,7 @@ pub fn peek<R: Threads + Sync, G: Gate>(
 {
     let (alloc, survey) = (with.alloc, &subject.survey);
     let mut text = Text::new(alloc);
-    match write_peek_of(with.rt, alloc, survey, subject.head, with.gate, &mut text) {
+    match write_peek(with.rt, alloc, survey, subject.head, with.gate, &mut text) {
         Ok(()) => Ok(Ok(text)),
         Err(MatchRefusal::NoMatch) => Ok(Err(ReportRefusal::NoMatch)),
         Err(MatchRefusal::Memory) => Err(Memory),

@@ -10,7 +10,7 @@ use crate::host::Host;
 use crate::subject::Subject;
 use crate::texts::tree;
 use pp_base::{Gate, Memory, Text};
-use pp_calltree::write_calltree_of;
+use pp_calltree::write_calltree;
 use std::alloc::Global;
 use std::thread::Threads;
 
@@ -40,6 +40,6 @@ fn call_tree(alloc: Global, subject: &Subject<'_, '_>) -> Result<Text, Memory>
         (facts subject.now.head.now)) }
 {
     let mut text = Text::new(alloc);
-    write_calltree_of(alloc, &subject.survey, subject.head, &mut text)?;
+    write_calltree(alloc, &subject.survey, subject.head, &mut text)?;
     Ok(text)
 }

@@ -39,7 +39,7 @@ pub fn no_keys(alloc: Global, hash_keys: HashKeys) -> Result<KeyTable, Memory>
     })
 }
 
-/// Adds the value of the sample of this turn to the sums of the tag and of its key, to each once, and gives the tag's
+/// Adds the value of the sample of this turn to the sums of the tag and of its key, to each once. Gives the tag's
 /// place. Known tags keep theirs.
 pub fn add_label(
     alloc: Global,
@@ -65,7 +65,7 @@ pub fn add_label(
     Ok(TagPlace { key: k, tag: t })
 }
 
-/// The same of a tag that has its place.
+/// Adds the value of the sample of this turn to the sums of a tag that has this place, and of its key.
 pub fn add_known_label(keys: &mut KeyTable, place: TagPlace, value: i64, turn: u64)
     requires even { AreEven keys.old }
     requires inside { IsPlaceIn keys.old place }
@@ -97,7 +97,7 @@ fn make_room(
     Ok(())
 }
 
-// Adds the value of the sample of this turn to the sum of the tag in the table at the place, and gives the tag's number.
+// Adds the value of the sample of this turn to the sum of the tag in the table at the place. Gives the tag's number.
 fn add_at(
     tables: &mut Vec<TagTable>,
     place: usize,

@@ -1,4 +1,8 @@
 //! Reports that show samples one by one: traces and tags, and the comments.
+//!
+//! `traces` prints each sample, with the lines of `label_lines` and `frame_lines`. `tag_lines` prints the tags report:
+//! before it, `tag_counts` adds up the values of each tag, in the tables of `key_table` and `tag_table`. `tag_name` has
+//! the order.
 #![tactic(auto)]
 
 mod comments;

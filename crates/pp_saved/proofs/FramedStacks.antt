@@ -101,7 +101,7 @@ module _ (p : Profile) (column : ℕ) (valid : NoRuleFails p) (within : column <
       all_mapped (λ (s : Sample). IsNatural (get_or s.value column (pos 0))) (written_sample (saved_contents p f config)) (saved_contents p f config).samples
       (summed_natural column (length p.sample_type) (cut_samples p f config) within (wide p f config valid) (cut_natural column p f config valid within least))
 
--- The same frames are found in a profile that keeps the stacks, where its values are at least 0.
+-- Frames that are found in a profile are found in one that keeps its stacks, where its values are at least 0.
 pub frames_found : (p : Profile) (f : Finders) (config : Config) (q : Profile) (d : Config) (column : ℕ) → KeepsStacks p f config q
     → column < length p.sample_type → d.noinlines ≡ config.noinlines → config.divide_by ≡ 1 → d.divide_by ≡ 1
     → left_stacks q no_finders d ≡ whole_stacks q

@@ -23,9 +23,9 @@ pub fn saved_texts()
 
 // What would break it: a sample of 0 that is kept, two equal samples, a location in no mapping's place, the lines of a
 // location in another order.
-/// A saved profile keeps the table rules, stays as it is when it is merged alone, so it can be saved again, and has no
-/// patterns of its own. So saving it again without filters changes nothing. The absolute values of its columns add up
-/// to no more than the profile's.
+/// A saved profile keeps the table rules and has no patterns of its own. It stays as it is when it is merged alone, so
+/// it can be saved again, and saving it again without filters changes nothing. The absolute values of its columns add
+/// up to no more than the profile's.
 ///
 /// Premises: the profile keeps the table rules and stays as it is when it is merged alone, as each loaded one does; for
 /// the sums the first of them. Each profile that lasts so is itself when it is saved without filters.

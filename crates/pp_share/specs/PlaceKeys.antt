@@ -26,8 +26,8 @@ mapping_key m = record {
 abbrev pub start_at : List Mapping → ℕ → ℕ
 start_at mappings id = option_map_or (λ m. m.start) (place_read mappings id) 0
 
--- the location without an id, in the new one of its mapping, with how far behind the start of its own
--- mapping it lies in the place of the address
+-- the location without an id, in the new one of its mapping; in place of the address stands how far behind the start of
+-- its own mapping it lies
 abbrev pub distant : List Mapping → Ids → Location → Location
 distant mappings ids l = record {
   id = 0;

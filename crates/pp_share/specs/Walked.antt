@@ -89,8 +89,8 @@ pub record IsWalked (p r : Profile) : Type 0 where
   pub same : r ≡ walked p
   pub few : length (walked_texts_of p) < 2 ^ 62
 
--- A profile of which the samples and the locations are written, with the texts that these and the types
--- name, and the locations that the samples named. What is met later changes none of it.
+-- A profile of which the samples and the locations are written, with the locations that the samples named. It has the
+-- texts that these and the types name. What is met later changes none of it.
 pub record IsNamed (whole p : Profile) (texts locations : List ℕ) : Type 0 where
   pub met : locations ≡ locations_met whole
   pub said : texts ≡ met_after (met_after [] (first_text_ids whole)) (flat_map sample_text_ids whole.sample)

@@ -6,8 +6,8 @@ use pp_model::Valid;
 use std::alloc::Global;
 use std::marker::Model;
 
-/// A profile in which no table rule fails, and the hashes of its samples by the ids that they have. Who goes over all
-/// samples anyway, as a check does, finds the hashes on the way, so that merging need not go over them for that.
+/// A profile in which no table rule fails, and the hashes of its samples by the ids that they have. A check goes over
+/// all samples anyway and finds the hashes on the way, so that merging need not go over them again.
 #[derive(Debug, Drop)]
 pub struct Hashed {
     valid: Valid,

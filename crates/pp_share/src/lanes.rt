@@ -61,8 +61,8 @@ fn place_labels(samples: &mut List<Sample>, by: &Renumbering, texts: &mut Met) -
     Ok(())
 }
 
-// Gives the samples in front the places of their new locations, which are added where they were not met yet, until all
-// `count` locations were met. Gives how many samples these are.
+// Gives samples the places of their new locations, from the first on, until all `count` locations were met. A location
+// that was not met yet is added. The answer is how many samples these are.
 fn locate_first(
     samples: &mut List<Sample>,
     by: &Renumbering,

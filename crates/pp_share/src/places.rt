@@ -56,7 +56,7 @@ pub struct LocationKey {
 }
 
 /// The profile, whose texts and functions stand once, with each mapping and each location once, in the order of first
-/// sight, and what the ids of locations become. Its samples stay as they are.
+/// sight. Also what the ids of locations become. Its samples stay as they are.
 pub fn share_places(
     alloc: Global,
     hash_keys: HashKeys,

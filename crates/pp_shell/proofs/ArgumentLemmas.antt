@@ -40,7 +40,7 @@ StartsNonempty [] = Unit {0}
 StartsNonempty ([] ∷ xs) = ⊥
 StartsNonempty ((b ∷ bs) ∷ xs) = Unit {0}
 
--- the same, as `added` says it
+-- one pattern more is joined as `added` says
 joined_push : (xs : List (List ℕ)) (p : List ℕ) → StartsNonempty xs → one_pattern (xs ++ cons_option (nonempty p) []) ≡ with_alternative (one_pattern xs) p
 joined_push xs [] starts = ap one_pattern (append-nil xs)
 joined_push [] (b ∷ bs) starts = refl
@@ -188,7 +188,7 @@ abbrev taken_by : Bool → List (List ℕ) → ℕ
 taken_by b [] = 0
 taken_by b (next ∷ words) = cond b 1 0
 
--- the same
+-- what is taken behind a word is what is taken by whether it redirects
 taken_is : (word : List ℕ) (after : List (List ℕ)) → taken_after word after ≡ taken_by (is_redirect word) after
 taken_is word [] = refl
 taken_is word (next ∷ words) = refl

@@ -96,7 +96,7 @@ narrowing args = record {
   output = last_or None (filter_map output_of args);
 }
 
--- the same, where the words have no fault
+-- what words narrow a command to, where they have no fault
 abbrev pub together : Result (List Argument) LineFault → Result Narrowing LineFault
 together (Err fault) = Err fault
 together (Ok args) = Ok (narrowing args)

@@ -74,7 +74,7 @@ with_few_rows report c =
 abbrev pub focus_variable : Report → TextVariable
 focus_variable report = if is_of_labels report then texts.Tagfocus else texts.Focus
 
--- the same for patterns after a dash
+-- the variable whose place patterns after a dash take
 abbrev pub ignore_variable : Report → TextVariable
 ignore_variable report = if is_of_labels report then texts.Tagignore else texts.Ignore
 

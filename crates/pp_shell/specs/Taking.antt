@@ -41,12 +41,12 @@ taken_after word (next ∷ words) = if is_redirect word then 1 else 0
 abbrev pub rest_after : List ℕ → List (List ℕ) → List (List ℕ)
 rest_after word after = if is_redirect word then drop 1 after else after
 
--- so many rows can be shown
+-- a report can show this number of rows
 abbrev pub are_fair_rows : Option ℕ → Bool
 are_fair_rows None = true
 are_fair_rows (Some rows) = nat_le rows 2147483647
 
--- where the argument is a number of rows, so many can be shown
+-- where the argument is a number of rows, a report can show them
 abbrev pub has_fair_rows : Argument → Bool
 has_fair_rows argument = are_fair_rows (rows_of argument)
 

@@ -12,7 +12,7 @@ use std::alloc::Global;
 /// What a word after a command asks for.
 #[derive(Debug, Drop)]
 pub enum Argument {
-    /// So many rows: from 0 to 2^31-1.
+    /// The largest number of rows: from 0 to 2^31-1.
     Rows(u32),
     /// The report in this file.
     Output(Text),

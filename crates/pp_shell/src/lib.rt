@@ -1,4 +1,7 @@
 //! The lines of the shell: what each asks for.
+//!
+//! Begin with `line` (`read_line`): a line is an assignment or a command (`command`). The words behind a command are
+//! `argument`s, which `narrowing` puts together and `run` makes a configuration of. `name` has the tables of names.
 #![tactic(auto)]
 
 mod argument;

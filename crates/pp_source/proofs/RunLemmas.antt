@@ -51,7 +51,7 @@ module _ {K : Type 0} (same : K → K → Bool) where
   at_next : (k : K) (keys : List K) (i : ℕ) (d : K) → get_or (k ∷ keys) (i + 1) d ≡ get_or keys i d
   at_next k keys i d = let one : i + 1 ≡ suc i = omega arith in ap (λ j. get_or (k ∷ keys) j d) one
 
-  -- So many items from the first on are its run.
+  -- The first `len` items are their run.
   pub run_is : (keys : List K) (len : ℕ) → 0 < len → len ≤ length keys → GoTogether keys len
       → ((d : K) (i : ℕ) → i + 1 ≡ len → len < length keys → same (get_or keys i d) (get_or keys len d) ≡ false)
       → runs same keys ≡ take len keys ∷ runs same (drop len keys)
@@ -77,7 +77,7 @@ module _ {K : Type 0} (same : K → K → Bool) where
     | inr (inr after) ↦ absurd (omega (arith, below, after))
   ]
 
--- The same of lines, by what they stand for.
+-- Runs of lines, by what the lines stand for.
 module _ (same : Written → Written → Bool) (lines : List FoundLine) (len at : ℕ) (a b : FoundLine) (last : at + 1 ≡ len) (go : GoTogether same (lines_texts lines) len) where
   -- what two neighbours stand for
   pair_told : (x y : Written) → at < length lines → len < length lines
@@ -90,7 +90,7 @@ module _ (same : Written → Written → Bool) (lines : List FoundLine) (len at 
       one_more same (lines_texts lines) len at (line_texts a) last (omega (arith, next, length-map lines line_texts)) go
       (pair_told (line_texts a) (line_texts a) (omega (arith, last, next)) next ∙ goes)
 
-  -- so many lines are the first run
+  -- the first `len` lines are the first run
   pub lines_run : 0 < len → len ≤ length lines → (len < length lines → same (line_texts (get_or lines at a)) (line_texts (get_or lines len b)) ≡ false)
       → runs same (lines_texts lines) ≡ lines_texts (take len lines) ∷ runs same (lines_texts (drop len lines))
   lines_run some within ends =

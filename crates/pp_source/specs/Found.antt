@@ -27,7 +27,7 @@ abbrev pub part_key : KeyPart → Key → Key
 part_key Routine k = key_at k (pos 0)
 part_key Line k = key_at k k.line
 
--- the same of what a key stands for
+-- the part of what a key stands for
 abbrev pub part_of : KeyPart → Written → Written
 part_of Routine w = routine_of w
 part_of Line w = source_line w

@@ -64,7 +64,7 @@ number_above (negsuc n) = None
 abbrev pub numbers_of : List Written → List ℕ
 numbers_of lines = filter_map (λ k. number_above k.line) lines
 
--- the last of so many, which has at least this one
+-- the last number of the list that begins with n
 abbrev pub last_from : ℕ → List ℕ → ℕ
 last_from n [] = n
 last_from n (next ∷ ns) = last_from next ns

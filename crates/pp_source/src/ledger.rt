@@ -52,7 +52,7 @@ fn by_lines(alloc: Global, config: &Config) -> Result<Config, Memory>
     Ok(lines)
 }
 
-// The same under this configuration.
+// The ledger by the table of this configuration, which counts by lines.
 fn ledger_under(alloc: Global, survey: &Survey<'_>, config: &Config) -> Result<Ledger, Memory>
     requires { config.now ≡ by_lines survey.now.config.now }
     ensures found { IfOk result (λ ledger.

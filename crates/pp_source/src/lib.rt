@@ -1,4 +1,8 @@
 //! The list report: the lines of source of the functions that a pattern finds, with what the samples come to in each.
+//!
+//! Begin with `listing`. First `found` and `lines` find the lines and routines that the pattern matches, and `ledger`
+//! adds up the samples in them (`walk`, `tallies`). Then `files` reads each source once, by the paths that `paths`
+//! gives, and `split` cuts it into lines. `routine` and `rows` write the text.
 #![tactic(auto)]
 
 mod amounts;
@@ -18,6 +22,6 @@ mod split;
 mod tallies;
 mod walk;
 
-pub use listing::{write_list, write_list_of};
+pub use listing::write_list;
 pub use refusal::ListRefusal;
 pub use source::{SOURCE_LIMIT, limit_of_sources};

@@ -4,7 +4,7 @@ ghost use Rattle.pp_desk.specs.Went.{Went, beside};
 ghost use Rattle.pp_model.specs.Finders.{Finders};
 ghost use Rattle.pp_model.specs.FrameTexts.{Written};
 ghost use Rattle.pp_units.specs.Head.{facts};
-ghost use Rattle.pp_count.specs.Counted.{CanCount, IsCountedOf, report_frames};
+ghost use Rattle.pp_count.specs.Counted.{report_frames};
 ghost use Rattle.pp_count.specs.Sums.{Seen};
 ghost use Rattle.pp_count.specs.Seeing.{HoldsFilters};
 ghost use Rattle.pp_source.specs.Files.{source_at, source_in};
@@ -22,10 +22,9 @@ use crate::source::Source;
 use crate::split::split_sources;
 use indexmap::IndexSet;
 use pp_base::{Memory, Text};
-use pp_count::{Counted, Survey};
+use pp_count::Survey;
 use pp_desk::{Desk, Stop};
 use pp_keys::HashKeys;
-use pp_model::{Config, Loaded, Verdicts};
 use pp_units::{Head, put_size};
 use std::alloc::Global;
 use std::mem;
@@ -38,37 +37,6 @@ use std::mem;
 /// was.
 #[tactic(auto, using(pp_desk::proofs::Going::going))]
 pub fn write_list<D: Desk>(
-    alloc: Global,
-    l: &Loaded,
-    v: &Verdicts,
-    c: &Counted,
-    config: &Config,
-    column: Option<u32>,
-    head: &Head,
-    desk: &mut D,
-    out: &mut Text,
-) -> Result<Result<(), ListRefusal>, Stop>
-    requires can { CanCount l.now.profile v.now config.now column }
-    requires counted { IsCountedOf l.now v.now config.now column c.now }
-    ensures went { (f : Finders) → HoldsFilters l.now v.now config.now f →
-        Went (D.world desk.old) (D.world desk.new)
-        (added_report out.old (list_report l.now.profile f config.now column (facts head.now)))
-        (beside out.new result) }
-    ensures stopped { OnErr result (out.new ≡ out.old) }
-{
-    let survey = Survey {
-        l,
-        v,
-        config,
-        column,
-        counted: c,
-    };
-    write_list_of(alloc, &survey, head, desk, out)
-}
-
-/// What `write_list` does for the report.
-#[tactic(auto, using(pp_desk::proofs::Going::going))]
-pub fn write_list_of<D: Desk>(
     alloc: Global,
     survey: &Survey<'_>,
     head: &Head,

@@ -99,7 +99,7 @@ fn write_shown(
     Ok(())
 }
 
-// The place of the first of so many lines that is shown, and the place after the last.
+// The place of the first of `count` lines that is shown, and the place after the last.
 fn shown_places(span: LineSpan, count: usize) -> (usize, usize)
     ensures within { result.1 ≤ count }
     ensures shown { (place : ℕ) → place < count → is_near span.first span.last (place + 1)

@@ -73,7 +73,7 @@ module _ {X : Type 0} (told : X → Written) where
       ∙ ap (option_map (pruned_from (λ w. w) f)) (shown_from-map f (cut told f xs)) ∙ ends-map f _)
       ∙ unless _ _ _ refl
 
-  -- the same of what stays, where it stays
+  -- what stays of texts is what stays of frames, where it stays
   where_kept : (kept : Bool) (texts : Option (List Written)) (frames : Option (List X)) → texts ≡ option_map (map told) frames →
       cond kept texts None ≡ option_map (map told) (cond kept frames None)
   where_kept true texts frames is = is

@@ -46,7 +46,7 @@ module _ {X Y : Type 0} (told : X → Y) where
   position-map test xs =
       ap₂ (λ n m. cond (nat_lt n m) (Some n) None) (prefix_len-map (λ y. not (test y)) xs) (length-map xs told)
 
-  -- those up to the last that passes, where so many are
+  -- the first n items, where n counts those up to the last that passes
   up_to-map : (n : ℕ) (xs : List X) →
       cond (n == 0) None (Some (take n (map told xs))) ≡ option_map (map told) (cond (n == 0) None (Some (take n xs)))
   up_to-map n xs = by_test (n == 0)

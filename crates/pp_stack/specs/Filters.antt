@@ -1,5 +1,5 @@
--- The stack filters, over what the frames stand for. A definition takes what an item of the stack stands
--- for, `told`, so that it speaks of frames as places (`written p`) and of frames as texts (`λ w. w`) alike.
+-- The stack filters, over what the frames stand for. A definition takes what an item of the stack stands for, `told`.
+-- So it speaks of frames as places (`written p`) and of frames as texts (`λ w. w`) alike.
 use Rattle.std.specs.Prelude.{◌≡◌, Bool, true, false, not, ◌&&◌, ◌||◌, List, [], ◌∷◌, map, filter, Option, Some, None, option_map, if◌then◌else◌}
 use Rattle.std.specs.List.{list_any}
 use Rattle.std.specs.Option.{option_map_or}
@@ -93,6 +93,6 @@ filtered told f stack = kept_frames told f (load_pruned told f stack)
 abbrev pub stack_of_sample : Profile → Finders → Sample → Option (List Written)
 stack_of_sample p f s = filtered (λ w. w) f (written_stack p s)
 
--- The same, as frames of the profile.
+-- What the filters leave of a sample's stack, as frames of the profile.
 abbrev pub frames_of_sample : Profile → Finders → Sample → Option (List Frame)
 frames_of_sample p f s = filtered (written p) f (stack_of p s)

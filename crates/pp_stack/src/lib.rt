@@ -1,5 +1,9 @@
 //! The stack filters: what stays of a sample's frames after load pruning, ignore and focus, hide and show, show_from
 //! and prune_from. A filter reads the verdict of a text by its index, and never searches a text.
+//!
+//! Begin with `stages`, the filters one by one, and `filter`, which puts them in order. `tables` and `table` hold what
+//! each pattern finds of each line of a location, so that no text is asked twice; `finding` asks without a table.
+//! `samples` asks focus and ignore before a stack is made.
 #![tactic(auto)]
 
 mod filter;

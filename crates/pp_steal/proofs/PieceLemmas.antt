@@ -5,14 +5,14 @@ use Rattle.pp_steal.specs.declared.piece.TheConstants.{PIECE}
 use Rattle.pp_steal.specs.Pieces.{piece_of, IsCutInto}
 use Rattle.pp_steal.specs.Running.{AreOutcomes}
 
--- so many items from the piece's first on are the piece
+-- `count` items from the piece's first on are the piece
 pub piece_is : {A : Type 0} (items : List A) (piece count : ℕ) → count ≡ min (length items - piece * PIECE) PIECE → take count (drop (piece * PIECE) items) ≡ piece_of items piece
 piece_is items piece count e =
     ap (λ n. take n (drop (piece * PIECE) items)) (omega (arith, e, length-drop (piece * PIECE) items))
     ∙ take_min PIECE (drop (piece * PIECE) items)
     ∙ ap (λ n. take PIECE (drop n items)) (omega arith)
 
--- the same, of all items from there on
+-- the piece, cut from all items from its first on
 pub piece_cut : {A : Type 0} (items : List A) (piece count : ℕ) → count ≡ min (length items - piece * PIECE) PIECE
     → take count (take (length items - piece * PIECE) (drop (piece * PIECE) items)) ≡ piece_of items piece
 piece_cut items piece count e =

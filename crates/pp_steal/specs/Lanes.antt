@@ -23,9 +23,8 @@ pub record Make : Type 0 where
   pub deal : Deal
   pub pieces : ℕ
 
--- A lane as callers see it: the make that it is of, its own number, the pieces that its deque was
--- dealt, those that it took, how often its own deque gave nothing, and how often that of each lane
--- did
+-- A lane as callers see it: the make that it is of, its own number, the pieces that its deque was dealt, and those that
+-- it took. Also how often its own deque gave nothing, and how often that of each lane did.
 pub record Standing : Type 0 where
   pub make : Make
   pub own : ℕ
@@ -129,7 +128,7 @@ abbrev pub IsNewRow : Deal → ℕ → ℕ → List (DequeId × Global) → Vec 
 IsNewRow deal lanes pieces homes row =
     (homes_at row.items ≡ homes) × AreFresh deal lanes pieces row.items
 
--- the same for some lanes
+-- the rows of some lanes are new
 abbrev pub AreNewRows : Deal → ℕ → ℕ → List (DequeId × Global) → List (Vec Chair Global) → Type 0
 AreNewRows deal lanes pieces homes rows = (k : ℕ) (row : Vec Chair Global) → k < length rows
     → IsNewRow deal lanes pieces homes (slice_index_or rows k row)

@@ -12,8 +12,8 @@ use pp_base::{Gate, List, Memory};
 use std::alloc::Global;
 use std::thread::Threads;
 
-/// The outcome of each piece below `pieces`, at its place, by `n` lanes, from 1 to 64, each on a thread of its own
-/// where one can be made.
+/// The outcome of each piece below `pieces`, at its place. `n` lanes run them, from 1 to 64, each on a thread of its
+/// own where one can be made.
 ///
 /// Around each piece the gate's `enter` and `leave` are called. A lane whose job wants memory stops, and the answer is
 /// then `Memory`. Where none stopped, the caller runs what the lanes left, the lowest piece first. Where `pieces` is 0,

@@ -29,8 +29,8 @@ pub record GroupsAddUp (types : ℕ) (groups : List Group) : Type 0 where
 abbrev pub HasFirstMappings : List Profile → Profile → Type 0
 HasFirstMappings sources p = AllByRecursion (λ m. first_alike (all_mappings sources) m ≡ m) (all_mappings (p ∷ []))
 
--- Groups that give the same in steps as at once: their figures can be added up, no sample comes to nothing on the
--- way, no duration is negative, and each mapping that is left is the first of all that is one with it.
+-- Groups that give the same in steps as at once. Their figures can be added up, no sample comes to nothing on the way,
+-- and no duration is negative. Each mapping that is left is the first of all that is one with it.
 pub record MergeInSteps (columns : ℕ) (g : Group) (groups : List Group) : Type 0 where
   pub up : GroupsAddUp columns (g ∷ groups)
   pub samples : AllByRecursion (LosesNoSample columns) (g ∷ groups)

@@ -8,8 +8,9 @@ ghost use Rattle.std.specs.List.Sorted.{IsPermutation};
 ghost use Rattle.std.specs.List.{AllByRecursion};
 ghost use Rattle.std.specs.Prelude.{◌≡◌, ℕ, List, length};
 
-/// Profiles that are merged in another order give each sample the sum that they gave it. Which mapping is the first of
-/// those that are one depends on the order, and so do the order of samples and what is said once of all profiles.
+/// Profiles that are merged in another order give each sample the sum that they gave it. The order decides which
+/// mapping is the first of those that are one. It decides the order of samples too, and what is said once of all
+/// profiles.
 pub fn order_of_profiles_keeps_sums()
     ensures { (columns : ℕ) → (list other : List Profile) → IsPermutation list other
         → AllByRecursion (λ q. AllByRecursion (λ s. length s.value ≡ columns) q.sample) list

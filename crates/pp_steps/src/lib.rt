@@ -2,6 +2,8 @@
 //!
 //! Each law is the contract of a call that does nothing. `specs/Steps.antt` has the two ways to merge, `Premises.antt`
 //! what profiles have to be like, and `Stay.antt` what stays where they are less.
+//!
+//! Begin with `steps`; `premises` tells how to know what the laws ask, and `kept` what any merge keeps.
 #![tactic(auto)]
 
 mod kept;

@@ -21,16 +21,16 @@ pub fn named_mappings_are_kept()
         → AllByRecursion NamesMappings (all_sources groups) → AllByRecursion LosesNoMapping groups }
 {}
 
-/// Where each mapping of the profiles is one with a mapping of its group's merge, as one that a sample names is, each
-/// mapping that is left is the first of all.
+/// Where each mapping of the profiles is one with a mapping of its group's merge, each mapping that is left is the
+/// first of all. A mapping that a sample names is one with such a mapping.
 pub fn kept_mappings_are_first()
     ensures { (columns : ℕ) → (g : Group) → (groups : List Group) → GroupsAddUp columns (g ∷ groups)
         → AllByRecursion LosesNoMapping (g ∷ groups)
         → HasFirstMappings (all_sources (g ∷ groups)) (in_steps g groups) }
 {}
 
-/// Where mappings that are one are equal, as they are where each program ran at the same addresses, each mapping that
-/// is left is the first of all.
+/// Where mappings that are one are equal, each mapping that is left is the first of all. They are equal where each
+/// program ran at the same addresses.
 pub fn equal_mappings_are_first()
     ensures { (columns : ℕ) → (g : Group) → (groups : List Group) → GroupsAddUp columns (g ∷ groups)
         → HasEqualMappings (all_sources (g ∷ groups))

@@ -33,7 +33,7 @@ adds_more front more old before after a b = record {
   added = b.added ∙ ap (λ l. l ++ map sample_at more) a.added ∙ append_assoc old (map sample_at front) (map sample_at more) ∙ ap (λ l. old ++ l) (sym (map-append sample_at front more));
 }
 
--- So many parts are joined: the rest of the parts are those of the rest of the payloads.
+-- The front of the parts is joined: the rest of the parts are those of the rest of the payloads.
 pub record AreJoined (payloads : List PayloadAt) (old samples : List Sample) (parts : List (Option (List Sample))) : Type 0 where
   pub front : List PayloadAt
   pub rest : List PayloadAt

@@ -18,7 +18,7 @@ bare (Eight n) = Eight n
 bare (Four n) = Four n
 bare (Bytes bytes place) = Bytes bytes 0
 
--- the same field, at whatever places
+-- two items are of one field, at whatever places
 pub record SameField (i j : Item) : Type 0 where
   pub number : i.number ≡ j.number
   pub content : bare i.content ≡ bare j.content
@@ -29,11 +29,11 @@ Follows same behind (Ok x) (Ok y) = same x.0 y.0 × (y.1 ≡ x.1 ++ behind)
 Follows same behind (Ok x) (Err e) = ⊥
 Follows same behind (Err e) r = Unit {0}
 
--- the same number
+-- two numbers are equal
 abbrev Same : {A : Type 0} → A → A → Type 0
 Same x y = x ≡ y
 
--- the same content, at whatever places
+-- two contents are equal but for their places
 abbrev SameContent : Content → Content → Type 0
 SameContent x y = bare x ≡ bare y
 

@@ -44,7 +44,7 @@ again x behind (Ok y) (Ok z) is h =
     let first : y ≡ x = cc in
     record { item = z.0; same = rw (← first) h.0; is = rw (← first) (ap (λ rest. Ok (z.0, rest)) h.1) }
 
--- the same field comes first where more bytes follow
+-- a field comes first also where more bytes follow
 record Front (bytes : List ℕ) (x : Item × List ℕ) (behind : List ℕ) (base : ℕ) : Type 0 where
   item : Item
   same : SameField x.0 item

@@ -45,7 +45,7 @@ pub add_more : {A : Type 0} (read : Item → List A) (n : ℕ) (i : Item) (items
 add_more read n i items xs =
     add_case (eqb i.number n) read i (filter (λ item. eqb item.number n) items) xs
 
--- the same of a Label
+-- a Label that takes one item and then the others has what all give
 pub label_more : (m : Label) (i : Item) (items : List Item) → label_after (label_put m i) items
     ≡ label_after m (i ∷ items)
 label_more m i items =
@@ -60,7 +60,7 @@ label_more m i items =
 pub sample_none : (m : Sample) → sample_after m [] ≡ m
 sample_none m = rw (append-nil m.location_id, append-nil m.value, append-nil m.label) refl
 
--- the same of a Sample
+-- a Sample that takes one item and then the others has what all give
 pub sample_more : (m : Sample) (i : Item) (items : List Item) → sample_after (sample_put m i) items
     ≡ sample_after m (i ∷ items)
 sample_more m i items =
@@ -70,7 +70,7 @@ sample_more m i items =
       add_more (messages_in (label_after no_label)) 3 i items m.label,
     )
 
--- the same of a Mapping
+-- a Mapping that takes one item and then the others has what all give
 pub mapping_more : (m : Mapping) (i : Item) (items : List Item)
     → mapping_after (mapping_put m i) items ≡ mapping_after m (i ∷ items)
 mapping_more m i items =
@@ -87,7 +87,7 @@ mapping_more m i items =
       set_more bools_in 10 i items m.has_inline_frames,
     )
 
--- the same of a Line
+-- a Line that takes one item and then the others has what all give
 pub line_more : (m : Line) (i : Item) (items : List Item) → line_after (line_put m i) items
     ≡ line_after m (i ∷ items)
 line_more m i items =
@@ -101,7 +101,7 @@ line_more m i items =
 pub location_none : (m : Location) → location_after m [] ≡ m
 location_none m = rw (append-nil m.line) refl
 
--- the same of a Location
+-- a Location that takes one item and then the others has what all give
 pub location_more : (m : Location) (i : Item) (items : List Item)
     → location_after (location_put m i) items ≡ location_after m (i ∷ items)
 location_more m i items =
@@ -113,7 +113,7 @@ location_more m i items =
       set_more bools_in 5 i items m.folded,
     )
 
--- the same of a Function
+-- a Function that takes one item and then the others has what all give
 pub function_more : (m : Function) (i : Item) (items : List Item)
     → function_after (function_put m i) items ≡ function_after m (i ∷ items)
 function_more m i items =
@@ -125,7 +125,7 @@ function_more m i items =
       set_more ints_in 5 i items m.start_line,
     )
 
--- the same of a ValueType
+-- a ValueType that takes one item and then the others has what all give
 pub value_type_more : (m : ValueType) (i : Item) (items : List Item)
     → value_type_after (value_type_put m i) items ≡ value_type_after m (i ∷ items)
 value_type_more m i items =
@@ -174,7 +174,7 @@ profile_none m =
       append-nil m.comment,
     ) refl
 
--- the same of a Profile
+-- a Profile that takes one item and then the others has what all give
 pub profile_more : (m : Profile) (i : Item) (items : List Item)
     → profile_after (profile_put m i) items ≡ profile_after m (i ∷ items)
 profile_more m i items =

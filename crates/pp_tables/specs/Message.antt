@@ -5,8 +5,8 @@ use Rattle.pp_wire.specs.declared.fault.WireFault.{WireFault}
 use Rattle.pp_wire.specs.Walk.{Walk}
 use Rattle.pp_wire.specs.Fields.{Content, Varint, Eight, Four, Bytes, Item, fields, numbers}
 
--- What a field of a message is: unknown and skipped, one number, numbers packed or one by one, a
--- run of bytes, or a message, which has faults of its own in a payload at a place.
+-- What a field of a message is: unknown and skipped, one number, numbers packed or one by one, a run of bytes, or a
+-- message. A message has faults of its own in a payload at a place.
 pub data Rule : Type 0 where
   Unknown : Rule
   Scalar : Rule

@@ -150,9 +150,9 @@ function_after old items = record {
   start_line = last_or old.start_line (all ints_in 5 items);
 }
 
--- message Profile: 1 sample_type, 2 sample, 3 mapping, 4 location, 5 function, 6 string_table, 7
--- drop_frames, 8 keep_frames, 9 time_nanos, 10 duration_nanos, 11 period_type, 12 period, 13
--- comment, 14 default_sample_type, 15 doc_url
+-- message Profile: 1 sample_type, 2 sample, 3 mapping, 4 location, 5 function, 6 string_table. Further 7 drop_frames, 8
+-- keep_frames, 9 time_nanos, 10 duration_nanos, 11 period_type, 12 period, 13 comment, 14 default_sample_type, 15
+-- doc_url.
 abbrev pub profile_rules : ℕ → Rule
 profile_rules n =
     if n == 1 then Nested (fault_in value_type_rules)

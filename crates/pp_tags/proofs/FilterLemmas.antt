@@ -82,7 +82,7 @@ named_by p tags f finders tagged parts s (b ∷ bs) none is some are inside =
     some_alike p (b ∷ bs) parts finders s (are ∙ ap (λ name. found_by p tags name finders tagged) is) inside
     ∙ by_parts_by p f finders tagged s (b ∷ bs) none is
 
--- the same of what was read
+-- what was found of labels is what was found of those that were read
 pub some_read : (p q : Profile) (name other : List ℕ) (parts found : List (List Bool)) (labels read : List Label) → q ≡ p → other ≡ name →
     found ≡ parts → read ≡ labels → some_found q other found read ≡ some_found p name parts labels
 some_read p q name other parts found labels read same is are from = λ i. some_found (same i) (is i) (are i) (from i)

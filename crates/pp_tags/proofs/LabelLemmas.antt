@@ -33,7 +33,7 @@ labels_have_texts p s valid (k, within, is) = λ j d below.
 pub verdict_is : (p : Profile) (find : Finder) (i : ℤ) → is_text p i ≡ true → verdict_on (map find p.text) i ≡ find (text_of p i)
 verdict_is p find i inside = get_or-map find p.text (text_number i) [] false (text_below (length p.text) i inside)
 
--- the same where the pattern may not be in force
+-- the verdict on a text, where the pattern may not be in force
 verdict_or_is : (p : Profile) (found : Option (List Bool)) (pattern : Option Finder) (other : Bool) (i : ℤ) → found ≡ judged p pattern →
     is_text p i ≡ true → verdict_or found i other ≡ option_map_or (λ find. find (text_of p i)) pattern other
 verdict_or_is p found pattern other i is inside = ap (λ f. verdict_or f i other) is ∙ by_pattern pattern

@@ -73,7 +73,7 @@ module _ {X : Type 0} where
     stays (x ∷ xs) k q inside =
         stays_here k x q xs (insert_key cmp xs k) (cmp k x) (either x q xs inside) (stays xs k q)
 
-    -- the same of all that are added in turn
+    -- a key that is in the set stays when all are added in turn
     all_stay : (xs ks : List X) (q : X) → Contains ks q → Contains (fold (insert_key cmp) ks xs) q
     all_stay [] ks q inside = inside
     all_stay (x ∷ xs) ks q inside = all_stay xs (insert_key cmp ks x) q (stays ks x q inside)

@@ -94,7 +94,7 @@ abbrev pub ArePartVerdicts : Profile → List Tag → TagFilter → List Finder 
 ArePartVerdicts p tags filter parts found =
     found ≡ map (λ find. map find (subjects p tags filter.name)) parts
 
--- The same of a filter that may not be in force.
+-- The verdicts on tags are those of a filter that may not be in force.
 abbrev pub AreTagVerdicts : Profile → List Tag → Option TagFilter → List Finder → List (List Bool) → Type 0
 AreTagVerdicts p tags filter parts found =
     ForSome filter (λ f. ArePartVerdicts p tags f parts found)
@@ -131,7 +131,7 @@ found_by p tags (_ ∷ _) parts tagged = map (λ find. map find p.text) parts
 abbrev pub ArePartVerdictsBy : Profile → List Tag → TagFilter → List Finder → List (Tag → Bool) → List (List Bool) → Type 0
 ArePartVerdictsBy p tags filter parts tagged found = found ≡ found_by p tags filter.name parts tagged
 
--- The same of a filter that may not be in force.
+-- The verdicts on tags are those of a filter that may not be in force, by predicates on tags.
 abbrev pub AreTagVerdictsBy : Profile → List Tag → Option TagFilter → List Finder → List (Tag → Bool) → List (List Bool) → Type 0
 AreTagVerdictsBy p tags filter parts tagged found =
     ForSome filter (λ f. ArePartVerdictsBy p tags f parts tagged found)
@@ -149,7 +149,7 @@ abbrev pub is_tag_kept : Profile → Option TagFilter → Option TagFilter → F
 is_tag_kept p focus ignore f s =
     selects_or true p focus f.tagfocus s && not (selects_or false p ignore f.tagignore s)
 
--- The same by what the parts find of texts or of tags.
+-- a sample is kept by what the parts find of texts or of tags
 abbrev pub is_tag_kept_by : Profile → Option TagFilter → Option TagFilter → Finders → List (Tag → Bool) → List (Tag → Bool) → Sample → Bool
 is_tag_kept_by p focus ignore f focused ignored s =
     selects_by_or true p focus f.tagfocus focused s && not (selects_by_or false p ignore f.tagignore ignored s)

@@ -14,7 +14,7 @@ use Rattle.pp_tags.specs.TagPairs.{AreRising, tag_of}
 abbrev pub verdict_on : List Bool → ℤ → Bool
 verdict_on found index = slice_index_or found (text_number index) false
 
--- the same of a pattern, and the other answer where it isn't in force
+-- the verdict of a pattern, and `otherwise` where it isn't in force
 abbrev pub verdict_or : Option (List Bool) → ℤ → Bool → Bool
 verdict_or found index otherwise = option_map_or (λ f. verdict_on f index) found otherwise
 

@@ -1,5 +1,8 @@
 //! Labels: the tags of a profile, tag filters with the samples that they select, and the labels that are shown. A
 //! filter reads verdicts by the index of a text or of a tag, and never searches a text.
+//!
+//! Begin with `tag_filter`, which reads a filter, and `selecting`, which says what samples it selects. `tag_pairs`
+//! lists the tags of a profile, `labels` says what a label says, and `showing` which labels a report shows.
 #![tactic(auto)]
 
 mod labels;

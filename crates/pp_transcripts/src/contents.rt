@@ -58,7 +58,7 @@ impl Contents {
         }
     }
 
-    /// The same paths and contents, as a list of their own.
+    /// A copy of these paths and contents.
     pub fn copied(&self) -> Result<List<(Text, Text)>, Memory> {
         let mut copy = List::new(self.alloc);
         for (path, content) in &self.entries {

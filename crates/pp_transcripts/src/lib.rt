@@ -1,4 +1,7 @@
 //! Transcripts of whole sessions: what a session is given, and what it owes.
+//!
+//! Begin with `line`, which has the form of a file of transcripts, and `transcript`, which reads one. `session` is a
+//! transcript with its files, and `trials` the calls of the outside that fail in a run of it.
 #![tactic(auto)]
 
 mod calls;

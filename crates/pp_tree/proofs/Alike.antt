@@ -37,7 +37,7 @@ found x (y ∷ ys) some =
           record { before = y ∷ rest.before; after = rest.after; is = ap (λ zs. y ∷ zs) rest.is }
     ] refl
 
--- the same counts give the same items in some order
+-- equal counts give equal items in some order
 pub alike : {Y : Type 0} (h : ℕ → Option Y) (xs ys : List ℕ) → ((m : ℕ) → occurrences m xs ≡ occurrences m ys) → IsPermutation (filter_map h xs) (filter_map h ys)
 alike h [] [] same = IsPermutation-refl []
 alike h [] (y ∷ ys) same = absurd (omega (arith, same y, times-self y ys))

@@ -134,7 +134,7 @@ module _ (p : Profile) (config : Config) (find : Finder) where
       ap (eq_by_cmp key_cmp k) (texts ∙ ap (key_of_frame p config) same)
       ∙ sym (λ i. counted i && ((ap (λ (x : Frame). find (written p x).function) (sym same) ∙ found) i && eq_by_cmp key_cmp k (key_of_frame p config f)))
 
--- the same is asked in another form
+-- what is asked may be asked in another form
 pub found_as : {T E : Type 0} (r : Result T E) (new old a b : Written → Bool) → ((k : Written) → a k ≡ b k)
     → IfOk r (λ _. (k : Written) → new k ≡ (old k || a k)) → IfOk r (λ _. (k : Written) → new k ≡ (old k || b k))
 found_as (Err e) new old a b same h = tt

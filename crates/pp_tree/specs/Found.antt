@@ -57,7 +57,7 @@ has_own_sample p f config column find k s =
     not (int_eq (selected column config.divide_by s) (pos 0))
     && option_map_or (has_own_frame p config find k) (frames_of_sample p f s) false
 
--- the same of the sample with this number
+-- the sample with this number has the key on a frame that the own pattern finds
 abbrev pub has_own_number : Profile → Finders → Config → Option ℕ → Finder → Written → ℕ → Bool
 has_own_number p f config column find k n =
     option_map_or (has_own_sample p f config column find k) (slice_get p.sample n) false

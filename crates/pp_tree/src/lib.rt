@@ -1,5 +1,8 @@
-//! The tree report, which shows each node between its callers and its callees, and the peek report, which does so for
+//! The tree report and the peek report. Tree shows each node between its callers and its callees, and peek does so for
 //! the nodes that a pattern finds.
+//!
+//! Begin with `tree` and `peek`. `nodes` writes a node between its callers and callees, which `ends` gathers and `near`
+//! sorts and writes. `found` and `own` find the nodes of peek.
 #![tactic(auto)]
 
 mod ends;
@@ -10,5 +13,5 @@ mod own;
 mod peek;
 mod tree;
 
-pub use peek::{write_peek, write_peek_of};
+pub use peek::write_peek;
 pub use tree::write_tree;

@@ -37,8 +37,8 @@ pub struct Asked<'a> {
     pub column: Option<u32>,
 }
 
-/// For each name whether the own pattern, of which `own` are the verdicts, finds the function of a frame that counts
-/// and has the name's key. Goes over all samples that the filters leave.
+/// For each name whether the own pattern finds the function of a frame that counts and has the name's key. `own` has
+/// the pattern's verdicts. Goes over all samples that the filters leave.
 pub fn found_by_frames(
     alloc: Global,
     survey: &Survey<'_>,

@@ -1,10 +1,10 @@
 //! The whole peek report.
-ghost use Rattle.std.specs.Prelude.{◌≡◌, ◌++◌, Bool, Option, filter, map, replicate, slice_index_or, IfOk, IfErr, OnOk, OnErr, true, false};
+ghost use Rattle.std.specs.Prelude.{◌≡◌, ◌++◌, Bool, filter, map, replicate, slice_index_or, IfOk, IfErr, OnOk, OnErr, true, false};
 ghost use Rattle.pp_model.specs.Finders.{Finders};
 ghost use Rattle.pp_model.specs.FrameTexts.{Written};
 ghost use Rattle.pp_units.specs.Head.{facts};
 ghost use Rattle.pp_grain.specs.Keys.{key_written};
-ghost use Rattle.pp_count.specs.Counted.{CanCount, IsCountedOf, has_own_match};
+ghost use Rattle.pp_count.specs.Counted.{has_own_match};
 ghost use Rattle.pp_count.specs.Seeing.{HoldsFilters};
 ghost use Rattle.pp_graph.specs.KeyRows.{CanShow};
 ghost use Rattle.pp_tree.specs.Peek.{peek_text};
@@ -14,54 +14,18 @@ ghost use Rattle.pp_tree.specs.Whole.{all_pairs, pairs_about};
 use crate::found::found_names;
 use crate::nodes::{NodeTable, put_nodes, put_table_heading};
 use pp_base::{Gate, List, MatchRefusal, Memory, Text};
-use pp_count::{Counted, Ends, Survey, edges_about};
+use pp_count::{Ends, Survey, edges_about};
 use pp_graph::{Graph, rank_all};
-use pp_model::{Config, Loaded, Verdicts};
 use pp_units::{Head, write_head};
 use std::alloc::Global;
 use std::thread::Threads;
 
 /// Appends the peek report: the lines of the head, the heading, and each node that the own pattern finds, in report
-/// order, between all its callers and all its callees, as in a tree report. Nothing is trimmed.
+/// order. A node stands between all its callers and all its callees, as in a tree report. Nothing is trimmed.
 ///
 /// A node is found where the pattern finds the function of a frame that counts and has the node's key. `NoMatch` comes
 /// where no node is. After an error `out` is as it was.
 pub fn write_peek<R: Threads + Sync, G: Gate>(
-    rt: &R,
-    alloc: Global,
-    l: &Loaded,
-    v: &Verdicts,
-    c: &Counted,
-    config: &Config,
-    column: Option<u32>,
-    head: &Head,
-    gate: &G,
-    out: &mut Text,
-) -> Result<(), MatchRefusal>
-    requires can { CanCount l.now.profile v.now config.now column }
-    requires counted { IsCountedOf l.now v.now config.now column c.now }
-    ensures ok { (f : Finders) → HoldsFilters l.now v.now config.now f →
-        OnOk result (out.new
-        ≡ out.old ++ peek_text l.now.profile f config.now column (facts head.now)) }
-    ensures some { (f : Finders) → HoldsFilters l.now v.now config.now f →
-        OnOk result (has_own_match l.now.profile f config.now column ≡ true) }
-    ensures none { (f : Finders) → HoldsFilters l.now v.now config.now f →
-        IfErr result (λ e. e ≡ MatchRefusal.NoMatch →
-        has_own_match l.now.profile f config.now column ≡ false) }
-    ensures err { OnErr result (out.new ≡ out.old) }
-{
-    let survey = Survey {
-        l,
-        v,
-        config,
-        column,
-        counted: c,
-    };
-    write_peek_of(rt, alloc, &survey, head, gate, out)
-}
-
-/// What `write_peek` does for the report.
-pub fn write_peek_of<R: Threads + Sync, G: Gate>(
     rt: &R,
     alloc: Global,
     survey: &Survey<'_>,

@@ -10,7 +10,7 @@ abbrev pub labelled : List ℕ → List ℕ → List ℕ
 labelled label [] = []
 labelled label (b ∷ bs) = label ++ (b ∷ bs) ++ codes "\n"
 
--- the line of so many nanoseconds, in the unit picked for themselves, and of the total
+-- the line of a duration in nanoseconds, in the unit picked for itself, and of the total
 abbrev pub known_duration : ℕ → ℕ → Shown → List ℕ
 known_duration nanoseconds total unit =
     codes "Duration: "
@@ -24,8 +24,8 @@ abbrev pub duration_line : ℤ → ℕ → Shown → List ℕ
 duration_line duration total unit =
     if int_lt (pos 0) duration then known_duration (unsigned_abs duration) total unit else []
 
--- The lines of the path of a file, of the name of a type, and of a duration in nanoseconds with the
--- total, which is printed in the unit. Each stands as it applies.
+-- The lines of the path of a file, of the name of a type, and of a duration in nanoseconds with the total. The total is
+-- printed in the unit. Each line stands as it applies.
 unfoldable pub head_lines : List ℕ → List ℕ → ℤ → ℕ → Shown → List ℕ
 head_lines file kind duration total unit =
     labelled (codes "File: ") (last_name file)

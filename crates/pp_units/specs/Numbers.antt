@@ -3,15 +3,15 @@ use Rattle.std.specs.Prelude.{ℕ, Bool, ◌&&◌, nat_lt, suc, ◌+◌, ◌-◌
 use Rattle.pp_units.specs.Rounded.{rounded}
 use Rattle.pp_units.specs.Shown.{Shown, to_at, suffix_at}
 
--- the two decimals of so many hundredths, after a point
+-- the two decimals of a number of hundredths, after a point
 abbrev pub decimals : ℕ → List ℕ
 decimals hundredths = codes "." ++ (48 + hundredths % 100 / 10) ∷ (48 + hundredths % 10) ∷ []
 
--- so many hundredths, with two decimals
+-- a number of hundredths, with two decimals
 abbrev pub full : ℕ → List ℕ
 full hundredths = decimal (hundredths / 100) ++ decimals hundredths
 
--- the same, where `.00` is left out
+-- a number of hundredths with two decimals, where `.00` is left out
 abbrev pub shortened : ℕ → List ℕ
 shortened hundredths =
     decimal (hundredths / 100) ++ (if hundredths % 100 == 0 then [] else decimals hundredths)
@@ -21,7 +21,7 @@ abbrev pub signed_text : (ℕ → List ℕ) → ℤ → List ℕ
 signed_text text (pos n) = text n
 signed_text text (negsuc n) = codes "-" ++ text (suc n)
 
--- a minus, where so many are below 0; no public clause cites it
+-- a minus, where n is negative and not 0; no public clause cites it
 abbrev pub sign_text : Bool → ℕ → List ℕ
 sign_text negative n = if negative && nat_lt 0 n then codes "-" else []
 
@@ -44,6 +44,6 @@ unfoldable pub percent_text : ℤ → ℕ → List ℕ
 percent_text value total =
     if total == 0 then codes "0%" else signed_text full (rounded value 10000 total) ++ codes "%"
 
--- a text that ends at the right of so many places; a longer one stands whole
+-- a text that ends at the right of `width` places; a longer one stands whole
 abbrev pub right_text : ℕ → List ℕ → List ℕ
 right_text width text = replicate (width - length text) 32 ++ text

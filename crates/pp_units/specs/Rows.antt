@@ -53,7 +53,7 @@ dropped_nodes = codes " nodes by nodefraction\n"
 abbrev pub dropped_edges : List ℕ
 dropped_edges = codes " edges by edgefraction\n"
 
--- so many of so many are shown
+-- `shown` rows of `candidates` are shown
 abbrev pub counts_text : ℕ → ℕ → List ℕ
 counts_text shown candidates =
     numbered (codes "Showing top ") shown ++ numbered (codes " nodes out of ") candidates

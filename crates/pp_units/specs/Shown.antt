@@ -64,7 +64,7 @@ agree Plain Plain alike = true
 agree Other Other alike = alike
 agree _ _ alike = false
 
--- the same, of the units' texts
+-- the two units, by their texts, are of one kind
 unfoldable pub is_same_kind : List ℕ → List ℕ → Bool
 is_same_kind wanted unit = agree (family wanted) (family unit) (is_spelled wanted unit)
 

@@ -66,7 +66,7 @@ fn put_duration(alloc: Global, head: &Head, lines: &mut Text) -> Result<(), Memo
     )
 }
 
-// The line of so many nanoseconds and of the total, which is in the unit.
+// The line of the duration in nanoseconds, and of the total, which is in the unit.
 fn put_known(
     alloc: Global,
     nanoseconds: u64,

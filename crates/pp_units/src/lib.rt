@@ -1,4 +1,8 @@
 //! Units, numbers, percentages, ranges, fractions and heads: every number that a person reads.
+//!
+//! A value is printed in steps: `scale` and `family` are the table of units, `picked`, `forced` and `each` choose a
+//! unit, `rounded` rounds to hundredths, and `number` writes digits. `row` and `head` have the columns and lines that
+//! several reports share, `range` and `fraction` read what options spell.
 #![tactic(auto)]
 
 mod each;

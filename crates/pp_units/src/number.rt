@@ -82,7 +82,7 @@ pub fn write_number(negative: bool, size: u64, unit: &Unit, out: &mut Small)
     }
 }
 
-// The whole part of so many hundredths, after a minus where they are negative and not 0.
+// The whole part of a number of hundredths, after a minus where they are negative and not 0.
 fn put_whole(negative: bool, hundredths: u128, out: &mut Small)
     requires { out.old ≡ [] }
     ensures text { out.new ≡ sign_text negative hundredths ++ decimal (hundredths / 100) }
@@ -94,7 +94,7 @@ fn put_whole(negative: bool, hundredths: u128, out: &mut Small)
     out.extend(Buffer::new().format(hundredths / 100).as_bytes());
 }
 
-// The two decimals of so many hundredths.
+// The two decimals of a number of hundredths.
 fn put_decimals(hundredths: u128, out: &mut Small)
     requires { length out.old ≤ 45 }
     ensures text { out.new ≡ out.old ++ decimals hundredths }

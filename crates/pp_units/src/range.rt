@@ -172,9 +172,9 @@ fn number_of(negative: bool, digits: &[u8]) -> Option<i64>
     Some(size as i64)
 }
 
-/// Whether the number of the unit lies in the range. A bound without a unit is compared with the
-/// number as it is; else both are counted in the smallest unit of their family, and a number of
-/// another family, or of another unit that is in none, does not lie in the range.
+/// Whether the number of the unit lies in the range. A bound without a unit is compared with the number as it is. Else
+/// both are counted in the smallest unit of their family; a number of another family, or of another unit that is in
+/// none, does not lie in the range.
 #[tactic(auto, unfolding(crate::specs::Ranges::in_range))]
 pub fn in_range(range: &Range, num: i64, unit: &[u8]) -> bool
     ensures { result ≡ in_range range.now num unit.now }

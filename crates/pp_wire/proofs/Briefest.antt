@@ -11,7 +11,7 @@ use Rattle.pp_wire.specs.Spelling.{shortest, varint_bytes}
 use Rattle.pp_wire.proofs.Shortest.{last_group, next_group, all_groups}
 use Rattle.pp_base.specs.Results.{◌>>=◌}
 
--- what was read took one group and so many more, and its number lies below what these can spell
+-- what was read took one group and `more` further ones, and its number lies below what these can spell
 pub record Took (bytes : List ℕ) (n : ℕ) (rest : List ℕ) : Type 0 where
   pub more : ℕ
   pub long : length bytes ≡ suc more + length rest
@@ -48,7 +48,7 @@ all_took zero bytes are = tt
 all_took (suc k) [] are = tt
 all_took (suc k) (b ∷ bytes) are = took_case b bytes (groups k bytes) are.0 (all_took k bytes are.1)
 
--- a number that so many groups can spell has no longer shortest varint
+-- a number that k groups can spell has no longer shortest varint
 one_longer : (more k n : ℕ) → ((j m : ℕ) → m < 128 ^ suc j → length (shortest more m) ≤ suc j) → 128 ≤ n → n < 128 ^ suc k → suc (length (shortest more (n / 128))) ≤ suc k
 one_longer more zero n fewer high below = absurd (omega arith)
 one_longer more (suc k) n fewer high below =

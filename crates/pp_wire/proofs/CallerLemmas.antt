@@ -33,7 +33,7 @@ abbrev pub total : {A : Type 0} → (A → ℕ) → List A → ℕ
 total size [] = 0
 total size (x ∷ xs) = size x + total size xs
 
--- what was read has at most so many bytes, with those that are left
+-- what was read and what is left have together at most this many bytes
 abbrev FitsIn : {A E : Type 0} → (A → ℕ) → ℕ → Read A E → Type 0
 FitsIn size n (Ok x) = size x.0 + length x.1 ≤ n
 FitsIn size n (Err e) = Unit {0}

@@ -22,7 +22,7 @@ VarintFits (Eight n) = Unit {0}
 VarintFits (Four n) = Unit {0}
 VarintFits (Bytes bytes at) = Unit {0}
 
--- the same of a field
+-- the varint of a field fits
 abbrev pub ItemFits : Item → Type 0
 ItemFits item = VarintFits item.content
 

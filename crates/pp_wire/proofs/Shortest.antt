@@ -28,7 +28,7 @@ pub all_groups : (n : ℕ) → shortest 0 n ≡ n ∷ []
 unfolding shortest
 all_groups n = refl
 
--- what is left behind so many groups of a number of 64 bits is below this
+-- what is left behind this number of groups of a number of 64 bits is below this
 abbrev pub bound : ℕ → ℕ
 bound groups = 2 ^ (64 - 7 * groups)
 

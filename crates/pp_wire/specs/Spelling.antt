@@ -2,7 +2,7 @@
 use Rattle.std.specs.Prelude.{ℕ, zero, suc, ◌+◌, ◌*◌, ◌/◌, ◌%◌, List, [], ◌∷◌, ◌++◌, length, nat_lt, ◌==◌, if◌then◌else◌}
 use Rattle.std.specs.List.{flat_map}
 
--- the shortest groups of a number, where at most so many come before the last
+-- the shortest groups of a number, where at most as many come before the last as the first number says
 unfoldable pub shortest : ℕ → ℕ → List ℕ
 shortest zero n = n ∷ []
 shortest (suc more) n = if nat_lt n 128 then n ∷ [] else (128 + n % 128) ∷ shortest more (n / 128)

@@ -5,7 +5,7 @@ use Rattle.pp_wire.specs.declared.fault.WireKind.TheVariants.{Truncated, LongVar
 use Rattle.pp_wire.specs.Reading.{Read}
 use Rattle.pp_base.specs.Results.{◌>>=◌}
 
--- groups of seven bits, lowest first, of which at most so many come: a byte from 128 on has another behind it
+-- groups of seven bits, lowest first, at most as many as the number says: a byte from 128 on has another behind it
 unfoldable pub groups : ℕ → List ℕ → Read ℕ WireKind
 groups zero bytes = Err LongVarint
 groups (suc n) [] = Err Truncated

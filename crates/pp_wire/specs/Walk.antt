@@ -32,7 +32,7 @@ abbrev pub and_then : {A : Type 0} → Read A WireFault → (List ℕ → Walk A
 and_then (Ok x) walk = more x.0 (walk x.1)
 and_then (Err fault) walk = record { items = []; fault = Some fault }
 
--- the items that a reader finds in bytes one after another, at most so many
+-- the items that a reader finds in bytes one after another, at most as many as the number says
 unfoldable pub walk_in : {A : Type 0} → (List ℕ → Read A WireFault) → ℕ → List ℕ → Walk A
 walk_in read zero bytes = record { items = []; fault = None }
 walk_in read (suc n) [] = record { items = []; fault = None }

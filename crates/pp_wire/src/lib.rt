@@ -1,4 +1,7 @@
 //! The fields of the Protocol Buffers wire format, walked and written.
+//!
+//! Begin with `walker`, which goes over a message's fields; `reading` reads one field, and `varint` one number.
+//! `packed` goes over packed numbers, and `writing` appends fields. `laws` says that what is written is read again.
 #![tactic(auto)]
 
 mod fault;

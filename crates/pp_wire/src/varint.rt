@@ -20,7 +20,7 @@ pub(crate) fn varint_of(bytes: &[u8]) -> Result<(u64, &[u8]), WireKind>
     }
 }
 
-// The same, where the varint takes one byte or two.
+// The varint in front, where it takes one byte or two, and the bytes behind it.
 #[inline(always)]
 #[tactic(auto, using(crate::proofs::Varints::one_byte))]
 fn short_varint_of(bytes: &[u8]) -> Option<(u64, &[u8])>
@@ -48,7 +48,7 @@ fn two_groups(first: u8, second: u8) -> u64
     u64::from(first - 128) + 128 * u64::from(second)
 }
 
-// The same for a varint of any length. Most that take more than two bytes take three.
+// The varint in front, of any length, and the bytes behind it. Most that take more than two bytes take three.
 #[inline(always)]
 fn wide_varint_of(bytes: &[u8]) -> Result<(u64, &[u8]), WireKind>
     ensures read { Gives (λ x. (x.0, x.1.now)) result (varint bytes.now) }
@@ -77,7 +77,7 @@ fn three_groups(first: u8, second: u8, third: u8) -> u64
     u64::from(first - 128) + 128 * two_groups(second, third)
 }
 
-// The same for a varint of any length, group by group.
+// The varint in front, of any length, read group by group, and the bytes behind it.
 #[inline(never)]
 fn long_varint_of(bytes: &[u8]) -> Result<(u64, &[u8]), WireKind>
     ensures read { Gives (λ x. (x.0, x.1.now)) result (varint bytes.now) }

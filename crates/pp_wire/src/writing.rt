@@ -24,7 +24,7 @@ pub fn put_varint(out: &mut Text, n: u64) -> Result<(), Memory>
     put_long_varint(out, n)
 }
 
-// The same for a number of any length.
+// Appends the varint of a number of any length.
 fn put_long_varint(out: &mut Text, n: u64) -> Result<(), Memory>
     ensures ok { OnOk result (out.new ≡ out.old ++ varint_bytes n) }
     ensures err { OnErr result (out.new ≡ out.old) }

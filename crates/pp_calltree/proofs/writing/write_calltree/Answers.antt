@@ -1,9 +1,6 @@
-use Rattle.std.proofs.Common.{List, subst, sym}
-use Rattle.pp_calltree.specs.declared.tree.PathNode.{PathNode}
-use Rattle.pp_calltree.specs.Tree.{IsTreeOf}
 use Rattle.pp_calltree.proofs.writing.write_calltree.Goals as goal
 
--- the tree is its nodes
+-- the nodes are those of the report's tree
 pub returns-clause-ok : goal.returns-clause-ok
-returns-clause-ok c v column f tree holds =
-    c.write_path_nodes.ensures.ok v column f (subst (λ (nodes : List PathNode). IsTreeOf c.args.l.now v c.args.config.now column nodes) (sym c.t.view_is) tree) holds
+returns-clause-ok c f holds =
+    c.write_path_nodes.ensures.ok c.args.survey.now.v.now c.args.survey.now.column f c.in_ok-nodes.ensures holds

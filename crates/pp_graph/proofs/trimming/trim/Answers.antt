@@ -7,7 +7,7 @@ use Rattle.pp_graph.specs.Cuts.{kept_flags, is_heavy_edge, is_light_edge}
 use Rattle.pp_graph.proofs.Flags.{length-flags}
 use Rattle.pp_graph.proofs.Left.{trimmed_of}
 use Rattle.pp_graph.proofs.Starting.{nodes_same}
-use Rattle.pp_graph.proofs.trimming.trim_of.Goals as goal
+use Rattle.pp_graph.proofs.trimming.trim.Goals as goal
 
 pub kept-requires : goal.kept-requires
 kept-requires g c =

@@ -4,7 +4,7 @@ use Rattle.std.proofs.lemmas.Result.{err_from_is_err_and}
 use Rattle.pp_units.specs.Head.{facts}
 use Rattle.pp_source.specs.Listing.{list_report}
 use Rattle.pp_source.proofs.ListLemmas.{added_stopped, given_added, given_wants}
-use Rattle.pp_source.proofs.listing.write_list_of.Goals as goal
+use Rattle.pp_source.proofs.listing.write_list.Goals as goal
 
 -- the report was stopped
 pub returns-in_err-text-clause-went : goal.returns-in_err-text-clause-went

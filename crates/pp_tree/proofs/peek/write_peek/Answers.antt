@@ -7,7 +7,7 @@ use Rattle.pp_tree.specs.Ends.{ShowsPairs}
 use Rattle.pp_tree.specs.Peek.{is_found_key}
 use Rattle.pp_tree.specs.Whole.{all_pairs, pairs_about}
 use Rattle.pp_tree.proofs.Peeking.{found_fits, peeked_is}
-use Rattle.pp_tree.proofs.peek.write_peek_of.Goals as goal
+use Rattle.pp_tree.proofs.peek.write_peek.Goals as goal
 
 pub put_peek-requires-clause-show : goal.put_peek-requires-clause-show
 put_peek-requires-clause-show g c =
