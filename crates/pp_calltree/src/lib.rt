@@ -4,7 +4,7 @@
 //! samples below one path then stand together. `branching` cuts such a run by its next key, and `laying` writes the
 //! nodes of all branches into one list, parents before children.
 //!
-//! Begin with `writing` (`write_calltree_of`), which makes the text from that list; `shown` leaves out what is light.
+//! Begin with `writing` (`write_calltree`), which makes the text from that list; `shown` leaves out what is light.
 //! `listing` has the paths with sums that the folded report prints, without nodes. `building` and `tree` are for
 //! callers that walk the tree by links.
 #![tactic(auto)]
