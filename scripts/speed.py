@@ -1,7 +1,7 @@
 #!/usr/bin/env python3
 """Measures the built program, and prints the tables of docs/speed.md.
 
-usage: speed.py PROGRAM [--runs N] [--rounds N] [--only WORDS] [--beside PPROF]
+usage: speed.py PROGRAM [--runs N] [--rounds N] [--only=WORDS] [--beside PPROF]
 
 The profiles are of one made-up server: samples of 20 to 34 locations over 5,000 functions. The same words give the same
 profiles. Each case runs N times in each round (4 and 2), the cases of a round in turn. Of each case the least time and
