@@ -1,6 +1,6 @@
 -- What the writers of reports ask for, and what they leave.
-use Rattle.std.proofs.Common.{◌≡◌, ℕ, List, [], ◌++◌, refl, sym, ap, ◌∙◌, subst}
-use Rattle.std.specs.Prelude.{Option, Some, None, Result, Ok, Err, IfOk}
+use Rattle.std.proofs.Common.{◌≡◌, ℕ, true, List, [], ◌++◌, refl, sym, ap, ◌∙◌, subst}
+use Rattle.std.specs.Prelude.{Option, Some, None, Result, Ok, Err, IfOk, if◌then◌else◌}
 use Rattle.pp_base.specs.declared.memory.Memory.{Memory}
 use Rattle.pp_desk.specs.declared.stop.Stop.{Stop}
 use Rattle.pp_desk.specs.Script.{Script, Give, Make, ◌>>=◌}
@@ -10,6 +10,7 @@ use Rattle.pp_desk.proofs.Going.{gives, wants, goes_give, stops_first}
 use Rattle.pp_model.specs.declared.config.Config.{Config}
 use Rattle.pp_model.specs.declared.loaded.Loaded.{Loaded}
 use Rattle.pp_model.specs.declared.profile.Profile.{Profile}
+use Rattle.pp_model.specs.declared.report.BaseKind.{BaseKind}
 use Rattle.pp_model.specs.declared.report.Report.{Report}
 use Rattle.pp_model.specs.declared.report.Report.TheVariants as reports
 use Rattle.pp_model.specs.Finders.{Finders}
@@ -22,11 +23,12 @@ use Rattle.pp_samples.specs.Comments.{comments_text}
 use Rattle.pp_dump.specs.Saved.{saved}
 use Rattle.pp_report.specs.declared.prepared.Counts.{Counts}
 use Rattle.pp_report.specs.declared.refusal.ReportRefusal.{ReportRefusal}
-use Rattle.pp_report.specs.declared.refusal.ReportRefusal.TheVariants.{NoMatch}
+use Rattle.pp_report.specs.declared.refusal.ReportRefusal.TheVariants.{NoBase, NoMatch}
+use Rattle.pp_report.specs.Base.{lacks_base}
 use Rattle.pp_report.specs.Patterns.{report_finders}
 use Rattle.pp_report.specs.Prepared.{Showing, AreCounts, HasCounts}
 use Rattle.pp_report.specs.SavedText.{IsProtoOf}
-use Rattle.pp_report.specs.Reports.{of_found, finish_on, finish_by, text_by, answer_of_text, answer_of_outcome}
+use Rattle.pp_report.specs.Reports.{of_found, finish, finish_made, finish_on, finish_by, text_by, answer_of_text, answer_of_outcome}
 use Rattle.pp_report.proofs.PreparingLemmas.{uncounted_comments}
 
 -- what was written into an empty text
@@ -93,6 +95,13 @@ module _ (finds : Finds) (l : Loaded) (report : Report) (config : Config) where
   -- a report without counts is one of comments
   pub is_comments : (column : Option ℕ) (all : Option Counts) → all ≡ None → HasCounts finds l report config column all → report ≡ reports.Comments
   is_comments column all is has = uncounted_comments report (subst (λ c. HasCounts finds l report config column c) is has)
+
+-- a report that lacks its base is refused
+pub finish_lacks : (finds : Finds) (l : Loaded) (base : Option BaseKind) (report : Report) (config : Config) (s : Showing) (w : World) → lacks_base base l.profile report ≡ true
+    → Went {T = Result (List ℕ) ReportRefusal} w w (finish finds l base report config s) (Ok (Err NoBase))
+finish_lacks finds l base report config s w lacks =
+    subst (λ b. Went {T = Result (List ℕ) ReportRefusal} w w (if b then Give (Err NoBase) else finish_made finds l report config s) (Ok (Err NoBase))) (sym lacks)
+    (gives w (Err NoBase))
 
 -- the text of a saved profile
 module _ (w : World) (p : Profile) (f : Finders) (config : Config) (column : Option ℕ) (h : Facts) where
