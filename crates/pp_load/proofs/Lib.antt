@@ -7,3 +7,6 @@ pub mod CountLemmas
 pub mod JoiningLemmas
 pub mod MadeLemmas
 pub mod ReadLemmas
+pub mod SpelledSizes
+pub mod GeneratedRows
+pub mod GeneratedLemmas

@@ -8,3 +8,4 @@ pub mod Sources
 pub mod Load
 pub mod Alone
 pub mod Messages
+pub mod GeneratedLoads

@@ -8,6 +8,7 @@ ghost use Rattle.pp_tables.specs.Read.{read};
 ghost use Rattle.pp_legacy.specs.Legacy.{is_legacy, legacy};
 ghost use Rattle.pp_load.specs.Decode.{decoded};
 ghost use Rattle.pp_load.specs.Alone.{SettledFilesLoad};
+ghost use Rattle.pp_load.specs.GeneratedLoads.{GeneratedLoads, GeneratedIsSmall};
 
 /// No message of profile.proto begins as a CPU profile of gperftools does, since 0 is no field number. So bytes that are
 /// read as a profile are loaded as that profile where no table rule fails in it.
@@ -35,4 +36,11 @@ pub fn legacy_is_loaded_as_written()
 /// alone.
 pub fn settled_files_load()
     ensures { SettledFilesLoad }
+{}
+
+/// The bytes that `gen_profile` gives load as the profile that it makes, merged alone. They are at most 40,000,000, so a
+/// file of them is within the limit of a file.
+pub fn generated_loads()
+    ensures loads { GeneratedLoads }
+    ensures small { GeneratedIsSmall }
 {}

@@ -18,7 +18,8 @@ mod refusal;
 
 pub use generator::gen_profile;
 pub use laws::{
-    legacy_is_loaded_as_written, read_is_loaded, settled_files_load, written_is_loaded,
+    generated_loads, legacy_is_loaded_as_written, read_is_loaded, settled_files_load,
+    written_is_loaded,
 };
 pub use loading::load;
 pub use message::refusal_line;
