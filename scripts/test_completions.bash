@@ -35,6 +35,6 @@ check "" -base = x
 check "" -focus = fl
 check "" cpu
 check "" sort c
-check "-comments -compare -cum -contentions" sort -c
+check "-comments -compare -changes -cum -contentions" sort -c
 echo "$count completions, $failed differ"
 exit $((failed > 0))
