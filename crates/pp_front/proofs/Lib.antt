@@ -1,0 +1,5 @@
+mod DeskLemmas
+mod CourseLemmas
+mod OneFileLemmas
+mod ReportLemmas
+mod FigureLemmas
