@@ -1,0 +1,38 @@
+//! Why profiles are not merged.
+ghost use Rattle.std.specs.Prelude.{◌≡◌};
+ghost use Rattle.pp_front.specs.declared.merge_error.MergeError.TheVariants as errors;
+
+use pp_base::Memory as WantOfMemory;
+use pp_merge::What;
+use thiserror::Error;
+
+/// Why profiles are not merged: the first cause.
+#[derive(Clone, Copy, Debug, PartialEq, Eq, Error)]
+pub enum MergeError {
+    /// They are 2^32 profiles and more, one has 2^32 sample types and more, or together they have 2^32 samples and more.
+    #[error("too many profiles, sample types or samples")]
+    TooMany,
+    /// The first profile of the list, by its place from 0, that does not agree with the one at place 0.
+    #[error("profile {source} does not agree with the first one")]
+    Incompatible { source: u32, what: What },
+    /// The least column, from 0, whose absolute values add up to more than 2^63-1.
+    #[error("the sum of column {column} is too large")]
+    TotalTooLarge { column: u32 },
+    /// The matcher refused the merged profile's own pattern of functions that are dropped with all that they call.
+    #[error("drop_frames is refused")]
+    DropFrames,
+    /// The matcher refused the merged profile's own pattern of functions that stay in spite of it.
+    #[error("keep_frames is refused")]
+    KeepFrames,
+    /// Want of memory.
+    #[error("out of memory")]
+    Memory,
+}
+
+impl From<WantOfMemory> for MergeError {
+    ghost from_gives = { λ _ e. e ≡ errors.Memory };
+
+    fn from(_: WantOfMemory) -> Self {
+        MergeError::Memory
+    }
+}
