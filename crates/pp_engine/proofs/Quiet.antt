@@ -6,6 +6,7 @@ use Rattle.pp_desk.specs.Script.{Script, ◌>>=◌}
 use Rattle.pp_desk.proofs.Quiet.{Only, only_then, reads_no_line}
 use Rattle.pp_model.specs.declared.config.Config.{Config}
 use Rattle.pp_model.specs.declared.loaded.Loaded.{Loaded}
+use Rattle.pp_model.specs.declared.report.BaseKind.{BaseKind}
 use Rattle.pp_model.specs.declared.report.Report.{Report}
 use Rattle.pp_load.specs.declared.refusal.LoadRefusal.{LoadRefusal}
 use Rattle.pp_load.specs.Load.{load}
@@ -27,33 +28,33 @@ quiet_end : (line : List ℕ) (cause : Cause) → Only reads_no_line (end_with l
 unfolding end_with ◌>>=◌
 quiet_end line cause = (refl, λ _. tt)
 
-quiet_settled : (finds : Finds) (l : Loaded) (report : Report) (config : Config) (settled : Result Settled ReportRefusal) → Only reads_no_line (note_and_finish finds l report config settled)
+quiet_settled : (finds : Finds) (l : Loaded) (base : Option BaseKind) (report : Report) (config : Config) (settled : Result Settled ReportRefusal) → Only reads_no_line (note_and_finish finds l base report config settled)
 unfolding note_and_finish ◌>>=◌
-quiet_settled finds l report config (Ok settled) = (refl, λ _. finish_reads_no_line finds l report config settled.showing)
-quiet_settled finds l report config (Err refusal) = tt
+quiet_settled finds l base report config (Ok settled) = (refl, λ _. finish_reads_no_line finds l base report config settled.showing)
+quiet_settled finds l base report config (Err refusal) = tt
 
 -- A report with its notes told reads no line.
-pub quiet_noted : (finds : Finds) (l : Loaded) (report : Report) (config : Config) → Only reads_no_line (noted_report finds l report config)
+pub quiet_noted : (finds : Finds) (l : Loaded) (base : Option BaseKind) (report : Report) (config : Config) → Only reads_no_line (noted_report finds l base report config)
 unfolding noted_report
-quiet_noted finds l report config = only_then reads_no_line (prepare finds l report config) (note_and_finish finds l report config) (prepare_reads_no_line finds l report config) (quiet_settled finds l report config)
+quiet_noted finds l base report config = only_then reads_no_line (prepare finds l report config) (note_and_finish finds l base report config) (prepare_reads_no_line finds l report config) (quiet_settled finds l base report config)
 
 quiet_made : (report : Report) (made : Result (List ℕ) ReportRefusal) → Only reads_no_line (end_report report made)
 unfolding end_report ◌>>=◌
 quiet_made report (Ok text) = (refl, λ _. tt)
 quiet_made report (Err refusal) = quiet_end _ _
 
-quiet_report : (finds : Finds) (l : Loaded) (report : Report) (config : Config) → Only reads_no_line (report_once finds l report config)
+quiet_report : (finds : Finds) (l : Loaded) (base : Option BaseKind) (report : Report) (config : Config) → Only reads_no_line (report_once finds l base report config)
 unfolding report_once
-quiet_report finds l report config = only_then reads_no_line (noted_report finds l report config) (end_report report) (quiet_noted finds l report config) (quiet_made report)
+quiet_report finds l base report config = only_then reads_no_line (noted_report finds l base report config) (end_report report) (quiet_noted finds l base report config) (quiet_made report)
 
-quiet_serve : (finds : Finds) (config : Config) (report : Option Report) (l : Loaded) → is_some report ≡ true → Only reads_no_line (serve finds config report l)
+quiet_serve : (finds : Finds) (base : Option BaseKind) (config : Config) (report : Option Report) (l : Loaded) → is_some report ≡ true → Only reads_no_line (serve finds base config report l)
 unfolding serve
-quiet_serve finds config (Some report) l some = quiet_report finds l report config
-quiet_serve finds config None l some = absurd (cc)
+quiet_serve finds base config (Some report) l some = quiet_report finds l base report config
+quiet_serve finds base config None l some = absurd (cc)
 
 quiet_loaded : (finds : Finds) (plan : Plan) (loaded : Result Loaded LoadRefusal) → is_some plan.report ≡ true → Only reads_no_line (serve_loaded finds plan loaded)
 unfolding serve_loaded
-quiet_loaded finds plan (Ok l) some = quiet_serve finds plan.config plan.report l some
+quiet_loaded finds plan (Ok l) some = quiet_serve finds plan.base_kind plan.config plan.report l some
 quiet_loaded finds plan (Err refusal) some = quiet_end _ _
 
 quiet_words : (finds : Finds) (said : Result Plan UsageFault) → asks_shell None said ≡ false → Only reads_no_line (perform_words finds said)

@@ -7,6 +7,7 @@ use Rattle.pp_desk.proofs.Quiet.{Only, only_then, reads_no_line}
 use Rattle.pp_model.specs.declared.config.Config.{Config}
 use Rattle.pp_model.specs.declared.loaded.Loaded.{Loaded}
 use Rattle.pp_model.specs.declared.profile.Profile.{Profile}
+use Rattle.pp_model.specs.declared.report.BaseKind.{BaseKind}
 use Rattle.pp_model.specs.declared.report.Report.{Report}
 use Rattle.pp_model.specs.declared.report.Report.TheVariants as reports
 use Rattle.pp_model.specs.Finders.{Finders}
@@ -16,10 +17,12 @@ use Rattle.pp_count.specs.Sums.{Seen}
 use Rattle.pp_model.specs.FrameTexts.{Written}
 use Rattle.pp_pattern.specs.Report.{judge, Finds}
 use Rattle.pp_report.specs.declared.refusal.ReportRefusal.{ReportRefusal}
+use Rattle.pp_report.specs.declared.refusal.ReportRefusal.TheVariants.{NoBase}
+use Rattle.pp_report.specs.Base.{lacks_base}
 use Rattle.pp_model.specs.ReportFacts.{own_pattern, is_counted}
 use Rattle.pp_report.specs.Patterns.{ask_patterns}
 use Rattle.pp_report.specs.Prepared.{Showing, prepare_counts, prepare_showing, showing_for, prepare_on, prepare}
-use Rattle.pp_report.specs.Reports.{list_text, text_by, finish_on, finish}
+use Rattle.pp_report.specs.Reports.{list_text, text_by, finish_on, finish_made, finish}
 use Rattle.pp_report.specs.Tagged.{basis_of}
 use Rattle.pp_source.specs.Files.{files_of_lines}
 use Rattle.pp_source.specs.declared.source.Source.{Source}
@@ -107,9 +110,16 @@ module _ (test : Step → Bool) where
     only_text p f config column h reports.Changes = tt
     only_text p f config column h reports.Account = tt
 
-    only_finish : (finds : Finds) (l : Loaded) (report : Report) (config : Config) (showing : Showing) → Only test (finish_on finds l report config showing)
+    only_made : (finds : Finds) (l : Loaded) (report : Report) (config : Config) (showing : Showing) → Only test (finish_on finds l report config showing)
     unfolding finish_on
-    only_finish finds l report config showing = only_text l.profile _ config showing.column _ report
+    only_made finds l report config showing = only_text l.profile _ config showing.column _ report
+
+    only_finish : (finds : Finds) (l : Loaded) (base : Option BaseKind) (report : Report) (config : Config) (showing : Showing) → Only test (finish finds l base report config showing)
+    only_finish finds l base report config showing =
+        elim (lacks_base base l.profile report) as (λ lacks. Only test (if lacks then Give (Err NoBase) else finish_made finds l report config showing)) [
+          | true ↦ tt
+          | false ↦ only_made finds (basis_of report l config) report config showing
+        ]
 
 -- What comes before a report's text only looks.
 pub prepare_looks : (finds : Finds) (l : Loaded) (report : Report) (config : Config) → Only only_looks (prepare finds l report config)
@@ -120,16 +130,16 @@ pub prepare_reads_no_line : (finds : Finds) (l : Loaded) (report : Report) (conf
 prepare_reads_no_line finds l report config = only_prepare reads_no_line (λ pattern. refl) finds (basis_of report l config) config report
 
 -- The text of a report only looks.
-pub finish_looks : (finds : Finds) (l : Loaded) (report : Report) (config : Config) (showing : Showing) → Only only_looks (finish finds l report config showing)
-finish_looks finds l report config showing = only_finish only_looks (λ path limit. refl) finds (basis_of report l config) report config showing
+pub finish_looks : (finds : Finds) (l : Loaded) (base : Option BaseKind) (report : Report) (config : Config) (showing : Showing) → Only only_looks (finish finds l base report config showing)
+finish_looks finds l base report config showing = only_finish only_looks (λ path limit. refl) finds l base report config showing
 
 -- It reads no line.
-pub finish_reads_no_line : (finds : Finds) (l : Loaded) (report : Report) (config : Config) (showing : Showing) → Only reads_no_line (finish finds l report config showing)
-finish_reads_no_line finds l report config showing = only_finish reads_no_line (λ path limit. refl) finds (basis_of report l config) report config showing
+pub finish_reads_no_line : (finds : Finds) (l : Loaded) (base : Option BaseKind) (report : Report) (config : Config) (showing : Showing) → Only reads_no_line (finish finds l base report config showing)
+finish_reads_no_line finds l base report config showing = only_finish reads_no_line (λ path limit. refl) finds l base report config showing
 
 -- Neither writes anything.
 pub prepare_writes_nothing : (finds : Finds) (l : Loaded) (report : Report) (config : Config) → Only writes_nothing (prepare finds l report config)
 prepare_writes_nothing finds l report config = only_prepare writes_nothing (λ pattern. refl) finds (basis_of report l config) config report
 
-pub finish_writes_nothing : (finds : Finds) (l : Loaded) (report : Report) (config : Config) (showing : Showing) → Only writes_nothing (finish finds l report config showing)
-finish_writes_nothing finds l report config showing = only_finish writes_nothing (λ path limit. refl) finds (basis_of report l config) report config showing
+pub finish_writes_nothing : (finds : Finds) (l : Loaded) (base : Option BaseKind) (report : Report) (config : Config) (showing : Showing) → Only writes_nothing (finish finds l base report config showing)
+finish_writes_nothing finds l base report config showing = only_finish writes_nothing (λ path limit. refl) finds l base report config showing

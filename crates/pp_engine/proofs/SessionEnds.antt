@@ -8,6 +8,7 @@ use Rattle.pp_desk.specs.declared.input_line.InputLine.{InputLine}
 use Rattle.pp_desk.specs.declared.input_line.InputLine.TheVariants as lines
 use Rattle.pp_model.specs.declared.config.Config.{Config}
 use Rattle.pp_model.specs.declared.loaded.Loaded.{Loaded}
+use Rattle.pp_model.specs.declared.report.BaseKind.{BaseKind}
 use Rattle.pp_model.specs.declared.report.Report.{Report}
 use Rattle.pp_load.specs.declared.refusal.LoadRefusal.{LoadRefusal}
 use Rattle.pp_load.specs.Load.{load}
@@ -43,9 +44,9 @@ unfolding end_report ◌>>=◌
 made_gives report (Ok text) = λ _. refl
 made_gives report (Err refusal) = end_gives (CanBe (Some report)) _ (causes.Report refusal) refl
 
-report_gives : (finds : Finds) (l : Loaded) (report : Report) (config : Config) → Gives (CanBe (Some report)) (report_once finds l report config)
+report_gives : (finds : Finds) (l : Loaded) (base : Option BaseKind) (report : Report) (config : Config) → Gives (CanBe (Some report)) (report_once finds l base report config)
 unfolding report_once
-report_gives finds l report config = gives_then (CanBe (Some report)) (noted_report finds l report config) (end_report report) (made_gives report)
+report_gives finds l base report config = gives_then (CanBe (Some report)) (noted_report finds l base report config) (end_report report) (made_gives report)
 
 -- how the shell ends: done, or at the limit of its input
 abbrev pub is_shell_end : Cause → Bool
@@ -74,44 +75,44 @@ ends_done config = λ given e. subst IsShellEnd (same_Some _ _ e) refl
 ends_long : (config : Config) → TurnEnds (config, Some causes.InputTooLong)
 ends_long config = λ given e. subst IsShellEnd (same_Some _ _ e) refl
 
-obey_gives : (finds : Finds) (l : Loaded) (config : Config) (command : Command) → Gives TurnEnds (obey finds l config command)
+obey_gives : (finds : Finds) (l : Loaded) (base : Option BaseKind) (config : Config) (command : Command) → Gives TurnEnds (obey finds l base config command)
 unfolding obey ◌>>=◌
-obey_gives finds l config commands.Nothing = goes_on config
-obey_gives finds l config commands.Quit = ends_done config
-obey_gives finds l config commands.Options = λ _. goes_on config
-obey_gives finds l config commands.Help = λ _. goes_on config
-obey_gives finds l config (commands.Set changed) = goes_on changed
-obey_gives finds l config (commands.Run report own to) = gives_then TurnEnds (report_on finds l report own to) _ (λ _. goes_on config)
+obey_gives finds l base config commands.Nothing = goes_on config
+obey_gives finds l base config commands.Quit = ends_done config
+obey_gives finds l base config commands.Options = λ _. goes_on config
+obey_gives finds l base config commands.Help = λ _. goes_on config
+obey_gives finds l base config (commands.Set changed) = goes_on changed
+obey_gives finds l base config (commands.Run report own to) = gives_then TurnEnds (report_on finds l base report own to) _ (λ _. goes_on config)
 
-said_gives : (finds : Finds) (l : Loaded) (config : Config) (said : Result Command LineFault) → Gives TurnEnds (obey_or_complain finds l config said)
+said_gives : (finds : Finds) (l : Loaded) (base : Option BaseKind) (config : Config) (said : Result Command LineFault) → Gives TurnEnds (obey_or_complain finds l base config said)
 unfolding obey_or_complain
-said_gives finds l config (Ok command) = obey_gives finds l config command
-said_gives finds l config (Err fault) = gives_then TurnEnds (complain fault) _ (λ _. goes_on config)
+said_gives finds l base config (Ok command) = obey_gives finds l base config command
+said_gives finds l base config (Err fault) = gives_then TurnEnds (complain fault) _ (λ _. goes_on config)
 
-line_gives : (finds : Finds) (l : Loaded) (config : Config) (line : InputLine) → Gives TurnEnds (follow finds l config line)
+line_gives : (finds : Finds) (l : Loaded) (base : Option BaseKind) (config : Config) (line : InputLine) → Gives TurnEnds (follow finds l base config line)
 unfolding follow ◌>>=◌
-line_gives finds l config (lines.Line bytes) = said_gives finds l config _
-line_gives finds l config lines.TooLong = gives_then TurnEnds (complain _) _ (λ _. goes_on config)
-line_gives finds l config lines.End = λ _. ends_done config
-line_gives finds l config lines.InputTooLong = λ _. ends_long config
+line_gives finds l base config (lines.Line bytes) = said_gives finds l base config _
+line_gives finds l base config lines.TooLong = gives_then TurnEnds (complain _) _ (λ _. goes_on config)
+line_gives finds l base config lines.End = λ _. ends_done config
+line_gives finds l base config lines.InputTooLong = λ _. ends_long config
 
-turn_gives : (finds : Finds) (l : Loaded) (config : Config) → Gives TurnEnds (turn finds l config)
+turn_gives : (finds : Finds) (l : Loaded) (base : Option BaseKind) (config : Config) → Gives TurnEnds (turn finds l base config)
 unfolding turn ◌>>=◌
-turn_gives finds l config = λ _ line. line_gives finds l config line
+turn_gives finds l base config = λ _ line. line_gives finds l base config line
 
 -- The shell ends done, or at the limit of its input.
-pub shell_gives : (finds : Finds) (l : Loaded) (config : Config) → Gives IsShellEnd (shell finds l config)
+pub shell_gives : (finds : Finds) (l : Loaded) (base : Option BaseKind) (config : Config) → Gives IsShellEnd (shell finds l base config)
 unfolding shell
-shell_gives finds l config = turns_give IsShellEnd (turn finds l) causes.Done MOST_LINES config refl (turn_gives finds l)
+shell_gives finds l base config = turns_give IsShellEnd (turn finds l base) causes.Done MOST_LINES config refl (turn_gives finds l base)
 
-serve_gives : (finds : Finds) (config : Config) (report : Option Report) (l : Loaded) → Gives (CanBe report) (serve finds config report l)
+serve_gives : (finds : Finds) (base : Option BaseKind) (config : Config) (report : Option Report) (l : Loaded) → Gives (CanBe report) (serve finds base config report l)
 unfolding serve
-serve_gives finds config (Some report) l = report_gives finds l report config
-serve_gives finds config None l = gives_more IsShellEnd (CanBe None) (shell finds l config) can_be_shell (shell_gives finds l config)
+serve_gives finds base config (Some report) l = report_gives finds l base report config
+serve_gives finds base config None l = gives_more IsShellEnd (CanBe None) (shell finds l base config) can_be_shell (shell_gives finds l base config)
 
 loaded_gives : (finds : Finds) (plan : Plan) (loaded : Result Loaded LoadRefusal) → Gives (CanBe plan.report) (serve_loaded finds plan loaded)
 unfolding serve_loaded
-loaded_gives finds plan (Ok l) = serve_gives finds plan.config plan.report l
+loaded_gives finds plan (Ok l) = serve_gives finds plan.base_kind plan.config plan.report l
 loaded_gives finds plan (Err refusal) = end_gives (CanBe plan.report) _ (causes.Refused refusal) refl
 
 words_gives : (finds : Finds) (said : Result Plan UsageFault) → Gives (λ x. EndsBy None said x) (perform_words finds said)

@@ -1,6 +1,6 @@
 -- What the session tells of a report is what the report comes to.
 use Rattle.std.proofs.Common.{◌≡◌, ◌++◌, ℕ, List, [], ◌∷◌, length, drop, refl, sym, ap, ◌∙◌}
-use Rattle.std.specs.Prelude.{Result, Ok, Err}
+use Rattle.std.specs.Prelude.{Option, Result, Ok, Err}
 use Rattle.std.proofs.lemmas.List.{append-nil}
 use Rattle.std.proofs.lemmas.List.Concat.{flat_map-append}
 use Rattle.pp_base.specs.FileMap.{FileMap}
@@ -11,6 +11,7 @@ use Rattle.pp_desk.specs.Effects.{read_of, reads_of, errs}
 use Rattle.pp_desk.specs.Script.{Give, ◌>>=◌}
 use Rattle.pp_model.specs.declared.config.Config.{Config}
 use Rattle.pp_model.specs.declared.loaded.Loaded.{Loaded}
+use Rattle.pp_model.specs.declared.report.BaseKind.{BaseKind}
 use Rattle.pp_model.specs.declared.report.Report.{Report}
 use Rattle.pp_report.specs.declared.refusal.ReportRefusal.{ReportRefusal}
 use Rattle.pp_report.specs.Prepared.{Settled, prepare}
@@ -34,15 +35,15 @@ tells_after before told made none t = record {
   asked = ap (λ more. before.asked ++ more) t.asked;
 }
 
-module _ (finds : Finds) (l : Loaded) (report : Report) (config : Config) (files : FileMap) (locked : List (List ℕ)) (lines : List InputLine) where
+module _ (finds : Finds) (l : Loaded) (base : Option BaseKind) (report : Report) (config : Config) (files : FileMap) (locked : List (List ℕ)) (lines : List InputLine) where
   tells_settled : (settled : Result Settled ReportRefusal) (answers : List Answer)
-      → Tells (course (note_and_finish finds l report config settled) files locked lines answers) (course (report_settled finds l report config settled) files locked lines answers)
+      → Tells (course (note_and_finish finds l base report config settled) files locked lines answers) (course (report_settled finds l base report config settled) files locked lines answers)
   unfolding note_and_finish report_settled ◌>>=◌
   tells_settled (Err refusal) answers = record { notes = refl; no_text = refl; no_file = λ files. refl; reads = refl; outcome = refl; asked = refl }
   tells_settled (Ok settled) answers =
-      let text = course (finish finds l report config settled.showing) files locked lines answers in
-      let none : AreReads text.effects = only_reads (finish finds l report config settled.showing) files locked lines answers (finish_writes_nothing finds l report config settled.showing) in
-      let both = course_both (finish finds l report config settled.showing) (λ outcome. Give (reported_with settled.notes outcome)) files locked lines answers (finish_looks finds l report config settled.showing) in
+      let text = course (finish finds l base report config settled.showing) files locked lines answers in
+      let none : AreReads text.effects = only_reads (finish finds l base report config settled.showing) files locked lines answers (finish_writes_nothing finds l base report config settled.showing) in
+      let both = course_both (finish finds l base report config settled.showing) (λ outcome. Give (reported_with settled.notes outcome)) files locked lines answers (finish_looks finds l base report config settled.showing) in
       rw both (record {
         notes = ap (λ more. settled.notes ++ more) (errs_none text.effects none) ∙ append-nil settled.notes;
         no_text = outs_none text.effects none;
@@ -53,13 +54,13 @@ module _ (finds : Finds) (l : Loaded) (report : Report) (config : Config) (files
       })
 
   -- What the session tells of a report is what the report comes to.
-  pub tells_report : (answers : List Answer) → Tells (course (noted_report finds l report config) files locked lines answers) (course (report_script finds l report config) files locked lines answers)
+  pub tells_report : (answers : List Answer) → Tells (course (noted_report finds l base report config) files locked lines answers) (course (report_script finds l base report config) files locked lines answers)
   unfolding noted_report report_script
   tells_report answers =
       let before = course (prepare finds l report config) files locked lines answers in
       let none : AreReads before.effects = only_reads (prepare finds l report config) files locked lines answers (prepare_writes_nothing finds l report config) in
       rw (
-        course_both (prepare finds l report config) (note_and_finish finds l report config) files locked lines answers (prepare_looks finds l report config),
-        course_both (prepare finds l report config) (report_settled finds l report config) files locked lines answers (prepare_looks finds l report config),
+        course_both (prepare finds l report config) (note_and_finish finds l base report config) files locked lines answers (prepare_looks finds l report config),
+        course_both (prepare finds l report config) (report_settled finds l base report config) files locked lines answers (prepare_looks finds l report config),
       )
       (tells_after before _ _ none (tells_settled before.value (drop (length before.asked) answers)))

@@ -10,6 +10,7 @@ use Rattle.pp_desk.specs.Script.{◌>>=◌}
 use Rattle.pp_desk.proofs.Quiet.{Only, only_then}
 use Rattle.pp_model.specs.declared.config.Config.{Config}
 use Rattle.pp_model.specs.declared.loaded.Loaded.{Loaded}
+use Rattle.pp_model.specs.declared.report.BaseKind.{BaseKind}
 use Rattle.pp_model.specs.declared.report.Report.{Report}
 use Rattle.pp_load.specs.declared.refusal.LoadRefusal.{LoadRefusal}
 use Rattle.pp_load.specs.Load.{load}
@@ -41,41 +42,41 @@ module _ (finds : Finds) (files : FileMap) (locked : List (List ℕ)) (lines : L
   made_done report (Ok text) answers ok = refl
   made_done report (Err refusal) answers ok = absurd (false≢true ok)
 
-  settled_looks : (l : Loaded) (report : Report) (config : Config) (settled : Result Settled ReportRefusal) → Only only_looks (note_and_finish finds l report config settled)
+  settled_looks : (l : Loaded) (base : Option BaseKind) (report : Report) (config : Config) (settled : Result Settled ReportRefusal) → Only only_looks (note_and_finish finds l base report config settled)
   unfolding note_and_finish ◌>>=◌
-  settled_looks l report config (Ok settled) = (refl, λ _. finish_looks finds l report config settled.showing)
-  settled_looks l report config (Err refusal) = tt
+  settled_looks l base report config (Ok settled) = (refl, λ _. finish_looks finds l base report config settled.showing)
+  settled_looks l base report config (Err refusal) = tt
 
-  noted_looks : (l : Loaded) (report : Report) (config : Config) → Only only_looks (noted_report finds l report config)
+  noted_looks : (l : Loaded) (base : Option BaseKind) (report : Report) (config : Config) → Only only_looks (noted_report finds l base report config)
   unfolding noted_report
-  noted_looks l report config = only_then only_looks (prepare finds l report config) (note_and_finish finds l report config) (prepare_looks finds l report config) (settled_looks l report config)
+  noted_looks l base report config = only_then only_looks (prepare finds l report config) (note_and_finish finds l base report config) (prepare_looks finds l report config) (settled_looks l base report config)
 
-  noted_value : (l : Loaded) (report : Report) (config : Config) (answers : List Answer)
-      → (course (noted_report finds l report config) files locked lines answers).value ≡ (course (report_script finds l report config) files locked lines answers).value.outcome
-  noted_value l report config answers = (tells_report finds l report config files locked lines answers).outcome
+  noted_value : (l : Loaded) (base : Option BaseKind) (report : Report) (config : Config) (answers : List Answer)
+      → (course (noted_report finds l base report config) files locked lines answers).value ≡ (course (report_script finds l base report config) files locked lines answers).value.outcome
+  noted_value l base report config answers = (tells_report finds l base report config files locked lines answers).outcome
 
-  report_done : (l : Loaded) (report : Report) (config : Config) (answers : List Answer)
-      → is_ok (course (report_script finds l report config) files locked lines answers).value.outcome ≡ true → (course (report_once finds l report config) files locked lines answers).value ≡ causes.Done
+  report_done : (l : Loaded) (base : Option BaseKind) (report : Report) (config : Config) (answers : List Answer)
+      → is_ok (course (report_script finds l base report config) files locked lines answers).value.outcome ≡ true → (course (report_once finds l base report config) files locked lines answers).value ≡ causes.Done
   unfolding report_once
-  report_done l report config answers ok =
-      course_then (noted_report finds l report config) (end_report report) files locked lines answers (noted_looks l report config)
-      ∙ made_done report _ _ (ap is_ok (noted_value l report config answers) ∙ ok)
+  report_done l base report config answers ok =
+      course_then (noted_report finds l base report config) (end_report report) files locked lines answers (noted_looks l base report config)
+      ∙ made_done report _ _ (ap is_ok (noted_value l base report config answers) ∙ ok)
 
   done_or_long : (cause : Cause) → IsShellEnd cause → not (is_too_long cause) ≡ true → cause ≡ causes.Done
   done_or_long causes.Done ends short = refl
   done_or_long causes.InputTooLong ends short = absurd (false≢true short)
   done_or_long cause ends short = absurd (false≢true ends)
 
-  serve_done : (config : Config) (report : Option Report) (l : Loaded) (answers : List Answer) → is_served finds config report l files locked lines answers ≡ true
-      → (course (serve finds config report l) files locked lines answers).value ≡ causes.Done
+  serve_done : (base : Option BaseKind) (config : Config) (report : Option Report) (l : Loaded) (answers : List Answer) → is_served finds base config report l files locked lines answers ≡ true
+      → (course (serve finds base config report l) files locked lines answers).value ≡ causes.Done
   unfolding serve
-  serve_done config (Some report) l answers ok = report_done l report config answers ok
-  serve_done config None l answers ok = done_or_long _ (course_gives IsShellEnd (shell finds l config) files locked lines answers (shell_gives finds l config)) ok
+  serve_done base config (Some report) l answers ok = report_done l base report config answers ok
+  serve_done base config None l answers ok = done_or_long _ (course_gives IsShellEnd (shell finds l base config) files locked lines answers (shell_gives finds l base config)) ok
 
   loaded_done : (plan : Plan) (loaded : Result Loaded LoadRefusal) (answers : List Answer) → is_loaded finds plan loaded files locked lines answers ≡ true
       → (course (serve_loaded finds plan loaded) files locked lines answers).value ≡ causes.Done
   unfolding serve_loaded
-  loaded_done plan (Ok l) answers ok = serve_done plan.config plan.report l answers ok
+  loaded_done plan (Ok l) answers ok = serve_done plan.base_kind plan.config plan.report l answers ok
   loaded_done plan (Err refusal) answers ok = absurd (false≢true ok)
 
   words_done : (said : Result Plan UsageFault) (answers : List Answer) → is_valid_plan finds (plan_in None said) files locked lines answers ≡ true → (course (perform_words finds said) files locked lines answers).value ≡ causes.Done

@@ -6,6 +6,7 @@ use Rattle.pp_desk.specs.Effects.{outs, errs, reads_of, files_after}
 use Rattle.pp_desk.specs.Script.{Script, Give, ◌>>=◌, write_out, write_err, write_file}
 use Rattle.pp_model.specs.declared.config.Config.{Config}
 use Rattle.pp_model.specs.declared.loaded.Loaded.{Loaded}
+use Rattle.pp_model.specs.declared.report.BaseKind.{BaseKind}
 use Rattle.pp_model.specs.declared.report.Report.{Report}
 use Rattle.pp_report.specs.declared.refusal.ReportRefusal.{ReportRefusal}
 use Rattle.pp_report.specs.Prepared.{Settled, prepare}
@@ -17,19 +18,19 @@ use Rattle.pp_engine.specs.Messages.{locked_line}
 use Rattle.pp_pattern.specs.Report.{Finds}
 
 -- the notes of a report, and then its text; none where it was refused before they were known
-unfoldable pub note_and_finish : Finds → Loaded → Report → Config → Result Settled ReportRefusal
+unfoldable pub note_and_finish : Finds → Loaded → Option BaseKind → Report → Config → Result Settled ReportRefusal
     → Script (Result (List ℕ) ReportRefusal)
-note_and_finish finds l report config (Err refusal) = Give (Err refusal)
-note_and_finish finds l report config (Ok settled) = do
+note_and_finish finds l base report config (Err refusal) = Give (Err refusal)
+note_and_finish finds l base report config (Ok settled) = do
   _ ← write_err settled.notes
-  finish finds l report config settled.showing
+  finish finds l base report config settled.showing
 
 -- A report with its notes told, also where a file fails that is read for its text: what it is, or why it is refused.
-unfoldable pub noted_report : Finds → Loaded → Report → Config
+unfoldable pub noted_report : Finds → Loaded → Option BaseKind → Report → Config
     → Script (Result (List ℕ) ReportRefusal)
-noted_report finds l report config = do
+noted_report finds l base report config = do
   settled ← prepare finds l report config
-  note_and_finish finds l report config settled
+  note_and_finish finds l base report config settled
 
 -- What was told of a report is what the report comes to: its notes went out, and nothing else did; whatever files there
 -- are, they stay as they are; the paths that were read, the text, or the refusal, and the patterns are its own.
@@ -55,9 +56,9 @@ end_report report (Ok text) = do
 end_report report (Err refusal) = end_with (report_refusal_line report refusal) (causes.Report refusal)
 
 -- The report that the words ask for.
-unfoldable pub report_once : Finds → Loaded → Report → Config → Script Cause
-report_once finds l report config = do
-  made ← noted_report finds l report config
+unfoldable pub report_once : Finds → Loaded → Option BaseKind → Report → Config → Script Cause
+report_once finds l base report config = do
+  made ← noted_report finds l base report config
   end_report report made
 
 -- the message on a path that isn't written, since it is locked
@@ -83,7 +84,7 @@ hand_out_made report to (Ok text) = hand_out to text
 hand_out_made report to (Err refusal) = write_err (report_refusal_line report refusal)
 
 -- A report of the shell. A refusal is told, and the session goes on.
-unfoldable pub report_on : Finds → Loaded → Report → Config → Option (List ℕ) → Script (Unit {0})
-report_on finds l report config to = do
-  made ← noted_report finds l report config
+unfoldable pub report_on : Finds → Loaded → Option BaseKind → Report → Config → Option (List ℕ) → Script (Unit {0})
+report_on finds l base report config to = do
+  made ← noted_report finds l base report config
   hand_out_made report to made

@@ -9,6 +9,7 @@ use Rattle.pp_desk.specs.Lines.{lines_of}
 use Rattle.pp_desk.specs.Script.{Script, Give, ◌>>=◌, write_out}
 use Rattle.pp_model.specs.declared.config.Config.{Config}
 use Rattle.pp_model.specs.declared.loaded.Loaded.{Loaded}
+use Rattle.pp_model.specs.declared.report.BaseKind.{BaseKind}
 use Rattle.pp_model.specs.declared.report.Report.{Report}
 use Rattle.pp_load.specs.declared.refusal.LoadRefusal.{LoadRefusal}
 use Rattle.pp_load.specs.Load.{load}
@@ -26,13 +27,13 @@ use Rattle.pp_engine.specs.Words.{planned}
 use Rattle.pp_pattern.specs.Report.{Finds}
 
 -- the report that the words name, and the shell where they name none
-unfoldable pub serve : Finds → Config → Option Report → Loaded → Script Cause
-serve finds config (Some report) l = report_once finds l report config
-serve finds config None l = shell finds l config
+unfoldable pub serve : Finds → Option BaseKind → Config → Option Report → Loaded → Script Cause
+serve finds base config (Some report) l = report_once finds l base report config
+serve finds base config None l = shell finds l base config
 
 -- what comes of the profile that was loaded, or of its refusal
 unfoldable pub serve_loaded : Finds → Plan → Result Loaded LoadRefusal → Script Cause
-serve_loaded finds plan (Ok l) = serve finds plan.config plan.report l
+serve_loaded finds plan (Ok l) = serve finds plan.base_kind plan.config plan.report l
 serve_loaded finds plan (Err refusal) =
     end_with (refusal_line plan refusal) (causes.Refused refusal)
 

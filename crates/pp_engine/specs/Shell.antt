@@ -5,6 +5,7 @@ use Rattle.pp_desk.specs.declared.input_line.InputLine.{InputLine}
 use Rattle.pp_desk.specs.declared.input_line.InputLine.TheVariants.{Line, TooLong, End, InputTooLong}
 use Rattle.pp_model.specs.declared.config.Config.{Config}
 use Rattle.pp_model.specs.declared.loaded.Loaded.{Loaded}
+use Rattle.pp_model.specs.declared.report.BaseKind.{BaseKind}
 use Rattle.pp_options.specs.declared.help.TheConstants.{SHELL_HELP}
 use Rattle.pp_options.specs.Listing.{options_text}
 use Rattle.pp_shell.specs.declared.command.Command.{Command}
@@ -49,24 +50,24 @@ unfoldable pub complain : LineFault → Script (Unit {0})
 complain fault = write_err (line_fault_line fault)
 
 -- What a line asks for. An assignment alone changes the configuration of the next line.
-unfoldable pub obey : Finds → Loaded → Config → Command → Script Turn
-obey finds l config Nothing = Give (going_on config)
-obey finds l config Quit = Give (ending config causes.Done)
-obey finds l config Options = do
+unfoldable pub obey : Finds → Loaded → Option BaseKind → Config → Command → Script Turn
+obey finds l base config Nothing = Give (going_on config)
+obey finds l base config Quit = Give (ending config causes.Done)
+obey finds l base config Options = do
   _ ← write_out (options_text config)
   Give (going_on config)
-obey finds l config Help = do
+obey finds l base config Help = do
   _ ← write_out help
   Give (going_on config)
-obey finds l config (Set changed) = Give (going_on changed)
-obey finds l config (Run report own to) = do
-  _ ← report_on finds l report own to
+obey finds l base config (Set changed) = Give (going_on changed)
+obey finds l base config (Run report own to) = do
+  _ ← report_on finds l base report own to
   Give (going_on config)
 
 -- what a line asks for, or what is wrong with it
-unfoldable pub obey_or_complain : Finds → Loaded → Config → Result Command LineFault → Script Turn
-obey_or_complain finds l config (Ok command) = obey finds l config command
-obey_or_complain finds l config (Err fault) = do
+unfoldable pub obey_or_complain : Finds → Loaded → Option BaseKind → Config → Result Command LineFault → Script Turn
+obey_or_complain finds l base config (Ok command) = obey finds l base config command
+obey_or_complain finds l base config (Err fault) = do
   _ ← complain fault
   Give (going_on config)
 
@@ -77,26 +78,26 @@ without_return (byte ∷ []) = if byte == 13 then [] else byte ∷ []
 without_return (byte ∷ next ∷ bytes) = byte ∷ without_return (next ∷ bytes)
 
 -- What comes of the line that was read. The input's end is answered by a line end.
-unfoldable pub follow : Finds → Loaded → Config → InputLine → Script Turn
-follow finds l config (Line bytes) =
-    obey_or_complain finds l config (line_command (without_return bytes) config)
-follow finds l config TooLong = do
+unfoldable pub follow : Finds → Loaded → Option BaseKind → Config → InputLine → Script Turn
+follow finds l base config (Line bytes) =
+    obey_or_complain finds l base config (line_command (without_return bytes) config)
+follow finds l base config TooLong = do
   _ ← complain LineTooLong
   Give (going_on config)
-follow finds l config End = do
+follow finds l base config End = do
   _ ← write_out prompt_end
   Give (ending config causes.Done)
-follow finds l config InputTooLong = do
+follow finds l base config InputTooLong = do
   _ ← write_err input_too_long_line
   Give (ending config causes.InputTooLong)
 
 -- one turn: the prompt, the line, and what it asks for
-unfoldable pub turn : Finds → Loaded → Config → Script Turn
-turn finds l config = do
+unfoldable pub turn : Finds → Loaded → Option BaseKind → Config → Script Turn
+turn finds l base config = do
   _ ← write_out prompt
   line ← next_line
-  follow finds l config line
+  follow finds l base config line
 
 -- The shell over a profile, from this configuration on. No input has more lines than `MOST_LINES`.
-unfoldable pub shell : Finds → Loaded → Config → Script Cause
-shell finds l config = turns (turn finds l) causes.Done MOST_LINES config
+unfoldable pub shell : Finds → Loaded → Option BaseKind → Config → Script Cause
+shell finds l base config = turns (turn finds l base) causes.Done MOST_LINES config

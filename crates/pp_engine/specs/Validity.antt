@@ -7,6 +7,7 @@ use Rattle.pp_desk.specs.Course.{Course, course, given}
 use Rattle.pp_desk.specs.Lines.{lines_of}
 use Rattle.pp_model.specs.declared.config.Config.{Config}
 use Rattle.pp_model.specs.declared.loaded.Loaded.{Loaded}
+use Rattle.pp_model.specs.declared.report.BaseKind.{BaseKind}
 use Rattle.pp_model.specs.declared.report.Report.{Report}
 use Rattle.pp_load.specs.declared.refusal.LoadRefusal.{LoadRefusal}
 use Rattle.pp_load.specs.Load.{load}
@@ -24,18 +25,18 @@ is_too_long causes.InputTooLong = true
 is_too_long cause = false
 
 -- the report that is named has a text, or the shell never comes to the limit of its input
-abbrev pub is_served : Finds → Config → Option Report → Loaded → FileMap → List (List ℕ)
+abbrev pub is_served : Finds → Option BaseKind → Config → Option Report → Loaded → FileMap → List (List ℕ)
     → List InputLine → List Answer → Bool
-is_served finds config (Some report) l files locked lines answers =
-    is_ok (course (report_script finds l report config) files locked lines answers).value.outcome
-is_served finds config None l files locked lines answers =
-    not (is_too_long (course (shell finds l config) files locked lines answers).value)
+is_served finds base config (Some report) l files locked lines answers =
+    is_ok (course (report_script finds l base report config) files locked lines answers).value.outcome
+is_served finds base config None l files locked lines answers =
+    not (is_too_long (course (shell finds l base config) files locked lines answers).value)
 
 -- a profile is loaded, and so it is of that
 abbrev pub is_loaded : Finds → Plan → Result Loaded LoadRefusal → FileMap → List (List ℕ)
     → List InputLine → List Answer → Bool
 is_loaded finds plan (Ok l) files locked lines answers =
-    is_served finds plan.config plan.report l files locked lines answers
+    is_served finds plan.base_kind plan.config plan.report l files locked lines answers
 is_loaded finds plan (Err refusal) files locked lines answers = false
 
 -- the answers that are left after some patterns were asked

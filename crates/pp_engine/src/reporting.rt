@@ -1,5 +1,5 @@
 // Reports: the notes, then the text or why there is none.
-ghost use Rattle.std.specs.Prelude.{◌≡◌, ℕ, List, Ok, option_map};
+ghost use Rattle.std.specs.Prelude.{◌≡◌, ℕ, List, Ok, Option, option_map};
 ghost use Rattle.pp_base.specs.FileMap.{FileMap};
 ghost use Rattle.pp_base.specs.Judges.{Answer};
 ghost use Rattle.pp_desk.specs.Course.{course};
@@ -7,6 +7,7 @@ ghost use Rattle.pp_desk.specs.Went.{Went};
 ghost use Rattle.pp_desk.specs.declared.input_line.InputLine.{InputLine};
 ghost use Rattle.pp_model.specs.declared.config.Config.{Config};
 ghost use Rattle.pp_model.specs.declared.loaded.Loaded.{Loaded};
+ghost use Rattle.pp_model.specs.declared.report.BaseKind.{BaseKind};
 ghost use Rattle.pp_model.specs.declared.report.Report.{Report};
 ghost use Rattle.pp_model.specs.Sizes.{IsCountable};
 ghost use Rattle.pp_report.specs.Prepared.{IsPrepared, settled_by};
@@ -18,7 +19,7 @@ use crate::ending::Cause;
 use crate::message::locked_line;
 use pp_base::{Gate, Text};
 use pp_desk::{Desk, Stop};
-use pp_model::{Config, Loaded, Report};
+use pp_model::{BaseKind, Config, Loaded, Report};
 use pp_report::{Host, Prepared, ReportRefusal, finish, prepare, refusal_line};
 use std::alloc::Global;
 use std::mem;
@@ -29,15 +30,16 @@ use std::thread::Threads;
 pub fn report_once<R: Threads + Sync, D: Desk, G: Gate>(
     with: &Host<'_, R, G>,
     l: &Loaded,
+    base: Option<BaseKind>,
     report: &Report,
     config: &Config,
     desk: &mut D,
 ) -> Result<Cause, Stop>
     requires { IsCountable l.now.profile }
     ensures { Went (D.world desk.old) (D.world desk.new)
-        (report_once D.finds l.now report.now config.now) result }
+        (report_once D.finds l.now base report.now config.now) result }
 {
-    let made = noted_report(with, l, report, config, desk)?;
+    let made = noted_report(with, l, base, report, config, desk)?;
     end_report(with.alloc, report, &made, desk)
 }
 
@@ -46,6 +48,7 @@ pub fn report_once<R: Threads + Sync, D: Desk, G: Gate>(
 pub fn report_on<R: Threads + Sync, D: Desk, G: Gate>(
     with: &Host<'_, R, G>,
     l: &Loaded,
+    base: Option<BaseKind>,
     report: &Report,
     config: &Config,
     to: Option<&Text>,
@@ -53,9 +56,9 @@ pub fn report_on<R: Threads + Sync, D: Desk, G: Gate>(
 ) -> Result<(), Stop>
     requires { IsCountable l.now.profile }
     ensures { Went (D.world desk.old) (D.world desk.new)
-        (report_on D.finds l.now report.now config.now (option_map (λ t. t.now) to.entry)) result }
+        (report_on D.finds l.now base report.now config.now (option_map (λ t. t.now) to.entry)) result }
 {
-    let made = noted_report(with, l, report, config, desk)?;
+    let made = noted_report(with, l, base, report, config, desk)?;
     hand_out_made(with.alloc, report, to, &made, desk)
 }
 
@@ -64,26 +67,28 @@ pub fn report_on<R: Threads + Sync, D: Desk, G: Gate>(
 fn noted_report<R: Threads + Sync, D: Desk, G: Gate>(
     with: &Host<'_, R, G>,
     l: &Loaded,
+    base: Option<BaseKind>,
     report: &Report,
     config: &Config,
     desk: &mut D,
 ) -> Result<Result<Text, ReportRefusal>, Stop>
     requires { IsCountable l.now.profile }
     ensures { Went (D.world desk.old) (D.world desk.new)
-        (noted_report D.finds l.now report.now config.now) result }
+        (noted_report D.finds l.now base report.now config.now) result }
 {
     match prepare(with, l, report, config, desk)? {
         Err(refusal) => Ok(Err(refusal)),
-        Ok(prepared) => note_and_finish(with, l, report, config, prepared, desk),
+        Ok(prepared) => note_and_finish(with, l, base, report, config, prepared, desk),
     }
 }
 
 /// The law of a report: what the session tells of it before its text goes out is what the report comes to.
 pub fn reports_are_told()
-    ensures { (finds : Finds) (l : Loaded) (report : Report) (config : Config) (files : FileMap)
+    ensures { (finds : Finds) (l : Loaded) (base : Option BaseKind)
+        (report : Report) (config : Config) (files : FileMap)
         (locked : List (List ℕ)) (lines : List InputLine) (answers : List Answer)
-        → Tells (course (noted_report finds l report config) files locked lines answers)
-        (course (report_script finds l report config) files locked lines answers) }
+        → Tells (course (noted_report finds l base report config) files locked lines answers)
+        (course (report_script finds l base report config) files locked lines answers) }
 {}
 
 // The notes, and then the text: a list report reads files for it, and notes are told also where one of them fails.
@@ -91,6 +96,7 @@ pub fn reports_are_told()
 fn note_and_finish<R: Threads + Sync, D: Desk, G: Gate>(
     with: &Host<'_, R, G>,
     l: &Loaded,
+    base: Option<BaseKind>,
     report: &Report,
     config: &Config,
     prepared: Prepared,
@@ -98,10 +104,10 @@ fn note_and_finish<R: Threads + Sync, D: Desk, G: Gate>(
 ) -> Result<Result<Text, ReportRefusal>, Stop>
     requires { IsPrepared D.finds l.now report.now config.now prepared }
     ensures { Went (D.world desk.old) (D.world desk.new)
-        (note_and_finish D.finds l.now report.now config.now (Ok (settled_by prepared))) result }
+        (note_and_finish D.finds l.now base report.now config.now (Ok (settled_by prepared))) result }
 {
     match desk.write_err(prepared.notes.as_slice()) {
-        Ok(()) => finish(with, l, report, config, prepared, desk),
+        Ok(()) => finish(with, l, base, report, config, prepared, desk),
         Err(stop) => {
             mem::drop(prepared);
             Err(stop)

@@ -16,7 +16,7 @@ use crate::shell::shell;
 use pp_base::{Gate, Text};
 use pp_desk::{Desk, Stop};
 use pp_load::{LoadRefusal, load, refusal_line};
-use pp_model::{Config, Loaded, Report};
+use pp_model::{BaseKind, Config, Loaded, Report};
 use pp_options::{Plan, Topic, UsageFault, UsageRefusal, read_words, topic_asked, write_topic};
 use pp_report::Host;
 use std::alloc::Global;
@@ -110,7 +110,7 @@ fn serve_loaded<R: Threads + Sync, D: Desk, G: Gate>(
         (serve_loaded D.finds plan.now loaded.now) result }
 {
     match loaded {
-        Ok(l) => serve(with, &plan.config, &plan.report, l, desk),
+        Ok(l) => serve(with, plan.base_kind, &plan.config, &plan.report, l, desk),
         Err(refusal) => refuse_profile(with.alloc, plan, *refusal, desk),
     }
 }
@@ -134,6 +134,7 @@ fn refuse_profile<D: Desk>(
 #[tactic(auto, using(pp_desk::proofs::Going::going), unfolding(crate::specs::Session::serve))]
 fn serve<R: Threads + Sync, D: Desk, G: Gate>(
     with: &Host<'_, R, G>,
+    base: Option<BaseKind>,
     config: &Config,
     report: &Option<Report>,
     l: &Loaded,
@@ -141,10 +142,10 @@ fn serve<R: Threads + Sync, D: Desk, G: Gate>(
 ) -> Result<Cause, Stop>
     requires { IsCountable l.now.profile }
     ensures { Went (D.world desk.old) (D.world desk.new)
-        (serve D.finds config.now report.now l.now) result }
+        (serve D.finds base config.now report.now l.now) result }
 {
     match report {
-        Some(report) => report_once(with, l, report, config, desk),
-        None => shell(with, l, config, desk),
+        Some(report) => report_once(with, l, base, report, config, desk),
+        None => shell(with, l, base, config, desk),
     }
 }

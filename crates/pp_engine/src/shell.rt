@@ -1,11 +1,12 @@
 // The shell: lines that are read one by one, each obeyed before the next is read.
-ghost use Rattle.std.specs.Prelude.{◌≡◌, ◌+◌, ℕ, List, IfOk, OnOk, OnErr};
+ghost use Rattle.std.specs.Prelude.{◌≡◌, ◌+◌, ℕ, List, Option, IfOk, OnOk, OnErr};
 ghost use Rattle.pp_desk.specs.Lines.{lines_of};
 ghost use Rattle.pp_desk.specs.Script.{write_out};
 ghost use Rattle.pp_desk.specs.Went.{Goes, Went, beside};
 ghost use Rattle.pp_desk.specs.World.{Told};
 ghost use Rattle.pp_model.specs.declared.config.Config.{Config};
 ghost use Rattle.pp_model.specs.declared.loaded.Loaded.{Loaded};
+ghost use Rattle.pp_model.specs.declared.report.BaseKind.{BaseKind};
 ghost use Rattle.pp_model.specs.Sizes.{IsCountable};
 ghost use Rattle.pp_options.specs.Listing.{options_text};
 ghost use Rattle.pp_shell.specs.Lines.{line_command};
@@ -20,7 +21,7 @@ use crate::message::{input_too_long_line, line_fault_line};
 use crate::reporting::report_on;
 use pp_base::{Gate, Memory, Text};
 use pp_desk::{Desk, InputLine, Stop};
-use pp_model::{Config, Loaded};
+use pp_model::{BaseKind, Config, Loaded};
 use pp_options::{SHELL_HELP, write_options};
 use pp_report::Host;
 use pp_shell::{Command, LineFault, LineRefusal, read_line};
@@ -36,14 +37,15 @@ pub const MOST_LINES: u32 = 16_777_217;
 pub fn shell<R: Threads + Sync, D: Desk, G: Gate>(
     with: &Host<'_, R, G>,
     l: &Loaded,
+    base: Option<BaseKind>,
     config: &Config,
     desk: &mut D,
 ) -> Result<Cause, Stop>
     requires { IsCountable l.now.profile }
-    ensures { Went (D.world desk.old) (D.world desk.new) (shell D.finds l.now config.now) result }
+    ensures { Went (D.world desk.old) (D.world desk.new) (shell D.finds l.now base config.now) result }
 {
     let mut config = config.copy(with.alloc)?;
-    let done = take_turns(with, l, &mut config, desk);
+    let done = take_turns(with, l, base, &mut config, desk);
     mem::drop(config);
     done
 }
@@ -52,15 +54,16 @@ pub fn shell<R: Threads + Sync, D: Desk, G: Gate>(
 fn take_turns<R: Threads + Sync, D: Desk, G: Gate>(
     with: &Host<'_, R, G>,
     l: &Loaded,
+    base: Option<BaseKind>,
     config: &mut Config,
     desk: &mut D,
 ) -> Result<Cause, Stop>
     requires { IsCountable l.now.profile }
     ensures { Went (D.world desk.old) (D.world desk.new)
-        (turns (turn D.finds l.now) causes.Done MOST_LINES config.old) result }
+        (turns (turn D.finds l.now base) causes.Done MOST_LINES config.old) result }
 {
     'turns: for _turn in 0..MOST_LINES {
-        if let Some(cause) = turn(with, l, config, desk)? {
+        if let Some(cause) = turn(with, l, base, config, desk)? {
             return Ok(cause);
         }
     }
@@ -72,16 +75,17 @@ fn take_turns<R: Threads + Sync, D: Desk, G: Gate>(
 fn turn<R: Threads + Sync, D: Desk, G: Gate>(
     with: &Host<'_, R, G>,
     l: &Loaded,
+    base: Option<BaseKind>,
     config: &mut Config,
     desk: &mut D,
 ) -> Result<Option<Cause>, Stop>
     requires { IsCountable l.now.profile }
-    ensures { Went (D.world desk.old) (D.world desk.new) (turn D.finds l.now config.old)
+    ensures { Went (D.world desk.old) (D.world desk.new) (turn D.finds l.now base config.old)
         (beside config.new result) }
 {
     desk.write_out(prompt())?;
     let line = desk.next_line()?;
-    follow(with, l, &line, config, desk)
+    follow(with, l, base, &line, config, desk)
 }
 
 #[tactic(auto, unfolding(crate::specs::Shell::prompt))]
@@ -95,18 +99,19 @@ fn prompt() -> &'static [u8]
 fn follow<R: Threads + Sync, D: Desk, G: Gate>(
     with: &Host<'_, R, G>,
     l: &Loaded,
+    base: Option<BaseKind>,
     line: &InputLine,
     config: &mut Config,
     desk: &mut D,
 ) -> Result<Option<Cause>, Stop>
     requires { IsCountable l.now.profile }
     ensures { Went (D.world desk.old) (D.world desk.new)
-        (follow D.finds l.now config.old line.now) (beside config.new result) }
+        (follow D.finds l.now base config.old line.now) (beside config.new result) }
 {
     match line {
         InputLine::Line(bytes) => {
             let said = command_of(with.alloc, without_return(bytes.as_slice()), config)?;
-            let cause = obey_or_complain(with, l, &said, config, desk);
+            let cause = obey_or_complain(with, l, base, &said, config, desk);
             mem::drop(said);
             cause
         }
@@ -162,16 +167,17 @@ fn command_of(
 fn obey_or_complain<R: Threads + Sync, D: Desk, G: Gate>(
     with: &Host<'_, R, G>,
     l: &Loaded,
+    base: Option<BaseKind>,
     said: &Result<Command, LineFault>,
     config: &mut Config,
     desk: &mut D,
 ) -> Result<Option<Cause>, Stop>
     requires { IsCountable l.now.profile }
     ensures { Went (D.world desk.old) (D.world desk.new)
-        (obey_or_complain D.finds l.now config.old said.now) (beside config.new result) }
+        (obey_or_complain D.finds l.now base config.old said.now) (beside config.new result) }
 {
     match said {
-        Ok(command) => obey(with, l, command, config, desk),
+        Ok(command) => obey(with, l, base, command, config, desk),
         Err(fault) => {
             complain(with.alloc, fault, desk)?;
             Ok(None)
@@ -184,13 +190,14 @@ fn obey_or_complain<R: Threads + Sync, D: Desk, G: Gate>(
 fn obey<R: Threads + Sync, D: Desk, G: Gate>(
     with: &Host<'_, R, G>,
     l: &Loaded,
+    base: Option<BaseKind>,
     command: &Command,
     config: &mut Config,
     desk: &mut D,
 ) -> Result<Option<Cause>, Stop>
     requires { IsCountable l.now.profile }
     ensures { Went (D.world desk.old) (D.world desk.new)
-        (obey D.finds l.now config.old command.now) (beside config.new result) }
+        (obey D.finds l.now base config.old command.now) (beside config.new result) }
 {
     match command {
         Command::Nothing => Ok(None),
@@ -212,7 +219,7 @@ fn obey<R: Threads + Sync, D: Desk, G: Gate>(
             config: own,
             to,
         } => {
-            report_on(with, l, report, own, to.as_ref(), desk)?;
+            report_on(with, l, base, report, own, to.as_ref(), desk)?;
             Ok(None)
         }
     }
@@ -260,8 +267,8 @@ fn complain<D: Desk>(alloc: Global, fault: &LineFault, desk: &mut D) -> Result<(
 /// done, whatever were given after the last.
 #[tactic(auto, using(crate::proofs::Lasting::shell_lasts))]
 pub fn turns_suffice()
-    ensures { (finds : Finds) (l : Loaded) (config : Config) (old new : Told)
-        (input : List ℕ) (x other : Cause) (more : ℕ) → old.lines ≡ Some (lines_of input)
-        → Goes old new (shell finds l config) x
-        → Goes old new (turns (turn finds l) other (MOST_LINES + more) config) x }
+    ensures { (finds : Finds) (l : Loaded) (base : Option BaseKind) (config : Config)
+        (old new : Told) (input : List ℕ) (x other : Cause) (more : ℕ) → old.lines ≡ Some (lines_of input)
+        → Goes old new (shell finds l base config) x
+        → Goes old new (turns (turn finds l base) other (MOST_LINES + more) config) x }
 {}

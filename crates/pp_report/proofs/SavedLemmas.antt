@@ -7,6 +7,7 @@ use Rattle.pp_desk.specs.Script.{Give}
 use Rattle.pp_model.specs.declared.config.Config.{Config}
 use Rattle.pp_model.specs.declared.loaded.Loaded.{Loaded}
 use Rattle.pp_model.specs.declared.profile.Profile.{Profile}
+use Rattle.pp_model.specs.declared.report.BaseKind.{BaseKind}
 use Rattle.pp_model.specs.declared.report.Report.{Report}
 use Rattle.pp_model.specs.declared.report.Report.TheVariants as reports
 use Rattle.pp_model.specs.Conditions.{IsColumnOf}
@@ -34,7 +35,7 @@ use Rattle.pp_model.specs.ReportFacts.{is_counted, own_pattern, reads_figures}
 use Rattle.pp_report.specs.Patterns.{report_finders}
 use Rattle.pp_stack.specs.LoadFinders.{finder_by}
 use Rattle.pp_report.specs.Prepared.{Showing, showing_for}
-use Rattle.pp_report.specs.Reports.{finish_on, text_by}
+use Rattle.pp_report.specs.Reports.{finish, finish_made, finish_on, text_by}
 use Rattle.pp_pseudo.specs.Basis.{framed_by}
 use Rattle.pp_report.specs.Tagged.{basis_of}
 use Rattle.pp_report.specs.SavedReports.{SavedReports, IsSavedOf, NamesNoKey}
@@ -177,13 +178,21 @@ module _ (finds : Finds) (l r : Loaded) (config : Config) (by_keys : config.path
 unfiltered_shows : (report : Report) (p : Profile) (config : Config) → reads_figures report ≡ true → showing_for report p (unfiltered config) ≡ showing_for report p config
 unfiltered_shows report p config reads = refl
 
+-- none of them compares with a base
+pub lacks_none : (finds : Finds) (l : Loaded) (report : Report) (config : Config) (base : Option BaseKind) (s : Showing) → reads_figures report ≡ true
+    → finish finds l base report config s ≡ finish_made finds l report config s
+lacks_none finds l report config base s reads =
+    on_figures (λ r. finish finds l base r config s ≡ finish_made finds l r config s) refl refl (λ pattern. refl) report reads
+
 -- The reports are alike.
 pub saved_reports : SavedReports
 saved_reports finds l r report config reads can plain is = record {
   shows = unfiltered_shows report r.profile config reads ∙ same_showing l.profile r.profile (types_are finds l r report config can is) report config;
-  comes_to = λ showing within.
-      ap (λ (x : Loaded). finish_on finds x report (unfiltered config) showing)
+  comes_to = λ showing within base other.
+      lacks_none finds r report (unfiltered config) other showing reads
+      ∙ ap (λ (x : Loaded). finish_on finds x report (unfiltered config) showing)
       (plain_basis report r (unfiltered config) (record { roots = plain.keyless.roots; leaves = plain.keyless.leaves }))
       ∙ text_same finds l r config plain.path_tree showing within can is report reads
-      ∙ ap (λ (x : Loaded). finish_on finds x report config showing) (sym (plain_basis report l config plain.keyless));
+      ∙ ap (λ (x : Loaded). finish_on finds x report config showing) (sym (plain_basis report l config plain.keyless))
+      ∙ sym (lacks_none finds l report config base showing reads);
 }

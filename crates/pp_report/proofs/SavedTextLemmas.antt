@@ -15,6 +15,7 @@ use Rattle.pp_desk.specs.Script.{Give}
 use Rattle.pp_model.specs.declared.config.Config.{Config}
 use Rattle.pp_model.specs.declared.loaded.Loaded.{Loaded}
 use Rattle.pp_model.specs.declared.profile.Profile.{Profile}
+use Rattle.pp_model.specs.declared.report.BaseKind.{BaseKind}
 use Rattle.pp_model.specs.declared.report.Report.{Report}
 use Rattle.pp_model.specs.declared.report.Report.TheVariants as reports
 use Rattle.pp_model.specs.Conditions.{IsColumnOf}
@@ -113,13 +114,13 @@ module _ (p : Profile) where
 -- ---- what a report comes to that reads figures, where no pattern is refused
 
 -- its text is made by no step
-made_at_once : (finds : Finds) (l : Loaded) (report : Report) (config : Config) → reads_figures report ≡ true → (s : Showing)
-    → (x : Result (List ℕ) ReportRefusal) × GivesTaken (finish finds l report config s) x
+made_at_once : (finds : Finds) (l : Loaded) (report : Report) (config : Config) → reads_figures report ≡ true → (base : Option BaseKind) (s : Showing)
+    → (x : Result (List ℕ) ReportRefusal) × GivesTaken (finish finds l base report config s) x
 unfolding finish_on text_by
-made_at_once finds l report config reads s =
-    on_figures (λ r. (x : Result (List ℕ) ReportRefusal) × GivesTaken (finish finds l r config s) x) (_, refl) (_, refl) (λ pattern. (_, refl)) report reads
+made_at_once finds l report config reads base s =
+    on_figures (λ r. (x : Result (List ℕ) ReportRefusal) × GivesTaken (finish finds l base r config s) x) (_, refl) (_, refl) (λ pattern. (_, refl)) report reads
 
-module _ (finds : Finds) (l : Loaded) (report : Report) (config : Config) (reads : reads_figures report ≡ true) where
+module _ (finds : Finds) (l : Loaded) (report : Report) (config : Config) (reads : reads_figures report ≡ true) (base : Option BaseKind) where
   counted : is_counted report ≡ true
   counted = on_figures (λ r. is_counted r ≡ true) refl refl (λ pattern. refl) report reads
 
@@ -127,27 +128,27 @@ module _ (finds : Finds) (l : Loaded) (report : Report) (config : Config) (reads
   over = basis_of report l config
 
   -- refused for its column or its unit
-  refused_taken : (e : ReportRefusal) → showing_for report over.profile config ≡ Err e → GivesTaken (report_script finds l report config) (reported_with [] (Err e))
+  refused_taken : (e : ReportRefusal) → showing_for report over.profile config ≡ Err e → GivesTaken (report_script finds l base report config) (reported_with [] (Err e))
   unfolding report_script report_settled prepare_on
   refused_taken e known =
-      taken_then (prepare finds l report config) (report_settled finds l report config) (Err e) (reported_with [] (Err e))
+      taken_then (prepare finds l report config) (report_settled finds l base report config) (Err e) (reported_with [] (Err e))
       (subst (λ k. GivesTaken (go_on (prepare_showing finds over report config) k) (Err e)) (sym known) refl) refl
 
   -- or made of what it shows
-  made_taken : (s : Showing) (x : Result (List ℕ) ReportRefusal) → showing_for report over.profile config ≡ Ok s → GivesTaken (finish finds l report config s) x
-      → GivesTaken (report_script finds l report config) (reported_with (settled_of finds over report config s).notes x)
+  made_taken : (s : Showing) (x : Result (List ℕ) ReportRefusal) → showing_for report over.profile config ≡ Ok s → GivesTaken (finish finds l base report config s) x
+      → GivesTaken (report_script finds l base report config) (reported_with (settled_of finds over report config s).notes x)
   unfolding report_script report_settled prepare_on
   made_taken s x known made =
       let settled : Settled = settled_of finds over report config s in
-      taken_then (prepare finds l report config) (report_settled finds l report config) (Ok settled) (reported_with settled.notes x)
+      taken_then (prepare finds l report config) (report_settled finds l base report config) (Ok settled) (reported_with settled.notes x)
       (subst (λ k. GivesTaken (go_on (prepare_showing finds over report config) k) (Ok settled)) (sym known)
       (subst (λ script. GivesTaken script (Ok settled)) (sym (showing_counts finds over report config s counted)) (gives_counts finds over report config s)))
-      (taken_then (finish finds l report config s) (λ outcome. Give (reported_with settled.notes outcome)) x (reported_with settled.notes x) made refl)
+      (taken_then (finish finds l base report config s) (λ outcome. Give (reported_with settled.notes outcome)) x (reported_with settled.notes x) made refl)
 
   module _ (files : FileMap) (answers : List Answer) (taken : AllTaken answers) where
-    comes_to : (notes : List ℕ) (x : Result (List ℕ) ReportRefusal) → GivesTaken (report_script finds l report config) (reported_with notes x)
-        → outcome_over finds l report config files answers ≡ x
-    comes_to notes x gives = ap (λ (r : Reported). r.outcome) (taken_course (report_script finds l report config) (reported_with notes x) files [] [] answers taken gives)
+    comes_to : (notes : List ℕ) (x : Result (List ℕ) ReportRefusal) → GivesTaken (report_script finds l base report config) (reported_with notes x)
+        → outcome_over finds l base report config files answers ≡ x
+    comes_to notes x gives = ap (λ (r : Reported). r.outcome) (taken_course (report_script finds l base report config) (reported_with notes x) files [] [] answers taken gives)
 
 -- ---- a saved profile and the one that it was saved of
 
@@ -165,7 +166,7 @@ module _ (finds : Finds) (l r : Loaded) (c : Config) (can : CanSave l.profile c)
       by None known = refl
       by (Some column) known = ap Some (figures_are finds l r report c can is column (known column refl) None)
 
-  module _ (plain : IsPlain c) (report : Report) (reads : reads_figures report ≡ true) (files : FileMap) (answers others : List Answer)
+  module _ (plain : IsPlain c) (report : Report) (reads : reads_figures report ≡ true) (base other : Option BaseKind) (files : FileMap) (answers others : List Answer)
       (taken : AllTaken answers) (others_taken : AllTaken others) where
     alike : ReportAlike finds l r report c d
     alike = saved_reports finds l r report c reads can plain is
@@ -180,23 +181,23 @@ module _ (finds : Finds) (l r : Loaded) (c : Config) (can : CanSave l.profile c)
         ∙ alike.shows ∙ shows
 
     both : (known : Result Showing ReportRefusal) → showing_for report l.profile c ≡ known
-        → outcome_over finds r report d files others ≡ outcome_over finds l report c files answers
+        → outcome_over finds r other report d files others ≡ outcome_over finds l base report c files answers
     both (Err e) shows =
-        comes_to finds r report d reads files others others_taken [] (Err e) (refused_taken finds r report d reads e (saved_own (Err e) shows))
-        ∙ sym (comes_to finds l report c reads files answers taken [] (Err e) (refused_taken finds l report c reads e (own (Err e) shows)))
+        comes_to finds r report d reads other files others others_taken [] (Err e) (refused_taken finds r report d reads other e (saved_own (Err e) shows))
+        ∙ sym (comes_to finds l report c reads base files answers taken [] (Err e) (refused_taken finds l report c reads base e (own (Err e) shows)))
     both (Ok s) shows =
-        let made = made_at_once finds l report c reads s in
-        let theirs : GivesTaken (finish finds r report d s) made.0 =
-        subst (λ script. GivesTaken script made.0) (sym (alike.comes_to s (showing_bound l.profile c s report reads shows))) made.1 in
-        comes_to finds r report d reads files others others_taken _ made.0 (made_taken finds r report d reads s made.0 (saved_own (Ok s) shows) theirs)
-        ∙ sym (comes_to finds l report c reads files answers taken _ made.0 (made_taken finds l report c reads s made.0 (own (Ok s) shows) made.1))
+        let made = made_at_once finds l report c reads base s in
+        let theirs : GivesTaken (finish finds r other report d s) made.0 =
+        subst (λ script. GivesTaken script made.0) (sym (alike.comes_to s (showing_bound l.profile c s report reads shows) base other)) made.1 in
+        comes_to finds r report d reads other files others others_taken _ made.0 (made_taken finds r report d reads other s made.0 (saved_own (Ok s) shows) theirs)
+        ∙ sym (comes_to finds l report c reads base files answers taken _ made.0 (made_taken finds l report c reads base s made.0 (own (Ok s) shows) made.1))
 
   -- They report alike.
   reports_alike : IsPlain c → ReportsAlike finds l r c
   reports_alike plain = record {
     figures = figures_alike;
-    texts = λ report reads files answers others taken others_taken.
-        both plain report reads files answers others taken others_taken (showing_for report l.profile c) refl;
+    texts = λ report reads base other files answers others taken others_taken.
+        both plain report reads base other files answers others taken others_taken (showing_for report l.profile c) refl;
   }
 
 -- the filters alone tell what is saved

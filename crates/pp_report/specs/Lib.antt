@@ -1,3 +1,4 @@
+pub mod Base
 pub mod Messages
 pub mod Notes
 pub mod Heads

@@ -7,18 +7,19 @@ use Rattle.pp_desk.specs.Script.{Script, Give, ◌>>=◌}
 use Rattle.pp_model.specs.declared.config.Config.{Config}
 use Rattle.pp_model.specs.declared.loaded.Loaded.{Loaded}
 use Rattle.pp_model.specs.declared.profile.Profile.{Profile}
+use Rattle.pp_model.specs.declared.report.BaseKind.{BaseKind}
 use Rattle.pp_model.specs.declared.report.Report.{Report}
 use Rattle.pp_model.specs.declared.report.Report.TheVariants as reports
 use Rattle.pp_model.specs.Finders.{Finders}
 use Rattle.pp_units.specs.Head.{Facts}
 use Rattle.pp_tables.specs.Encode.{encode}
 use Rattle.pp_pattern.specs.Report.{Finds}
-use Rattle.pp_count.specs.Base.{has_base}
 use Rattle.pp_count.specs.Counted.{has_own_match}
 use Rattle.pp_graph.specs.Trim.{node_limit}
 use Rattle.pp_top.specs.Top.{top_text}
 use Rattle.pp_tree.specs.Tree.{tree_text}
 use Rattle.pp_calltree.specs.Text.{calltree_text}
+use Rattle.pp_compare.specs.Changes.{changes_text}
 use Rattle.pp_compare.specs.Compare.{compare_text}
 use Rattle.pp_export.specs.Folded.{folded_text}
 use Rattle.pp_export.specs.Table.{exact_table}
@@ -32,6 +33,7 @@ use Rattle.pp_source.specs.Listing.{list_report}
 use Rattle.pp_report.specs.declared.refusal.ReportRefusal.{ReportRefusal}
 use Rattle.pp_report.specs.declared.refusal.ReportRefusal.TheVariants.{NoMatch, NoBase}
 use Rattle.pp_report.specs.declared.texts.TheConstants.{TREE_NODES}
+use Rattle.pp_report.specs.Base.{lacks_base}
 use Rattle.pp_report.specs.Heads.{report_head, unit_text}
 use Rattle.pp_report.specs.Patterns.{report_finders}
 use Rattle.pp_report.specs.Prepared.{Showing, Settled, prepare}
@@ -60,12 +62,6 @@ tree_report_text p f config column h =
     if config.path_tree then calltree_text p f config column h
     else tree_text p f config column (node_limit config.nodecount TREE_NODES) h
 
--- what a compare report comes to
-abbrev pub compare_outcome : Profile → Finders → Config → Option ℕ → Facts → Result (List ℕ) ReportRefusal
-compare_outcome p f config column h =
-    if has_base p then Ok (compare_text p f config column (node_limit config.nodecount 0) h)
-    else Err NoBase
-
 -- The text of a report with this head, once its patterns are known. Only a list report reads files.
 unfoldable pub text_by : Profile → Finders → Config → Option ℕ → Facts → Report
     → Script (Result (List ℕ) ReportRefusal)
@@ -82,8 +78,10 @@ text_by p f config column h (reports.List pattern) = list_text p f config column
 text_by p f config column h reports.Folded = Give (Ok (folded_text p f config column))
 text_by p f config column h reports.Table =
     Give (Ok (exact_table p f config column (node_limit config.nodecount 0) (unit_text p column)))
-text_by p f config column h reports.Compare = Give (compare_outcome p f config column h)
-text_by p f config column h reports.Changes = Give (compare_outcome p f config column h)
+text_by p f config column h reports.Compare =
+    Give (Ok (compare_text p f config column (node_limit config.nodecount 0) h))
+text_by p f config column h reports.Changes =
+    Give (Ok (changes_text p f config column (node_limit config.nodecount 0) (unit_text p column)))
 text_by p f config column h reports.Account =
     Give (Ok (top_text p f config column (node_limit config.nodecount 0) h))
 
@@ -110,9 +108,16 @@ finish_on finds l report config showing =
     finish_by l.profile (report_finders finds l report config) config showing report
 
 -- The same of the loaded profile, which may first get frames from labels.
-abbrev pub finish : Finds → Loaded → Report → Config → Showing
+abbrev pub finish_made : Finds → Loaded → Report → Config → Showing
     → Script (Result (List ℕ) ReportRefusal)
-finish finds l report config showing = finish_on finds (basis_of report l config) report config showing
+finish_made finds l report config showing = finish_on finds (basis_of report l config) report config showing
+
+-- The text of a report of the loaded profile, where a base of this kind was given, if one was; or its refusal for want
+-- of a base.
+abbrev pub finish : Finds → Loaded → Option BaseKind → Report → Config → Showing
+    → Script (Result (List ℕ) ReportRefusal)
+finish finds l base report config showing =
+    if lacks_base base l.profile report then Give (Err NoBase) else finish_made finds l report config showing
 
 -- What a report comes to.
 pub record Reported : Type 0 where
@@ -125,18 +130,18 @@ abbrev pub reported_with : List ℕ → Result (List ℕ) ReportRefusal → Repo
 reported_with notes outcome = record { notes = notes; outcome = outcome }
 
 -- goes on after the patterns
-unfoldable pub report_settled : Finds → Loaded → Report → Config → Result Settled ReportRefusal
+unfoldable pub report_settled : Finds → Loaded → Option BaseKind → Report → Config → Result Settled ReportRefusal
     → Script Reported
-report_settled finds l report config (Err refusal) = Give (reported_with [] (Err refusal))
-report_settled finds l report config (Ok settled) =
-    finish finds l report config settled.showing
+report_settled finds l base report config (Err refusal) = Give (reported_with [] (Err refusal))
+report_settled finds l base report config (Ok settled) =
+    finish finds l base report config settled.showing
     >>= (λ outcome. Give (reported_with settled.notes outcome))
 
--- Makes a report: the refusals of its column and unit, the patterns in order, the notes,
--- then the text. The configuration's workers are not read.
-unfoldable pub report_script : Finds → Loaded → Report → Config → Script Reported
-report_script finds l report config =
-    prepare finds l report config >>= report_settled finds l report config
+-- Makes a report: the refusals of its column and unit, the patterns in order, the notes, then the text. The
+-- configuration's workers are not read. The profile was loaded with a base of this kind, if with any.
+unfoldable pub report_script : Finds → Loaded → Option BaseKind → Report → Config → Script Reported
+report_script finds l base report config =
+    prepare finds l report config >>= report_settled finds l base report config
 
 -- what was appended to a text
 abbrev pub appended_text : List ℕ → List ℕ → List ℕ

@@ -1,8 +1,9 @@
 -- A saved profile reports as its filters did.
-use Rattle.std.specs.Prelude.{◌≡◌, true, false, [], None}
+use Rattle.std.specs.Prelude.{◌≡◌, true, false, [], Option, None}
 use Rattle.pp_model.specs.declared.config.Config.{Config}
 use Rattle.pp_model.specs.declared.loaded.Loaded.{Loaded}
 use Rattle.pp_model.specs.declared.profile.Profile.{Profile}
+use Rattle.pp_model.specs.declared.report.BaseKind.{BaseKind}
 use Rattle.pp_model.specs.declared.report.Report.{Report}
 use Rattle.pp_model.specs.declared.report.Report.TheVariants as reports
 use Rattle.pp_model.specs.Conditions.{IsColumnOf}
@@ -36,11 +37,12 @@ pub record IsPlain (config : Config) : Type 0 where
   pub keyless : NamesNoKey config
 
 -- Under the second configuration the report of r shows what that of l shows under the first, or is refused likewise;
--- and it comes to the same text, or finds no function as well.
+-- and it comes to the same text, or finds no function as well, whatever bases were given.
 pub record ReportAlike (finds : Finds) (l r : Loaded) (report : Report) (config d : Config) : Type 0 where
   pub shows : showing_for report r.profile d ≡ showing_for report l.profile config
   pub comes_to : (showing : Showing) → IsColumnOf l.profile showing.column
-      → finish finds r report d showing ≡ finish finds l report config showing
+      → (base other : Option BaseKind)
+      → finish finds r other report d showing ≡ finish finds l base report config showing
 
 -- So it is with each report that reads nothing but figures, of a profile and of what was saved of it by the filters of
 -- the configuration, which are empty in the second one.

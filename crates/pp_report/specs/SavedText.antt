@@ -8,6 +8,7 @@ use Rattle.pp_desk.specs.Course.{course}
 use Rattle.pp_model.specs.declared.config.Config.{Config}
 use Rattle.pp_model.specs.declared.loaded.Loaded.{Loaded}
 use Rattle.pp_model.specs.declared.profile.Profile.{Profile}
+use Rattle.pp_model.specs.declared.report.BaseKind.{BaseKind}
 use Rattle.pp_model.specs.declared.report.Report.{Report}
 use Rattle.pp_model.specs.declared.report.Report.TheVariants as reports
 use Rattle.pp_model.specs.Finders.{Finders}
@@ -41,17 +42,18 @@ AllTaken answers = AllByRecursion (λ a. a.1 ≡ true) answers
 
 -- What a report comes to over these files by these answers of the matcher: its text or a refusal. It writes no file and
 -- reads no line.
-abbrev pub outcome_over : Finds → Loaded → Report → Config → FileMap → List Answer
+abbrev pub outcome_over : Finds → Loaded → Option BaseKind → Report → Config → FileMap → List Answer
     → Result (List ℕ) ReportRefusal
-outcome_over finds l report config files answers =
-    (course (report_script finds l report config) files [] [] answers).value.outcome
+outcome_over finds l base report config files answers =
+    (course (report_script finds l base report config) files [] [] answers).value.outcome
 
 -- The reports of r and of l under these configurations come to the same text or the same refusal, where the matcher
--- refuses no pattern.
+-- refuses no pattern, whatever bases were given.
 abbrev pub ComesToSame : Finds → Loaded → Loaded → Report → Config → Config → Type 0
 ComesToSame finds l r report config d =
-    (files : FileMap) (answers others : List Answer) → AllTaken answers → AllTaken others
-    → outcome_over finds r report d files others ≡ outcome_over finds l report config files answers
+    (base other : Option BaseKind) (files : FileMap) (answers others : List Answer)
+    → AllTaken answers → AllTaken others
+    → outcome_over finds r other report d files others ≡ outcome_over finds l base report config files answers
 
 -- Under the configuration without its filters r reports what l does under the configuration with them.
 pub record ReportsAlike (finds : Finds) (l r : Loaded) (c : Config) : Type 0 where

@@ -1,40 +1,25 @@
-//! The text of the compare report.
+//! The texts of the reports that compare a source with a base.
 ghost use Rattle.std.specs.Prelude.{◌≡◌, IfOk};
 ghost use Rattle.pp_model.specs.Finders.{Finders};
 ghost use Rattle.pp_units.specs.Head.{facts};
 ghost use Rattle.pp_count.specs.Seeing.{HoldsFilters};
 ghost use Rattle.pp_graph.specs.Trim.{node_limit};
+ghost use Rattle.pp_compare.specs.Changes.{changes_text};
 ghost use Rattle.pp_compare.specs.Compare.{compare_text};
-ghost use Rattle.pp_report.specs.Reports.{compare_outcome};
+ghost use Rattle.pp_report.specs.Heads.{unit_text};
 
-use crate::ReportRefusal;
 use crate::host::Host;
+use crate::shows::unit_text;
 use crate::subject::Subject;
 use crate::texts::limit_of;
 use pp_base::{Gate, Memory, Text};
-use pp_compare::write_compare;
-use pp_count::{base_sums, has_base};
-use pp_graph::rank;
+use pp_compare::{write_changes, write_compare};
+use pp_count::base_sums;
+use pp_graph::{rank, rank_all};
 use std::thread::Threads;
 
-/// The compare report, or `NoBase` where no sample carries the base's label.
+/// The compare report, whose keys have no limit of their own.
 pub fn compare<R: Threads + Sync, G: Gate>(
-    with: &Host<'_, R, G>,
-    subject: &Subject<'_, '_>,
-) -> Result<Result<Text, ReportRefusal>, Memory>
-    ensures { let s = subject.now.survey in (f : Finders) →
-        HoldsFilters s.l.now s.v.now s.config.now f →
-        IfOk result (λ outcome. outcome ≡ compare_outcome s.l.now.profile f s.config.now s.column
-        (facts subject.now.head.now)) }
-{
-    if !has_base(subject.survey.l) {
-        return Ok(Err(ReportRefusal::NoBase));
-    }
-    Ok(Ok(compared(with, subject)?))
-}
-
-// The text of a report that has a base. Its keys have no limit of their own.
-fn compared<R: Threads + Sync, G: Gate>(
     with: &Host<'_, R, G>,
     subject: &Subject<'_, '_>,
 ) -> Result<Text, Memory>
@@ -50,5 +35,26 @@ fn compared<R: Threads + Sync, G: Gate>(
     let base = base_sums(with.rt, alloc, survey, with.gate)?;
     let mut text = Text::new(alloc);
     write_compare(alloc, survey, &base, &ranked, subject.head, &mut text)?;
+    Ok(text)
+}
+
+/// The changes report, whose keys have no limit of their own.
+pub fn changes<R: Threads + Sync, G: Gate>(
+    with: &Host<'_, R, G>,
+    subject: &Subject<'_, '_>,
+) -> Result<Text, Memory>
+    ensures { let s = subject.now.survey in (f : Finders) →
+        HoldsFilters s.l.now s.v.now s.config.now f →
+        IfOk result (λ text. text ≡ changes_text s.l.now.profile f s.config.now s.column
+        (node_limit s.config.now.nodecount 0) (unit_text s.l.now.profile s.column)) }
+{
+    let survey = &subject.survey;
+    let (alloc, config) = (with.alloc, survey.config);
+    let limit = limit_of(config, 0);
+    let ranked = rank_all(alloc, survey.l, survey.counted, config, limit)?;
+    let base = base_sums(with.rt, alloc, survey, with.gate)?;
+    let unit = unit_text(survey.l.profile.get(), survey.column);
+    let mut text = Text::new(alloc);
+    write_changes(alloc, survey, &base, &ranked, unit, &mut text)?;
     Ok(text)
 }

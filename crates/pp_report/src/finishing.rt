@@ -7,12 +7,13 @@ ghost use Rattle.pp_units.specs.Head.{facts};
 ghost use Rattle.pp_count.specs.Seeing.{HoldsFilters};
 ghost use Rattle.pp_dump.specs.Saved.{AreKept};
 ghost use Rattle.pp_report.specs.Prepared.{showing, AreCounts, HasCounts, IsPrepared};
-ghost use Rattle.pp_report.specs.Reports.{finish, finish_on, text_by, list_text, answer_of_text, answer_of_outcome};
+ghost use Rattle.pp_report.specs.Reports.{finish, finish_made, finish_on, text_by, list_text, answer_of_text, answer_of_outcome};
 ghost use Rattle.pp_report.specs.SavedText.{OnText, IsProtoOf, IsProtoBy};
 ghost use Rattle.pp_report.specs.Tagged.{basis_of};
 
 use crate::ReportRefusal;
-use crate::comparing::compare;
+use crate::base::lacks_base;
+use crate::comparing::{changes, compare};
 use crate::exports::{folded, table};
 use crate::heads::head_of;
 use crate::host::Host;
@@ -25,7 +26,7 @@ use crate::trees::tree_report;
 use pp_base::{Gate, Memory, Text};
 use pp_count::Survey;
 use pp_desk::{Desk, Stop};
-use pp_model::{Config, Loaded, Report};
+use pp_model::{BaseKind, Config, Loaded, Report};
 use pp_pseudo::basis;
 use pp_source::write_list_of;
 use std::alloc::Global;
@@ -33,8 +34,32 @@ use std::mem;
 use std::thread::Threads;
 
 /// The text of a report that was prepared, `NoMatch` where the pattern of a peek or list report finds nothing, or
-/// `NoBase` where a compare report has no base. Only a list report reads files.
+/// `NoBase` where a compare or changes report has no base: `base` is the kind of the base that was given, if one was.
+/// Only a list report reads files.
 pub fn finish<R: Threads + Sync, D: Desk, G: Gate>(
+    with: &Host<'_, R, G>,
+    l: &Loaded,
+    base: Option<BaseKind>,
+    report: &Report,
+    config: &Config,
+    prepared: Prepared,
+    desk: &mut D,
+) -> Result<Result<Text, ReportRefusal>, Stop>
+    requires { IsPrepared D.finds l.now report.now config.now prepared }
+    ensures went { Went (D.world desk.old) (D.world desk.new)
+        (finish D.finds l.now base report.now config.now (showing prepared.shows)) result }
+    ensures saved { report.now ≡ Proto → OnText result
+        (IsProtoBy D.finds (basis_of report.now l.now config.now) config.now) }
+{
+    if lacks_base(base, l, report) {
+        mem::drop(prepared);
+        return Ok(Err(ReportRefusal::NoBase));
+    }
+    finish_made(with, l, report, config, prepared, desk)
+}
+
+// The text of a report that lacks no base.
+fn finish_made<R: Threads + Sync, D: Desk, G: Gate>(
     with: &Host<'_, R, G>,
     l: &Loaded,
     report: &Report,
@@ -44,7 +69,7 @@ pub fn finish<R: Threads + Sync, D: Desk, G: Gate>(
 ) -> Result<Result<Text, ReportRefusal>, Stop>
     requires { IsPrepared D.finds l.now report.now config.now prepared }
     ensures went { Went (D.world desk.old) (D.world desk.new)
-        (finish D.finds l.now report.now config.now (showing prepared.shows)) result }
+        (finish_made D.finds l.now report.now config.now (showing prepared.shows)) result }
     ensures saved { report.now ≡ Proto → OnText result
         (IsProtoBy D.finds (basis_of report.now l.now config.now) config.now) }
 {
@@ -148,8 +173,8 @@ fn text_by<R: Threads + Sync, D: Desk, G: Gate>(
         Report::List(_) => list(alloc, subject, desk),
         Report::Folded => answer_of_text(folded(alloc, survey)),
         Report::Table => answer_of_text(table(alloc, survey)),
-        Report::Compare => answer_of_outcome(compare(with, subject)),
-        Report::Changes => answer_of_outcome(compare(with, subject)),
+        Report::Compare => answer_of_text(compare(with, subject)),
+        Report::Changes => answer_of_text(changes(with, subject)),
         Report::Account => answer_of_text(top(alloc, subject)),
     }
 }

@@ -17,7 +17,7 @@ use crate::preparing::prepare;
 use pp_base::{Gate, Memory, Text};
 use pp_desk::{Desk, Stop};
 use pp_keys::HashKeys;
-use pp_model::{Config, Loaded, Report};
+use pp_model::{BaseKind, Config, Loaded, Report};
 use std::alloc::Global;
 use std::mem;
 use std::thread::Threads;
@@ -30,7 +30,9 @@ use std::thread::Threads;
 ///
 /// It is refused for its column, then for its unit, both before any pattern is asked, then for the first pattern that
 /// the matcher refuses, and last where the pattern of a peek or list report finds no function that could be shown, or
-/// where a compare report has no base.
+/// where a compare or changes report has no base. It has one where a base was given to compare with, of which `base` is
+/// the kind, also where none of its samples is left; or where a sample carries `pprof::base` of the text `true`, as in a
+/// difference that was saved.
 /// `Err` is the failure of a file that a list report reads, or want of memory; a front of the notes is appended then.
 ///
 /// Where no frames are made from labels, the text of a proto report is read as the profile that was saved. That profile
@@ -43,6 +45,7 @@ pub fn generate<'x, R: Threads + Sync, D: Desk, G: Gate>(
     rt: &'x R,
     alloc: Global,
     l: &Loaded,
+    base: Option<BaseKind>,
     report: &Report,
     config: &Config,
     desk: &mut D,
@@ -51,7 +54,7 @@ pub fn generate<'x, R: Threads + Sync, D: Desk, G: Gate>(
 ) -> Result<Result<Text, ReportRefusal>, Stop>
     requires { IsCountable l.now.profile }
     ensures went { Went (D.world desk.old) (D.world desk.new)
-        (report_script D.finds l.now report.now config.now)
+        (report_script D.finds l.now base report.now config.now)
         (reported (appended_text notes.old notes.new) result) }
     ensures notes { notes.new ≡ notes.old ++ appended_text notes.old notes.new }
     ensures stopped { OnErr result (IsFront (appended_text notes.old notes.new)
@@ -70,7 +73,7 @@ pub fn generate<'x, R: Threads + Sync, D: Desk, G: Gate>(
     match prepare(&with, l, report, config, desk)? {
         Err(refusal) => Ok(Err(refusal)),
         Ok(prepared) => match notes.extend(prepared.notes.as_slice()) {
-            Ok(()) => finish(&with, l, report, config, prepared, desk),
+            Ok(()) => finish(&with, l, base, report, config, prepared, desk),
             Err(Memory) => {
                 mem::drop(prepared);
                 Err(Stop::Memory)

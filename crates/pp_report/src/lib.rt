@@ -3,6 +3,7 @@
 #![tactic(auto)]
 
 mod asking;
+mod base;
 mod comparing;
 mod exports;
 mod finishing;

@@ -10,4 +10,4 @@ use Rattle.pp_engine.proofs.shell.take_turns.Given as goal
 abbrev pub invariant-turns : goal.invariant-turns
 invariant-turns g l =
     IsOnWay (g.D.Desk.world l.fn.desk) (g.D.Desk.world l.desk)
-    (turns (turn g.D.Desk.finds l.l) Done MOST_LINES l.fn.config) (turns (turn g.D.Desk.finds l.l) Done (MOST_LINES - l._turn) l.config)
+    (turns (turn g.D.Desk.finds l.l l.base) Done MOST_LINES l.fn.config) (turns (turn g.D.Desk.finds l.l l.base) Done (MOST_LINES - l._turn) l.config)

@@ -2,7 +2,7 @@ use Rattle.std.proofs.Common.{ap, ◌∙◌}
 use Rattle.pp_units.specs.Head.{facts}
 use Rattle.pp_compare.specs.Compare.{compare_text}
 use Rattle.pp_report.proofs.FinishingLemmas.{made_text}
-use Rattle.pp_report.proofs.comparing.compared.Goals as goal
+use Rattle.pp_report.proofs.comparing.compare.Goals as goal
 
 -- the ranking's numbers are those of names
 pub write_compare-requires-clause-below : goal.write_compare-requires-clause-below
