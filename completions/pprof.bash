@@ -24,7 +24,7 @@ _pprof() {
         mapfile -t COMPREPLY < <(compgen -W "$values" -- "$word")
     elif [[ $word == -* ]]; then
         [[ $word == --* ]] && dash=--
-        values="peek= list= gen= base= diff_base= sort= granularity= nodecount= nodefraction= edgefraction= focus= ignore= show= hide= show_from= prune_from= tagfocus= tagignore= tagshow= taghide= tagroot= tagleaf= sample_index= unit= divide_by= source_path= trim_path= workers= top text tree traces tags raw comments proto folded table compare normalize noinlines showcolumns path_tree relative_percentages flat cum functions filefunctions files lines addresses inuse_space inuse_objects alloc_space alloc_objects contentions total_delay"
+        values="peek= list= gen= base= diff_base= sort= granularity= nodecount= nodefraction= edgefraction= focus= ignore= show= hide= show_from= prune_from= tagfocus= tagignore= tagshow= taghide= tagroot= tagleaf= sample_index= unit= divide_by= source_path= trim_path= workers= top text tree traces tags raw comments proto folded table compare changes account normalize noinlines showcolumns path_tree relative_percentages flat cum functions filefunctions files lines addresses inuse_space inuse_objects alloc_space alloc_objects contentions total_delay"
         [[ $COMP_CWORD == 1 ]] && values+=" help version"
         mapfile -t COMPREPLY < <(compgen -P "$dash" -W "$values" -- "${word#"$dash"}")
         [[ ${COMPREPLY[*]} == *= ]] && compopt -o nospace

@@ -15,6 +15,8 @@ complete -c pprof -o proto -l proto -d 'the profile as it was filtered, as proto
 complete -c pprof -o folded -l folded -d 'the value of each path, for flame graph programs'
 complete -c pprof -o table -l table -d 'the values of each function, divided by tabs'
 complete -c pprof -o compare -l compare -d 'each function before and after the change, of a profile with -diff_base'
+complete -c pprof -o changes -l changes -d 'the same figures, exact, divided by tabs'
+complete -c pprof -o account -l account -d 'what each filter drops, and what the limits leave out'
 complete -c pprof -o gen -l gen -d 'a source that is made, of 1 to 1000000 samples' -x
 complete -c pprof -o base -l base -d 'a profile that is subtracted' -r -F
 complete -c pprof -o diff_base -l diff_base -d 'the same, and percentages are of the base' -r -F

@@ -8,7 +8,7 @@ what the top of the repository has, and their status has to be 0. Lines `(pprof)
 shell. A line `...` stands for any lines.
 
 Blocks that begin with `#!/bin/bash` are scripts for build servers. Each is run over a profile before and one after a change
-of several kinds, and over files that are missing or cut off, and its status compared.
+of several kinds, and over files that are missing, cut off or of another kind, and its status compared.
 
 The status is 0 where all agree.
 """
@@ -91,15 +91,22 @@ def cases(place):
     same = (ROOT / "samples" / "go-cpu.pb").read_bytes()
     doubled = ["./pprof", "-proto", "samples/go-cpu.pb", "samples/go-cpu.pb"]
     grown = subprocess.run(doubled, cwd=place, stdout=subprocess.PIPE, timeout=SECONDS, check=True).stdout
+    emptied = ["./pprof", "-proto", "-ignore=.", "samples/go-cpu.pb"]
+    idle = subprocess.run(emptied, cwd=place, stdout=subprocess.PIPE, timeout=SECONDS, check=True).stdout
+    other = (ROOT / "samples" / "threads.pb").read_bytes()
     yield "no change", same, same, 0
     yield "growth", same, grown, GREW
     yield "less than before", grown, same, 0
+    yield "nothing measured before", idle, same, GREW
+    yield "nothing measured after", same, idle, 0
     yield "nothing before", None, same, REFUSED
     yield "nothing after", same, None, REFUSED
     yield "neither", None, None, REFUSED
     yield "an empty file after", same, b"", REFUSED
     yield "a cut file after", same, same[:100], REFUSED
     yield "a cut file before", same[:100], same, REFUSED
+    yield "a profile of another kind after", same, other, REFUSED
+    yield "a profile of another kind before", other, same, REFUSED
 
 
 def run_scripts(place, text):
