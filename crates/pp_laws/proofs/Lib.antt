@@ -17,5 +17,6 @@ pub mod Shards
 pub mod Subtracting
 pub mod Labelled
 pub mod Comparing
+pub mod Changing
 mod SumsMoved
 mod LoadedOrder

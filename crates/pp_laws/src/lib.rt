@@ -6,6 +6,7 @@
 
 mod bases;
 mod bounds;
+mod changes;
 mod compared;
 mod flats;
 mod merged;
@@ -19,6 +20,7 @@ pub use bases::differences_are_differences;
 pub use bounds::{
     edges_are_within, figures_are_within, percentages_are_within, shared_keys_are_whole,
 };
+pub use changes::changes_add_up;
 pub use compared::comparisons_show_both_sides;
 pub use flats::nothing_is_lost;
 pub use merged::merged_reports_are_sums;
