@@ -76,7 +76,8 @@ fn failure_difference<'a>(
     left: &Left,
     fault: Fault,
 ) -> Option<Difference<'a>> {
-    let is_told = if fault.failure == Failure::Refusal && left.out.calm.bytes().len() > 0 {
+    let is_in_shell = left.out.calm.bytes().as_slice().starts_with(PROMPT);
+    let is_told = if fault.failure == Failure::Refusal && is_in_shell {
         refusal_in_shell(session, left)
     } else {
         stop(session, left, fault)
@@ -132,7 +133,8 @@ fn refusal_in_shell<'a>(session: &'a Session, left: &Left) -> Option<Difference<
     }
 }
 
-// A file that is not as owed. Where the report that is left out would have gone to a file, one may be as it was.
+// A file that is not as owed. Where the report that is left out would have gone to a file, one may be as it was. Where no
+// report was owed, a line of standard error was, and that of the refusal stands for it.
 fn file_left_out<'a>(
     session: &'a Session,
     left: &Left,
@@ -149,7 +151,15 @@ fn file_left_out<'a>(
         }
         is_due = false;
     }
+    let owed = session.transcript.owed.err.as_slice();
+    if is_due && lines(left.err.calm.bytes().as_slice()) != lines(owed) {
+        return Some(Difference::Err);
+    }
     None
+}
+
+fn lines(bytes: &[u8]) -> usize {
+    bytes.split_inclusive(|byte| *byte == b'\n').count()
 }
 
 const REFUSED: &[u8] = b": pattern refused\n";
@@ -185,7 +195,7 @@ fn between<'a>(bytes: &'a [u8], front: &[u8], end: &[u8]) -> Option<&'a [u8]> {
 // Whether it is one line at most.
 fn is_line(bytes: Option<&[u8]>) -> bool {
     match bytes {
-        Some(bytes) => bytes.split_inclusive(|byte| *byte == b'\n').count() <= 1,
+        Some(bytes) => lines(bytes) <= 1,
         None => false,
     }
 }
@@ -194,14 +204,22 @@ const PROMPT: &[u8] = b"(pprof) ";
 
 // Whether what is left is what is owed but for all that stands between one prompt and the next.
 fn lacks_a_report(owed: &[u8], left: &[u8]) -> bool {
-    let alike = owed.iter().zip(left.iter()).take_while(|(a, b)| *a == *b);
-    let (front, end) = left.split_at_checked(alike.count()).unwrap_or((left, b""));
-    match between(owed, front, end) {
-        Some(lost) => {
-            front.ends_with(PROMPT)
-                && end.starts_with(PROMPT)
-                && !lost.windows(PROMPT.len()).any(|bytes| bytes == PROMPT)
+    for place in 0..=left.len() {
+        if let Some((front, end)) = left.split_at_checked(place)
+            && front.ends_with(PROMPT)
+            && end.starts_with(PROMPT)
+            && is_report(between(owed, front, end))
+        {
+            return true;
         }
+    }
+    false
+}
+
+// Whether it has no prompt in it.
+fn is_report(bytes: Option<&[u8]>) -> bool {
+    match bytes {
+        Some(bytes) => !bytes.windows(PROMPT.len()).any(|bytes| bytes == PROMPT),
         None => false,
     }
 }
