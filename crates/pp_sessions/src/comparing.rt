@@ -76,7 +76,8 @@ fn failure_difference<'a>(
     left: &Left,
     fault: Fault,
 ) -> Option<Difference<'a>> {
-    let is_told = if fault.failure == Failure::Refusal && left.out.calm.bytes().len() > 0 {
+    let is_in_shell = left.out.calm.bytes().as_slice().starts_with(PROMPT);
+    let is_told = if fault.failure == Failure::Refusal && is_in_shell {
         refusal_in_shell(session, left)
     } else {
         stop(session, left, fault)
@@ -117,24 +118,54 @@ fn is_told_last(owed: &[u8], left: &[u8], fault: Fault) -> bool {
     }
 }
 
-// A refusal in the shell: a report is left out, its refusal is told, and the session goes on.
+// A refusal in the shell: one report is left out, its refusal is told, and the session goes on. All else is as owed.
 fn refusal_in_shell<'a>(session: &'a Session, left: &Left) -> Option<Difference<'a>> {
     let owed = &session.transcript.owed;
+    let out = left.out.calm.bytes().as_slice();
     if !is_refused_once(owed.err.as_slice(), left.err.calm.bytes().as_slice(), false) {
         Some(Difference::Err)
-    } else if !leaves_out(owed.out.as_slice(), left.out.calm.bytes().as_slice()) {
+    } else if out != owed.out.as_slice() && !lacks_a_report(owed.out.as_slice(), out) {
         Some(Difference::Out)
     } else if left.status != owed.status {
         Some(Difference::Status)
     } else {
-        None
+        file_left_out(session, left, out == owed.out.as_slice())
     }
+}
+
+// A file that is not as owed. Where the report that is left out would have gone to a file, one may be as it was. Where no
+// report was owed, a line of standard error was, and that of the refusal stands for it.
+fn file_left_out<'a>(
+    session: &'a Session,
+    left: &Left,
+    is_to_file: bool,
+) -> Option<Difference<'a>> {
+    let mut is_due = is_to_file;
+    for path in session.paths.as_slice() {
+        let content = left.files.content(path);
+        if is_same(content, session.after.content(path)) {
+            continue;
+        }
+        if !is_due || !is_same(content, session.before.content(path)) {
+            return Some(Difference::File(path));
+        }
+        is_due = false;
+    }
+    let owed = session.transcript.owed.err.as_slice();
+    if is_due && lines(left.err.calm.bytes().as_slice()) != lines(owed) {
+        return Some(Difference::Err);
+    }
+    None
+}
+
+fn lines(bytes: &[u8]) -> usize {
+    bytes.split_inclusive(|byte| *byte == b'\n').count()
 }
 
 const REFUSED: &[u8] = b": pattern refused\n";
 
 // Whether a line of what is left tells of a refusal, what stands before it is a front of what is owed, and what stands
-// behind it is an end of that. The last line has nothing behind it.
+// behind it is an end of that. Where it is the last, nothing stands behind it; else it stands for one line at most.
 fn is_refused_once(owed: &[u8], left: &[u8], is_last: bool) -> bool {
     let mut front: usize = 0;
     for line in left.split_inclusive(|byte| *byte == b'\n') {
@@ -143,9 +174,11 @@ fn is_refused_once(owed: &[u8], left: &[u8], is_last: bool) -> bool {
         let after = left.get(behind..).unwrap_or(left);
         if line.starts_with(b"pprof: ")
             && line.ends_with(REFUSED)
-            && owed.starts_with(before)
-            && owed.ends_with(after)
-            && (!is_last || after.is_empty())
+            && if is_last {
+                after.is_empty() && owed.starts_with(before)
+            } else {
+                is_line(between(owed, before, after))
+            }
         {
             return true;
         }
@@ -154,16 +187,41 @@ fn is_refused_once(owed: &[u8], left: &[u8], is_last: bool) -> bool {
     false
 }
 
-// Whether what is left is what is owed but for one stretch.
-fn leaves_out(owed: &[u8], left: &[u8]) -> bool {
-    let front = owed.iter().zip(left.iter()).take_while(|(a, b)| *a == *b);
-    let back = owed
-        .iter()
-        .rev()
-        .zip(left.iter().rev())
-        .take_while(|(a, b)| *a == *b);
-    let alike = front.count();
-    left.len() <= owed.len() && alike.saturating_add(back.count()) >= left.len()
+// What stands between a front and an end of the bytes.
+fn between<'a>(bytes: &'a [u8], front: &[u8], end: &[u8]) -> Option<&'a [u8]> {
+    bytes.strip_prefix(front)?.strip_suffix(end)
+}
+
+// Whether it is one line at most.
+fn is_line(bytes: Option<&[u8]>) -> bool {
+    match bytes {
+        Some(bytes) => lines(bytes) <= 1,
+        None => false,
+    }
+}
+
+const PROMPT: &[u8] = b"(pprof) ";
+
+// Whether what is left is what is owed but for all that stands between one prompt and the next.
+fn lacks_a_report(owed: &[u8], left: &[u8]) -> bool {
+    for place in 0..=left.len() {
+        if let Some((front, end)) = left.split_at_checked(place)
+            && front.ends_with(PROMPT)
+            && end.starts_with(PROMPT)
+            && is_report(between(owed, front, end))
+        {
+            return true;
+        }
+    }
+    false
+}
+
+// Whether it has no prompt in it.
+fn is_report(bytes: Option<&[u8]>) -> bool {
+    match bytes {
+        Some(bytes) => !bytes.windows(PROMPT.len()).any(|bytes| bytes == PROMPT),
+        None => false,
+    }
 }
 
 // A file that holds neither what it held before nor a front of what it owes.
