@@ -1,4 +1,4 @@
-"""The table rules: what a profile's tables have to keep (docs/table-rules.md)."""
+"""The table rules: what a profile's tables have to keep (docs/wire-format.md)."""
 
 
 def places_of_texts(tables):
