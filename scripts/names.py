@@ -154,17 +154,16 @@ def crate_rows():
 
 
 def clauses():
-    """Each name that PROVED.md gives of a crate, with what is wrong with it."""
-    for item in re.split(r"\n- ", (ROOT / "docs" / "PROVED.md").read_text())[1:]:
-        item = item.split("\n\n")[0]
-        crates = [name for name in re.findall(r"`(pp_\w+|pprof)`", item.split(":")[0]) if (CRATES / name).is_dir()]
-        if not item.startswith("`p") or not crates:
-            continue
+    """Each name that a row of PROVED.md gives of a crate, with what is wrong with it."""
+    # A row without a crate is of the crates of the row before it.
+    crates = ["pp_engine"]
+    for row in re.findall(r"^\| *(.*) \|$", (ROOT / "docs" / "PROVED.md").read_text(), re.M):
+        crates = [name for name in re.findall(r"`(pp_\w+)`", row.split("|")[0]) if (CRATES / name).is_dir()] or crates
         known = set().union(*map(words_of, crates))
-        for name in re.findall(r"`([^`]+)`", item):
+        for name in re.findall(r"`([^`]+)`", row):
             for part in name.split("::"):
                 if re.fullmatch(r"\w+", part) and not part.startswith("pp_"):
-                    yield None if part in known or part == "pprof" else f"PROVED.md: {crates} has no {name}"
+                    yield None if part in known else f"PROVED.md: {crates} has no {name}"
 
 
 IMPORT = re.compile(r"^\s*(?:ghost |pub )*use Rattle\.(\w+)\.(specs|proofs)\.([\w.]+)\.\{([^}]*)\}", re.M)
@@ -260,7 +259,7 @@ def numbers():
         "docs/PROVED.md": [
             (r"There are ([\d,]+) runs,\s+and ([\d,]+) of them", (runs, models)),
             (r"([\d,]+) are trials of faults, and\s+([\d,]+) of these", (trials, failing)),
-            (r"`pp_laws`, laws of the figures: (\w+) calls", (laws,)),
+            (r"`pp_laws` \| the figures \| (\w+) calls", (laws,)),
         ],
     }
     spelled = dict(enumerate("ten eleven twelve thirteen fourteen fifteen sixteen seventeen eighteen nineteen twenty".split(), 10))
