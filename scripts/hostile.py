@@ -9,7 +9,8 @@ the plain one's time, and 30 milliseconds.
 
 Then come files that are long in one way: a function with 1,000,000 lines in one location, and so on. Every report is run on
 each. One that takes more than 2 seconds is run on a file of a quarter of the size too, and must not take more than 8 times
-that: with a square it takes 16. --size makes the long files so many hundredths of their size.
+that: with a square it takes 16. Both are tried again, side by side, before that is said. --size is the size of the long files, in
+hundredths.
 
 A run has 60 seconds of the processor and 12 GB. The status is 0 where all is within these limits, else 1.
 """
@@ -35,6 +36,8 @@ DEEP = ("lines", "frames", "stack")
 # Seconds beyond which a run is compared with one of a quarter of the size, and how much longer it may take then.
 LONG = 2.0
 GROWTH = 8
+# How often both runs of a pair are tried again before it counts as too slow.
+PAIRS = 3
 LIMIT_SECONDS = 60
 LIMIT_BYTES = 12 << 30
 ENDINGS = (0, 1)
@@ -198,8 +201,11 @@ def compare_kinds(program, folder, counts):
     for count in counts:
         subprocess.run([writer, str(count), folder], check=True)
         for kind, words in KINDS.items():
-            hostile, one = least(program, words, folder / f"{kind}-hostile")
-            plain, other = least(program, words, folder / f"{kind}-plain")
+            for _ in range(PAIRS):
+                hostile, one = least(program, words, folder / f"{kind}-hostile")
+                plain, other = least(program, words, folder / f"{kind}-plain")
+                if hostile <= RATIO * plain + SLACK:
+                    break
             line = f"{kind} of {count}: hostile {hostile:.3f} s, plain {plain:.3f} s, {hostile / plain:.1f} times"
             print(line, flush=True)
             if hostile > RATIO * plain + SLACK or one or other:
@@ -227,9 +233,10 @@ def try_shape(program, folder, name, size, told):
             if not smaller.exists():
                 smaller.write_bytes(make(whole * size // 400))
             quarter = spent(program, words, smaller)[0]
-            # Other work on the machine may have slowed one of the two.
-            if seconds > GROWTH * quarter:
-                seconds = min(seconds, *(spent(program, words, path)[0] for _ in range(2)))
+            # Other work on the machine may have slowed one of the two. Of a pair of runs it slows both.
+            for _ in range(PAIRS):
+                if seconds > GROWTH * quarter:
+                    seconds, quarter = (spent(program, words, it)[0] for it in (path, smaller))
             if seconds > GROWTH * quarter:
                 findings.append(f"{name} {report}: {seconds:.1f} s, and {quarter:.1f} s for a quarter")
         if status == 1 and name == "pattern":
