@@ -1,6 +1,6 @@
 -- Pieces of a list, and what is right for all of them.
-use Rattle.std.proofs.Common.{◌≡◌, ℕ, suc, ◌-◌, ◌*◌, ◌<◌, ◌≤◌, min, map, List, [], ◌∷◌, length, take, drop, get_or, refl, sym, ap, subst, ◌∙◌, arith}
-use Rattle.std.proofs.lemmas.List.{drop-drop, drop-map, length-drop, take-append-drop, take-map, take_all, take_min}
+use Rattle.std.proofs.Common.{◌≡◌, ℕ, suc, ◌-◌, ◌*◌, ◌<◌, ◌≤◌, min, map, List, [], ◌∷◌, ◌++◌, length, take, drop, get_or, refl, sym, ap, subst, ◌∙◌, append_assoc, arith}
+use Rattle.std.proofs.lemmas.List.{append-nil, drop-drop, drop-map, length-drop, take-append-drop, take-map, take_all, take_min}
 use Rattle.pp_steal.specs.declared.piece.TheConstants.{PIECE}
 use Rattle.pp_steal.specs.Pieces.{piece_of, IsCutInto}
 use Rattle.pp_steal.specs.Running.{AreOutcomes}
@@ -48,3 +48,28 @@ module _ {A T : Type 0} (right : List A → T → Type 0) where
   outcomes_are items pieces parts all whole =
       let many = all.many in
       parts_are items parts (λ k d here. all.each k d (omega (arith, here, many))) (omega (arith, whole, many))
+
+  -- The outcome is that of the front of the items, and the parts are those of the rest.
+  pub record AreAppended (items : List A) (all : T) (parts : List T) : Type 0 where
+    pub front : List A
+    pub rest : List A
+    pub cut : items ≡ front ++ rest
+    pub is_right : right front all
+    pub are : IsCutInto right rest parts
+
+  -- one part more is appended
+  pub part_appended : (items : List A) (before after part : T) (parts : List T) → AreAppended items before (part ∷ parts)
+      → ((xs ys : List A) → right xs before → right ys part → right (xs ++ ys) after) → AreAppended items after parts
+  part_appended items before after part parts a both =
+      let (front, rest, cut, own, others) = a.are in
+      record {
+        front = a.front ++ front;
+        rest = rest;
+        cut = a.cut ∙ ap (λ l. a.front ++ l) cut ∙ sym (append_assoc a.front front rest);
+        is_right = both a.front front a.is_right own;
+        are = others;
+      }
+
+  -- all parts are appended
+  pub all_appended : (items : List A) (all : T) → AreAppended items all [] → right items all
+  all_appended items all a = subst (λ l. right l all) (sym (a.cut ∙ ap (λ l. a.front ++ l) a.are ∙ append-nil a.front)) a.is_right

@@ -1,16 +1,17 @@
-//! Lanes over ruled deques: each piece of a job is given to one lane, or left.
+//! Lists that several threads work on, and lanes over ruled deques, each of which gives a piece to one lane or leaves it.
 //!
-//! `Lanes::make` deals numbered pieces to the deques of some lanes. A lane takes pieces of its own deque, and when that
-//! gives none, of the others' (`Lane::next`). `close` then tells what each lane took and what is left. `run_pieces`
-//! runs a job so, each lane on a thread of its own where one can be made. It gives the outcomes in the order of the
-//! pieces.
+//! `piecewise` is the file to begin with: work on a list that is cut into pieces (`piece`), and `Resources`, which calls on
+//! several workers are passed on. `run_pieces` (`run`) runs a job (`job`) of numbered pieces, each lane on a thread of its
+//! own where one can be made (`station`). It gives the outcomes in the order of the pieces (`outcomes`). `for_each_on`
+//! (`spread`) deals no pieces: it gives each thread a part of a list.
 //!
-//! The deques are those of `crossbeam_deque` under the rule `Sound` of `specs/Pool.antt`. It says of each deque at each
-//! moment that every piece dealt to it is still in it or was taken by one pass. `pool_law` states what follows of that
-//! rule without any thread, over all lists of steps.
+//! Below lies the pool. `Lanes::make` (`make`) deals numbered pieces to the deques of some lanes (`deal`, `room`). A lane
+//! (`lane`, `chair`) takes pieces of its own deque, and when that gives none, of the others' (`reach`). `close` (`given`)
+//! then tells what each lane took and what is left.
 //!
-//! `Resources` is what calls on several workers are passed on. `for_each_on` deals no pieces: it gives each thread a part
-//! of a list.
+//! The deques are those of `crossbeam_deque` under the rule `Sound` of `specs/Pool.antt` (`view`). It says of each deque at
+//! each moment that every piece dealt to it is still in it or was taken by one pass. `pool_law` (`law`) states what follows
+//! of that rule without any thread, over all lists of steps.
 #![tactic(auto)]
 
 mod chair;
@@ -22,6 +23,7 @@ mod law;
 mod make;
 mod outcomes;
 mod piece;
+mod piecewise;
 mod reach;
 mod resources;
 mod room;
@@ -37,6 +39,7 @@ pub use lane::Lane;
 pub use law::pool_law;
 pub use make::Lanes;
 pub use piece::{PIECE, piece_of, pieces_of};
+pub use piecewise::{Piecewise, run_piecewise};
 pub use reach::{Reach, sweep};
 pub use resources::Resources;
 pub use run::run_pieces;

@@ -1,87 +1,21 @@
--- Samples that are read apart from the other fields, in pieces, make the same profile.
-use Rattle.std.proofs.Common.{◌≡◌, ℕ, ◌-◌, ◌%◌, ◌^◌, ◌<◌, ◌≤◌, Bool, true, false, cond, eqb, map, List, [], ◌∷◌, ◌++◌, length, take, drop, filter, Option, Some, None, Ok, refl, sym, ap, subst, ◌∙◌, append_assoc, arith}
+-- Samples that are read apart from the other fields make the same profile.
+use Rattle.std.proofs.Common.{◌≡◌, ℕ, ◌^◌, ◌<◌, Bool, true, false, cond, eqb, map, List, [], ◌∷◌, ◌++◌, length, filter, Option, None, Ok, refl, sym, ap, subst, ◌∙◌}
 use Rattle.std.specs.List.{flat_map, AllByRecursion}
 use Rattle.std.proofs.lemmas.Bool.{eqb-true}
-use Rattle.std.proofs.lemmas.List.{append-nil, map-append}
-use Rattle.std.proofs.Math.Seq.{take-add}
-use Rattle.pp_base.proofs.Lists.{all_append}
 use Rattle.pp_wire.specs.declared.fault.WireFault.{WireFault}
 use Rattle.pp_wire.specs.Fields.{Content, Varint, Eight, Four, Bytes, Item, fields}
 use Rattle.pp_model.specs.declared.profile.Sample.{Sample}
 use Rattle.pp_model.specs.declared.profile.Profile.{Profile}
-use Rattle.pp_tables.specs.declared.extent.Extent.{Extent}
 use Rattle.pp_tables.specs.declared.skim.Skimmed.{Skimmed}
 use Rattle.pp_tables.specs.Message.{Run, Nested, fault_by, fault_of, or_else, first_item_fault, fault_in}
 use Rattle.pp_tables.specs.Select.{all, messages_in}
 use Rattle.pp_tables.specs.Tables.{no_sample, sample_rules, sample_after, no_profile, profile_rules, profile_after}
 use Rattle.pp_tables.specs.Read.{read_message, profile_of, profile_unless, with_a_text}
 use Rattle.pp_tables.specs.Joined.{PayloadAt, payloads_in}
-use Rattle.pp_tables.specs.Skim.{skim_rules, extents_in, payload_of, IsSkimmed}
-use Rattle.pp_tables.specs.Apart.{IsSoundSample, sample_at, ReadsSamples, AreSamples}
+use Rattle.pp_tables.specs.Skim.{skim_rules, payload_of, IsSkimmed}
+use Rattle.pp_tables.specs.Apart.{IsSoundSample, sample_at, ReadsSamples}
 use Rattle.pp_tables.proofs.Payloads.{both_none}
-use Rattle.pp_tables.proofs.Bounds.{all_few, payload_few}
 use Rattle.pp_tables.proofs.Extents.{all_mapped, extents_are}
-use Rattle.pp_wire.proofs.CallerLemmas.{total-fields}
-use Rattle.pp_steal.specs.Pieces.{IsCutInto}
-
--- ---- samples of payloads
-
--- more payloads behind others
-pub adds_more : (front more : List PayloadAt) (old before after : List Sample) → ReadsSamples front old before → ReadsSamples more before after → ReadsSamples (front ++ more) old after
-adds_more front more old before after a b = record {
-  sound = all_append IsSoundSample front more a.sound b.sound;
-  added = b.added ∙ ap (λ l. l ++ map sample_at more) a.added ∙ append_assoc old (map sample_at front) (map sample_at more) ∙ ap (λ l. old ++ l) (sym (map-append sample_at front more));
-}
-
--- The front of the parts is joined: the rest of the parts are those of the rest of the payloads.
-pub record AreJoined (payloads : List PayloadAt) (old samples : List Sample) (parts : List (Option (List Sample))) : Type 0 where
-  pub front : List PayloadAt
-  pub rest : List PayloadAt
-  pub cut : payloads ≡ front ++ rest
-  pub joined : ReadsSamples front old samples
-  pub are : IsCutInto AreSamples rest parts
-
--- nothing is added by no payloads
-pub reads_none : (samples : List Sample) → ReadsSamples [] samples samples
-reads_none samples = record { sound = tt; added = sym (append-nil samples) }
-
-pub none_joined : (payloads : List PayloadAt) (samples : List Sample) (parts : List (Option (List Sample))) → IsCutInto AreSamples payloads parts → AreJoined payloads samples samples parts
-none_joined payloads samples parts are = record { front = []; rest = payloads; cut = refl; joined = reads_none samples; are = are }
-
-pub part_joined : (payloads : List PayloadAt) (old before after more : List Sample) (parts : List (Option (List Sample)))
-    → AreJoined payloads old before (Some more ∷ parts) → after ≡ before ++ more → AreJoined payloads old after parts
-part_joined payloads old before after more parts j is =
-    let (front, rest, cut, adds, are) = j.are in
-    record {
-      front = j.front ++ front;
-      rest = rest;
-      cut = j.cut ∙ ap (λ l. j.front ++ l) cut ∙ sym (append_assoc j.front front rest);
-      joined = adds_more j.front front old before after j.joined (record { sound = adds.sound; added = is ∙ ap (λ l. before ++ l) adds.added });
-      are = are;
-    }
-
-pub all_joined : (payloads : List PayloadAt) (old samples : List Sample) → AreJoined payloads old samples [] → ReadsSamples payloads old samples
-all_joined payloads old samples j =
-    subst (λ l. ReadsSamples l old samples) (sym (j.cut ∙ ap (λ l. j.front ++ l) j.are ∙ append-nil j.front)) j.joined
-
--- one more wave of payloads
-pub wave_read : (f : Extent → PayloadAt) (extents : List Extent) (start end : ℕ) (before after : List Sample) → start ≤ end
-    → ReadsSamples (map f (take start extents)) [] before → ReadsSamples (map f (take (end - start) (drop start extents))) before after
-    → ReadsSamples (map f (take end extents)) [] after
-wave_read f extents start end before after ordered sofar wave =
-    let more : List Extent = take (end - start) (drop start extents) in
-    let cut : take end extents ≡ take start extents ++ more =
-    ap (λ n. take n extents) (omega (arith, ordered)) ∙ take-add start (end - start) extents in
-    subst (λ l. ReadsSamples l [] after) (sym (ap (map f) cut ∙ map-append f (take start extents) more))
-    (adds_more (map f (take start extents)) (map f more) [] before after sofar wave)
-
--- The samples before `start` are joined, and those from there to `end` are read.
-pub record IsWaveRead (f : Extent → PayloadAt) (extents : List Extent) (start end : ℕ) (samples : List Sample) (parts : List (Option (List Sample))) : Type 0 where
-  pub ordered : start ≤ end
-  pub joined : ReadsSamples (map f (take start extents)) [] samples
-  pub read : IsCutInto AreSamples (map f (take (end - start) (drop start extents))) parts
-
--- ---- the message
 
 -- a sample without a fault
 sample_sound : (x : Content) (at number : ℕ) (payloads : List PayloadAt) → fault_by Run x at ≡ None → AllByRecursion IsSoundSample (payloads_in (record { number = number; content = x; at = at }) ++ payloads)
@@ -124,16 +58,6 @@ module _ (bytes : List ℕ) (s : Skimmed) (short : length bytes < 2 ^ 32) (skimm
 
   payloads_are : payloads ≡ all payloads_in 2 (fields bytes 0).items
   payloads_are = ap (λ (t : Skimmed). map (payload_of bytes) t.samples) skimmed.is ∙ extents_are bytes 2 short
-
-  -- no more samples than bytes
-  pub extents_few : length s.samples ≤ length bytes
-  extents_few =
-      omega (
-        arith,
-        ap (λ (t : Skimmed). length t.samples) skimmed.is,
-        total-fields bytes 0,
-        all_few extents_in 2 (λ i. payload_few (λ run place. record { start = place % 2 ^ 32; len = length run % 2 ^ 32 } ∷ []) (λ run place. omega arith) i.content) (fields bytes 0).items,
-      )
 
   -- with the samples, it is the profile
   pub message_whole : (samples : List Sample) (p q : Profile) → ReadsSamples payloads [] samples → p ≡ record s.profile { sample = samples } → q ≡ with_a_text p → read_message bytes ≡ Ok q

@@ -1,9 +1,10 @@
 //! The message of profile.proto, read as the tables of a profile, and written again.
 //!
-//! `reading` has the whole way on one thread. `profile`, `sample` and `message` take the fields of each message, `fields`
-//! and `packed` the values of a field. `lanes` reads the samples apart from all else: `skim` takes the other fields and
-//! notes where each sample lies, `decoding` reads pieces of them on lanes, and the parts are joined in order. `writing`
-//! and `spelled` put a profile's canonical bytes. `laws` says what holds of reading and writing together.
+//! `reading` is the file to begin with: the whole way on one thread. `profile`, `sample`, `code` and `message` take the
+//! fields of each message, `fields` and `packed` the values of a field. `lanes` reads the samples apart from all else:
+//! `skim` takes the other fields and notes where each sample lies (`extent`). `decoding` says how any part of the samples
+//! is read (`decoded`), and how two parts become one. `writing` and `spelled` put a profile's canonical bytes. `laws` says
+//! what holds of reading and writing together.
 #![tactic(auto)]
 
 mod code;
