@@ -10,3 +10,4 @@ mod Accounting
 mod Moved
 mod Sourced
 mod Showing
+mod Changing

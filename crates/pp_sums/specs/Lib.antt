@@ -4,3 +4,4 @@ pub mod Finer
 pub mod Callers
 pub mod Sources
 pub mod Shown
+pub mod Changes

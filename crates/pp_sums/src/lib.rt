@@ -6,12 +6,14 @@
 #![tactic(auto)]
 
 mod callers;
+mod changes;
 mod coarser;
 mod finer;
 mod shown;
 mod sources;
 
 pub use callers::edges_account_for_keys;
+pub use changes::changes_add_up;
 pub use coarser::coarser_files_report_alike;
 pub use finer::parts_add_up;
 pub use shown::{tags_add_up, traces_add_up};
