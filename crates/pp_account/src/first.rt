@@ -3,7 +3,7 @@ ghost use Rattle.std.specs.Prelude.{◌≡◌, false, length, List as Seq, Optio
 ghost use Rattle.std.specs.List.{list_all};
 ghost use Rattle.std.specs.Option.{ForSome};
 ghost use Rattle.pp_model.specs.Conditions.{HasOnePerText, HasVerdicts, IsSampleOf, IsStackOf, RefersTo};
-ghost use Rattle.pp_model.specs.Finders.{Finder, Finders, HoldsFinders};
+ghost use Rattle.pp_model.specs.Finders.{Finder, Finders, HoldsFinders, TagFinders};
 ghost use Rattle.pp_model.specs.FrameTexts.{written};
 ghost use Rattle.pp_model.specs.Judged.{judged};
 ghost use Rattle.pp_stack.specs.Filters.{AreVerdicts, finds_frame, is_emptied, not_hidden};
@@ -166,7 +166,7 @@ fn selects_or(
 ) -> bool
     requires sample { IsSampleOf l.now.profile s.now }
     requires tags { HasItsTags l.now.profile tag.now f.now }
-    ensures { (finders : Seq Finder) → AreTagVerdicts l.now.profile tag.now f.now finders parts.now →
+    ensures { (finders : TagFinders) → AreTagVerdicts l.now.profile tag.now f.now finders parts.now →
         result ≡ selects_or otherwise l.now.profile f.now finders s.now }
 {
     match f {

@@ -10,6 +10,7 @@ pub mod Counts
 pub mod EdgeSums
 pub mod Filters
 pub mod Counted
+pub mod Found
 pub mod Matches
 pub mod Ranks
 pub mod Joined

@@ -5,7 +5,7 @@ use Rattle.std.specs.Option.{option_map_or}
 use Rattle.pp_model.specs.declared.config.Config.{Config}
 use Rattle.pp_model.specs.declared.profile.Sample.{Sample}
 use Rattle.pp_model.specs.declared.profile.Profile.{Profile}
-use Rattle.pp_model.specs.Finders.{Finder, Finders}
+use Rattle.pp_model.specs.Finders.{Finder, Finders, TagFinders}
 use Rattle.pp_model.specs.Frames.{stack_of}
 use Rattle.pp_model.specs.FrameTexts.{written}
 use Rattle.pp_stack.specs.Filters.{finds_frame, load_pruned}
@@ -32,7 +32,7 @@ key_match p pattern samples =
     option_map_or (λ find. list_any (label_has p find) samples) pattern false
 
 -- a tag filter selects one of the samples; one that isn't in force selects none
-abbrev pub tag_match : Profile → List ℕ → List Finder → List Sample → Bool
+abbrev pub tag_match : Profile → List ℕ → TagFinders → List Sample → Bool
 tag_match p text parts samples = list_any (selects_or false p (filter_in_force text) parts) samples
 
 -- Whether each option has a match among these samples: focus, ignore, hide, show, show_from, tagfocus, tagignore,

@@ -6,7 +6,7 @@
 //!
 //! Of a piece, `counting` is the job and `part` the loop over its samples; `seeing` gives a sample's keys, `value` its
 //! value, and `tallies` adds them up. `sofar` joins parts in order. `recounting` and `pairs` count edges by the same
-//! tables, and `base` the samples of a base.
+//! tables, and `base` the samples of a base. `laws` says what holds of any verdicts.
 #![tactic(auto)]
 
 mod base;
@@ -18,6 +18,7 @@ mod filters;
 mod finding;
 mod frames;
 mod heavy;
+mod laws;
 mod matched;
 mod pairs;
 mod part;
@@ -43,6 +44,7 @@ pub use counted::{Counted, count};
 pub use edge::Edge;
 pub use filters::Filters;
 pub use heavy::is_heavy;
+pub use laws::verdicts_are_found;
 pub use matched::Matched;
 pub use pairs::Pairing;
 pub use part::{KeySum, Part};

@@ -3,7 +3,7 @@ ghost use Rattle.std.specs.Prelude.{◌≡◌, ◌+◌, ◌<◌, ◌≤◌, ◌^
 ghost use Rattle.std.specs.List.{list_any};
 ghost use Rattle.std.specs.Option.{ForSome, option_map_or};
 ghost use Rattle.pp_model.specs.Conditions.{HasOnePerText, IsSampleOf, RefersTo};
-ghost use Rattle.pp_model.specs.Finders.{Finder, Finders};
+ghost use Rattle.pp_model.specs.Finders.{Finder, Finders, TagFinders};
 ghost use Rattle.pp_model.specs.Judged.{judged};
 ghost use Rattle.pp_stack.specs.Filters.{AreVerdicts};
 ghost use Rattle.pp_stack.specs.Tables.{FitsPattern, IsVerdictTable};
@@ -224,7 +224,7 @@ fn some_selected(
 ) -> bool
     requires members { All (IsSampleOf l.now.profile) samples.now }
     requires tags { HasItsTags l.now.profile tag.now filter.now }
-    ensures { (finders : Seq Finder) →
+    ensures { (finders : TagFinders) →
         AreTagVerdicts l.now.profile tag.now filter.now finders parts.now →
         result ≡ list_any (selects_or false l.now.profile filter.now finders) samples.now }
 {
@@ -245,7 +245,7 @@ fn selects_or(
 ) -> bool
     requires member { IsSampleOf l.now.profile s.now }
     requires tags { HasItsTags l.now.profile tag.now filter.now }
-    ensures { (finders : Seq Finder) →
+    ensures { (finders : TagFinders) →
         AreTagVerdicts l.now.profile tag.now filter.now finders parts.now →
         result ≡ selects_or false l.now.profile filter.now finders s.now }
 {

@@ -2,8 +2,8 @@
 use Rattle.std.proofs.Common.{◌≡◌, ℕ, ℤ, ◌+◌, ◌≤◌, List, [], ◌∷◌, ◌++◌, map, length, Option, Some, None, refl, sym, ap, ◌∙◌, arith}
 use Rattle.std.specs.Prelude.{pos, nat_abs, slice_index_or}
 use Rattle.std.specs.List.{flat_map, sum_by}
-use Rattle.std.specs.Option.{is_some, option_map_or}
-use Rattle.std.proofs.lemmas.List.Sums.{sum_by-cons}
+use Rattle.std.specs.Option.{option_map_or}
+use Rattle.std.proofs.lemmas.List.Sums.{sum_by-cons, sum_by-take-drop}
 use Rattle.pp_model.specs.declared.frame.Frame.{Frame}
 use Rattle.pp_model.specs.declared.loaded.Loaded.{Loaded}
 use Rattle.pp_model.specs.declared.profile.Location.{Location}
@@ -11,19 +11,17 @@ use Rattle.pp_model.specs.declared.profile.Sample.{Sample}
 use Rattle.pp_model.specs.declared.profile.Profile.{Profile}
 use Rattle.pp_model.specs.declared.verdicts.Verdicts.{Verdicts}
 use Rattle.pp_model.specs.Conditions.{HasVerdicts}
-use Rattle.pp_model.specs.Finders.{Finders}
+use Rattle.pp_model.specs.Finders.{Finders, no_parts}
 use Rattle.pp_model.specs.Sizes.{IsCountable}
 use Rattle.pp_stack.specs.Filters.{frames_of_sample}
 use Rattle.pp_count.specs.Counts.{samples_at}
-use Rattle.pp_count.specs.Seeing.{filtered_stack}
-use Rattle.pp_count.proofs.Kept.{kept_samples}
-use Rattle.pp_count.proofs.Totals.{filter_size}
+use Rattle.pp_count.specs.Rising.{AreRisingBetween}
+use Rattle.pp_count.proofs.Rising.{rising_size}
 use Rattle.pp_tags.specs.TagFilters.{shown_labels}
+use Rattle.pp_tags.proofs.SomeFinders.{finders_found, some_finders}
 use Rattle.pp_restack.specs.Stacks.{by_place, cut_location}
 use Rattle.pp_restack.specs.Places.{without_id, Spread, spread_in}
 use Rattle.pp_dump.specs.Places.{spread_of, spread_left, IsCutOf}
-use Rattle.pp_dump.specs.Saved.{AreKept}
-use Rattle.pp_dump.proofs.SomeFinders.{some_finders}
 
 -- the sample of which this stack is left
 abbrev one_spread : Profile → Finders → Sample → List Frame → Spread
@@ -59,23 +57,22 @@ module _ (size : List ℤ → ℕ) where
     left_size (s ∷ samples) = one_size s samples (frames_of_sample p f s) (left_size samples)
 
 -- what the filters leave of the samples of a profile is no larger
-module _ (l : Loaded) (v : Verdicts) (kept : List ℕ) (q : Profile) (is : IsCutOf l v kept q) (has : HasVerdicts l.profile v) (are : AreKept l.profile kept) where
+module _ (l : Loaded) (v : Verdicts) (kept : List ℕ) (q : Profile) (is : IsCutOf l v kept q) (has : HasVerdicts l.profile v) (rising : AreRisingBetween 0 (length l.profile.sample) kept) where
   no_larger : (size : List ℤ → ℕ) → sum_by (λ (s : Sample). size s.value) q.sample ≤ sum_by (λ (s : Sample). size s.value) l.profile.sample
   no_larger size =
       let p : Profile = l.profile in
-      let found = some_finders l v is.compact.texts has in
-      let kept_f : Finders = are.0 in
-      let config = are.1.0 in
+      let found : Finders = finders_found l v no_parts no_parts in
       let g : Sample → ℕ = λ s. size s.value in
+      let within : sum_by g (samples_at p kept) ≤ sum_by g p.sample =
+      omega (arith, rising_size g p.sample 0 kept rising, sum_by-take-drop g p.sample 0) in
       omega (
         arith,
         ap (λ (r : Profile). sum_by g r.sample) is.is,
         ap (sum_by g) is.adds.is,
         spread_size size is.locations is.adds.added,
-        ap (sum_by (λ (s : Spread). size s.values)) (is.adds.are found.0 found.1),
-        left_size size p found.0 (samples_at p kept),
-        ap (sum_by g) (kept_samples p kept_f config kept are.1.1),
-        filter_size g (λ s. is_some (filtered_stack p kept_f config s)) p.sample,
+        ap (sum_by (λ (s : Spread). size s.values)) (is.adds.are found (some_finders l v no_parts no_parts is.compact.texts has)),
+        left_size size p found (samples_at p kept),
+        within,
       )
 
   counted : (samples : List Sample) → sum_by (λ (s : Sample). 1) samples ≡ length samples

@@ -1,4 +1,3 @@
-pub mod SomeFinders
 pub mod AddingSamples
 pub mod CutContents
 pub mod CutSizes

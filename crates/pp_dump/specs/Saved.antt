@@ -1,5 +1,5 @@
 -- The profile that the raw and proto reports show: what the filters of a report leave of a profile.
-use Rattle.std.specs.Prelude.{◌≡◌, ℕ, ℤ, List, map, option_map}
+use Rattle.std.specs.Prelude.{ℤ, List, map, option_map}
 use Rattle.std.specs.List.{filter_map}
 use Rattle.pp_model.specs.declared.config.Config.{Config}
 use Rattle.pp_model.specs.declared.frame.Frame.{Frame}
@@ -8,15 +8,10 @@ use Rattle.pp_model.specs.declared.profile.Profile.{Profile}
 use Rattle.pp_model.specs.Finders.{Finders}
 use Rattle.pp_model.specs.Lookup.{text_of}
 use Rattle.pp_tags.specs.TagFilters.{shown_labels}
-use Rattle.pp_count.specs.Seeing.{filtered_stack, filtered_from}
+use Rattle.pp_count.specs.Seeing.{filtered_stack}
 use Rattle.pp_share.specs.Described.{SampleText, label_text}
 use Rattle.pp_share.specs.Written.{Contents, written as profile_of}
 use Rattle.pp_restack.specs.Stacks.{by_place, cut_text, made_contents}
-
--- The numbers are those of the samples that the filters of some report leave.
-abbrev pub AreKept : Profile → List ℕ → Type 0
-AreKept p kept =
-    (f : Finders) × ((config : Config) × (kept ≡ filtered_from p f config 0 p.sample))
 
 -- the sample with this stack and its labels that are shown, written out, and all its values
 abbrev pub cut_sample : Profile → Finders → Sample → List Frame → SampleText × List ℤ

@@ -1,5 +1,5 @@
 //! The profile that is saved.
-ghost use Rattle.std.specs.Prelude.{◌≡◌, ◌<◌, ◌^◌, [], IfOk};
+ghost use Rattle.std.specs.Prelude.{◌≡◌, ◌<◌, ◌^◌, [], length, IfOk};
 ghost use Rattle.std.specs.List.{AllByRecursion};
 ghost use Rattle.pp_model.specs.declared.config.Config.{Config};
 ghost use Rattle.pp_model.specs.Conditions.{HasVerdicts};
@@ -9,8 +9,9 @@ ghost use Rattle.pp_model.specs.Sizes.{IsCountable};
 ghost use Rattle.pp_merge.specs.Merge.{merged};
 ghost use Rattle.pp_stack.specs.Tables.{AreTables};
 ghost use Rattle.pp_count.specs.Counts.{samples_at};
+ghost use Rattle.pp_count.specs.Rising.{AreRisingBetween};
 ghost use Rattle.pp_count.specs.Seeing.{HoldsFilters, filtered_from};
-ghost use Rattle.pp_dump.specs.Saved.{AreKept, saved};
+ghost use Rattle.pp_dump.specs.Saved.{saved};
 ghost use Rattle.pp_dump.specs.Stacks.{KeepsStacks};
 ghost use Rattle.pp_dump.specs.Unfiltered.{KeepsSums, KeepsKeys, KeepsHeader};
 ghost use Rattle.pp_dump.specs.Places.{IsCutOf};
@@ -41,7 +42,7 @@ pub fn saved_profile(
 ) -> Result<Compact, Memory>
     requires verdicts { HasVerdicts l.now.profile v.now }
     requires countable { IsCountable l.now.profile }
-    requires kept { AreKept l.now.profile c.now.kept }
+    requires kept { AreRisingBetween 0 (length l.now.profile.sample) c.now.kept }
     ensures saved { (f : Finders) → (config : Config) → HoldsFilters l.now v.now config f →
         c.now.kept ≡ filtered_from l.now.profile f config 0 l.now.profile.sample →
         IfOk result (λ q. q ≡ saved l.now.profile f config) }

@@ -139,8 +139,7 @@ fn save<R: Threads + Sync>(
     v: &Verdicts,
     config: &Config,
 ) -> Result<Compact, Memory>
-    requires can { CanCount l.now.profile v.now config.now None }
-    requires found { (f : Finders) × HoldsFilters l.now v.now config.now f }
+    requires { CanCount l.now.profile v.now config.now None }
     ensures { (f : Finders) → HoldsFilters l.now v.now config.now f →
         IfOk result (λ q. q ≡ saved l.now.profile f config.now) }
 {

@@ -12,7 +12,7 @@ use Rattle.pp_model.specs.declared.frame.Frame.{Frame}
 use Rattle.pp_model.specs.declared.profile.Profile.{Profile}
 use Rattle.pp_model.specs.declared.profile.Sample.{Sample}
 use Rattle.pp_model.specs.declared.report.BaseKind.TheVariants.{Base}
-use Rattle.pp_model.specs.Finders.{Finder, Finders}
+use Rattle.pp_model.specs.Finders.{Finders, TagFinders}
 use Rattle.pp_model.specs.FrameTexts.{Written}
 use Rattle.pp_model.specs.Sizes.{value_in}
 use Rattle.pp_stack.specs.Filters.{frames_of_sample}
@@ -39,11 +39,11 @@ with_values values s = record s { value = values }
 
 -- what filters leave of a sample's stack doesn't depend on its values
 module _ (p : Profile) (values : List ℤ) (s : Sample) where
-  same_parts : (name : List ℕ) (parts : List Finder) → selects_parts p name parts (with_values values s) ≡ selects_parts p name parts s
+  same_parts : (name : List ℕ) (parts : TagFinders) → selects_parts p name parts (with_values values s) ≡ selects_parts p name parts s
   same_parts [] parts = refl
   same_parts (b ∷ bs) parts = refl
 
-  same_tags : (other : Bool) (filter : Option TagFilter) (parts : List Finder) → selects_or other p filter parts (with_values values s) ≡ selects_or other p filter parts s
+  same_tags : (other : Bool) (filter : Option TagFilter) (parts : TagFinders) → selects_or other p filter parts (with_values values s) ≡ selects_or other p filter parts s
   same_tags other None parts = refl
   same_tags other (Some filter) parts = ap (option_map_or (λ range. selects_range p filter.name range s) filter.range) (same_parts filter.name parts)
 

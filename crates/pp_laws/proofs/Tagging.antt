@@ -10,7 +10,7 @@ use Rattle.pp_model.specs.declared.config.Config.{Config}
 use Rattle.pp_model.specs.declared.profile.Label.{Label}
 use Rattle.pp_model.specs.declared.profile.Profile.{Profile}
 use Rattle.pp_model.specs.declared.profile.Sample.{Sample}
-use Rattle.pp_model.specs.Finders.{Finder, Finders}
+use Rattle.pp_model.specs.Finders.{Finder, Finders, TagFinder, TagFinders}
 use Rattle.pp_model.specs.Lookup.{text_of, text_at}
 use Rattle.pp_model.specs.Rules.{NoRuleFails, IsCompact, label_has_texts, is_text}
 use Rattle.pp_stack.specs.Filters.{has_no_items}
@@ -18,7 +18,7 @@ use Rattle.pp_stack.proofs.ToldLemmas.{list_any-map}
 use Rattle.pp_units.specs.declared.range.Range.{Range}
 use Rattle.pp_units.specs.Ranges.{in_range}
 use Rattle.pp_tags.specs.declared.tag_filter.TagFilter.{TagFilter}
-use Rattle.pp_tags.specs.Labels.{has_text, key_value, unit_or, number_unit}
+use Rattle.pp_tags.specs.Labels.{has_text, unit_or, number_unit}
 use Rattle.pp_tags.specs.TagFilters.{has_name, selects_range, selects_some, selects_parts, selects_or, filter_in_force}
 use Rattle.pp_share.specs.Described.{LabelText, label_text}
 use Rattle.pp_count.specs.Seeing.{passes_tags}
@@ -35,18 +35,18 @@ abbrev pub range_told : List ℕ → Range → List LabelText → Bool
 range_told name range labels =
     list_any (λ label. not (has_told label) && named_told name label && in_range range label.num (unit_or label.key label.unit)) labels
 
-abbrev pub each_told : List Finder → List LabelText → Bool
-each_told parts labels = list_all (λ find. list_any (λ label. has_told label && find (key_value label.key label.text)) labels) parts
+abbrev pub each_told : List TagFinder → List LabelText → Bool
+each_told parts labels = list_all (λ find. list_any (λ label. has_told label && find label.key label.text) labels) parts
 
 abbrev pub some_told : List ℕ → List Finder → List LabelText → Bool
 some_told name parts labels =
     list_any (λ label. has_told label && bytes_eq label.key name && list_any (λ find. find label.text) parts) labels
 
-abbrev pub parts_told : List ℕ → List Finder → List LabelText → Bool
-parts_told [] parts labels = each_told parts labels
-parts_told (b ∷ bs) parts labels = some_told (b ∷ bs) parts labels
+abbrev pub parts_told : List ℕ → TagFinders → List LabelText → Bool
+parts_told [] parts labels = each_told parts.tags labels
+parts_told (b ∷ bs) parts labels = some_told (b ∷ bs) parts.texts labels
 
-abbrev pub selects_told : Bool → Option TagFilter → List Finder → List LabelText → Bool
+abbrev pub selects_told : Bool → Option TagFilter → TagFinders → List LabelText → Bool
 selects_told other filter parts labels =
     option_map_or (λ f. option_map_or (λ range. range_told f.name range labels) f.range (parts_told f.name parts labels)) filter other
 
@@ -87,22 +87,22 @@ module _ (p : Profile) where
         (λ label. not (has_told label) && named_told name label && in_range range label.num (unit_or label.key label.unit))
         (λ label is i. not (is i) && named_is name label i && in_range range label.num (number_unit p label))
 
-    one_is : (find : Finder) → list_any (λ label. has_text label && find (key_value (text_of p label.key) (text_of p label.text))) s.label
-        ≡ list_any (λ label. has_told label && find (key_value label.key label.text)) (map said s.label)
-    one_is find = asked (λ label. has_text label && find (key_value (text_of p label.key) (text_of p label.text)))
-        (λ label. has_told label && find (key_value label.key label.text))
-        (λ label is i. is i && find (key_value (text_of p label.key) (text_of p label.text)))
+    one_is : (find : TagFinder) → list_any (λ label. has_text label && find (text_of p label.key) (text_of p label.text)) s.label
+        ≡ list_any (λ label. has_told label && find label.key label.text) (map said s.label)
+    one_is find = asked (λ label. has_text label && find (text_of p label.key) (text_of p label.text))
+        (λ label. has_told label && find label.key label.text)
+        (λ label is i. is i && find (text_of p label.key) (text_of p label.text))
 
     some_is : (name : List ℕ) (parts : List Finder) → selects_some p name parts s ≡ some_told name parts (map said s.label)
     some_is name parts = asked (λ label. has_text label && bytes_eq (text_of p label.key) name && list_any (λ find. find (text_of p label.text)) parts)
         (λ label. has_told label && bytes_eq label.key name && list_any (λ find. find label.text) parts)
         (λ label is i. is i && bytes_eq (text_of p label.key) name && list_any (λ find. find (text_of p label.text)) parts)
 
-    parts_is : (name : List ℕ) (parts : List Finder) → selects_parts p name parts s ≡ parts_told name parts (map said s.label)
-    parts_is [] parts = λ i. list_all (λ find. one_is find i) parts
-    parts_is (b ∷ bs) parts = some_is (b ∷ bs) parts
+    parts_is : (name : List ℕ) (parts : TagFinders) → selects_parts p name parts s ≡ parts_told name parts (map said s.label)
+    parts_is [] parts = λ i. list_all (λ find. one_is find i) parts.tags
+    parts_is (b ∷ bs) parts = some_is (b ∷ bs) parts.texts
 
-    selects_is : (other : Bool) (filter : Option TagFilter) (parts : List Finder) → selects_or other p filter parts s ≡ selects_told other filter parts (map said s.label)
+    selects_is : (other : Bool) (filter : Option TagFilter) (parts : TagFinders) → selects_or other p filter parts s ≡ selects_told other filter parts (map said s.label)
     selects_is other None parts = refl
     selects_is other (Some f) parts = λ i. option_map_or (λ range. range_is f.name range i) f.range (parts_is f.name parts i)
 

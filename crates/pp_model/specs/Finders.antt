@@ -8,8 +8,21 @@ use Rattle.pp_model.specs.Judged.{judged}
 abbrev pub Finder : Type 0
 Finder = List ℕ → Bool
 
--- What the patterns of a report and of its profile find. None stands for a pattern that isn't in force. The parts
--- of a tag filter have a finder each.
+-- what a part of a tag filter finds of tags: one truth value for each key and value
+abbrev pub TagFinder : Type 0
+TagFinder = List ℕ → List ℕ → Bool
+
+-- What the parts of a tag filter find, in order: of texts where the filter has a name, and else of tags. Two tags of
+-- one text `key:value` may be told apart.
+pub record TagFinders : Type 0 where
+  pub texts : List Finder
+  pub tags : List TagFinder
+
+-- no part finds anything
+abbrev pub no_parts : TagFinders
+no_parts = record { texts = []; tags = [] }
+
+-- What the patterns of a report and of its profile find. None stands for a pattern that isn't in force.
 pub record Finders : Type 0 where
   pub drop : Option Finder
   pub keep : Option Finder
@@ -22,8 +35,8 @@ pub record Finders : Type 0 where
   pub tagshow : Option Finder
   pub taghide : Option Finder
   pub own : Option Finder
-  pub tagfocus : List Finder
-  pub tagignore : List Finder
+  pub tagfocus : TagFinders
+  pub tagignore : TagFinders
 
 -- no pattern is in force
 abbrev pub no_finders : Finders
@@ -39,8 +52,8 @@ no_finders = record {
   tagshow = None;
   taghide = None;
   own = None;
-  tagfocus = [];
-  tagignore = [];
+  tagfocus = no_parts;
+  tagignore = no_parts;
 }
 
 -- The verdicts of the profile and of the report are what the patterns find of its texts. The parts of tag filters are

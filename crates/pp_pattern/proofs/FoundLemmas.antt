@@ -11,8 +11,9 @@ use Rattle.pp_model.specs.Conditions.{HasOnePerText}
 use Rattle.pp_model.specs.Finders.{Finder}
 use Rattle.pp_model.specs.Judged.{judged}
 use Rattle.pp_tags.specs.declared.tag_filter.TagFilter.{TagFilter}
-use Rattle.pp_tags.specs.TagFilters.{filter_in_force, subjects, AreTagVerdicts, HasItsTags}
+use Rattle.pp_tags.specs.TagFilters.{filter_in_force, found_by, subjects, AreTagVerdicts, HasItsTags}
 use Rattle.pp_tags.specs.TagPairs.{tag_pairs}
+use Rattle.pp_tags.proofs.EachLemmas.{found_by_text}
 use Rattle.pp_pattern.specs.Patterns.{finder_in_force, part_finder}
 use Rattle.pp_pattern.specs.Report.{Finds, found_in, parts_found, filter_finders, tags_for, verdicts_of, AreVerdictsOf}
 
@@ -32,7 +33,8 @@ are_parts : (finds : Finds) (p : Profile) (tags : List Tag) (filter : Option Tag
 are_parts finds p tags filter = λ f is.
     ap (parts_found finds p tags) is
     ∙ sym (map-map (λ find. map find (subjects p tags f.name)) (part_finder finds) f.parts)
-    ∙ ap (λ o. map (λ find. map find (subjects p tags f.name)) (filter_finders finds o)) (sym is)
+    ∙ sym (found_by_text p tags f.name (map (part_finder finds) f.parts))
+    ∙ ap (λ o. found_by p tags f.name (filter_finders finds o)) (sym is)
 
 -- a filter that is in force has the profile's tags
 has_tags_first : (p : Profile) (focus ignore : Option TagFilter) → HasItsTags p (tags_for p focus ignore) focus

@@ -9,10 +9,10 @@ use Rattle.pp_model.specs.declared.verdicts.Tag.{Tag}
 use Rattle.pp_model.specs.declared.verdicts.Verdicts.{Verdicts}
 use Rattle.pp_model.specs.declared.loaded.Loaded.{Loaded}
 use Rattle.pp_model.specs.Conditions.{HasVerdicts}
-use Rattle.pp_model.specs.Finders.{Finder, Finders, HoldsFinders}
+use Rattle.pp_model.specs.Finders.{Finder, Finders, TagFinders, HoldsFinders}
 use Rattle.pp_model.specs.Judged.{judged}
 use Rattle.pp_tags.specs.declared.tag_filter.TagFilter.{TagFilter}
-use Rattle.pp_tags.specs.TagFilters.{filter_in_force, subjects, AreTagVerdicts, HasItsTags}
+use Rattle.pp_tags.specs.TagFilters.{filter_in_force, subjects, by_text, AreTagVerdicts, HasItsTags}
 use Rattle.pp_tags.specs.TagPairs.{tag_pairs}
 use Rattle.pp_desk.specs.Script.{Give}
 use Rattle.pp_pattern.specs.declared.report.PatternRefused.{PatternRefused}
@@ -160,8 +160,8 @@ verdicts_of finds config own p =
     verdicts_with finds config own p (filter_in_force config.tagfocus) (filter_in_force config.tagignore)
 
 -- what the parts of a tag filter find, where it is in force
-abbrev pub filter_finders : Finds → Option TagFilter → List Finder
-filter_finders finds filter = option_map_or (λ f. map (part_finder finds) f.parts) filter []
+abbrev pub filter_finders : Finds → Option TagFilter → TagFinders
+filter_finders finds filter = by_text (option_map_or (λ f. map (part_finder finds) f.parts) filter [])
 
 -- what the patterns of a report find, beside those of its profile
 abbrev pub finders_of : Finds → Config → Option (List ℕ) → Option Finder → Option Finder → Finders

@@ -5,7 +5,6 @@ ghost use Rattle.pp_model.specs.declared.report.Report.TheVariants.{Proto};
 ghost use Rattle.pp_model.specs.Finders.{Finders};
 ghost use Rattle.pp_units.specs.Head.{facts};
 ghost use Rattle.pp_count.specs.Seeing.{HoldsFilters};
-ghost use Rattle.pp_dump.specs.Saved.{AreKept};
 ghost use Rattle.pp_report.specs.Prepared.{showing, AreCounts, HasCounts, IsPrepared};
 ghost use Rattle.pp_report.specs.Reports.{finish, finish_made, finish_on, text_by, list_text, answer_of_text, answer_of_outcome};
 ghost use Rattle.pp_report.specs.SavedText.{OnText, IsProtoOf, IsProtoBy};
@@ -151,7 +150,6 @@ fn text_by<R: Threads + Sync, D: Desk, G: Gate>(
     subject: &Subject<'_, '_>,
     desk: &mut D,
 ) -> Result<Result<Text, ReportRefusal>, Stop>
-    requires { AreKept subject.now.survey.l.now.profile subject.now.survey.counted.now.kept }
     ensures went { let s = subject.now.survey in (f : Finders) →
         HoldsFilters s.l.now s.v.now s.config.now f →
         Went (D.world desk.old) (D.world desk.new) (text_by s.l.now.profile f s.config.now s.column

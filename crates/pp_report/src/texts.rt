@@ -12,7 +12,7 @@ ghost use Rattle.pp_samples.specs.Traces.{traces_text};
 ghost use Rattle.pp_samples.specs.TagLines.{tags_text};
 ghost use Rattle.pp_dump.specs.Raw.{raw_text};
 ghost use Rattle.pp_samples.specs.Comments.{comments_text};
-ghost use Rattle.pp_dump.specs.Saved.{AreKept, saved};
+ghost use Rattle.pp_dump.specs.Saved.{saved};
 ghost use Rattle.pp_saved.specs.Kept.{IsLasting};
 ghost use Rattle.pp_report.specs.declared.texts.TheConstants.{TREE_NODES};
 ghost use Rattle.pp_report.specs.Reports.{peek_outcome};
@@ -152,7 +152,6 @@ pub fn tags(alloc: Global, subject: &Subject<'_, '_>) -> Result<Text, Memory>
 
 // The saved profile.
 fn saved(alloc: Global, survey: &Survey<'_>) -> Result<Compact, Memory>
-    requires { AreKept survey.now.l.now.profile survey.now.counted.now.kept }
     ensures saved { let s = survey.now in (f : Finders) →
         HoldsFilters s.l.now s.v.now s.config.now f →
         IfOk result (λ q. q ≡ saved s.l.now.profile f s.config.now) }
@@ -165,7 +164,6 @@ fn saved(alloc: Global, survey: &Survey<'_>) -> Result<Compact, Memory>
 
 /// The raw report: the saved profile, table by table.
 pub fn raw(alloc: Global, survey: &Survey<'_>) -> Result<Text, Memory>
-    requires { AreKept survey.now.l.now.profile survey.now.counted.now.kept }
     ensures { let s = survey.now in (f : Finders) →
         HoldsFilters s.l.now s.v.now s.config.now f →
         IfOk result (λ text. text ≡ raw_text (saved s.l.now.profile f s.config.now)) }
@@ -187,7 +185,6 @@ pub fn comments(alloc: Global, l: &Loaded) -> Result<Text, Memory>
 
 /// The bytes of the saved profile, which load as that profile.
 pub fn proto(alloc: Global, survey: &Survey<'_>) -> Result<Text, Memory>
-    requires { AreKept survey.now.l.now.profile survey.now.counted.now.kept }
     ensures { let s = survey.now in (f : Finders) →
         HoldsFilters s.l.now s.v.now s.config.now f →
         IfOk result (IsProtoOf s.l.now.profile f s.config.now) }

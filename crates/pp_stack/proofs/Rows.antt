@@ -1,7 +1,7 @@
 -- The worked stacks of the filters, leaf first: a frame is a letter, the name of its function.
 use Rattle.std.proofs.Common.{◌≡◌, ℕ, List, [], ◌∷◌, refl}
 use Rattle.std.specs.Prelude.{pos, codes, bytes_eq, Option, Some, None}
-use Rattle.pp_model.specs.Finders.{Finder, Finders}
+use Rattle.pp_model.specs.Finders.{Finder, Finders, no_parts}
 use Rattle.pp_model.specs.FrameTexts.{Written}
 use Rattle.pp_stack.specs.Filters.{filtered}
 
@@ -27,8 +27,8 @@ no_patterns = record {
   tagshow = None;
   taghide = None;
   own = None;
-  tagfocus = [];
-  tagignore = [];
+  tagfocus = no_parts;
+  tagignore = no_parts;
 }
 
 abbrev a : Written

@@ -11,9 +11,9 @@ use Rattle.pp_model.specs.declared.profile.Sample.{Sample}
 use Rattle.pp_model.specs.declared.profile.Profile.{Profile}
 use Rattle.pp_model.specs.declared.verdicts.Tag.{Tag}
 use Rattle.pp_model.specs.Conditions.{IsSampleOf}
-use Rattle.pp_model.specs.Finders.{Finder}
+use Rattle.pp_model.specs.Finders.{Finder, TagFinder}
 use Rattle.pp_tags.specs.Labels.{has_text}
-use Rattle.pp_tags.specs.TagFilters.{selects_each}
+use Rattle.pp_tags.specs.TagFilters.{selects_each, on_tag, found_by, by_text, subjects}
 use Rattle.pp_tags.specs.TagPairs.{AreTagPairs, all_tags, tag_of, tags_in, tag_text}
 use Rattle.pp_tags.specs.Verdicts.{finds_tag, HasTagsOf}
 use Rattle.pp_tags.proofs.PairLemmas.{here, there}
@@ -47,20 +47,22 @@ module _ (tags : List Tag) (parts : List (List Bool)) (finds : List (Tag → Boo
   more_find labels i within so_far one =
       list_all_more (λ find. finds_tag find labels) finds i never (omega (arith, within, as_many)) ∙ ap₂ (λ a b. a && b) so_far one
 
--- the finders of tags that are finders of their texts
-abbrev pub on_tags : Profile → List Finder → List (Tag → Bool)
-on_tags p finders = map (λ find tag. find (tag_text p tag)) finders
+-- verdicts by key and value are verdicts on tags
+pub verdicts_on_tags : (p : Profile) (tags : List Tag) (parts : List TagFinder) →
+    map (λ find. map (on_tag p find) tags) parts ≡ map (λ find. map find tags) (map (on_tag p) parts)
+verdicts_on_tags p tags parts = sym (map-map (λ find. map find tags) (on_tag p) parts)
 
--- verdicts on the texts of tags are verdicts on tags
-pub verdicts_on_tags : (p : Profile) (tags : List Tag) (finders : List Finder) →
-    map (λ find. map find (map (tag_text p) tags)) finders ≡ map (λ find. map find tags) (on_tags p finders)
-verdicts_on_tags p tags [] = refl
-verdicts_on_tags p tags (find ∷ finders) = ap₂ (λ a b. a ∷ b) (map-map find (tag_text p) tags) (verdicts_on_tags p tags finders)
+-- each part finds the tag of a label where it finds its key and value
+pub each_alike : (p : Profile) (parts : List TagFinder) (s : Sample) →
+    list_all (λ find. finds_tag find s.label) (map (on_tag p) parts) ≡ selects_each p parts s
+each_alike p parts s = list_all-map (λ find. finds_tag find s.label) (on_tag p) parts
 
--- each part finds the tag of a label where it finds its text
-pub each_alike : (p : Profile) (finders : List Finder) (s : Sample) →
-    list_all (λ find. finds_tag find s.label) (on_tags p finders) ≡ selects_each p finders s
-each_alike p finders s = list_all-map (λ find. finds_tag find s.label) (λ find tag. find (tag_text p tag)) finders
+-- parts that are asked of texts find their subjects
+pub found_by_text : (p : Profile) (tags : List Tag) (name : List ℕ) (parts : List Finder) →
+    found_by p tags name (by_text parts) ≡ map (λ find. map find (subjects p tags name)) parts
+found_by_text p tags [] [] = refl
+found_by_text p tags [] (find ∷ parts) = ap₂ (λ a b. a ∷ b) (sym (map-map find (tag_text p) tags)) (found_by_text p tags [] parts)
+found_by_text p tags (b ∷ bs) parts = refl
 
 -- what stands among the tags of some labels stands there with one label more before them
 past : (passes : Bool) (label : Label) (labels : List Label) (tag : Tag) → Contains (map tag_of labels) tag →

@@ -10,25 +10,25 @@ use Rattle.pp_model.specs.declared.profile.Sample.{Sample}
 use Rattle.pp_model.specs.declared.profile.Profile.{Profile}
 use Rattle.pp_model.specs.declared.verdicts.Tag.{Tag}
 use Rattle.pp_model.specs.Conditions.{IsSampleOf}
-use Rattle.pp_model.specs.Finders.{Finder}
+use Rattle.pp_model.specs.Finders.{TagFinders}
 use Rattle.pp_model.specs.Rules.{label_has_texts}
 use Rattle.pp_tags.specs.declared.tag_filter.TagFilter.{TagFilter}
-use Rattle.pp_tags.specs.TagFilters.{ArePartVerdicts, ArePartVerdictsBy, found_by, selects, selects_by, selects_range, selects_parts, selects_parts_by, subjects}
+use Rattle.pp_tags.specs.TagFilters.{ArePartVerdicts, found_by, on_tag, selects, selects_range, selects_parts}
 use Rattle.pp_tags.specs.TagPairs.{AreTagPairs, tag_pairs}
 use Rattle.pp_tags.specs.Verdicts.{finds_tag, some_found, HasTagsOf}
-use Rattle.pp_tags.proofs.EachLemmas.{on_tags, verdicts_on_tags, each_alike, has_tags}
+use Rattle.pp_tags.proofs.EachLemmas.{verdicts_on_tags, each_alike, has_tags}
 use Rattle.pp_tags.proofs.PairLemmas.{tag_pairs_law}
 use Rattle.pp_tags.proofs.LabelLemmas.{some_alike}
 
 -- a filter of this name and without a range selects by its parts
-by_parts : (p : Profile) (f : TagFilter) (finders : List Finder) (s : Sample) (name : List ℕ) → f.range ≡ None → f.name ≡ name →
+by_parts : (p : Profile) (f : TagFilter) (finders : TagFinders) (s : Sample) (name : List ℕ) → f.range ≡ None → f.name ≡ name →
     selects_parts p name finders s ≡ selects p f finders s
 by_parts p f finders s name none is =
     ap (λ n. selects_parts p n finders s) (sym is)
     ∙ ap (λ (range : Option Range). option_map_or (λ r. selects_range p f.name r s) range (selects_parts p f.name finders s)) (sym none)
 
 -- without a name
-pub nameless : (p : Profile) (tags : List Tag) (f : TagFilter) (finders : List Finder) (parts : List (List Bool)) (s : Sample) (answer : Bool)
+pub nameless : (p : Profile) (tags : List Tag) (f : TagFilter) (finders : TagFinders) (parts : List (List Bool)) (s : Sample) (answer : Bool)
     (given_tags : List Tag) (given_parts : List (List Bool)) (given_labels : List Label) →
     f.range ≡ None → length f.name ≡ 0 → ArePartVerdicts p tags f finders parts → (f.name ≡ [] → tags ≡ tag_pairs p) → IsSampleOf p s →
     given_tags ≡ tags → given_parts ≡ parts → given_labels ≡ s.label →
@@ -36,51 +36,22 @@ pub nameless : (p : Profile) (tags : List Tag) (f : TagFilter) (finders : List F
     answer ≡ list_all (λ find. finds_tag find given_labels) finds) → answer ≡ selects p f finders s
 nameless p tags f finders parts s answer given_tags given_parts given_labels none empty are pairs sample tags_are parts_are labels_are found =
     let no_name : f.name ≡ [] = nil_from_length f.name empty in
-    let given : given_parts ≡ map (λ find. map find given_tags) (on_tags p finders) =
-    parts_are ∙ are ∙ ap (λ name. map (λ find. map find (subjects p tags name)) finders) no_name ∙ verdicts_on_tags p tags finders
-    ∙ ap (λ ts. map (λ find. map find ts) (on_tags p finders)) (sym tags_are) in
-    found (on_tags p finders) given (subst₂ HasTagsOf (sym tags_are) (sym labels_are) (has_tags p s tags (subst (AreTagPairs p) (sym (pairs no_name)) (tag_pairs_law p)) sample))
-    ∙ ap (λ labels. list_all (λ find. finds_tag find labels) (on_tags p finders)) labels_are
-    ∙ each_alike p finders s ∙ by_parts p f finders s [] none no_name
+    let finds : List (Tag → Bool) = map (on_tag p) finders.tags in
+    let given : given_parts ≡ map (λ find. map find given_tags) finds =
+    parts_are ∙ are ∙ ap (λ name. found_by p tags name finders) no_name ∙ verdicts_on_tags p tags finders.tags
+    ∙ ap (λ ts. map (λ find. map find ts) finds) (sym tags_are) in
+    found finds given (subst₂ HasTagsOf (sym tags_are) (sym labels_are) (has_tags p s tags (subst (AreTagPairs p) (sym (pairs no_name)) (tag_pairs_law p)) sample))
+    ∙ ap (λ labels. list_all (λ find. finds_tag find labels) finds) labels_are
+    ∙ each_alike p finders.tags s ∙ by_parts p f finders s [] none no_name
 
 -- with a name
-pub named : (p : Profile) (tags : List Tag) (f : TagFilter) (finders : List Finder) (parts : List (List Bool)) (s : Sample) (name : List ℕ) →
+pub named : (p : Profile) (tags : List Tag) (f : TagFilter) (finders : TagFinders) (parts : List (List Bool)) (s : Sample) (name : List ℕ) →
     f.range ≡ None → f.name ≡ name → (length name ≡ 0 → ⊥) → ArePartVerdicts p tags f finders parts →
     All (λ label. label_has_texts p label ≡ true) s.label → some_found p name parts s.label ≡ selects p f finders s
 named p tags f finders parts s [] none is some are inside = absurd (some refl)
 named p tags f finders parts s (b ∷ bs) none is some are inside =
-    some_alike p (b ∷ bs) parts finders s (are ∙ ap (λ name. map (λ find. map find (subjects p tags name)) finders) is) inside
+    some_alike p (b ∷ bs) parts finders.texts s (are ∙ ap (λ name. found_by p tags name finders) is) inside
     ∙ by_parts p f finders s (b ∷ bs) none is
-
--- by what its parts find of texts or of tags
-by_parts_by : (p : Profile) (f : TagFilter) (finders : List Finder) (tagged : List (Tag → Bool)) (s : Sample) (name : List ℕ) →
-    f.range ≡ None → f.name ≡ name → selects_parts_by p name finders tagged s ≡ selects_by p f finders tagged s
-by_parts_by p f finders tagged s name none is =
-    ap (λ n. selects_parts_by p n finders tagged s) (sym is)
-    ∙ ap (λ (range : Option Range). option_map_or (λ r. selects_range p f.name r s) range (selects_parts_by p f.name finders tagged s)) (sym none)
-
--- without a name
-pub nameless_by : (p : Profile) (tags : List Tag) (f : TagFilter) (finders : List Finder) (tagged : List (Tag → Bool)) (parts : List (List Bool)) (s : Sample)
-    (answer : Bool) (given_tags : List Tag) (given_parts : List (List Bool)) (given_labels : List Label) →
-    f.range ≡ None → length f.name ≡ 0 → ArePartVerdictsBy p tags f finders tagged parts → (f.name ≡ [] → tags ≡ tag_pairs p) → IsSampleOf p s →
-    given_tags ≡ tags → given_parts ≡ parts → given_labels ≡ s.label →
-    ((finds : List (Tag → Bool)) → given_parts ≡ map (λ find. map find given_tags) finds → HasTagsOf given_tags given_labels →
-    answer ≡ list_all (λ find. finds_tag find given_labels) finds) → answer ≡ selects_by p f finders tagged s
-nameless_by p tags f finders tagged parts s answer given_tags given_parts given_labels none empty are pairs sample tags_are parts_are labels_are found =
-    let no_name : f.name ≡ [] = nil_from_length f.name empty in
-    let given : given_parts ≡ map (λ find. map find given_tags) tagged =
-    parts_are ∙ are ∙ ap (λ name. found_by p tags name finders tagged) no_name ∙ ap (λ ts. map (λ find. map find ts) tagged) (sym tags_are) in
-    found tagged given (subst₂ HasTagsOf (sym tags_are) (sym labels_are) (has_tags p s tags (subst (AreTagPairs p) (sym (pairs no_name)) (tag_pairs_law p)) sample))
-    ∙ ap (λ labels. list_all (λ find. finds_tag find labels) tagged) labels_are ∙ by_parts_by p f finders tagged s [] none no_name
-
--- with a name
-pub named_by : (p : Profile) (tags : List Tag) (f : TagFilter) (finders : List Finder) (tagged : List (Tag → Bool)) (parts : List (List Bool)) (s : Sample)
-    (name : List ℕ) → f.range ≡ None → f.name ≡ name → (length name ≡ 0 → ⊥) → ArePartVerdictsBy p tags f finders tagged parts →
-    All (λ label. label_has_texts p label ≡ true) s.label → some_found p name parts s.label ≡ selects_by p f finders tagged s
-named_by p tags f finders tagged parts s [] none is some are inside = absurd (some refl)
-named_by p tags f finders tagged parts s (b ∷ bs) none is some are inside =
-    some_alike p (b ∷ bs) parts finders s (are ∙ ap (λ name. found_by p tags name finders tagged) is) inside
-    ∙ by_parts_by p f finders tagged s (b ∷ bs) none is
 
 -- what was found of labels is what was found of those that were read
 pub some_read : (p q : Profile) (name other : List ℕ) (parts found : List (List Bool)) (labels read : List Label) → q ≡ p → other ≡ name →

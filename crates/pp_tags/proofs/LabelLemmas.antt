@@ -43,11 +43,11 @@ verdict_or_is p found pattern other i is inside = ap (λ f. verdict_or f i other
     by_pattern (Some find) = verdict_is p find i inside
 
 -- the key is a text
-key_inside : (p : Profile) (label : Label) → label_has_texts p label ≡ true → is_text p label.key ≡ true
+pub key_inside : (p : Profile) (label : Label) → label_has_texts p label ≡ true → is_text p label.key ≡ true
 key_inside p label inside = (and_parts _ _ (and_parts _ _ inside).0).0
 
 -- the value is a text
-value_inside : (p : Profile) (label : Label) → label_has_texts p label ≡ true → is_text p label.text ≡ true
+pub value_inside : (p : Profile) (label : Label) → label_has_texts p label ≡ true → is_text p label.text ≡ true
 value_inside p label inside = (and_parts _ _ (and_parts _ _ inside).0).1
 
 -- the labels that the verdicts show are those that are shown

@@ -5,4 +5,5 @@ pub mod LabelLemmas
 pub mod PairLemmas
 mod Rows
 pub mod SearchLemmas
+pub mod SomeFinders
 pub mod SplitLemmas

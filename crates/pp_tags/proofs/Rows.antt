@@ -1,6 +1,6 @@
 -- The worked tag filters, over a profile with the labels thread=a, thread=b and bytes=1024 on one sample each.
 use Rattle.std.proofs.Common.{◌≡◌, ℕ, Bool, true, false, List, [], ◌∷◌, map, refl}
-use Rattle.std.specs.Prelude.{pos, codes}
+use Rattle.std.specs.Prelude.{pos, codes, bytes_eq}
 use Rattle.pp_base.specs.Judges.{occurs_in}
 use Rattle.pp_units.specs.Ranges.{range_of, bound_of, in_range}
 use Rattle.pp_units.specs.Shown.{is_same_kind}
@@ -8,8 +8,10 @@ use Rattle.pp_units.specs.Scales.{scale_of, is_named}
 use Rattle.pp_model.specs.declared.profile.Label.{Label}
 use Rattle.pp_model.specs.declared.profile.Sample.{Sample}
 use Rattle.pp_model.specs.declared.profile.Profile.{Profile}
+use Rattle.pp_model.specs.Finders.{TagFinders}
 use Rattle.pp_tags.specs.Labels.{number_unit}
-use Rattle.pp_tags.specs.TagFilters.{filter_of, selects}
+use Rattle.pp_tags.specs.TagFilters.{filter_of, selects, by_text, found_by}
+use Rattle.pp_tags.specs.TagPairs.{tag_pairs, tag_text}
 
 -- a sample of nothing but its label
 abbrev labelled : Label → Sample
@@ -50,7 +52,7 @@ p = record {
 
 -- which samples the filter selects, its parts being plain texts that are found where they stand
 chosen : List ℕ → List Bool
-chosen text = map (selects p (filter_of text) (map occurs_in (filter_of text).parts)) p.sample
+chosen text = map (selects p (filter_of text) (by_text (map occurs_in (filter_of text).parts))) p.sample
 
 in_bytes : chosen (codes "512b:2kb") ≡ false ∷ false ∷ true ∷ []
 unfolding chosen range_of bound_of in_range is_same_kind scale_of is_named
@@ -87,3 +89,25 @@ of_request = refl
 -- and each other key is its own unit
 of_thread : number_unit p (record thread_a { text = pos 0 }) ≡ codes "thread"
 of_thread = refl
+
+-- two tags of one text, a:b of the value c and a of the value b:c, on a sample each
+abbrev twins : Profile
+twins = record p {
+  sample =
+      labelled (record thread_a { key = pos 1; text = pos 2 }) ∷ labelled (record thread_a { key = pos 3; text = pos 4 }) ∷ [];
+  text = [] ∷ codes "a:b" ∷ codes "c" ∷ codes "a" ∷ codes "b:c" ∷ [];
+}
+
+one_text : map (tag_text twins) (tag_pairs twins) ≡ codes "a:b:c" ∷ codes "a:b:c" ∷ []
+one_text = refl
+
+-- a part that finds the first of them alone
+abbrev first_alone : TagFinders
+first_alone = record { texts = []; tags = (λ key value. bytes_eq key (codes "a:b")) ∷ [] }
+
+two_verdicts : found_by twins (tag_pairs twins) [] first_alone ≡ (true ∷ false ∷ []) ∷ []
+two_verdicts = refl
+
+told_apart : map (selects twins (filter_of (codes "x")) first_alone) twins.sample ≡ true ∷ false ∷ []
+unfolding range_of bound_of
+told_apart = refl

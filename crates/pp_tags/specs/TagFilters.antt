@@ -1,17 +1,18 @@
 -- Tag filters: how they are read, which samples they select, and which labels are shown.
-use Rattle.std.specs.Prelude.{◌≡◌, ℕ, ◌==◌, Bool, true, false, not, ◌&&◌, List, [], ◌∷◌, map, filter, Option, Some, None, is_some, bytes_eq, if◌then◌else◌}
+use Rattle.std.specs.Prelude.{◌≡◌, ℕ, ◌==◌, Bool, true, false, not, ◌&&◌, List, [], ◌∷◌, length, map, filter, All, Option, Some, None, is_some, bytes_eq, if◌then◌else◌}
 use Rattle.std.specs.List.{list_any, list_all, before_first, after_first, slice_split}
 use Rattle.std.specs.Option.{option_map_or, ForSome}
 use Rattle.pp_model.specs.declared.profile.Label.{Label}
 use Rattle.pp_model.specs.declared.profile.Sample.{Sample}
 use Rattle.pp_model.specs.declared.profile.Profile.{Profile}
 use Rattle.pp_model.specs.declared.verdicts.Tag.{Tag}
-use Rattle.pp_model.specs.Finders.{Finder, Finders}
+use Rattle.pp_model.specs.Finders.{Finder, Finders, TagFinder, TagFinders}
+use Rattle.pp_model.specs.Lookup.{text_of}
 use Rattle.pp_units.specs.declared.range.Range.{Range}
 use Rattle.pp_units.specs.Ranges.{range_of, in_range}
 use Rattle.pp_tags.specs.declared.tag_filter.TagFilter.{TagFilter}
 use Rattle.pp_tags.specs.Labels.{has_text, key_text, label_value_text, key_value, number_unit}
-use Rattle.pp_tags.specs.TagPairs.{tag_of, tag_pairs, tag_text}
+use Rattle.pp_tags.specs.TagPairs.{tag_pairs, tag_text}
 use Rattle.pp_base.specs.Marks.{is_equals}
 
 -- a comma parts the parts
@@ -56,12 +57,12 @@ selects_range p name range s =
     && in_range range label.num (number_unit p label))
     s.label
 
--- without a name: each part finds key and value of a text label
-abbrev pub selects_each : Profile → List Finder → Sample → Bool
+-- without a name: each part finds the key and the value of a text label
+abbrev pub selects_each : Profile → List TagFinder → Sample → Bool
 selects_each p parts s =
     list_all
     (λ find. list_any
-    (λ label. has_text label && find (key_value (key_text p label) (label_value_text p label)))
+    (λ label. has_text label && find (key_text p label) (label_value_text p label))
     s.label)
     parts
 
@@ -74,85 +75,67 @@ selects_some p name parts s =
     s.label
 
 -- the parts select the sample, by the name or without one
-abbrev pub selects_parts : Profile → List ℕ → List Finder → Sample → Bool
-selects_parts p [] parts s = selects_each p parts s
-selects_parts p (b ∷ bs) parts s = selects_some p (b ∷ bs) parts s
+abbrev pub selects_parts : Profile → List ℕ → TagFinders → Sample → Bool
+selects_parts p [] parts s = selects_each p parts.tags s
+selects_parts p (b ∷ bs) parts s = selects_some p (b ∷ bs) parts.texts s
 
 -- Whether the filter selects the sample, by its range, or by what its parts find.
-abbrev pub selects : Profile → TagFilter → List Finder → Sample → Bool
+abbrev pub selects : Profile → TagFilter → TagFinders → Sample → Bool
 selects p filter parts s =
     option_map_or (λ range. selects_range p filter.name range s) filter.range
     (selects_parts p filter.name parts s)
 
--- the texts that a part of a filter of this name is asked of: all texts, or without a name the tags
+-- whether a part finds the tag, by its key and its value
+abbrev pub on_tag : Profile → TagFinder → Tag → Bool
+on_tag p find tag = find (text_of p tag.key) (text_of p tag.text)
+
+-- what the parts of a filter of this name find: of all texts, or without a name of the tags
+abbrev pub found_by : Profile → List Tag → List ℕ → TagFinders → List (List Bool)
+found_by p tags [] parts = map (λ find. map (on_tag p find) tags) parts.tags
+found_by p tags (_ ∷ _) parts = map (λ find. map find p.text) parts.texts
+
+-- The verdicts of a filter's parts are what the parts find.
+abbrev pub ArePartVerdicts : Profile → List Tag → TagFilter → TagFinders → List (List Bool) → Type 0
+ArePartVerdicts p tags filter parts found = found ≡ found_by p tags filter.name parts
+
+-- The verdicts on tags are those of a filter that may not be in force.
+abbrev pub AreTagVerdicts : Profile → List Tag → Option TagFilter → TagFinders → List (List Bool) → Type 0
+AreTagVerdicts p tags filter parts found =
+    ForSome filter (λ f. ArePartVerdicts p tags f parts found)
+
+-- the texts that a part of a filter of this name is asked of: all texts, or without a name those of the tags
 abbrev pub subjects : Profile → List Tag → List ℕ → List (List ℕ)
 subjects p tags [] = map (tag_text p) tags
 subjects p tags (_ ∷ _) = p.text
 
--- The verdicts of a filter's parts are what the parts find of their subjects.
-abbrev pub ArePartVerdicts : Profile → List Tag → TagFilter → List Finder → List (List Bool) → Type 0
-ArePartVerdicts p tags filter parts found =
-    found ≡ map (λ find. map find (subjects p tags filter.name)) parts
+-- Parts that are asked of texts: a tag is found where its text `key:value` is.
+abbrev pub by_text : List Finder → TagFinders
+by_text parts = record {
+  texts = parts;
+  tags = map (λ find key value. find (key_value key value)) parts;
+}
 
--- The verdicts on tags are those of a filter that may not be in force.
-abbrev pub AreTagVerdicts : Profile → List Tag → Option TagFilter → List Finder → List (List Bool) → Type 0
-AreTagVerdicts p tags filter parts found =
-    ForSome filter (λ f. ArePartVerdicts p tags f parts found)
+-- There is a truth value for each text, or without a name for each tag.
+abbrev pub HasOnePerSubject : Profile → List Tag → TagFilter → List (List Bool) → Type 0
+HasOnePerSubject p tags filter found =
+    All (λ part. length part ≡ length (subjects p tags filter.name)) found
+
+-- The verdicts of a filter that is in force have a truth value for each of its subjects.
+abbrev pub FitTagFilter : Profile → List Tag → Option TagFilter → List (List Bool) → Type 0
+FitTagFilter p tags filter found = ForSome filter (λ f. HasOnePerSubject p tags f found)
 
 -- the tags are those of the profile, where the filter is in force and has no name
 abbrev pub HasItsTags : Profile → List Tag → Option TagFilter → Type 0
 HasItsTags p tags filter = ForSome filter (λ f. f.name ≡ [] → tags ≡ tag_pairs p)
 
--- A part without a name may find one tag and not another of the same text. So what parts find is also said of tags: a
--- list of predicates on texts, for a filter with a name, and one of predicates on tags, for one without.
-
--- without a name: each part finds the tag of a text label
-abbrev pub selects_each_tag : List (Tag → Bool) → Sample → Bool
-selects_each_tag tagged s =
-    list_all (λ find. list_any (λ label. has_text label && find (tag_of label)) s.label) tagged
-
--- the parts select the sample, by the name or without one
-abbrev pub selects_parts_by : Profile → List ℕ → List Finder → List (Tag → Bool) → Sample → Bool
-selects_parts_by p [] parts tagged s = selects_each_tag tagged s
-selects_parts_by p (b ∷ bs) parts tagged s = selects_some p (b ∷ bs) parts s
-
--- Whether the filter selects the sample, by its range, or by what its parts find of texts or of tags.
-abbrev pub selects_by : Profile → TagFilter → List Finder → List (Tag → Bool) → Sample → Bool
-selects_by p filter parts tagged s =
-    option_map_or (λ range. selects_range p filter.name range s) filter.range
-    (selects_parts_by p filter.name parts tagged s)
-
--- what the parts of a filter of this name find: of all texts, or without a name of the tags
-abbrev pub found_by : Profile → List Tag → List ℕ → List Finder → List (Tag → Bool) → List (List Bool)
-found_by p tags [] parts tagged = map (λ find. map find tags) tagged
-found_by p tags (_ ∷ _) parts tagged = map (λ find. map find p.text) parts
-
--- The verdicts of a filter's parts are what the parts find, of texts or of tags.
-abbrev pub ArePartVerdictsBy : Profile → List Tag → TagFilter → List Finder → List (Tag → Bool) → List (List Bool) → Type 0
-ArePartVerdictsBy p tags filter parts tagged found = found ≡ found_by p tags filter.name parts tagged
-
--- The verdicts on tags are those of a filter that may not be in force, by predicates on tags.
-abbrev pub AreTagVerdictsBy : Profile → List Tag → Option TagFilter → List Finder → List (Tag → Bool) → List (List Bool) → Type 0
-AreTagVerdictsBy p tags filter parts tagged found =
-    ForSome filter (λ f. ArePartVerdictsBy p tags f parts tagged found)
-
 -- a filter that isn't in force says this
-abbrev pub selects_by_or : Bool → Profile → Option TagFilter → List Finder → List (Tag → Bool) → Sample → Bool
-selects_by_or other p filter parts tagged s = option_map_or (λ f. selects_by p f parts tagged s) filter other
-
--- a filter that isn't in force says this
-abbrev pub selects_or : Bool → Profile → Option TagFilter → List Finder → Sample → Bool
+abbrev pub selects_or : Bool → Profile → Option TagFilter → TagFinders → Sample → Bool
 selects_or other p filter parts s = option_map_or (λ f. selects p f parts s) filter other
 
 -- Whether the sample passes both tag filters, each where it is in force: tagfocus selects it, and tagignore doesn't.
 abbrev pub is_tag_kept : Profile → Option TagFilter → Option TagFilter → Finders → Sample → Bool
 is_tag_kept p focus ignore f s =
     selects_or true p focus f.tagfocus s && not (selects_or false p ignore f.tagignore s)
-
--- a sample is kept by what the parts find of texts or of tags
-abbrev pub is_tag_kept_by : Profile → Option TagFilter → Option TagFilter → Finders → List (Tag → Bool) → List (Tag → Bool) → Sample → Bool
-is_tag_kept_by p focus ignore f focused ignored s =
-    selects_by_or true p focus f.tagfocus focused s && not (selects_by_or false p ignore f.tagignore ignored s)
 
 -- whether tagshow finds the key and taghide doesn't, each where it is in force
 abbrev pub is_shown : Finders → List ℕ → Bool

@@ -4,11 +4,11 @@ ghost use Rattle.std.specs.Prelude.{◌≡◌, Bool, List as Seq, [], ◌&&◌, 
 ghost use Rattle.std.specs.List.{list_any, list_all};
 ghost use Rattle.pp_units.specs.Ranges.{in_range};
 ghost use Rattle.pp_model.specs.Conditions.{IsSampleOf};
-ghost use Rattle.pp_model.specs.Finders.{Finder, Finders};
+ghost use Rattle.pp_model.specs.Finders.{Finders, TagFinders};
 ghost use Rattle.pp_model.specs.declared.verdicts.Tag.{Tag as TagValue};
 ghost use Rattle.pp_tags.specs.Labels.{has_text, number_unit};
 ghost use Rattle.pp_tags.specs.TagPairs.{tag_pairs, AreRising, tag_of, tag_cmp};
-ghost use Rattle.pp_tags.specs.TagFilters.{ArePartVerdicts, ArePartVerdictsBy, AreTagVerdicts, AreTagVerdictsBy, HasItsTags, selects, selects_by, selects_or, selects_by_or, has_name, is_tag_kept, is_tag_kept_by};
+ghost use Rattle.pp_tags.specs.TagFilters.{ArePartVerdicts, AreTagVerdicts, HasItsTags, selects, selects_or, has_name, is_tag_kept};
 ghost use Rattle.pp_tags.specs.Verdicts.{finds_value, some_found, finds_tag, HasTagsOf};
 
 use crate::labels::{has_text, number_unit};
@@ -31,14 +31,10 @@ pub fn tag_kept(
     requires sample { IsSampleOf l.now.profile s.now }
     requires focus_tags { HasItsTags l.now.profile v.now.tag focus.now }
     requires ignore_tags { HasItsTags l.now.profile v.now.tag ignore.now }
-    ensures texts { (f : Finders) →
+    ensures { (f : Finders) →
         AreTagVerdicts l.now.profile v.now.tag focus.now f.tagfocus v.now.tagfocus →
         AreTagVerdicts l.now.profile v.now.tag ignore.now f.tagignore v.now.tagignore →
         result ≡ is_tag_kept l.now.profile focus.now ignore.now f s.now }
-    ensures tags { (f : Finders) (focused ignored : Seq (TagValue → Bool)) →
-        AreTagVerdictsBy l.now.profile v.now.tag focus.now f.tagfocus focused v.now.tagfocus →
-        AreTagVerdictsBy l.now.profile v.now.tag ignore.now f.tagignore ignored v.now.tagignore →
-        result ≡ is_tag_kept_by l.now.profile focus.now ignore.now f focused ignored s.now }
 {
     selects_or(l, focus, &v.tag, &v.tagfocus, s, true)
         && !selects_or(l, ignore, &v.tag, &v.tagignore, s, false)
@@ -55,12 +51,9 @@ fn selects_or(
 ) -> bool
     requires sample { IsSampleOf l.now.profile s.now }
     requires tags { HasItsTags l.now.profile tag.now f.now }
-    ensures texts { (finders : Seq Finder) →
+    ensures { (finders : TagFinders) →
         AreTagVerdicts l.now.profile tag.now f.now finders parts.now →
         result ≡ selects_or otherwise l.now.profile f.now finders s.now }
-    ensures tags { (finders : Seq Finder) (tagged : Seq (TagValue → Bool)) →
-        AreTagVerdictsBy l.now.profile tag.now f.now finders tagged parts.now →
-        result ≡ selects_by_or otherwise l.now.profile f.now finders tagged s.now }
 {
     match f {
         None => otherwise,
@@ -82,12 +75,9 @@ pub fn selects(
 ) -> bool
     requires sample { IsSampleOf l.now.profile s.now }
     requires tags { f.now.name ≡ [] → tag.now ≡ tag_pairs l.now.profile }
-    ensures texts { (finders : Seq Finder) →
+    ensures { (finders : TagFinders) →
         ArePartVerdicts l.now.profile tag.now f.now finders parts.now →
         result ≡ selects l.now.profile f.now finders s.now }
-    ensures tags { (finders : Seq Finder) (tagged : Seq (TagValue → Bool)) →
-        ArePartVerdictsBy l.now.profile tag.now f.now finders tagged parts.now →
-        result ≡ selects_by l.now.profile f.now finders tagged s.now }
 {
     let labels = s.label.as_slice();
     if let Some(range) = &f.range {

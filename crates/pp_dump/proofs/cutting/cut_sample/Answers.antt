@@ -1,9 +1,10 @@
 use Rattle.std.proofs.Common.{◌≡◌, ◌++◌, [], ◌∷◌, List, sym, subst, ◌∙◌}
 use Rattle.pp_model.specs.declared.profile.Sample.{Sample}
+use Rattle.pp_model.specs.Finders.{no_parts}
 use Rattle.pp_base.proofs.TextLemmas.{then_ok}
+use Rattle.pp_tags.proofs.SomeFinders.{finders_found, some_finders}
 use Rattle.pp_dump.specs.Places.{AddsSamples}
 use Rattle.pp_dump.proofs.AddingSamples.{adds_dropped, adds_one}
-use Rattle.pp_dump.proofs.SomeFinders.{some_finders}
 use Rattle.pp_dump.proofs.cutting.cut_sample.Goals as goal
 
 -- nothing is left of the sample
@@ -31,6 +32,6 @@ returns c =
     c.in_ok-sample.ensures ∙ (λ i. record s { location_id = c.as_slice.ensures i; label = c.as_slice-2.ensures i }) in
     then_ok c.push.result
     (λ is. adds_one l v s old.samples c.push.new.self old.places.locations placed.places.locations c.in_ok-place_sample.field-0 placed.ids shown
-    left.valid c.requires.member (some_finders l v left.compact.texts c.requires.can.verdicts) left c.if-not-branch.false c.in_ok-show_tags_into.ensures
+    left.valid c.requires.member (finders_found l v no_parts no_parts, some_finders l v no_parts no_parts left.compact.texts c.requires.can.verdicts) left c.if-not-branch.false c.in_ok-show_tags_into.ensures
     (is ∙ (λ i. c.in_ok-place_sample.ensures.samples i ++ made i ∷ [])))
     c.push.ensures.ok

@@ -1,4 +1,4 @@
-use Rattle.std.proofs.Common.{◌≡◌, [], sym, ap, subst, ◌∙◌}
+use Rattle.std.proofs.Common.{◌≡◌, [], length, sym, ap, subst, ◌∙◌}
 use Rattle.pp_model.specs.declared.profile.Profile.{Profile}
 use Rattle.pp_model.specs.Rules.{NoRuleFails, IsCompact}
 use Rattle.pp_merge.specs.Merge.{contents, merged}
@@ -10,7 +10,8 @@ use Rattle.pp_merge.proofs.WrittenAgain.{contents_again}
 use Rattle.pp_restack.specs.Places.{with_cut}
 use Rattle.pp_restack.specs.Stacks.{patternless}
 use Rattle.pp_restack.proofs.MadeContents.{starts_of}
-use Rattle.pp_dump.specs.Saved.{AreKept, saved_contents, saved}
+use Rattle.pp_count.specs.Rising.{AreRisingBetween}
+use Rattle.pp_dump.specs.Saved.{saved_contents, saved}
 use Rattle.pp_dump.specs.Stacks.{KeepsStacks}
 use Rattle.pp_dump.specs.Unfiltered.{KeepsSums, KeepsKeys}
 use Rattle.pp_dump.proofs.KeptStacks.{keeps_stacks, left_is}
@@ -27,7 +28,7 @@ pub merge_alone-requires : goal.merge_alone-requires
 merge_alone-requires c =
     let is = c.in_ok-cut.ensures in
     cut_countable c.args.l.now c.args.v.now c.as_slice.result.now c.in_ok-cut.cut is c.requires.verdicts
-    (subst (AreKept c.args.l.now.profile) (sym c.as_slice.ensures) c.requires.kept) c.requires.countable
+    (subst (AreRisingBetween 0 (length c.args.l.now.profile.sample)) (sym c.as_slice.ensures) c.requires.kept) c.requires.countable
 
 -- what was cut is merged alone
 pub returns-clause-saved : goal.returns-clause-saved

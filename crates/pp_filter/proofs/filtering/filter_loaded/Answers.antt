@@ -9,17 +9,10 @@ use Rattle.pp_filter.proofs.FilterLemmas.{filter_holds, can_save}
 use Rattle.pp_filter.proofs.filtering.filter_loaded.Goals as goal
 
 -- the samples can be counted by the verdicts
-pub save-requires-clause-can : goal.save-requires-clause-can
-save-requires-clause-can g c = λ _ _. can_save g.D.Desk.finds c.args.l.now c.args.config.now c.in_ok-v.v c.in_ok-v.ensures.found c.requires
+pub save-requires : goal.save-requires
+save-requires g c = λ _ _. can_save g.D.Desk.finds c.args.l.now c.args.config.now c.in_ok-v.v c.in_ok-v.ensures.found c.requires
 
--- which are what the patterns find
-pub save-requires-clause-found : goal.save-requires-clause-found
-save-requires-clause-found g c = λ _ _. (
-  own_finders g.D.Desk.finds c.args.l.now c.args.config.now,
-  filter_holds g.D.Desk.finds c.args.l.now c.args.config.now c.in_ok-v.v c.in_ok-v.ensures.found (subst IsCompact c.get-profile.ensures.same c.get-profile.ensures.compact),
-)
-
--- so that is saved which they leave
+-- they are what the patterns find, so that is saved which these leave
 pub returns-clause-saved : goal.returns-clause-saved
 returns-clause-saved g c =
     c.in_ok-saved.ensures (own_finders g.D.Desk.finds c.args.l.now c.args.config.now)

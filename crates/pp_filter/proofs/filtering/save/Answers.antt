@@ -1,9 +1,9 @@
 use Rattle.pp_filter.proofs.filtering.save.Goals as goal
 
--- the samples that were kept are those that the filters leave
+-- the numbers of the samples that were kept rise
 pub saved_profile-requires-clause-kept : goal.saved_profile-requires-clause-kept
 saved_profile-requires-clause-kept g c =
-    (c.requires.found.0, (c.args.config.now, c.in_ok-counted.ensures.kept c.requires.found.0 c.requires.found.1))
+    c.in_ok-counted.ensures.rising
 
 -- so just these are saved
 pub returns : goal.returns

@@ -17,13 +17,6 @@ pub returns-in_err-head-clause-went : goal.returns-in_err-head-clause-went
 returns-in_err-head-clause-went g c =
     let p = err_from_is_err_and c.from_residual.result c.from_residual.ensures.1 in rw (p.1, p.2) (wants _ _)
 
--- what is kept is what the report's own patterns leave
-pub text_by-requires-after_bounds : goal.text_by-requires-after_bounds
-text_by-requires-after_bounds g c = λ _ _.
-    let t = c.args.task.now in
-    let own = report_finders g.D.Desk.finds t.l.now t.report.now t.config.now in
-    (own, (t.config.now, c.requires.are.kept own c.requires.holds))
-
 -- what was saved is what the report's own patterns leave
 pub returns-clause-saved : goal.returns-clause-saved
 returns-clause-saved g c proto =
