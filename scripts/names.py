@@ -24,7 +24,7 @@ SESSIONS = CRATES / "pp_sessions"
 FOREIGN = {"HEAPPROFILE", "thread::for_each_mut", "FLAG"}
 # Words in capitals in a path stand for any name.
 PLACES = re.compile(r"[A-Z]{4,}")
-MOST_EDITS = 10
+MOST_EDITS = 12
 
 
 @functools.cache
