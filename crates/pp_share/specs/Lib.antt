@@ -8,6 +8,7 @@ pub mod Behind
 pub mod Ids
 pub mod Renumbered
 pub mod FunctionKeys
+pub mod TextKeys
 pub mod PlaceKeys
 pub mod SampleStacks
 pub mod SampleKeys

@@ -8,6 +8,14 @@ use pp_keys::HashKeys;
 use std::alloc::Global;
 use std::hash::Hash;
 
+/// No items, with room for `count` of them.
+pub fn with_room<T>(alloc: Global, count: usize) -> Result<List<T>, Memory>
+    ensures { IfOk result (λ items. items ≡ []) }
+{
+    let items = Vec::with_capacity(alloc, count)?;
+    Ok(List::from_vec(items))
+}
+
 /// The keys without repeats, in the order of first sight, and for each key its id: its place among them plus 1. The
 /// keys are taken, and those that were seen before are dropped.
 pub fn number_each<K: Hash + Eq + Drop>(
@@ -18,7 +26,7 @@ pub fn number_each<K: Hash + Eq + Drop>(
     ensures table { IfOk result (λ r. r.0.items ≡ distinct K.eq keys.items) }
     ensures ids { IfOk result (λ r. r.1 ≡ ids K.eq keys.items) }
 {
-    let mut table = IndexSet::with_hasher(alloc, hash_keys);
+    let mut table = IndexSet::with_capacity_and_hasher(alloc, keys.len(), hash_keys)?;
     let mut ids = List::new(alloc);
     for key in keys {
         let (place, _) = table.insert_full(key)?;
@@ -30,8 +38,8 @@ pub fn number_each<K: Hash + Eq + Drop>(
     Ok((table, ids))
 }
 
-/// The keys of the set, in order.
-pub fn keys_of<K: Hash + Eq + Drop>(
+// The keys of the set, in order.
+fn keys_of<K: Hash + Eq + Drop>(
     alloc: Global,
     table: IndexSet<K, HashKeys>,
 ) -> Result<Vec<K>, Memory>
@@ -63,9 +71,9 @@ pub fn keep_firsts<K: Hash + Eq + Drop, T: Copy + Keyed<K>>(
     ensures ids { IfOk result (λ r. r.1
         ≡ ids (λ a b. K.eq (T.key_of a) (T.key_of b)) items.now) }
 {
-    let mut table = IndexSet::with_hasher(alloc, hash_keys);
-    let mut kept = List::new(alloc);
-    let mut ids = List::new(alloc);
+    let mut table = IndexSet::with_capacity_and_hasher(alloc, items.len(), hash_keys)?;
+    let mut kept = with_room(alloc, items.len())?;
+    let mut ids = with_room(alloc, items.len())?;
     for item in items {
         let (place, is_new) = table.insert_full(item.key())?;
         push_if(&mut kept, *item, is_new)?;

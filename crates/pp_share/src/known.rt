@@ -33,7 +33,7 @@ fn listed_ids(
     requires { first_repeated ids.now ≡ None }
     ensures { IfOk result (λ listed. listed.keys ≡ ids.now) }
 {
-    let mut listed = IndexSet::with_hasher(alloc, hash_keys);
+    let mut listed = IndexSet::with_capacity_and_hasher(alloc, ids.len(), hash_keys)?;
     for id in ids {
         listed.insert_full(*id)?;
     }

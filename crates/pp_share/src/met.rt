@@ -1,6 +1,7 @@
 //! Ids in the order in which they are met.
-ghost use Rattle.std.specs.Prelude.{◌≡◌, ℕ, ◌<◌, ◌≤◌, [], slice_index_or, IfOk, OnOk};
+ghost use Rattle.std.specs.Prelude.{◌≡◌, ℕ, ◌<◌, ◌≤◌, [], nat_eq, slice_index_or, IfOk, OnOk};
 ghost use Rattle.std.specs.Bool.{OnTrue};
+ghost use Rattle.std.specs.List.{IsDistinct};
 ghost use Rattle.pp_share.specs.Located.{KnowsAll};
 ghost use Rattle.pp_share.specs.Walk.{met_with, IsPlaced};
 ghost use Rattle.pp_share.specs.Ids.{place_id};
@@ -108,7 +109,8 @@ impl Met {
 
     /// The ids, in order.
     pub fn as_slice(&self) -> &[u64]
-        ensures { result.now ≡ self.now }
+        ensures ids { result.now ≡ self.now }
+        ensures once { IsDistinct nat_eq result.now }
     {
         self.ids.as_slice()
     }

@@ -5,7 +5,7 @@ ghost use Rattle.pp_share.specs.Shared.{with_shared_places, distant_locations};
 ghost use Rattle.pp_share.specs.Ids.{GivesIds};
 ghost use Rattle.pp_share.specs.PlaceKeys.{mapping_key, start_at, distant, near, same_place, place_of_key};
 
-use crate::first_sight::{Keyed, keep_firsts, number_each};
+use crate::first_sight::{Keyed, keep_firsts, number_each, with_room};
 use crate::ids::Ids;
 use crate::known::are_in_place;
 use pp_base::{List, Memory};
@@ -167,7 +167,7 @@ fn locations_of(
     ensures { IfOk result (λ locations. locations
         ≡ map (near mappings.now) (map place_of_key keys.items)) }
 {
-    let mut locations = List::new(alloc);
+    let mut locations = with_room(alloc, keys.len())?;
     for key in keys {
         locations.push(location_of(key, mappings))?;
     }

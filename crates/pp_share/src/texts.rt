@@ -4,14 +4,35 @@ ghost use Rattle.std.specs.Str.{bytes_eq};
 ghost use Rattle.pp_model.specs.FirstSight.{distinct, ids};
 ghost use Rattle.pp_share.specs.Shared.{with_shared_texts};
 
-use crate::first_sight::number_each;
+use crate::first_sight::{number_each, with_room};
 use crate::ids::Ids;
 use crate::renumbering::{Renumbering, renumber_tables};
 use pp_base::{List, Memory, Text};
 use pp_keys::HashKeys;
 use pp_model::Profile;
 use std::alloc::Global;
+use std::hash::{Hash, Hasher};
 use std::mem;
+
+/// A text as a key. A hasher takes its bytes at once, and so by words.
+#[derive(Debug, Drop, PartialEq, Eq)]
+pub struct TextKey {
+    /// The bytes of the text.
+    pub bytes: Vec<u8>,
+}
+
+impl Hash for TextKey {
+    ghost use Rattle.std.specs.Prelude.{[], ◌∷◌};
+    ghost use Rattle.pp_share.specs.TextKeys.{same_bytes};
+
+    ghost hash_input = { λ key. key.bytes.items ∷ [] };
+
+    ghost respects_eq = { λ x y. same_bytes x.bytes.items y.bytes.items };
+
+    fn hash<H: Hasher>(&self, state: &mut H) {
+        state.write(&self.bytes);
+    }
+}
 
 /// The profile with each text once, in the order of first sight, and what the ids of texts become. Its samples stay as
 /// they are.
@@ -56,24 +77,26 @@ fn number_texts(
     Ok((texts, ids))
 }
 
-// The texts as vectors of bytes, which can be told apart by a hash.
-fn text_keys(alloc: Global, texts: List<Text>) -> Result<Vec<Vec<u8>>, Memory>
-    ensures { IfOk result (λ keys. map (λ key. key.items) keys.items ≡ texts) }
+// The keys of the texts.
+fn text_keys(alloc: Global, texts: List<Text>) -> Result<Vec<TextKey>, Memory>
+    ensures { IfOk result (λ keys. map (λ key. key.bytes.items) keys.items ≡ texts) }
 {
     let mut keys = Vec::with_capacity(alloc, texts.len())?;
     for text in texts.into_vec() {
-        keys.push(text.into_vec())?;
+        keys.push(TextKey {
+            bytes: text.into_vec(),
+        })?;
     }
     Ok(keys)
 }
 
-// The vectors as texts.
-fn texts_of(alloc: Global, keys: Vec<Vec<u8>>) -> Result<List<Text>, Memory>
-    ensures { IfOk result (λ texts. texts ≡ map (λ key. key.items) keys.items) }
+// The texts of the keys.
+fn texts_of(alloc: Global, keys: Vec<TextKey>) -> Result<List<Text>, Memory>
+    ensures { IfOk result (λ texts. texts ≡ map (λ key. key.bytes.items) keys.items) }
 {
-    let mut texts = List::new(alloc);
+    let mut texts = with_room(alloc, keys.len())?;
     for key in keys {
-        texts.push(Text::from_vec(key))?;
+        texts.push(Text::from_vec(key.bytes))?;
     }
     Ok(texts)
 }

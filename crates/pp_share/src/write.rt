@@ -15,7 +15,7 @@ use crate::met::Met;
 use crate::placing::place_samples;
 use crate::renumbering::{Renumbering, renumber_tables};
 use crate::walk::{Functions, Mappings, Refers, Texts, meet_each};
-use pp_base::Memory;
+use pp_base::{List, Memory};
 use pp_keys::HashKeys;
 use pp_model::{Function, Location, Mapping, Profile, ValueType};
 use pp_steal::{PIECE, Resources};
@@ -122,7 +122,8 @@ fn keep_locations(
 {
     let mut met = Met::new(alloc, hash_keys, p.location.len().saturating_add(1))?;
     place_samples(&mut p.sample, by, &mut met, texts)?;
-    p.location = gather(alloc, p.location.as_slice(), met.as_slice())?;
+    let locations = mem::replace(&mut p.location, List::new(alloc));
+    p.location = gather(alloc, locations, met.as_slice())?;
     Ok(met)
 }
 
@@ -139,7 +140,8 @@ fn keep_locations_on<R: Threads + Sync>(
 {
     let mut met = Met::new(with.alloc, with.keys, p.location.len().saturating_add(1))?;
     place_samples_on(with, p, by, &mut met, texts)?;
-    p.location = gather(with.alloc, p.location.as_slice(), met.as_slice())?;
+    let locations = mem::replace(&mut p.location, List::new(with.alloc));
+    p.location = gather(with.alloc, locations, met.as_slice())?;
     Ok(met)
 }
 
@@ -151,7 +153,8 @@ fn keep_mappings(alloc: Global, hash_keys: HashKeys, p: &mut Profile) -> Result<
     let mut met = Met::new(alloc, hash_keys, p.mapping.len().saturating_add(1))?;
     met.meet(first_id(p))?;
     meet_each::<Mappings, Location>(p.location.as_slice(), &mut met)?;
-    p.mapping = gather(alloc, p.mapping.as_slice(), met.as_slice())?;
+    let mappings = mem::replace(&mut p.mapping, List::new(alloc));
+    p.mapping = gather(alloc, mappings, met.as_slice())?;
     Ok(met)
 }
 
@@ -169,7 +172,8 @@ fn keep_functions(alloc: Global, hash_keys: HashKeys, p: &mut Profile) -> Result
 {
     let mut met = Met::new(alloc, hash_keys, p.function.len().saturating_add(1))?;
     meet_each::<Functions, Location>(p.location.as_slice(), &mut met)?;
-    p.function = gather(alloc, p.function.as_slice(), met.as_slice())?;
+    let functions = mem::replace(&mut p.function, List::new(alloc));
+    p.function = gather(alloc, functions, met.as_slice())?;
     Ok(met)
 }
 
@@ -180,7 +184,8 @@ fn keep_texts(alloc: Global, p: &mut Profile, met: &mut Met) -> Result<(), Memor
     ensures kept { OnOk result (p.new ≡ with_texts met.new p.old) }
 {
     meet_tables(p, met)?;
-    p.text = gather(alloc, p.text.as_slice(), met.as_slice())?;
+    let texts = mem::replace(&mut p.text, List::new(alloc));
+    p.text = gather(alloc, texts, met.as_slice())?;
     Ok(())
 }
 

@@ -1,7 +1,7 @@
 use Rattle.std.proofs.Common.{◌≡◌, ◌+◌, ◌++◌, ◌∷◌, [], take, not, arith, sym, ap, ◌∙◌, subst}
 use Rattle.std.specs.List.{list_any}
-use Rattle.std.proofs.lemmas.List.{take_more}
-use Rattle.pp_model.specs.FirstSight.{seen_with, place_of}
+use Rattle.std.proofs.lemmas.List.{take_more, take_all}
+use Rattle.pp_model.specs.FirstSight.{seen_with, place_of, ids}
 use Rattle.pp_model.proofs.FirstSightLemmas.{AreFirsts, firsts_step}
 use Rattle.pp_share.proofs.first_sight.keep_firsts.Goals as goal
 
@@ -22,3 +22,8 @@ loop-item-preserved g c =
     (e.added ∙ ap (λ k. not (list_any (eq k) c.loop-item.table.keys)) c.key.ensures)
     (e.index ∙ ap (λ k. place_of eq c.loop-item.table.keys k) c.key.ensures)
     c.in_ok-push_if.ensures c.in_ok-push.ensures.ok)
+
+pub returns-clause-ids : goal.returns-clause-ids
+returns-clause-ids g c =
+    c.loop-item.invariant.ids_are
+    ∙ ap (ids (λ a b. g.K.PartialEq.eq (g.T.Keyed.key_of a) (g.T.Keyed.key_of b))) (take_all c.loop-item.item-index c.args.items.now (omega arith))

@@ -20,6 +20,6 @@ returns c =
       said = placed.texts ∙ ap (λ t. met_after t (flat_map sample_text_ids p.sample)) c.requires;
       kept = λ more j. record p {
         sample = (placed.placed [] more ∙ ap (λ m. map (placed_sample m (texts more)) p.sample) met) j;
-        location = (c.in_ok-p.ensures ∙ (λ i. gathered location_entry (c.as_slice.ensures i) ((c.as_slice-2.ensures ∙ met) i))) j;
+        location = (c.in_ok-p.ensures ∙ (λ i. gathered location_entry (c.replace-locations.ensures.value i) ((c.as_slice.ensures.ids ∙ met) i))) j;
       };
     }

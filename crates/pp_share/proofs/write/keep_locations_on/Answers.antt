@@ -15,8 +15,8 @@ returns g c =
     let placed = c.in_ok-place_samples_on.ensures in
     let texts = met_after c.place_samples_on.new.texts in
     let met : c.place_samples_on.new.locations ≡ locations_met p = placed.locations ∙ ap (λ m. met_after m (flat_map location_refs p.sample)) c.in_ok-met.ensures in
-    let table = c.as_slice.ensures ∙ ap (λ (q : Profile). q.location) (placed.placed []) in
-    let kept = c.in_ok-p.ensures ∙ (λ i. gathered location_entry (table i) ((c.as_slice-2.ensures ∙ met) i)) in
+    let table = c.replace-locations.ensures.value ∙ ap (λ (q : Profile). q.location) (placed.placed []) in
+    let kept = c.in_ok-p.ensures ∙ (λ i. gathered location_entry (table i) ((c.as_slice.ensures.ids ∙ met) i)) in
     record {
       met = met;
       said = placed.texts ∙ ap (λ t. met_after t (flat_map sample_text_ids p.sample)) c.requires.first;
