@@ -1,44 +1,18 @@
--- Samples that lanes ask in pieces, and what is left to ask where all are sound.
-use Rattle.std.proofs.Common.{◌≡◌, true, ◌&&◌, List, [], ◌∷◌, ◌++◌, map, refl, sym, ap, ◌∙◌}
+-- What is left to ask where all samples are sound.
+use Rattle.std.proofs.Common.{◌≡◌, true, [], ◌∷◌, ◌++◌, refl, ◌∙◌}
 use Rattle.std.specs.Prelude.{Option, Some, None}
 use Rattle.std.specs.List.{list_all}
-use Rattle.std.proofs.lemmas.List.Folds.{list_all-append}
 use Rattle.pp_model.specs.declared.profile.Sample.{Sample}
 use Rattle.pp_model.specs.declared.profile.Profile.{Profile}
 use Rattle.pp_model.specs.Rules.{label_has_texts, location_fault}
-use Rattle.pp_steal.specs.Pieces.{IsCutInto}
 use Rattle.pp_check.specs.declared.fault.Table.TheVariants.{Locations, Samples}
 use Rattle.pp_check.specs.declared.fault.TableFault.{TableFault}
 use Rattle.pp_check.specs.Finds.{rule_fault, first_fault_of}
 use Rattle.pp_check.specs.FirstFault.{location_faults, reference_faults}
 use Rattle.pp_check.specs.Whole.{is_whole}
-use Rattle.pp_check.specs.declared.asking.Asked.{Asked}
-use Rattle.pp_check.specs.Sound.{is_sound, HasSoundSamples, IsAsked, JoinsAsked}
-use Rattle.pp_share.specs.Hashes.{AreOwnHashes}
-use Rattle.pp_share.specs.SampleKeys.{sample_hash}
-use Rattle.pp_share.proofs.HashLemmas.{all_hashes}
+use Rattle.pp_check.specs.Sound.{is_sound, HasSoundSamples}
 use Rattle.pp_check.proofs.Order.{decided_after}
 use Rattle.pp_check.proofs.WholeLemmas.{none_fails, both, whole_samples}
-
--- what is told of the parts is told of all samples
-pub parts_tell : (p : Profile) (samples : List Sample) (parts : List Asked) (all : Asked) → IsCutInto (IsAsked p) samples parts → JoinsAsked parts all → IsAsked p samples all
-parts_tell p samples parts all are is = record {
-  sound = is.sound ∙ flags samples parts are;
-  hashes = all_hashes sample_hash samples (map (λ (part : Asked). part.hashes) parts) all.hashes (numbered samples parts are) is.hashes;
-}
-  where
-    flags : (samples : List Sample) (parts : List Asked) → IsCutInto (IsAsked p) samples parts → list_all (λ (part : Asked). part.sound) parts ≡ list_all (is_sound p) samples
-    flags samples [] none = sym (ap (list_all (is_sound p)) none)
-    flags samples (part ∷ parts) are =
-        let (front, rest, cut, own, others) = are in
-        (λ j. own.sound j && flags rest parts others j)
-        ∙ sym (list_all-append (is_sound p) front rest) ∙ sym (ap (list_all (is_sound p)) cut)
-
-    numbered : (samples : List Sample) (parts : List Asked) → IsCutInto (IsAsked p) samples parts → IsCutInto AreOwnHashes samples (map (λ (part : Asked). part.hashes) parts)
-    numbered samples [] none = none
-    numbered samples (part ∷ parts) are =
-        let (front, rest, cut, own, others) = are in
-        (front, rest, cut, own.hashes, numbered rest parts others)
 
 -- where all samples and the locations' ids are sound
 pub are_sound : (p : Profile) → first_fault_of (location_faults p) ≡ None → list_all (is_sound p) p.sample ≡ true → HasSoundSamples p

@@ -1,5 +1,5 @@
 -- Samples that break no rule, as they are asked ahead of the others. No public clause cites these.
-use Rattle.std.specs.Prelude.{◌≡◌, Bool, ◌&&◌, None, List, map}
+use Rattle.std.specs.Prelude.{◌≡◌, Bool, ◌&&◌, None, List}
 use Rattle.std.specs.List.{list_all}
 use Rattle.pp_model.specs.declared.profile.Sample.{Sample}
 use Rattle.pp_model.specs.declared.profile.Profile.{Profile}
@@ -8,7 +8,7 @@ use Rattle.pp_check.specs.Finds.{first_fault_of}
 use Rattle.pp_check.specs.FirstFault.{location_faults}
 use Rattle.pp_check.specs.Whole.{is_whole}
 use Rattle.pp_check.specs.declared.asking.Asked.{Asked}
-use Rattle.pp_share.specs.Hashes.{AreOwnHashes, JoinsHashes}
+use Rattle.pp_share.specs.Hashes.{AreOwnHashes}
 
 -- the texts of the sample's labels are there, and it is whole
 abbrev pub is_sound : Profile → Sample → Bool
@@ -21,12 +21,7 @@ pub record HasSoundSamples (p : Profile) : Type 0 where
   pub references : sample_fault p ≡ None
   pub values : value_fault p ≡ None
 
--- what one walk tells of samples: whether all are sound, and their hashes by the ids that they have
+-- what is told of samples: whether all are sound, and their hashes by the ids that they have
 pub record IsAsked (p : Profile) (samples : List Sample) (asked : Asked) : Type 0 where
   pub sound : asked.sound ≡ list_all (is_sound p) samples
   pub hashes : AreOwnHashes samples asked.hashes
-
--- what is told of all parts
-pub record JoinsAsked (parts : List Asked) (all : Asked) : Type 0 where
-  pub sound : all.sound ≡ list_all (λ part. part.sound) parts
-  pub hashes : JoinsHashes (map (λ part. part.hashes) parts) all.hashes

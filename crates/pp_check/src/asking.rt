@@ -1,21 +1,20 @@
-//! Asking the samples of a profile as a job in pieces.
-ghost use Rattle.std.specs.Prelude.{◌≡◌, ◌+◌, ◌*◌, ◌<◌, ◌≤◌, length, IfOk};
+//! Asking the samples of a profile, which can be cut anywhere.
+ghost use Rattle.std.specs.Prelude.{◌≡◌, IfOk};
 ghost use Rattle.std.specs.List.{list_all};
 ghost use Rattle.pp_model.specs.Rules.{location_ids};
-ghost use Rattle.pp_steal.specs.declared.piece.TheConstants.{PIECE};
 ghost use Rattle.pp_check.specs.Known.{Knows};
-ghost use Rattle.pp_check.specs.Sound.{is_sound, IsAsked};
+ghost use Rattle.pp_check.specs.Sound.{is_sound};
 
 use crate::known::Known;
 use crate::references::is_whole;
 use crate::texts::sample_has_texts;
 use pp_base::Memory;
 use pp_model::{Profile, Sample};
-use pp_share::{Hashes, sample_hash};
-use pp_steal::{Job, piece_of};
+use pp_share::{Hashes, OwnIds, hash_samples};
+use pp_steal::Piecewise;
 use std::alloc::Global;
 
-/// The samples of a profile, to be asked on any thread.
+/// What any thread needs to ask samples of a profile.
 #[derive(Drop)]
 pub(crate) struct Asking<'a> {
     /// Where the hashes of samples are allocated.
@@ -24,14 +23,10 @@ pub(crate) struct Asking<'a> {
     pub(crate) p: &'a Profile,
     /// The ids of its locations.
     pub(crate) locations: &'a Known,
-    /// How many pieces its samples make.
-    pub(crate) pieces: u32,
     pub ghost known: { Knows locations.now (location_ids p.now) },
-    pub ghost within: { PIECE * pieces < length p.now.sample + PIECE },
-    pub ghost whole: { length p.now.sample ≤ PIECE * pieces },
 }
 
-/// What one walk tells of samples.
+/// What is told of samples.
 #[derive(Debug, Drop)]
 pub(crate) struct Asked {
     /// Whether all are sound.
@@ -40,39 +35,33 @@ pub(crate) struct Asked {
     pub(crate) hashes: Hashes,
 }
 
-impl Job for Asking<'_> {
+impl Piecewise<Sample> for Asking<'_> {
     type Out = Asked;
 
-    ghost use Rattle.pp_steal.specs.Pieces.{piece_of};
     ghost use Rattle.pp_check.specs.Sound.{IsAsked};
 
-    ghost pieces = { λ job. job.pieces };
+    ghost right = { λ work samples asked. IsAsked work.p.now samples asked };
 
-    ghost right = { λ job piece asked. IsAsked job.p.now (piece_of job.p.now.sample piece) asked };
-
-    fn run(&self, piece: u32) -> Result<Asked, Memory> {
-        let samples = piece_of(self.p.sample.as_slice(), piece);
-        ask(self.alloc, self.p, self.locations, samples)
+    fn begin(&self, room: usize) -> Result<Asked, Memory> {
+        let hashes = Hashes::with_room(self.alloc, room)?;
+        Ok(Asked {
+            sound: true,
+            hashes,
+        })
     }
-}
 
-/// Asks the samples and hashes them, one after another, so that each is gone over once.
-pub(crate) fn ask(
-    alloc: Global,
-    p: &Profile,
-    locations: &Known,
-    samples: &[Sample],
-) -> Result<Asked, Memory>
-    requires { Knows locations.now (location_ids p.now) }
-    ensures { IfOk result (IsAsked p.now samples.now) }
-{
-    let mut sound = true;
-    let mut hashes = Hashes::with_room(alloc, samples.len())?;
-    for sample in samples {
-        sound &= is_sound(p, locations, sample);
-        hashes.add(sample_hash(sample), sample)?;
+    // A piece stays in the processor's cache between the two walks over it.
+    fn run(&self, samples: &[Sample]) -> Result<Asked, Memory> {
+        let sound = are_sound(self.p, self.locations, samples);
+        let hashes = hash_samples(self.alloc, samples, &OwnIds)?;
+        Ok(Asked { sound, hashes })
     }
-    Ok(Asked { sound, hashes })
+
+    fn append(&self, front: Asked, back: Asked) -> Result<Asked, Memory> {
+        let sound = front.sound & back.sound;
+        let hashes = front.hashes.append(back.hashes)?;
+        Ok(Asked { sound, hashes })
+    }
 }
 
 /// Whether all of these samples are sound.

@@ -1,5 +1,5 @@
 // The table rules, in the order in which they decide.
-ghost use Rattle.std.specs.Prelude.{◌≡◌, ◌++◌, IfOk, IsTrue};
+ghost use Rattle.std.specs.Prelude.{◌≡◌, ◌++◌, IfOk};
 ghost use Rattle.pp_check.specs.FirstFault.{first_fault, text_faults, mapping_faults, function_faults, location_faults, reference_faults, IsIndexed};
 ghost use Rattle.pp_check.specs.Finds.{first_fault_of, AnswersFault, FindsFault};
 ghost use Rattle.pp_check.specs.Checks.{Checks};
@@ -12,6 +12,7 @@ use crate::fault::{CheckRefusal, Table, TableFault, refuse};
 use crate::ids::known_ids;
 use crate::known::Known;
 use crate::references::{location_fault, sample_fault, value_fault};
+use crate::samples::Samples;
 use crate::texts::{
     comment_text_fault, function_text_fault, header_text_fault, mapping_text_fault,
     sample_text_fault, text_zero_fault, type_text_fault, untyped_fault,
@@ -27,7 +28,7 @@ pub fn first_fault(alloc: Global, p: &Profile) -> Result<Option<TableFault>, Mem
     requires { IsIndexed p.now }
     ensures { IfOk result (λ fault. fault ≡ first_fault p.now) }
 {
-    match try_rules(alloc, HashKeys::fixed(), p, false) {
+    match try_rules(alloc, HashKeys::fixed(), p, Samples::Unasked) {
         Ok(()) => Ok(None),
         Err(CheckRefusal::Fault(fault)) => Ok(Some(fault)),
         Err(CheckRefusal::Memory) => Err(Memory),
@@ -40,52 +41,51 @@ pub fn check(alloc: Global, p: Profile) -> Result<Valid, CheckRefusal>
     ensures { Checks p result }
 {
     let keys = HashKeys::fixed();
-    let sound = has_sound_samples(alloc, keys, &p)?;
-    try_rules(alloc, keys, &p, sound)?;
+    let samples = ask_samples(alloc, keys, &p)?;
+    try_rules(alloc, keys, &p, samples)?;
     Ok(Valid::claim(p))
 }
 
-// Whether the ids of the locations and all samples break no rule. Samples are many, so one walk asks them for all of
-// their rules.
-fn has_sound_samples(alloc: Global, keys: HashKeys, p: &Profile) -> Result<bool, Memory>
+// Asks the ids of the locations and all samples. Samples are many, so one walk asks them for all of their rules.
+fn ask_samples(alloc: Global, keys: HashKeys, p: &Profile) -> Result<Samples, Memory>
     requires { IsIndexed p.now }
-    ensures { IfOk result (λ sound. IsTrue sound → HasSoundSamples p.now) }
+    ensures { IfOk result (λ samples. samples ≡ Samples.Sound → HasSoundSamples p.now) }
 {
     match known_locations(alloc, keys, p) {
-        Ok(locations) => Ok(are_sound(p, &locations, p.sample.as_slice())),
-        Err(CheckRefusal::Fault(_)) => Ok(false),
+        Ok(locations) => Ok(Samples::known(are_sound(p, &locations, p.sample.as_slice()))),
+        Err(CheckRefusal::Fault(_)) => Ok(Samples::Unasked),
         Err(CheckRefusal::Memory) => Err(Memory),
     }
 }
 
-/// Tries all rules, in their order. `sound` says that the samples and the locations' ids break none: they are left out.
+/// Tries all rules, in their order. Sound samples and the ids of their locations are left out.
 pub(crate) fn try_rules(
     alloc: Global,
     keys: HashKeys,
     p: &Profile,
-    sound: bool,
+    samples: Samples,
 ) -> Result<(), CheckRefusal>
     requires indexed { IsIndexed p.now }
-    requires sound { IsTrue sound → HasSoundSamples p.now }
+    requires sound { samples ≡ Samples.Sound → HasSoundSamples p.now }
     ensures { AnswersFault (first_fault p.now) result }
 {
-    try_texts(p, sound)?;
+    try_texts(p, samples)?;
     let mappings = known_mappings(alloc, keys, p)?;
     let functions = known_functions(alloc, keys, p)?;
-    try_locations(alloc, keys, p, &mappings, &functions, sound)
+    try_locations(alloc, keys, p, &mappings, &functions, samples)
 }
 
-// Tries rules 1 to 3. `sound` leaves out the samples.
-fn try_texts(p: &Profile, sound: bool) -> Result<(), TableFault>
+// Tries rules 1 to 3. Sound samples are left out.
+fn try_texts(p: &Profile, samples: Samples) -> Result<(), TableFault>
     requires indexed { IsIndexed p.now }
-    requires sound { IsTrue sound → HasSoundSamples p.now }
+    requires sound { samples ≡ Samples.Sound → HasSoundSamples p.now }
     ensures { FindsFault (first_fault_of (text_faults p.now)) result }
 {
     refuse(1, Table::Texts, text_zero_fault(p))?;
     refuse(2, Table::Header, header_text_fault(p))?;
     refuse(2, Table::Comments, comment_text_fault(p))?;
     refuse(2, Table::SampleTypes, type_text_fault(p))?;
-    refuse(2, Table::Samples, sample_text_fault(p, sound))?;
+    refuse(2, Table::Samples, sample_text_fault(p, samples))?;
     refuse(2, Table::Mappings, mapping_text_fault(p))?;
     refuse(2, Table::Functions, function_text_fault(p))?;
     refuse(3, Table::SampleTypes, untyped_fault(p))
@@ -109,22 +109,22 @@ fn known_functions(alloc: Global, keys: HashKeys, p: &Profile) -> Result<Known, 
     known_ids(alloc, keys, 6, Table::Functions, p.function.as_slice())
 }
 
-// Tries rules 8 to 12. `sound` leaves rule 10 alone.
+// Tries rules 8 to 12. Where the samples are sound, only rule 10 is left.
 fn try_locations(
     alloc: Global,
     keys: HashKeys,
     p: &Profile,
     mappings: &Known,
     functions: &Known,
-    sound: bool,
+    samples: Samples,
 ) -> Result<(), CheckRefusal>
     requires indexed { IsIndexed p.now }
     requires mappings { Knows mappings.now (mapping_ids p.now) }
     requires functions { Knows functions.now (function_ids p.now) }
-    requires sound { IsTrue sound → HasSoundSamples p.now }
+    requires sound { samples ≡ Samples.Sound → HasSoundSamples p.now }
     ensures { AnswersFault (first_fault_of (location_faults p.now ++ reference_faults p.now)) result }
 {
-    if sound {
+    if let Samples::Sound = samples {
         refuse(10, Table::Locations, location_fault(p, mappings, functions))?;
         return Ok(());
     }

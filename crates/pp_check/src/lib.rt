@@ -6,9 +6,9 @@
 //! functions and of locations. Rule 10: each location's mapping and its lines' functions are 0 or there. Rule 11: each
 //! sample's locations are there. Rule 12: each sample has one value per sample type.
 //!
-//! `checking` has the rules in the order in which they decide, over `texts`, `ids` and `references`. Samples are many, so
-//! one walk asks each of them for all its rules (`asking`); `lanes` does so in pieces on several lanes, and hashes the
-//! samples for merging in the same walk.
+//! `checking` is the file to begin with: the rules in the order in which they decide, over `texts`, `ids` and `references`.
+//! Samples are many, so one walk asks each of them for all its rules (`asking`), and they are left out later where they
+//! break none (`samples`). `lanes` asks them on several lanes, and hashes them for merging.
 #![tactic(auto)]
 
 mod asking;
@@ -19,6 +19,7 @@ mod known;
 mod lanes;
 mod laws;
 mod references;
+mod samples;
 mod texts;
 
 pub use checking::{check, first_fault};

@@ -1,6 +1,6 @@
 -- The hashes by which samples are told apart: by the ids that they have, or once they have new ones.
 use Rattle.std.specs.Prelude.{◌≡◌, ℕ, ◌+◌, ◌++◌, [], ◌∷◌, Bool, true, ◌&&◌, None, ℤ, nat_abs, List, length, map}
-use Rattle.std.specs.List.{flat_map, list_all, sum_by}
+use Rattle.std.specs.List.{list_all, sum_by}
 use Rattle.pp_base.specs.Capped.{capped}
 use Rattle.pp_model.specs.declared.profile.Label.{Label}
 use Rattle.pp_model.specs.declared.profile.Sample.{Sample}
@@ -37,12 +37,6 @@ pub record AddsHash (hash : ℕ) (s : Sample) (old new : Hashes) : Type 0 where
   pub hashes : new.list.items ≡ old.list.items ++ hash ∷ []
   pub values : new.have_values ≡ (old.have_values && has_values s)
   pub together : new.together ≡ capped (old.together + sum_by nat_abs s.value)
-
--- the hashes of all parts, one after another
-pub record JoinsHashes (parts : List Hashes) (all : Hashes) : Type 0 where
-  pub hashes : all.list.items ≡ flat_map (λ part. part.list.items) parts
-  pub values : all.have_values ≡ list_all (λ part. part.have_values) parts
-  pub together : all.together ≡ capped (sum_by (λ part. part.together) parts)
 
 -- the label's texts are some of n
 abbrev pub names_texts : ℕ → Label → Bool

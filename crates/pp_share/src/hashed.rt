@@ -1,6 +1,6 @@
 //! Profiles whose samples were hashed.
 
-use crate::hashes::{Hashes, hash_own};
+use crate::hashes::{Hashes, OwnIds, hash_samples};
 use pp_base::Memory;
 use pp_model::Valid;
 use std::alloc::Global;
@@ -41,7 +41,7 @@ impl Hashed {
     pub fn new(alloc: Global, valid: Valid) -> Result<Hashed, Memory>
         ensures { IfOk result (λ n. n ≡ valid) }
     {
-        let hashes = hash_own(alloc, valid.get().sample.as_slice())?;
+        let hashes = hash_samples(alloc, valid.get().sample.as_slice(), &OwnIds)?;
         Ok(Hashed { valid, hashes })
     }
 

@@ -1,18 +1,16 @@
 //! The hashes of samples.
-ghost use Rattle.std.specs.Prelude.{◌≡◌, ◌+◌, ◌*◌, ◌<◌, ◌≤◌, ℕ, [], nat_abs, IfOk, OnOk, length};
-ghost use Rattle.std.specs.List.{list_all, sum_by};
+ghost use Rattle.std.specs.Prelude.{◌≡◌, ◌+◌, ◌++◌, ℕ, List as Seq, [], nat_abs, IfOk, OnOk};
+ghost use Rattle.std.specs.List.{sum_by};
 ghost use Rattle.pp_base.specs.Capped.{capped};
-ghost use Rattle.pp_steal.specs.declared.piece.TheConstants.{PIECE};
 ghost use Rattle.pp_model.specs.declared.profile.Sample.{Sample as SampleValue};
-ghost use Rattle.pp_share.specs.Renumbered.{new_ids};
-ghost use Rattle.pp_share.specs.Hashes.{AreHashesBy, AreHashes, AreOwnHashes, AddsHash, JoinsHashes};
+ghost use Rattle.pp_share.specs.Hashes.{AreHashesBy, AddsHash};
 
 use crate::hashing::{hash_by, sample_hash};
 use crate::renumbering::Renumbering;
 use crate::samples::has_values;
-use pp_base::{List, Memory, OpenGate};
+use pp_base::Memory;
 use pp_model::Sample;
-use pp_steal::{Deal, Job, PIECE, Resources, piece_of, pieces_of, run_pieces};
+use pp_steal::{Piecewise, Resources, run_piecewise};
 use std::alloc::Global;
 use std::thread::Threads;
 
@@ -51,6 +49,17 @@ impl Hashes {
         self.together = add_values(self.together, sample.value.as_slice());
         Ok(())
     }
+
+    /// These hashes, and behind them those of more samples.
+    pub fn append(mut self, more: Hashes) -> Result<Hashes, Memory>
+        ensures { (hash : SampleValue → ℕ) (front back : Seq SampleValue) → AreHashesBy hash front self
+            → AreHashesBy hash back more → IfOk result (AreHashesBy hash (front ++ back)) }
+    {
+        self.list.extend_from_slice(&more.list)?;
+        self.have_values &= more.have_values;
+        self.together = self.together.saturating_add(more.together);
+        Ok(self)
+    }
 }
 
 // The total with the absolute values.
@@ -64,119 +73,92 @@ fn add_values(total: u64, values: &[i64]) -> u64
     sum
 }
 
-/// The hashes of the samples by the ids that they have.
-pub fn hash_own(alloc: Global, samples: &[Sample]) -> Result<Hashes, Memory>
-    ensures { IfOk result (AreOwnHashes samples.now) }
+/// What a sample is hashed by.
+pub trait SampleHash {
+    /// The hash of the sample.
+    ghost hash: { Self → SampleValue → ℕ };
+
+    /// The hash of the sample, which stays as it is.
+    fn hash(&self, sample: &Sample) -> u64
+        ensures { result ≡ hash self.now sample.now };
+}
+
+/// The ids that a sample has.
+#[derive(Clone, Copy, Debug)]
+pub struct OwnIds;
+
+impl SampleHash for OwnIds {
+    ghost use Rattle.pp_share.specs.SampleKeys.{sample_hash};
+
+    ghost hash = { λ _. sample_hash };
+
+    fn hash(&self, sample: &Sample) -> u64 {
+        sample_hash(sample)
+    }
+}
+
+impl SampleHash for Renumbering {
+    ghost use Rattle.pp_share.specs.Hashes.{hash_by};
+    ghost use Rattle.pp_share.specs.Renumbered.{new_ids};
+
+    ghost hash = { λ by. hash_by (new_ids by) };
+
+    fn hash(&self, sample: &Sample) -> u64 {
+        hash_by(self, sample)
+    }
+}
+
+/// The hashes of the samples, by the ids that they have or, with a renumbering, by those that they get.
+pub fn hash_samples<H: SampleHash>(
+    alloc: Global,
+    samples: &[Sample],
+    by: &H,
+) -> Result<Hashes, Memory>
+    ensures { IfOk result (AreHashesBy (H.hash by.now) samples.now) }
 {
     let mut hashes = Hashes::with_room(alloc, samples.len())?;
     for sample in samples {
-        hashes.add(sample_hash(sample), sample)?;
+        hashes.add(by.hash(sample), sample)?;
     }
     Ok(hashes)
 }
 
-/// The hashes of the samples once they have their new ids. No sample is changed.
-pub fn hash_samples(alloc: Global, samples: &[Sample], by: &Renumbering) -> Result<Hashes, Memory>
-    ensures { IfOk result (AreHashes (new_ids by.now) samples.now) }
-{
-    let mut hashes = Hashes::with_room(alloc, samples.len())?;
-    for sample in samples {
-        hashes.add(hash_by(by, sample), sample)?;
-    }
-    Ok(hashes)
-}
-
-/// The hashes that `hash_samples` gives, made in pieces of 1,024 on `with.workers` lanes. They do not tell how many there
-/// were.
-pub fn hash_samples_on<R: Threads + Sync>(
+/// The hashes that `hash_samples` gives, made in pieces on `with.workers` lanes. They do not tell how many there were.
+pub fn hash_samples_on<R: Threads + Sync, H: SampleHash + Sync>(
     with: &Resources<'_, R>,
     samples: &[Sample],
-    by: &Renumbering,
+    by: &H,
 ) -> Result<Hashes, Memory>
-    ensures { IfOk result (AreHashes (new_ids by.now) samples.now) }
+    ensures { IfOk result (AreHashesBy (H.hash by.now) samples.now) }
 {
-    let len = samples.len();
-    if with.workers == 1 || len <= PIECE || len >= 1 << 32 {
-        return hash_samples(with.alloc, samples, by);
-    }
-    let job = Pieces {
-        alloc: with.alloc,
-        samples,
-        by,
-        pieces: pieces_of(len),
-    };
-    let lanes = with.workers.min(job.pieces.max(1));
-    let parts = run_pieces(
-        with.rt,
-        with.alloc,
-        &job,
-        job.pieces,
-        lanes,
-        Deal::Round,
-        &OpenGate,
-    )?;
-    join_hashes(with.alloc, len, parts.as_slice())
+    let alloc = with.alloc;
+    run_piecewise(with, &Hashing { alloc, by }, samples)
 }
 
-// The samples as a job in pieces.
+// Hashing, which can be done for any part of the samples.
 #[derive(Drop)]
-struct Pieces<'a> {
+struct Hashing<'a, H> {
     // Where the hashes are allocated.
     alloc: Global,
-    samples: &'a [Sample],
-    by: &'a Renumbering,
-    // How many pieces the samples make.
-    pieces: u32,
-    ghost within: { PIECE * pieces < length samples.now + PIECE },
+    by: &'a H,
 }
 
-impl Job for Pieces<'_> {
+impl<H: SampleHash + Sync> Piecewise<Sample> for Hashing<'_, H> {
     type Out = Hashes;
 
-    ghost use Rattle.pp_steal.specs.Pieces.{piece_of};
-    ghost use Rattle.pp_share.specs.Renumbered.{new_ids};
-    ghost use Rattle.pp_share.specs.Hashes.{AreHashes};
+    ghost use Rattle.pp_share.specs.Hashes.{AreHashesBy};
 
-    ghost pieces = { λ job. job.pieces };
+    ghost right = { λ work samples hashes. AreHashesBy (H.hash work.by.now) samples hashes };
 
-    ghost right = { λ job piece part. AreHashes (new_ids job.by.now) (piece_of job.samples.now piece) part };
-
-    fn run(&self, piece: u32) -> Result<Hashes, Memory> {
-        hash_samples(self.alloc, piece_of(self.samples, piece), self.by)
+    fn begin(&self, room: usize) -> Result<Hashes, Memory> {
+        Hashes::with_room(self.alloc, room)
     }
-}
 
-/// The hashes of all parts, `len` of them, as one list.
-pub fn join_hashes(alloc: Global, len: usize, parts: &[Hashes]) -> Result<Hashes, Memory>
-    ensures { IfOk result (JoinsHashes parts.now) }
-{
-    let have_values = all_have_values(parts);
-    let together = sum_parts(parts);
-    let mut list = Vec::with_capacity(alloc, len)?;
-    for part in parts {
-        list.extend_from_slice(&part.list)?;
+    fn run(&self, samples: &[Sample]) -> Result<Hashes, Memory> {
+        hash_samples(self.alloc, samples, self.by)
     }
-    Ok(Hashes {
-        list,
-        have_values,
-        together,
-    })
-}
 
-// What the values of all parts add up to.
-fn sum_parts(parts: &[Hashes]) -> u64
-    ensures { result ≡ capped (sum_by (λ part. part.together) parts.now) }
-{
-    let mut sum = 0u64;
-    for part in parts {
-        sum = sum.saturating_add(part.together);
+    fn append(&self, front: Hashes, back: Hashes) -> Result<Hashes, Memory> {
+        front.append(back)
     }
-    sum
-}
-
-// Whether all parts have values.
-fn all_have_values(parts: &[Hashes]) -> bool
-    ensures { result ≡ list_all (λ part. part.have_values) parts.now }
-{
-    parts.iter().all(|part| part.have_values)
 }

@@ -12,12 +12,12 @@ pub returns-in_err-refuse : goal.returns-in_err-refuse
 returns-in_err-refuse c =
     let p = c.args.p.now in
     raised_last (location_faults p ++ reference_faults p) _ c.in_err-refuse.field-0.0 c.from_residual.ensures.1
-    (tenth_left p (c.requires.sound c.if-sound.true) ∙ ap (rule_fault 10 Locations) (sym c.location_fault.ensures.fault) ∙ c.in_err-refuse.ensures)
+    (tenth_left p (c.requires.sound c.in-Sound.is) ∙ ap (rule_fault 10 Locations) (sym c.location_fault.ensures.fault) ∙ c.in_err-refuse.ensures)
 
 -- rule 10 alone is left, and holds
-pub returns-then-sound : goal.returns-then-sound
-returns-then-sound c =
-    tenth_left c.args.p.now (c.requires.sound c.if-sound.true) ∙ ap (rule_fault 10 Locations) (sym c.location_fault.ensures.fault) ∙ c.in_ok-refuse.ensures
+pub returns-in-Sound : goal.returns-in-Sound
+returns-in-Sound c =
+    tenth_left c.args.p.now (c.requires.sound c.in-Sound.is) ∙ ap (rule_fault 10 Locations) (sym c.location_fault.ensures.fault) ∙ c.in_ok-refuse.ensures
 
 pub returns-in_err-locations : goal.returns-in_err-locations
 returns-in_err-locations c =

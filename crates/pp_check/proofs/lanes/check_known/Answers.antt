@@ -5,7 +5,7 @@ use Rattle.pp_check.proofs.lanes.check_known.Goals as goal
 
 -- samples that are sound were asked
 pub try_rules-requires-clause-sound : goal.try_rules-requires-clause-sound
-try_rules-requires-clause-sound g c = λ holds. are_sound c.args.p c.requires.ids (sym c.in_ok-asked.ensures.sound ∙ holds)
+try_rules-requires-clause-sound g c = λ is. are_sound c.args.p c.requires.ids (sym c.in_ok-asked.ensures.sound ∙ c.known.ensures is)
 
 -- a profile without a fault may be claimed valid
 pub claim-requires : goal.claim-requires
