@@ -6,6 +6,7 @@ use pp_base::Text;
 use pp_transcripts::Session;
 
 const PROMPT: &[u8] = b"(pprof) ";
+
 const REFUSED: &[u8] = b": pattern refused\n";
 
 /// Whether the run came to a shell.
@@ -47,9 +48,15 @@ fn unwritten_difference<'a>(session: &'a Session, left: &Left) -> Option<Differe
 
 // Whether the file holds what it held before, and all others hold what they owe.
 fn is_alone_unwritten(session: &Session, left: &Left, path: &Text) -> bool {
-    let paths = session.paths.as_slice().iter();
     is_same(left.files.content(path), session.before.content(path))
-        && paths.filter(|path| is_different(session, left, path)).count() == 1
+        && different_files(session, left) == 1
+}
+
+fn different_files(session: &Session, left: &Left) -> usize {
+    let paths = session.paths.as_slice().iter();
+    paths
+        .filter(|path| is_different(session, left, path))
+        .count()
 }
 
 fn has_as_many_lines(session: &Session, left: &Left) -> bool {
@@ -133,7 +140,5 @@ fn is_report(bytes: Option<&[u8]>) -> bool {
 }
 
 fn has_prompt(bytes: &[u8]) -> bool {
-    bytes
-        .windows(PROMPT.len())
-        .any(|window| window == PROMPT)
+    bytes.windows(PROMPT.len()).any(|window| window == PROMPT)
 }
