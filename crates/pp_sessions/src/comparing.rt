@@ -1,5 +1,6 @@
 //! What a run left against what the session owes.
 
+use crate::refusals::{is_in_shell, is_refused_last, refusal_difference};
 use crate::stage::Left;
 use pp_base::Text;
 use pp_transcripts::{Failure, Fault, Object, Session, Trial};
@@ -30,19 +31,26 @@ pub fn session_difference<'a>(session: &'a Session, left: &Left) -> Option<Diffe
     } else if left.others > 0 {
         Some(Difference::OtherFile)
     } else {
-        different_file(session, left)
+        Some(Difference::File(different_file(session, left)?))
     }
 }
 
-fn different_file<'a>(session: &'a Session, left: &Left) -> Option<Difference<'a>> {
-    let path = session.paths.as_slice().iter().find(|path| !is_same(
-        left.files.content(path),
-        session.after.content(path),
-    ))?;
-    Some(Difference::File(path))
+/// The path of the first file that does not hold what it owes.
+pub fn different_file<'a>(session: &'a Session, left: &Left) -> Option<&'a Text> {
+    session
+        .paths
+        .as_slice()
+        .iter()
+        .find(|path| is_different(session, left, path))
 }
 
-fn is_same(one: Option<&Text>, other: Option<&Text>) -> bool {
+/// Whether the file of the path does not hold what it owes.
+pub fn is_different(session: &Session, left: &Left, path: &Text) -> bool {
+    !is_same(left.files.content(path), session.after.content(path))
+}
+
+/// Whether both are the same, or both are missing.
+pub fn is_same(one: Option<&Text>, other: Option<&Text>) -> bool {
     match (one, other) {
         (Some(one), Some(other)) => one.as_slice() == other.as_slice(),
         (None, None) => true,
@@ -76,8 +84,8 @@ fn failure_difference<'a>(
     left: &Left,
     fault: Fault,
 ) -> Option<Difference<'a>> {
-    let is_told = if fault.failure == Failure::Refusal && left.out.calm.bytes().len() > 0 {
-        refusal_in_shell(session, left)
+    let is_told = if fault.failure == Failure::Refusal && is_in_shell(left) {
+        refusal_difference(session, left)
     } else {
         stop(session, left, fault)
     };
@@ -109,61 +117,12 @@ fn stop<'a>(session: &'a Session, left: &Left, fault: Fault) -> Option<Differenc
 // Whether standard error has a front of what is owed, and then the line of the failure.
 fn is_told_last(owed: &[u8], left: &[u8], fault: Fault) -> bool {
     if fault.failure == Failure::Refusal {
-        return is_refused_once(owed, left, true);
+        return is_refused_last(owed, left);
     }
     match left.strip_suffix(fault.line()) {
         Some(front) => owed.starts_with(front),
         None => false,
     }
-}
-
-// A refusal in the shell: a report is left out, its refusal is told, and the session goes on.
-fn refusal_in_shell<'a>(session: &'a Session, left: &Left) -> Option<Difference<'a>> {
-    let owed = &session.transcript.owed;
-    if !is_refused_once(owed.err.as_slice(), left.err.calm.bytes().as_slice(), false) {
-        Some(Difference::Err)
-    } else if !leaves_out(owed.out.as_slice(), left.out.calm.bytes().as_slice()) {
-        Some(Difference::Out)
-    } else if left.status != owed.status {
-        Some(Difference::Status)
-    } else {
-        None
-    }
-}
-
-const REFUSED: &[u8] = b": pattern refused\n";
-
-// Whether a line of what is left tells of a refusal, what stands before it is a front of what is owed, and what stands
-// behind it is an end of that. The last line has nothing behind it.
-fn is_refused_once(owed: &[u8], left: &[u8], is_last: bool) -> bool {
-    let mut front: usize = 0;
-    for line in left.split_inclusive(|byte| *byte == b'\n') {
-        let behind = front.saturating_add(line.len());
-        let before = left.get(..front).unwrap_or(left);
-        let after = left.get(behind..).unwrap_or(left);
-        if line.starts_with(b"pprof: ")
-            && line.ends_with(REFUSED)
-            && owed.starts_with(before)
-            && owed.ends_with(after)
-            && (!is_last || after.is_empty())
-        {
-            return true;
-        }
-        front = behind;
-    }
-    false
-}
-
-// Whether what is left is what is owed but for one stretch.
-fn leaves_out(owed: &[u8], left: &[u8]) -> bool {
-    let front = owed.iter().zip(left.iter()).take_while(|(a, b)| *a == *b);
-    let back = owed
-        .iter()
-        .rev()
-        .zip(left.iter().rev())
-        .take_while(|(a, b)| *a == *b);
-    let alike = front.count();
-    left.len() <= owed.len() && alike.saturating_add(back.count()) >= left.len()
 }
 
 // A file that holds neither what it held before nor a front of what it owes.

@@ -10,6 +10,7 @@ mod comparing;
 mod machine;
 mod objects;
 mod pipes;
+mod refusals;
 mod report;
 mod runs;
 mod stage;
