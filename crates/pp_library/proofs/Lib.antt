@@ -1,0 +1,6 @@
+mod AskingLemmas
+mod AskedLemmas
+mod OneFileLemmas
+mod OfOneLemmas
+mod ReportLemmas
+mod AnswerLemmas
