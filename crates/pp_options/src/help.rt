@@ -45,8 +45,8 @@ The last of a repeated option counts.
 
 /// What stands above the lines on the shell.
 pub const SHELL_HEADING: &[u8] =
-    b"The shell; its commands and variables have no dash. It has folded, table and
-compare too:
+    b"The shell; its commands and variables have no dash. It has folded, table,
+compare, changes and account too:
 ";
 
 /// The two lines that tell what the shell takes.
