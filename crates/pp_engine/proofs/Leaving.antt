@@ -1,7 +1,7 @@
 -- What a run leaves of the profile that it loads.
-use Rattle.std.proofs.Common.{◌≡◌, inl, inr, ℕ, true, false, List, [], ◌∷◌, ◌++◌, Option, Some, None, refl, sym, ap, ◌∙◌}
+use Rattle.std.proofs.Common.{◌≡◌, inl, inr, ℕ, true, false, List, [], ◌∷◌, ◌++◌, Option, Some, None, refl, sym, ap, subst, ◌∙◌}
 use Rattle.std.specs.Prelude.{Bool, Result, Ok, Err, IfOk, IfSome, is_some}
-use Rattle.std.specs.Result.{result_ok, is_err}
+use Rattle.std.specs.Result.{result_ok}
 use Rattle.std.proofs.lemmas.Bool.{false≢true}
 use Rattle.pp_base.specs.FileMap.{FileMap, content_at}
 use Rattle.pp_base.specs.Judges.{Answer}
@@ -17,16 +17,22 @@ use Rattle.pp_desk.proofs.Closing.{given_is}
 use Rattle.pp_desk.proofs.Coursing.{whole_course}
 use Rattle.pp_desk.proofs.Quiet.{Only, answers_alone, at_rest}
 use Rattle.pp_model.specs.declared.loaded.Loaded.{Loaded}
+use Rattle.pp_model.specs.Sizes.{IsCountable}
+use Rattle.pp_merge.specs.Merge.{merged}
 use Rattle.pp_load.specs.declared.refusal.LoadRefusal.{LoadRefusal}
 use Rattle.pp_load.specs.Load.{load}
-use Rattle.pp_options.specs.declared.help.Topic.{Topic}
 use Rattle.pp_options.specs.declared.plan.Plan.{Plan}
+use Rattle.pp_options.specs.declared.usage.UsageFault.{UsageFault}
+use Rattle.pp_options.specs.Plans.{request_of}
+use Rattle.pp_options.specs.Words as options
+use Rattle.pp_pattern.specs.Load.{load_verdicts}
 use Rattle.pp_pattern.specs.Report.{Finds}
-use Rattle.pp_engine.specs.declared.ending.Cause.{Cause}
-use Rattle.pp_engine.specs.Endings.{cause_of, cause_of_stop, fault_line}
-use Rattle.pp_engine.specs.Leaves.{IsLoaded, LeavesLoaded, Leaves}
+use Rattle.pp_engine.specs.Endings.{cause_of_stop, fault_line}
+use Rattle.pp_engine.specs.Leaves.{IsLoaded, Leaves}
+use Rattle.pp_engine.specs.Words.{plan_in, planned}
 use Rattle.pp_engine.proofs.Courses.{only_looks}
 use Rattle.pp_engine.proofs.LoadQuiet.{load_looks}
+use Rattle.pp_engine.proofs.PlanLemmas.{planned_is}
 
 -- ---- answers are only added
 
@@ -41,13 +47,13 @@ grows_grows : (a b c : Told) → Grows a b → Grows b c → Grows a c
 grows_grows a b c g h = (g.0 ++ h.0, h.1 ∙ ap (λ (o : Option (List Answer)). extended o h.0) g.1 ∙ extended-extended a.answers g.0 h.0)
 
 grows_after : (a : Told) (step : Step) (reply : Reply step) → Grows a (after a step reply)
-grows_after a (WriteOut bytes) reply = same_grows a _ refl
-grows_after a (WriteErr bytes) reply = same_grows a _ refl
-grows_after a (ReadFile path limit) reply = same_grows a _ refl
-grows_after a (WriteFile path bytes) true = same_grows a _ refl
-grows_after a (WriteFile path bytes) false = same_grows a _ refl
+grows_after a (WriteOut bytes) reply = same_grows a (after a (WriteOut bytes) reply) refl
+grows_after a (WriteErr bytes) reply = same_grows a (after a (WriteErr bytes) reply) refl
+grows_after a (ReadFile path limit) reply = same_grows a (after a (ReadFile path limit) reply) refl
+grows_after a (WriteFile path bytes) true = same_grows a (after a (WriteFile path bytes) true) refl
+grows_after a (WriteFile path bytes) false = same_grows a a refl
 grows_after a (Ask pattern) reply = ((pattern, reply) ∷ [], refl)
-grows_after a NextLine reply = same_grows a _ refl
+grows_after a NextLine reply = same_grows a (after a NextLine reply) refl
 
 -- a step that was stopped asked nothing
 stopped_alone : (a b : Told) (step : Step) (s : Stop) → InPart a b step s → b.answers ≡ a.answers
@@ -112,10 +118,41 @@ leaves_loaded finds plan a b c loading rest result stopped there left load_went 
       loading = loading;
       told = loading_told finds plan a.told b.told loading (parts load_went).ways c.told.answers later.0 later.1 a.told.files a.told.locked a.told.lines a.told.answers c.told.answers refl refl refl refl refl;
       sound = sound;
-      left = is;
+      is = is;
     })
 
 -- what is known of a loaded profile, together
 pub is_loaded : (finds : Finds) (loading : Result Loaded LoadRefusal) → IfOk loading (λ l. IsCountable l.profile) → IfOk loading (λ l. merged l.profile [] ≡ l.profile) → IfOk loading (λ l. (l.drop, l.keep) ≡ load_verdicts finds l.profile) → IfOk loading (IsLoaded finds)
 is_loaded finds (Ok l) countable alone found = record { countable = countable; alone = alone; found = found }
 is_loaded finds (Err refusal) countable alone found = tt
+
+-- a session that came to its end left the profile, also where it is called stopped
+pub leaves_whole : (finds : Finds) (plan : Option Plan) (old : Told) (answers : Option (List Answer)) (stopped : Bool) (there left : Option Loaded) → Leaves finds plan old answers false there left → Leaves finds plan old answers stopped there left
+leaves_whole finds None old answers stopped there left is = is
+leaves_whole finds (Some plan) old answers stopped there left (inl is) = inl is
+leaves_whole finds (Some plan) old answers stopped there left (inr is) = absurd (false≢true is.0)
+
+-- a cause that has a line stopped it
+line_stops : (s : Stop) → is_some (fault_line (cause_of_stop s)) ≡ true
+line_stops stops.File = refl
+line_stops stops.Input = refl
+line_stops stops.Out = refl
+line_stops stops.Err = refl
+line_stops stops.Memory = refl
+
+-- and the line of a stop that is told changes no profile
+pub leaves_stopped : (finds : Finds) (plan : Option Plan) (old : Told) (answers more : Option (List Answer)) (s : Stop) (there left : Option Loaded) → more ≡ answers → Leaves finds plan old answers true there left
+    → Leaves finds plan old more (is_some (fault_line (cause_of_stop s))) there left
+leaves_stopped finds plan old answers more s there left same is = rw (same, line_stops s) is
+
+-- words that are a plan leave what it leaves
+pub leaves_planned : (finds : Finds) (words : List (List ℕ)) (plan : Plan) (old : Told) (answers : Option (List Answer)) (stopped : Bool) (there left : Option Loaded) → options.words words ≡ Ok (request_of plan)
+    → Leaves finds (Some plan) old answers stopped there left → Leaves finds (plan_in None (planned words)) old answers stopped there left
+leaves_planned finds words plan old answers stopped there left is own =
+    subst (λ said. Leaves finds (plan_in None said) old answers stopped there left) (sym (planned_is words (Ok plan) is)) own
+
+-- and wrong words leave what stood there
+pub leaves_unplanned : (finds : Finds) (words : List (List ℕ)) (fault : UsageFault) (old : Told) (answers : Option (List Answer)) (stopped : Bool) (there : Option Loaded) → options.words words ≡ Err fault
+    → Leaves finds (plan_in None (planned words)) old answers stopped there there
+leaves_unplanned finds words fault old answers stopped there is =
+    subst (λ said. Leaves finds (plan_in None said) old answers stopped there there) (sym (planned_is words (Err fault) is)) refl

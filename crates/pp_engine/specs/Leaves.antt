@@ -27,7 +27,7 @@ pub record LeavesLoaded (finds : Finds) (plan : Plan) (old : Told) (answers : Op
   pub told : IfSome (told_course (load finds plan) old.files old.locked old.lines old.answers answers)
       (λ t. loading ≡ t.course.value)
   pub sound : IfOk loading (IsLoaded finds)
-  pub left : left ≡ result_ok loading
+  pub is : left ≡ result_ok loading
 
 -- What a run leaves: the profile of its plan, or what stood there if it was stopped first. Words without a plan leave
 -- what stood there.
