@@ -6,7 +6,7 @@ use Rattle.pp_base.specs.FileMap.{FileMap, content_at}
 use Rattle.pp_base.specs.Judges.{Answer}
 use Rattle.pp_desk.specs.declared.input_line.InputLine.{InputLine}
 use Rattle.pp_desk.specs.Course.{Course, course, does, asks}
-use Rattle.pp_desk.specs.Effects.{Effect, ToOut, ToErr, ToFile, FromFile, outs, errs, files_after}
+use Rattle.pp_desk.specs.Effects.{Effect, ToOut, ToErr, FromFile, outs, errs, files_after}
 use Rattle.pp_desk.specs.Script.{Script, Give, Make, Step, WriteOut, WriteErr, ReadFile, WriteFile, Ask, NextLine, ◌>>=◌}
 use Rattle.pp_desk.specs.Went.{content_within}
 use Rattle.pp_desk.proofs.Quiet.{Only}

@@ -1,12 +1,12 @@
 -- The shell ends by a line, and never since its turns have run out.
 use Rattle.std.proofs.Common.{◌≡◌, ◌≤◌, ◌+◌, ℕ, suc, zero, Bool, true, false, List, [], ◌∷◌, length, refl, sym, ap, ◌∙◌, arith}
-use Rattle.std.specs.Prelude.{Option, Some, None, Result, Ok, Err, IfSome, IsTrue, option_map}
+use Rattle.std.specs.Prelude.{Option, Some, None, Result, Ok, Err, IsTrue, option_map}
 use Rattle.std.proofs.lemmas.Option.{MatchOption-at_some}
 use Rattle.std.proofs.lemmas.Bool.{false≢true}
 use Rattle.pp_desk.specs.declared.input_line.InputLine.{InputLine}
 use Rattle.pp_desk.specs.declared.input_line.InputLine.TheVariants as lines
 use Rattle.pp_desk.specs.Lines.{next_of, after_next, lines_of}
-use Rattle.pp_desk.specs.Script.{Script, Give, Make, Step, WriteOut, WriteErr, Reply, ◌>>=◌}
+use Rattle.pp_desk.specs.Script.{Script, Give, Make, ◌>>=◌}
 use Rattle.pp_desk.specs.Went.{Goes, Ways, after}
 use Rattle.pp_desk.specs.World.{Told}
 use Rattle.pp_desk.proofs.Quiet.{Only, only_then, reads_no_line, input_alone}

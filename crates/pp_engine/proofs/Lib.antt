@@ -13,6 +13,8 @@ pub mod Courses
 pub mod LineLemmas
 pub mod Lasting
 pub mod ValidEnds
+pub mod Fronts
+pub mod Leaving
 pub mod Runs
 pub mod AlikeLemmas
 pub mod ReportSessions

@@ -1,6 +1,5 @@
 -- What loading does: it reads files and asks for patterns, and nothing else.
 use Rattle.std.proofs.Common.{◌≡◌, ℕ, Bool, true, List, [], ◌∷◌, length, refl}
-use Rattle.std.specs.Prelude.{Result}
 use Rattle.pp_desk.specs.Asking.{Asking}
 use Rattle.pp_desk.specs.Script.{Step, Ask, ReadFile, ◌>>=◌}
 use Rattle.pp_desk.proofs.Quiet.{Only, only_then, reads_no_line}

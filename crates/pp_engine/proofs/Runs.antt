@@ -1,6 +1,6 @@
 -- From how the session went to how the run did.
 use Rattle.std.proofs.Common.{◌≡◌, ◌⊎◌, inl, inr, ℕ, true, false, List, [], ◌∷◌, Option, Some, None, refl, sym, ap, subst, ◌∙◌, arith}
-use Rattle.std.specs.Prelude.{Result, Ok, Err, IfOk, IfErr, IfSome, IfNone, IsNone, option_map}
+use Rattle.std.specs.Prelude.{Result, Ok, Err, IfOk, IfErr, IfSome, IfNone, IsNone, is_some, option_map}
 use Rattle.std.proofs.lemmas.Bool.{false≢true}
 use Rattle.std.proofs.lemmas.List.{append-nil}
 use Rattle.std.proofs.lemmas.Option.{MatchOption-at_none}
@@ -9,6 +9,7 @@ use Rattle.pp_base.specs.FileMap.{FileMap}
 use Rattle.pp_base.specs.Front.{IsFront}
 use Rattle.pp_base.specs.Judges.{Answer}
 use Rattle.pp_base.specs.Told.{extended, extended-nil}
+use Rattle.pp_desk.specs.declared.line_reader.TheConstants.{INPUT_LIMIT}
 use Rattle.pp_desk.specs.declared.stop.Stop.{Stop}
 use Rattle.pp_desk.specs.declared.stop.Stop.TheVariants as stops
 use Rattle.pp_desk.specs.Closes.{Closes}
@@ -25,11 +26,12 @@ use Rattle.pp_desk.proofs.Quiet.{input_of, input_alone}
 use Rattle.pp_engine.specs.declared.ending.Cause.{Cause}
 use Rattle.pp_engine.specs.declared.ending.Cause.TheVariants as causes
 use Rattle.pp_engine.specs.Endings.{cause_of, cause_of_stop, fault_line, stop_line, end_line}
-use Rattle.pp_engine.specs.Run.{Ran, TakesFront, told_at}
+use Rattle.pp_engine.specs.Leaves.{Leaves}
+use Rattle.pp_engine.specs.Run.{Ran, TakesFront, told_at, Moment, Runs, told_first}
 use Rattle.pp_pattern.specs.Report.{Finds}
 use Rattle.pp_engine.specs.Session.{session, told_run, RanWhole, RanFront}
 use Rattle.pp_engine.specs.Validity.{is_valid}
-use Rattle.pp_engine.specs.Words.{Ends, starts_shell}
+use Rattle.pp_engine.specs.Words.{Ends, performed, starts_shell}
 use Rattle.pp_engine.proofs.Gives.{goes_gives}
 use Rattle.pp_engine.proofs.SessionEnds.{session_gives, no_fault_ends}
 use Rattle.pp_engine.proofs.Quiet.{session_reads_no_line}
@@ -280,3 +282,26 @@ module _ (finds : Finds) (words : List (List ℕ)) (o : Outside) (locked : Optio
 
     pub ends_by_words : IsNone (fault_line cause) → Ends words cause
     ends_by_words none = ends_of new r.mid r.kept r.result cause r.ways r.ending none
+
+-- All that is known of a run follows from how it ended, what it took of the input and what it left.
+pub runs : (finds : Finds) (words : List (List ℕ)) (old new : Moment) (cause : Cause)
+    → Ran (session finds words) (told_first old) new.outside new.answers old.left new.left old.faults new.faults cause
+    → (starts_shell words ≡ false → new.left ≡ old.left) → TakesFront INPUT_LIMIT old.left new.left
+    → Leaves finds (performed words) (told_first old) new.answers (is_some (fault_line cause)) old.profile new.profile → Runs finds words old new cause
+runs finds words old new cause ran unread taken left =
+    let o : Outside = old.outside in
+    record {
+      whole = went_whole finds words o old.locked old.left old.answers new.answers ran;
+      front = went_front finds words o old.locked old.left old.answers new.answers ran;
+      ending = ran;
+      file_fault = blames_file finds words o old.locked old.left old.answers new.answers ran;
+      input_fault = blames_input finds words o old.locked old.left old.answers new.answers ran;
+      out_fault = blames_out finds words o old.locked old.left old.answers new.answers ran;
+      err_fault = blames_err finds words o old.locked old.left old.answers new.answers ran;
+      complete = λ none. completes finds words o old.locked old.left old.answers new.answers ran none.file none.input none.out none.err;
+      valid = λ valid none. goes_valid finds words o old.locked old.left old.answers new.answers ran valid none.file none.input none.out none.err;
+      words_end = ends_by_words finds words o old.locked old.left old.answers new.answers ran;
+      unread = unread;
+      taken = taken;
+      profile = left;
+    }

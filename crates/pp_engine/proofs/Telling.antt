@@ -1,5 +1,5 @@
 -- What the session tells of a report is what the report comes to.
-use Rattle.std.proofs.Common.{◌≡◌, ◌++◌, ℕ, List, [], ◌∷◌, length, drop, refl, sym, ap, ◌∙◌}
+use Rattle.std.proofs.Common.{◌++◌, ℕ, List, length, drop, refl, sym, ap, ◌∙◌}
 use Rattle.std.specs.Prelude.{Option, Result, Ok, Err}
 use Rattle.std.proofs.lemmas.List.{append-nil}
 use Rattle.std.proofs.lemmas.List.Concat.{flat_map-append}
@@ -7,7 +7,7 @@ use Rattle.pp_base.specs.FileMap.{FileMap}
 use Rattle.pp_base.specs.Judges.{Answer}
 use Rattle.pp_desk.specs.declared.input_line.InputLine.{InputLine}
 use Rattle.pp_desk.specs.Course.{Course, course}
-use Rattle.pp_desk.specs.Effects.{read_of, reads_of, errs}
+use Rattle.pp_desk.specs.Effects.{read_of, reads_of}
 use Rattle.pp_desk.specs.Script.{Give, ◌>>=◌}
 use Rattle.pp_model.specs.declared.config.Config.{Config}
 use Rattle.pp_model.specs.declared.loaded.Loaded.{Loaded}
@@ -17,7 +17,7 @@ use Rattle.pp_report.specs.declared.refusal.ReportRefusal.{ReportRefusal}
 use Rattle.pp_report.specs.Prepared.{Settled, prepare}
 use Rattle.pp_report.specs.Reports.{Reported, reported_with, finish, report_settled, report_script}
 use Rattle.pp_engine.specs.Reporting.{Tells, note_and_finish, noted_report}
-use Rattle.pp_engine.proofs.Courses.{AreReads, joined, rest_of, course_both, only_reads, outs_none, errs_none, files_same, outs_more, errs_more, files_more}
+use Rattle.pp_engine.proofs.Courses.{AreReads, joined, course_both, only_reads, outs_none, errs_none, files_same, outs_more, errs_more, files_more}
 use Rattle.pp_engine.proofs.ReportQuiet.{prepare_looks, prepare_writes_nothing, finish_looks, finish_writes_nothing}
 use Rattle.pp_pattern.specs.Report.{Finds}
 

@@ -10,4 +10,5 @@ pub mod Session
 pub mod Validity
 pub mod Alike
 pub mod SavedFiles
+pub mod Leaves
 pub mod Run

@@ -1,7 +1,7 @@
 //! The session: all that is done for the words after the program's name, by one report or in the shell, and how it
 //! ends.
 //!
-//! Begin with `running` (`run`), the program's one call. `session` reads the words, loads, and goes on with one report
+//! Begin with `running` (`run`): `program` makes it the program's one call. `session` reads the words, loads, and goes on with one report
 //! (`reporting`) or the shell (`shell`). `ending` has the causes of an end and `message` the lines that tell them. The
 //! definition that `run` is proved against is `specs/Session.antt`. `laws` holds of any words and files.
 #![tactic(auto)]
@@ -9,6 +9,7 @@
 mod ending;
 mod laws;
 mod message;
+mod program;
 mod reporting;
 mod running;
 mod session;
@@ -21,6 +22,7 @@ pub use laws::{
 };
 pub use pp_load::{LoadRefusal, gen_profile, load};
 pub use pp_report::{Host, ReportRefusal, generate};
+pub use program::run_program;
 pub use reporting::reports_are_told;
 pub use running::run;
 pub use shell::turns_suffice;

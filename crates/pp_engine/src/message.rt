@@ -1,9 +1,11 @@
 // The lines that the session itself tells on standard error.
 ghost use Rattle.std.specs.Prelude.{◌≡◌, ◌++◌, IfOk};
+ghost use Rattle.pp_engine.specs.Endings.{stop_line};
 ghost use Rattle.pp_engine.specs.Messages.{usage_text, usage_line, line_fault_line, locked_line, input_too_long_line};
 
 use itoa::Buffer;
 use pp_base::{Memory, Text};
+use pp_desk::Stop;
 use pp_options::{UsageFault, UsageKind};
 use pp_shell::LineFault;
 use std::alloc::Global;
@@ -83,4 +85,11 @@ pub fn input_too_long_line() -> &'static [u8]
     ensures { result.now ≡ input_too_long_line }
 {
     b"pprof: standard input is longer than 16777216 bytes\n"
+}
+
+/// The line on want of memory.
+pub fn memory_line() -> &'static [u8]
+    ensures { result.now ≡ stop_line Stop.Memory }
+{
+    b"pprof: out of memory\n"
 }

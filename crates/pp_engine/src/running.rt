@@ -1,18 +1,18 @@
 // The top call: what a run does, from its words to its ending.
-ghost use Rattle.std.specs.Prelude.{◌≡◌, ◌⊎◌, true, false, IfNone, IfSome, IsNone};
-ghost use Rattle.pp_base.specs.Fault.{Rose};
+ghost use Rattle.std.specs.Prelude.{◌≡◌, false, is_some};
 ghost use Rattle.pp_desk.specs.Closes.{Closes};
 ghost use Rattle.pp_desk.specs.Course.{outside_of};
 ghost use Rattle.pp_desk.specs.Effects.{outside};
 ghost use Rattle.pp_engine.specs.Endings.{fault_line, status_of, stop_line};
 ghost use Rattle.pp_desk.specs.World.{HasTaken};
 ghost use Rattle.pp_desk.specs.declared.line_reader.TheConstants.{INPUT_LIMIT};
-ghost use Rattle.pp_engine.specs.Run.{Ran, TakesFront, told_at, fault_counts};
-ghost use Rattle.pp_engine.specs.Session.{session, told_run, RanWhole, RanFront};
-ghost use Rattle.pp_engine.specs.Validity.{is_valid};
-ghost use Rattle.pp_engine.specs.Words.{Ends, starts_shell};
+ghost use Rattle.pp_engine.specs.Leaves.{Leaves};
+ghost use Rattle.pp_engine.specs.Run.{Ran, Runs, TakesFront, fault_counts, moment, told_at};
+ghost use Rattle.pp_engine.specs.Session.{session};
+ghost use Rattle.pp_engine.specs.Words.{performed, starts_shell};
 
-use crate::ending::{Cause, Ending, cause_of_stop};
+use crate::ending::{Ending, cause_of_stop};
+use crate::message::memory_line;
 use crate::session::session;
 use pp_base::{Files, Gate, Matcher, Sink, Source, Text};
 use pp_desk::{Desk, Objects, Stop};
@@ -20,22 +20,12 @@ use pp_model::Loaded;
 use pp_report::Host;
 use std::thread::Threads;
 
-// How the program was called.
-#[derive(Drop)]
-struct Invocation<'a, R, G> {
-    with: &'a Host<'a, R, G>,
-    words: &'a [Text],
-    // Where the profile is left.
-    profile: &'a mut Option<Loaded>,
-}
-
 /// The whole program: what it does for the words after its name. It works over what it has of the machine, files,
 /// standard input, both outputs and a matcher of patterns. A report's text is whole before its first byte goes out, and
 /// the line of an ending is written last.
 ///
-/// The profile that was loaded is left in `profile`, `None` where loading refused it, and what
-/// stood there where nothing was loaded. No clause speaks of it. To give up a large one takes longer than to end the
-/// process.
+/// The profile that was loaded is left in `profile`, `None` where loading refused it, and what stood there where nothing
+/// was loaded. To give up a large one takes longer than to end the process.
 pub fn run<R: Threads + Sync, F: Files, I: Source, O: Sink, E: Sink, M: Matcher, G: Gate>(
     with: &Host<'_, R, G>,
     words: &[Text],
@@ -47,23 +37,30 @@ pub fn run<R: Threads + Sync, F: Files, I: Source, O: Sink, E: Sink, M: Matcher,
     profile: &mut Option<Loaded>,
 ) -> Ending
     ensures status { result.status ≡ status_of result.cause }
+    ensures runs { Runs M.finds words.now
+        (moment (outside (O.written out.old) (E.written err.old) (F.content files.old) (F.reads files.old))
+        (F.locked files.old) (I.left input.old) (M.answers matcher.old)
+        (fault_counts (F.faults files.old) (I.faults input.old) (O.faults out.old) (E.faults err.old)) profile.old)
+        (moment (outside (O.written out.new) (E.written err.new) (F.content files.new) (F.reads files.new))
+        (F.locked files.new) (I.left input.new) (M.answers matcher.new)
+        (fault_counts (F.faults files.new) (I.faults input.new) (O.faults out.new) (E.faults err.new)) profile.new)
+        result.cause }
+{
+    run_objects(with, words, files, input, out, err, matcher, profile)
+}
 
-    // Where nothing stopped it, it did all that the session does, and nothing else, and ended as the session.
-    ensures whole { IfNone (fault_line result.cause)
-        (IfSome (told_run M.finds words.now (F.content files.old) (F.locked files.old) (I.left input.old)
-        (M.answers matcher.old) (M.answers matcher.new)) (λ told.
-        RanWhole told (outside (O.written out.old) (E.written err.old) (F.content files.old) (F.reads files.old))
-        (outside (O.written out.new) (E.written err.new) (F.content files.new) (F.reads files.new))
-        result.cause)) }
-
-    // Else it did a front of what the session does, and then told of the fault, as far as it could.
-    ensures front { IfSome (fault_line result.cause) (λ line.
-        IfSome (told_run M.finds words.now (F.content files.old) (F.locked files.old) (I.left input.old)
-        (M.answers matcher.old) (M.answers matcher.new)) (λ told.
-        RanFront told (outside (O.written out.old) (E.written err.old) (F.content files.old) (F.reads files.old))
-        (outside (O.written out.new) (E.written err.new) (F.content files.new) (F.reads files.new)) line)) }
-
-    // The session alone decides how the run ends: while the line of a stop is told, the ending stays what it was.
+// `run` by the clauses of which all else follows.
+fn run_objects<R: Threads + Sync, F: Files, I: Source, O: Sink, E: Sink, M: Matcher, G: Gate>(
+    with: &Host<'_, R, G>,
+    words: &[Text],
+    files: &mut F,
+    input: &mut I,
+    out: &mut O,
+    err: &mut E,
+    matcher: &mut M,
+    profile: &mut Option<Loaded>,
+) -> Ending
+    ensures status { result.status ≡ status_of result.cause }
     ensures ending { Ran (session M.finds words.now)
         (told_at (outside (O.written out.old) (E.written err.old) (F.content files.old) (F.reads files.old))
         (F.locked files.old) (I.left input.old) (M.answers matcher.old))
@@ -72,76 +69,13 @@ pub fn run<R: Threads + Sync, F: Files, I: Source, O: Sink, E: Sink, M: Matcher,
         (fault_counts (F.faults files.old) (I.faults input.old) (O.faults out.old) (E.faults err.old))
         (fault_counts (F.faults files.new) (I.faults input.new) (O.faults out.new) (E.faults err.new))
         result.cause }
-
-    // A fault is answered only where that object has failed in this call.
-    ensures file_fault { result.cause ≡ Cause.FileFault
-        → Rose (F.faults files.old) (F.faults files.new) }
-    ensures input_fault { result.cause ≡ Cause.InputFault
-        → Rose (I.faults input.old) (I.faults input.new) }
-    ensures out_fault { result.cause ≡ Cause.OutFault
-        → Rose (O.faults out.old) (O.faults out.new) }
-    ensures err_fault { result.cause ≡ Cause.ErrFault
-        → Rose (E.faults err.old) (E.faults err.new) }
-
-    // Where none has failed, only want of memory stops it.
-    ensures complete { ¬ (Rose (F.faults files.old) (F.faults files.new))
-        → ¬ (Rose (I.faults input.old) (I.faults input.new))
-        → ¬ (Rose (O.faults out.old) (O.faults out.new))
-        → ¬ (Rose (E.faults err.old) (E.faults err.new))
-        → IsNone (fault_line result.cause) ⊎ (result.cause ≡ Cause.Memory) }
-
-    // A valid run then ends done, if memory suffices.
-    ensures valid { is_valid M.finds words.now (F.content files.old) (F.locked files.old)
-        (I.left input.old) (M.answers matcher.old) (M.answers matcher.new) ≡ true
-        → ¬ (Rose (F.faults files.old) (F.faults files.new))
-        → ¬ (Rose (I.faults input.old) (I.faults input.new))
-        → ¬ (Rose (O.faults out.old) (O.faults out.new))
-        → ¬ (Rose (E.faults err.old) (E.faults err.new))
-        → (result.cause ≡ Cause.Done) ⊎ (result.cause ≡ Cause.Memory) }
-
-    // Wrong words alone decide how a run ends, and others by which causes it may, whatever the objects tell.
-    ensures words { IsNone (fault_line result.cause) → Ends words.now result.cause }
-
-    // Words that do not ask for the shell read no input.
     ensures unread { starts_shell words.now ≡ false → I.left input.new ≡ I.left input.old }
-
-    // Input is taken from its front, and at most 16,777,216 bytes of it.
     ensures taken { TakesFront INPUT_LIMIT (I.left input.old) (I.left input.new) }
-{
-    let invocation = Invocation {
-        with,
-        words,
-        profile: &mut *profile,
-    };
-    run_objects(invocation, files, input, out, err, matcher)
-}
-
-// `run` over the objects, by the two clauses of which all else follows.
-fn run_objects<R: Threads + Sync, F: Files, I: Source, O: Sink, E: Sink, M: Matcher, G: Gate>(
-    invocation: Invocation<'_, R, G>,
-    files: &mut F,
-    input: &mut I,
-    out: &mut O,
-    err: &mut E,
-    matcher: &mut M,
-) -> Ending
-    ensures status { result.status ≡ status_of result.cause }
-    ensures ending { Ran (session M.finds invocation.entry.words.now)
+    ensures profile { Leaves M.finds (performed words.now)
         (told_at (outside (O.written out.old) (E.written err.old) (F.content files.old) (F.reads files.old))
-        (F.locked files.old) (I.left input.old) (M.answers matcher.old))
-        (outside (O.written out.new) (E.written err.new) (F.content files.new) (F.reads files.new))
-        (M.answers matcher.new) (I.left input.old) (I.left input.new)
-        (fault_counts (F.faults files.old) (I.faults input.old) (O.faults out.old) (E.faults err.old))
-        (fault_counts (F.faults files.new) (I.faults input.new) (O.faults out.new) (E.faults err.new))
-        result.cause }
-    ensures unread { starts_shell invocation.entry.words.now ≡ false → I.left input.new ≡ I.left input.old }
-    ensures taken { TakesFront INPUT_LIMIT (I.left input.old) (I.left input.new) }
+        (F.locked files.old) (I.left input.old) (M.answers matcher.old)) (M.answers matcher.new)
+        (is_some (fault_line result.cause)) profile.old profile.new }
 {
-    let Invocation {
-        with,
-        words,
-        profile,
-    } = invocation;
     let mut reader = None;
     let mut objects = Objects {
         alloc: with.alloc,
@@ -174,6 +108,8 @@ fn run_session<R: Threads + Sync, D: Desk, G: Gate>(
         → (D.world desk.new).told.unread ≡ (D.world desk.old).told.unread }
     ensures taken { HasTaken (D.world desk.old).intake (D.world desk.new).intake }
     ensures same { (D.world desk.new).names ≡ (D.world desk.old).names }
+    ensures profile { Leaves D.finds (performed words.now) (D.world desk.old).told
+        (D.world desk.new).told.answers (is_some (fault_line result.cause)) profile.old profile.new }
 {
     match session(with, words, desk, profile) {
         Ok(cause) => Ending::of(cause),
@@ -193,7 +129,7 @@ fn tell_stop<D: Desk>(stop: Stop, desk: &mut D)
         Stop::Input => tell_front(b"pprof: input fault\n", desk),
         Stop::Out => tell_front(b"pprof: output fault\n", desk),
         Stop::Err => tell_front(b"", desk),
-        Stop::Memory => tell_front(b"pprof: out of memory\n", desk),
+        Stop::Memory => tell_front(memory_line(), desk),
     }
 }
 

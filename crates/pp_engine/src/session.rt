@@ -1,12 +1,13 @@
 // The session: from the words to all that is done for them, and how it ends.
-ghost use Rattle.std.specs.Prelude.{◌≡◌, IfOk};
+ghost use Rattle.std.specs.Prelude.{◌≡◌, None, Some, IfOk, is_err};
 ghost use Rattle.pp_desk.specs.Went.{Went};
 ghost use Rattle.pp_load.specs.Messages.{refusal_line};
 ghost use Rattle.pp_model.specs.Sizes.{IsCountable};
+ghost use Rattle.pp_engine.specs.Leaves.{Leaves};
 ghost use Rattle.pp_engine.specs.Messages.{usage_line};
 ghost use Rattle.pp_engine.specs.Reporting.{end_with};
 ghost use Rattle.pp_engine.specs.Session.{session, begin, perform_words, perform, serve_loaded, serve, tell_topic};
-ghost use Rattle.pp_engine.specs.Words.{planned};
+ghost use Rattle.pp_engine.specs.Words.{performed, plan_in, planned};
 ghost use Rattle.pp_engine.specs.declared.ending.Cause.TheVariants as causes;
 
 use crate::ending::Cause;
@@ -23,7 +24,7 @@ use std::alloc::Global;
 use std::mem;
 use std::thread::Threads;
 
-/// The session of these words. The profile that it loads is left in `profile`.
+/// The session of these words. The profile that it loads is left in `profile`, and nothing where loading refused it.
 #[tactic(auto, using(pp_desk::proofs::Going::going), unfolding(crate::specs::Session::session, crate::specs::Session::begin))]
 pub fn session<R: Threads + Sync, D: Desk, G: Gate>(
     with: &Host<'_, R, G>,
@@ -31,7 +32,9 @@ pub fn session<R: Threads + Sync, D: Desk, G: Gate>(
     desk: &mut D,
     profile: &mut Option<Loaded>,
 ) -> Result<Cause, Stop>
-    ensures { Went (D.world desk.old) (D.world desk.new) (session D.finds words.now) result }
+    ensures went { Went (D.world desk.old) (D.world desk.new) (session D.finds words.now) result }
+    ensures profile { Leaves D.finds (performed words.now) (D.world desk.old).told
+        (D.world desk.new).told.answers (is_err result) profile.old profile.new }
 {
     match topic_asked(words) {
         Some(topic) => tell_topic(with.alloc, topic, desk),
@@ -58,8 +61,10 @@ fn perform_words<R: Threads + Sync, D: Desk, G: Gate>(
     desk: &mut D,
     profile: &mut Option<Loaded>,
 ) -> Result<Cause, Stop>
-    ensures { Went (D.world desk.old) (D.world desk.new)
+    ensures went { Went (D.world desk.old) (D.world desk.new)
         (perform_words D.finds (planned words.now)) result }
+    ensures profile { Leaves D.finds (plan_in None (planned words.now)) (D.world desk.old).told
+        (D.world desk.new).told.answers (is_err result) profile.old profile.new }
 {
     match read_words(with.alloc, words) {
         Ok(plan) => {
@@ -90,7 +95,9 @@ fn perform<R: Threads + Sync, D: Desk, G: Gate>(
     desk: &mut D,
     profile: &mut Option<Loaded>,
 ) -> Result<Cause, Stop>
-    ensures { Went (D.world desk.old) (D.world desk.new) (perform D.finds plan.now) result }
+    ensures went { Went (D.world desk.old) (D.world desk.new) (perform D.finds plan.now) result }
+    ensures profile { Leaves D.finds (Some plan.now) (D.world desk.old).told
+        (D.world desk.new).told.answers (is_err result) profile.old profile.new }
 {
     let loaded = load(with.rt, with.alloc, with.keys, plan, desk)?;
     let done = serve_loaded(with, plan, &loaded, desk);

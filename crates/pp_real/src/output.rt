@@ -1,23 +1,23 @@
 //! Any writer as a sink.
-ghost use Rattle.std.specs.Prelude.{◌≡◌, ◌<◌, ◌≤◌, None, length};
+ghost use Rattle.std.specs.Prelude.{◌≡◌, ◌<◌, ◌≤◌, length};
 ghost use Rattle.pp_base.specs.Fault.{Rose};
 ghost use Rattle.pp_base.specs.Writes.{Puts};
-ghost use Rattle.pp_real.specs.Streams.{Passes};
 
+use crate::steady::SteadyWrite;
 use pp_base::{Sink, SinkWrite};
-use std::io::{ErrorKind, Write};
+use std::io::ErrorKind;
 
 /// A sink over any writer, as standard output and standard error.
 ///
-/// It keeps no bytes back: what a write takes is what the writer has taken. What was written is not told. A writer that
-/// takes nothing and each error of it are faults, an interrupted write too; want of memory is none.
+/// It keeps no bytes back: what a write takes is what the writer has taken. It tells what was written where the writer
+/// does. A writer that takes nothing and each error of it are faults, an interrupted write too; want of memory is none.
 #[derive(Drop)]
-pub struct Output<W: Write + Drop> {
+pub struct Output<W: SteadyWrite + Drop> {
     writer: W,
     faults: u64,
 }
 
-impl<W: Write + Drop> Output<W> {
+impl<W: SteadyWrite + Drop> Output<W> {
     /// A sink over the writer. It takes no memory and writes nothing.
     pub fn new(writer: W) -> Self
         ensures writer { result.writer ≡ writer }
@@ -27,19 +27,17 @@ impl<W: Write + Drop> Output<W> {
     }
 }
 
-impl<W: Write + Drop> Sink for Output<W> {
-    ghost written = { λ _. None };
+impl<W: SteadyWrite + Drop> Sink for Output<W> {
+    ghost written = { λ s. W.contents s.writer };
 
     ghost faults = { λ s. s.faults };
 
     /// One write to the writer, as many bytes as it takes at once.
     fn write(&mut self, bytes: &[u8]) -> SinkWrite
         requires { 0 < length bytes.now }
-        ensures bytes { Puts None None bytes.now result }
+        ensures bytes { Puts (W.contents self.old.writer) (W.contents self.new.writer) bytes.now result }
         ensures later { self.old.faults ≤ self.new.faults }
         ensures failed { result ≡ SinkWrite.Failed → Rose self.old.faults self.new.faults }
-        ensures passes { Passes (W.contents self.old.writer) (W.contents self.new.writer)
-            bytes.now result }
     {
         match self.writer.write(bytes) {
             Ok(count) if count > 0 => SinkWrite::Took(count),

@@ -2,6 +2,7 @@
 
 use crate::objects::{TrialSink, TrialSource};
 use pp_base::{Sink, SinkWrite, Source, SourceRead};
+use pp_real::{SteadyRead, SteadyWrite};
 use std::io::{self, ErrorKind, Read, Write};
 
 /// A reader of a source.
@@ -21,6 +22,12 @@ impl Read for PipeReader<'_> {
             SourceRead::Failed => Err(ErrorKind::Other.into()),
         }
     }
+}
+
+impl SteadyRead for PipeReader<'_> {
+    ghost use Rattle.std.specs.Prelude.{refl};
+
+    ghost steady_read = { λ a b. refl };
 }
 
 /// A writer to a sink. Where the sink fails, the writer takes nothing, or the reader at its other end is gone.
@@ -45,4 +52,10 @@ impl Write for PipeWriter<'_> {
     fn flush(&mut self) -> io::Result<()> {
         Ok(())
     }
+}
+
+impl SteadyWrite for PipeWriter<'_> {
+    ghost use Rattle.std.specs.Prelude.{refl};
+
+    ghost steady_write = { λ a b. refl };
 }

@@ -1,13 +1,8 @@
 //! The program `pprof`: the machine's files and streams, and one call.
 #![tactic(auto)]
 
-ghost use Rattle.std.specs.Prelude.{◌≡◌, IfSome};
-ghost use Rattle.std.specs.Process.{exit_status};
-ghost use Rattle.pp_base.specs.Writes.{PutsFront};
-ghost use Rattle.pp_engine.specs.Endings.{fault_line, status_of};
-
-use pp_base::{OpenGate, Sink, write_all};
-use pp_engine::{Cause, Ending, Host, run};
+use pp_base::OpenGate;
+use pp_engine::{Host, run_program};
 use pp_keys::HashKeys;
 use pp_real::{Input, Output, RealFiles, read_words};
 use pp_regex::RegexMatcher;
@@ -16,50 +11,24 @@ use std::process::ExitCode;
 
 fn main(rt: HostRuntime) -> ExitCode {
     let alloc = rt.alloc();
-    let mut err = Output::new(rt.stderr());
-    let mut profile = None;
     let host = Host {
         rt: &rt,
         alloc,
         keys: HashKeys::random(&rt),
         gate: &OpenGate,
     };
-    let ending = match read_words(&rt, alloc) {
-        Ok(words) => run(
-            &host,
-            &words,
-            &mut RealFiles::new(&rt),
-            &mut Input::new(rt.stdin()),
-            &mut Output::new(rt.stdout()),
-            &mut err,
-            &mut RegexMatcher::new(alloc),
-            &mut profile,
-        ),
-        Err(_) => end_without_words(&mut err),
-    };
+    let mut profile = None;
+    let code = run_program(
+        &host,
+        read_words(&rt, alloc),
+        &mut RealFiles::new(&rt),
+        &mut Input::new(rt.stdin()),
+        &mut Output::new(rt.stdout()),
+        &mut Output::new(rt.stderr()),
+        &mut RegexMatcher::new(alloc),
+        &mut profile,
+    );
     // The process ends, and all its memory with it.
     mem::forget(profile);
-    exit_code(ending)
-}
-
-// Where there is no memory for the words: tells of it, as far as standard error takes it.
-#[tactic(auto, using(crate::proofs::Telling::is_front))]
-fn end_without_words<E: Sink>(err: &mut E) -> Ending
-    ensures cause { result.cause ≡ Cause.Memory }
-    ensures status { result.status ≡ status_of result.cause }
-    ensures told { IfSome (fault_line Cause.Memory)
-        (PutsFront (E.written err.old) (E.written err.new)) }
-{
-    match write_all(err, b"pprof: out of memory\n") {
-        Ok(()) => (),
-        Err(_) => (),
-    }
-    Ending::of(Cause::Memory)
-}
-
-// The exit code that tells an ending.
-fn exit_code(ending: Ending) -> ExitCode
-    ensures { exit_status result ≡ ending.status }
-{
-    ExitCode::from(ending.status)
+    code
 }

@@ -1,5 +1,4 @@
-use Rattle.std.proofs.Common.{◌≡◌, arith}
-use Rattle.std.specs.Prelude.{Some, None}
+use Rattle.std.proofs.Common.{arith}
 use Rattle.std.proofs.lemmas.Result.{err_from_is_err_and}
 use Rattle.pp_engine.proofs.Turning.{turns_go, turns_end, turns_stop, turns_spent}
 use Rattle.pp_engine.proofs.shell.take_turns.Goals as goal
