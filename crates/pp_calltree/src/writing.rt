@@ -17,20 +17,23 @@ ghost use Rattle.pp_calltree.specs.Tree.{IsTreeOf};
 use crate::branching::plus;
 use crate::shown::shown_nodes;
 use crate::tree::{PathNode, PathNodes};
-use pp_base::{Memory, Text};
+use pp_base::{Gate, Memory, Text};
 use pp_count::Survey;
 use pp_grain::write_name;
 use pp_model::{Config, Loaded};
 use pp_units::{HEADING, Head, put_dropped_nodes, write_head};
 use std::alloc::Global;
+use std::thread::Threads;
 
 /// Appends the text of the tree: the lines of the head, the heading, and a row for each node that is shown. A name has
 /// two spaces before it for each key above its own. Nodes whose cum is less than `nodefraction` of the head's total are
 /// left out with all below them. `Err` is want of memory, and `out` is then as it was.
-pub fn write_calltree(
+pub fn write_calltree<R: Threads + Sync, G: Gate>(
+    rt: &R,
     alloc: Global,
     survey: &Survey<'_>,
     head: &Head,
+    gate: &G,
     out: &mut Text,
 ) -> Result<(), Memory>
     ensures ok { (f : Finders) →
@@ -39,7 +42,7 @@ pub fn write_calltree(
         survey.now.config.now survey.now.column (facts head.now)) }
     ensures err { OnErr result (out.new ≡ out.old) }
 {
-    let nodes = PathNodes::build(alloc, survey)?;
+    let nodes = PathNodes::build(rt, alloc, survey, gate)?;
     write_path_nodes(alloc, survey.l, &nodes, survey.config, head, out)
 }
 
