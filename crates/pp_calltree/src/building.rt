@@ -52,7 +52,7 @@ pub struct PathSums<'a> {
 impl<'a> ReportPaths<'a> {
     /// Gathers the paths of the counted samples, in pieces on as many lanes as the configuration has workers. `Err` is
     /// want of memory.
-    pub fn gather_on<R: Threads + Sync, G: Gate>(
+    pub fn gather<R: Threads + Sync, G: Gate>(
         rt: &R,
         alloc: Global,
         survey: &Survey<'a>,
@@ -67,8 +67,8 @@ impl<'a> ReportPaths<'a> {
         Ok(ReportPaths { scope, paths })
     }
 
-    /// What `gather_on` gives, without other threads.
-    pub fn gather(alloc: Global, survey: &Survey<'a>) -> Result<ReportPaths<'a>, Memory>
+    // Gathers them without other threads.
+    fn gather_alone(alloc: Global, survey: &Survey<'a>) -> Result<ReportPaths<'a>, Memory>
         ensures same { IfOk result (λ r. IsScopeOf survey.now.l.now survey.now.v.now
             survey.now.config.now survey.now.column r.scope) }
     {
@@ -150,7 +150,7 @@ impl<'a> CallTree<'a> {
             column,
             counted: c,
         };
-        let gathered = ReportPaths::gather(alloc, &survey)?;
+        let gathered = ReportPaths::gather_alone(alloc, &survey)?;
         let tree = PathNodes::of(alloc, gathered)?;
         let parents = tree.parents(alloc)?;
         let nexts = tree.nexts(alloc)?;
@@ -163,8 +163,22 @@ impl<'a> CallTree<'a> {
 }
 
 impl<'a> PathNodes<'a> {
-    /// The nodes of these paths, which are spent. `Err` is want of memory.
-    pub fn of(alloc: Global, gathered: ReportPaths<'a>) -> Result<PathNodes<'a>, Memory>
+    /// The nodes of the tree that `CallTree::build` gives, without links. `Err` is want of memory.
+    pub fn build<R: Threads + Sync, G: Gate>(
+        rt: &R,
+        alloc: Global,
+        survey: &Survey<'a>,
+        gate: &G,
+    ) -> Result<PathNodes<'a>, Memory>
+        ensures { IfOk result (IsTreeOf survey.now.l.now survey.now.v.now survey.now.config.now
+            survey.now.column) }
+    {
+        let gathered = ReportPaths::gather(rt, alloc, survey, gate)?;
+        PathNodes::of(alloc, gathered)
+    }
+
+    // The nodes of these paths, which are spent.
+    fn of(alloc: Global, gathered: ReportPaths<'a>) -> Result<PathNodes<'a>, Memory>
         ensures { (l : Read) (v : Found) (config : Options) (column : Option ℕ) →
             IsScopeOf l v config column gathered.entry.scope →
             IfOk result (IsTreeOf l v config column) }

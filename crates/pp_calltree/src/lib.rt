@@ -28,4 +28,4 @@ mod writing;
 pub use building::{PathSums, ReportPaths};
 pub use listing::PathSum;
 pub use tree::{CallTree, PathNode, key_at};
-pub use writing::{write_calltree, write_calltree_on};
+pub use writing::write_calltree;

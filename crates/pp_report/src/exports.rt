@@ -7,22 +7,28 @@ ghost use Rattle.pp_export.specs.Folded.{folded_text};
 ghost use Rattle.pp_export.specs.Table.{exact_table};
 ghost use Rattle.pp_report.specs.Heads.{unit_text};
 
+use crate::host::Host;
 use crate::shows::unit_text;
 use crate::texts::limit_of;
-use pp_base::{Memory, Text};
+use pp_base::{Gate, Memory, Text};
 use pp_calltree::ReportPaths;
 use pp_count::Survey;
 use pp_export::{write_folded, write_table};
 use pp_graph::rank_all;
 use std::alloc::Global;
+use std::thread::Threads;
 
 /// The folded report: a line for each path from the root.
-pub fn folded(alloc: Global, survey: &Survey<'_>) -> Result<Text, Memory>
+pub fn folded<R: Threads + Sync, G: Gate>(
+    with: &Host<'_, R, G>,
+    survey: &Survey<'_>,
+) -> Result<Text, Memory>
     ensures { let s = survey.now in (f : Finders) →
         HoldsFilters s.l.now s.v.now s.config.now f →
         IfOk result (λ text. text ≡ folded_text s.l.now.profile f s.config.now s.column) }
 {
-    let paths = ReportPaths::gather(alloc, survey)?;
+    let alloc = with.alloc;
+    let paths = ReportPaths::gather(with.rt, alloc, survey, with.gate)?;
     let sums = paths.sums(alloc)?;
     let mut text = Text::new(alloc);
     write_folded(alloc, survey.l, &sums, &mut text)?;

@@ -169,7 +169,7 @@ fn text_by<R: Threads + Sync, D: Desk, G: Gate>(
         Report::Comments => answer_of_text(comments(alloc, survey.l)),
         Report::Proto => answer_of_text(proto(alloc, survey)),
         Report::List(_) => list(alloc, subject, desk),
-        Report::Folded => answer_of_text(folded(alloc, survey)),
+        Report::Folded => answer_of_text(folded(with, survey)),
         Report::Table => answer_of_text(table(alloc, survey)),
         Report::Compare => answer_of_text(compare(with, subject)),
         Report::Changes => answer_of_text(changes(with, subject)),

@@ -11,7 +11,6 @@ use crate::subject::Subject;
 use crate::texts::tree;
 use pp_base::{Gate, Memory, Text};
 use pp_calltree::write_calltree;
-use std::alloc::Global;
 use std::thread::Threads;
 
 /// The tree report: by paths from the root where the configuration asks for these, else each key with its callers and
@@ -26,20 +25,24 @@ pub fn tree_report<R: Threads + Sync, G: Gate>(
         (facts subject.now.head.now)) }
 {
     if subject.survey.config.path_tree {
-        call_tree(with.alloc, subject)
+        call_tree(with, subject)
     } else {
         tree(with, subject)
     }
 }
 
 // The nodes by their paths from the root.
-fn call_tree(alloc: Global, subject: &Subject<'_, '_>) -> Result<Text, Memory>
+fn call_tree<R: Threads + Sync, G: Gate>(
+    with: &Host<'_, R, G>,
+    subject: &Subject<'_, '_>,
+) -> Result<Text, Memory>
     ensures { let s = subject.now.survey in (f : Finders) →
         HoldsFilters s.l.now s.v.now s.config.now f →
         IfOk result (λ text. text ≡ calltree_text s.l.now.profile f s.config.now s.column
         (facts subject.now.head.now)) }
 {
+    let (alloc, s) = (with.alloc, &subject.survey);
     let mut text = Text::new(alloc);
-    write_calltree(alloc, &subject.survey, subject.head, &mut text)?;
+    write_calltree(with.rt, alloc, s, subject.head, with.gate, &mut text)?;
     Ok(text)
 }
