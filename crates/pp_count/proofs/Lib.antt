@@ -7,6 +7,7 @@ pub mod Joining
 pub mod CountedFrames
 pub mod Sights
 pub mod Located
+pub mod LineNumbers
 pub mod Rising
 pub mod Ranges
 pub mod Matching

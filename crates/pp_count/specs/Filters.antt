@@ -9,6 +9,7 @@ use Rattle.pp_model.specs.Conditions.{IsFrameOf}
 use Rattle.pp_model.specs.Finders.{Finder}
 use Rattle.pp_model.specs.FrameTexts.{written}
 use Rattle.pp_stack.specs.Filters.{AreVerdicts, finds_frame}
+use Rattle.pp_stack.specs.Lines.{IsLineTable}
 use Rattle.pp_stack.specs.Tables.{AreTables}
 use Rattle.pp_tags.specs.TagFilters.{HasItsTags, filter_in_force}
 use Rattle.pp_count.specs.declared.filters.Filters.{Filters}
@@ -40,3 +41,4 @@ pub record AreFilters (p : Profile) (v : Verdicts) (config : Config) (filters : 
   pub ignore_tags : HasItsTags p v.tag filters.tagignore
   pub tables : AreTables p v filters.tables
   pub reach : AreReached p v filters.reach
+  pub lines : ForSome filters.lines (IsLineTable p v)

@@ -88,8 +88,11 @@ fn table_and_filters(
     ensures table { IfOk result (λ by. IsKeyTable l.now.profile config.now by.0) }
     ensures filters { IfOk result (λ by. AreFilters l.now.profile v.now config.now by.1) }
 {
-    let table = key_table(alloc, hash_keys, l, config)?;
+    let mut table = key_table(alloc, hash_keys, l, config)?;
     let filters = Filters::new(alloc, l, v, config)?;
+    if filters.lines.is_some() {
+        table.location.join(alloc)?;
+    }
     Ok((table, filters))
 }
 

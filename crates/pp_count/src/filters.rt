@@ -1,16 +1,18 @@
 //! The filters of a report, made ready for its samples.
 ghost use Rattle.std.specs.Prelude.{◌≡◌, IfOk, Option, List as Seq, Bool};
 ghost use Rattle.std.specs.List.{list_any};
+ghost use Rattle.std.specs.Option.{ForSome};
 ghost use Rattle.pp_model.specs.Conditions.{HasVerdicts};
 ghost use Rattle.pp_tags.specs.TagFilters.{HasItsTags, filter_in_force};
 ghost use Rattle.pp_model.specs.declared.profile.Profile.{Profile};
 ghost use Rattle.pp_model.specs.declared.verdicts.Verdicts.{Verdicts};
+ghost use Rattle.pp_stack.specs.Lines.{IsLineTable};
 ghost use Rattle.pp_stack.specs.Tables.{AreTables, FitsPattern};
 ghost use Rattle.pp_count.specs.Filters.{AreFilters, AreReached, IsReach};
 
 use pp_base::Memory;
 use pp_model::{Config, Loaded, Verdicts};
-use pp_stack::{VerdictTable, VerdictTables};
+use pp_stack::{LineTable, VerdictTable, VerdictTables, cuts_nothing};
 use pp_tags::TagFilter;
 use std::alloc::Global;
 
@@ -25,6 +27,8 @@ pub struct Filters {
     pub tables: VerdictTables,
     /// Which of those patterns may find a line.
     pub reach: PatternReach,
+    /// The lines with what the patterns find of them, where filters cut stacks whose frames all count.
+    pub lines: Option<LineTable>,
 }
 
 /// For each pattern on frames, whether it may find a line of the profile. One that finds none has no match, and isn't
@@ -52,8 +56,9 @@ impl Filters {
         ensures { IfOk result (AreFilters l.now.profile v.now config.now) }
     {
         let tags = tag_filters(alloc, config)?;
+        let lines = line_table(alloc, l, v, config)?;
         let tables = VerdictTables::new(alloc, l, v)?;
-        Ok(with_tables(tags, tables))
+        Ok(with_tables(tags, tables, lines))
     }
 
     /// The filters without tables, which are not worth their making for a few samples. `Err` is want of memory.
@@ -68,7 +73,7 @@ impl Filters {
         ensures { IfOk result (AreFilters l.now.profile v.now config.now) }
     {
         let tags = tag_filters(alloc, config)?;
-        Ok(with_tables(tags, VerdictTables::none()))
+        Ok(with_tables(tags, VerdictTables::none(), None))
     }
 }
 
@@ -85,11 +90,29 @@ fn tag_filters(alloc: Global, config: &Config) -> Result<TagFilters, Memory>
     Ok((tagfocus, tagignore))
 }
 
+// The lines, where filters cut stacks whose frames all count.
+fn line_table(
+    alloc: Global,
+    l: &Loaded,
+    v: &Verdicts,
+    config: &Config,
+) -> Result<Option<LineTable>, Memory>
+    requires { HasVerdicts l.now.profile v.now }
+    ensures { IfOk result (λ lines. ForSome lines (IsLineTable l.now.profile v.now)) }
+{
+    if config.noinlines || cuts_nothing(l, v) {
+        return Ok(None);
+    }
+    let lines = LineTable::new(alloc, l, v)?;
+    Ok(Some(lines))
+}
+
 // The tag filters with these tables.
-fn with_tables(tags: TagFilters, tables: VerdictTables) -> Filters
+fn with_tables(tags: TagFilters, tables: VerdictTables, lines: Option<LineTable>) -> Filters
     ensures focus { result.tagfocus ≡ tags.0 }
     ensures ignore { result.tagignore ≡ tags.1 }
     ensures tables { result.tables ≡ tables }
+    ensures lines { result.lines ≡ lines }
     ensures reach { (p : Profile) → (v : Verdicts) → AreTables p v tables →
         AreReached p v result.reach }
 {
@@ -99,6 +122,7 @@ fn with_tables(tags: TagFilters, tables: VerdictTables) -> Filters
         tagignore: tags.1,
         tables,
         reach,
+        lines,
     }
 }
 

@@ -16,7 +16,6 @@ mod counting;
 mod edge;
 mod filters;
 mod finding;
-mod frames;
 mod heavy;
 mod matched;
 mod pairs;

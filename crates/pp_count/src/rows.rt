@@ -1,5 +1,6 @@
 //! Rows of key numbers, most of them of one number, in two flat lists.
-ghost use Rattle.std.specs.Prelude.{◌≡◌, ◌∷◌, ◌++◌, ◌<◌, [], length, slice_index_or, IfOk};
+ghost use Rattle.std.specs.Prelude.{◌≡◌, ◌∷◌, ◌++◌, ◌<◌, [], length, slice_index_or, IfOk, IfSome};
+ghost use Rattle.std.specs.List.{flat_map};
 ghost use Rattle.pp_base.specs.Front.{IsFront};
 ghost use Rattle.pp_count.specs.Rows.{row_by, IsWithin};
 
@@ -17,17 +18,19 @@ pub struct Rows {
     entries: List<u32>,
     // The other rows, each behind the count of its numbers.
     long: List<u32>,
+    // The numbers of all rows in one list, where a caller asked for it.
+    joined: Option<List<u32>>,
 }
 
 impl Model for Rows {
-    ghost use Rattle.std.specs.Prelude.{ℕ, map, All, List as Seq};
-    ghost use Rattle.pp_count.specs.Rows.{row_by, IsWithin};
+    ghost use Rattle.std.specs.Prelude.{ℕ, map, List as Seq};
+    ghost use Rattle.pp_count.specs.Rows.{row_by, AreRowsOf};
 
     ghost Value = { Seq (Seq ℕ) };
 
     ghost view = { λ r. map (row_by r.long) r.entries };
 
-    ghost invariant = { λ r. All (IsWithin r.long) r.entries };
+    ghost invariant = { λ r. AreRowsOf r.long r.entries r.joined };
 }
 
 impl Rows {
@@ -38,6 +41,7 @@ impl Rows {
         Rows {
             entries: List::new(alloc),
             long: List::new(alloc),
+            joined: None,
         }
     }
 
@@ -63,8 +67,46 @@ impl Rows {
     {
         let entry = entry_for(&mut self.long, row)?;
         self.entries.push(entry)?;
+        self.joined = None;
         Ok(())
     }
+
+    /// Keeps the numbers of all rows in one list too, until a row is added. `Err` is want of memory.
+    pub fn join(&mut self, alloc: Global) -> Result<(), Memory>
+        ensures { IfOk result (λ _. self.new ≡ self.old) }
+    {
+        let joined = joined(alloc, self)?;
+        self.joined = Some(joined);
+        Ok(())
+    }
+
+    /// The numbers of all rows in one list, if they were joined.
+    pub fn joined(&self) -> Option<&[u32]>
+        ensures { IfSome result (λ numbers. numbers.now ≡ flat_map (λ row. row) self.now) }
+    {
+        match &self.joined {
+            None => None,
+            Some(joined) => Some(joined.as_slice()),
+        }
+    }
+
+    /// How many rows there are.
+    fn len(&self) -> usize
+        ensures { result ≡ length self.now }
+    {
+        self.entries.len()
+    }
+}
+
+// The numbers of all rows.
+fn joined(alloc: Global, rows: &Rows) -> Result<List<u32>, Memory>
+    ensures { IfOk result (λ numbers. numbers ≡ flat_map (λ row. row) rows.now) }
+{
+    let mut numbers = List::new(alloc);
+    for index in 0..rows.len() {
+        numbers.extend(rows.row(index))?;
+    }
+    Ok(numbers)
 }
 
 // The entry of the row, which is put into `long` unless it is one number below `LONG`.

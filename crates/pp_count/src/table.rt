@@ -6,12 +6,12 @@ ghost use Rattle.pp_grain.specs.Keys.{IsKeyOf};
 ghost use Rattle.pp_grain.specs.Sight.{with_key};
 ghost use Rattle.pp_count.specs.Table.{Grown, IsNumbered, IsRow, AreRows, IsKeyTable};
 
-use crate::frames::frames_of;
 use crate::rows::Rows;
 use pp_base::{List, Memory};
 use pp_grain::{Key, Names, key_of};
 use pp_keys::HashKeys;
 use pp_model::{Config, Frame, Loaded, Stack};
+use pp_stack::frames_of;
 use std::alloc::Global;
 use std::mem;
 

@@ -1,5 +1,6 @@
 pub mod UnfocusedLemmas
 pub mod ForceLemmas
+pub mod LineLemmas
 pub mod LoadFinderLemmas
 mod Rows
 pub mod RowLemmas

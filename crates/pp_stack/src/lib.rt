@@ -4,10 +4,17 @@
 //! Begin with `stages`, the filters one by one, and `filter`, which puts them in order. `tables` and `table` hold what
 //! each pattern finds of each line of a location, so that no text is asked twice; `finding` asks without a table.
 //! `samples` asks focus and ignore before a stack is made.
+//!
+//! `line_table` has the columns of all patterns over one list of lines. `lines` gives a sample's stack as numbers of
+//! lines, and `line_filter` cuts it by the columns.
 #![tactic(auto)]
 
 mod filter;
 mod finding;
+mod line_filter;
+mod line_table;
+mod lines;
+mod location;
 mod retain;
 mod runs;
 mod samples;
@@ -16,6 +23,8 @@ mod table;
 mod tables;
 
 pub use filter::{cuts_nothing, filter_into, filter_stack, keeps_all};
+pub use line_table::LineTable;
+pub use location::frames_of;
 pub use runs::finds_some;
 pub use samples::{finds_sample, keeps_sample};
 pub use stages::{cut, kept, load_prune, prune_from, show_from};

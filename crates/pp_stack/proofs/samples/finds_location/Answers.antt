@@ -1,7 +1,5 @@
 use Rattle.std.proofs.Common.{◌≡◌, ◌||◌, length, sym, ap, ◌∙◌, arith}
 use Rattle.std.specs.List.{list_any}
-use Rattle.pp_model.specs.declared.frame.Frame.{Frame}
-use Rattle.pp_model.specs.Finders.{Finder}
 use Rattle.pp_model.specs.Frames.{lines_at}
 use Rattle.pp_model.specs.FrameTexts.{written}
 use Rattle.pp_stack.specs.Filters.{finds_frame}

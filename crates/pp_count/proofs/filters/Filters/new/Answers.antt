@@ -12,4 +12,5 @@ returns c =
       ignore_tags = rw ignore c.requires.ignore;
       tables = rw c.with_tables.ensures.tables c.in_ok-tables.ensures;
       reach = c.with_tables.ensures.reach c.args.l.now.profile c.args.v.now c.in_ok-tables.ensures;
+      lines = rw c.with_tables.ensures.lines c.in_ok-lines.ensures;
     }

@@ -1,4 +1,5 @@
 use Rattle.std.proofs.Common.{◌∙◌}
+use Rattle.std.proofs.lemmas.Option.{none-some}
 use Rattle.pp_count.proofs.filters.Filters.without_tables.Goals as goal
 
 -- where there are no tables, each is of its pattern
@@ -14,4 +15,5 @@ returns c =
       ignore_tags = rw ignore c.requires.ignore;
       tables = rw c.with_tables.ensures.tables none;
       reach = c.with_tables.ensures.reach c.args.l.now.profile c.args.v.now none;
+      lines = rw c.with_tables.ensures.lines (λ lines there. absurd (none-some lines there));
     }

@@ -1,7 +1,7 @@
 use Rattle.std.proofs.Common.{◌≡◌, ◌++◌, refl, ap, ◌∙◌}
 use Rattle.pp_model.specs.Frames.{rows, lines_at}
 use Rattle.pp_model.proofs.FrameLemmas.{rows_of_profile}
-use Rattle.pp_count.proofs.frames.frames_of.Goals as goal
+use Rattle.pp_stack.proofs.location.frames_of.Goals as goal
 
 pub returns-clause-of_profile : goal.returns-clause-of_profile
 returns-clause-of_profile c =
