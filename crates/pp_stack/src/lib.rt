@@ -8,6 +8,8 @@
 
 mod filter;
 mod finding;
+mod line_table;
+mod location;
 mod retain;
 mod runs;
 mod samples;
@@ -16,6 +18,8 @@ mod table;
 mod tables;
 
 pub use filter::{cuts_nothing, filter_into, filter_stack, keeps_all};
+pub use line_table::LineTable;
+pub use location::frames_of;
 pub use runs::finds_some;
 pub use samples::{finds_sample, keeps_sample};
 pub use stages::{cut, kept, load_prune, prune_from, show_from};

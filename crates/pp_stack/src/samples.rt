@@ -27,7 +27,7 @@ pub fn lacks_focus(l: &Loaded, v: &Verdicts, tables: &VerdictTables, s: &Sample)
         stack_of_sample l.now.profile f s.now ≡ None }
 {
     let _compact = l.profile.get();
-    !finds_if(l, &v.focus, &tables.focus, s, true)
+    !finds_if(l, &v.focus, &tables.focus(), s, true)
 }
 
 /// Whether ignore finds no frame of the sample and focus finds one, each where it is in force. Load pruning is left out.
@@ -38,8 +38,8 @@ pub fn keeps_sample(l: &Loaded, v: &Verdicts, tables: &VerdictTables, s: &Sample
     ensures { (f : Finders) → HoldsFinders l.now v.now f →
         result ≡ is_kept (written l.now.profile) f (stack_of l.now.profile s.now) }
 {
-    !finds_if(l, &v.ignore, &tables.ignore, s, false)
-        && finds_if(l, &v.focus, &tables.focus, s, true)
+    !finds_if(l, &v.ignore, &tables.ignore(), s, false)
+        && finds_if(l, &v.focus, &tables.focus(), s, true)
 }
 
 // Whether the pattern finds a frame of the sample, or `otherwise` where it isn't in force.

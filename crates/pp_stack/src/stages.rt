@@ -53,8 +53,8 @@ pub(crate) fn kept_by(l: &Loaded, v: &Verdicts, tables: &VerdictTables, stack: &
     ensures places { (f : Finders) → HoldsFinders l.now v.now f →
         result ≡ is_kept (written l.now.profile) f stack.now }
 {
-    !finds_or(l, &v.ignore, &tables.ignore, stack.as_slice(), false)
-        && finds_or(l, &v.focus, &tables.focus, stack.as_slice(), true)
+    !finds_or(l, &v.ignore, &tables.ignore(), stack.as_slice(), false)
+        && finds_or(l, &v.focus, &tables.focus(), stack.as_slice(), true)
 }
 
 /// Takes off the frames that hide finds, and then those that show doesn't find, each where it is in force. The stack
@@ -78,8 +78,8 @@ pub(crate) fn cut_by(l: &Loaded, v: &Verdicts, tables: &VerdictTables, stack: &m
         stack.new ≡ cut (written l.now.profile) f stack.old }
     ensures of_profile { IsStackOf l.now.profile stack.new }
 {
-    retain_if(l, &v.hide, &tables.hide, false, stack);
-    retain_if(l, &v.show, &tables.show, true, stack);
+    retain_if(l, &v.hide, &tables.hide(), false, stack);
+    retain_if(l, &v.show, &tables.show(), true, stack);
 }
 
 /// Takes off all frames above the root-most frame that show_from finds. False says that it finds no frame, so that the
@@ -117,7 +117,7 @@ pub(crate) fn show_from_by(
     let Some(found) = &v.show_from else {
         return true;
     };
-    let count = through_last_found(l, found, &tables.show_from, stack.as_slice());
+    let count = through_last_found(l, found, &tables.show_from(), stack.as_slice());
     stack.truncate(count);
     count > 0
 }

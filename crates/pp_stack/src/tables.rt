@@ -1,74 +1,112 @@
 //! The tables of a report's patterns on frames.
-ghost use Rattle.std.specs.Prelude.{IfOk};
+ghost use Rattle.std.specs.Prelude.{◌≡◌, IfOk, None};
+ghost use Rattle.std.specs.Option.{ForSome};
 ghost use Rattle.pp_model.specs.declared.verdicts.Verdicts.{Verdicts};
 ghost use Rattle.pp_model.specs.declared.profile.Profile.{Profile};
-ghost use Rattle.pp_model.specs.Conditions.{HasOnePerText, HasVerdicts};
+ghost use Rattle.pp_model.specs.Conditions.{HasVerdicts};
+ghost use Rattle.pp_stack.specs.Lines.{IsLineTable};
 ghost use Rattle.pp_stack.specs.Tables.{AreTables, FitsPattern};
 
+use crate::line_table::LineTable;
 use crate::table::VerdictTable;
-use pp_base::{List, Memory};
+use pp_base::Memory;
 use pp_model::{Loaded, Verdicts};
 use std::alloc::Global;
 
-/// A table for each pattern that is asked of whole frames, None where it has none. A pattern without a table is asked by its
-/// verdicts on texts.
+/// A table for each pattern that is asked of whole frames, or none. Without tables patterns are asked by their verdicts on
+/// texts.
 #[derive(Debug, Drop)]
 pub struct VerdictTables {
-    /// For `focus`: a stack must have a frame that is found.
-    pub focus: Option<VerdictTable>,
-    /// For `ignore`: a stack may have no frame that is found.
-    pub ignore: Option<VerdictTable>,
-    /// For `hide`: frames that are found are left out.
-    pub hide: Option<VerdictTable>,
-    /// For `show`: frames that are not found are left out.
-    pub show: Option<VerdictTable>,
-    /// For `show_from`: what lies above the frame nearest to the root that is found is left out.
-    pub show_from: Option<VerdictTable>,
+    /// What the patterns find of each line, where that was asked.
+    pub lines: Option<LineTable>,
 }
 
 impl VerdictTables {
     /// No tables, for a caller with few stacks.
     pub fn none() -> VerdictTables
-        ensures { (p : Profile) → (v : Verdicts) → AreTables p v result }
+        ensures tables { (p : Profile) → (v : Verdicts) → AreTables p v result }
+        ensures lines { result.lines ≡ None }
     {
-        VerdictTables {
-            focus: None,
-            ignore: None,
-            hide: None,
-            show: None,
-            show_from: None,
-        }
+        VerdictTables { lines: None }
     }
 
     /// A table for each pattern in force, to be made once for many stacks. `Err` is want of memory.
     pub fn new(alloc: Global, l: &Loaded, v: &Verdicts) -> Result<VerdictTables, Memory>
         requires { HasVerdicts l.now.profile v.now }
-        ensures { IfOk result (AreTables l.now.profile v.now) }
+        ensures tables { IfOk result (AreTables l.now.profile v.now) }
+        ensures lines { IfOk result (λ tables. ForSome tables.lines (IsLineTable l.now v.now)) }
     {
-        Ok(VerdictTables {
-            focus: table_of(alloc, l, &v.focus)?,
-            ignore: table_of(alloc, l, &v.ignore)?,
-            hide: table_of(alloc, l, &v.hide)?,
-            show: table_of(alloc, l, &v.show)?,
-            show_from: table_of(alloc, l, &v.show_from)?,
-        })
+        let lines = LineTable::new(alloc, l, v)?;
+        Ok(VerdictTables { lines: Some(lines) })
     }
-}
 
-// The table of the pattern, where it is in force.
-fn table_of(
-    alloc: Global,
-    l: &Loaded,
-    texts: &Option<List<bool>>,
-) -> Result<Option<VerdictTable>, Memory>
-    requires { HasOnePerText l.now.profile texts.now }
-    ensures { IfOk result (FitsPattern l.now.profile texts.now) }
-{
-    match texts {
-        None => Ok(None),
-        Some(texts) => {
-            let table = VerdictTable::new(alloc, l, texts)?;
-            Ok(Some(table))
+    /// The verdicts of `focus`, if there are tables.
+    pub fn focus(&self) -> Option<VerdictTable<'_>>
+        ensures { (p : Profile) → (v : Verdicts) → AreTables p v self.now →
+            FitsPattern p v.focus result }
+    {
+        match &self.lines {
+            None => None,
+            Some(lines) => Some(VerdictTable {
+                first: &lines.first,
+                found: &lines.focus,
+            }),
+        }
+    }
+
+    /// The verdicts of `ignore`, if there are tables.
+    pub fn ignore(&self) -> Option<VerdictTable<'_>>
+        ensures { (p : Profile) → (v : Verdicts) → AreTables p v self.now →
+            FitsPattern p v.ignore result }
+    {
+        match &self.lines {
+            None => None,
+            Some(lines) => Some(VerdictTable {
+                first: &lines.first,
+                found: &lines.ignore,
+            }),
+        }
+    }
+
+    /// The verdicts of `hide`, if there are tables.
+    pub fn hide(&self) -> Option<VerdictTable<'_>>
+        ensures { (p : Profile) → (v : Verdicts) → AreTables p v self.now →
+            FitsPattern p v.hide result }
+    {
+        match &self.lines {
+            None => None,
+            Some(lines) => Some(VerdictTable {
+                first: &lines.first,
+                found: &lines.hide,
+            }),
+        }
+    }
+
+    /// The verdicts of `show`, if there are tables.
+    pub fn show(&self) -> Option<VerdictTable<'_>>
+        ensures { (p : Profile) → (v : Verdicts) → AreTables p v self.now →
+            FitsPattern p v.show result }
+    {
+        match &self.lines {
+            None => None,
+            Some(lines) => Some(VerdictTable {
+                first: &lines.first,
+                found: &lines.show,
+            }),
+        }
+    }
+
+    /// The verdicts of `show_from`, if there are tables.
+    pub fn show_from(&self) -> Option<VerdictTable<'_>>
+        ensures { (p : Profile) → (v : Verdicts) → AreTables p v self.now →
+            FitsPattern p v.show_from result }
+    {
+        match &self.lines {
+            None => None,
+            Some(lines) => Some(VerdictTable {
+                first: &lines.first,
+                found: &lines.show_from,
+            }),
         }
     }
 }

@@ -1,7 +1,7 @@
 use Rattle.std.proofs.Common.{◌≡◌, ◌++◌, map}
 use Rattle.std.specs.List.{range_with_len}
 use Rattle.pp_model.specs.Frames.{row_frame}
-use Rattle.pp_count.proofs.frames.push_rows.Given as goal
+use Rattle.pp_stack.proofs.location.push_rows.Given as goal
 
 -- the rows so far have been added
 abbrev pub invariant-loop-row : goal.invariant-loop-row
