@@ -19,7 +19,7 @@ use Rattle.pp_count.specs.Table.{written_key}
 use Rattle.pp_count.specs.declared.scope.Scope.{Scope}
 use Rattle.pp_count.specs.Sums.{Seen, weighed, renamed}
 use Rattle.pp_count.specs.Parts.{HasBelow}
-use Rattle.pp_count.specs.Scope.{profile_in_scope, size_of, IsSoundScope}
+use Rattle.pp_count.specs.Scope.{profile_in_scope, samples_in_scope}
 use Rattle.pp_count.proofs.CallerLemmas.{weighed-renamed}
 use Rattle.pp_calltree.specs.declared.building.ReportPaths.{ReportPaths}
 use Rattle.pp_calltree.specs.declared.listing.PathSum.{PathSum}
@@ -29,8 +29,8 @@ use Rattle.pp_calltree.specs.declared.tree.PathNode.{PathNode}
 use Rattle.pp_calltree.specs.CallPaths.{all_paths, has_sum, paths_below, path_written, ArePathsOf, HasKeysOf}
 use Rattle.pp_calltree.specs.CallTree.{any_row, rooted, all_lengths, rows_below, tree_rows}
 use Rattle.pp_calltree.specs.Laid.{node_row, written_out, HasRoom}
-use Rattle.pp_calltree.proofs.Gathering.{paths_within}
-use Rattle.pp_calltree.specs.Gathered.{samples_of_paths, AreGathered, IsScopeOf}
+use Rattle.pp_calltree.proofs.CountedPaths.{paths_within}
+use Rattle.pp_calltree.specs.Gathered.{samples_of_paths, AreGathered, ChoosesKept, IsScopeOf}
 use Rattle.pp_calltree.specs.Paths.{below, path_of, HasPaths}
 use Rattle.pp_calltree.specs.Tree.{IsTreeOf}
 use Rattle.pp_calltree.proofs.Permuted.{alike_permuted, paths_alike, rows_alike}
@@ -47,25 +47,24 @@ rooted-renamed : {J K : Type 0} (f : J → K) (S : List (Seen J)) → map (renam
 rooted-renamed f [] = refl
 rooted-renamed f (s ∷ S) = λ i. record { value = s.value; keys = map-reversed f s.keys i } ∷ rooted-renamed f S i
 
--- the paths of all samples of the profile are those of the report, and can be laid out
-pub paths_gathered : (scope : Scope) (paths : Paths) → IsSoundScope scope → size_of scope (profile_in_scope scope).sample < 2 ^ 63
-    → HasPaths scope (profile_in_scope scope).sample paths → AreGathered scope paths
-paths_gathered scope paths sound fits has =
+-- the paths of the samples that the filters leave are those of the report, and can be laid out
+pub paths_gathered : (scope : Scope) (paths : Paths) → ChoosesKept scope → HasPaths scope (samples_in_scope scope) paths → AreGathered scope paths
+paths_gathered scope paths kept has =
     let n : ℕ = length scope.table.now.names in
     let S : List (Seen ℕ) = has.seen in
     record {
-      sound = sound;
+      sound = kept.sound;
       whole = has.stands.whole;
       room = subst (λ (r : List (Seen ℕ)). HasRoom scope.table.now.names (all_lengths r) r) (sym has.stands.are) (record {
         below = All-map (HasBelow n) rooted (weighed S)
             (λ i d here. all_reversed (λ k. k < n) (get_or (weighed S) i d).keys
             (All-filter (λ (s : Seen ℕ). not (int_eq s.value (pos 0))) (HasBelow n) S has.are.below i d here));
         short = λ i d here. get_or-le-sum_by (λ (s : Seen ℕ). length s.keys) (map rooted (weighed S)) i d here;
-        fits = omega (arith, fits, has.are.within, paths_within S);
+        fits = omega (arith, kept.countable.fits, has.are.within, paths_within S);
       });
       are = λ f holds.
           ap (written_out (profile_in_scope scope) scope.table.now.names) has.stands.are
-          ∙ rooted-renamed _ (weighed S) ∙ ap (map rooted) (sym (weighed-renamed _ S) ∙ ap weighed (has.are.are f holds));
+          ∙ rooted-renamed _ (weighed S) ∙ ap (map rooted) (sym (weighed-renamed _ S) ∙ ap weighed (has.are.are f holds ∙ kept.all f holds));
     }
 
 -- what can be laid out can be so in any order

@@ -2,7 +2,7 @@
 use Rattle.std.proofs.Common.{◌≡◌, ℕ, ◌+◌, ◌<◌, ◌≤◌, List, [], ◌∷◌, ◌++◌, length, reverse, take, drop, get_or, map, refl, sym, ap, ◌∙◌, arith}
 use Rattle.std.specs.List.{sum_by}
 use Rattle.std.proofs.lemmas.List.{append-nil, append_assoc, drop_all, drop_more, length-drop, length-append, map-append, reverse-append, take_all, take_more, take-append-le, drop-append-le}
-use Rattle.std.proofs.lemmas.List.Sums.{sum_by-cons, sum_by_push}
+use Rattle.std.proofs.lemmas.List.Sums.{sum_by-append, sum_by-cons, sum_by_push}
 use Rattle.pp_count.specs.Sums.{Seen}
 use Rattle.pp_calltree.specs.declared.path.Part.{Part}
 use Rattle.pp_calltree.specs.declared.path.Path.{Path}
@@ -16,21 +16,20 @@ none_left : (xs : List ℕ) → length xs ≡ 0 → xs ≡ []
 none_left [] none = refl
 none_left (x ∷ xs) none = absurd (omega (arith, none))
 
--- one more path
-parts_push : (keys more : List ℕ) (parts : List Part) (s : Part) → sum_by len_of parts ≡ length keys → s.len ≡ length more
-    → parts_of (keys ++ more) (parts ++ s ∷ []) ≡ parts_of keys parts ++ record { value = s.value; keys = more } ∷ []
-parts_push keys more [] s whole own =
-    ap (λ ks. parts_of (ks ++ more) (s ∷ [])) (none_left keys (sym whole)) ∙ (λ i. record { value = s.value; keys = take_all s.len more (omega (arith, own)) i } ∷ [])
-parts_push keys more (x ∷ parts) s whole own =
+-- the paths of two lists of keys
+parts-append : (keys more : List ℕ) (parts others : List Part) → sum_by len_of parts ≡ length keys → parts_of (keys ++ more) (parts ++ others) ≡ parts_of keys parts ++ parts_of more others
+parts-append keys more [] others whole = ap (λ ks. parts_of (ks ++ more) others) (none_left keys (sym whole))
+parts-append keys more (x ∷ parts) others whole =
     let within : x.len ≤ length keys = omega (arith, whole, sum_by-cons len_of x parts) in
     let rest : sum_by len_of parts ≡ length (drop x.len keys) = omega (arith, whole, sum_by-cons len_of x parts, length-drop x.len keys) in
-    (λ i. record { value = x.value; keys = take-append-le x.len keys more within i } ∷ parts_of (drop-append-le x.len keys more within i) (parts ++ s ∷ []))
-    ∙ ap (λ r. record { value = x.value; keys = take x.len keys } ∷ r) (parts_push (drop x.len keys) more parts s rest own)
+    (λ i. record { value = x.value; keys = take-append-le x.len keys more within i } ∷ parts_of (drop-append-le x.len keys more within i) (parts ++ others))
+    ∙ ap (λ r. record { value = x.value; keys = take x.len keys } ∷ r) (parts-append (drop x.len keys) more parts others rest)
 
 pub kept_more : (old new : Paths) (samples : List (Seen ℕ)) (s : Part) (more : List ℕ) → new.keys.items ≡ old.keys.items ++ more → new.parts.items ≡ old.parts.items ++ s ∷ []
     → s.len ≡ length more → AreKeptAs old samples → AreKeptAs new (samples ++ record { value = s.value; keys = more } ∷ [])
 kept_more old new samples s more keys parts own kept = record {
-  are = (λ i. parts_of (keys i) (parts i)) ∙ parts_push old.keys.items more old.parts.items s kept.whole own ∙ ap (λ r. r ++ record { value = s.value; keys = more } ∷ []) kept.are;
+  are = (λ i. parts_of (keys i) (parts i)) ∙ parts-append old.keys.items more old.parts.items (s ∷ []) kept.whole
+      ∙ (λ i. kept.are i ++ record { value = s.value; keys = take_all s.len more (omega (arith, own)) i } ∷ []);
   whole = omega (
     arith,
     ap (sum_by len_of) parts,
@@ -39,6 +38,21 @@ kept_more old new samples s more keys parts own kept = record {
     length-append old.keys.items more,
     kept.whole,
     own,
+  );
+}
+
+pub kept_both : (old more new : Paths) (a b : List (Seen ℕ)) → new.keys.items ≡ old.keys.items ++ more.keys.items → new.parts.items ≡ old.parts.items ++ more.parts.items
+    → AreKeptAs old a → AreKeptAs more b → AreKeptAs new (a ++ b)
+kept_both old more new a b keys parts first second = record {
+  are = (λ i. parts_of (keys i) (parts i)) ∙ parts-append old.keys.items more.keys.items old.parts.items more.parts.items first.whole ∙ (λ i. first.are i ++ second.are i);
+  whole = omega (
+    arith,
+    ap (sum_by len_of) parts,
+    sum_by-append len_of old.parts.items more.parts.items,
+    ap length keys,
+    length-append old.keys.items more.keys.items,
+    first.whole,
+    second.whole,
   );
 }
 

@@ -1,5 +1,5 @@
 pub mod SiblingOrder
-pub mod Gathering
+pub mod CountedPaths
 pub mod Kept
 pub mod Sorting
 pub mod Runs

@@ -6,8 +6,8 @@ use Rattle.pp_model.specs.declared.loaded.Loaded.{Loaded}
 use Rattle.pp_model.specs.declared.verdicts.Verdicts.{Verdicts}
 use Rattle.pp_model.specs.Finders.{Finders}
 use Rattle.pp_count.specs.declared.scope.Scope.{Scope}
-use Rattle.pp_count.specs.Scope.{profile_in_scope, config_of, IsSoundScope}
-use Rattle.pp_count.specs.Seeing.{HoldsFilters}
+use Rattle.pp_count.specs.Scope.{profile_in_scope, config_of, samples_in_scope, AreCountable, IsSoundScope}
+use Rattle.pp_count.specs.Seeing.{HoldsFilters, seen_samples}
 use Rattle.pp_count.specs.Sums.{Seen}
 use Rattle.pp_calltree.specs.declared.path.Part.{Part}
 use Rattle.pp_calltree.specs.declared.paths.Paths.{Paths}
@@ -22,6 +22,14 @@ pub record IsScopeOf (l : Loaded) (v : Verdicts) (config : Config) (column : Opt
   pub v_is : scope.v.now ≡ v
   pub config_is : scope.config.now ≡ config
   pub column_is : scope.column ≡ column
+
+-- The scope chooses the samples that the filters leave, whose values can be added up.
+pub record ChoosesKept (scope : Scope) : Type 0 where
+  pub sound : IsSoundScope scope
+  pub countable : AreCountable scope (samples_in_scope scope)
+  pub all : (f : Finders) → HoldsFilters scope.l.now scope.v.now (config_of scope) f
+      → seen_samples (profile_in_scope scope) f (config_of scope) scope.column (samples_in_scope scope)
+      ≡ seen_samples (profile_in_scope scope) f (config_of scope) scope.column (profile_in_scope scope).sample
 
 -- the samples of the paths, by key numbers
 abbrev pub samples_of_paths : Paths → List (Seen ℕ)

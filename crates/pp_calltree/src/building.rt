@@ -1,5 +1,5 @@
 //! The call tree of a report's samples, and its paths with sums.
-ghost use Rattle.std.specs.Prelude.{◌≡◌, ℕ, List as Seq, map, Option, IfOk};
+ghost use Rattle.std.specs.Prelude.{◌≡◌, ℕ, List as Seq, length, map, Option, IfOk};
 ghost use Rattle.std.specs.List.Sorted.{IsPermutation};
 ghost use Rattle.std.proofs.Props.{props};
 ghost use Rattle.pp_model.specs.declared.config.Config.{Config as Options};
@@ -7,27 +7,29 @@ ghost use Rattle.pp_model.specs.declared.loaded.Loaded.{Loaded as Read};
 ghost use Rattle.pp_model.specs.declared.verdicts.Verdicts.{Verdicts as Found};
 ghost use Rattle.pp_model.specs.Finders.{Finders};
 ghost use Rattle.pp_count.specs.Seeing.{HoldsFilters};
-ghost use Rattle.pp_count.specs.Scope.{IsSoundScope};
+ghost use Rattle.pp_count.specs.Scope.{samples_in_scope};
 ghost use Rattle.pp_count.specs.Counts.{written_names};
 ghost use Rattle.pp_count.specs.Counted.{CanCount, IsCountedOf};
 ghost use Rattle.pp_calltree.specs.CallPaths.{ArePathsOf};
-ghost use Rattle.pp_calltree.specs.Gathered.{samples_of_paths, AreGathered, IsScopeOf};
+ghost use Rattle.pp_calltree.specs.Gathered.{samples_of_paths, AreGathered, ChoosesKept, IsScopeOf};
 ghost use Rattle.pp_calltree.specs.Links.{nodes_by};
 ghost use Rattle.pp_calltree.specs.Paths.{below, IsRising};
 ghost use Rattle.pp_calltree.specs.Tree.{IsTreeOf, flats_at};
 ghost use Rattle.pp_calltree.specs.Walk.{IsWalkOf};
 
+use crate::gathering::gather_paths;
 use crate::laying::lay_out;
 use crate::listing::{PathSum, list_paths};
 use crate::path::{Path, cut_paths, sort_paths};
-use crate::paths::{Paths, gather_paths};
+use crate::paths::{Paths, gather_range};
 use crate::tree::{CallTree, NumberedNode, PathNodes};
-use pp_base::{List, Memory};
+use pp_base::{Gate, List, Memory};
 use pp_count::{Counted, Scope, Survey};
 use pp_grain::Names;
 use pp_model::{Config, Loaded, Verdicts};
 use std::alloc::Global;
 use std::mem;
+use std::thread::Threads;
 
 /// The paths of the samples that put keys into a report.
 #[derive(Drop)]
@@ -48,14 +50,30 @@ pub struct PathSums<'a> {
 }
 
 impl<'a> ReportPaths<'a> {
-    /// Gathers the paths of the counted samples. `Err` is want of memory.
+    /// Gathers the paths of the counted samples, in pieces on as many lanes as the configuration has workers. `Err` is
+    /// want of memory.
+    pub fn gather_on<R: Threads + Sync, G: Gate>(
+        rt: &R,
+        alloc: Global,
+        survey: &Survey<'a>,
+        gate: &G,
+    ) -> Result<ReportPaths<'a>, Memory>
+        ensures same { IfOk result (λ r. IsScopeOf survey.now.l.now survey.now.v.now
+            survey.now.config.now survey.now.column r.scope) }
+    {
+        let scope = scope_of(survey);
+        let count = survey.counted.kept.len() as u32;
+        let paths = gather_paths(rt, alloc, &scope, count, gate)?;
+        Ok(ReportPaths { scope, paths })
+    }
+
+    /// What `gather_on` gives, without other threads.
     pub fn gather(alloc: Global, survey: &Survey<'a>) -> Result<ReportPaths<'a>, Memory>
         ensures same { IfOk result (λ r. IsScopeOf survey.now.l.now survey.now.v.now
             survey.now.config.now survey.now.column r.scope) }
     {
         let scope = scope_of(survey);
-        let samples = scope.l.profile.get().sample.as_slice();
-        let paths = gather_paths(alloc, &scope, samples, survey.counted.kept.as_slice())?;
+        let paths = gather_range(alloc, &scope, 0, survey.counted.kept.len() as u32)?;
         Ok(ReportPaths { scope, paths })
     }
 
@@ -132,7 +150,8 @@ impl<'a> CallTree<'a> {
             column,
             counted: c,
         };
-        let tree = PathNodes::build(alloc, &survey)?;
+        let gathered = ReportPaths::gather(alloc, &survey)?;
+        let tree = PathNodes::of(alloc, gathered)?;
         let parents = tree.parents(alloc)?;
         let nexts = tree.nexts(alloc)?;
         Ok(CallTree {
@@ -144,12 +163,12 @@ impl<'a> CallTree<'a> {
 }
 
 impl<'a> PathNodes<'a> {
-    /// The nodes of the tree that `CallTree::build` gives, without links. `Err` is want of memory.
-    pub fn build(alloc: Global, survey: &Survey<'a>) -> Result<PathNodes<'a>, Memory>
-        ensures { IfOk result (IsTreeOf survey.now.l.now survey.now.v.now survey.now.config.now
-            survey.now.column) }
+    /// The nodes of these paths, which are spent. `Err` is want of memory.
+    pub fn of(alloc: Global, gathered: ReportPaths<'a>) -> Result<PathNodes<'a>, Memory>
+        ensures { (l : Read) (v : Found) (config : Options) (column : Option ℕ) →
+            IsScopeOf l v config column gathered.entry.scope →
+            IfOk result (IsTreeOf l v config column) }
     {
-        let gathered = ReportPaths::gather(alloc, survey)?;
         let scope = gathered.scope;
         let nodes = gathered.nodes(alloc);
         mem::drop(gathered);
@@ -160,9 +179,10 @@ impl<'a> PathNodes<'a> {
     }
 }
 
-// How all samples are seen, each key by its number in the report's table.
+// How the kept samples are seen, each key by its number in the report's table.
 fn scope_of<'a>(survey: &Survey<'a>) -> Scope<'a>
-    ensures sound { IsSoundScope result }
+    ensures kept { ChoosesKept result }
+    ensures count { length (samples_in_scope result) ≡ length survey.now.counted.now.kept }
     ensures same { IsScopeOf survey.now.l.now survey.now.v.now survey.now.config.now
         survey.now.column result }
 {
@@ -174,6 +194,6 @@ fn scope_of<'a>(survey: &Survey<'a>) -> Scope<'a>
         column: survey.column,
         table: survey.table(),
         over: None,
-        chosen: None,
+        chosen: Some(survey.counted.kept.as_slice()),
     }
 }

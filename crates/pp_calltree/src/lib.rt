@@ -1,6 +1,7 @@
 //! The call tree of a report: what its samples come to by the path of their keys from the root, and its text.
 //!
-//! A call tree is laid out from paths: `paths` gathers the keys of each sample root first, `path` sorts them, and
+//! A call tree is laid out from paths: `paths` has the keys of each sample root first, which
+//! `gathering` gathers in pieces on the lanes. `path` sorts them, and
 //! samples below one path then stand together. `branching` cuts such a run by its next key, and `laying` writes the
 //! nodes of all branches into one list, parents before children.
 //!
@@ -12,6 +13,7 @@
 mod branch;
 mod branching;
 mod building;
+mod gathering;
 mod laying;
 mod linking;
 mod listing;
@@ -26,4 +28,4 @@ mod writing;
 pub use building::{PathSums, ReportPaths};
 pub use listing::PathSum;
 pub use tree::{CallTree, PathNode, key_at};
-pub use writing::write_calltree;
+pub use writing::{write_calltree, write_calltree_on};

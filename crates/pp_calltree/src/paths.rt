@@ -1,18 +1,14 @@
 //! The paths of a report's samples.
-ghost use Rattle.std.specs.Prelude.{◌≡◌, ℕ, ◌++◌, ◌∷◌, [], length, reverse, List as Seq, All, IfOk};
-ghost use Rattle.pp_model.specs.Conditions.{RefersTo, IsSampleOf};
-ghost use Rattle.pp_model.specs.Finders.{Finders};
+ghost use Rattle.std.specs.Prelude.{◌≡◌, ℕ, ◌+◌, ◌<◌, ◌≤◌, ◌^◌, ◌++◌, ◌∷◌, [], length, reverse, take, drop, List as Seq, IfOk};
 ghost use Rattle.pp_count.specs.Column.{selected};
-ghost use Rattle.pp_count.specs.Rising.{AreRisingBetween};
-ghost use Rattle.pp_count.specs.Scope.{IsSoundScope};
-ghost use Rattle.pp_count.specs.Seeing.{HoldsFilters, filtered_from};
+ghost use Rattle.pp_count.specs.Scope.{IsSoundScope, samples_in_scope};
 ghost use Rattle.pp_count.specs.Sums.{Seen};
 ghost use Rattle.pp_calltree.specs.CallTree.{rooted};
 ghost use Rattle.pp_calltree.specs.Paths.{rooted_if, AreKeptAs, HasPaths};
 
 use crate::path::Part;
 use pp_base::{List, Memory};
-use pp_count::{Scope, see, selected};
+use pp_count::{Scope, sample_at, see, selected};
 use pp_model::Sample;
 use std::alloc::Global;
 
@@ -26,6 +22,26 @@ pub struct Paths {
 }
 
 impl Paths {
+    /// No paths.
+    pub fn none(alloc: Global) -> Paths
+        ensures { AreKeptAs result [] }
+    {
+        Paths {
+            keys: Vec::new(alloc),
+            parts: Vec::new(alloc),
+        }
+    }
+
+    /// Adds the paths of the samples that follow.
+    pub fn join(&mut self, more: &Paths) -> Result<(), Memory>
+        ensures { (a : Seq (Seen ℕ)) (b : Seq (Seen ℕ)) → AreKeptAs self.old a → AreKeptAs more.now b →
+            IfOk result (λ _. AreKeptAs self.new (a ++ b)) }
+    {
+        self.keys.extend_from_slice(&more.keys)?;
+        self.parts.extend_from_slice(&more.parts)?;
+        Ok(())
+    }
+
     // Adds a sample of this value with these keys, leaf first.
     fn add(&mut self, value: i64, keys: &[u64]) -> Result<(), Memory>
         ensures { (samples : Seq (Seen ℕ)) → AreKeptAs self.old samples →
@@ -53,30 +69,18 @@ fn put_rooted(keys: &[u64], out: &mut Vec<u32>) -> Result<(), Memory>
     Ok(())
 }
 
-/// The paths of the samples with these numbers, but for samples of value 0.
-pub fn gather_paths(
-    alloc: Global,
-    scope: &Scope,
-    samples: &[Sample],
-    kept: &[u32],
-) -> Result<Paths, Memory>
+/// The paths of `count` of the samples that the scope chooses, from the place `first` on. Those of value 0 have none.
+pub fn gather_range(alloc: Global, scope: &Scope, first: u32, count: u32) -> Result<Paths, Memory>
     requires sound { IsSoundScope scope.now }
-    requires members { All (IsSampleOf scope.now.l.now.profile) samples.now }
-    requires refers { All (RefersTo scope.now.l.now.profile) samples.now }
-    requires rising { AreRisingBetween 0 (length samples.now) kept.now }
-    requires kept { (f : Finders) →
-        HoldsFilters scope.now.l.now scope.now.v.now scope.now.config.now f →
-        kept.now ≡ filtered_from scope.now.l.now.profile f scope.now.config.now 0 samples.now }
-    ensures { IfOk result (HasPaths scope.now samples.now) }
+    requires few { length (samples_in_scope scope.now) < 2 ^ 32 }
+    requires within { first + count ≤ length (samples_in_scope scope.now) }
+    ensures { IfOk result (HasPaths scope.now (take count (drop first (samples_in_scope scope.now)))) }
 {
     let mut stack = List::new(alloc);
     let mut keys = Vec::new(alloc);
-    let mut paths = Paths {
-        keys: Vec::new(alloc),
-        parts: Vec::new(alloc),
-    };
-    for number in kept {
-        let sample = &samples[*number as usize];
+    let mut paths = Paths::none(alloc);
+    for index in 0..count {
+        let sample = sample_at(scope, (first + index) as usize);
         if see(scope, sample, &mut stack, &mut keys)? {
             add_sample(scope, &mut paths, sample, &keys)?;
         }

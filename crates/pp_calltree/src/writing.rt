@@ -15,18 +15,41 @@ ghost use Rattle.pp_calltree.specs.Text.{calltree_text, flats_sum, indented, nod
 ghost use Rattle.pp_calltree.specs.Tree.{IsTreeOf};
 
 use crate::branching::plus;
+use crate::building::ReportPaths;
 use crate::shown::shown_nodes;
 use crate::tree::{PathNode, PathNodes};
-use pp_base::{Memory, Text};
+use pp_base::{Gate, Memory, Text};
 use pp_count::Survey;
 use pp_grain::write_name;
 use pp_model::{Config, Loaded};
 use pp_units::{HEADING, Head, put_dropped_nodes, write_head};
 use std::alloc::Global;
+use std::thread::Threads;
 
 /// Appends the text of the tree: the lines of the head, the heading, and a row for each node that is shown. A name has
 /// two spaces before it for each key above its own. Nodes whose cum is less than `nodefraction` of the head's total are
-/// left out with all below them. `Err` is want of memory, and `out` is then as it was.
+/// left out with all below them. Paths are gathered in pieces on as many lanes as the configuration has workers. `Err`
+/// is want of memory, and `out` is then as it was.
+pub fn write_calltree_on<R: Threads + Sync, G: Gate>(
+    rt: &R,
+    alloc: Global,
+    survey: &Survey<'_>,
+    head: &Head,
+    gate: &G,
+    out: &mut Text,
+) -> Result<(), Memory>
+    ensures ok { (f : Finders) →
+        HoldsFilters survey.now.l.now survey.now.v.now survey.now.config.now f →
+        OnOk result (out.new ≡ out.old ++ calltree_text survey.now.l.now.profile f
+        survey.now.config.now survey.now.column (facts head.now)) }
+    ensures err { OnErr result (out.new ≡ out.old) }
+{
+    let gathered = ReportPaths::gather_on(rt, alloc, survey, gate)?;
+    let nodes = PathNodes::of(alloc, gathered)?;
+    write_path_nodes(alloc, survey.l, &nodes, survey.config, head, out)
+}
+
+/// What `write_calltree_on` does, without other threads.
 pub fn write_calltree(
     alloc: Global,
     survey: &Survey<'_>,
@@ -39,7 +62,8 @@ pub fn write_calltree(
         survey.now.config.now survey.now.column (facts head.now)) }
     ensures err { OnErr result (out.new ≡ out.old) }
 {
-    let nodes = PathNodes::build(alloc, survey)?;
+    let gathered = ReportPaths::gather(alloc, survey)?;
+    let nodes = PathNodes::of(alloc, gathered)?;
     write_path_nodes(alloc, survey.l, &nodes, survey.config, head, out)
 }
 

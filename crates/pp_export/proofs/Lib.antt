@@ -1,3 +1,4 @@
+pub mod CellRuns
 pub mod PathNameLemmas
 pub mod Lines
 pub mod Rows

@@ -1,5 +1,5 @@
 //! Names and units in the texts of other programs.
-ghost use Rattle.std.specs.Prelude.{◌≡◌, ◌++◌, IfOk};
+ghost use Rattle.std.specs.Prelude.{◌≡◌, ◌++◌, ◌∷◌, [], true, IfOk};
 ghost use Rattle.pp_export.specs.Escaped.{escaped_name, frame_byte, cell_byte, cell_text};
 
 use pp_base::{Memory, Text};
@@ -34,14 +34,33 @@ fn frame_byte(byte: u8) -> u8
     }
 }
 
-/// Appends the text as a cell of a table.
+/// Appends the text as a cell of a table. Bytes between those that are escaped are copied together.
 pub fn put_cell(text: &[u8], out: &mut Text) -> Result<(), Memory>
     ensures { IfOk result (λ _. out.new ≡ out.old ++ cell_text text.now) }
 {
-    for byte in text {
-        put_cell_byte(*byte, out)?;
+    let mut start = 0;
+    for (place, byte) in text.iter().enumerate() {
+        if !is_plain(*byte) {
+            put_run(&text[start..place], *byte, out)?;
+            start = place + 1;
+        }
     }
-    Ok(())
+    out.extend(&text[start..])
+}
+
+// Bytes that stand for themselves, and then another one.
+fn put_run(plain: &[u8], byte: u8, out: &mut Text) -> Result<(), Memory>
+    ensures { IfOk result (λ _. out.new ≡ out.old ++ (plain.now ++ cell_byte byte)) }
+{
+    out.extend(plain)?;
+    put_cell_byte(byte, out)
+}
+
+// Whether the byte stands for itself in a cell.
+fn is_plain(byte: u8) -> bool
+    ensures { result ≡ true → cell_byte byte ≡ byte ∷ [] }
+{
+    byte != b'\t' && byte != b'\n' && byte != b'\r' && byte != b'\\'
 }
 
 fn put_cell_byte(byte: u8, out: &mut Text) -> Result<(), Memory>

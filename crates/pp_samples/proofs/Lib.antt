@@ -1,3 +1,4 @@
+pub mod FrameLineLemmas
 pub mod TraceLemmas
 pub mod TagNamesLemmas
 pub mod Slots

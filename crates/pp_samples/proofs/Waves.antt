@@ -10,7 +10,7 @@ use Rattle.pp_steal.specs.declared.piece.TheConstants.{PIECE}
 use Rattle.pp_steal.specs.Pieces.{piece_of}
 use Rattle.pp_steal.specs.Running.{AreOutcomes}
 use Rattle.pp_count.specs.Counts.{samples_at}
-use Rattle.pp_samples.specs.declared.trace.Traces.{Traces}
+use Rattle.pp_samples.specs.declared.subject.Traces.{Traces}
 use Rattle.pp_samples.specs.declared.tracing.Tracing.{Tracing}
 use Rattle.pp_samples.specs.Tracing.{trace_profile, sample_trace, FindsInTraces, HasTraces, traces_text_at}
 

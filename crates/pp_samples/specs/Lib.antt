@@ -1,5 +1,6 @@
 pub mod Comments
 pub mod Traces
+pub mod FrameLines
 pub mod Labels
 pub mod Tracing
 pub mod TagLines

@@ -9,7 +9,7 @@ use Rattle.pp_units.specs.Shown.{shown}
 use Rattle.pp_count.specs.Seeing.{HoldsFilters}
 use Rattle.pp_count.specs.Table.{written_key}
 use Rattle.pp_count.specs.Counts.{samples_at}
-use Rattle.pp_samples.specs.declared.trace.Traces.{Traces}
+use Rattle.pp_samples.specs.declared.subject.Traces.{Traces}
 use Rattle.pp_samples.specs.Traces.{trace_of}
 
 -- the profile of the samples

@@ -6,8 +6,10 @@
 #![tactic(auto)]
 
 mod comments;
+mod frame_lines;
 mod key_table;
 mod label_lines;
+mod subject;
 mod tag_counts;
 mod tag_lines;
 mod tag_name;

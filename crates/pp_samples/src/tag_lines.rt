@@ -174,23 +174,25 @@ fn put_values(
     ensures { IfOk result (λ _. out.new ≡ out.old
         ++ flat_map (λ line. entry_line (shown unit.now) size (line_entry line)) lines.now) }
 {
+    let mut scratch = Text::new(alloc);
     for line in lines {
-        put_line(alloc, unit, size, line, out)?;
+        put_line(alloc, unit, size, line, &mut scratch, out)?;
     }
     Ok(())
 }
 
-// The line of a tag, of a key of this size.
+// The line of a tag, of a key of this size. The scratch text is written over.
 fn put_line(
     alloc: Global,
     unit: &Unit,
     size: u64,
     line: &TagLine,
+    scratch: &mut Text,
     out: &mut Text,
 ) -> Result<(), Memory>
     ensures { IfOk result (λ _. out.new ≡ out.old ++ entry_line (shown unit.now) size (line_entry line.now)) }
 {
-    put_sum(alloc, unit, line.sum.sum, out)?;
+    put_sum(unit, line.sum.sum, scratch, out)?;
     out.extend(b" (")?;
     put_share(size, line.sum.sum, out)?;
     out.extend(b"): ")?;
@@ -198,12 +200,12 @@ fn put_line(
     out.extend(b"\n")
 }
 
-fn put_sum(alloc: Global, unit: &Unit, sum: i64, out: &mut Text) -> Result<(), Memory>
+fn put_sum(unit: &Unit, sum: i64, scratch: &mut Text, out: &mut Text) -> Result<(), Memory>
     ensures { IfOk result (λ _. out.new ≡ out.old ++ value_column (shown unit.now) sum) }
 {
-    let mut value = Text::new(alloc);
-    put_value(sum, unit, &mut value)?;
-    put_right(10, value.as_slice(), out)
+    scratch.clear();
+    put_value(sum, unit, scratch)?;
+    put_right(10, scratch.as_slice(), out)
 }
 
 fn put_share(size: u64, sum: i64, out: &mut Text) -> Result<(), Memory>

@@ -1,5 +1,5 @@
 //! The lines of samples in the traces report.
-ghost use Rattle.std.specs.Prelude.{◌≡◌, ◌++◌, [], map, All, IfOk};
+ghost use Rattle.std.specs.Prelude.{◌≡◌, ◌++◌, [], map, All, IfOk, IfSome};
 ghost use Rattle.std.specs.List.{flat_map};
 ghost use Rattle.pp_model.specs.Conditions.{IsSampleOf, RefersTo};
 ghost use Rattle.pp_model.specs.Finders.{Finders};
@@ -8,30 +8,22 @@ ghost use Rattle.pp_units.specs.Numbers.{value_text};
 ghost use Rattle.pp_grain.specs.Keys.{key_written, IsKeyOf};
 ghost use Rattle.pp_count.specs.Column.{selected};
 ghost use Rattle.pp_count.specs.Counts.{samples_at};
-ghost use Rattle.pp_count.specs.Scope.{IsSoundScope};
 ghost use Rattle.pp_samples.specs.Traces.{trace_separator, frame_line, trace_text};
 ghost use Rattle.pp_samples.specs.Tracing.{trace_profile, trace_key, FindsInTraces, HasTraces, IsKeyNumber, sample_trace};
 
+use crate::frame_lines::put_line;
 use crate::label_lines::write_labels;
+use crate::subject::Traces;
 use pp_base::{List, Memory, Text};
-use pp_count::{Scope, see, selected};
+use pp_count::{see, selected};
 use pp_grain::{Key, write_name};
 use pp_model::{Label, Loaded, Sample, Stack};
-use pp_units::{Unit, put_right, put_value};
+use pp_units::{put_right, put_value};
 use std::alloc::Global;
 
 /// The line between two samples: 11 dashes, a plus, 55 dashes.
 pub const SEPARATOR: &[u8] =
     b"-----------+-------------------------------------------------------\n";
-
-/// What all samples of a report are written by.
-#[derive(Clone, Copy)]
-pub struct Traces<'a> {
-    /// How they are seen.
-    pub scope: Scope<'a>,
-    /// How their values are printed.
-    pub unit: &'a Unit,
-}
 
 /// What is written of one sample, in room that is used again.
 #[derive(Drop)]
@@ -50,7 +42,6 @@ pub struct Room {
 
 /// The lines of the samples with these numbers.
 pub fn traces_at(alloc: Global, t: &Traces, numbers: &[u32]) -> Result<Text, Memory>
-    requires { IsSoundScope t.now.scope }
     ensures { IfOk result (HasTraces t.now numbers.now) }
 {
     let mut lines = Text::new(alloc);
@@ -58,8 +49,8 @@ pub fn traces_at(alloc: Global, t: &Traces, numbers: &[u32]) -> Result<Text, Mem
     Ok(lines)
 }
 
-fn put_traces(alloc: Global, t: &Traces, kept: &[u32], lines: &mut Text) -> Result<(), Memory>
-    requires { IsSoundScope t.now.scope }
+/// Appends the lines of the samples with these numbers.
+pub fn put_traces(alloc: Global, t: &Traces, kept: &[u32], lines: &mut Text) -> Result<(), Memory>
     ensures { (f : Finders) → FindsInTraces t.now f → IfOk result (λ _. lines.new ≡ lines.old
         ++ flat_map (sample_trace t.now f) (samples_at (trace_profile t.now) kept.now)) }
 {
@@ -87,7 +78,6 @@ fn put_sample(
     room: &mut Room,
     lines: &mut Text,
 ) -> Result<(), Memory>
-    requires sound { IsSoundScope t.now.scope }
     requires member { IsSampleOf (trace_profile t.now) s.now }
     requires refers { RefersTo (trace_profile t.now) s.now }
     ensures { (f : Finders) → FindsInTraces t.now f →
@@ -114,8 +104,7 @@ fn write_own_value(t: &Traces, s: &Sample, text: &mut Text) -> Result<(), Memory
 
 // The sample that the room holds.
 fn put_room(t: &Traces, room: &Room, lines: &mut Text) -> Result<(), Memory>
-    requires sound { IsSoundScope t.now.scope }
-    requires keys { All (IsKeyNumber t.now) room.now.keys.items }
+    requires { All (IsKeyNumber t.now) room.now.keys.items }
     ensures { IfOk result (λ _. lines.new ≡ lines.old ++ trace_text room.now.labels room.now.value
         (map (trace_key t.now) room.now.keys.items)) }
 {
@@ -130,36 +119,46 @@ fn put_room(t: &Traces, room: &Room, lines: &mut Text) -> Result<(), Memory>
 
 // The frames above the first one.
 fn put_others(t: &Traces, keys: &[u64], lines: &mut Text) -> Result<(), Memory>
-    requires sound { IsSoundScope t.now.scope }
-    requires keys { All (IsKeyNumber t.now) keys.now }
+    requires { All (IsKeyNumber t.now) keys.now }
     ensures { IfOk result (λ _. lines.new ≡ lines.old
         ++ flat_map (frame_line []) (map (trace_key t.now) keys.now)) }
 {
     for key in keys {
-        put_frame(t.scope.l, &key_at(t, *key), lines)?;
+        put_frame(t, *key, lines)?;
     }
     Ok(())
 }
 
 // The key of the number.
 fn key_at(t: &Traces, number: u64) -> Key
-    requires sound { IsSoundScope t.now.scope }
-    requires number { IsKeyNumber t.now number }
+    requires { IsKeyNumber t.now number }
     ensures key { key_written (trace_profile t.now) result ≡ trace_key t.now number }
     ensures of_profile { IsKeyOf (trace_profile t.now) result }
 {
     t.scope.table.names.key(number)
 }
 
-// A frame that nothing stands in front of: its ten places and the three after them are one text.
-#[tactic(auto, unfolding(crate::specs::Traces::frame_line))]
-fn put_frame(l: &Loaded, key: &Key, lines: &mut Text) -> Result<(), Memory>
-    requires { IsKeyOf l.now.profile key.now }
-    ensures { IfOk result (λ _. lines.new ≡ lines.old ++ frame_line [] (key_written l.now.profile key.now)) }
+// A frame that nothing stands in front of.
+fn put_frame(t: &Traces, number: u64, lines: &mut Text) -> Result<(), Memory>
+    requires { IsKeyNumber t.now number }
+    ensures { IfOk result (λ _. lines.new ≡ lines.old ++ frame_line [] (trace_key t.now number)) }
 {
-    lines.extend(b"             ")?;
-    write_name(l, key, lines)?;
-    lines.extend(b"\n")
+    match made_line(t, number) {
+        Some(line) => lines.extend(line),
+        None => put_line(t.scope.l, &key_at(t, number), lines),
+    }
+}
+
+// The line of the key with the number, where it is made.
+fn made_line<'a>(t: &Traces<'a>, number: u64) -> Option<&'a [u8]>
+    ensures { IfSome result (λ line. line.now ≡ frame_line [] (trace_key t.now number)) }
+{
+    let Some(place) = t.lines.places.get(number as usize) else {
+        return None;
+    };
+    let (_, rest) = t.lines.text.as_slice().split_at(place.start);
+    let (line, _) = rest.split_at(place.len);
+    Some(line)
 }
 
 // A frame below what stands in front of it, in the first ten places of its line.

@@ -8,13 +8,16 @@ ghost use Rattle.pp_count.specs.Counted.{CanCount, IsCountedOf};
 ghost use Rattle.pp_count.specs.Seeing.{HoldsFilters};
 ghost use Rattle.pp_samples.specs.Traces.{traces_text, trace_of};
 
-use crate::trace::{SEPARATOR, Traces};
+use crate::frame_lines::frame_lines;
+use crate::subject::Traces;
+use crate::trace::SEPARATOR;
 use crate::tracing::put_all;
 use pp_base::{Gate, Memory, Text};
 use pp_count::{Counted, Scope, Survey};
 use pp_model::{Config, Loaded, Verdicts};
 use pp_units::{Head, Unit, write_head};
 use std::alloc::Global;
+use std::mem;
 use std::thread::Threads;
 
 /// Appends the first lines of the head, and then each sample that the filters leave and that has a frame which counts:
@@ -88,18 +91,23 @@ fn put_samples<'x, R: Threads + Sync, G: Gate>(
         (shown unit.now)) survey.now.l.now.profile.sample) }
 {
     let kept = survey.counted.kept.as_slice();
-    let traces = Traces {
-        scope: Scope {
-            l: survey.l,
-            v: survey.v,
-            config: survey.config,
-            filters: survey.filters(),
-            column: survey.column,
-            table: survey.table(),
-            over: None,
-            chosen: None,
-        },
-        unit,
+    let scope = Scope {
+        l: survey.l,
+        v: survey.v,
+        config: survey.config,
+        filters: survey.filters(),
+        column: survey.column,
+        table: survey.table(),
+        over: None,
+        chosen: None,
     };
-    put_all(rt, alloc, &traces, kept, gate, lines)
+    let made = frame_lines(alloc, scope.l, &scope.table.names, kept.len())?;
+    let traces = Traces {
+        scope,
+        unit,
+        lines: &made,
+    };
+    let written = put_all(rt, alloc, &traces, kept, gate, lines);
+    mem::drop(made);
+    written
 }

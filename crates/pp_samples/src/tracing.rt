@@ -1,12 +1,11 @@
 //! The lines of all samples of a traces report, in waves of pieces on the lanes.
 ghost use Rattle.std.specs.Prelude.{◌≡◌, ◌++◌, ◌+◌, ◌*◌, ◌<◌, ◌^◌, length, take, drop, IfOk};
-ghost use Rattle.std.proofs.Props.{props};
 ghost use Rattle.pp_steal.specs.declared.piece.TheConstants.{PIECE};
 ghost use Rattle.pp_model.specs.Finders.{Finders};
-ghost use Rattle.pp_count.specs.Scope.{IsSoundScope};
 ghost use Rattle.pp_samples.specs.Tracing.{FindsInTraces, traces_text_at};
 
-use crate::trace::{Traces, traces_at};
+use crate::subject::Traces;
+use crate::trace::{put_traces, traces_at};
 use pp_base::{Gate, Memory, Text};
 use pp_steal::{Deal, Job, PIECE, piece_of, pieces_of, run_pieces};
 use std::alloc::Global;
@@ -28,7 +27,6 @@ pub struct Tracing<'a> {
     pub first: u32,
     /// How many pieces the wave has.
     pub pieces: u32,
-    pub ghost sound: { IsSoundScope traces.scope } by { Prim.hlevel props },
     pub ghost few: { length kept.now < 2 ^ 32 },
     pub ghost within: { PIECE * (first + pieces) < length kept.now + PIECE },
 }
@@ -51,7 +49,8 @@ impl Job for Tracing<'_> {
     }
 }
 
-/// Appends the lines of the samples with these numbers, in pieces on as many lanes as the configuration has workers.
+/// Appends the lines of the samples with these numbers, in pieces on as many lanes as the configuration has workers. One
+/// lane needs no pieces.
 pub fn put_all<'x, R: Threads + Sync, G: Gate>(
     rt: &R,
     alloc: Global,
@@ -60,11 +59,13 @@ pub fn put_all<'x, R: Threads + Sync, G: Gate>(
     gate: &G,
     lines: &mut Text,
 ) -> Result<(), Memory>
-    requires sound { IsSoundScope t.now.scope }
-    requires few { length kept.now < 2 ^ 32 }
+    requires { length kept.now < 2 ^ 32 }
     ensures { (f : Finders) → FindsInTraces t.now f →
         IfOk result (λ _. lines.new ≡ lines.old ++ traces_text_at t.now f kept.now) }
 {
+    if t.scope.config.workers == 1 {
+        return put_traces(alloc, t, kept, lines);
+    }
     let pieces = pieces_of(kept.len());
     for wave in 0..pieces.div_ceil(WAVE) {
         let first = wave * WAVE;

@@ -9,18 +9,15 @@ use Rattle.pp_samples.proofs.TraceLemmas.{traced_kept}
 use Rattle.pp_samples.proofs.traces.put_samples.Goals as goal
 
 -- the report sees its samples so
-pub put_all-requires-clause-sound : goal.put_all-requires-clause-sound
-put_all-requires-clause-sound g c = λ _ _. record {
-  filters = c.filters.ensures;
-  verdicts = c.args.survey.now.can.verdicts;
-  table = c.table.ensures;
-  few_kept = tt;
-  chosen = tt;
+pub invariant_of-traces : goal.invariant_of-traces
+invariant_of-traces g c = record {
+  sound = record { filters = c.filters.ensures; verdicts = c.args.survey.now.can.verdicts; table = c.table.ensures; few_kept = tt; chosen = tt };
+  made = c.in_ok-made.ensures;
 }
 
 -- each number is that of a sample
-pub put_all-requires-clause-few : goal.put_all-requires-clause-few
-put_all-requires-clause-few g c = λ _ _.
+pub put_all-written-requires-after_bounds : goal.put_all-written-requires-after_bounds
+put_all-written-requires-after_bounds g c = λ _ _.
     let survey = c.args.survey.now in
     let p = survey.l.now.profile in
     let kept : List ℕ = survey.counted.now.kept in
@@ -38,7 +35,7 @@ returns g c = λ f holds.
     let p = survey.l.now.profile in
     let unit = shown c.args.unit.now in
     let trace = trace_of p f survey.config.now survey.column unit in
-    subst (λ (text : List ℕ). IfOk c.put_all.result (λ _. c.put_all.new.lines ≡ c.args.lines.now ++ text))
+    subst (λ (text : List ℕ). IfOk c.put_all-written.result (λ _. c.put_all-written.new.lines ≡ c.args.lines.now ++ text))
     (ap (λ (kept : List ℕ). flat_map trace (samples_at p kept)) c.as_slice-kept.ensures
     ∙ sym (traced_kept p f survey.config.now survey.column unit survey.counted.now.kept (survey.counts.kept f holds)))
-    (c.put_all.ensures f holds)
+    (c.put_all-written.ensures f holds)

@@ -1,22 +1,15 @@
-use Rattle.pp_count.proofs.Kept.{values_fit}
-use Rattle.pp_count.proofs.Pieces.{all_members, all_refer}
+use Rattle.std.proofs.Common.{List, subst, arith}
+use Rattle.std.proofs.lemmas.List.{take_all}
+use Rattle.pp_model.specs.declared.profile.Sample.{Sample}
+use Rattle.pp_count.specs.Scope.{samples_in_scope}
+use Rattle.pp_calltree.specs.Paths.{HasPaths}
 use Rattle.pp_calltree.proofs.Built.{paths_gathered}
 use Rattle.pp_calltree.proofs.building.ReportPaths.gather.Goals as goal
 
-pub gather_paths-requires-clause-members : goal.gather_paths-requires-clause-members
-gather_paths-requires-clause-members c =
-    rw c.as_slice-samples.ensures (all_members c.scope_of-scope.result.l.now.profile c.get.result.now c.get.ensures.same)
-
-pub gather_paths-requires-clause-refers : goal.gather_paths-requires-clause-refers
-gather_paths-requires-clause-refers c =
-    rw c.as_slice-samples.ensures (all_refer c.scope_of-scope.result.l.now.profile c.get.result.now c.get.ensures.same c.get.ensures.valid)
-
 pub invariant_of-result : goal.invariant_of-result
 invariant_of-result c =
-    let same = c.scope_of-scope.ensures.same in
+    let scope = c.scope_of-scope.result in
     record {
-      gathered = paths_gathered c.scope_of-scope.result c.in_ok-paths.paths c.scope_of-scope.ensures.sound
-          (rw (same.l_is, same.config_is, same.column_is)
-          (values_fit c.args.survey.now.l.now.profile c.args.survey.now.column c.args.survey.now.config.now.divide_by c.args.survey.now.can.countable c.args.survey.now.can.column))
-          (rw (c.as_slice-samples.ensures, c.get.ensures.same) at c.in_ok-paths.ensures);
+      gathered = paths_gathered scope c.in_ok-paths.paths c.scope_of-scope.ensures.kept
+          (subst (λ (r : List Sample). HasPaths scope r c.in_ok-paths.paths) (take_all _ (samples_in_scope scope) (omega (arith, c.scope_of-scope.ensures.count, c.len.ensures))) c.in_ok-paths.ensures);
     }
