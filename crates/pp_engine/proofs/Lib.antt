@@ -14,6 +14,10 @@ pub mod LineLemmas
 pub mod Lasting
 pub mod ValidEnds
 pub mod Fronts
+pub mod SavedFits
+pub mod RegionLemmas
+pub mod MergedTells
+pub mod LoadedLemmas
 pub mod Leaving
 pub mod Runs
 pub mod AlikeLemmas

@@ -31,7 +31,8 @@ pub fn run_program<R: Threads + Sync, F: Files, I: Source, O: Sink, E: Sink, M: 
     matcher: &mut M,
     profile: &mut Option<Loaded>,
 ) -> ExitCode
-    ensures { let before = moment (outside (O.written out.old) (E.written err.old) (F.content files.old) (F.reads files.old))
+    ensures { let before = moment
+        (outside (O.written out.old) (E.written err.old) (F.content files.old) (F.reads files.old))
         (F.locked files.old) (I.left input.old) (M.answers matcher.old)
         (fault_counts (F.faults files.old) (I.faults input.old) (O.faults out.old) (E.faults err.old)) profile.old in
         let after = moment (outside (O.written out.new) (E.written err.new) (F.content files.new) (F.reads files.new))

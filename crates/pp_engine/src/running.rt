@@ -24,8 +24,8 @@ use std::thread::Threads;
 /// standard input, both outputs and a matcher of patterns. A report's text is whole before its first byte goes out, and
 /// the line of an ending is written last.
 ///
-/// The profile that was loaded is left in `profile`, `None` where loading refused it, and what stood there where nothing
-/// was loaded. To give up a large one takes longer than to end the process.
+/// The profile that was loaded is left in `profile`, `None` where loading refused it, and what stood there where
+/// nothing was loaded. To give up a large one takes longer than to end the process.
 pub fn run<R: Threads + Sync, F: Files, I: Source, O: Sink, E: Sink, M: Matcher, G: Gate>(
     with: &Host<'_, R, G>,
     words: &[Text],
