@@ -4,3 +4,4 @@ mod OneFileLemmas
 mod OfOneLemmas
 mod ReportLemmas
 mod AnswerLemmas
+mod FigureLemmas

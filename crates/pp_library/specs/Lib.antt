@@ -1,3 +1,4 @@
 pub mod Asked
 pub mod Loads
 pub mod Reports
+pub mod Figures
