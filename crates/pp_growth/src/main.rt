@@ -1,26 +1,22 @@
-//! The allocations of two days: what each column shows first, what changed most, and what the parser takes on each day.
+//! The allocations of two days: what each column shows first, what grew, and what the parser takes on each day.
 #![tactic(auto)]
 
-ghost use Rattle.pp_model.specs.Sizes.{IsCountable};
-
-use anyhow::{Result, bail, ensure};
+use anyhow::Result;
 use pp_base::{List, Text};
-use pp_edit::{copy_compact, is_countable, set_label, without_patterns};
-use pp_keys::HashKeys;
-use pp_library::{Countable, load, report};
-use pp_merge::{agree, merge, subtract};
-use pp_model::{BaseKind, Compact, Config, Report, Valid};
+use pp_edit::set_label;
+use pp_library::{Countable, Figure, FigureTable, figures, load, merge, report};
+use pp_model::{Config, Report};
 use pp_regex::RegexMatcher;
+use std::alloc::Global;
 use std::io::Write;
 
 fn main(rt: HostRuntime) -> Result<()> {
     let mut matcher = RegexMatcher::new(rt.alloc());
     let monday = read(&rt, "monday.pb", &mut matcher)?;
     let tuesday = read(&rt, "tuesday.pb", &mut matcher)?;
-    let change = difference(&rt, &monday, &tuesday)?;
-    let text = columns(&rt, &tuesday, &change, &mut matcher)?;
+    let text = compare(&rt, &monday, &tuesday, &mut matcher)?;
     rt.stdout().write_all(text.as_slice())?;
-    let both = join(&rt, monday, tuesday)?;
+    let both = join(&rt, monday, tuesday, &mut matcher)?;
     let text = parser(&rt, &both, &mut matcher)?;
     Ok(rt.stdout().write_all(text.as_slice())?)
 }
@@ -30,63 +26,69 @@ fn read(rt: &HostRuntime, path: &str, matcher: &mut RegexMatcher) -> Result<Coun
     Ok(load(rt, rt.alloc(), bytes, matcher)?)
 }
 
-// The second day less the first.
-fn difference(rt: &HostRuntime, old: &Countable, new: &Countable) -> Result<Countable> {
-    if let Some(what) = agree(new.loaded.profile.valid(), old.loaded.profile.valid()) {
-        bail!("the days differ in {what:?}");
-    }
-    let samples = new.profile().sample.len() + old.profile().sample.len();
-    ensure!(samples < 1 << 32, "too many samples");
-    let source = copy_compact(rt.alloc(), &new.loaded.profile)?;
-    let base = copy_compact(rt.alloc(), &old.loaded.profile)?;
-    let kind = BaseKind::DiffBase;
-    let change = subtract(rt.alloc(), HashKeys::random(rt), source, base, kind)?;
-    countable(change, Some(kind))
-}
-
-// The first three functions of each column, and the three that changed most.
-fn columns(
+// For each column, the first three functions of the second day, and those of which the cum grew by more than a tenth.
+fn compare(
     rt: &HostRuntime,
+    old: &Countable,
     new: &Countable,
-    change: &Countable,
     matcher: &mut RegexMatcher,
 ) -> Result<Text> {
-    let mut text = Text::new(rt.alloc());
+    let mut out = Text::new(rt.alloc());
     let mut config = Config::standard(rt.alloc())?;
-    config.nodecount = 3;
     for column in 0..new.profile().sample_type.len() {
         let name = format!(in rt.alloc(); "{column}")?;
         config.sample_index = Text::from_slice(rt.alloc(), name.as_bytes())?;
-        let first = report(rt, rt.alloc(), new, &Report::Table, &config, matcher)?;
-        text.extend(first.as_slice())?;
-        let changed = report(rt, rt.alloc(), change, &Report::Changes, &config, matcher)?;
-        text.extend(changed.as_slice())?;
+        let before = figures(rt, rt.alloc(), old, &config, matcher)?;
+        let after = figures(rt, rt.alloc(), new, &config, matcher)?;
+        put_column(rt.alloc(), &before, &after, &mut out)?;
     }
-    Ok(text)
+    Ok(out)
+}
+
+fn put_column(alloc: Global, old: &FigureTable, new: &FigureTable, out: &mut Text) -> Result<()> {
+    put_line(new.kind.as_slice(), out)?;
+    for row in new.rows.as_slice().iter().take(3) {
+        put_row(alloc, row, out)?;
+    }
+    put_line(b"grew:", out)?;
+    for row in new.rows.as_slice() {
+        let cum = cum_of(old, row.name.as_slice());
+        if row.cum.saturating_sub(cum) > cum / 10 {
+            put_row(alloc, row, out)?;
+        }
+    }
+    Ok(())
+}
+
+fn cum_of(figures: &FigureTable, name: &[u8]) -> i64 {
+    let mut rows = figures.rows.as_slice().iter();
+    match rows.find(|row| row.name.as_slice() == name) {
+        Some(row) => row.cum,
+        None => 0,
+    }
+}
+
+fn put_row(alloc: Global, row: &Figure, out: &mut Text) -> Result<()> {
+    out.extend(format!(in alloc; "{:>10} {:>10}  ", row.flat, row.cum)?.as_bytes())?;
+    put_line(row.name.as_slice(), out)
+}
+
+fn put_line(line: &[u8], out: &mut Text) -> Result<()> {
+    out.extend(line)?;
+    Ok(out.extend(b"\n")?)
 }
 
 // Both days as one profile, whose samples carry their days.
-fn join(rt: &HostRuntime, old: Countable, new: Countable) -> Result<Countable> {
-    let old = set_label(rt.alloc(), old.into_valid(), b"day", b"monday")?;
-    let new = set_label(rt.alloc(), new.into_valid(), b"day", b"tuesday")?;
-    countable(merge_two(rt, old, new)?, None)
-}
-
-fn merge_two(rt: &HostRuntime, first: Valid, second: Valid) -> Result<Compact>
-    requires { IsCountable first × IsCountable second }
-{
-    let samples = first.get().sample.len() + second.get().sample.len();
-    ensure!(samples < 1 << 32, "too many samples");
-    let mut list = List::new(rt.alloc());
-    list.push(first)?;
-    list.push(second)?;
-    Ok(merge(rt.alloc(), HashKeys::random(rt), list)?)
-}
-
-fn countable(profile: Compact, base: Option<BaseKind>) -> Result<Countable> {
-    ensure!(is_countable(profile.get()), "the sums are too large");
-    let loaded = without_patterns(profile);
-    Ok(Countable { loaded, base })
+fn join(
+    rt: &HostRuntime,
+    old: Countable,
+    new: Countable,
+    matcher: &mut RegexMatcher,
+) -> Result<Countable> {
+    let mut days = List::new(rt.alloc());
+    days.push(set_label(rt.alloc(), old.into_valid(), b"day", b"monday")?)?;
+    days.push(set_label(rt.alloc(), new.into_valid(), b"day", b"tuesday")?)?;
+    Ok(merge(rt, rt.alloc(), days, matcher)?)
 }
 
 // Saves what goes through the parser, and tells it by days.

@@ -5,3 +5,4 @@ mod OfOneLemmas
 mod ReportLemmas
 mod AnswerLemmas
 mod FigureLemmas
+mod MergeLemmas
