@@ -6,6 +6,7 @@ mod RowsAlike
 mod Sizes
 mod Passed
 mod Parts
+mod Lines
 mod Accounting
 mod Moved
 mod Sourced

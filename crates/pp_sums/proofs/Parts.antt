@@ -64,7 +64,7 @@ none_either true = refl
 none_either false = refl
 
 -- the first of these passes
-abbrev first_passes : {K : Type 0} → (K → Bool) → List K → Bool
+abbrev pub first_passes : {K : Type 0} → (K → Bool) → List K → Bool
 first_passes test [] = false
 first_passes test (k ∷ keys) = test k
 
@@ -77,33 +77,36 @@ module _ {K : Type 0} {order : K → K → Ordering} (o : IsTotalOrder order) (t
 
   -- a sample's value is in the flat of one key that passes, its leaf's, if that passes
   one_leaf : (s : Seen K) (keys : List K) → IsDistinct (eq_by_cmp order) keys
-      → ((k : K) → has order k s.keys ≡ true → list_any (eq_by_cmp order k) keys ≡ true)
+      → ((k : K) → test k ≡ true → has order k s.keys ≡ true → list_any (eq_by_cmp order k) keys ≡ true)
       → sum_over (λ k. part (leads order k) s) (filter test keys) ≡ part (first_passes test) s
   one_leaf s keys apart known =
-      elim s.keys as (λ ks. ((k : K) → has order k ks ≡ true → list_any (eq_by_cmp order k) keys ≡ true)
+      elim s.keys as (λ ks. ((k : K) → test k ≡ true → has order k ks ≡ true → list_any (eq_by_cmp order k) keys ≡ true)
       → sum_over (λ k. cond (leads order k ks) s.value (pos 0)) (filter test keys) ≡ cond (first_passes test ks) s.value (pos 0)) [
         | [] ↦ λ h. sum_none (filter test keys)
         | q ∷ ks ↦ λ h.
             sum_passing (λ k. cond (eq_by_cmp order k q) s.value (pos 0)) test keys
             ∙ sum_same _ (λ k. cond (eq_by_cmp order k q) (cond (test q) s.value (pos 0)) (pos 0)) keys (λ k. if_one s.value k q)
-            ∙ one_match (eq_by_cmp_equiv o) (cond (test q) s.value (pos 0)) q keys apart (h q (ap (λ b. b || has order q ks) ((eq_by_cmp_equiv o).refl q)))
+            ∙ elim (test q) as (λ b. test q ≡ b → sum_over (λ k. cond (eq_by_cmp order k q) (cond b s.value (pos 0)) (pos 0)) keys ≡ cond b s.value (pos 0)) [
+              | true ↦ λ is. one_match (eq_by_cmp_equiv o) s.value q keys apart (h q is (ap (λ b. b || has order q ks) ((eq_by_cmp_equiv o).refl q)))
+              | false ↦ λ is. sum_same _ (λ k. pos 0) keys (λ k. none_either (eq_by_cmp order k q)) ∙ sum_none keys
+            ] refl
       ] known
 
   -- the flats of the keys that pass
-  flats_of_parts : (ss : List (Seen K)) (keys : List K) → IsDistinct (eq_by_cmp order) keys
-      → ((k : K) → occurs order ss k ≡ true → list_any (eq_by_cmp order k) keys ≡ true)
+  pub flats_of_parts : (ss : List (Seen K)) (keys : List K) → IsDistinct (eq_by_cmp order) keys
+      → ((k : K) → test k ≡ true → occurs order ss k ≡ true → list_any (eq_by_cmp order k) keys ≡ true)
       → sum_over (flat order ss) (filter test keys) ≡ sum_where (first_passes test) ss
   flats_of_parts [] keys apart known = sum_none (filter test keys)
   flats_of_parts (s ∷ ss) keys apart known =
       sum_plus (λ k. part (leads order k) s) (flat order ss) (filter test keys)
-      ∙ (λ i. one_leaf s keys apart (λ k is. known k (ap (λ b. b || occurs order ss k) is)) i
-      +ℤ flats_of_parts ss keys apart (λ k is. known k (or_right (has order k s.keys) (occurs order ss k) is)) i)
+      ∙ (λ i. one_leaf s keys apart (λ k passes is. known k passes (ap (λ b. b || occurs order ss k) is)) i
+      +ℤ flats_of_parts ss keys apart (λ k passes is. known k passes (or_right (has order k s.keys) (occurs order ss k) is)) i)
 
-sum_where-renamed : {J K : Type 0} (g : J → K) (test : List K → Bool) (ss : List (Seen J)) → sum_where test (map (renamed g) ss) ≡ sum_where (λ ks. test (map g ks)) ss
+pub sum_where-renamed : {J K : Type 0} (g : J → K) (test : List K → Bool) (ss : List (Seen J)) → sum_where test (map (renamed g) ss) ≡ sum_where (λ ks. test (map g ks)) ss
 sum_where-renamed g test [] = refl
 sum_where-renamed g test (s ∷ ss) = ap (λ v. cond (test (map g s.keys)) s.value (pos 0) +ℤ v) (sum_where-renamed g test ss)
 
-sum_where_same : {K : Type 0} (a b : List K → Bool) → ((ks : List K) → a ks ≡ b ks) → (ss : List (Seen K)) → sum_where a ss ≡ sum_where b ss
+pub sum_where_same : {K : Type 0} (a b : List K → Bool) → ((ks : List K) → a ks ≡ b ks) → (ss : List (Seen K)) → sum_where a ss ≡ sum_where b ss
 sum_where_same a b same [] = refl
 sum_where_same a b same (s ∷ ss) = λ i. cond (same s.keys i) s.value (pos 0) +ℤ sum_where_same a b same ss i
 
@@ -111,8 +114,15 @@ none_renamed : {J K : Type 0} (g : J → K) (ss : List (Seen J)) → NoneNegativ
 none_renamed g [] none = tt
 none_renamed g (s ∷ ss) none = (none.0, none_renamed g ss none.1)
 
+-- the frames of a report have no negative value where its samples have none
+pub frames_above : (p : Profile) (f : Finders) (config : Config) (column : Option ℕ)
+    → NoneNegative (seen_samples p f config column p.sample) → NoneNegative (report_frames p f config column)
+frames_above p f config column none =
+    none_weighed (framed_samples p f config column p.sample)
+    (none_renamed (key_of_written config) (framed_samples p f config column p.sample) (subst NoneNegative (sym (keyed_frames p f config column p.sample)) none))
+
 -- tests that pass alike
-alike : (a b : Bool) → (a ≡ true → b ≡ true) → (b ≡ true → a ≡ true) → a ≡ b
+pub alike : (a b : Bool) → (a ≡ true → b ≡ true) → (b ≡ true → a ≡ true) → a ≡ b
 alike true b first second = sym (first refl)
 alike false true first second = second refl
 alike false false first second = refl
@@ -208,12 +218,7 @@ module _ (coarse fine : Grain) (p : Profile) (f : Finders) (config : Config) (co
       ∙ sym (over_frames fine (first_passes of_key))
       ∙ sym (flats_of_parts key_cmp_total of_key (λ a b is. ap of_key ((key_decides a b).0 is))
       (report_samples p f (at_grain fine config) column) (all_report_keys p f (at_grain fine config) column)
-      (rows_apart p f (at_grain fine config) column) (rows_known p f (at_grain fine config) column))
-
-  frames_above : NoneNegative (seen_samples p f config column p.sample) → NoneNegative frames
-  frames_above none =
-      none_weighed (framed_samples p f config column p.sample)
-      (none_renamed (key_of_written config) (framed_samples p f config column p.sample) (subst NoneNegative (sym (keyed_frames p f config column p.sample)) none))
+      (rows_apart p f (at_grain fine config) column) (λ k passes is. rows_known p f (at_grain fine config) column k is))
 
   part_stands : (part : Written) → of_key part ≡ true → (ws : List Written) → has key_cmp part (map by_fine ws) ≡ true → has key_cmp k (map by_coarse ws) ≡ true
   part_stands part of [] is = is
@@ -226,7 +231,7 @@ module _ (coarse fine : Grain) (p : Profile) (f : Finders) (config : Config) (co
   cum_is none part of =
       subst (λ v. v ≤ℤ cum key_cmp (report_samples p f (at_grain coarse config) column) k) (sym (over_frames fine (has key_cmp part)))
       (subst (λ v. sum_where (λ ws. has key_cmp part (map by_fine ws)) frames ≤ℤ v) (sym (over_frames coarse (has key_cmp k)))
-      (sum_where_within (λ ws. has key_cmp part (map by_fine ws)) (λ ws. has key_cmp k (map by_coarse ws)) (part_stands part of) frames (frames_above none)))
+      (sum_where_within (λ ws. has key_cmp part (map by_fine ws)) (λ ws. has key_cmp k (map by_coarse ws)) (part_stands part of) frames (frames_above p f config column none)))
 
   pub parts_sum : IsSumOfParts coarse fine p f config column k
   parts_sum = record { flat = flat_is; cum = cum_is }

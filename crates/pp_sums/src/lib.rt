@@ -9,6 +9,7 @@ mod callers;
 mod changes;
 mod coarser;
 mod finer;
+mod listed;
 mod shown;
 mod sources;
 
@@ -16,5 +17,6 @@ pub use callers::edges_account_for_keys;
 pub use changes::changes_add_up;
 pub use coarser::coarser_files_report_alike;
 pub use finer::parts_add_up;
+pub use listed::listed_lines_add_up;
 pub use shown::{tags_add_up, traces_add_up};
 pub use sources::{no_key_vanishes_in_a_merge, source_order_is_free};
