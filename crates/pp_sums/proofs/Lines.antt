@@ -1,7 +1,7 @@
 -- A routine of the list report is the sum of its lines.
-use Rattle.std.proofs.Common.{◌≡◌, ℕ, Bool, true, false, cond, ◌||◌, pos, List, [], ◌∷◌, ◌++◌, map, flat_map, Option, refl, sym, ap, subst, ◌∙◌}
+use Rattle.std.proofs.Common.{◌≡◌, ℕ, Bool, true, false, cond, ◌||◌, pos, List, [], ◌∷◌, ◌++◌, map, Option, refl, sym, ap, subst, ◌∙◌}
 use Rattle.std.specs.Prelude.{◌≤ℤ◌}
-use Rattle.std.specs.List.{IsDistinct, filter, list_any}
+use Rattle.std.specs.List.{filter, list_any}
 use Rattle.std.specs.Ordering.{eq_by_cmp}
 use Rattle.std.specs.Option.{option_map_or}
 use Rattle.std.proofs.lemmas.Bool.{and_from, and_parts, or_right}
@@ -13,7 +13,7 @@ use Rattle.pp_model.specs.Finders.{Finders}
 use Rattle.pp_model.specs.FrameTexts.{Written}
 use Rattle.pp_grain.specs.Keys.{key_cmp}
 use Rattle.pp_grain.proofs.CallerLemmas.{key_cmp_total}
-use Rattle.pp_count.specs.Sums.{Seen, renamed, has, leads, occurs, flat, cum, all_keys}
+use Rattle.pp_count.specs.Sums.{Seen, renamed, sum_where, has, leads, occurs, all_keys}
 use Rattle.pp_count.specs.Seeing.{seen_samples}
 use Rattle.pp_count.specs.Counted.{finds_own, report_frames}
 use Rattle.pp_count.proofs.Renaming.{all_keys_occur}
@@ -98,7 +98,7 @@ module _ (p : Profile) (f : Finders) (config : Config) (column : Option ℕ) (w 
   cum_is : NoneNegative (seen_samples p f config column p.sample) → (number : ℕ) → (line_amounts frames w number).cum ≤ℤ (routine_amounts frames w).cum
   cum_is none number =
       subst (λ v. v ≤ℤ (routine_amounts frames w).cum) (sym (sum_where-renamed source_line (has key_cmp (line_numbered w number)) frames))
-      (subst (λ v. _ ≤ℤ v) (sym (sum_where-renamed routine_of (has key_cmp (routine_of w)) frames))
+      (subst (λ v. sum_where (λ ws. has key_cmp (line_numbered w number) (map source_line ws)) frames ≤ℤ v) (sym (sum_where-renamed routine_of (has key_cmp (routine_of w)) frames))
       (sum_where_within (λ ws. has key_cmp (line_numbered w number) (map source_line ws)) (λ ws. has key_cmp (routine_of w) (map routine_of ws))
       (line_stands number) frames (frames_above p f config column none)))
 
