@@ -3,12 +3,14 @@
 
 usage: packing.py PROGRAM
 
-The package is made twice and looked at. Then dpkg installs it in a system of its own, below a folder for temporary files,
-and takes it away again. Each check that differs is printed; the last line counts. The status is 1 where any differs, else 0.
+The package is made twice and looked at, also by lintian, where that is there. Then dpkg installs it in a system of its
+own, below a folder for temporary files, and takes it away again. Each check that differs is printed; the last line counts.
+The status is 1 where any differs, else 0.
 """
 
 import os
 import pathlib
+import shutil
 import subprocess
 import sys
 import tempfile
@@ -63,6 +65,8 @@ def contents(place, program):
     yield "sums of files", sorted(line.split("  ")[1] for line in summed.splitlines()), owed_files()
     left = run(["md5sum", "--quiet", "-c", "DEBIAN/md5sums"], [], place / "apart")
     yield "files that differ from their sums", left, (b"", b"", 0)
+    if shutil.which("lintian"):
+        yield "the status of lintian", run(["lintian", "--fail-on", "error"], [str(place / "one" / name)], place)[2], 0
 
 
 def installed(place, program):
