@@ -13,9 +13,7 @@ SOURCE_LIMIT = 134_217_728
 
 def saved(profile, kept):
     """The profile of what the filters leave: stacks and labels as they are left, all values, and no own patterns."""
-    samples = tuple(
-        sample._replace(places=places_left(stack), tags=tuple(tags)) for sample, stack, tags in kept
-    )
+    samples = tuple(sample._replace(places=places_left(stack), tags=tuple(tags)) for sample, stack, tags in kept)
     return merge([profile.but(samples=samples, drop_frames=b"", keep_frames=b"")])
 
 

@@ -2,7 +2,7 @@
 
 import re
 
-from model.profile import GREATEST, Counted, Place, Plain, Region
+from model.profile import GREATEST, Counted, Place, Plain, Region, Told
 
 REGION = re.compile(
     rb"([0-9a-fA-F]{1,16})-([0-9a-fA-F]{1,16}) +([^ ]{4}) +([0-9a-fA-F]{1,16}) +[^ ]+ +[^ ]+(?: +(.*))?",
@@ -10,12 +10,11 @@ REGION = re.compile(
 )
 
 
-class LegacyFault(Exception):
+class LegacyFault(Told):
     """The first fault: its kind and the word at which it is."""
 
     def __init__(self, kind, word):
-        super().__init__(kind, word)
-        self.text = b"%s at word %d" % (kind, word)
+        super().__init__(b"%s at word %d" % (kind, word))
 
 
 def is_legacy(data):
@@ -90,9 +89,6 @@ def read_legacy(data):
             known[address] = Place(region, address, (), False)
         return known[address]
 
-    samples = tuple(
-        Counted(tuple(map(place_of, addresses)), (), (count, count * period))
-        for count, addresses in records
-    )
+    samples = tuple(Counted(tuple(map(place_of, stack)), (), (count, count * period)) for count, stack in records)
     types = (b"samples", b"count"), (b"cpu", b"nanoseconds")
     return Plain(types, samples, tuple(regions), (b"cpu", b"nanoseconds"), period=period)

@@ -4,17 +4,13 @@ Sources are merged, then bases. A report on several files is that on their merge
 told by texts and numbers, never by ids (docs/GLOSSARY.md, docs/laws.md).
 """
 
-from model.profile import GREATEST, LEAST, Counted, Place, Plain, Routine, Row, Tag
+from model.profile import GREATEST, LEAST, Counted, Place, Plain, Routine, Row, Tag, Told
 
 BASE = Tag(b"pprof::base", b"true", 0, b"")
 
 
-class LoadRefusal(Exception):
-    """A profile that can't be loaded; its text is the message after `pprof: `."""
-
-    def __init__(self, text):
-        super().__init__(text)
-        self.text = text
+class LoadRefusal(Told):
+    """A profile that can't be loaded."""
 
 
 def region_key(region):
@@ -112,29 +108,17 @@ def normalize(source, base):
 
 def subtract(source, base, is_marked):
     """The source less the base. With -diff_base (`is_marked`) the base's samples get a label that tells them."""
-    less = [
-        sample._replace(
-            values=tuple(-value for value in sample.values),
-            tags=sample.tags + ((BASE,) if is_marked else ()),
-        )
-        for sample in base.samples
-    ]
+    marks = (BASE,) if is_marked else ()
+    less = [s._replace(values=tuple(-value for value in s.values), tags=s.tags + marks) for s in base.samples]
     return merge([source, base.but(samples=tuple(less))])
 
 
 def generated(count):
     """The profile of -gen: stacks of fn0 to fn7 below main, one after the other, each sample with its own label id."""
     names = [(b"main", 1)] + [(b"fn%d" % k, k + 2) for k in range(8)]
-    places = [
-        Place(None, 0, (Row(Routine(name, b"", b"gen.c", 0), line, 0),), False)
-        for name, line in names
-    ]
+    places = [Place(None, 0, (Row(Routine(name, b"", b"gen.c", 0), line, 0),), False) for name, line in names]
     samples = [
-        Counted(
-            tuple(reversed(places[: i % 8 + 2])),
-            (Tag(b"id", b"", i, b""),),
-            (1, (i % 8 + 1) * 1000),
-        )
+        Counted(tuple(reversed(places[: i % 8 + 2])), (Tag(b"id", b"", i, b""),), (1, (i % 8 + 1) * 1000))
         for i in range(count)
     ]
     types = (b"samples", b"count"), (b"cpu", b"nanoseconds")

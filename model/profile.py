@@ -15,6 +15,14 @@ class Unspoken(Exception):
     """Something that the model does not speak of."""
 
 
+class Told(Exception):
+    """What ends a session, a report or a line with a message; its text is the message after `pprof: `."""
+
+    def __init__(self, text):
+        super().__init__(text)
+        self.text = text
+
+
 # The messages of profile.proto: for each field in the order of its number its name and form, which is u, i or b for
 # an unsigned or signed number or a flag, t for a text, or a message; `*` behind it for a list.
 MESSAGES = {
@@ -92,10 +100,7 @@ def plain(tables):
         m.id: Region(m.start, m.limit, m.offset, text[m.file], text[m.build], flags_of(m))
         for m in tables.mapping
     }
-    routines = {
-        f.id: Routine(text[f.name], text[f.system_name], text[f.file], f.start_line)
-        for f in tables.function
-    }
+    routines = {f.id: Routine(text[f.name], text[f.system_name], text[f.file], f.start_line) for f in tables.function}
     places = {
         at.id: Place(
             regions.get(at.mapping_id),

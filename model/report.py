@@ -3,6 +3,7 @@
 from model import dumps, reports
 from model.counting import Selected, column_of
 from model.patterns import Refused, finder
+from model.profile import Told
 from model.stacks import by_texts, filtered, frames_of, load_pruned
 from model.tags import key_list, read_filter, selects, with_tags
 from model.units import forced
@@ -16,12 +17,8 @@ DROPPING = ("ignore", "focus", "hide", "show", "show_from", "tagfocus", "tagigno
 NOTED = STACKS + ("tagfocus", "tagignore", "tagshow", "taghide")
 
 
-class ReportRefusal(Exception):
-    """A report that can't be made; its text is the message."""
-
-    def __init__(self, text):
-        super().__init__(text)
-        self.text = text
+class ReportRefusal(Told):
+    """A report that can't be made."""
 
 
 def nobody(_frame):

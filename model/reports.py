@@ -148,12 +148,7 @@ def peek(subject):
     entries = subject.counts.counted
     config = {**subject.config, "nodefraction": 0}
     ranking = Ranking(subject.counts, config, 0)
-    found = {
-        key
-        for entry in entries
-        for frame, key in zip(entry.frames, entry.keys)
-        if subject.own(frame.function)
-    }
+    found = {key for entry in entries for frame, key in zip(entry.frames, entry.keys) if subject.own(frame.function)}
     edges = edges_of(entries, set(ranking.all))
     lines = head_lines(subject) + [showing_line(subject, sum(ranking.flats.values()))]
     keys = [key for key in ranking.all if key in found]
@@ -300,9 +295,7 @@ def compare(subject):
     lines = head_lines(subject) + limits_lines(ranking) + [b" ".join(titles) + b"  " + sort]
     before, change = (sum(entry.value for entry in some) for some in (base, entries))
     lines.append(compare_line(subject, -before, change, b"(all)"))
-    lines += [
-        compare_line(subject, -bases[key], changed[key], name_of(key)) for key in ranking.shown
-    ]
+    lines += [compare_line(subject, -bases[key], changed[key], name_of(key)) for key in ranking.shown]
     return joined(lines)
 
 

@@ -47,9 +47,7 @@ def findings(tables):
         lambda at: at.mapping_id not in mappings
         or any(row.function_id not in functions for row in at.line),
     )
-    yield 11, b"sample", first(
-        tables.sample, lambda s: any(id == 0 or id not in locations for id in s.location_id)
-    )
+    yield 11, b"sample", first(tables.sample, lambda s: any(id == 0 or id not in locations for id in s.location_id))
     width = len(tables.sample_type)
     yield 12, b"sample", first(tables.sample, lambda s: len(s.value) != width)
 

@@ -2,6 +2,7 @@
 
 from collections import namedtuple
 
+from model.profile import Told
 from model.words import ASKED, FLAGS, FORMATS, BadValue, choice_of, is_digits, need, set_variable, variable_of
 
 INPUT_LIMIT, LINE_LIMIT = 16_777_216, 65_536
@@ -15,12 +16,8 @@ HELP = (
 Command = namedtuple("Command", "report pattern config file")
 
 
-class LineFault(Exception):
+class LineFault(Told):
     """What is wrong with a line."""
-
-    def __init__(self, text):
-        super().__init__(text)
-        self.text = text
 
 
 class InputTooLong(Exception):

@@ -1,14 +1,13 @@
 """The bytes of a profile: reading them with the first fault, and writing them in the one way (docs/wire-format.md)."""
 
-from model.profile import MESSAGES, Message
+from model.profile import MESSAGES, Message, Told
 
 
-class WireFault(Exception):
+class WireFault(Told):
     """The first fault of the bytes: its kind, and the place of the faulty field's first byte."""
 
     def __init__(self, kind, at):
-        super().__init__(kind, at)
-        self.text = b"%s at %d" % (kind, at)
+        super().__init__(b"%s at %d" % (kind, at))
 
 
 def varint(data, at, end, place):

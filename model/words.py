@@ -2,6 +2,7 @@
 
 from dataclasses import dataclass, field
 
+from model.profile import Told
 from model.units import fraction_text, read_fraction
 
 TRUE, FALSE = (b"true", b"t", b"yes", b"y", b"1"), (b"false", b"f", b"no", b"n", b"0")
@@ -114,17 +115,14 @@ def choice_of(name):
 
 def options_text(config):
     """All variables, a line each."""
-    return b"".join(
-        name.encode() + b"=" + VARIABLES[name][1](config[name]) + b"\n" for name in VARIABLES
-    )
+    return b"".join(name.encode() + b"=" + VARIABLES[name][1](config[name]) + b"\n" for name in VARIABLES)
 
 
-class UsageFault(Exception):
+class UsageFault(Told):
     """The first fault of the words: its word, counted from 1, and what it is."""
 
     def __init__(self, word, text):
-        super().__init__(word, text)
-        self.text = b"word %d: %s" % (word, text)
+        super().__init__(b"word %d: %s" % (word, text))
 
 
 @dataclass

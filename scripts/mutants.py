@@ -6,7 +6,8 @@ condition negated or dropped, an end of a slice moved, a text cut, a statement l
 changed model owes other bytes than those that stand in the transcript, breaks off, or does not end.
 
 A mutant that none notices says the same as the model in other words, or it breaks a rule that no transcript shows. Reading
-tells which: docs/transcripts.md has the figures of one run. The status is 0. The same seed picks the same mutants.
+tells which: docs/transcripts.md has the figures of one run. The status is 0. The same seed picks the same mutants. With
+`--count 0` the mutants are only counted.
 """
 
 import argparse
@@ -31,7 +32,7 @@ MODEL = ROOT / "model"
 OUTSIDE = ("__init__.py", "__main__.py", "outside.py")
 PAIRS = [(ast.Eq, ast.NotEq), (ast.In, ast.NotIn), (ast.Is, ast.IsNot), (ast.Add, ast.Sub), (ast.Mult, ast.FloorDiv)]
 PAIRS += [(ast.LShift, ast.RShift), (ast.BitAnd, ast.BitOr), (ast.And, ast.Or), (ast.Lt, ast.LtE), (ast.Gt, ast.GtE)]
-SWAPS = {**dict(PAIRS), **{other: one for one, other in PAIRS}, ast.Mod: ast.Add}
+SWAPS = {**dict(PAIRS), **{other: one for one, other in PAIRS}, ast.Mod: ast.Add, ast.Pow: ast.Mult}
 CALLS = {"min": "max", "max": "min", "any": "all", "all": "any", "sorted": "list", "reversed": "list", "abs": "int"}
 # The most bytes that a process takes.
 MEMORY = 6 << 30
@@ -195,8 +196,9 @@ def main():
     names = given.file or [path.name for path in sorted(MODEL.glob("*.py")) if path.name not in OUTSIDE]
     mutants = [(name, *it) for name in names for it in enumerate(text for _, text, _ in mutants_of(ast.parse((MODEL / name).read_text())))]
     picked = sorted(random.Random(given.seed).sample(mutants, min(given.count, len(mutants))))
+    paths = sorted(DATA.glob("*.txt")) if picked else []
     with multiprocessing.Pool(given.jobs) as pool:
-        found = pool.starmap(measured, [(path, given.seconds) for path in sorted(DATA.glob("*.txt"))], 1)
+        found = pool.starmap(measured, [(path, given.seconds) for path in paths], 1)
     SESSIONS.extend(sorted(itertools.chain(*found), key=lambda entry: entry[0]))
     left = 0
     # Each mutant has a process of its own, which the next can't spoil.

@@ -6,7 +6,8 @@ usage: speed.py PROGRAM [--runs N] [--rounds N] [--only=WORDS] [--beside PPROF]
 The profiles are of one made-up server: samples of 20 to 34 locations over 5,000 functions. The same words give the same
 profiles. Each case runs N times in each round (4 and 2), the cases of a round in turn. Of each case the least time and
 the largest memory are printed. Times are of the processor and of the clock, in seconds; the ratio is of processor
-times with one worker, over loading alone. With --beside, Go's `pprof` runs the reports that it has over the same files.
+times with one worker, over loading alone. With --beside, one worker is measured against Go's `pprof` instead, on the
+reports that both have, N runs of each in turn.
 """
 
 import argparse
@@ -49,7 +50,8 @@ CASES = [
     ("`-comments` of 1,000,000 small samples", "-comments", "small"),
     ("`-top` of these", "-top", "small"),
 ]
-BESIDE = ["-top", "-tree", "-traces", "-peek=Method1234$"]
+# The reports that Go's pprof has too, with the kind of the file.
+BESIDE = [("-top", "plain"), ("-tree", "plain"), ("-traces", "plain"), ("-peek=Method1234$", "plain"), ("-top", "small")]
 
 
 def stacks(rng, samples):
@@ -123,18 +125,34 @@ def profiles(folder):
     return {kind: [str(folder / f"{kind}.pb")] for kind in ("plain", "labels", "small")} | {"parts": parts}
 
 
+def measure_beside(program, other, files, runs):
+    """Prints a table of both programs' figures. Their runs take turns, since other work on the machine slows both."""
+    print("\n| Report | Processor, here | Go's pprof | Times | Clock, here | Go's pprof | Memory, here | Go's pprof |")
+    print("|---|---|---|---|---|---|---|---|")
+    for words, kind in BESIDE:
+        ours, theirs = Figures(), Figures()
+        for _ in range(runs):
+            measure([program, words, "-workers=1", *files[kind]], ours)
+            measure([other, "-symbolize=none", words, *files[kind]], theirs)
+        print(f"| `{words}`, {kind} | {ours.processor:.2f} | {theirs.processor:.1f} | {theirs.processor / ours.processor:.0f}", end="")
+        print(f" | {ours.clock:.2f} | {theirs.clock:.1f} | {ours.memory:.0f} MB | {theirs.memory:.0f} MB |", flush=True)
+
+
 def main():
     parser = argparse.ArgumentParser(description=__doc__, formatter_class=argparse.RawDescriptionHelpFormatter)
     parser.add_argument("program")
     parser.add_argument("--runs", type=int, default=4)
     parser.add_argument("--rounds", type=int, default=2)
     parser.add_argument("--only", default="", help="cases whose words begin so")
-    parser.add_argument("--beside", help="Go's pprof")
+    parser.add_argument("--beside", help="Go's pprof, as `go env GOTOOLDIR` has it")
     given = parser.parse_args()
     program = str(pathlib.Path(given.program).resolve())
     cases = [case for case in CASES if case[1].startswith(given.only) or case[1] == "-comments"]
     with tempfile.TemporaryDirectory() as place:
         files = profiles(pathlib.Path(place))
+        if given.beside:
+            measure_beside(program, given.beside, files, given.runs)
+            return
         one, four = [Figures() for _ in cases], [Figures() for _ in cases]
         for _ in range(given.rounds):
             for number, (_, words, kind) in enumerate(cases):
@@ -147,16 +165,6 @@ def main():
             a, b = one[number], four[number]
             print(f"| {title} | {a.processor:.2f} | {a.processor / loads[kind]:.2f} | {a.memory:.0f} MB", end="")
             print(f" | {b.processor:.2f} | {b.clock:.2f} | {b.memory:.0f} MB |")
-        if given.beside:
-            print("\n| Report | Here | Go's pprof | Times | Memory | Go's pprof |\n|---|---|---|---|---|---|")
-            for words in BESIDE:
-                ours, theirs = Figures(), Figures()
-                for _ in range(given.runs):
-                    measure([program, words, "-workers=1", *files["plain"]], ours)
-                measure([given.beside, "-symbolize=none", words, *files["plain"]], theirs)
-                times = theirs.processor / ours.processor
-                print(f"| `{words}` | {ours.processor:.2f} | {theirs.processor:.1f} | {times:.0f}", end="")
-                print(f" | {ours.memory:.0f} MB | {theirs.memory:.0f} MB |")
 
 
 if __name__ == "__main__":
