@@ -12,7 +12,7 @@ mod steps;
 
 pub use kept::{merging_drops_no_sample, merging_makes_no_sample, order_of_profiles_keeps_sums};
 pub use premises::{
-    equal_mappings_are_first, kept_mappings_are_first, merges_are_ordinary,
+    any_groups_merge_in_steps, equal_mappings_are_first, kept_mappings_are_first, merges_are_ordinary,
     named_mappings_are_kept, weights_keep_samples,
 };
 pub use steps::{
