@@ -1,7 +1,8 @@
 -- Sessions over files that other sessions saved, each of a group of sources, go as a session over all sources.
 use Rattle.std.proofs.Common.{◌≡◌, ℕ, ◌+◌, ◌<◌, ◌≤◌, ◌^◌, List, [], ◌∷◌, ◌++◌, length, map, refl, sym, ap, ◌∙◌, subst, arith, append-nil}
-use Rattle.std.specs.Prelude.{Option, Some, None, Result, Ok}
+use Rattle.std.specs.Prelude.{Some, None, Option, Result, Ok}
 use Rattle.std.specs.List.{AllByRecursion}
+use Rattle.pp_base.proofs.Lists.{all_by}
 use Rattle.pp_base.specs.FileMap.{FileMap}
 use Rattle.pp_base.specs.Judges.{Answer}
 use Rattle.pp_desk.specs.declared.input_line.InputLine.{InputLine}
@@ -14,21 +15,28 @@ use Rattle.pp_model.specs.declared.report.BaseKind.{BaseKind}
 use Rattle.pp_model.specs.declared.report.Report.TheVariants as reports
 use Rattle.pp_model.specs.Judged.{loaded_of}
 use Rattle.pp_model.specs.Lookup.{text_of}
+use Rattle.pp_model.specs.Rules.{NoRuleFails}
+use Rattle.pp_share.proofs.NumberedLemmas.{all_both, all_mapped, all_parts}
 use Rattle.pp_share.specs.Written.{Contents, written}
 use Rattle.pp_tables.specs.Encode.{encode}
 use Rattle.pp_merge.specs.Merge.{contents}
 use Rattle.pp_merge.specs.Settled.{IsSettled}
-use Rattle.pp_merge.proofs.SettledLemmas.{settled_contents}
+use Rattle.pp_merge.proofs.NormalizingLemmas.{wide_samples}
+use Rattle.pp_merge.proofs.SettledLemmas.{all_flat, settled_contents}
 use Rattle.pp_merge.proofs.WrittenAgain.{contents_again}
+use Rattle.pp_steps.specs.Premises.{GroupHasValues, GroupsAddUp, MergeInSteps}
 use Rattle.pp_steps.specs.Refused.{IsMergeable, group_of_merges}
-use Rattle.pp_steps.specs.Steps.{all_sources, at_once, in_steps, merged_group, sources_of}
+use Rattle.pp_steps.specs.Steps.{Group, all_sources, at_once, in_steps, merged_group, sources_of}
 use Rattle.pp_steps.proofs.Admitted.{groups_can, merges_can}
 use Rattle.pp_steps.proofs.SteppedMerges.{steps_are_one}
 use Rattle.pp_load.specs.declared.refusal.LoadRefusal.{LoadRefusal}
 use Rattle.pp_load.specs.Decode.{decoded}
 use Rattle.pp_load.specs.Load.{load}
 use Rattle.pp_load.specs.Reads.{size_limit}
+use Rattle.pp_load.specs.Joining.{HasStarts, kinds}
+use Rattle.pp_load.proofs.CountLemmas.{as_many}
 use Rattle.pp_load.proofs.DecodeLemmas.{written_loaded}
+use Rattle.pp_load.proofs.KindLemmas.{all_of_kinds}
 use Rattle.pp_options.specs.declared.plan.Plan.{Plan}
 use Rattle.pp_pattern.specs.Report.{Finds}
 use Rattle.pp_saved.specs.Kept.{IsLasting}
@@ -38,7 +46,7 @@ use Rattle.pp_report.proofs.SavedTextLemmas.{proto_taken}
 use Rattle.pp_engine.specs.declared.ending.Cause.{Cause}
 use Rattle.pp_engine.specs.Alike.{after_loading}
 use Rattle.pp_engine.specs.SavedFiles.{course_in, loading_in}
-use Rattle.pp_engine.specs.SavedGroups.{AgreeAt, AskAlike, GoAlike, HasBytes, HasProfiles, PrintsMerge, SavedGroup, SavedGroupsAreMerges, SavedGroupsGoAsOne, SavedGroupsLoadAsOne, SavedInSteps, SavesWhole, bytes_of, groups_of, printed}
+use Rattle.pp_engine.specs.SavedGroups.{AgreeAt, AskAlike, GoAlike, HasBytes, HasProfiles, PrintsMerge, SavedGroup, SavedGroupsAreMerges, SavedGroupsGoAsOne, SavedGroupsLoadAsOne, SavedInSteps, SavesWhole, groups_of, printed}
 use Rattle.pp_engine.specs.Session.{perform, serve, serve_loaded, session}
 use Rattle.pp_engine.specs.Words.{performed}
 use Rattle.pp_engine.proofs.Courses.{course_both, errs_more, files_more, joined, outs_more, rest_of}
@@ -46,7 +54,7 @@ use Rattle.pp_engine.proofs.LoadQuiet.{load_looks}
 use Rattle.pp_engine.proofs.Performing.{plan_performed}
 use Rattle.pp_engine.proofs.ReportSessions.{Ends, session_ends}
 use Rattle.pp_engine.proofs.SameReads.{same_reads}
-use Rattle.pp_engine.proofs.SourcesLoaded.{decoded_anywhere, drop_kept, keep_kept, kindless, loaded_course, reads_for, size_after, size_within, sources_load, sources_start, they_are_reads}
+use Rattle.pp_engine.proofs.SourcesLoaded.{drop_kept, keep_kept, kindless, loaded_course, mappings_start, reads_for, size_after, size_within, sources_load, sources_start, sources_valid, they_are_reads}
 
 -- ---- what the session of a group prints
 
@@ -62,7 +70,7 @@ module _ (finds : Finds) (g : SavedGroup) (saves : SavesWhole g) (can : IsMergea
   l = loaded_of q None None
 
   settled : IsSettled c
-  settled = settled_contents g.sources.first g.sources.others (sources_start g.plan g.session.files (sources_of g.sources) saves.has)
+  settled = settled_contents g.sources.first g.sources.others (mappings_start (sources_of g.sources) (sources_start g.plan g.session.files (sources_of g.sources) saves.has))
 
   -- it has no patterns of its own
   no_drop : text_of q q.drop_frames ≡ []
@@ -103,7 +111,7 @@ module _ (finds : Finds) (g : SavedGroup) (saves : SavesWhole g) (can : IsMergea
 pub saved_groups_are_merges : SavedGroupsAreMerges
 saved_groups_are_merges finds g saves can = prints_merge finds g saves can
 
--- ---- what is loaded of all that they print
+-- ---- all that the sessions print
 
 -- each is decoded to its group's merge
 all_decoded : (finds : Finds) (groups : List SavedGroup) (size : ℕ) → AllByRecursion SavesWhole groups → AllByRecursion IsMergeable (groups_of groups)
@@ -116,15 +124,55 @@ all_decoded finds (g ∷ groups) size saves can short =
     let rest = all_decoded finds groups (size + length (printed finds g)) saves.1 can.1 behind in
     λ i. first i ∷ rest i
 
-module _ (finds : Finds) (columns : ℕ) (g : SavedGroup) (groups : List SavedGroup) (saved : SavedInSteps columns g groups) where
+-- ---- groups that add up
+
+-- what holds of the sources of each group
+of_each : (P : Profile → Type 0) → ((plan : Plan) (files : FileMap) (ps : List Profile) → HasProfiles plan files ps → AllByRecursion P ps) → (groups : List SavedGroup) → AllByRecursion SavesWhole groups
+    → AllByRecursion (λ x. AllByRecursion P (sources_of x)) (groups_of groups)
+of_each P each groups saves =
+    all_mapped (λ x. AllByRecursion P (sources_of x)) (λ g. g.sources) groups (all_by SavesWhole _ (λ g own. each g.plan g.session.files (sources_of g.sources) own.has) groups saves)
+
+module _ (g : SavedGroup) (groups : List SavedGroup) (saved : SavedInSteps g groups) where
+  abbrev columns : ℕ
+  columns = length g.sources.first.sample_type
+
+  -- the profiles agree
+  of_kinds : AllByRecursion (λ x. AllByRecursion (λ q. kinds q ≡ kinds g.sources.first) (sources_of x)) (groups_of (g ∷ groups))
+  of_kinds =
+      all_parts (λ q. kinds q ≡ kinds g.sources.first) sources_of (groups_of (g ∷ groups))
+      (all_of_kinds g.sources.first 1 (g.sources.others ++ all_sources (groups_of groups)) saved.mergeable.agree)
+
+  -- each sample has a value for each of their types
+  has_values : (x : Group) → AllByRecursion (λ q. kinds q ≡ kinds g.sources.first) (sources_of x) → AllByRecursion NoRuleFails (sources_of x) → GroupHasValues columns x
+  has_values x alike valid = record {
+    types = as_many x.first g.sources.first alike.0;
+    values = all_by (λ q. (kinds q ≡ kinds g.sources.first) × NoRuleFails q) _
+        (λ q own. subst (λ n. AllByRecursion (λ s. length s.value ≡ n) q.sample) (as_many q g.sources.first own.0) (wide_samples q own.1)) (sources_of x)
+        (all_both (λ q. kinds q ≡ kinds g.sources.first) NoRuleFails (sources_of x) alike valid);
+  }
+
+  pub add_up : GroupsAddUp columns (groups_of (g ∷ groups))
+  add_up = record {
+    values = all_by _ (GroupHasValues columns) (λ x own. has_values x own.0 own.1) (groups_of (g ∷ groups))
+        (all_both (λ x. AllByRecursion (λ q. kinds q ≡ kinds g.sources.first) (sources_of x)) (λ x. AllByRecursion NoRuleFails (sources_of x)) (groups_of (g ∷ groups)) of_kinds
+        (of_each NoRuleFails sources_valid (g ∷ groups) saved.whole));
+    starts = mappings_start (all_sources (groups_of (g ∷ groups))) (all_flat HasStarts sources_of (groups_of (g ∷ groups)) (of_each HasStarts sources_start (g ∷ groups) saved.whole));
+  }
+
+  pub merge_in_steps : MergeInSteps columns g.sources (groups_of groups)
+  merge_in_steps = record { up = add_up; samples = saved.samples; durations = saved.durations; mappings = saved.mappings }
+
+-- ---- what is loaded of all that is printed
+
+module _ (finds : Finds) (g : SavedGroup) (groups : List SavedGroup) (saved : SavedInSteps g groups) where
   can_each : AllByRecursion IsMergeable (groups_of (g ∷ groups))
-  can_each = groups_can columns g.sources (groups_of groups) saved.in_steps.up saved.mergeable
+  can_each = groups_can (columns g groups saved) g.sources (groups_of groups) (add_up g groups saved) saved.mergeable
 
   can_merge : IsMergeable (group_of_merges g.sources (groups_of groups))
-  can_merge = merges_can columns g.sources (groups_of groups) saved.in_steps.up saved.mergeable
+  can_merge = merges_can (columns g groups saved) g.sources (groups_of groups) (add_up g groups saved) saved.mergeable
 
   one_merge : in_steps g.sources (groups_of groups) ≡ at_once g.sources (groups_of groups)
-  one_merge = steps_are_one columns g.sources (groups_of groups) saved.in_steps.up saved.in_steps
+  one_merge = steps_are_one (columns g groups saved) g.sources (groups_of groups) (add_up g groups saved) (merge_in_steps g groups saved)
 
   abbrev together : Loaded
   together = loaded_of (at_once g.sources (groups_of groups)) None None
@@ -150,8 +198,8 @@ module _ (finds : Finds) (columns : ℕ) (g : SavedGroup) (groups : List SavedGr
       saved.whole.0.no_drop saved.whole.0.no_keep locked lines answers
 
 pub saved_groups_load_as_one : SavedGroupsLoadAsOne
-saved_groups_load_as_one finds columns g groups reading files locked lines answers saved has =
-    ap (λ (x : Course (Result Loaded LoadRefusal)). x.value) (steps_load finds columns g groups saved reading files has locked lines answers)
+saved_groups_load_as_one finds g groups reading files locked lines answers saved has =
+    ap (λ (x : Course (Result Loaded LoadRefusal)). x.value) (steps_load finds g groups saved reading files has locked lines answers)
 
 -- ---- whole sessions
 
@@ -184,9 +232,9 @@ alike_behind c d rest reading whole l first second = record {
 
 pub saved_groups_go_as_one : SavedGroupsGoAsOne
 unfolding serve_loaded
-saved_groups_go_as_one finds columns g groups reading whole words others files other locked lines answers saved ask is also has have agree =
-    let l : Loaded = together finds columns g groups saved in
-    let loads = steps_load finds columns g groups saved reading files has locked lines answers in
+saved_groups_go_as_one finds g groups reading whole words others files other locked lines answers saved ask is also has have agree =
+    let l : Loaded = together finds g groups saved in
+    let loads = steps_load finds g groups saved reading files has locked lines answers in
     let rest : Course Cause = served finds files locked lines answers l None reading in
     let behind : after_loading finds reading files locked lines answers ≡ rest =
     ap (λ (c : Course (Result Loaded LoadRefusal)). rest_of (serve_loaded finds reading) files locked lines answers c) loads
@@ -195,6 +243,6 @@ saved_groups_go_as_one finds columns g groups reading whole words others files o
     same_reads (serve finds None reading.config reading.report l) files other locked lines answers (subst (λ (c : Course Cause). AgreeAt (reads_of c.effects) files other) behind agree) in
     alike_behind _ _ rest reading whole l
     (goes finds files locked lines answers l reading words is has.no_bases loads)
-    (goes finds other locked lines answers l whole others also have.has.no_bases (all_load finds columns g groups saved whole other have locked lines answers)
+    (goes finds other locked lines answers l whole others also have.has.no_bases (all_load finds g groups saved whole other have locked lines answers)
     ∙ (λ i. joined (loaded_course whole.origins l) (course (serve finds None (ask.config i) (ask.report i) l) other locked lines answers))
     ∙ ap (joined (loaded_course whole.origins l)) (sym there))

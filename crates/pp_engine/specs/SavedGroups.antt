@@ -1,5 +1,5 @@
 -- Sessions over files that other sessions saved, each of a group of sources: they go as a session over all sources.
-use Rattle.std.specs.Prelude.{◌≡◌, ◌≤◌, ℕ, true, List, [], ◌∷◌, length, map, Option, Some, None, Ok}
+use Rattle.std.specs.Prelude.{◌≡◌, ◌≤◌, ◌≤ℤ◌, ℕ, pos, true, List, [], ◌∷◌, length, map, Option, Some, None, Ok}
 use Rattle.std.specs.List.{AllByRecursion, sum_by}
 use Rattle.pp_base.specs.FileMap.{FileMap, content_at, among}
 use Rattle.pp_base.specs.Judges.{Answer}
@@ -20,9 +20,9 @@ use Rattle.pp_options.specs.declared.plan.Plan.{Plan}
 use Rattle.pp_pattern.specs.Report.{Finds}
 use Rattle.pp_saved.specs.Premises.{unfiltered}
 use Rattle.pp_report.specs.SavedReports.{NamesNoKey}
-use Rattle.pp_steps.specs.Premises.{MergeInSteps}
+use Rattle.pp_steps.specs.Premises.{HasFirstMappings, LosesNoSample}
 use Rattle.pp_steps.specs.Refused.{IsMergeable, one_group}
-use Rattle.pp_steps.specs.Steps.{Group, sources_of, all_sources, merged_group, at_once}
+use Rattle.pp_steps.specs.Steps.{Group, sources_of, all_sources, merged_group, at_once, in_steps}
 use Rattle.pp_engine.specs.declared.ending.Cause.{Cause}
 use Rattle.pp_engine.specs.declared.ending.Cause.TheVariants as causes
 use Rattle.pp_engine.specs.Alike.{after_loading}
@@ -83,18 +83,21 @@ abbrev pub SavedGroupsAreMerges : Type 0
 SavedGroupsAreMerges =
     (finds : Finds) (g : SavedGroup) → SavesWhole g → IsMergeable g.sources → PrintsMerge finds g
 
--- Sessions save the groups, each as a whole, and the profiles of all groups can be merged, in steps as at once.
-pub record SavedInSteps (columns : ℕ) (g : SavedGroup) (groups : List SavedGroup) : Type 0 where
+-- Sessions save the groups, each as a whole, and all profiles can be merged. In no group does a sample come to nothing,
+-- no duration is negative, and each mapping that is left is the first of all that is one with it.
+pub record SavedInSteps (g : SavedGroup) (groups : List SavedGroup) : Type 0 where
   pub whole : AllByRecursion SavesWhole (g ∷ groups)
   pub mergeable : IsMergeable (one_group g.sources (groups_of groups))
-  pub in_steps : MergeInSteps columns g.sources (groups_of groups)
+  pub samples : AllByRecursion (LosesNoSample (length g.sources.first.sample_type)) (groups_of (g ∷ groups))
+  pub durations : AllByRecursion (λ q. pos 0 ≤ℤ q.duration_nanos) (all_sources (groups_of (g ∷ groups)))
+  pub mappings : HasFirstMappings (all_sources (groups_of (g ∷ groups))) (in_steps g.sources (groups_of groups))
 
 -- What the sessions of the groups print loads as all profiles of the groups merged at once, without verdicts of patterns.
 abbrev pub SavedGroupsLoadAsOne : Type 0
 SavedGroupsLoadAsOne =
-    (finds : Finds) (columns : ℕ) (g : SavedGroup) (groups : List SavedGroup) (reading : Plan)
+    (finds : Finds) (g : SavedGroup) (groups : List SavedGroup) (reading : Plan)
     (files : FileMap) (locked : List (List ℕ)) (lines : List InputLine) (answers : List Answer)
-    → SavedInSteps columns g groups
+    → SavedInSteps g groups
     → HasBytes reading files (map (printed finds) (g ∷ groups))
     → (course (load finds reading) files locked lines answers).value
     ≡ Ok (loaded_of (at_once g.sources (groups_of groups)) None None)
@@ -120,9 +123,9 @@ AgreeAt paths files other = (at : List ℕ) → among paths at ≡ true → cont
 -- locked paths, lines of the input and answers of the matcher, and find the same where they read after loading.
 abbrev pub SavedGroupsGoAsOne : Type 0
 SavedGroupsGoAsOne =
-    (finds : Finds) (columns : ℕ) (g : SavedGroup) (groups : List SavedGroup) (reading whole : Plan)
+    (finds : Finds) (g : SavedGroup) (groups : List SavedGroup) (reading whole : Plan)
     (words others : List (List ℕ)) (files other : FileMap) (locked : List (List ℕ)) (lines : List InputLine) (answers : List Answer)
-    → SavedInSteps columns g groups → AskAlike reading whole
+    → SavedInSteps g groups → AskAlike reading whole
     → performed words ≡ Some reading → performed others ≡ Some whole
     → HasBytes reading files (map (printed finds) (g ∷ groups))
     → HasProfiles whole other (all_sources (groups_of (g ∷ groups)))
