@@ -1,5 +1,5 @@
 -- Sessions over files that other sessions saved, each of a group of sources, go as a session over all sources.
-use Rattle.std.proofs.Common.{◌≡◌, ℕ, ◌+◌, ◌<◌, ◌≤◌, ◌^◌, List, [], ◌∷◌, ◌++◌, length, map, refl, sym, ap, ◌∙◌, subst, arith, append-nil}
+use Rattle.std.proofs.Common.{◌≡◌, ℕ, ◌+◌, ◌≤◌, List, [], ◌∷◌, ◌++◌, length, map, refl, sym, ap, ◌∙◌, subst, arith, append-nil}
 use Rattle.std.specs.Prelude.{Some, None, Option, Result, Ok}
 use Rattle.std.specs.List.{AllByRecursion}
 use Rattle.pp_base.proofs.Lists.{all_by}
@@ -46,7 +46,7 @@ use Rattle.pp_report.proofs.SavedTextLemmas.{proto_taken}
 use Rattle.pp_engine.specs.declared.ending.Cause.{Cause}
 use Rattle.pp_engine.specs.Alike.{after_loading}
 use Rattle.pp_engine.specs.SavedFiles.{course_in, loading_in}
-use Rattle.pp_engine.specs.SavedGroups.{AgreeAt, AskAlike, GoAlike, HasBytes, HasProfiles, PrintsMerge, SavedGroup, SavedGroupsAreMerges, SavedGroupsGoAsOne, SavedGroupsLoadAsOne, SavedInSteps, SavesWhole, groups_of, printed}
+use Rattle.pp_engine.specs.SavedGroups.{AgreeAt, GoAlike, HasBytes, HasProfiles, PrintsMerge, SavedGroup, SavedGroupsAreMerges, SavedGroupsGoAsOne, SavedGroupsLoadAsOne, SavedInSteps, SavesWhole, groups_of, printed}
 use Rattle.pp_engine.specs.Session.{perform, serve, serve_loaded, session}
 use Rattle.pp_engine.specs.Words.{performed}
 use Rattle.pp_engine.proofs.Courses.{course_both, errs_more, files_more, joined, outs_more, rest_of}

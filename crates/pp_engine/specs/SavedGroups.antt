@@ -41,7 +41,7 @@ pub record HasBytes (plan : Plan) (files : FileMap) (all : List (List ℕ)) : Ty
   pub found : map (bytes_of files) plan.origins ≡ map Some all
   pub short : sum_by (λ (bytes : List ℕ). length bytes) all ≤ size_limit
 
--- The plan has no bases, and its sources are these profiles. Which number a source has does not matter for its profile.
+-- The plan has no bases, and its sources are these profiles. They do not depend on the numbers of the sources.
 pub record HasProfiles (plan : Plan) (files : FileMap) (profiles : List Profile) : Type 0 where
   pub bytes : List (List ℕ)
   pub has : HasBytes plan files bytes
@@ -83,8 +83,8 @@ abbrev pub SavedGroupsAreMerges : Type 0
 SavedGroupsAreMerges =
     (finds : Finds) (g : SavedGroup) → SavesWhole g → IsMergeable g.sources → PrintsMerge finds g
 
--- Sessions save the groups, each as a whole, and all profiles can be merged. In no group does a sample come to nothing,
--- no duration is negative, and each mapping that is left is the first of all that is one with it.
+-- Sessions save the groups, each as a whole, and all profiles can be merged. In no group does a sample come to
+-- nothing, no duration is negative, and each mapping that is left is the first of all that is one with it.
 pub record SavedInSteps (g : SavedGroup) (groups : List SavedGroup) : Type 0 where
   pub whole : AllByRecursion SavesWhole (g ∷ groups)
   pub mergeable : IsMergeable (one_group g.sources (groups_of groups))
@@ -92,7 +92,7 @@ pub record SavedInSteps (g : SavedGroup) (groups : List SavedGroup) : Type 0 whe
   pub durations : AllByRecursion (λ q. pos 0 ≤ℤ q.duration_nanos) (all_sources (groups_of (g ∷ groups)))
   pub mappings : HasFirstMappings (all_sources (groups_of (g ∷ groups))) (in_steps g.sources (groups_of groups))
 
--- What the sessions of the groups print loads as all profiles of the groups merged at once, without verdicts of patterns.
+-- What the sessions of the groups print loads as the merge of all their profiles at once, without verdicts of patterns.
 abbrev pub SavedGroupsLoadAsOne : Type 0
 SavedGroupsLoadAsOne =
     (finds : Finds) (g : SavedGroup) (groups : List SavedGroup) (reading : Plan)
@@ -124,10 +124,12 @@ AgreeAt paths files other = (at : List ℕ) → among paths at ≡ true → cont
 abbrev pub SavedGroupsGoAsOne : Type 0
 SavedGroupsGoAsOne =
     (finds : Finds) (g : SavedGroup) (groups : List SavedGroup) (reading whole : Plan)
-    (words others : List (List ℕ)) (files other : FileMap) (locked : List (List ℕ)) (lines : List InputLine) (answers : List Answer)
+    (words others : List (List ℕ)) (files other : FileMap)
+    (locked : List (List ℕ)) (lines : List InputLine) (answers : List Answer)
     → SavedInSteps g groups → AskAlike reading whole
     → performed words ≡ Some reading → performed others ≡ Some whole
     → HasBytes reading files (map (printed finds) (g ∷ groups))
     → HasProfiles whole other (all_sources (groups_of (g ∷ groups)))
     → AgreeAt (reads_of (after_loading finds reading files locked lines answers).effects) files other
-    → GoAlike (course (session finds words) files locked lines answers) (course (session finds others) other locked lines answers)
+    → GoAlike (course (session finds words) files locked lines answers)
+    (course (session finds others) other locked lines answers)
