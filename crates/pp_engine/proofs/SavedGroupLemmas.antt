@@ -21,9 +21,11 @@ use Rattle.pp_share.specs.Written.{Contents, written}
 use Rattle.pp_tables.specs.Encode.{encode}
 use Rattle.pp_merge.specs.Merge.{contents}
 use Rattle.pp_merge.specs.Settled.{IsSettled}
+use Rattle.pp_merge.proofs.MergeLemmas.{fits_contents}
 use Rattle.pp_merge.proofs.NormalizingLemmas.{wide_samples}
 use Rattle.pp_merge.proofs.SettledLemmas.{all_flat, settled_contents}
 use Rattle.pp_merge.proofs.WrittenAgain.{contents_again}
+use Rattle.pp_merge.proofs.WrittenValid.{valid_written}
 use Rattle.pp_steps.specs.Premises.{GroupHasValues, GroupsAddUp, MergeInSteps}
 use Rattle.pp_steps.specs.Refused.{IsMergeable, group_of_merges}
 use Rattle.pp_steps.specs.Steps.{Group, all_sources, at_once, in_steps, merged_group, sources_of}
@@ -80,7 +82,7 @@ module _ (finds : Finds) (g : SavedGroup) (saves : SavesWhole g) (can : IsMergea
   no_keep = keep_kept g.sources.first g.sources.others ∙ saves.no_keep
 
   lasts : IsLasting q
-  lasts = record { valid = saves.memory.valid; settled = ap written (contents_again c settled); drop = no_drop; keep = no_keep }
+  lasts = record { valid = valid_written c (fits_contents g.sources.first g.sources.others); settled = ap written (contents_again c settled); drop = no_drop; keep = no_keep }
 
   loaded : (loading_in finds g.session).value ≡ Ok l
   loaded =
@@ -105,7 +107,7 @@ module _ (finds : Finds) (g : SavedGroup) (saves : SavesWhole g) (can : IsMergea
         let within : length (printed finds g) ≤ size_limit = short in
         let few : length (encode q) ≤ size_limit = subst (λ (text : List ℕ). length text ≤ size_limit) printed_is within in
         let limit : size_limit ≡ 268435456 = refl in
-        ap (decoded source) printed_is ∙ written_loaded source q lasts.valid saves.memory.fits (omega (arith, few, limit));
+        ap (decoded source) printed_is ∙ written_loaded source q lasts.valid saves.fits (omega (arith, few, limit));
   }
 
 pub saved_groups_are_merges : SavedGroupsAreMerges

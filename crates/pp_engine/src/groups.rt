@@ -16,9 +16,10 @@ pub fn saved_groups_are_merges()
 // mapping that depends on the groups.
 /// What sessions save of groups of sources loads as the merge of all the sources at once, however many they are.
 ///
-/// Premises, beside those of `saved_groups_are_merges`: all sources agree, and no sum of all is too large; what is saved
-/// is together no longer than may be; in no group does a sample come to nothing; no duration is negative; each mapping
-/// that is left is the first of all that is one with it. `pp_steps::any_groups_merge_in_steps` gives the last three.
+/// Premises, beside those of `saved_groups_are_merges`: all sources agree, and no sum of all is too large; what is
+/// saved is together no longer than may be; in no group does a sample come to nothing; no duration is negative; each
+/// mapping that is left is the first of all that is one with it. The last three are in
+/// `pp_steps::any_groups_merge_in_steps`.
 pub fn saved_groups_load_as_one()
     ensures { SavedGroupsLoadAsOne }
 {}
@@ -28,8 +29,8 @@ pub fn saved_groups_load_as_one()
 /// patterns, and ends alike. It makes any report, or is a shell.
 ///
 /// Premises, beside those of `saved_groups_load_as_one`: both have the same report and variables; they meet the same
-/// locked paths, lines and answers; what they read after loading is the same in both; all sources are together no longer
-/// than may be.
+/// locked paths, lines and answers; what they read after loading is the same in both; all sources are together no
+/// longer than may be.
 pub fn saved_groups_go_as_one()
     ensures { SavedGroupsGoAsOne }
 {}
