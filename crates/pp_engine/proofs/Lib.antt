@@ -19,3 +19,6 @@ pub mod Runs
 pub mod AlikeLemmas
 pub mod ReportSessions
 pub mod SavedFileLemmas
+pub mod SourcesLoaded
+pub mod SameReads
+pub mod SavedGroupLemmas

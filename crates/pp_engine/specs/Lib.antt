@@ -10,5 +10,6 @@ pub mod Session
 pub mod Validity
 pub mod Alike
 pub mod SavedFiles
+pub mod SavedGroups
 pub mod Leaves
 pub mod Run

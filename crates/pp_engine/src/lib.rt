@@ -7,6 +7,7 @@
 #![tactic(auto)]
 
 mod ending;
+mod groups;
 mod laws;
 mod message;
 mod program;
@@ -16,6 +17,7 @@ mod session;
 mod shell;
 
 pub use ending::{Cause, Ending};
+pub use groups::{saved_groups_are_merges, saved_groups_go_as_one, saved_groups_load_as_one};
 pub use laws::{
     bytes_decoded_alike_run_alike, saved_files_report_alike, saved_files_save_alike,
     words_ask_for_a_plan,

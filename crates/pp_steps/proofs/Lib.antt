@@ -2,13 +2,13 @@ mod SumsOfSums
 mod Remapping
 mod SteppedSamples
 mod SteppedHeader
-mod SteppedMerges
+pub mod SteppedMerges
 mod Weights
 mod NamedMappings
-mod Admitted
+pub mod Admitted
 mod Exchanged
 mod Vanishing
 mod KeptMappings
-mod AnyGroups
+pub mod AnyGroups
 mod MergesNamed
 mod MergesOrdinary

@@ -12,8 +12,8 @@ mod steps;
 
 pub use kept::{merging_drops_no_sample, merging_makes_no_sample, order_of_profiles_keeps_sums};
 pub use premises::{
-    equal_mappings_are_first, kept_mappings_are_first, merges_are_ordinary,
-    named_mappings_are_kept, weights_keep_samples,
+    any_groups_merge_in_steps, equal_mappings_are_first, kept_mappings_are_first,
+    merges_are_ordinary, named_mappings_are_kept, weights_keep_samples,
 };
 pub use steps::{
     any_groups_are_one_merge, merges_merge_again, samples_stay_in_steps, steps_are_not_refused,

@@ -1,11 +1,17 @@
 //! How to know that profiles can be merged in steps.
-ghost use Rattle.pp_steps.specs.Premises.{GroupsAddUp, HasEqualMappings, HasFirstMappings, HasWeights, LosesNoMapping, LosesNoSample, NamesFirst, NamesMappings};
+ghost use Rattle.pp_steps.specs.Premises.{GroupsAddUp, HasEqualMappings, HasFirstMappings, HasWeights, LosesNoMapping, LosesNoSample, MergeInAnyGroups, MergeInSteps, NamesFirst, NamesMappings};
 ghost use Rattle.pp_merge.specs.Merge.{all_mappings, merged};
 ghost use Rattle.pp_model.specs.declared.profile.Profile.{Profile};
 ghost use Rattle.pp_steps.specs.Steps.{Group, all_sources, in_steps};
 ghost use Rattle.std.specs.List.{AllByRecursion, list_all};
 ghost use Rattle.std.specs.Ordering.{int_eq};
 ghost use Rattle.std.specs.Prelude.{◌≡◌, ◌<◌, ◌^◌, ℕ, pos, false, List, ◌∷◌};
+
+/// Profiles that merge in any groups merge in these.
+pub fn any_groups_merge_in_steps()
+    ensures { (columns : ℕ) → (g : Group) → (groups : List Group)
+        → MergeInAnyGroups columns (all_sources (g ∷ groups)) → MergeInSteps columns g groups }
+{}
 
 /// Where no value is negative, and each sample has a value that isn't 0, no sample of a group comes to nothing.
 pub fn weights_keep_samples()
