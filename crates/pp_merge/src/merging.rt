@@ -153,7 +153,7 @@ fn join_hashed(
     ensures whole { IfOk result (λ r. IsWhole first others.items r.0) }
     ensures known { IfOk result (λ r. IfSome r.1 (AreKnown (length r.0.text) r.0.sample)) }
 {
-    let stays = stands_alone(alloc, &first, others.as_slice())?;
+    let stays = stands_alone(&first, others.as_slice());
     if stays {
         let whole = with_duration(first.into_profile(), duration);
         return Ok((whole, Some(hashes)));
@@ -164,13 +164,13 @@ fn join_hashed(
 }
 
 // Whether the first profile stands alone, with its references by place.
-fn stands_alone(alloc: Global, first: &Valid, others: &[Valid]) -> Result<bool, Memory>
-    ensures { IfOk result (λ alone. OnTrue alone (StandsAlone first.now others.now)) }
+fn stands_alone(first: &Valid, others: &[Valid]) -> bool
+    ensures { OnTrue result (StandsAlone first.now others.now) }
 {
     if !others.is_empty() {
-        return Ok(false);
+        return false;
     }
-    is_in_place(alloc, first.get())
+    is_in_place(first.get())
 }
 
 // The profile with this duration.

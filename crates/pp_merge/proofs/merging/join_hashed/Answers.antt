@@ -17,7 +17,7 @@ returns-then-stays-clause-whole c =
     let p : Profile = c.args.first in
     let valid : NoRuleFails p = subst NoRuleFails c.into_profile.ensures.same c.into_profile.ensures.valid in
     let alone : StandsAlone p c.args.others.items =
-    subst (λ ps. StandsAlone p ps) c.as_slice.ensures.value (OnTrue_at c.if-stays.true c.in_ok-stays.ensures) in
+    subst (λ ps. StandsAlone p ps) c.as_slice.ensures.value (OnTrue_at c.if-stays.true c.stands_alone-stays.ensures) in
     whole_is p c.args.others.items c.args.duration p c.with_duration-whole.result c.requires.can
     (stays_in_place p valid alone.1 ∙ ap (joined p) (sym alone.0)) alone.1.few
     (subst (λ ps. AllByRecursion NoRuleFails (p ∷ ps)) (sym alone.0) (valid, tt))
