@@ -20,12 +20,13 @@ use crate::functions::share_functions;
 use crate::hashes::{Hashes, hash_samples, hash_samples_on};
 use crate::ids::Ids;
 use crate::kept::kept_hashes;
+use crate::lanes::Alone;
 use crate::places::share_places;
 use crate::renumbering::Renumbering;
 use crate::repeats::{Repeat, find_repeats, find_repeats_on};
 use crate::samples::{add_repeats, counting};
 use crate::texts::share_texts;
-use crate::write::{write, write_on};
+use crate::write::write;
 use pp_base::{List, Memory};
 use pp_keys::HashKeys;
 use pp_model::{Profile, Sample};
@@ -45,7 +46,7 @@ pub fn share(alloc: Global, hash_keys: HashKeys, p: Profile) -> Result<Profile, 
 {
     let (mut profile, by) = share_tables(alloc, hash_keys, p)?;
     sum_plain(alloc, &mut profile, &by)?;
-    let written = write(alloc, hash_keys, profile, &by);
+    let written = write(alloc, hash_keys, &Alone, profile, &by);
     mem::drop(by);
     written
 }
@@ -70,7 +71,7 @@ pub fn share_on<R: Threads + Sync>(
     let samples = profile.sample.as_slice();
     let hashes = hashes_for(with, samples, texts, &by, known)?;
     sum_hashed_on(with, &mut profile, &by, &hashes)?;
-    let written = write_on(with, profile, &by);
+    let written = write(with.alloc, with.keys, with, profile, &by);
     mem::drop(by);
     written
 }
