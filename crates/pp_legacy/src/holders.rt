@@ -22,7 +22,7 @@ pub fn locations_of(
     ensures { IfOk result (λ ls. ls ≡ numbered_locations mappings.now addresses.now) }
 {
     let holders = holders_of(alloc, mappings, addresses)?;
-    let mut locations = List::new(alloc);
+    let mut locations = List::from_vec(Vec::with_capacity(alloc, addresses.len())?);
     for (place, address) in addresses.iter().enumerate() {
         locations.push(location_at(alloc, place as u64, holders[place], *address))?;
     }

@@ -43,7 +43,7 @@ fn code_in(line: &[u8]) -> Option<Region<'_>>
 pub fn mappings_of(alloc: Global, regions: &[Region<'_>]) -> Result<List<Mapping>, Memory>
     ensures { IfOk result (λ ms. ms ≡ numbered_mappings (regions_of regions.now)) }
 {
-    let mut mappings = List::new(alloc);
+    let mut mappings = List::from_vec(Vec::with_capacity(alloc, regions.len())?);
     for (place, region) in regions.iter().enumerate() {
         mappings.push(mapping_of(place as u64, region))?;
     }

@@ -28,7 +28,7 @@ pub fn samples_of(alloc: Global, keys: HashKeys, records: &[Record<'_>]) -> Resu
     ensures addresses { IfOk result (λ s. s.addresses.keys ≡ addresses_of (map entry_of records.now)) }
     ensures samples { IfOk result (λ s. s.samples ≡ map (entry_sample (addresses_of (map entry_of records.now))) (map entry_of records.now)) }
 {
-    let mut samples = List::new(alloc);
+    let mut samples = List::from_vec(Vec::with_capacity(alloc, records.len())?);
     let mut addresses = IndexSet::with_hasher(alloc, keys);
     for entry in records {
         samples.push(sample_of(alloc, entry, &mut addresses)?)?;

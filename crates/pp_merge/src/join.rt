@@ -1,8 +1,8 @@
 //! Profiles one behind the other, as one.
-ghost use Rattle.std.specs.Prelude.{◌≡◌, ℕ, ◌+◌, ◌<◌, ◌^◌, ◌++◌, None, length, IfOk, OnOk};
+ghost use Rattle.std.specs.Prelude.{◌≡◌, ℕ, ◌+◌, ◌<◌, ◌^◌, ◌++◌, None, length, map, IfOk, OnOk};
 ghost use Rattle.std.specs.Bool.{OnTrue};
 ghost use Rattle.std.specs.List.{AllByRecursion};
-ghost use Rattle.pp_model.specs.Rules.{NoRuleFails, first_repeated, mapping_ids, function_ids, location_ids};
+ghost use Rattle.pp_model.specs.Rules.{NoRuleFails, AreNumbered, first_repeated};
 ghost use Rattle.pp_share.specs.Behind.{behind_id};
 ghost use Rattle.pp_share.specs.Ids.{known_id, place_id};
 ghost use Rattle.pp_share.specs.Renumbered.{new_ids};
@@ -11,8 +11,8 @@ ghost use Rattle.pp_share.specs.Header.{greater, earlier};
 
 use pp_base::{List, Memory};
 use pp_keys::HashKeys;
-use pp_model::{Profile, Valid, text_of};
-use pp_share::{Behind, Ids, Known, Renumbering, are_in_place, known_ids, renumber};
+use pp_model::{HasId, Profile, Valid, text_of};
+use pp_share::{Behind, Ids, Known, Renumbering, known_ids, renumber};
 use std::alloc::Global;
 use std::mem;
 
@@ -48,7 +48,7 @@ fn first_joined(alloc: Global, hash_keys: HashKeys, p: Profile) -> Result<Profil
     requires { NoRuleFails p }
     ensures { IfOk result (λ r. r ≡ moved_behind no_sizes p) }
 {
-    if is_in_place(alloc, &p)? {
+    if is_in_place(&p) {
         return Ok(p);
     }
     let sizes = no_sizes();
@@ -57,18 +57,27 @@ fn first_joined(alloc: Global, hash_keys: HashKeys, p: Profile) -> Result<Profil
 }
 
 /// Whether all references are by place as they stand.
-pub(crate) fn is_in_place(alloc: Global, p: &Profile) -> Result<bool, Memory>
-    ensures { IfOk result (λ is. OnTrue is (IsInPlace p.now)) }
+pub(crate) fn is_in_place(p: &Profile) -> bool
+    ensures { OnTrue result (IsInPlace p.now) }
 {
-    let mappings = mapping_ids(alloc, p)?;
-    let functions = function_ids(alloc, p)?;
-    let locations = location_ids(alloc, p)?;
     // A table fits in memory.
     let _sizes = sizes_of(p);
-    let are_in_place = are_in_place(mappings.as_slice())
-        && are_in_place(functions.as_slice())
-        && are_in_place(locations.as_slice());
-    Ok(are_in_place)
+    are_in_place(p.mapping.as_slice())
+        && are_in_place(p.function.as_slice())
+        && are_in_place(p.location.as_slice())
+}
+
+// Whether the id of each entry is its place plus 1.
+fn are_in_place<T: HasId>(items: &[T]) -> bool
+    ensures { OnTrue result (AreNumbered (map T.id_of items.now)) }
+{
+    for (place, item) in items.iter().enumerate() {
+        let id = item.id();
+        if id == 0 || id - 1 != place as u64 {
+            return false;
+        }
+    }
+    true
 }
 
 // The profile behind others.
@@ -167,9 +176,9 @@ fn behind(
     let mappings = Behind::new(after.mapping, p.mapping.as_slice().len());
     let functions = Behind::new(after.function, p.function.as_slice().len());
     let locations = Behind::new(after.location, p.location.as_slice().len());
-    let mapping = known_once(alloc, hash_keys, mapping_ids(alloc, p)?)?;
-    let function = known_once(alloc, hash_keys, function_ids(alloc, p)?)?;
-    let location = known_once(alloc, hash_keys, location_ids(alloc, p)?)?;
+    let mapping = known_once(alloc, hash_keys, p.mapping.as_slice())?;
+    let function = known_once(alloc, hash_keys, p.function.as_slice())?;
+    let location = known_once(alloc, hash_keys, p.location.as_slice())?;
     Ok(Renumbering {
         text: Ids::Moved(Known::InOrder, texts),
         mapping: Ids::Moved(mapping, mappings),
@@ -178,33 +187,22 @@ fn behind(
     })
 }
 
-// How the entries of a table with these ids are found.
-fn known_once(alloc: Global, hash_keys: HashKeys, ids: Vec<u64>) -> Result<Known, Memory>
-    requires { first_repeated ids.items ≡ None }
-    ensures { IfOk result (λ known. (after : ℕ) → (id : ℕ) → behind_id after (length ids.items) (known_id known id)
-        ≡ behind_id after (length ids.items) (place_id ids.items id)) }
+// How the entries of the table are found by their ids.
+fn known_once<T: HasId>(alloc: Global, hash_keys: HashKeys, items: &[T]) -> Result<Known, Memory>
+    requires { first_repeated (map T.id_of items.now) ≡ None }
+    ensures { IfOk result (λ known. (after : ℕ) → (id : ℕ)
+        → behind_id after (length (map T.id_of items.now)) (known_id known id)
+        ≡ behind_id after (length (map T.id_of items.now)) (place_id (map T.id_of items.now) id)) }
 {
+    let ids = ids_of(alloc, items)?;
     known_ids(alloc, hash_keys, ids.as_slice())
 }
 
-fn mapping_ids(alloc: Global, p: &Profile) -> Result<Vec<u64>, Memory>
-    ensures { IfOk result (λ ids. ids.items ≡ mapping_ids p.now) }
+// The ids of the entries, in order.
+fn ids_of<T: HasId>(alloc: Global, items: &[T]) -> Result<Vec<u64>, Memory>
+    ensures { IfOk result (λ ids. ids.items ≡ map T.id_of items.now) }
 {
-    let ids = p.mapping.as_slice().iter().map(|m| m.id).collect(alloc)?;
-    Ok(ids)
-}
-
-fn function_ids(alloc: Global, p: &Profile) -> Result<Vec<u64>, Memory>
-    ensures { IfOk result (λ ids. ids.items ≡ function_ids p.now) }
-{
-    let ids = p.function.as_slice().iter().map(|f| f.id).collect(alloc)?;
-    Ok(ids)
-}
-
-fn location_ids(alloc: Global, p: &Profile) -> Result<Vec<u64>, Memory>
-    ensures { IfOk result (λ ids. ids.items ≡ location_ids p.now) }
-{
-    let ids = p.location.as_slice().iter().map(|l| l.id).collect(alloc)?;
+    let ids = items.iter().map(|item| item.id()).collect(alloc)?;
     Ok(ids)
 }
 

@@ -5,7 +5,7 @@ ghost use Rattle.std.specs.List.{AllByRecursion, sum_by};
 ghost use Rattle.pp_merge.specs.Merge.{Merges, merged, too_large};
 ghost use Rattle.pp_merge.specs.Merging.{Admits, CanMerge, IsWhole, StandsAlone};
 ghost use Rattle.pp_merge.specs.Together.{sum_of_all};
-ghost use Rattle.pp_share.specs.Hashes.{AreKnown, AreOwnHashes};
+ghost use Rattle.pp_share.specs.Hashes.{AreOwnHashes};
 
 use crate::compatible::first_disagreeing;
 use crate::durations::total_duration;
@@ -151,9 +151,9 @@ fn join_hashed(
     requires can { CanMerge first others.items duration }
     requires hashes { AreOwnHashes first.sample hashes }
     ensures whole { IfOk result (λ r. IsWhole first others.items r.0) }
-    ensures known { IfOk result (λ r. IfSome r.1 (AreKnown (length r.0.text) r.0.sample)) }
+    ensures known { IfOk result (λ r. IfSome r.1 (AreOwnHashes r.0.sample)) }
 {
-    let stays = stands_alone(alloc, &first, others.as_slice())?;
+    let stays = stands_alone(&first, others.as_slice());
     if stays {
         let whole = with_duration(first.into_profile(), duration);
         return Ok((whole, Some(hashes)));
@@ -164,13 +164,13 @@ fn join_hashed(
 }
 
 // Whether the first profile stands alone, with its references by place.
-fn stands_alone(alloc: Global, first: &Valid, others: &[Valid]) -> Result<bool, Memory>
-    ensures { IfOk result (λ alone. OnTrue alone (StandsAlone first.now others.now)) }
+fn stands_alone(first: &Valid, others: &[Valid]) -> bool
+    ensures { OnTrue result (StandsAlone first.now others.now) }
 {
     if !others.is_empty() {
-        return Ok(false);
+        return false;
     }
-    is_in_place(alloc, first.get())
+    is_in_place(first.get())
 }
 
 // The profile with this duration.
