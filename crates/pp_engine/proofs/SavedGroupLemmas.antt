@@ -1,5 +1,5 @@
 -- Sessions over files that other sessions saved, each of a group of sources, go as a session over all sources.
-use Rattle.std.proofs.Common.{◌≡◌, ℕ, ◌+◌, ◌≤◌, List, [], ◌∷◌, ◌++◌, length, map, refl, sym, ap, ◌∙◌, subst, arith, append-nil}
+use Rattle.std.proofs.Common.{◌≡◌, ℕ, ◌+◌, ◌<◌, ◌≤◌, ◌^◌, List, [], ◌∷◌, ◌++◌, length, map, refl, sym, ap, ◌∙◌, subst, arith, append-nil}
 use Rattle.std.specs.Prelude.{Some, None, Option, Result, Ok}
 use Rattle.std.specs.List.{AllByRecursion}
 use Rattle.pp_base.proofs.Lists.{all_by}
@@ -19,6 +19,7 @@ use Rattle.pp_model.specs.Rules.{NoRuleFails}
 use Rattle.pp_share.proofs.NumberedLemmas.{all_both, all_mapped, all_parts}
 use Rattle.pp_share.specs.Written.{Contents, written}
 use Rattle.pp_tables.specs.Encode.{encode}
+use Rattle.pp_tables.specs.Fits.{ProfileFits}
 use Rattle.pp_merge.specs.Merge.{contents}
 use Rattle.pp_merge.specs.Settled.{IsSettled}
 use Rattle.pp_merge.proofs.MergeLemmas.{fits_contents}
@@ -43,6 +44,7 @@ use Rattle.pp_options.specs.declared.plan.Plan.{Plan}
 use Rattle.pp_pattern.specs.Report.{Finds}
 use Rattle.pp_saved.specs.Kept.{IsLasting}
 use Rattle.pp_saved.proofs.SavedWhole.{saved_whole}
+use Rattle.pp_report.specs.Patterns.{report_finders}
 use Rattle.pp_report.specs.SavedReports.{saved_by}
 use Rattle.pp_report.proofs.SavedTextLemmas.{proto_taken}
 use Rattle.pp_engine.specs.declared.ending.Cause.{Cause}
@@ -52,10 +54,12 @@ use Rattle.pp_engine.specs.SavedGroups.{AgreeAt, GoAlike, HasBytes, HasProfiles,
 use Rattle.pp_engine.specs.Session.{perform, serve, serve_loaded, session}
 use Rattle.pp_engine.specs.Words.{performed}
 use Rattle.pp_engine.proofs.Courses.{course_both, errs_more, files_more, joined, outs_more, rest_of}
+use Rattle.pp_engine.proofs.LoadedLemmas.{IsLoadable, loaded_is}
 use Rattle.pp_engine.proofs.LoadQuiet.{load_looks}
 use Rattle.pp_engine.proofs.Performing.{plan_performed}
 use Rattle.pp_engine.proofs.ReportSessions.{Ends, session_ends}
 use Rattle.pp_engine.proofs.SameReads.{same_reads}
+use Rattle.pp_engine.proofs.SavedFits.{saved_fits}
 use Rattle.pp_engine.proofs.SourcesLoaded.{drop_kept, keep_kept, kindless, loaded_course, mappings_start, reads_for, size_after, size_within, sources_load, sources_start, sources_valid, they_are_reads}
 
 -- ---- what the session of a group prints
@@ -94,11 +98,22 @@ module _ (finds : Finds) (g : SavedGroup) (saves : SavesWhole g) (can : IsMergea
       let gives = proto_taken finds l g.plan.base_kind g.plan.config saves.keyless in
       (gives.0, session_ends finds reports.Proto saves.saves g.session l loaded gives.0 (Ok (encode (saved_by finds l g.plan.config))) gives.1)
 
+  saved_is : saved_by finds l g.plan.config ≡ q
+  saved_is = ap (saved_by finds l) saves.no_filters ∙ saved_whole q g.plan.config lasts
+
   -- the bytes of the merge
   printed_is : printed finds g ≡ encode q
-  printed_is =
-      ends.1.out ∙ append-nil (encode (saved_by finds l g.plan.config))
-      ∙ ap encode (ap (saved_by finds l) saves.no_filters ∙ saved_whole q g.plan.config lasts)
+  printed_is = ends.1.out ∙ append-nil (encode (saved_by finds l g.plan.config)) ∙ ap encode saved_is
+
+  known : IsLoadable q
+  known = loaded_is finds g.plan g.session.files g.session.locked g.session.lines g.session.answers l loaded
+
+  -- it was loaded, so its numbers lie in their types
+  fits : length (encode q) ≤ size_limit → ProfileFits q
+  fits few =
+      let limit : size_limit ≡ 268435456 = refl in
+      let small : length (encode (saved_by finds l g.plan.config)) < 2 ^ 32 = subst (λ (p : Profile). length (encode p) < 2 ^ 32) (sym saved_is) (omega (arith, few, limit)) in
+      subst ProfileFits saved_is (saved_fits q known.fits (report_finders finds l reports.Proto g.plan.config) g.plan.config known.valid known.countable small known.alone)
 
   prints_merge : PrintsMerge finds g
   prints_merge = record {
@@ -107,7 +122,7 @@ module _ (finds : Finds) (g : SavedGroup) (saves : SavesWhole g) (can : IsMergea
         let within : length (printed finds g) ≤ size_limit = short in
         let few : length (encode q) ≤ size_limit = subst (λ (text : List ℕ). length text ≤ size_limit) printed_is within in
         let limit : size_limit ≡ 268435456 = refl in
-        ap (decoded source) printed_is ∙ written_loaded source q lasts.valid saves.fits (omega (arith, few, limit));
+        ap (decoded source) printed_is ∙ written_loaded source q lasts.valid (fits few) (omega (arith, few, limit));
   }
 
 pub saved_groups_are_merges : SavedGroupsAreMerges

@@ -10,7 +10,6 @@ use Rattle.pp_model.specs.declared.profile.Profile.{Profile}
 use Rattle.pp_model.specs.declared.report.Report.TheVariants as reports
 use Rattle.pp_model.specs.Judged.{loaded_of}
 use Rattle.pp_model.specs.Lookup.{text_of}
-use Rattle.pp_tables.specs.Fits.{ProfileFits}
 use Rattle.pp_load.specs.Decode.{decoded}
 use Rattle.pp_load.specs.Generator.{generated}
 use Rattle.pp_load.specs.Load.{load}
@@ -63,7 +62,7 @@ abbrev pub groups_of : List SavedGroup → List Group
 groups_of groups = map (λ g. g.sources) groups
 
 -- The session saves its group as a whole: without filters and without frames from labels. The first source, whose
--- patterns a merge has, has none. The numbers of the merge lie in their types, as those of each profile in memory do.
+-- patterns a merge has, has none.
 pub record SavesWhole (g : SavedGroup) : Type 0 where
   pub has : HasProfiles g.plan g.session.files (sources_of g.sources)
   pub saves : g.plan.report ≡ Some reports.Proto
@@ -71,7 +70,6 @@ pub record SavesWhole (g : SavedGroup) : Type 0 where
   pub keyless : NamesNoKey g.plan.config
   pub no_drop : text_of g.sources.first g.sources.first.drop_frames ≡ []
   pub no_keep : text_of g.sources.first g.sources.first.keep_frames ≡ []
-  pub fits : ProfileFits (merged_group g.sources)
 
 -- The session ends done, and what it prints is decoded to the merge of its group.
 pub record PrintsMerge (finds : Finds) (g : SavedGroup) : Type 0 where
