@@ -52,8 +52,8 @@ line_told : (w v : Written) → eq_by_cmp key_cmp (routine_of w) (routine_of v) 
 line_told w v = alike (eq_by_cmp key_cmp (routine_of w) (routine_of v)) (is_same_routine w v)
     (λ is.
     let one : routine_of w ≡ routine_of v = tied (routine_of w) (routine_of v) is in
-    and_from _ _ ((bytes_eq-Decides w.function v.function).1 (ap (λ (k : Written) . k.function) one))
-    ((bytes_eq-Decides w.file v.file).1 (ap (λ (k : Written) . k.file) one)))
+    and_from _ _ ((bytes_eq-Decides w.function v.function).1 (ap (λ (k : Written). k.function) one))
+    ((bytes_eq-Decides w.file v.file).1 (ap (λ (k : Written). k.file) one)))
     (λ is.
     let both = and_parts _ _ is in
     let function : w.function ≡ v.function = (bytes_eq-Decides w.function v.function).0 both.0 in
