@@ -14,6 +14,11 @@ pub mod LineLemmas
 pub mod Lasting
 pub mod ValidEnds
 pub mod Fronts
+pub mod RegionLemmas
+pub mod TellsFitting
+pub mod MergedTells
+pub mod LoadedLemmas
+pub mod SavedFits
 pub mod Leaving
 pub mod Runs
 pub mod AlikeLemmas

@@ -17,8 +17,6 @@ use Rattle.pp_model.specs.declared.report.Report.TheVariants as reports
 use Rattle.pp_model.specs.Finders.{Finders}
 use Rattle.pp_model.specs.Judged.{loaded_of}
 use Rattle.pp_tables.specs.Encode.{encode}
-use Rattle.pp_tables.specs.Fits.{MappingFits}
-use Rattle.pp_merge.specs.Merge.{merged}
 use Rattle.pp_merge.proofs.AloneLemmas.{none_too_large}
 use Rattle.pp_load.specs.declared.refusal.LoadRefusal.{LoadRefusal}
 use Rattle.pp_load.specs.Alone.{HasOneFile, IsMergedAlone}
@@ -34,17 +32,19 @@ use Rattle.pp_pattern.specs.Report.{Finds}
 use Rattle.pp_saved.specs.Kept.{IsLasting}
 use Rattle.pp_saved.specs.Premises.{CanSave, IsSource, unfiltered}
 use Rattle.pp_saved.proofs.SavedAlike.{saved_lasts}
-use Rattle.pp_saved.proofs.SavedFits.{saved_fits, saved_countable}
 use Rattle.pp_saved.proofs.SavedWhole.{saved_whole}
 use Rattle.pp_report.specs.Patterns.{report_finders}
 use Rattle.pp_report.specs.Reports.{report_script, reported_with}
 use Rattle.pp_report.specs.SavedReports.{IsSavedOf, NamesNoKey, saved_by}
 use Rattle.pp_report.proofs.SavedTextLemmas.{ComeToOne, both, can_save, proto_taken, saved_same}
 use Rattle.pp_report.proofs.Taken.{GivesTaken}
-use Rattle.pp_engine.specs.SavedFiles.{SessionOf, course_in, loading_in, HasSourcesOf, PassOn, ReportsStaying, IsInMemory, StandAt, AreSameBut, ReportedAlike, SavedFilesReportAlike, SavedFilesSaveAlike}
+use Rattle.pp_engine.specs.SavedFiles.{SessionOf, course_in, loading_in, HasSourcesOf, PassOn, ReportsStaying, IsOfSources, StandAt, AreSameBut, ReportedAlike, SavedFilesReportAlike, SavedFilesSaveAlike}
 use Rattle.pp_engine.proofs.AlikeLemmas.{course_apart}
+use Rattle.pp_engine.proofs.LoadedLemmas.{IsLoadable, loaded_is}
 use Rattle.pp_engine.proofs.LoadQuiet.{load_looks}
 use Rattle.pp_engine.proofs.ReportSessions.{Ends, taken_same, looks_same, session_ends}
+use Rattle.pp_engine.proofs.SavedFits.{saved_fits, saved_countable}
+use Rattle.pp_engine.proofs.TellsFitting.{HasRange}
 
 -- plans of the same sources load by the same steps
 same_load : (finds : Finds) (plan other : Plan) → HasSourcesOf plan other → load finds other ≡ load finds plan
@@ -70,7 +70,7 @@ same_loading finds plan other path first third has but =
 -- ---- a file that was saved, and a session that loads it
 
 module _ (finds : Finds) {saving reading : Plan} (path : List ℕ) (l : Loaded) (saves : saving.report ≡ Some reports.Proto) (keyless : NamesNoKey saving.config) (file : HasOneFile reading path)
-    (first : SessionOf saving) (second : SessionOf reading) (loaded : (loading_in finds first).value ≡ Ok l) (memory : IsInMemory l.profile) (settled : merged l.profile [] ≡ l.profile)
+    (first : SessionOf saving) (second : SessionOf reading) (loaded : (loading_in finds first).value ≡ Ok l)
     (stand : StandAt path (outs (course_in finds first).effects) second.files) where
   abbrev f : Finders
   f = report_finders finds l reports.Proto saving.config
@@ -79,11 +79,14 @@ module _ (finds : Finds) {saving reading : Plan} (path : List ℕ) (l : Loaded) 
   abbrev q : Profile
   q = saved_by finds l saving.config
 
+  known : IsLoadable l.profile
+  known = loaded_is finds saving first.files first.locked first.lines first.answers l loaded
+
   starts : AllByRecursion (λ (m : Mapping). m.start < 2 ^ 64) l.profile.mapping
-  starts = all_by MappingFits (λ (m : Mapping). m.start < 2 ^ 64) (λ m fits. fits.start) l.profile.mapping memory.fits.mapping
+  starts = all_by HasRange (λ (m : Mapping). m.start < 2 ^ 64) (λ m range. range.0) l.profile.mapping known.fits.mappings
 
   lasts : IsLasting q
-  lasts = saved_lasts l.profile f saving.config memory.valid starts settled
+  lasts = saved_lasts l.profile f saving.config known.valid starts known.alone
 
   first_ends : (notes : List ℕ) × Ends (course_in finds first) reports.Proto notes (Ok (encode q))
   first_ends =
@@ -100,12 +103,12 @@ module _ (finds : Finds) {saving reading : Plan} (path : List ℕ) (l : Loaded) 
   small = let limit : size_limit ≡ 268435456 = refl in omega (arith, short, limit)
 
   decoded_is : decoded 0 (encode q) ≡ Ok q
-  decoded_is = written_loaded 0 q lasts.valid (saved_fits l.profile memory.fits f saving.config memory.valid memory.countable small settled) (omega (arith, small))
+  decoded_is = written_loaded 0 q lasts.valid (saved_fits l.profile known.fits f saving.config known.valid known.countable small known.alone) (omega (arith, small))
 
   alone : IsMergedAlone q
   alone = record {
     alone = lasts.settled;
-    small = none_too_large q (saved_countable l.profile memory.fits f saving.config memory.valid memory.countable small);
+    small = none_too_large q (saved_countable l.profile known.fits f saving.config known.valid known.countable small);
     drop = lasts.drop;
     keep = lasts.keep;
   }
@@ -120,7 +123,7 @@ module _ (finds : Finds) {saving reading : Plan} (path : List ℕ) (l : Loaded) 
 module _ (finds : Finds) (saving reading filtering : Plan) (report : Report) (path : List ℕ) (l : Loaded)
     (pass : PassOn saving reading filtering report path) (staying : ReportsStaying saving filtering report)
     (first : SessionOf saving) (second : SessionOf reading) (third : SessionOf filtering)
-    (loaded : (loading_in finds first).value ≡ Ok l) (memory : IsInMemory l.profile) (source : IsSource l.profile)
+    (loaded : (loading_in finds first).value ≡ Ok l) (plain : IsOfSources l.profile)
     (stand : StandAt path (outs (course_in finds first).effects) second.files)
     (but : AreSameBut path first.files third.files (reads_of (loading_in finds first).effects)) where
   abbrev c : Config
@@ -129,8 +132,14 @@ module _ (finds : Finds) (saving reading filtering : Plan) (report : Report) (pa
   abbrev r : Loaded
   r = loaded_of (saved_by finds l saving.config) None None
 
+  own : IsLoadable l.profile
+  own = loaded_is finds saving first.files first.locked first.lines first.answers l loaded
+
+  source : IsSource l.profile
+  source = record { settled = own.alone; least = plain.least; plain = plain.plain }
+
   can : CanSave l.profile c
-  can = can_save l.profile c memory.valid (starts finds path l pass.saves staying.keyless pass.file first second loaded memory source.settled stand) source staying.counts
+  can = can_save l.profile c own.valid (starts finds path l pass.saves staying.keyless pass.file first second loaded stand) source staying.counts
 
   third_loaded : (loading_in finds third).value ≡ Ok l
   third_loaded = ap (λ (x : Course (Result Loaded LoadRefusal)). x.value) (same_loading finds saving filtering path first third pass.sources but) ∙ loaded
@@ -143,7 +152,7 @@ module _ (finds : Finds) (saving reading filtering : Plan) (report : Report) (pa
 
   second_ends : Ends (course_in finds second) report [] one.outcome
   second_ends =
-      session_ends finds report pass.reads second r (second_loaded finds path l pass.saves staying.keyless pass.file first second loaded memory source.settled stand) [] one.outcome
+      session_ends finds report pass.reads second r (second_loaded finds path l pass.saves staying.keyless pass.file first second loaded stand) [] one.outcome
       (subst (λ (d : Config). GivesTaken (report_script finds r reading.base_kind report d) (reported_with [] one.outcome)) (sym pass.no_filters) one.silent)
 
   third_ends : Ends (course_in finds third) report one.notes one.outcome
@@ -151,7 +160,7 @@ module _ (finds : Finds) (saving reading filtering : Plan) (report : Report) (pa
 
   reported_alike : ReportedAlike (course_in finds first) (course_in finds second) (course_in finds third)
   reported_alike = record {
-    saved = (first_ends finds path l pass.saves staying.keyless pass.file first second loaded memory source.settled stand).1.value;
+    saved = (first_ends finds path l pass.saves staying.keyless pass.file first second loaded stand).1.value;
     alike = record {
       out = second_ends.out ∙ sym third_ends.out;
       ending = second_ends.value ∙ sym third_ends.value;
@@ -164,21 +173,21 @@ module _ (finds : Finds) (saving reading filtering : Plan) (report : Report) (pa
 
 -- All of it.
 pub saved_files_report_alike : SavedFilesReportAlike
-saved_files_report_alike finds saving reading filtering report path l pass staying first second third loaded memory source stand but =
-    reported_alike finds saving reading filtering report path l pass staying first second third loaded memory source stand but
+saved_files_report_alike finds saving reading filtering report path l pass staying first second third loaded plain stand but =
+    reported_alike finds saving reading filtering report path l pass staying first second third loaded plain stand but
 
 -- ---- it is saved again as it is
 
 pub saved_files_save_alike : SavedFilesSaveAlike
-saved_files_save_alike finds saving again path l save first second loaded memory settled stand =
+saved_files_save_alike finds saving again path l save first second loaded stand =
     let q : Profile = saved_by finds l saving.config in
     let r : Loaded = loaded_of q None None in
-    let last : IsLasting q = lasts finds path l save.saves save.keyless save.file first second loaded memory settled stand in
+    let last : IsLasting q = lasts finds path l save.saves save.keyless save.file first second loaded stand in
     let same : saved_by finds r again.config ≡ q = ap (saved_by finds r) save.no_filters ∙ saved_whole q again.config last in
     let gives = proto_taken finds r again.base_kind again.config save.keyless_again in
-    let ends = session_ends finds reports.Proto save.saves_again second r (second_loaded finds path l save.saves save.keyless save.file first second loaded memory settled stand) gives.0 _ gives.1 in
+    let ends = session_ends finds reports.Proto save.saves_again second r (second_loaded finds path l save.saves save.keyless save.file first second loaded stand) gives.0 _ gives.1 in
     record {
-      out = ends.out ∙ append-nil (encode (saved_by finds r again.config)) ∙ ap encode same ∙ sym (text_is finds path l save.saves save.keyless save.file first second loaded memory settled stand);
-      done = (first_ends finds path l save.saves save.keyless save.file first second loaded memory settled stand).1.value;
+      out = ends.out ∙ append-nil (encode (saved_by finds r again.config)) ∙ ap encode same ∙ sym (text_is finds path l save.saves save.keyless save.file first second loaded stand);
+      done = (first_ends finds path l save.saves save.keyless save.file first second loaded stand).1.value;
       done_again = ends.value;
     }

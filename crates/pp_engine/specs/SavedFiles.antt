@@ -1,6 +1,8 @@
 -- Sessions over a file that a session saved: it is reported as the filters by which it was saved report its sources,
 -- and saved again as it is.
-use Rattle.std.specs.Prelude.{◌≡◌, ◌≢◌, ◌≤◌, ℕ, true, false, List, [], ◌++◌, length, Option, Some, Result, Ok}
+use Rattle.std.specs.Prelude.{◌≡◌, ◌≢◌, ◌≤◌, ◌≤ℤ◌, ◌++◌, ℕ, pos, true, false, All, List, length, Option, Some}
+use Rattle.std.specs.Prelude.{Result, Ok}
+use Rattle.std.specs.List.{list_any}
 use Rattle.pp_base.specs.FileMap.{FileMap, content_at, among}
 use Rattle.pp_base.specs.Judges.{Answer}
 use Rattle.pp_desk.specs.declared.input_line.InputLine.{InputLine}
@@ -10,17 +12,14 @@ use Rattle.pp_model.specs.declared.loaded.Loaded.{Loaded}
 use Rattle.pp_model.specs.declared.profile.Profile.{Profile}
 use Rattle.pp_model.specs.declared.report.Report.{Report}
 use Rattle.pp_model.specs.declared.report.Report.TheVariants as reports
-use Rattle.pp_model.specs.Rules.{NoRuleFails}
-use Rattle.pp_model.specs.Sizes.{IsCountable}
-use Rattle.pp_tables.specs.Fits.{ProfileFits}
-use Rattle.pp_merge.specs.Merge.{merged}
+use Rattle.pp_count.specs.Counts.{is_base}
 use Rattle.pp_load.specs.declared.refusal.LoadRefusal.{LoadRefusal}
 use Rattle.pp_load.specs.Alone.{HasOneFile}
 use Rattle.pp_load.specs.Load.{load}
 use Rattle.pp_load.specs.Reads.{size_limit}
 use Rattle.pp_options.specs.declared.plan.Plan.{Plan}
 use Rattle.pp_pattern.specs.Report.{Finds}
-use Rattle.pp_saved.specs.Premises.{HasFiltersOf, IsSource, CountsFiltered, unfiltered}
+use Rattle.pp_saved.specs.Premises.{HasFiltersOf, CountsFiltered, unfiltered}
 use Rattle.pp_report.specs.SavedReports.{IsPlain, NamesNoKey}
 use Rattle.pp_report.specs.SavedText.{AllTaken}
 use Rattle.pp_report.specs.StaysSaved.{stays_saved}
@@ -75,12 +74,10 @@ pub record ReportsStaying (saving filtering : Plan) (report : Report) : Type 0 w
   pub plain : IsPlain filtering.config
   pub keyless : NamesNoKey saving.config
 
--- No table rule fails in the profile, its numbers lie in their types, and its columns can be added up. So it is with
--- each that a run has loaded.
-pub record IsInMemory (p : Profile) : Type 0 where
-  pub valid : NoRuleFails p
-  pub fits : ProfileFits p
-  pub countable : IsCountable p
+-- No value of the profile is below 0, and no sample is of a base.
+pub record IsOfSources (p : Profile) : Type 0 where
+  pub least : All (λ s. All (λ v. pos 0 ≤ℤ v) s.value) p.sample
+  pub plain : list_any (is_base p) p.sample ≡ false
 
 -- At the path stand these bytes, which are no more than a file may have.
 pub record StandAt (path bytes : List ℕ) (files : FileMap) : Type 0 where
@@ -107,14 +104,13 @@ pub record ReportedAlike (c d e : Course Cause) : Type 0 where
   pub saved : c.value ≡ causes.Done
   pub alike : PrintAlike d e
 
--- So it is where the first session loads a profile that stays as it is when it is merged alone, as each loaded one
--- does, and of which no value is below 0 and no sample is of a base.
+-- So it is where the first session loads a profile of which no value is below 0 and no sample is of a base.
 abbrev pub SavedFilesReportAlike : Type 0
 SavedFilesReportAlike =
     (finds : Finds) (saving reading filtering : Plan) (report : Report) (path : List ℕ) (l : Loaded)
     → PassOn saving reading filtering report path → ReportsStaying saving filtering report
     → (first : SessionOf saving) (second : SessionOf reading) (third : SessionOf filtering)
-    → (loading_in finds first).value ≡ Ok l → IsInMemory l.profile → IsSource l.profile
+    → (loading_in finds first).value ≡ Ok l → IsOfSources l.profile
     → StandAt path (outs (course_in finds first).effects) second.files
     → AreSameBut path first.files third.files (reads_of (loading_in finds first).effects)
     → ReportedAlike (course_in finds first) (course_in finds second) (course_in finds third)
@@ -141,6 +137,6 @@ SavedFilesSaveAlike =
     (finds : Finds) (saving again : Plan) (path : List ℕ) (l : Loaded)
     → SaveAgain saving again path
     → (first : SessionOf saving) (second : SessionOf again)
-    → (loading_in finds first).value ≡ Ok l → IsInMemory l.profile → merged l.profile [] ≡ l.profile
+    → (loading_in finds first).value ≡ Ok l
     → StandAt path (outs (course_in finds first).effects) second.files
     → SavedAlike (course_in finds first) (course_in finds second)

@@ -33,10 +33,9 @@ pub fn bytes_decoded_alike_run_alike()
 /// tree, peek, table or folded report of the file alone prints what one prints that makes it of the sources by the
 /// filters, and ends alike. What that one tells of filters that match nothing stands before.
 ///
-/// Premises: the profile of the sources stays as it is when it is merged alone, as each loaded one does; none of its
-/// values is below 0 and no sample carries `pprof::base` of the text `true`; relative_percentages is on, path_tree is
-/// off and divide_by is 1; tagroot and tagleaf name no key; the matcher refuses no pattern; the file is no longer than
-/// one may be, and none of the sources.
+/// Premises: of the profile that the sources come to no value is below 0, and no sample carries `pprof::base` of the
+/// text `true`; relative_percentages is on, path_tree is off and divide_by is 1; tagroot and tagleaf name no key; the
+/// matcher refuses no pattern; the file is no longer than one may be, and none of the sources.
 pub fn saved_files_report_alike()
     ensures { SavedFilesReportAlike }
 {}
@@ -46,8 +45,8 @@ pub fn saved_files_report_alike()
 /// A file that a session saved is saved again as it is: a session that makes a proto report of the file alone, without
 /// filters, prints the bytes of the file.
 ///
-/// Premises: the profile of the sources stays as it is when it is merged alone, as each loaded one does; tagroot and
-/// tagleaf name no key in either session; the matcher refuses no pattern; the file is no longer than one may be.
+/// Premises: tagroot and tagleaf name no key in either session; the matcher refuses no pattern; the file is no longer
+/// than one may be.
 pub fn saved_files_save_alike()
     ensures { SavedFilesSaveAlike }
 {}
