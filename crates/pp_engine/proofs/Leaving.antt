@@ -28,7 +28,7 @@ use Rattle.pp_options.specs.Words as options
 use Rattle.pp_pattern.specs.Load.{load_verdicts}
 use Rattle.pp_pattern.specs.Report.{Finds}
 use Rattle.pp_engine.specs.Endings.{cause_of_stop, fault_line}
-use Rattle.pp_engine.specs.Leaves.{IsLoaded, Leaves}
+use Rattle.pp_engine.specs.Leaves.{IsLoadedBy, Leaves}
 use Rattle.pp_engine.specs.Words.{plan_in, planned}
 use Rattle.pp_engine.proofs.Courses.{only_looks}
 use Rattle.pp_engine.proofs.LoadQuiet.{load_looks}
@@ -109,7 +109,7 @@ module _ (finds : Finds) (plan : Plan) (a b : Told) (loading : Result Loaded Loa
 
 -- The profile that was loaded is left, whatever came of it.
 pub leaves_loaded : {T : Type 0} (finds : Finds) (plan : Plan) (a b c : World) (loading : Result Loaded LoadRefusal) (rest : Script T) (result : Result T Stop) (stopped : Bool) (there left : Option Loaded)
-    → Went a b (load finds plan) (Ok loading) → Went b c rest result → IfOk loading (IsLoaded finds) → left ≡ result_ok loading
+    → Went a b (load finds plan) (Ok loading) → Went b c rest result → IfOk loading (IsLoadedBy finds) → left ≡ result_ok loading
     → Leaves finds (Some plan) a.told c.told.answers stopped there left
 unfolding Ways
 leaves_loaded finds plan a b c loading rest result stopped there left load_went rest_went sound is =
@@ -122,7 +122,7 @@ leaves_loaded finds plan a b c loading rest result stopped there left load_went 
     })
 
 -- what is known of a loaded profile, together
-pub is_loaded : (finds : Finds) (loading : Result Loaded LoadRefusal) → IfOk loading (λ l. IsCountable l.profile) → IfOk loading (λ l. merged l.profile [] ≡ l.profile) → IfOk loading (λ l. (l.drop, l.keep) ≡ load_verdicts finds l.profile) → IfOk loading (IsLoaded finds)
+pub is_loaded : (finds : Finds) (loading : Result Loaded LoadRefusal) → IfOk loading (λ l. IsCountable l.profile) → IfOk loading (λ l. merged l.profile [] ≡ l.profile) → IfOk loading (λ l. (l.drop, l.keep) ≡ load_verdicts finds l.profile) → IfOk loading (IsLoadedBy finds)
 is_loaded finds (Ok l) countable alone found = record { countable = countable; alone = alone; found = found }
 is_loaded finds (Err refusal) countable alone found = tt
 

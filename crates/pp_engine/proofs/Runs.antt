@@ -27,7 +27,7 @@ use Rattle.pp_engine.specs.declared.ending.Cause.{Cause}
 use Rattle.pp_engine.specs.declared.ending.Cause.TheVariants as causes
 use Rattle.pp_engine.specs.Endings.{cause_of, cause_of_stop, fault_line, stop_line, end_line}
 use Rattle.pp_engine.specs.Leaves.{Leaves}
-use Rattle.pp_engine.specs.Run.{Ran, TakesFront, told_at, Moment, Runs, told_first}
+use Rattle.pp_engine.specs.Run.{Ran, TakesFront, told_at, Moment, RunsWords, told_first}
 use Rattle.pp_pattern.specs.Report.{Finds}
 use Rattle.pp_engine.specs.Session.{session, told_run, RanWhole, RanFront}
 use Rattle.pp_engine.specs.Validity.{is_valid}
@@ -287,7 +287,7 @@ module _ (finds : Finds) (words : List (List ℕ)) (o : Outside) (locked : Optio
 pub runs : (finds : Finds) (words : List (List ℕ)) (old new : Moment) (cause : Cause)
     → Ran (session finds words) (told_first old) new.outside new.answers old.left new.left old.faults new.faults cause
     → (starts_shell words ≡ false → new.left ≡ old.left) → TakesFront INPUT_LIMIT old.left new.left
-    → Leaves finds (performed words) (told_first old) new.answers (is_some (fault_line cause)) old.profile new.profile → Runs finds words old new cause
+    → Leaves finds (performed words) (told_first old) new.answers (is_some (fault_line cause)) old.profile new.profile → RunsWords finds words old new cause
 runs finds words old new cause ran unread taken left =
     let o : Outside = old.outside in
     record {

@@ -14,7 +14,7 @@ use Rattle.pp_pattern.specs.Load.{load_verdicts}
 use Rattle.pp_pattern.specs.Report.{Finds}
 
 -- The profile can be counted, stays as it is when it is merged alone, and has the verdicts of its own patterns.
-pub record IsLoaded (finds : Finds) (l : Loaded) : Type 0 where
+pub record IsLoadedBy (finds : Finds) (l : Loaded) : Type 0 where
   pub countable : IsCountable l.profile
   pub alone : merged l.profile [] ≡ l.profile
   pub found : (l.drop, l.keep) ≡ load_verdicts finds l.profile
@@ -26,7 +26,7 @@ pub record LeavesLoaded (finds : Finds) (plan : Plan) (old : Told) (answers : Op
   pub loading : Result Loaded LoadRefusal
   pub told : IfSome (told_course (load finds plan) old.files old.locked old.lines old.answers answers)
       (λ t. loading ≡ t.course.value)
-  pub sound : IfOk loading (IsLoaded finds)
+  pub sound : IfOk loading (IsLoadedBy finds)
   pub is : left ≡ result_ok loading
 
 -- What a run leaves: the profile of its plan, or what stood there if it was stopped first. Words without a plan leave

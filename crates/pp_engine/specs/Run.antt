@@ -1,5 +1,6 @@
 -- What a run is: how its session went, how it ended, and what is told of a stop.
-use Rattle.std.specs.Prelude.{◌≡◌, ◌≤◌, ◌⊎◌, ℕ, true, false, List, Option, Result, IfErr, IfNone, IfSome, IsNone, is_some, option_map, length}
+use Rattle.std.specs.Prelude.{◌≡◌, ◌≤◌, ◌⊎◌, ℕ, true, false, List, Option, Result, IfErr, IfNone, IfSome, IsNone}
+use Rattle.std.specs.Prelude.{is_some, option_map, length}
 use Rattle.pp_base.specs.Fault.{Rose}
 use Rattle.pp_base.specs.Front.{IsFront}
 use Rattle.pp_base.specs.Judges.{Answer}
@@ -108,7 +109,7 @@ pub record NoneRose (old new : Faults) : Type 0 where
   pub err : ¬ (Rose old.err new.err)
 
 -- The words were run between these moments, and the run ended by this cause.
-pub record Runs (finds : Finds) (words : List (List ℕ)) (old new : Moment) (cause : Cause) : Type 0 where
+pub record RunsWords (finds : Finds) (words : List (List ℕ)) (old new : Moment) (cause : Cause) : Type 0 where
   -- Where nothing stopped it, it did all that the session does, and nothing else, and ended as the session.
   pub whole : IfNone (fault_line cause)
       (IfSome (told_between finds words old new) (λ told. RanWhole told old.outside new.outside cause))
@@ -116,7 +117,8 @@ pub record Runs (finds : Finds) (words : List (List ℕ)) (old new : Moment) (ca
   pub front : IfSome (fault_line cause) (λ line.
       IfSome (told_between finds words old new) (λ told. RanFront told old.outside new.outside line))
   -- The session alone decides how the run ends: while the line of a stop is told, the ending stays what it was.
-  pub ending : Ran (session finds words) (told_first old) new.outside new.answers old.left new.left old.faults new.faults cause
+  pub ending : Ran (session finds words) (told_first old) new.outside new.answers old.left new.left
+      old.faults new.faults cause
   -- A fault is answered only where that object has failed in this call.
   pub file_fault : cause ≡ causes.FileFault → Rose old.faults.file new.faults.file
   pub input_fault : cause ≡ causes.InputFault → Rose old.faults.input new.faults.input
@@ -134,7 +136,8 @@ pub record Runs (finds : Finds) (words : List (List ℕ)) (old new : Moment) (ca
   -- Input is taken from its front, and at most 16,777,216 bytes of it.
   pub taken : TakesFront INPUT_LIMIT old.left new.left
   -- What was loaded is left to the caller, and what stood there where nothing was.
-  pub profile : Leaves finds (performed words) (told_first old) new.answers (is_some (fault_line cause)) old.profile new.profile
+  pub profile : Leaves finds (performed words) (told_first old) new.answers (is_some (fault_line cause))
+      old.profile new.profile
 
 -- Without memory for the words a front of its line was told, and nothing else was done.
 pub record TellsOfMemory (old new : Moment) (cause : Cause) : Type 0 where

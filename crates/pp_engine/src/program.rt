@@ -5,7 +5,7 @@ ghost use Rattle.pp_base.specs.Writes.{PutsFront};
 ghost use Rattle.pp_desk.specs.Effects.{outside};
 ghost use Rattle.pp_engine.specs.declared.ending.Cause.{Cause};
 ghost use Rattle.pp_engine.specs.Endings.{status_of, stop_line};
-ghost use Rattle.pp_engine.specs.Run.{Runs, TellsOfMemory, fault_counts, moment};
+ghost use Rattle.pp_engine.specs.Run.{RunsWords, TellsOfMemory, fault_counts, moment};
 
 use crate::ending::{Cause, Ending};
 use crate::message::memory_line;
@@ -31,14 +31,15 @@ pub fn run_program<R: Threads + Sync, F: Files, I: Source, O: Sink, E: Sink, M: 
     matcher: &mut M,
     profile: &mut Option<Loaded>,
 ) -> ExitCode
-    ensures { let before = moment (outside (O.written out.old) (E.written err.old) (F.content files.old) (F.reads files.old))
+    ensures { let before = moment
+        (outside (O.written out.old) (E.written err.old) (F.content files.old) (F.reads files.old))
         (F.locked files.old) (I.left input.old) (M.answers matcher.old)
         (fault_counts (F.faults files.old) (I.faults input.old) (O.faults out.old) (E.faults err.old)) profile.old in
         let after = moment (outside (O.written out.new) (E.written err.new) (F.content files.new) (F.reads files.new))
         (F.locked files.new) (I.left input.new) (M.answers matcher.new)
         (fault_counts (F.faults files.new) (I.faults input.new) (O.faults out.new) (E.faults err.new)) profile.new in
         (cause : Cause) × (exit_status result ≡ status_of cause)
-        × IfOk words (λ read. Runs M.finds read.items before after cause)
+        × IfOk words (λ read. RunsWords M.finds read.items before after cause)
         × IfErr words (λ _. TellsOfMemory before after cause) }
 {
     match words {

@@ -7,7 +7,7 @@ ghost use Rattle.pp_engine.specs.Endings.{fault_line, status_of, stop_line};
 ghost use Rattle.pp_desk.specs.World.{HasTaken};
 ghost use Rattle.pp_desk.specs.declared.line_reader.TheConstants.{INPUT_LIMIT};
 ghost use Rattle.pp_engine.specs.Leaves.{Leaves};
-ghost use Rattle.pp_engine.specs.Run.{Ran, Runs, TakesFront, fault_counts, moment, told_at};
+ghost use Rattle.pp_engine.specs.Run.{Ran, RunsWords, TakesFront, fault_counts, moment, told_at};
 ghost use Rattle.pp_engine.specs.Session.{session};
 ghost use Rattle.pp_engine.specs.Words.{performed, starts_shell};
 
@@ -24,8 +24,8 @@ use std::thread::Threads;
 /// standard input, both outputs and a matcher of patterns. A report's text is whole before its first byte goes out, and
 /// the line of an ending is written last.
 ///
-/// The profile that was loaded is left in `profile`, `None` where loading refused it, and what stood there where nothing
-/// was loaded. To give up a large one takes longer than to end the process.
+/// The profile that was loaded is left in `profile`, `None` where loading refused it, and what stood there where
+/// nothing was loaded. To give up a large one takes longer than to end the process.
 pub fn run<R: Threads + Sync, F: Files, I: Source, O: Sink, E: Sink, M: Matcher, G: Gate>(
     with: &Host<'_, R, G>,
     words: &[Text],
@@ -37,7 +37,7 @@ pub fn run<R: Threads + Sync, F: Files, I: Source, O: Sink, E: Sink, M: Matcher,
     profile: &mut Option<Loaded>,
 ) -> Ending
     ensures status { result.status ≡ status_of result.cause }
-    ensures runs { Runs M.finds words.now
+    ensures runs { RunsWords M.finds words.now
         (moment (outside (O.written out.old) (E.written err.old) (F.content files.old) (F.reads files.old))
         (F.locked files.old) (I.left input.old) (M.answers matcher.old)
         (fault_counts (F.faults files.old) (I.faults input.old) (O.faults out.old) (E.faults err.old)) profile.old)
