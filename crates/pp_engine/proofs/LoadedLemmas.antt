@@ -136,12 +136,12 @@ mappings_ranged n (r ∷ rs) all = ((all.0.start, all.0.limit, all.0.offset), ma
 -- ---- bytes that are decoded
 
 -- What is known of a profile that so many bytes were decoded to.
-record IsDecoded (len : ℕ) (p : Profile) : Type 0 where
-  valid : NoRuleFails p
-  starts : HasStarts p
-  types : length p.sample_type ≤ len
-  samples : length p.sample ≤ len
-  fits : TellsFitting p
+pub record IsDecoded (len : ℕ) (p : Profile) : Type 0 where
+  pub valid : NoRuleFails p
+  pub starts : HasStarts p
+  pub types : length p.sample_type ≤ len
+  pub samples : length p.sample ≤ len
+  pub fits : TellsFitting p
 
 legacy_long : (bytes : List ℕ) → is_legacy bytes ≡ true → 16 ≤ length bytes
 legacy_long bytes is = leb-true 16 (length bytes) (and_parts _ _ is).0
@@ -191,7 +191,7 @@ unfolding Loads
 starts_of source bytes p is = decoded_has source bytes p is
 
 -- Whatever bytes are decoded to keeps the table rules, has no more samples than bytes, and tells numbers that fit.
-is_decoded : (source : ℕ) (bytes : List ℕ) (p : Profile) → decoded source bytes ≡ Ok p → IsDecoded (length bytes) p
+pub is_decoded : (source : ℕ) (bytes : List ℕ) (p : Profile) → decoded source bytes ≡ Ok p → IsDecoded (length bytes) p
 unfolding decoded tables_of steps.◌>>=◌
 is_decoded source bytes p is = by (is_legacy bytes) refl is
   where

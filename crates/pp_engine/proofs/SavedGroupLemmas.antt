@@ -17,16 +17,10 @@ use Rattle.pp_model.specs.Judged.{loaded_of}
 use Rattle.pp_model.specs.Lookup.{text_of}
 use Rattle.pp_model.specs.Rules.{NoRuleFails}
 use Rattle.pp_share.proofs.NumberedLemmas.{all_both, all_mapped, all_parts}
-use Rattle.pp_share.specs.Written.{Contents, written}
 use Rattle.pp_tables.specs.Encode.{encode}
 use Rattle.pp_tables.specs.Fits.{ProfileFits}
-use Rattle.pp_merge.specs.Merge.{contents}
-use Rattle.pp_merge.specs.Settled.{IsSettled}
-use Rattle.pp_merge.proofs.MergeLemmas.{fits_contents}
 use Rattle.pp_merge.proofs.NormalizingLemmas.{wide_samples}
-use Rattle.pp_merge.proofs.SettledLemmas.{all_flat, settled_contents}
-use Rattle.pp_merge.proofs.WrittenAgain.{contents_again}
-use Rattle.pp_merge.proofs.WrittenValid.{valid_written}
+use Rattle.pp_merge.proofs.SettledLemmas.{all_flat}
 use Rattle.pp_steps.specs.Premises.{GroupHasValues, GroupsAddUp, MergeInSteps}
 use Rattle.pp_steps.specs.Refused.{IsMergeable, group_of_merges}
 use Rattle.pp_steps.specs.Steps.{Group, all_sources, at_once, in_steps, merged_group, sources_of}
@@ -42,7 +36,6 @@ use Rattle.pp_load.proofs.DecodeLemmas.{written_loaded}
 use Rattle.pp_load.proofs.KindLemmas.{all_of_kinds}
 use Rattle.pp_options.specs.declared.plan.Plan.{Plan}
 use Rattle.pp_pattern.specs.Report.{Finds}
-use Rattle.pp_saved.specs.Kept.{IsLasting}
 use Rattle.pp_saved.proofs.SavedWhole.{saved_whole}
 use Rattle.pp_report.specs.Patterns.{report_finders}
 use Rattle.pp_report.specs.SavedReports.{saved_by}
@@ -54,8 +47,8 @@ use Rattle.pp_engine.specs.SavedGroups.{AgreeAt, GoAlike, HasBytes, HasProfiles,
 use Rattle.pp_engine.specs.Session.{perform, serve, serve_loaded, session}
 use Rattle.pp_engine.specs.Words.{performed}
 use Rattle.pp_engine.proofs.Courses.{course_both, errs_more, files_more, joined, outs_more, rest_of}
-use Rattle.pp_engine.proofs.LoadedLemmas.{IsLoadable, loaded_is}
 use Rattle.pp_engine.proofs.LoadQuiet.{load_looks}
+use Rattle.pp_engine.proofs.LoadedLemmas.{IsLoadable, loaded_is}
 use Rattle.pp_engine.proofs.Performing.{plan_performed}
 use Rattle.pp_engine.proofs.ReportSessions.{Ends, session_ends}
 use Rattle.pp_engine.proofs.SameReads.{same_reads}
@@ -65,18 +58,15 @@ use Rattle.pp_engine.proofs.SourcesLoaded.{drop_kept, keep_kept, kindless, loade
 -- ---- what the session of a group prints
 
 module _ (finds : Finds) (g : SavedGroup) (saves : SavesWhole g) (can : IsMergeable g.sources) where
-  -- what the group's merge says, and the merge
-  abbrev c : Contents
-  c = contents g.sources.first g.sources.others
-
+  -- the group's merge, and what is saved of it
   abbrev q : Profile
   q = merged_group g.sources
 
   abbrev l : Loaded
   l = loaded_of q None None
 
-  settled : IsSettled c
-  settled = settled_contents g.sources.first g.sources.others (mappings_start (sources_of g.sources) (sources_start g.plan g.session.files (sources_of g.sources) saves.has))
+  abbrev saved : Profile
+  saved = saved_by finds l g.plan.config
 
   -- it has no patterns of its own
   no_drop : text_of q q.drop_frames ≡ []
@@ -85,35 +75,30 @@ module _ (finds : Finds) (g : SavedGroup) (saves : SavesWhole g) (can : IsMergea
   no_keep : text_of q q.keep_frames ≡ []
   no_keep = keep_kept g.sources.first g.sources.others ∙ saves.no_keep
 
-  lasts : IsLasting q
-  lasts = record { valid = valid_written c (fits_contents g.sources.first g.sources.others); settled = ap written (contents_again c settled); drop = no_drop; keep = no_keep }
-
   loaded : (loading_in finds g.session).value ≡ Ok l
   loaded =
       ap (λ (x : Course (Result Loaded LoadRefusal)). x.value)
       (sources_load finds g.plan g.session.files g.sources.first g.sources.others saves.has can.agree can.sums saves.no_drop saves.no_keep g.session.locked g.session.lines g.session.answers)
 
-  ends : (notes : List ℕ) × Ends (course_in finds g.session) reports.Proto notes (Ok (encode (saved_by finds l g.plan.config)))
-  ends =
-      let gives = proto_taken finds l g.plan.base_kind g.plan.config saves.keyless in
-      (gives.0, session_ends finds reports.Proto saves.saves g.session l loaded gives.0 (Ok (encode (saved_by finds l g.plan.config))) gives.1)
-
-  saved_is : saved_by finds l g.plan.config ≡ q
-  saved_is = ap (saved_by finds l) saves.no_filters ∙ saved_whole q g.plan.config lasts
-
-  -- the bytes of the merge
-  printed_is : printed finds g ≡ encode q
-  printed_is = ends.1.out ∙ append-nil (encode (saved_by finds l g.plan.config)) ∙ ap encode saved_is
-
   known : IsLoadable q
   known = loaded_is finds g.plan g.session.files g.session.locked g.session.lines g.session.answers l loaded
 
-  -- it was loaded, so its numbers lie in their types
-  fits : length (encode q) ≤ size_limit → ProfileFits q
-  fits few =
-      let limit : size_limit ≡ 268435456 = refl in
-      let small : length (encode (saved_by finds l g.plan.config)) < 2 ^ 32 = subst (λ (p : Profile). length (encode p) < 2 ^ 32) (sym saved_is) (omega (arith, few, limit)) in
-      subst ProfileFits saved_is (saved_fits q known.fits (report_finders finds l reports.Proto g.plan.config) g.plan.config known.valid known.countable small known.alone)
+  same : saved ≡ q
+  same = ap (saved_by finds l) saves.no_filters ∙ saved_whole q g.plan.config (record { valid = known.valid; settled = known.alone; drop = no_drop; keep = no_keep })
+
+  ends : (notes : List ℕ) × Ends (course_in finds g.session) reports.Proto notes (Ok (encode saved))
+  ends =
+      let gives = proto_taken finds l g.plan.base_kind g.plan.config saves.keyless in
+      (gives.0, session_ends finds reports.Proto saves.saves g.session l loaded gives.0 (Ok (encode saved)) gives.1)
+
+  -- the bytes of the merge
+  printed_is : printed finds g ≡ encode q
+  printed_is = ends.1.out ∙ append-nil (encode saved) ∙ ap encode same
+
+  fits : length (encode q) < 2 ^ 32 → ProfileFits q
+  fits small =
+      subst ProfileFits same
+      (saved_fits q known.fits (report_finders finds l reports.Proto g.plan.config) g.plan.config known.valid known.countable (subst (λ (p : Profile). length (encode p) < 2 ^ 32) (sym same) small) known.alone)
 
   prints_merge : PrintsMerge finds g
   prints_merge = record {
@@ -122,7 +107,7 @@ module _ (finds : Finds) (g : SavedGroup) (saves : SavesWhole g) (can : IsMergea
         let within : length (printed finds g) ≤ size_limit = short in
         let few : length (encode q) ≤ size_limit = subst (λ (text : List ℕ). length text ≤ size_limit) printed_is within in
         let limit : size_limit ≡ 268435456 = refl in
-        ap (decoded source) printed_is ∙ written_loaded source q lasts.valid (fits few) (omega (arith, few, limit));
+        ap (decoded source) printed_is ∙ written_loaded source q known.valid (fits (omega (arith, few, limit))) (omega (arith, few, limit));
   }
 
 pub saved_groups_are_merges : SavedGroupsAreMerges

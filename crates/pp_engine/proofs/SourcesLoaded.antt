@@ -1,5 +1,5 @@
 -- A plan whose sources are profiles loads their merge.
-use Rattle.std.proofs.Common.{◌≡◌, ℕ, ◌+◌, ◌≤◌, ◌<◌, ◌^◌, Bool, true, false, List, [], ◌∷◌, ◌++◌, map, fold, length, drop, Option, Some, None, refl, sym, ap, ◌∙◌, subst, append-nil, append_assoc, arith}
+use Rattle.std.proofs.Common.{◌≡◌, ℕ, ◌+◌, ◌≤◌, ◌<◌, ◌^◌, Bool, true, false, List, [], ◌∷◌, ◌++◌, map, fold, length, drop, Option, Some, None, refl, sym, ap, ◌∙◌, append-nil, append_assoc, arith}
 use Rattle.std.specs.Prelude.{Result, Ok, Err, is_some, nat_lt, if◌then◌else◌}
 use Rattle.std.specs.List.{AllByRecursion}
 use Rattle.std.proofs.lemmas.Bool.{le-ltb}
@@ -30,7 +30,6 @@ use Rattle.pp_tables.specs.declared.refusal.ReadRefusal.{ReadRefusal}
 use Rattle.pp_tables.specs.declared.refusal.ReadRefusal.TheVariants as reading
 use Rattle.pp_tables.specs.Read.{read as read_tables}
 use Rattle.pp_check.specs.FirstFault.{first_fault}
-use Rattle.pp_check.proofs.Keeps.{keeps_rules}
 use Rattle.pp_legacy.specs.Legacy.{is_legacy, legacy}
 use Rattle.pp_legacy.specs.Steps.{Reading}
 use Rattle.pp_merge.specs.Merge.{all_mappings, contents, disagreeing, merged, too_large}
@@ -56,12 +55,10 @@ use Rattle.pp_load.specs.Load.{read_bytes, read_next, read_base, read_all, read_
 use Rattle.pp_load.specs.Reads.{size_limit, bytes_found, read_path, loaded_or, with_verdicts}
 use Rattle.pp_load.specs.Sources.{nothing_read, within_size_limit, with_profile, with_bytes}
 use Rattle.pp_load.specs.Steps as steps
-use Rattle.pp_load.specs.Steps.{Loads, unless}
-use Rattle.pp_load.proofs.DecodeLemmas.{legacy_valid}
-use Rattle.pp_load.proofs.KindLemmas.{nothing_found}
-use Rattle.pp_load.proofs.StartLemmas.{decoded_has, same_Ok}
+use Rattle.pp_load.specs.Steps.{unless}
 use Rattle.pp_engine.specs.SavedGroups.{HasProfiles, bytes_of}
 use Rattle.pp_engine.proofs.Courses.{AreReads}
+use Rattle.pp_engine.proofs.LoadedLemmas.{is_decoded}
 
 -- ---- lists that are the same
 
@@ -104,30 +101,6 @@ decoded_anywhere m n bytes p = by (is_legacy bytes)
     by true is = legacy_anywhere m n p (legacy bytes) is
     by false is = tables_anywhere m n p (read_tables bytes) is
 
--- no table rule fails in what bytes are decoded to
-valid_of : (bytes : List ℕ) (p : Profile) → decoded 0 bytes ≡ Ok p → NoRuleFails p
-unfolding decoded tables_of steps.◌>>=◌
-valid_of bytes p = by (is_legacy bytes)
-  where
-    of_legacy : (r : Reading Profile) → legacy bytes ≡ r → legacy_given 0 r ≡ Ok p → NoRuleFails p
-    of_legacy (Ok q) found is = legacy_valid bytes p (found ∙ ap Ok (same_Ok q p is))
-    of_legacy (Err fault) found is = absurd cc
-
-    of_tables : (r : Result Profile ReadRefusal) → steps.◌>>=◌ (tables_given 0 r) (checked 0) ≡ Ok p → NoRuleFails p
-    of_tables (Ok q) is = let own = nothing_found (first_fault q) (refusals.Table 0) q p is in subst NoRuleFails own.1 (keeps_rules q own.0)
-    of_tables (Err reading.Empty) is = absurd cc
-    of_tables (Err reading.Compressed) is = absurd cc
-    of_tables (Err (reading.Wire fault)) is = absurd cc
-    of_tables (Err reading.Memory) is = absurd cc
-
-    by : (b : Bool) → (if b then legacy_given 0 (legacy bytes) else steps.◌>>=◌ (tables_given 0 (read_tables bytes)) (checked 0)) ≡ Ok p → NoRuleFails p
-    by true is = of_legacy (legacy bytes) refl is
-    by false is = of_tables (read_tables bytes) is
-
-starts_of : (bytes : List ℕ) (p : Profile) → decoded 0 bytes ≡ Ok p → HasStarts p
-unfolding Loads
-starts_of bytes p is = decoded_has 0 bytes p is
-
 -- what is known of each of the sources
 record IsSound (p : Profile) : Type 0 where
   valid : NoRuleFails p
@@ -139,7 +112,8 @@ all_sound [] (p ∷ ps) are = absurd cc
 all_sound (bytes ∷ all) [] are = absurd cc
 all_sound (bytes ∷ all) (p ∷ ps) are =
     let d = same_cons (decoded 0 bytes) (Ok p) (map (decoded 0) all) (map Ok ps) are in
-    (record { valid = valid_of bytes p d.0; starts = starts_of bytes p d.0 }, all_sound all ps d.1)
+    let own = is_decoded 0 bytes p d.0 in
+    (record { valid = own.valid; starts = own.starts }, all_sound all ps d.1)
 
 module _ (plan : Plan) (files : FileMap) (ps : List Profile) (have : HasProfiles plan files ps) where
   pub sources_valid : AllByRecursion NoRuleFails ps

@@ -9,8 +9,8 @@ use Rattle.pp_filter.proofs.FilterLemmas.{filter_holds, can_save}
 use Rattle.pp_filter.proofs.filtering.filter_loaded.Goals as goal
 
 -- the samples can be counted by the verdicts
-pub save-requires : goal.save-requires
-save-requires g c = λ _ _. can_save g.D.Desk.finds c.args.l.now c.args.config.now c.in_ok-v.v c.in_ok-v.ensures.found c.requires
+pub save-requires-after_bounds : goal.save-requires-after_bounds
+save-requires-after_bounds g c = λ _ _. can_save g.D.Desk.finds c.args.l.now c.args.config.now c.in_ok-v.v c.in_ok-v.ensures.found c.requires
 
 -- they are what the patterns find, so that is saved which these leave
 pub returns-clause-saved : goal.returns-clause-saved
