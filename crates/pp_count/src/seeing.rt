@@ -76,7 +76,22 @@ fn number_all(scope: &Scope, s: &Sample, keys: &mut Vec<u64>) -> Result<(), Memo
     Ok(())
 }
 
+// Most locations have one line, so that its number is added without a loop.
 fn add_numbers(keys: &mut Vec<u64>, numbers: &[u32]) -> Result<(), Memory>
+    ensures { IfOk result (λ _. keys.new.items ≡ keys.old.items ++ numbers.now) }
+{
+    match numbers {
+        [number] => {
+            keys.push(u64::from(*number))?;
+            Ok(())
+        }
+        _ => add_several(keys, numbers),
+    }
+}
+
+// Adds all of them.
+#[inline(never)]
+fn add_several(keys: &mut Vec<u64>, numbers: &[u32]) -> Result<(), Memory>
     ensures { IfOk result (λ _. keys.new.items ≡ keys.old.items ++ numbers.now) }
 {
     for number in numbers {

@@ -1,6 +1,6 @@
 //! Tallies in the order of first sight, which are found by key number.
-ghost use Rattle.std.specs.Prelude.{◌≡◌, ◌≢◌, ℕ, ◌<◌, length, IfOk};
-ghost use Rattle.pp_count.specs.Tally.{no_tally, slot_tally};
+ghost use Rattle.std.specs.Prelude.{◌≡◌, ◌≢◌, ℕ, ◌+◌, ◌<◌, ◌^◌, nat_abs, length, IfOk};
+ghost use Rattle.pp_count.specs.Tally.{credited, no_tally, slot_tally};
 
 use crate::tally::Tally;
 use pp_base::Memory;
@@ -50,6 +50,30 @@ impl Slots {
         }
     }
 
+    /// Adds the value to the cum of the key number, where the sample of that turn was not yet added.
+    pub fn credit(&mut self, key: u64, value: i64, turn: u64) -> Result<(), Memory>
+        requires within { key < length self.old.place.items }
+        requires fits {
+            (slot_tally self.old.place.items self.old.rows.items key).last ≢ turn →
+            nat_abs (slot_tally self.old.place.items self.old.rows.items key).cum + nat_abs value
+            < 2 ^ 63 }
+        ensures count { length self.new.place.items ≡ length self.old.place.items }
+        ensures key { IfOk result (λ _. slot_tally self.new.place.items self.new.rows.items key
+            ≡ credited value turn (slot_tally self.old.place.items self.old.rows.items key)) }
+        ensures others { IfOk result (λ _. (k : ℕ) → k ≢ key →
+            slot_tally self.new.place.items self.new.rows.items k
+            ≡ slot_tally self.old.place.items self.old.rows.items k) }
+    {
+        let place = self.place[key as usize] as usize;
+        if place < self.rows.len() && self.rows[place].key == key {
+            self.rows[place].tally.credit(value, turn);
+            return Ok(());
+        }
+        let mut tally = Tally::NONE;
+        tally.credit(value, turn);
+        self.add(key, tally)
+    }
+
     /// Keeps the tally for the key number, in the place of what was kept for it.
     pub fn keep(&mut self, key: u64, tally: Tally) -> Result<(), Memory>
         requires { key < length self.old.place.items }
@@ -69,6 +93,7 @@ impl Slots {
     }
 
     // Adds a row for the key number, which has none.
+    #[inline(never)]
     fn add(&mut self, key: u64, tally: Tally) -> Result<(), Memory>
         requires { key < length self.old.place.items }
         ensures count { length self.new.place.items ≡ length self.old.place.items }

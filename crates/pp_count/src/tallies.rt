@@ -1,5 +1,5 @@
 //! Tallies by key number: in a list where they are few, by slots where enough are added, else in a map.
-ghost use Rattle.std.specs.Prelude.{◌≡◌, ◌≢◌, ℕ, ◌+◌, ◌+ℤ◌, ◌<◌, ◌^◌, nat_abs, nat_eq, nat_lt, slice_index_or, length, IfOk, if◌then◌else◌, [], ◌++◌};
+ghost use Rattle.std.specs.Prelude.{◌≡◌, ◌≢◌, ℕ, ◌+◌, ◌+ℤ◌, ◌<◌, ◌≤◌, ◌^◌, nat_abs, nat_eq, nat_lt, slice_index_or, length, IfOk, if◌then◌else◌, [], ◌++◌};
 ghost use Rattle.pp_count.specs.Tally.{tally_at, no_tally, placed_tally, has_place, credited, with_cum, with_flat, with_sample, with_seen, tally_plus, tally_added, tally_entry};
 ghost use Rattle.pp_count.specs.Parts.{sums_of, flat_size, cum_size};
 
@@ -125,10 +125,24 @@ fn credit_key(tallies: &mut Tallies, value: i64, key: u64, turn: u64) -> Result<
         return Ok(());
     }
     if place < tallies.slots.place.len() {
-        let mut tally = tallies.slots.tally(key);
-        tally.credit(value, turn);
-        return tallies.slots.keep(key, tally);
+        return tallies.slots.credit(key, value, turn);
     }
+    credit_other(tallies, value, key, turn)
+}
+
+// Adds it for a key number past the list and the slots, which is rare.
+#[inline(never)]
+#[tactic(auto, unfolding(crate::specs::Tally::tally_at))]
+fn credit_other(tallies: &mut Tallies, value: i64, key: u64, turn: u64) -> Result<(), Memory>
+    requires unlisted { length tallies.old.listed.items ≤ key }
+    requires unslotted { length tallies.old.slots.place.items ≤ key }
+    requires fits { (tally_at tallies.old key).last ≢ turn →
+        nat_abs (tally_at tallies.old key).cum + nat_abs value < 2 ^ 63 }
+    ensures key { IfOk result (λ _.
+        tally_at tallies.new key ≡ credited value turn (tally_at tallies.old key)) }
+    ensures others { IfOk result (λ _. (k : ℕ) → k ≢ key →
+        tally_at tallies.new k ≡ tally_at tallies.old k) }
+{
     tallies
         .others
         .entry(key)?

@@ -1,11 +1,13 @@
 -- What the patterns on frames find of each line of a profile's locations, kept in tables.
 use Rattle.std.specs.Prelude.{◌≡◌, ℕ, ◌+◌, ◌<◌, Bool, false, List, length, slice_index_or, Option}
+use Rattle.std.specs.List.{list_any}
 use Rattle.std.specs.Option.{ForSome, unwrap_or}
 use Rattle.pp_model.specs.declared.frame.Frame.{Frame}
 use Rattle.pp_model.specs.declared.profile.Profile.{Profile}
 use Rattle.pp_model.specs.declared.verdicts.Verdicts.{Verdicts}
 use Rattle.pp_model.specs.Conditions.{IsFrameOf}
 use Rattle.pp_model.specs.Finders.{Finder}
+use Rattle.pp_model.specs.Frames.{rows, lines_at}
 use Rattle.pp_model.specs.FrameTexts.{written}
 use Rattle.pp_stack.specs.declared.table.VerdictTable.{VerdictTable}
 use Rattle.pp_stack.specs.declared.tables.VerdictTables.{VerdictTables}
@@ -15,12 +17,17 @@ use Rattle.pp_stack.specs.Filters.{AreVerdicts, finds_frame}
 abbrev pub verdict_place : VerdictTable → Frame → ℕ
 verdict_place table f = slice_index_or table.first f.location 0 + unwrap_or f.row 0
 
--- The table has a verdict on the frame, which is what each pattern with these verdicts on texts finds.
+-- The table has a verdict on the frame, which is what each pattern with these verdicts on texts finds. It also has for
+-- the frame's location whether the pattern finds one of its frames.
 pub record HasVerdict (p : Profile) (texts : List Bool) (table : VerdictTable) (f : Frame) : Type 0 where
   pub location : f.location < length table.first
   pub line : verdict_place table f < length table.found
   pub is : (find : Finder) → AreVerdicts p texts find
       → slice_index_or table.found (verdict_place table f) false ≡ finds_frame find (written p f)
+  pub known : f.location < length table.some
+  pub some : (find : Finder) → AreVerdicts p texts find
+      → slice_index_or table.some f.location false
+      ≡ list_any (λ x. finds_frame find (written p x)) (rows 0 f.location (lines_at p f.location))
 
 -- the table has a verdict on each frame of the profile
 abbrev pub IsVerdictTable : Profile → List Bool → VerdictTable → Type 0

@@ -10,7 +10,7 @@ ghost use Rattle.pp_model.specs.Judged.{judged};
 ghost use Rattle.pp_stack.specs.Filters.{AreVerdicts, finds_frame, frames_of_sample, is_kept, stack_of_sample};
 ghost use Rattle.pp_stack.specs.Tables.{AreTables, FitsPattern, IsVerdictTable};
 
-use crate::finding::finds_frame;
+use crate::finding::finds_by_texts;
 use crate::table::VerdictTable;
 use crate::tables::VerdictTables;
 use pp_base::List;
@@ -103,6 +103,20 @@ fn finds_location(
         result ≡ list_any (λ x. finds_frame find (written l.now.profile x))
         (rows place location (lines_at l.now.profile location)) }
 {
+    match table {
+        None => finds_line(l, found, place, location),
+        Some(table) => table.finds_line(location),
+    }
+}
+
+// Whether it finds one of them, by the verdicts on texts.
+fn finds_line(l: &Loaded, found: &List<bool>, place: u64, location: u64) -> bool
+    requires within { location < length l.now.profile.location }
+    requires fits { length found.now ≡ length l.now.profile.text }
+    ensures { (find : Finder) → AreVerdicts l.now.profile found.now find →
+        result ≡ list_any (λ x. finds_frame find (written l.now.profile x))
+        (rows place location (lines_at l.now.profile location)) }
+{
     let lines = line_count(l.profile.get(), location);
     if lines == 0 {
         let frame = Frame {
@@ -110,7 +124,7 @@ fn finds_location(
             location,
             row: None,
         };
-        return finds_frame(l, found, table, &frame);
+        return finds_by_texts(l, found, &frame);
     }
     let mut some = false;
     for row in 0..lines as u64 {
@@ -119,7 +133,7 @@ fn finds_location(
             location,
             row: Some(row),
         };
-        some = finds_frame(l, found, table, &frame) || some;
+        some = finds_by_texts(l, found, &frame) || some;
     }
     some
 }

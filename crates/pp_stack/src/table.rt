@@ -1,5 +1,6 @@
 //! What one pattern finds of each line of a profile's locations.
-ghost use Rattle.std.specs.Prelude.{◌≡◌, ◌<◌, ◌+◌, ◌++◌, length, map, slice_index_or, IfOk, false};
+ghost use Rattle.std.specs.Prelude.{◌≡◌, ◌<◌, ◌≤◌, ◌+◌, ◌++◌, length, map, drop, slice_index_or, IfOk, false};
+ghost use Rattle.std.specs.List.{list_any};
 ghost use Rattle.pp_model.specs.Conditions.{IsStackOf};
 ghost use Rattle.pp_model.specs.Finders.{Finder};
 ghost use Rattle.pp_model.specs.Frames.{rows, lines_at};
@@ -19,6 +20,8 @@ pub struct VerdictTable {
     pub first: List<u32>,
     /// For each location in turn the verdicts on its lines, in their order. A location without lines has one.
     pub found: List<bool>,
+    /// For each location, whether one of its verdicts is that the line is found.
+    pub some: List<bool>,
 }
 
 impl VerdictTable {
@@ -29,12 +32,14 @@ impl VerdictTable {
     {
         let mut first = List::new(alloc);
         let mut found = List::new(alloc);
+        let mut some = List::new(alloc);
         for location in 0..l.profile.get().location.len() {
             let place = place_at(found.len())?;
             first.push(place)?;
             add_location(alloc, l, texts, location as u64, &mut found)?;
+            some.push(some_from(found.as_slice(), place as usize))?;
         }
-        Ok(VerdictTable { first, found })
+        Ok(VerdictTable { first, found, some })
     }
 
     /// The verdict on the frame.
@@ -46,6 +51,29 @@ impl VerdictTable {
         let first = self.first.as_slice()[frame.location as usize];
         self.found.as_slice()[first as usize + frame.row.unwrap_or(0) as usize]
     }
+
+    /// Whether a line of the location is found.
+    pub fn finds_line(&self, location: u64) -> bool
+        requires { location < length self.now.some }
+        ensures { result ≡ slice_index_or self.now.some location false }
+    {
+        self.some.as_slice()[location as usize]
+    }
+}
+
+// Whether one of the verdicts from the place on says that the line is found.
+fn some_from(found: &[bool], place: usize) -> bool
+    requires { place ≤ length found.now }
+    ensures { result ≡ list_any (λ verdict. verdict) (drop place found.now) }
+{
+    finds_some(&found[place..])
+}
+
+// Whether one of the verdicts says that the line is found.
+fn finds_some(found: &[bool]) -> bool
+    ensures { result ≡ list_any (λ verdict. verdict) found.now }
+{
+    found.iter().any(|verdict| *verdict)
 }
 
 // The place at the end of that many verdicts. More than 2^32 are want of memory.

@@ -1,29 +1,14 @@
-use Rattle.std.proofs.Common.{◌≡◌, ◌||◌, length, sym, ap, ◌∙◌, arith}
-use Rattle.std.specs.List.{list_any}
-use Rattle.pp_model.specs.declared.frame.Frame.{Frame}
-use Rattle.pp_model.specs.Finders.{Finder}
-use Rattle.pp_model.specs.Frames.{lines_at}
-use Rattle.pp_model.specs.FrameTexts.{written}
-use Rattle.pp_stack.specs.Filters.{finds_frame}
-use Rattle.pp_stack.proofs.UnfocusedLemmas.{row_asked, rows_long}
-use Rattle.pp_stack.proofs.samples.finds_location.Goals.{then-finds_frame, else-finds_frame}
+use Rattle.std.proofs.Common.{◌∙◌}
+use Rattle.pp_stack.proofs.TableLemmas.{some_known, some_is}
 use Rattle.pp_stack.proofs.samples.finds_location.Goals as goal
 
-pub loop-row-preserved : goal.loop-row-preserved
-loop-row-preserved c = λ find are.
-    let p = c.args.l.now.profile in
-    let some = c.loop-row.some in
-    let asked = row_asked (λ x. finds_frame find (written p x)) c.args.place c.args.location c.loop-row.row some c.finds_frame-in-loop-row.result (c.loop-row.invariant find are) (c.finds_frame-in-loop-row.ensures find are) in
-    elim c.if-finds_frame.branch [
-      | then-finds_frame w ↦ w.some-is ∙ w.if-finds_frame.true ∙ sym (ap (λ b. b || some) w.if-finds_frame.true) ∙ asked
-      | else-finds_frame w ↦ w.some-is ∙ sym (ap (λ b. b || some) w.if-finds_frame.false) ∙ asked
-    ]
+-- the table has the location
+pub finds_line-requires-in-Some : goal.finds_line-requires-in-Some
+finds_line-requires-in-Some c =
+    some_known c.args.l.now.profile c.args.found.now _ c.args.location (c.requires.table c.in-Some.table c.in-Some.is) c.requires.within
 
-pub returns : goal.returns
-returns c = λ find are.
-    let p = c.args.l.now.profile in
-    let location = c.args.location in
-    let lines : c.line_count-lines.result ≡ length (lines_at p location) = c.line_count-lines.ensures ∙ ap (λ q. length (lines_at q location)) c.get.ensures.same in
-    c.loop-row.invariant find are
-    ∙ ap (list_any (λ x. finds_frame find (written p x)))
-    (rows_long c.args.place location (lines_at p location) c.loop-row.row (omega (arith, c.loop-row-test.false, c.loop-row.auto.row-end, lines)) (omega (arith, c.loop-row-test.false, c.if-lines-eq0.false)))
+-- its answer is that of its frames
+pub returns-in-Some : goal.returns-in-Some
+returns-in-Some c = λ find are.
+    c.finds_line-in-Some.ensures
+    ∙ some_is c.args.l.now.profile c.args.found.now _ c.args.place c.args.location (c.requires.table c.in-Some.table c.in-Some.is) c.requires.within find are

@@ -1,9 +1,9 @@
-use Rattle.std.proofs.Common.{Bool, ◌≡◌, ◌||◌, sym, ap, ◌∙◌, drop, subst, refl}
+use Rattle.std.proofs.Common.{Bool, sym, ap, ◌∙◌, subst, refl}
 use Rattle.std.specs.List.{list_any}
 use Rattle.std.proofs.lemmas.List.{drop_all}
 use Rattle.pp_model.specs.Rules.{IsCompact}
 use Rattle.pp_model.specs.declared.frame.Frame.{Frame}
-use Rattle.pp_model.specs.Frames.{frames_from, rows, lines_at}
+use Rattle.pp_model.specs.Frames.{frames_from}
 use Rattle.pp_model.specs.FrameTexts.{written}
 use Rattle.pp_model.proofs.FrameLemmas.{one_le_read, within_read}
 use Rattle.pp_stack.specs.Filters.{finds_frame}

@@ -1,4 +1,4 @@
-use Rattle.std.proofs.Common.{subst, ap, ◌∙◌, sym}
+use Rattle.std.proofs.Common.{subst, ◌∙◌, sym}
 use Rattle.pp_model.specs.Rules.{IsCompact}
 use Rattle.pp_model.specs.Frames.{stack_of}
 use Rattle.pp_model.specs.FrameTexts.{written}

@@ -1,5 +1,5 @@
 use Rattle.std.proofs.Common.{◌≡◌, ◌++◌, take}
-use Rattle.pp_count.proofs.seeing.add_numbers.Given as goal
+use Rattle.pp_count.proofs.seeing.add_several.Given as goal
 
 -- the numbers so far have been added
 abbrev pub invariant-loop-number : goal.invariant-loop-number

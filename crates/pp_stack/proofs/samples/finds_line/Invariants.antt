@@ -4,7 +4,7 @@ use Rattle.pp_model.specs.Finders.{Finder}
 use Rattle.pp_model.specs.Frames.{row_frame}
 use Rattle.pp_model.specs.FrameTexts.{written}
 use Rattle.pp_stack.specs.Filters.{AreVerdicts, finds_frame}
-use Rattle.pp_stack.proofs.samples.finds_location.Given as goal
+use Rattle.pp_stack.proofs.samples.finds_line.Given as goal
 
 -- what is found of the rows so far
 abbrev pub invariant-loop-row : goal.invariant-loop-row
