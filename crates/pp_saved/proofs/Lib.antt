@@ -10,5 +10,4 @@ pub mod SettledSaved
 pub mod Saving
 pub mod PathsAlike
 pub mod SavedAlike
-pub mod SavedFits
 pub mod SavedWhole
