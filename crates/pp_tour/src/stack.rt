@@ -28,7 +28,6 @@ fn found(alloc: Global, p: &Profile, text: &[u8]) -> Result<List<bool>, Memory>
     Ok(found)
 }
 
-#[tactic(auto, using(pp_model::proofs::RuleLemmas::refers_from_valid))]
 fn put_sample(alloc: Global, l: &Loaded, v: &Verdicts, s: &Sample, out: &mut Text) -> Result<()>
     requires sample { IsSampleOf l.now.profile s.now }
     requires verdicts { HasVerdicts l.now.profile v.now }
@@ -48,10 +47,11 @@ fn put_sample(alloc: Global, l: &Loaded, v: &Verdicts, s: &Sample, out: &mut Tex
 fn put_stack(l: &Loaded, stack: &Stack, out: &mut Text) -> Result<(), Memory>
     requires { IsStackOf l.now.profile stack.now }
 {
+    let texts = l.profile.get().text.as_slice();
     for frame in stack.as_slice() {
-        let name = function_of(l, frame) as i64;
+        let name = &texts[function_of(l, frame) as usize];
         out.extend(b" ")?;
-        out.extend(text_of(l.profile.get(), name))?;
+        out.extend(name.as_slice())?;
     }
     Ok(())
 }
