@@ -107,8 +107,8 @@ pub record ReportedAlike (c d e : Course Cause) : Type 0 where
   pub saved : c.value ≡ causes.Done
   pub alike : PrintAlike d e
 
--- So it is where the first session loads a profile that stays as it is when it is merged alone, as each loaded one
--- does, and of which no value is below 0 and no sample is of a base.
+-- So it is if the profile that the first session loads stays as it is when it is merged alone, as each loaded one
+-- does. None of its values may be below 0, and no sample may be of a base.
 abbrev pub SavedFilesReportAlike : Type 0
 SavedFilesReportAlike =
     (finds : Finds) (saving reading filtering : Plan) (report : Report) (path : List ℕ) (l : Loaded)
