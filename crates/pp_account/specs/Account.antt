@@ -58,8 +58,8 @@ abbrev pub bare_row : Portion → List AccountRow
 bare_row portion =
     if portion.count == 0 then [] else record { portion = portion; name = codes "left without a frame" } ∷ []
 
--- The rows of samples: all of them, those that each filter in force is the first to drop, those that the filters leave,
--- and of these those without a frame.
+-- The rows of samples: of all, of those that each filter in force is the first to drop, and of those that the filters
+-- leave. The last row is of those that are left without a frame.
 abbrev pub sample_rows : Profile → Finders → Config → Option ℕ → List AccountRow
 sample_rows p f config column =
     record { portion = portion_of config column p.sample; name = codes "loaded" }

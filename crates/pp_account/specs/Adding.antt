@@ -17,7 +17,7 @@ portion_plus portion value = record {
   value = int_wrap w64 (portion.value +ℤ value);
 }
 
--- the same if it is one of these samples
+-- the portion with the value, if the sample is one of these
 abbrev pub portion_plus_if : Bool → Portion → ℤ → Portion
 portion_plus_if does portion value = if does then portion_plus portion value else portion
 
@@ -48,7 +48,7 @@ with_end (Some slots.TagFocus) value d = record d { tagfocus = portion_plus d.ta
 with_end (Some slots.TagIgnore) value d = record d { tagignore = portion_plus d.tagignore value }
 with_end (Some _) value d = d
 
--- the same, and it is one of all, and may be left without a frame
+-- the portions with the sample's value: among all, where a filter drops it, and among those left without a frame
 abbrev pub with_sample : Option Slot → Bool → ℤ → PortionsOf → PortionsOf
 with_sample slot bare value d =
     with_end slot value (record d {

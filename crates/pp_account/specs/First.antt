@@ -26,8 +26,8 @@ first_of_shown told f stack =
     else (if not (is_some (shown_from told f (frames_shown told f stack))) then Some slots.ShowFrom
     else None)
 
--- The stack filter that is the first to drop the stack, after load pruning: ignore where it finds a frame, focus where
--- it finds none, hide where it leaves no frame of a stack that had some, and then those after it.
+-- The stack filter that is the first to drop the stack, after load pruning. Ignore drops it where it finds a frame, and
+-- focus where it finds none. Hide drops it where it leaves no frame of a stack that had some. Then come those after it.
 abbrev pub first_of_stack : {X : Type 0} → (X → Written) → Finders → List X → Option Slot
 first_of_stack told f stack =
     if finds_or told f.ignore stack false then Some slots.Ignore

@@ -43,8 +43,7 @@ NodesAddUp =
     ∷ keys_portion p f config column (keys_beyond p f config column limit)
     ∷ keys_portion p f config column (report_keys p f config column limit) ∷ [])
 
--- The flats of all keys and the values of the samples that are left without a frame add up to the values of the samples
--- that are left.
+-- The flats of all keys, and the values of the samples left without a frame, add up to the values of all that are left.
 abbrev pub ValuesAddUp : Type 0
 ValuesAddUp =
     (p : Profile) (f : Finders) (config : Config) (column : Option ℕ)

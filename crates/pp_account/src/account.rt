@@ -16,10 +16,10 @@ use pp_graph::rank_all;
 use pp_units::{Head, write_head};
 use std::alloc::Global;
 
-/// Appends the account report: the lines of the head, a row for all samples, for those that each filter is the first to
-/// drop and for those that are left, and rows of the keys that occur, that are too light, that the limit leaves out and
-/// that are shown. `limit` is the most keys that are shown, 0 for no limit. `Err` is want of memory, and `out` is then
-/// as it was.
+/// Appends the account report: the lines of the head, and then rows of samples and of keys. Samples have a row for all,
+/// one for those that each filter is the first to drop, and one for those that are left. Keys have a row for those that
+/// occur, that are too light, that the limit leaves out and that are shown. `limit` is the most keys that are shown, 0
+/// for no limit. `Err` is want of memory, and `out` is then as it was.
 pub fn write_account(
     alloc: Global,
     survey: &Survey<'_>,

@@ -33,8 +33,8 @@ const DROPPING: [Slot; 7] = [
     Slot::TagIgnore,
 ];
 
-/// Appends the rows of samples: all of them, those that each filter in force is the first to drop, those that the
-/// filters leave, and of these those without a frame, where there are any.
+/// Appends the rows of samples: of all, of those that each filter in force is the first to drop, and of those that the
+/// filters leave. Samples that are left without a frame have a row too, where there are any.
 pub fn put_sample_rows(
     alloc: Global,
     survey: &Survey<'_>,

@@ -29,7 +29,7 @@ struct ChangesTable<'a> {
 }
 
 /// Appends the changes report, whose cells stand apart by tabs: a heading, and a line for each key of the ranking, in
-/// its order, with its figure in the base, that in the source, how far the second is above the first, and its name.
+/// its order. A line has the key's figure in the base, that in the source, the second less the first, and the name.
 /// Figures are in decimal, in the unit of the sample type, which stands behind a `/` in the heading where its text isn't
 /// empty. A unit and a name are escaped as in the table report. `Err` is want of memory, and `out` is then as it was.
 pub fn write_changes(

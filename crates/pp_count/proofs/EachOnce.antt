@@ -102,8 +102,7 @@ module _ {K : Type 0} {R : K → K → Ordering} (o : IsTotalOrder R) (alike : f
   apart_all [] d = tt
   apart_all (k ∷ ks) d = apart_next k ks d
 
-  -- A list is the set, in the order of R, of any list with the same items, where it is sorted by R and no two items are
-  -- the same.
+  -- A list sorted by R, with no two items the same, is the set of any list with its items, in the order of R.
   pub each_once_is : (xs ks : List K) → IsSorted R ks → IsDistinct same ks
       → ((x : K) → list_any (same x) xs ≡ list_any (same x) ks)
       → each_once R xs ≡ ks

@@ -22,7 +22,7 @@ pub record SeesAlike (config d : Config) : Type 0 where
   pub tagignore : d.tagignore ≡ []
 
 -- Without filters, the sum of a column of q over the samples whose keys pass a test is what it is of p with them. The
--- test may ask anything of the keys of a sample, so this gives the sums of each key, of each leaf and of each pair.
+-- test may ask anything of a sample's keys, so this gives the sums of each key, each leaf and each pair.
 abbrev pub KeepsSums : Profile → Finders → Config → Profile → Type 0
 KeepsSums p f config q =
     (d : Config) → SeesAlike config d → (test : List Written → Bool) → (column : ℕ)

@@ -1,7 +1,7 @@
 //! What a program does with a profile that it holds, beside reports: copies of it, labels that are asked for, set and
 //! removed, whether it can be counted, and what a report without patterns is made of.
 //!
-//! `copying` copies profiles, `asking` looks for labels, `labelling` sets and removes them, `counting` asks whether
+//! `copying` copies profiles. `asking` looks for labels, and `labelling` sets and removes them. `counting` asks whether
 //! sums fit, and `verdicts` makes what a report without patterns reads.
 #![tactic(auto)]
 

@@ -27,11 +27,11 @@ pub fn bytes_decoded_alike_run_alike()
         → ProfileFits p → length (encode p) < 2 ^ 64 → RunAlike path files other }
 {}
 
-// What would break it: a saved file that isn't read as what was saved, filters that are lost or applied twice, a report
-// that reads more of a profile than is saved.
-/// A file that a session saved with filters is reported as its sources are with them: a session that makes a top,
-/// tree, peek, table or folded report of the file alone prints what one prints that makes it of the sources by the
-/// filters, and ends alike. What that one tells of filters that match nothing stands before.
+// What would break it: a saved file that isn't read as what was saved, or filters that are lost or applied twice. Also
+// a report that reads more of a profile than is saved.
+/// A file that a session saved with filters is reported as its sources are with them. One session makes a top, tree,
+/// peek, table or folded report of the file alone, and another makes it of the sources by the filters. Both print the
+/// same and end alike. What the second tells of filters that match nothing stands before.
 ///
 /// Premises: of the profile that the sources come to no value is below 0, and no sample carries `pprof::base` of the
 /// text `true`; relative_percentages is on, path_tree is off and divide_by is 1; tagroot and tagleaf name no key; the

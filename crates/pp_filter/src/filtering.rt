@@ -58,7 +58,7 @@ pub fn filtered<R: Threads + Sync, M: Matcher>(
     filter_at(rt, alloc, profile, config, &mut desk)
 }
 
-// The same at a desk.
+// `filtered` at a desk, which has the matcher.
 fn filter_at<R: Threads + Sync, D: Desk>(
     rt: &R,
     alloc: Global,

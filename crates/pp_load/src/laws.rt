@@ -32,8 +32,7 @@ pub fn legacy_is_loaded_as_written()
         → ProfileFits p → length (encode p) < 2 ^ 64 → decoded source bytes ≡ decoded source (encode p) }
 {}
 
-/// A profile loads from a file as it is, where it has no patterns of its own and stays as it is when it is merged
-/// alone.
+/// A profile without patterns of its own, which merging alone leaves as it is, loads from a file as it is.
 pub fn settled_files_load()
     ensures { SettledFilesLoad }
 {}

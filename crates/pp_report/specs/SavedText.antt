@@ -47,8 +47,8 @@ abbrev pub outcome_over : Finds → Loaded → Option BaseKind → Report → Co
 outcome_over finds l base report config files answers =
     (course (report_script finds l base report config) files [] [] answers).value.outcome
 
--- The reports of r and of l under these configurations come to the same text or the same refusal, where the matcher
--- refuses no pattern, whatever bases were given.
+-- Where the matcher refuses no pattern, the reports of r and of l under these configurations come to the same text or
+-- the same refusal. That is so whatever bases were given.
 abbrev pub ComesToSame : Finds → Loaded → Loaded → Report → Config → Config → Type 0
 ComesToSame finds l r report config d =
     (base other : Option BaseKind) (files : FileMap) (answers others : List Answer)

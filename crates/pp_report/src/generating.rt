@@ -29,8 +29,8 @@ use std::thread::Threads;
 /// labels.
 ///
 /// It is refused for its column, then for its unit, both before any pattern is asked, then for the first pattern that
-/// the matcher refuses. Last it is refused where the pattern of a peek or list report finds no function that could be
-/// shown, or where a compare or changes report has no base. It has one where a base was given to compare with, of which
+/// the matcher refuses. Last, a peek or list report is refused where its pattern finds no function that could be shown.
+/// So is a compare or changes report that has no base. It has one where a base was given to compare with, of which
 /// `base` is the kind, also where none of its samples is left. It has one too where a sample carries `pprof::base` of
 /// the text `true`, as in a difference that was saved. `Err` is the failure of a file that a list report reads, or want
 /// of memory; a front of the notes is appended then.

@@ -18,8 +18,8 @@ pub enum ReportRefusal {
     /// The pattern of a peek or list report finds no function that the report could show.
     #[error("no function matches")]
     NoMatch,
-    /// A compare or changes report is asked for, no base was given to compare with, and no sample carries the label
-    /// `pprof::base` of the text `true`.
+    /// A compare or changes report is asked for without a base: none was given to compare with, and no sample carries
+    /// the label `pprof::base` of the text `true`.
     #[error("no base")]
     NoBase,
 }

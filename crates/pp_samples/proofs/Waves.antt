@@ -14,7 +14,7 @@ use Rattle.pp_samples.specs.declared.subject.Traces.{Traces}
 use Rattle.pp_samples.specs.declared.tracing.Tracing.{Tracing}
 use Rattle.pp_samples.specs.Tracing.{trace_profile, sample_trace, FindsInTraces, HasTraces, traces_text_at}
 
--- so many pieces from this one on
+-- this number of pieces, from this one on
 abbrev pub pieces_from : List ℕ → ℕ → ℕ → List ℕ
 pieces_from numbers first pieces = take (PIECE * pieces) (drop (PIECE * first) numbers)
 

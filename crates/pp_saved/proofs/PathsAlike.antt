@@ -159,7 +159,7 @@ module _ {K : Type 0} {order : K → K → Ordering} (o : IsTotalOrder order) (t
   no_paths zero above ss none = refl
   no_paths (suc m) above ss none = ap (flat_map (λ k. path_by order above ss k ∷ paths_below order m (above ++ k ∷ []) (under order k ss))) none
 
-  -- the same paths go on from the one above
+  -- both go on with equal paths from the one above
   below_alike : (n m : ℕ) (above : List K) (a b : List (Seen K)) → AddUpAlike a b → AtMost n a → AtMost m b → paths_below order n above a ≡ paths_below order m above b
   below_alike zero m above a b alike short short_there = sym (no_paths m above b (sym (siblings_alike alike) ∙ no_siblings a short))
   below_alike (suc n) zero above a b alike short short_there = no_paths (suc n) above a (siblings_alike alike ∙ no_siblings b short_there)

@@ -62,8 +62,8 @@ pub record IsLasting (q : Profile) : Type 0 where
   pub drop : text_of q q.drop_frames ≡ []
   pub keep : text_of q q.keep_frames ≡ []
 
--- So it is with each saved profile, where the table rules hold of the other one, its mappings start below 2^64, and it
--- stays as it is when it is merged alone.
+-- So it is with each saved profile, under three premises on the profile that it is saved from. No table rule fails
+-- there, its mappings start below 2^64, and it stays as it is when it is merged alone.
 abbrev pub SavedLasts : Type 0
 SavedLasts =
     (p : Profile) (f : Finders) (config : Config)

@@ -68,7 +68,7 @@ fn ledger_under(alloc: Global, survey: &Survey<'_>, config: &Config) -> Result<L
     ledger
 }
 
-// The same by the table of this configuration. The report's filters are those of both configurations.
+// The ledger by this table of this configuration. The report's filters are those of both configurations.
 fn ledger_in<'x>(
     alloc: Global,
     survey: &'x Survey<'x>,

@@ -19,7 +19,7 @@ pub fn steps_are_one_merge()
 {}
 
 /// Merging in steps gives what merging at once gives, whatever the groups, where each profile by itself is as
-/// `MergeInAnyGroups` says. No value and no duration is negative, each sample has a value that isn't 0, and in each
+/// `MergeInAnyGroups` says. No value and no duration is negative, and each sample has a value that isn't 0. In each
 /// mapping lies a location that a sample names.
 pub fn any_groups_are_one_merge()
     ensures { (columns : ℕ) → (g : Group) → (groups : List Group)

@@ -33,7 +33,7 @@ same_order sorts.Flat ss ts flats cums = λ i. then_cmp (by_size (flats i)) (the
 same_order sorts.Cum ss ts flats cums = λ i. then_cmp (by_size (cums i)) (then_cmp (by_size (flats i)) key_cmp)
 
 module _ (sort : Sort) (ss ts : List (Seen Written)) (flats : (k : Written) → flat key_cmp ss k ≡ flat key_cmp ts k) (cums : (k : Written) → cum key_cmp ss k ≡ cum key_cmp ts k) where
-  -- the same keys in the same order
+  -- both have these keys in this order
   ranked_same : (xs ys : List Written) → ((k : Written) → list_any (eq_by_cmp key_cmp k) xs ≡ list_any (eq_by_cmp key_cmp k) ys)
       → each_once (report_order key_cmp sort ss) xs ≡ each_once (report_order key_cmp sort ts) ys
   ranked_same xs ys same =

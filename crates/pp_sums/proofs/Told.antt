@@ -43,8 +43,8 @@ use Rattle.pp_laws.proofs.Stages.{filtered-map}
 use Rattle.pp_laws.proofs.Tagging.{tags_told, tags_is, labels_tell, TellsText}
 use Rattle.pp_laws.proofs.Telling.{told_from, told_counted, placed, counted_told, frames_told, located_by}
 
--- A profile that says of itself what it has: in which no rule fails, no thing stands twice, each mapping is the first
--- that is one with it, and no number is past 64 bits.
+-- A profile that says of itself what it has. No rule fails, no thing stands twice, and no number is past 64 bits. Each
+-- mapping is the first that is one with it.
 pub record IsPlain (q : Profile) : Type 0 where
   pub valid : NoRuleFails q
   pub compact : IsCompact q

@@ -31,8 +31,8 @@ module _ {K : Type 0} (order : K → K → Ordering) where
   roots k (q ∷ []) = eq_by_cmp order k q
   roots k (q ∷ r ∷ keys) = roots k (r ∷ keys)
 
--- The cum of the key is the sum of the edges from its callers and of the samples that it is the root of, and the sum of
--- the edges to its callees and of its flat.
+-- The cum of the key is the sum of the edges from its callers and of the samples that it is the root of. It is also the
+-- sum of the edges to its callees and of its flat.
 pub record IsAccountedFor (kept : Written → Bool) (samples : List (Seen Written)) (keys : List Written) (k : Written) : Type 0 where
   pub callers
       : cum key_cmp samples k

@@ -21,8 +21,8 @@ lacks_frames keys = not (has_frames keys)
 abbrev pub changed_rows : Profile → Finders → Config → Option ℕ → List ComparedRow
 changed_rows p f config column = map (compared_row p f config column) (all_report_keys p f config column)
 
--- Without a limit the changes report shows these rows. Where flats are compared, their changes, and the values of the
--- filtered samples of which no frame counts, add up to the change in the line for all of the compare report.
+-- Without a limit the changes report shows these rows. Where flats are compared, their changes add up to the change in
+-- the line for all. For that, the values of the filtered samples of which no frame counts are added to them.
 pub record ChangesAccount (p : Profile) (f : Finders) (config : Config) (column : Option ℕ) : Type 0 where
   pub text : (unit : List ℕ)
       → changes_text p f config column 0 unit

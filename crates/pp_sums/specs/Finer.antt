@@ -39,8 +39,8 @@ is_finer Addresses _ = false
 abbrev pub is_part : Grain → Bool → Written → Written → Bool
 is_part grain showcolumns k part = eq_by_cmp key_cmp k (kept_by grain showcolumns part)
 
--- The flat of the key, by the one grain, is the sum of the flats of its parts among the rows by the other, and no part
--- has a greater cum, where no value is negative.
+-- The flat of the key, by the one grain, is the sum of the flats of its parts among the rows by the other. Where no
+-- value is negative, no part has a greater cum.
 pub record IsSumOfParts (coarse fine : Grain) (p : Profile) (f : Finders) (config : Config) (column : Option ℕ) (k : Written) : Type 0 where
   pub flat : flat key_cmp (report_samples p f (at_grain coarse config) column) k
       ≡ int_sum (map (flat key_cmp (report_samples p f (at_grain fine config) column))

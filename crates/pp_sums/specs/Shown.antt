@@ -48,7 +48,7 @@ are_one [] = true
 are_one (tag ∷ tags) = list_all (same_tag tag) tags
 
 -- The samples of the tags report have the values of those that the filters leave. A key that each of them has comes to
--- their sum, and the tags of a key come to the sum of the key, where no sample has two of them.
+-- their sum. Where no sample has two tags of a key, its tags come to the sum of the key.
 pub record TagsShowAll (p : Profile) (f : Finders) (config : Config) (column : Option ℕ) : Type 0 where
   pub all : whole (tagged_samples p f config column) ≡ whole (seen_samples p f config column p.sample)
   pub keys : (key : List ℕ)

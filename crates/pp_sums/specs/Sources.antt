@@ -14,8 +14,7 @@ use Rattle.pp_count.specs.Counted.{report_samples}
 use Rattle.pp_laws.specs.Merged.{AddUp}
 use Rattle.pp_sums.specs.Same.{HaveSameSums, HaveSameRows, HasNoNegative}
 
--- A key occurs in the report of the merge where it occurs in that of one of the sources, each reported alone, and so
--- does an edge.
+-- A key occurs in the report of the merge where it occurs in the report of one of the sources alone. So does an edge.
 pub record HasKeysOfSources (p : Profile) (ps : List Profile) (f : Finders) (config : Config) (column : ℕ) : Type 0 where
   pub occur : (k : Written)
       → occurs key_cmp (report_samples (merged p ps) f config (Some column)) k

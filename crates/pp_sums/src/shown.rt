@@ -11,7 +11,7 @@ pub fn traces_add_up()
     ensures { TracesAddUp }
 {}
 
-// What would break it: a `tagged_samples` (pp_samples, `TagLines`) over other samples than the filters leave, a
+// What would break it: a `tagged_samples` (pp_samples, `TagLines`) over other samples than the filters leave. Or a
 // `tag_sum` that counts a sample for each of its labels, or a key that lists a tag twice.
 /// The tags report is over the samples that the filters leave, also those without a frame. The total of a key that each
 /// of them has is their sum. The values of a key add up to its total.
