@@ -4,3 +4,5 @@ mod OneFileLemmas
 mod OfOneLemmas
 mod ReportLemmas
 mod AnswerLemmas
+mod FigureLemmas
+mod MergeLemmas

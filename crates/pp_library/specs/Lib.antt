@@ -1,3 +1,5 @@
 pub mod Asked
 pub mod Loads
 pub mod Reports
+pub mod Figures
+pub mod Merged

@@ -1,0 +1,7 @@
+use Rattle.pp_model.specs.declared.report.Report.TheVariants.{Table}
+use Rattle.pp_report.specs.Patterns.{report_finders}
+use Rattle.pp_library.proofs.tabling.figures_counted.Goals as goal
+
+-- the figures are those of the report's own patterns
+pub returns : goal.returns
+returns g c = c.figures_by.ensures (report_finders g.D.Desk.finds c.args.l.now Table c.args.config.now) c.requires.holds
