@@ -5,12 +5,13 @@ use Rattle.std.specs.List.{flat_map}
 use Rattle.pp_base.specs.Judges.{Answer}
 use Rattle.pp_desk.specs.declared.stop.Stop.{Stop}
 use Rattle.pp_desk.specs.Script as scripts
-use Rattle.pp_desk.specs.Script.{Give}
+use Rattle.pp_desk.specs.Script.{Script, Give, Make}
 use Rattle.pp_desk.specs.Went.{Went}
 use Rattle.pp_desk.specs.World.{World}
 use Rattle.pp_model.specs.declared.config.Config.{Config}
 use Rattle.pp_model.specs.declared.loaded.Loaded.{Loaded}
 use Rattle.pp_model.specs.declared.profile.Profile.{Profile}
+use Rattle.pp_model.specs.declared.report.BaseKind.{BaseKind}
 use Rattle.pp_model.specs.declared.report.Report.TheVariants.{Table}
 use Rattle.pp_model.specs.declared.verdicts.Verdicts.{Verdicts}
 use Rattle.pp_model.specs.Finders.{Finders}
@@ -24,17 +25,20 @@ use Rattle.pp_graph.specs.KeyRows.{KeyRow, row_at, key_row}
 use Rattle.pp_graph.specs.Trim.{first_report_keys, node_limit}
 use Rattle.pp_graph.specs.Trimmed.{IsWholeRanking}
 use Rattle.pp_graph.proofs.KeyRowLemmas.{rows_are}
-use Rattle.pp_export.specs.Table.{exact_heading, row_line}
+use Rattle.pp_export.specs.Table.{exact_heading, exact_table, row_line}
 use Rattle.pp_pattern.specs.Report.{Finds}
 use Rattle.pp_report.specs.declared.refusal.ReportRefusal.{ReportRefusal}
 use Rattle.pp_report.specs.Heads.{kind_text, unit_text}
+use Rattle.pp_report.specs.Patterns.{report_finders}
 use Rattle.pp_report.specs.Prepared.{Settled, prepare}
+use Rattle.pp_report.specs.Reports.{Reported, finish_on, report_script, report_settled, text_by}
 use Rattle.pp_report.specs.Tagged.{basis_of}
 use Rattle.pp_library.specs.declared.tabling.Figure.{Figure}
 use Rattle.pp_library.specs.declared.tabling.FigureTable.{FigureTable}
 use Rattle.pp_library.specs.declared.report_error.ReportError.{ReportError}
 use Rattle.pp_library.specs.Asked.{Asked, value_of}
-use Rattle.pp_library.specs.Figures.{TablesPrintFigures, figure_of, figure_line, figures_by, figures_outcome, figures_settled, table_with, table_figures}
+use Rattle.pp_library.specs.Figures.{TablesPrintFigures, figure_of, figure_line, figures_by, figures_outcome, figures_settled, printed_figures, table_with, table_figures, table_text}
+use Rattle.pp_library.specs.Reports.{report_text}
 use Rattle.pp_library.proofs.AskedLemmas.{asked_of, asked_map, asked_ends}
 use Rattle.pp_library.proofs.ReportLemmas.{only_prepare}
 
@@ -47,10 +51,34 @@ module _ {A : Type 0} (row : A → KeyRow) where
   lines_map [] = refl
   lines_map (x ∷ xs) = ap (λ rest. row_line (row x) ++ rest) (lines_map xs)
 
-pub tables_print_figures : TablesPrintFigures
-tables_print_figures p f config column =
+-- a table's lines are those of its figures
+lines_printed : (p : Profile) (f : Finders) (config : Config) (column : Option ℕ)
+    → exact_table p f config column (node_limit config.nodecount 0) (unit_text p column) ≡ table_text (figures_by p f config column)
+lines_printed p f config column =
     ap (λ lines. exact_heading (unit_text p column) ++ lines)
     (lines_map (key_row (report_samples p f config column)) (first_report_keys p f config column (node_limit config.nodecount 0)))
+
+scripts_grouped : {A B C : Type 0} (s : Script A) (f : A → Script B) (g : B → Script C) → scripts.◌>>=◌ (scripts.◌>>=◌ s f) g ≡ scripts.◌>>=◌ s (λ x. scripts.◌>>=◌ (f x) g)
+unfolding scripts.◌>>=◌
+scripts_grouped (Give x) f g = refl
+scripts_grouped (Make step s) f g = λ i. Make step (λ reply. scripts_grouped (s reply) f g i)
+
+-- what is printed once all is settled
+settled_printed : (finds : Finds) (l : Loaded) (base : Option BaseKind) (config : Config) (answer : Result Settled ReportRefusal)
+    → scripts.◌>>=◌ (report_settled finds l base Table config answer) (λ (made : Reported). Give made.outcome)
+    ≡ scripts.◌>>=◌ (Give (figures_settled finds l config answer)) (λ made. Give (printed_figures made))
+unfolding report_settled finish_on text_by scripts.◌>>=◌
+settled_printed finds l base config (Ok settled) =
+    let over = basis_of Table l config in
+    ap (λ (text : List ℕ). Give (Ok text)) (lines_printed over.profile (report_finders finds over Table config) config settled.showing.column)
+settled_printed finds l base config (Err refusal) = refl
+
+pub tables_print_figures : TablesPrintFigures
+unfolding report_text report_script table_figures
+tables_print_figures finds l base config =
+    scripts_grouped (prepare finds l Table config) (report_settled finds l base Table config) (λ (made : Reported). Give made.outcome)
+    ∙ (λ i. scripts.◌>>=◌ (prepare finds l Table config) (λ answer. settled_printed finds l base config answer i))
+    ∙ sym (scripts_grouped (prepare finds l Table config) (λ answer. Give (figures_settled finds l config answer)) (λ made. Give (printed_figures made)))
 
 -- The rows of a ranking are those of its keys.
 pub ranked_figures : (l : Loaded) (v : Verdicts) (config : Config) (column : Option ℕ) (limit : ℕ) (c : Counted) (t : Ranked) (f : Finders)

@@ -7,6 +7,7 @@ use Rattle.pp_desk.specs.Script.{Give}
 use Rattle.pp_model.specs.declared.config.Config.{Config}
 use Rattle.pp_model.specs.declared.loaded.Loaded.{Loaded}
 use Rattle.pp_model.specs.declared.profile.Profile.{Profile}
+use Rattle.pp_model.specs.declared.report.BaseKind.{BaseKind}
 use Rattle.pp_model.specs.declared.report.Report.TheVariants.{Table}
 use Rattle.pp_model.specs.Finders.{Finders}
 use Rattle.pp_pattern.specs.Report.{Finds}
@@ -14,7 +15,7 @@ use Rattle.pp_count.specs.Counted.{report_samples}
 use Rattle.pp_count.specs.Counts.{total_of}
 use Rattle.pp_graph.specs.KeyRows.{KeyRow, key_row}
 use Rattle.pp_graph.specs.Trim.{first_report_keys, node_limit}
-use Rattle.pp_export.specs.Table.{exact_heading, exact_table, row_line}
+use Rattle.pp_export.specs.Table.{exact_heading, row_line}
 use Rattle.pp_report.specs.declared.refusal.ReportRefusal.{ReportRefusal}
 use Rattle.pp_report.specs.Heads.{kind_text, unit_text}
 use Rattle.pp_report.specs.Patterns.{report_finders}
@@ -23,7 +24,7 @@ use Rattle.pp_report.specs.Tagged.{basis_of}
 use Rattle.pp_library.specs.declared.tabling.Figure.{Figure}
 use Rattle.pp_library.specs.declared.tabling.FigureTable.{FigureTable}
 use Rattle.pp_library.specs.declared.report_error.ReportError.{ReportError}
-use Rattle.pp_library.specs.Reports.{report_refusal}
+use Rattle.pp_library.specs.Reports.{report_refusal, report_text}
 
 -- the figure of a row
 abbrev pub figure_of : KeyRow → Figure
@@ -70,9 +71,18 @@ figures_outcome (Err error) = option_map Err (report_refusal error)
 abbrev pub figure_line : Figure → List ℕ
 figure_line figure = row_line (record { flat = figure.flat; cum = figure.cum; name = figure.name })
 
--- The table report prints these figures, line by line.
+-- the text of the table report with these figures
+abbrev pub table_text : FigureTable → List ℕ
+table_text figures = exact_heading figures.unit ++ flat_map figure_line figures.rows
+
+-- the text with these figures, or the refusal in their place
+abbrev pub printed_figures : Result FigureTable ReportRefusal → Result (List ℕ) ReportRefusal
+printed_figures (Ok figures) = Ok (table_text figures)
+printed_figures (Err refusal) = Err refusal
+
+-- The table report asks the patterns that the figures ask, and prints these, a line for each, or is refused as they are.
 abbrev pub TablesPrintFigures : Type 0
 TablesPrintFigures =
-    (p : Profile) (f : Finders) (config : Config) (column : Option ℕ)
-    → exact_table p f config column (node_limit config.nodecount 0) (unit_text p column)
-    ≡ exact_heading (figures_by p f config column).unit ++ flat_map figure_line (figures_by p f config column).rows
+    (finds : Finds) (l : Loaded) (base : Option BaseKind) (config : Config)
+    → report_text finds l base Table config
+    ≡ scripts.◌>>=◌ (table_figures finds l config) (λ made. Give (printed_figures made))

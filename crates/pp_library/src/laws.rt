@@ -10,7 +10,8 @@ pub fn bytes_load_as_files()
 {}
 
 // What would break it: rows in another order than that of the table, or without its limit.
-/// The table report prints the figures that `figures` gives, in their order.
+/// The command's table report is the figures that `figures` gives, printed: it asks the same patterns, prints a line for
+/// each row in their order, and is refused where they are.
 pub fn tables_print_figures()
     ensures { TablesPrintFigures }
 {}
