@@ -58,7 +58,7 @@ fn days<R: Threads + Sync + RandomSource>(
     Ok((out, saved))
 }
 
-// The first three functions of the new day, and those of which the cum grew by more than a tenth.
+// The first three functions of the new day, and those whose cum grew by more than a tenth.
 fn put_column(alloc: Global, old: &FigureTable, new: &FigureTable, out: &mut Text) -> Result<()> {
     put_line(new.kind.as_slice(), out)?;
     for row in new.rows.as_slice().iter().take(3) {
