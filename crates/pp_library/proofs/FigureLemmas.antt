@@ -30,14 +30,15 @@ use Rattle.pp_pattern.specs.Report.{Finds}
 use Rattle.pp_report.specs.declared.refusal.ReportRefusal.{ReportRefusal}
 use Rattle.pp_report.specs.Heads.{kind_text, unit_text}
 use Rattle.pp_report.specs.Patterns.{report_finders}
-use Rattle.pp_report.specs.Prepared.{Settled, prepare}
+use Rattle.pp_report.specs.Prepared.{Showing, Settled, showing_for, prepare}
 use Rattle.pp_report.specs.Reports.{Reported, finish_on, report_script, report_settled, text_by}
 use Rattle.pp_report.specs.Tagged.{basis_of}
+use Rattle.pp_library.specs.declared.edging.FigureEdge.{FigureEdge}
 use Rattle.pp_library.specs.declared.tabling.Figure.{Figure}
 use Rattle.pp_library.specs.declared.tabling.FigureTable.{FigureTable}
 use Rattle.pp_library.specs.declared.report_error.ReportError.{ReportError}
 use Rattle.pp_library.specs.Asked.{Asked, value_of}
-use Rattle.pp_library.specs.Figures.{TablesPrintFigures, figure_of, figure_line, figures_by, figures_outcome, figures_settled, printed_figures, table_with, table_figures, table_text}
+use Rattle.pp_library.specs.Figures.{TablesPrintFigures, figure_of, figure_line, figures_by, figures_outcome, figures_settled, printed_figures, table_with, table_figures, table_text, without_edges, HasEdgesOn, HasEdges}
 use Rattle.pp_library.specs.Reports.{report_text}
 use Rattle.pp_library.proofs.AskedLemmas.{asked_of, asked_map, asked_ends}
 use Rattle.pp_library.proofs.ReportLemmas.{only_prepare}
@@ -93,9 +94,9 @@ ranked_figures l v config column limit c t f counted ranked holds =
 
 -- The table of what was counted is that of the definition.
 pub figures_are : {E : Type 0} (r : Result FigureTable E) (p q : Profile) (column : Option ℕ) (n m : ℕ) (rows others : List Figure) → p ≡ q → n ≡ m → rows ≡ others
-    → IfOk r (λ x. x ≡ table_with p column n rows) → IfOk r (λ x. x ≡ table_with q column m others)
+    → IfOk r (λ x. without_edges x ≡ table_with p column n rows) → IfOk r (λ x. without_edges x ≡ table_with q column m others)
 figures_are r p q column n m rows others same total alike is =
-    subst (λ (made : FigureTable). IfOk r (λ x. x ≡ made)) (λ i. table_with (same i) column (total i) (alike i)) is
+    subst (λ (made : FigureTable). IfOk r (λ x. without_edges x ≡ made)) (λ i. table_with (same i) column (total i) (alike i)) is
 
 -- The answer is what was settled, or memory was wanting.
 pub went_figures : (finds : Finds) (l : Loaded) (config : Config) (old new : World) (prepared : Result (Result Settled ReportRefusal) Stop) (result : Result FigureTable ReportError)
@@ -113,3 +114,13 @@ went_figures finds l config old new prepared result went is =
         → Asked old.told.answers new.told.answers (scripts.◌>>=◌ (prepare finds l Table config) (λ answer. Give (figures_settled finds l config answer))) (figures_outcome result)
     by (inl none) whole = rw none (asked_ends _ _ _ _ whole)
     by (inr is) whole = rw is whole
+
+-- The edges are those of the column that a table shows.
+pub has_edges : (finds : Finds) (l : Loaded) (config : Config) (shows : Showing) (edges : List FigureEdge) → showing_for Table (basis_of Table l config).profile config ≡ Ok shows
+    → HasEdgesOn finds (basis_of Table l config) config shows.column edges → HasEdges finds l config edges
+has_edges finds l config shows edges is own showing also =
+    subst (λ (column : Option ℕ). HasEdgesOn finds (basis_of Table l config) config column edges) (ap column_in (sym is ∙ also)) own
+  where
+    column_in : Result Showing ReportRefusal → Option ℕ
+    column_in (Ok s) = s.column
+    column_in (Err refusal) = shows.column

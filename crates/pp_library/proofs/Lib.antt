@@ -6,3 +6,4 @@ mod ReportLemmas
 mod AnswerLemmas
 mod FigureLemmas
 mod MergeLemmas
+mod PlaceLemmas

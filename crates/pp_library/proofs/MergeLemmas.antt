@@ -1,10 +1,12 @@
 -- What merging comes to, and that it can be counted.
-use Rattle.std.proofs.Common.{◌≡◌, ◌≢◌, ℕ, ◌+◌, ◌-◌, ◌^◌, ◌<◌, ◌≤◌, Bool, true, false, ◌&&◌, List, [], ◌∷◌, length, take, Option, Some, None, option_map, refl, sym, ap, ◌∙◌, subst, arith, le_refl, take_all}
+use Rattle.std.proofs.Common.{◌≡◌, ◌≢◌, ℕ, ◌+◌, ◌-◌, ◌^◌, ◌<◌, ◌≤◌, Bool, true, false, ◌&&◌, List, [], ◌∷◌, length, take, get_or, Option, Some, None, option_map, refl, sym, ap, ◌∙◌, subst, arith, le_refl, take_all}
 use Rattle.std.specs.Prelude.{Result, Ok, Err, IfOk, nat_lt}
 use Rattle.std.specs.List.{AllByRecursion, list_all, sum_by}
 use Rattle.std.proofs.lemmas.Bool.{ltb-true, ltb-false, false≢true}
 use Rattle.pp_base.specs.Judges.{Answer}
-use Rattle.pp_base.proofs.Lists.{all_by}
+use Rattle.std.proofs.lemmas.List.{take_more}
+use Rattle.std.proofs.lemmas.List.Sums.{sum_by-append}
+use Rattle.pp_base.proofs.Lists.{all_append, all_by}
 use Rattle.pp_desk.specs.declared.stop.Stop.{Stop}
 use Rattle.pp_desk.specs.Asking.{go_on}
 use Rattle.pp_desk.specs.Went.{Went, Goes}
@@ -95,6 +97,18 @@ module _ (p : Profile) (ps : List Profile) (few : Few (p ∷ ps)) (valid : AllBy
             );
       }
 
+-- what holds of one more profile
+pub one_more_valid : (list : List Profile) (i : ℕ) (d : Profile) → i < length list → NoRuleFails (get_or list i d) → AllByRecursion NoRuleFails (take i list) → AllByRecursion NoRuleFails (take (i + 1) list)
+one_more_valid list i d within valid before =
+    subst (AllByRecursion NoRuleFails) (sym (take_more list i d within)) (all_append NoRuleFails (take i list) (get_or list i d ∷ []) before (valid, tt))
+
+pub one_more_samples : (list : List Profile) (i : ℕ) (d : Profile) → i < length list
+    → sum_by (λ (p : Profile). length p.sample) (take (i + 1) list) ≡ sum_by (λ (p : Profile). length p.sample) (take i list) + length (get_or list i d).sample
+one_more_samples list i d within =
+    ap (sum_by (λ (p : Profile). length p.sample)) (take_more list i d within)
+    ∙ sum_by-append (λ (p : Profile). length p.sample) (take i list) (get_or list i d ∷ [])
+    ∙ omega arith
+
 -- What was merged can be counted.
 pub merged_countable : (list : List Profile) (result : Result Profile MergeRefusal) → 0 < length list → are_few list ≡ true → AllByRecursion NoRuleFails list → Merges list result → IfOk result IsCountable
 merged_countable [] result some few valid merges = absurd (omega (arith, some))
@@ -104,7 +118,7 @@ merged_countable (p ∷ ps) (Err refusal) some few valid merges = tt
 -- the profiles as one, once it is known whether they agree, and whether a column is too large
 as_found : Profile → List Profile → Option (ℕ × What) → Option ℕ → Loading Profile
 as_found p ps differs large =
-    unless differs (λ found. refusals.Incompatible found.0 found.1) tt >>= (λ _. unless large refusals.TotalTooLarge (merged p ps) >>= (λ source. Ok source))
+    unless {A = Unit {0}} differs (λ found. refusals.Incompatible found.0 found.1) tt >>= (λ _. unless large refusals.TotalTooLarge (merged p ps) >>= (λ source. Ok source))
 
 module _ (p : Profile) (ps : List Profile) where
   whole : combined (length (p ∷ ps)) None false (p ∷ ps) ≡ as_found p ps (disagreeing p 1 ps) (too_large (length p.sample_type) (p ∷ ps))

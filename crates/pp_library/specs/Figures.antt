@@ -1,5 +1,5 @@
 -- The figures of a report as values: what the table report prints.
-use Rattle.std.specs.Prelude.{◌≡◌, ℕ, List, ◌++◌, map, Option, Some, None, option_map, Result, Ok, Err}
+use Rattle.std.specs.Prelude.{◌≡◌, ℕ, List, [], ◌++◌, map, Option, Some, None, option_map, Result, Ok, Err}
 use Rattle.std.specs.List.{flat_map}
 use Rattle.pp_desk.specs.Asking.{Asking}
 use Rattle.pp_desk.specs.Script as scripts
@@ -19,24 +19,37 @@ use Rattle.pp_export.specs.Table.{exact_heading, row_line}
 use Rattle.pp_report.specs.declared.refusal.ReportRefusal.{ReportRefusal}
 use Rattle.pp_report.specs.Heads.{kind_text, unit_text}
 use Rattle.pp_report.specs.Patterns.{report_finders}
-use Rattle.pp_report.specs.Prepared.{Settled, prepare}
+use Rattle.pp_report.specs.Prepared.{Showing, Settled, showing_for, prepare}
 use Rattle.pp_report.specs.Tagged.{basis_of}
+use Rattle.pp_library.specs.declared.edging.FigureEdge.{FigureEdge}
 use Rattle.pp_library.specs.declared.tabling.Figure.{Figure}
 use Rattle.pp_library.specs.declared.tabling.FigureTable.{FigureTable}
 use Rattle.pp_library.specs.declared.report_error.ReportError.{ReportError}
+use Rattle.pp_library.specs.Edges.{AreRowEdges}
 use Rattle.pp_library.specs.Reports.{report_refusal, report_text}
 
 -- the figure of a row
 abbrev pub figure_of : KeyRow → Figure
 figure_of row = record { flat = row.flat; cum = row.cum; name = row.name }
 
--- the figures with this total and these rows, under the column's type
+-- The figures with this total and these rows, under the column's type. Edges are told apart, since their order is free.
 abbrev pub table_with : Profile → Option ℕ → ℕ → List Figure → FigureTable
 table_with p column total rows = record {
   kind = kind_text p column;
   unit = unit_text p column;
   total = total;
   rows = rows;
+  edges = [];
+}
+
+-- the figures but for their edges
+abbrev pub without_edges : FigureTable → FigureTable
+without_edges figures = record {
+  kind = figures.kind;
+  unit = figures.unit;
+  total = figures.total;
+  rows = figures.rows;
+  edges = [];
 }
 
 -- The figures of the profile in this column, by what the patterns find: a row for each of the first keys that occur, in
@@ -62,9 +75,26 @@ unfoldable pub table_figures : Finds → Loaded → Config → Asking ReportRefu
 table_figures finds l config =
     scripts.◌>>=◌ (prepare finds l Table config) (λ answer. Give (figures_settled finds l config answer))
 
--- the figures or the refusal; nothing where memory was wanting
+-- The edges are those between the rows of the profile in this column, by what the patterns find.
+abbrev pub HasEdgesBy : Profile → Finders → Config → Option ℕ → List FigureEdge → Type 0
+HasEdgesBy p f config column edges =
+    AreRowEdges (report_samples p f config column)
+    (first_report_keys p f config column (node_limit config.nodecount 0)) edges
+
+-- They are those of the profile that a table is made of.
+abbrev pub HasEdgesOn : Finds → Loaded → Config → Option ℕ → List FigureEdge → Type 0
+HasEdgesOn finds l config column edges =
+    HasEdgesBy l.profile (report_finders finds l Table config) config column edges
+
+-- They are those of the loaded profile, in the column that its table shows.
+abbrev pub HasEdges : Finds → Loaded → Config → List FigureEdge → Type 0
+HasEdges finds l config edges =
+    (showing : Showing) → showing_for Table (basis_of Table l config).profile config ≡ Ok showing
+    → HasEdgesOn finds (basis_of Table l config) config showing.column edges
+
+-- the figures or the refusal, without edges; nothing where memory was wanting
 abbrev pub figures_outcome : Result FigureTable ReportError → Option (Result FigureTable ReportRefusal)
-figures_outcome (Ok figures) = Some (Ok figures)
+figures_outcome (Ok figures) = Some (Ok (without_edges figures))
 figures_outcome (Err error) = option_map Err (report_refusal error)
 
 -- the line of the table report with this figure

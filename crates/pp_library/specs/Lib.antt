@@ -1,5 +1,7 @@
 pub mod Asked
-pub mod Loads
-pub mod Reports
+pub mod Edges
 pub mod Figures
+pub mod Loads
 pub mod Merged
+pub mod Places
+pub mod Reports

@@ -7,6 +7,7 @@
 #![tactic(auto)]
 
 mod countable;
+mod edging;
 mod laws;
 mod load_error;
 mod loading;
@@ -17,6 +18,7 @@ mod reporting;
 mod tabling;
 
 pub use countable::Countable;
+pub use edging::FigureEdge;
 pub use laws::{bytes_load_as_files, tables_print_figures};
 pub use load_error::LoadError;
 pub use loading::load;

@@ -5,7 +5,8 @@ ghost use Rattle.pp_load.specs.Reads.{loaded_or, with_verdicts};
 ghost use Rattle.pp_merge.specs.Merge.{Merges};
 ghost use Rattle.pp_model.specs.Rules.{NoRuleFails};
 ghost use Rattle.pp_model.specs.Sizes.{IsCountable};
-ghost use Rattle.pp_pattern.specs.Load.{load_verdicts};
+ghost use Rattle.pp_model.specs.Judged.{loaded_of};
+ghost use Rattle.pp_pattern.specs.Load.{load_verdicts, drop_finder, keep_finder};
 ghost use Rattle.pp_library.specs.Asked.{Asked, value_of};
 ghost use Rattle.pp_library.specs.Merged.{are_few, has_few_columns, merge_all, merge_outcome};
 ghost use Rattle.pp_library.specs.declared.merge_error.MergeError.TheVariants as errors;
@@ -90,18 +91,31 @@ fn answer_of<D: Desk>(
     ensures few { result ≢ Err errors.TooMany }
 {
     match judged {
-        Ok(Ok((drop, keep))) => Ok(Countable {
-            loaded: Loaded {
-                profile,
-                drop,
-                keep,
-            },
-            base: None,
-        }),
+        Ok(Ok(found)) => Ok(with_found::<D>(profile, found)),
         Ok(Err(FramesRefused::DropFrames)) => Err(MergeError::DropFrames),
         Ok(Err(FramesRefused::KeepFrames)) => Err(MergeError::KeepFrames),
         // Nothing but memory can be wanting where only patterns are asked.
         Err(_) => Err(MergeError::Memory),
+    }
+}
+
+// The profile with what its patterns find.
+fn with_found<D: Desk>(
+    profile: Compact,
+    found: (Option<List<bool>>, Option<List<bool>>),
+) -> Countable
+    requires countable { IsCountable profile }
+    requires found { found ≡ load_verdicts D.finds profile }
+    ensures { result.loaded
+        ≡ loaded_of profile (drop_finder D.finds profile) (keep_finder D.finds profile) }
+{
+    Countable {
+        loaded: Loaded {
+            profile,
+            drop: found.0,
+            keep: found.1,
+        },
+        base: None,
     }
 }
 

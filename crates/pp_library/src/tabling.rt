@@ -1,5 +1,5 @@
 //! The figures of a report as values.
-ghost use Rattle.std.specs.Prelude.{◌≡◌, ◌<◌, ◌⊎◌, ℕ, All, length, map, None, Option, option_map, IfOk};
+ghost use Rattle.std.specs.Prelude.{◌≡◌, ◌<◌, ◌⊎◌, ℕ, All, length, map, None, Option, option_map, IfOk, pos, slice_index_or};
 ghost use Rattle.pp_model.specs.declared.report.Report.TheVariants.{Table};
 ghost use Rattle.pp_model.specs.Finders.{Finders};
 ghost use Rattle.pp_grain.specs.Keys.{IsKeyOf, key_written};
@@ -12,9 +12,10 @@ ghost use Rattle.pp_report.specs.Heads.{type_of_column, kind_text, unit_text};
 ghost use Rattle.pp_report.specs.Prepared.{answered, AreCounts, HasCounts, IsPrepared};
 ghost use Rattle.pp_report.specs.Tagged.{basis_of};
 ghost use Rattle.pp_library.specs.Asked.{Asked, value_of};
-ghost use Rattle.pp_library.specs.Figures.{figure_of, figures_by, figures_on, figures_settled, table_with, table_figures, figures_outcome};
+ghost use Rattle.pp_library.specs.Figures.{figure_of, figures_by, figures_on, figures_settled, table_with, without_edges, table_figures, figures_outcome, HasEdges, HasEdgesOn, HasEdgesBy};
 
 use crate::countable::Countable;
+use crate::edging::{FigureEdge, row_edges};
 use crate::report_error::ReportError;
 use pp_base::{CalmFiles, CalmSink, CalmSource, List, Matcher, Memory, OpenGate, Text};
 use pp_count::{Sums, Survey};
@@ -51,10 +52,14 @@ pub struct FigureTable {
     pub total: u64,
     /// A row for each key that occurs, in report order; the first `nodecount` of them where that is above 0.
     pub rows: List<Figure>,
+    /// The edges between the rows, each pair of rows once, in no order that is promised. Keys without a row are left out of
+    /// each stack.
+    pub edges: List<FigureEdge>,
 }
 
 /// The figures that the command's table report prints, and top too, where `nodefraction` leaves out light rows. The
-/// patterns of the configuration are asked of the matcher.
+/// patterns of the configuration are asked of the matcher. Edges are those of the tree report, where no fraction leaves out
+/// any.
 pub fn figures<R: Threads + Sync, M: Matcher>(
     rt: &R,
     alloc: Global,
@@ -62,8 +67,9 @@ pub fn figures<R: Threads + Sync, M: Matcher>(
     config: &Config,
     matcher: &mut M,
 ) -> Result<FigureTable, ReportError>
-    ensures { Asked (M.answers matcher.old) (M.answers matcher.new)
+    ensures went { Asked (M.answers matcher.old) (M.answers matcher.new)
         (table_figures M.finds l.now.loaded config.now) (figures_outcome result) }
+    ensures edges { IfOk result (λ figures. HasEdges M.finds l.now.loaded config.now figures.edges) }
 {
     // No step of a table but the matcher's touches these.
     let mut files = CalmFiles::new(alloc, List::new(alloc), List::new(alloc));
@@ -92,6 +98,7 @@ fn figures_at<R: Threads + Sync, D: Desk>(
 ) -> Result<FigureTable, ReportError>
     ensures went { Asked (D.world desk.old).told.answers (D.world desk.new).told.answers
         (table_figures D.finds l.now.loaded config.now) (figures_outcome result) }
+    ensures edges { IfOk result (λ figures. HasEdges D.finds l.now.loaded config.now figures.edges) }
     ensures same { (D.world desk.new).names ≡ (D.world desk.old).names }
 {
     let with = Host {
@@ -101,22 +108,24 @@ fn figures_at<R: Threads + Sync, D: Desk>(
         gate: &OpenGate,
     };
     let prepared = prepare(&with, &l.loaded, &Report::Table, config, desk);
-    answer_of::<D>(alloc, &l.loaded, config, prepared)
+    answer_of::<R, D>(rt, alloc, &l.loaded, config, prepared)
 }
 
 // The figures of what was prepared, or why there are none.
-fn answer_of<D: Desk>(
+fn answer_of<R: Threads + Sync, D: Desk>(
+    rt: &R,
     alloc: Global,
     l: &Loaded,
     config: &Config,
     prepared: Result<Result<Prepared, ReportRefusal>, Stop>,
 ) -> Result<FigureTable, ReportError>
     requires { IfOk prepared (λ answer. IfOk answer (IsPrepared D.finds l.now Table config.now)) }
-    ensures { (figures_outcome result ≡ None) ⊎ (figures_outcome result
+    ensures is { (figures_outcome result ≡ None) ⊎ (figures_outcome result
         ≡ option_map (figures_settled D.finds l.now config.now) (value_of (answered prepared))) }
+    ensures edges { IfOk result (λ figures. HasEdges D.finds l.now config.now figures.edges) }
 {
     match prepared {
-        Ok(Ok(prepared)) => Ok(figures_of::<D>(alloc, l, config, prepared)?),
+        Ok(Ok(prepared)) => Ok(figures_of::<R, D>(rt, alloc, l, config, prepared)?),
         Ok(Err(refusal)) => Err(ReportError::from(refusal)),
         // Nothing but memory can be wanting where only patterns are asked.
         Err(_) => Err(ReportError::Memory),
@@ -124,15 +133,17 @@ fn answer_of<D: Desk>(
 }
 
 // The figures of what was prepared.
-fn figures_of<D: Desk>(
+fn figures_of<R: Threads + Sync, D: Desk>(
+    rt: &R,
     alloc: Global,
     l: &Loaded,
     config: &Config,
     prepared: Prepared,
 ) -> Result<FigureTable, Memory>
     requires { IsPrepared D.finds l.now Table config.now prepared }
-    ensures { IfOk result (λ figures. figures
+    ensures is { IfOk result (λ figures. without_edges figures
         ≡ figures_on D.finds (basis_of Table l.now config.now) config.now prepared.shows.column) }
+    ensures edges { IfOk result (λ figures. HasEdges D.finds l.now config.now figures.edges) }
 {
     let Prepared {
         shows,
@@ -140,14 +151,16 @@ fn figures_of<D: Desk>(
         tagged,
         ..
     } = prepared;
-    let figures = figures_on::<D>(alloc, basis(&tagged, l), config, shows.column, &counts);
+    let over = basis(&tagged, l);
+    let figures = figures_on::<R, D>(rt, alloc, over, config, shows.column, &counts);
     mem::drop(counts);
     mem::drop(tagged);
     figures
 }
 
 // The figures of the profile that is counted.
-fn figures_on<D: Desk>(
+fn figures_on<R: Threads + Sync, D: Desk>(
+    rt: &R,
     alloc: Global,
     l: &Loaded,
     config: &Config,
@@ -155,15 +168,18 @@ fn figures_on<D: Desk>(
     counts: &Option<Counts>,
 ) -> Result<FigureTable, Memory>
     requires { HasCounts D.finds l.now Table config.now column counts.now }
-    ensures { IfOk result (λ figures. figures ≡ figures_on D.finds l.now config.now column) }
+    ensures is { IfOk result (λ figures. without_edges figures
+        ≡ figures_on D.finds l.now config.now column) }
+    ensures edges { IfOk result (λ figures. HasEdgesOn D.finds l.now config.now column figures.edges) }
 {
     match counts {
-        Some(counts) => figures_counted::<D>(alloc, l, config, column, counts),
+        Some(counts) => figures_counted::<R, D>(rt, alloc, l, config, column, counts),
         None => unreachable!(),
     }
 }
 
-fn figures_counted<D: Desk>(
+fn figures_counted<R: Threads + Sync, D: Desk>(
+    rt: &R,
     alloc: Global,
     l: &Loaded,
     config: &Config,
@@ -171,7 +187,9 @@ fn figures_counted<D: Desk>(
     counts: &Counts,
 ) -> Result<FigureTable, Memory>
     requires { AreCounts D.finds l.now Table config.now column counts.now }
-    ensures { IfOk result (λ figures. figures ≡ figures_on D.finds l.now config.now column) }
+    ensures is { IfOk result (λ figures. without_edges figures
+        ≡ figures_on D.finds l.now config.now column) }
+    ensures edges { IfOk result (λ figures. HasEdgesOn D.finds l.now config.now column figures.edges) }
 {
     let survey = Survey {
         l,
@@ -180,21 +198,37 @@ fn figures_counted<D: Desk>(
         column,
         counted: &counts.counted,
     };
-    figures_by(alloc, &survey)
+    figures_by(rt, alloc, &survey)
 }
 
 // The figures of what was counted.
-fn figures_by(alloc: Global, survey: &Survey<'_>) -> Result<FigureTable, Memory>
-    ensures { let s = survey.now in (f : Finders) →
+fn figures_by<R: Threads + Sync>(
+    rt: &R,
+    alloc: Global,
+    survey: &Survey<'_>,
+) -> Result<FigureTable, Memory>
+    ensures is { let s = survey.now in (f : Finders) →
         HoldsFilters s.l.now s.v.now s.config.now f →
-        IfOk result (λ figures. figures ≡ figures_by s.l.now.profile f s.config.now s.column) }
+        IfOk result (λ figures. without_edges figures
+        ≡ figures_by s.l.now.profile f s.config.now s.column) }
+    ensures edges { let s = survey.now in (f : Finders) →
+        HoldsFilters s.l.now s.v.now s.config.now f →
+        IfOk result (λ figures. HasEdgesBy s.l.now.profile f s.config.now s.column figures.edges) }
 {
     let (l, counted) = (survey.l, survey.counted);
     let limit = limit_of(survey.config);
     let ranked = rank_all(alloc, l, counted, survey.config, limit)?;
     let rows = rows_of(alloc, l, &counted.sums, ranked.order.as_slice())?;
+    let edges = row_edges(rt, alloc, survey, ranked.order.as_slice())?;
     mem::drop(ranked);
-    with_rows(alloc, l.profile.get(), survey.column, counted.total, rows)
+    with_rows(
+        alloc,
+        l.profile.get(),
+        survey.column,
+        counted.total,
+        rows,
+        edges,
+    )
 }
 
 fn limit_of(config: &Config) -> u32
@@ -210,8 +244,10 @@ fn with_rows(
     column: Option<u32>,
     total: u64,
     rows: List<Figure>,
+    edges: List<FigureEdge>,
 ) -> Result<FigureTable, Memory>
-    ensures { IfOk result (λ figures. figures ≡ table_with p.now column total rows) }
+    ensures is { IfOk result (λ figures. without_edges figures ≡ table_with p.now column total rows) }
+    ensures edges { IfOk result (λ figures. figures.edges ≡ edges) }
 {
     let kind = Text::from_slice(alloc, kind_text(p, column))?;
     let unit = Text::from_slice(alloc, unit_text(p, column))?;
@@ -220,6 +256,7 @@ fn with_rows(
         unit,
         total,
         rows,
+        edges,
     })
 }
 
@@ -247,10 +284,18 @@ fn row_of(alloc: Global, l: &Loaded, sums: &Sums, number: u64) -> Result<Figure,
 {
     let name = name_of(alloc, l, &sums.names.key(number))?;
     Ok(Figure {
-        flat: sums.flat.as_slice()[number as usize],
-        cum: sums.cum.as_slice()[number as usize],
+        flat: value_at(&sums.flat, number),
+        cum: value_at(&sums.cum, number),
         name,
     })
+}
+
+// The value at the place.
+fn value_at(values: &List<i64>, place: u64) -> i64
+    requires { place < length values.now }
+    ensures { result ≡ slice_index_or values.now place (pos 0) }
+{
+    values.as_slice()[place as usize]
 }
 
 fn name_of(alloc: Global, l: &Loaded, key: &Key) -> Result<Text, Memory>

@@ -14,7 +14,7 @@ returns-in_err-profile-clause-went g c = λ few.
     let p = err_from_is_err_and c.from_residual.result c.from_residual.ensures.1 in
     let answers = g.M.Matcher.answers c.args.matcher.now in
     subst (λ (r : Result Countable MergeError). Asked answers answers (merge_all g.M.Matcher.finds c.args.profiles) (merge_outcome r)) (sym (p.1 ∙ ap (λ e. Err e) p.2))
-    (merge_refused g.M.Matcher.finds c.args.profiles answers c.in_err-profile.field-0 c.requires c.in_err-profile.ensures.merges)
+    (merge_refused g.M.Matcher.finds c.args.profiles answers c.in_err-profile.field-0.0 c.requires c.in_err-profile.ensures.merges)
 
 -- they did, and the patterns were asked
 pub returns-clause-went : goal.returns-clause-went

@@ -1,3 +1,6 @@
+use Rattle.std.proofs.Common.{subst}
+use Rattle.std.specs.List.{AllByRecursion}
+use Rattle.pp_model.specs.Rules.{NoRuleFails}
 use Rattle.pp_library.proofs.MergeLemmas.{few_are, merged_countable}
 use Rattle.pp_library.proofs.merging.merge_few.Goals as goal
 
@@ -14,4 +17,4 @@ merge-requires-clause-samples c = (few_are c.args.profiles c.requires.few).sampl
 -- what was merged can be counted
 pub returns-clause-countable : goal.returns-clause-countable
 returns-clause-countable c =
-    merged_countable c.args.profiles c.merge.result c.requires.some c.requires.few c.all_valid.ensures c.merge.ensures
+    merged_countable c.args.profiles c.merge.result c.requires.some c.requires.few (subst (AllByRecursion NoRuleFails) c.as_slice.ensures c.all_valid.ensures) c.merge.ensures
