@@ -1,5 +1,5 @@
 -- The figures of a report as values: what the table report prints.
-use Rattle.std.specs.Prelude.{◌≡◌, ℕ, List, [], ◌++◌, map, Option, Some, None, option_map, Result, Ok, Err}
+use Rattle.std.specs.Prelude.{◌≡◌, ℕ, List, [], ◌++◌, map, Option, Some, option_map, Result, Ok, Err}
 use Rattle.std.specs.List.{flat_map}
 use Rattle.pp_desk.specs.Asking.{Asking}
 use Rattle.pp_desk.specs.Script as scripts

@@ -1,5 +1,5 @@
 -- What profiles come to together.
-use Rattle.std.specs.Prelude.{◌≡◌, ℕ, ◌^◌, Bool, false, ◌&&◌, List, length, nat_lt, Option, Some, None, option_map, Result, Ok, Err}
+use Rattle.std.specs.Prelude.{◌^◌, Bool, false, ◌&&◌, List, length, nat_lt, Option, Some, None, option_map, Result, Ok, Err}
 use Rattle.std.specs.List.{list_all, sum_by}
 use Rattle.pp_desk.specs.Asking.{Asking, go_on}
 use Rattle.pp_model.specs.declared.loaded.Loaded.{Loaded}

@@ -1,4 +1,4 @@
-use Rattle.std.proofs.Common.{◌≡◌, ◌∙◌}
+use Rattle.std.proofs.Common.{◌∙◌}
 use Rattle.pp_library.specs.Places.{placed_edge}
 use Rattle.pp_library.proofs.PlaceLemmas.{placed_also, placed_not}
 use Rattle.pp_library.proofs.edging.placed_edges.Goals.{in-Some+in_ok-push-in-Some, in-None}

@@ -1,4 +1,4 @@
-use Rattle.std.proofs.Common.{◌≡◌, ℕ, length, arith, subst}
+use Rattle.std.proofs.Common.{ℕ, arith, subst}
 use Rattle.pp_library.specs.Places.{ArePlaced}
 use Rattle.pp_library.proofs.PlaceLemmas.{placed_more}
 use Rattle.pp_library.proofs.edging.places_of.Goals as goal
