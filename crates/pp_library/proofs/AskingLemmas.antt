@@ -1,6 +1,5 @@
 -- Scripts that ask patterns alone: a matcher tells how they went, and nothing but want of memory stops them.
-use Rattle.std.proofs.Common.{◌≡◌, ℕ, Bool, true, false, List, Option, inl, inr, refl, ap}
-use Rattle.std.specs.Prelude.{Result, Ok, Err}
+use Rattle.std.proofs.Common.{◌≡◌, Bool, true, false, inl, inr, ap}
 use Rattle.std.proofs.lemmas.Bool.{false≢true}
 use Rattle.pp_desk.specs.declared.stop.Stop.{Stop}
 use Rattle.pp_desk.specs.declared.stop.Stop.TheVariants as stops

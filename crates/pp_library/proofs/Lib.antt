@@ -4,3 +4,6 @@ mod OneFileLemmas
 mod OfOneLemmas
 mod ReportLemmas
 mod AnswerLemmas
+mod FigureLemmas
+mod MergeLemmas
+mod PlaceLemmas

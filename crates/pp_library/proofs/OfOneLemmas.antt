@@ -4,7 +4,6 @@ use Rattle.std.specs.Prelude.{Option, Some, None, nat_lt, Result, Ok, Err, IfErr
 use Rattle.pp_base.specs.Judges.{Answer}
 use Rattle.pp_desk.specs.declared.stop.Stop.{Stop}
 use Rattle.pp_desk.specs.Asking as asking
-use Rattle.pp_desk.specs.Script.{Script}
 use Rattle.pp_desk.specs.Went.{Goes}
 use Rattle.pp_desk.specs.World.{Told}
 use Rattle.pp_model.specs.declared.loaded.Loaded.{Loaded}

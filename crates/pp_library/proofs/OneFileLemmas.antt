@@ -1,17 +1,15 @@
 -- The command's loading of one file, and the loading of its bytes.
-use Rattle.std.proofs.Common.{◌≡◌, ℕ, Bool, true, false, List, [], ◌∷◌, length, inl, inr, refl, sym, ap, ◌∙◌, subst, zero-add, if◌then◌else◌}
+use Rattle.std.proofs.Common.{◌≡◌, ℕ, Bool, true, false, List, [], ◌∷◌, length, inl, inr, refl, ap, ◌∙◌, subst, zero-add, if◌then◌else◌}
 use Rattle.std.specs.Prelude.{Option, Some, None, IfSome, is_some, nat_lt, Result, Ok, Err}
 use Rattle.std.specs.FinMap.{get-from_entries}
 use Rattle.std.proofs.lemmas.Cmp.{nat_list_cmp_total}
 use Rattle.pp_base.specs.FileMap.{FileMap, content_at}
-use Rattle.pp_base.specs.Judges.{Answer}
 use Rattle.pp_desk.specs.declared.file_content.FileContent.{FileContent}
 use Rattle.pp_desk.specs.declared.file_content.FileContent.TheVariants as contents
-use Rattle.pp_desk.specs.declared.input_line.InputLine.{InputLine}
 use Rattle.pp_desk.specs.declared.stop.Stop.{Stop}
 use Rattle.pp_desk.specs.declared.stop.Stop.TheVariants as stops
 use Rattle.pp_desk.specs.Asking as asking
-use Rattle.pp_desk.specs.Course.{Course, course, does}
+use Rattle.pp_desk.specs.Course.{course, does}
 use Rattle.pp_desk.specs.Effects.{FromFile}
 use Rattle.pp_desk.specs.Script as scripts
 use Rattle.pp_desk.specs.Script.{Script, Give, Make, ReadFile}
@@ -36,7 +34,7 @@ use Rattle.pp_load.specs.Alone.{HasOneFile}
 use Rattle.pp_load.specs.Combine.{agreeing, merging, less_bases, joining, combined}
 use Rattle.pp_load.specs.Decode.{decoded}
 use Rattle.pp_load.specs.Load.{read_bytes, read_next, read_base, read_all, read_plan, load}
-use Rattle.pp_load.specs.Reads.{size_limit, bytes_found, read_path, loaded_or, with_verdicts}
+use Rattle.pp_load.specs.Reads.{size_limit, bytes_found, read_path, with_verdicts}
 use Rattle.pp_load.specs.Sources.{nothing_read, within_size_limit, with_profile, with_bytes}
 use Rattle.pp_load.specs.Steps as steps
 use Rattle.pp_load.specs.Steps.{Loading}

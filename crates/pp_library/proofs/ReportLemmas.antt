@@ -1,11 +1,10 @@
 -- A report asks patterns and does nothing else, unless it reads source files.
-use Rattle.std.proofs.Common.{◌≡◌, ℕ, Bool, true, false, List, [], Option, Some, None, option_map, refl, sym, ap, ◌∙◌, subst, if◌then◌else◌}
+use Rattle.std.proofs.Common.{◌≡◌, ℕ, true, false, List, [], Option, option_map, refl, subst, if◌then◌else◌}
 use Rattle.std.specs.Prelude.{Result, Ok, Err}
 use Rattle.std.proofs.lemmas.Bool.{true≢false}
-use Rattle.pp_base.specs.Judges.{Answer}
 use Rattle.pp_desk.specs.declared.stop.Stop.{Stop}
 use Rattle.pp_desk.specs.Asking.{go_on}
-use Rattle.pp_desk.specs.Script.{Script, Give, ◌>>=◌}
+use Rattle.pp_desk.specs.Script.{Give, ◌>>=◌}
 use Rattle.pp_desk.specs.Went.{Went}
 use Rattle.pp_desk.specs.World.{World}
 use Rattle.pp_desk.proofs.Quiet.{Only, only_then}

@@ -1,3 +1,7 @@
 pub mod Asked
+pub mod Edges
+pub mod Figures
 pub mod Loads
+pub mod Merged
+pub mod Places
 pub mod Reports
