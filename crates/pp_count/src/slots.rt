@@ -53,8 +53,7 @@ impl Slots {
     /// Adds the value to the cum of the key number, where the sample of that turn was not yet added.
     pub fn credit(&mut self, key: u64, value: i64, turn: u64) -> Result<(), Memory>
         requires within { key < length self.old.place.items }
-        requires fits {
-            (slot_tally self.old.place.items self.old.rows.items key).last ≢ turn →
+        requires fits { (slot_tally self.old.place.items self.old.rows.items key).last ≢ turn →
             nat_abs (slot_tally self.old.place.items self.old.rows.items key).cum + nat_abs value
             < 2 ^ 63 }
         ensures count { length self.new.place.items ≡ length self.old.place.items }
