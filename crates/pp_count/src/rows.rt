@@ -57,6 +57,20 @@ impl Rows {
         &long[start..start + count]
     }
 
+    /// Adds the row's numbers to the list. Most rows have one, which is added without a loop. `Err` is want of memory.
+    pub fn add_to(&self, index: usize, numbers: &mut Vec<u64>) -> Result<(), Memory>
+        requires { index < length self.now }
+        ensures { IfOk result (λ _. numbers.new.items
+            ≡ numbers.old.items ++ slice_index_or self.now index []) }
+    {
+        let entry = self.entries.as_slice()[index];
+        if entry < LONG {
+            numbers.push(u64::from(entry))?;
+            return Ok(());
+        }
+        add_several(self.row(index), numbers)
+    }
+
     /// Adds the row at the end. `Err` is want of memory.
     pub fn push(&mut self, row: &[u32]) -> Result<(), Memory>
         ensures { IfOk result (λ _. self.new ≡ self.old ++ row.now ∷ []) }
@@ -65,6 +79,17 @@ impl Rows {
         self.entries.push(entry)?;
         Ok(())
     }
+}
+
+// Adds the numbers of a row that may have several.
+#[inline(never)]
+fn add_several(row: &[u32], numbers: &mut Vec<u64>) -> Result<(), Memory>
+    ensures { IfOk result (λ _. numbers.new.items ≡ numbers.old.items ++ row.now) }
+{
+    for number in row {
+        numbers.push(u64::from(*number))?;
+    }
+    Ok(())
 }
 
 // The entry of the row, which is put into `long` unless it is one number below `LONG`.

@@ -70,32 +70,7 @@ fn number_all(scope: &Scope, s: &Sample, keys: &mut Vec<u64>) -> Result<(), Memo
     // Each id is a place plus 1.
     let _compact = scope.l.profile.get();
     for id in s.location_id.as_slice() {
-        let row = scope.table.location.row((*id - 1) as usize);
-        add_numbers(keys, row)?;
-    }
-    Ok(())
-}
-
-// Most locations have one line, so that its number is added without a loop.
-fn add_numbers(keys: &mut Vec<u64>, numbers: &[u32]) -> Result<(), Memory>
-    ensures { IfOk result (λ _. keys.new.items ≡ keys.old.items ++ numbers.now) }
-{
-    match numbers {
-        [number] => {
-            keys.push(u64::from(*number))?;
-            Ok(())
-        }
-        _ => add_several(keys, numbers),
-    }
-}
-
-// Adds all of them.
-#[inline(never)]
-fn add_several(keys: &mut Vec<u64>, numbers: &[u32]) -> Result<(), Memory>
-    ensures { IfOk result (λ _. keys.new.items ≡ keys.old.items ++ numbers.now) }
-{
-    for number in numbers {
-        keys.push(u64::from(*number))?;
+        scope.table.location.add_to((*id - 1) as usize, keys)?;
     }
     Ok(())
 }

@@ -1,4 +1,4 @@
-use Rattle.std.proofs.Common.{ap, ◌∙◌, subst, arith}
+use Rattle.std.proofs.Common.{refl, ap, ◌∙◌, subst, arith}
 use Rattle.pp_model.specs.Rules.{IsCompact}
 use Rattle.pp_model.specs.Frames.{frames_from}
 use Rattle.pp_model.proofs.FrameLemmas.{one_le_read, within_read}
@@ -14,8 +14,8 @@ overflow_sub-id c =
     let compact : IsCompact c.args.scope.now.l.now.profile = subst IsCompact c.get-compact.ensures.same c.get-compact.ensures.compact in
     one_le_read c.args.scope.now.l.now.profile _ _ _ c.as_slice-id-items.ensures compact.locations c.requires.refers c.loop-id-test.true
 
-pub row-row-requires : goal.row-row-requires
-row-row-requires c =
+pub add_to-requires : goal.add_to-requires
+add_to-requires c =
     let compact : IsCompact c.args.scope.now.l.now.profile = subst IsCompact c.get-compact.ensures.same c.get-compact.ensures.compact in
     omega (
       arith,
@@ -27,15 +27,15 @@ pub loop-id-preserved : goal.loop-id-preserved
 loop-id-preserved c =
     let p = c.args.scope.now.l.now.profile in
     let compact : IsCompact p = subst IsCompact c.get-compact.ensures.same c.get-compact.ensures.compact in
-    rw c.in_ok-add_numbers.ensures
+    rw c.in_ok-add_to.ensures
     (located_more p c.args.scope.now.config.now c.args.scope.now.table.now c.as_slice-id-items.result.now c.loop-id.id-index c.loop-id.keys.items
-    c.row-row.result.now c.requires.table c.loop-id-test.true
+    _ c.requires.table c.loop-id-test.true
     (omega (
       arith,
       within_read p _ _ _ c.as_slice-id-items.ensures compact.locations c.requires.refers c.loop-id-test.true,
       c.requires.table.count,
     ))
-    c.row-row.ensures c.loop-id.invariant)
+    refl c.loop-id.invariant)
 
 pub returns-clause-named : goal.returns-clause-named
 returns-clause-named c =
