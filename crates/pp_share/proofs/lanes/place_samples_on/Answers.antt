@@ -11,7 +11,7 @@ use Rattle.pp_share.specs.Walk.{met_after, location_refs}
 use Rattle.pp_share.specs.Walked.{placed_sample}
 use Rattle.pp_share.proofs.Lists.{all_mapped, flat_map-map}
 use Rattle.pp_share.proofs.LocatedLemmas.{all_changed, all_unmapped, met_whole}
-use Rattle.pp_share.proofs.lanes.place_samples.Goals as goal
+use Rattle.pp_share.proofs.lanes.place_samples_on.Goals as goal
 
 -- those behind the first name none that was not met
 pub returns-clause-locations : goal.returns-clause-locations
