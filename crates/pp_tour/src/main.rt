@@ -1,8 +1,6 @@
-//! A made-up server's samples: recorded with a header, labelled, made coarser, checked, counted and listed. Each step
-//! writes what it came to. Most calls here are those that no other program of the repository makes.
+//! A made-up server's samples: recorded with a header, labelled, made coarser, checked, counted, listed and reported. Each
+//! step writes what it came to. Most calls here are those that no other program of the repository makes.
 #![tactic(auto)]
-
-ghost use Rattle.pp_model.specs.Sizes.{IsCountable};
 
 mod checking;
 mod counting;
@@ -10,13 +8,15 @@ mod edges;
 mod labels;
 mod listing;
 mod recording;
+mod reporting;
 mod stack;
 mod tree;
 
 use anyhow::{Result, ensure};
 use pp_base::Text;
 use pp_keys::HashKeys;
-use pp_model::{Compact, Loaded};
+use pp_library::Countable;
+use pp_model::Compact;
 use std::alloc::Global;
 use std::io::Write;
 use std::thread::Threads;
@@ -58,14 +58,14 @@ fn put_reports<R: Threads + Sync>(
 ) -> Result<()> {
     let loaded = pp_edit::without_patterns(labels::with_block(alloc, server)?);
     ensure!(pp_edit::is_countable(loaded.profile.get()), "too large");
-    let put = put_each(rt, alloc, &loaded, out);
-    drop(loaded);
+    let l = Countable { loaded, base: None };
+    let put = put_each(rt, alloc, &l, out);
+    drop(l);
     put
 }
 
-fn put_each<R: Threads + Sync>(rt: &R, alloc: Global, l: &Loaded, out: &mut Text) -> Result<()>
-    requires { IsCountable l.now.profile }
-{
-    stack::put_first(alloc, l, out)?;
-    counting::put_counted(rt, alloc, l, out)
+fn put_each<R: Threads + Sync>(rt: &R, alloc: Global, l: &Countable, out: &mut Text) -> Result<()> {
+    stack::put_first(alloc, &l.loaded, out)?;
+    counting::put_counted(rt, alloc, &l.loaded, out)?;
+    reporting::put_top(rt, alloc, l, out)
 }
