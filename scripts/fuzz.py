@@ -27,7 +27,7 @@ from model.profile import Unspoken
 from model.session import run
 from model.wire import WireFault, fields
 
-SECONDS = 60
+SECONDS = 600
 KEEP = 40
 
 # What random profiles are made of.

@@ -49,9 +49,10 @@ CASES = [
     ("`-top` of these", "-top", "parts"),
     ("`-comments` of 1,000,000 small samples", "-comments", "small"),
     ("`-top` of these", "-top", "small"),
+    ("`-comments` of 1,000,000 samples, of which 4,000 differ", "-comments", "equal"),
 ]
 # The reports that Go's pprof has too, with the kind of the file.
-BESIDE = [("-top", "plain"), ("-tree", "plain"), ("-traces", "plain"), ("-peek=Method1234$", "plain"), ("-top", "small")]
+BESIDE = [("-top", "plain"), ("-tree", "plain"), ("-traces", "plain"), ("-peek=Method1234$", "plain"), ("-top", "small"), ("-top", "equal")]
 
 
 def stacks(rng, samples):
@@ -64,13 +65,13 @@ def stacks(rng, samples):
         yield stack
 
 
-def write_profile(path, samples, seed=1, labels=False, small=False):
+def write_profile(path, samples, seed=1, labels=False, equal=False):
     rng = random.Random(seed)
     ids = [varint(place + 1) for place in range(FUNCTIONS * 2)]
     names = [f"pkg{i % 97}.(*Type{i % 401}).Method{i}" for i in range(FUNCTIONS)]
     files = [f"/src/pkg{i % 97}/file{i % 211}.go" for i in range(FUNCTIONS)]
     few = [[rng.randrange(FUNCTIONS)] for _ in range(4000)]
-    drawn = (rng.choice(few) for _ in range(samples)) if small else stacks(rng, samples)
+    drawn = (rng.choice(few) for _ in range(samples)) if equal else stacks(rng, samples)
     with open(path, "wb") as out:
         out.write(payload(1, message({1: 1, 2: 2})) + payload(1, message({1: 3, 2: 4})))
         out.write(payload(3, message({1: 1, 2: 0x400000, 3: 0x2400000, 5: 5, 7: 1})))
@@ -114,15 +115,18 @@ def measure(words, figures):
     figures.memory = max(figures.memory, used.ru_maxrss / 1024)
 
 
-def profiles(folder):
-    """The files of each kind."""
-    write_profile(folder / "plain.pb", 200_000)
-    write_profile(folder / "labels.pb", 200_000, labels=True)
-    write_profile(folder / "small.pb", 1_000_000, small=True)
-    for part in range(16):
-        write_profile(folder / f"part{part}.pb", 10_000, seed=part + 1)
-    parts = [str(folder / f"part{part}.pb") for part in range(16)]
-    return {kind: [str(folder / f"{kind}.pb")] for kind in ("plain", "labels", "small")} | {"parts": parts}
+def profiles(program, folder, kinds):
+    """The files of each of these kinds. The program itself makes the small samples, all of which differ."""
+    made = {}
+    for kind in kinds:
+        made[kind] = [str(folder / f"{kind}{part}.pb") for part in range(16 if kind == "parts" else 1)]
+        if kind == "small":
+            pathlib.Path(made[kind][0]).write_bytes(subprocess.check_output([program, "-proto", "-gen=1000000"]))
+            continue
+        for part, path in enumerate(made[kind]):
+            samples = {"parts": 10_000, "equal": 1_000_000}.get(kind, 200_000)
+            write_profile(path, samples, seed=part + 1, labels=kind == "labels", equal=kind == "equal")
+    return made
 
 
 def measure_beside(program, other, files, runs):
@@ -149,7 +153,8 @@ def main():
     program = str(pathlib.Path(given.program).resolve())
     cases = [case for case in CASES if case[1].startswith(given.only) or case[1] == "-comments"]
     with tempfile.TemporaryDirectory() as place:
-        files = profiles(pathlib.Path(place))
+        wanted = BESIDE if given.beside else [case[1:] for case in cases]
+        files = profiles(program, pathlib.Path(place), {kind for _, kind in wanted})
         if given.beside:
             measure_beside(program, given.beside, files, given.runs)
             return
