@@ -135,7 +135,7 @@ mappings_ranged n (r ∷ rs) all = ((all.0.start, all.0.limit, all.0.offset), ma
 
 -- ---- bytes that are decoded
 
--- What is known of a profile that so many bytes were decoded to.
+-- What is known of a profile that bytes of this length were decoded to.
 pub record IsDecoded (len : ℕ) (p : Profile) : Type 0 where
   pub valid : NoRuleFails p
   pub starts : HasStarts p
@@ -301,7 +301,7 @@ combined_gives sources kind normalize list p few fit some within bases is =
 
 -- ---- files that are read
 
--- So many profiles were read, and they can be counted.
+-- This number of profiles was read, and they can be counted.
 record AreRead (n : ℕ) (read : Read) : Type 0 where
   few : IsCountableRead read
   fit : AllByRecursion TellsFitting read.profiles
@@ -424,8 +424,8 @@ load_gives finds plan =
     (plan.kind_with_bases ∙ more_than (length plan.origins) (length plan.bases) ∙ ap (nat_lt (length plan.origins)) (sym are.many)) is))
     (judged_gives finds))
 
--- Each profile that a plan loads keeps the table rules, can be counted, stays as it is when it is merged alone, and tells
--- numbers that fit.
+-- Each profile that a plan loads keeps the table rules, can be counted, and stays as it is when it is merged alone. The
+-- numbers that it tells fit.
 pub loaded_is : (finds : Finds) (plan : Plan) (files : FileMap) (locked : List (List ℕ)) (lines : List InputLine) (answers : List Answer) (l : Loaded)
     → (course (load finds plan) files locked lines answers).value ≡ Ok l → IsLoadable l.profile
 loaded_is finds plan files locked lines answers l is =

@@ -83,7 +83,7 @@ SavedGroupsAreMerges =
     (finds : Finds) (g : SavedGroup) → SavesWhole g → IsMergeable g.sources → PrintsMerge finds g
 
 -- Sessions save the groups, each as a whole, and all profiles can be merged. In no group does a sample come to
--- nothing, no duration is negative, and each mapping that is left is the first of all that is one with it.
+-- nothing, and no duration is negative. Each mapping that is left is the first of all that is one with it.
 pub record SavedInSteps (g : SavedGroup) (groups : List SavedGroup) : Type 0 where
   pub whole : AllByRecursion SavesWhole (g ∷ groups)
   pub mergeable : IsMergeable (one_group g.sources (groups_of groups))

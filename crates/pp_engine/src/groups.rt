@@ -25,8 +25,8 @@ pub fn saved_groups_load_as_one()
 {}
 
 // What would break it: a report that reads more than the profile and the plan's variables.
-/// A session over what sessions saved of groups of sources writes the same as one over all the sources, asks the same
-/// patterns, and ends alike. It makes any report, or is a shell.
+/// A session over what sessions saved of groups of sources goes as one over all the sources. It writes the same, asks
+/// the same patterns, and ends alike. It makes any report, or is a shell.
 ///
 /// Premises, beside those of `saved_groups_load_as_one`: both have the same report and variables; they meet the same
 /// locked paths, lines and answers; what they read after loading is the same in both; all sources are together no

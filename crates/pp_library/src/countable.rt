@@ -10,8 +10,8 @@ use pp_model::{BaseKind, Loaded, Profile, Valid};
 pub struct Countable {
     /// The profile, with what its own two patterns find.
     pub loaded: Loaded,
-    /// How a base was taken off, if one was. The reports compare and changes ask for one that was given to compare with,
-    /// which they can't know of a profile of which no sample of the base is left.
+    /// How a base was taken off, if one was. The reports compare and changes ask for one that was given to compare with.
+    /// The profile alone can't tell: no sample of the base may be left in it.
     pub base: Option<BaseKind>,
     pub ghost countable: { IsCountable loaded.profile },
 }

@@ -23,8 +23,8 @@ pub enum ReportError {
     /// The pattern of a peek report finds no function that the report could show.
     #[error("no function matches")]
     NoMatch,
-    /// A compare or changes report is asked for, no base was given to compare with, and no sample carries the label
-    /// `pprof::base` of the text `true`.
+    /// A compare or changes report is asked for, and there is nothing to compare with. No base was given for that, and no
+    /// sample carries the label `pprof::base` of the text `true`.
     #[error("no base")]
     NoBase,
     /// Want of memory.
