@@ -65,7 +65,8 @@ module _ (by : Renumbering) (words : ℕ) (texts : List ℕ) (worded : GivesText
   moved_sample : (s : Sample) → NamesLocations count s → NamesTexts words s
       → renumbered_sample (new_ids by) s ≡ renumbered_sample (by_locations ids) (renumbered_sample (by_texts texts) s)
   moved_sample s located labelled = (λ j. record s {
-    location_id = map_as (new_id by.location) (listed_id ids) (Names count) (λ id n. given id n.0 n.1) s.location_id located j;
+    location_id = (map_as (new_id by.location) (listed_id ids) (Names count) (λ id n. given id n.0 n.1) s.location_id located
+        ∙ ap (map (listed_id ids)) (sym (map-id s.location_id))) j;
     label = (map_as (renumbered_label (new_ids by)) (renumbered_label (by_texts texts)) (λ l. names_texts words l ≡ true) moved_label s.label labelled
         ∙ sym (map-id (map (renumbered_label (by_texts texts)) s.label))) j;
   })

@@ -1,5 +1,5 @@
 //! New ids for old ones. An id names an entry of a table, and 0 names none.
-ghost use Rattle.std.specs.Prelude.{◌≡◌, ◌+◌, ℕ, List as Seq, length};
+ghost use Rattle.std.specs.Prelude.{◌≡◌, ◌<◌, ◌^◌, ◌+◌, ℕ, List as Seq, length};
 ghost use Rattle.std.specs.Bool.{OnTrue};
 ghost use Rattle.pp_model.specs.Lookup.{text_number};
 ghost use Rattle.pp_share.specs.Ids.{known_id, place_id, listed_id, new_id, new_text, index_of_id, GivesIds, GivesTexts};
@@ -111,13 +111,20 @@ pub fn ids_by(ids: List<u64>) -> Ids
     ensures ids { GivesIds (length ids) result ids }
     ensures texts { GivesTexts (length ids) result ids }
 {
-    // A table fits in memory.
-    let _len = ids.as_slice().len();
+    let _count = count_of(ids.as_slice());
     if are_in_place(ids.as_slice()) {
         Ids::Same
     } else {
         Ids::By(ids)
     }
+}
+
+// How many ids there are. A table fits in memory.
+fn count_of(ids: &[u64]) -> usize
+    ensures same { result ≡ length ids.now }
+    ensures few { result < 2 ^ 62 }
+{
+    ids.len()
 }
 
 /// The id of the text with the index: the index plus 1. A negative index stands for text 0.

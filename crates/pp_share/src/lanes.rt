@@ -20,6 +20,9 @@ use std::thread::Threads;
 
 /// Who gives samples the places of their locations, once all locations were met.
 pub trait Locator {
+    /// What has to hold where it is used.
+    ghost can: { Self → Type 0 };
+
     /// Gives the samples from the place `first` on the places of their new locations. It takes no memory.
     fn locate_rest(
         &self,
@@ -28,6 +31,7 @@ pub trait Locator {
         first: usize,
         locations: &Met,
     )
+        requires { can self.now }
         ensures long { length samples.new ≡ length samples.old }
         ensures each { (i : ℕ) → (other : SampleValue) → i < length samples.old
             → slice_index_or samples.new i other
@@ -36,6 +40,10 @@ pub trait Locator {
 
 /// `workers` threads.
 impl<R: Threads + Sync> Locator for Resources<'_, R> {
+    ghost use denote.Param.Send.{IsSync};
+
+    ghost can = { λ with. IsSync R.row };
+
     fn locate_rest(
         &self,
         samples: &mut List<Sample>,
@@ -60,6 +68,8 @@ impl<R: Threads + Sync> Locator for Resources<'_, R> {
 pub struct Alone;
 
 impl Locator for Alone {
+    ghost can = { λ alone. Unit {0} };
+
     fn locate_rest(
         &self,
         samples: &mut List<Sample>,
@@ -83,7 +93,8 @@ pub fn place_samples<L: Locator>(
     locations: &mut Met,
     texts: &mut Met,
 ) -> Result<(), Memory>
-    requires { AllByRecursion (NamesLocations (length p.old.location))
+    requires can { L.can locator.now }
+    requires named { AllByRecursion (NamesLocations (length p.old.location))
         (map (renumbered_sample (new_ids by.now)) p.old.sample) }
     ensures locations { OnOk result (locations.new ≡ met_after locations.old
         (flat_map location_refs (map (renumbered_sample (new_ids by.now)) p.old.sample))) }

@@ -30,7 +30,8 @@ pub fn write<L: Locator>(
     mut p: Profile,
     samples: &Renumbering,
 ) -> Result<Profile, Memory>
-    requires { AllByRecursion (NamesLocations (length p.location)) (with_new_samples (new_ids samples.now) p).sample }
+    requires can { L.can locator.now }
+    requires named { AllByRecursion (NamesLocations (length p.location)) (with_new_samples (new_ids samples.now) p).sample }
     ensures { IfOk result (IsWalked (with_new_samples (new_ids samples.now) p)) }
 {
     let mut texts = first_texts(alloc, hash_keys, &p)?;
@@ -99,6 +100,7 @@ fn keep_locations<L: Locator>(
     by: &Renumbering,
     texts: &mut Met,
 ) -> Result<Met, Memory>
+    requires can { L.can locator.now }
     requires named { AllByRecursion (NamesLocations (length p.old.location)) (with_new_samples (new_ids by.now) p.old).sample }
     requires first { texts.old ≡ met_after [] (first_text_ids p.old) }
     ensures { IfOk result (IsNamed (with_new_samples (new_ids by.now) p.old) p.new texts.new) }

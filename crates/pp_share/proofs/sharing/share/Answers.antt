@@ -22,8 +22,8 @@ sum_plain-requires c = record {
 }
 
 -- and so do the locations that samples name
-pub write-written-requires : goal.write-written-requires
-write-written-requires c =
+pub write-written-requires-clause-named : goal.write-written-requires-clause-named
+write-written-requires-clause-named c =
     let by = new_ids c.in_ok-profile.by in
     shared_named c.args.p c.requires.joined c.in_ok-profile.ensures.few c.in_ok-profile.profile c.sum_plain.new.p by by c.in_ok-profile.ensures.tables c.in_ok-profile.ensures.samples
     c.in_ok-sum_plain.ensures

@@ -22,8 +22,8 @@ sum_hashed_on-requires-clause-sums g c = λ _ _. record {
 }
 
 -- and so do the locations that samples name
-pub write-written-requires-after_bounds : goal.write-written-requires-after_bounds
-write-written-requires-after_bounds g c = λ _ _.
+pub write-written-requires-clause-named : goal.write-written-requires-clause-named
+write-written-requires-clause-named g c =
     let by = new_ids c.in_ok-profile.by in
     shared_named c.args.p c.requires.joined c.in_ok-profile.ensures.few c.in_ok-profile.profile c.sum_hashed_on.new.p by by c.in_ok-profile.ensures.tables c.in_ok-profile.ensures.samples
     c.in_ok-sum_hashed_on.ensures
