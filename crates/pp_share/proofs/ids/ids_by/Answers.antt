@@ -6,8 +6,8 @@ use Rattle.pp_share.proofs.ids.ids_by.Goals as goal
 -- no id changes
 pub returns-then-are_in_place : goal.returns-then-are_in_place
 returns-then-are_in_place c =
-    let numbered = subst AreNumbered c.as_slice.ensures c.if-are_in_place.ensures in
-    let long = ap length c.as_slice-_count.ensures in
+    let numbered = subst AreNumbered c.as_slice-2.ensures c.if-are_in_place.ensures in
+    let long = ap length c.as_slice.ensures in
     record {
       ids = λ id some within. sym (id_stays c.args.ids numbered id (some, within));
       texts = λ i is. text_stays c.args.ids (omega (arith, long)) numbered i is;
