@@ -27,7 +27,7 @@ use Rattle.pp_share.specs.Renumbered.{renumbered_sample, renumbered_type}
 use Rattle.pp_merge.specs.Joined.{behind_ids, moved_behind, sizes_of, no_sizes, first_text, chained, join_from}
 use Rattle.pp_share.proofs.Renaming.{maps_agree, same_type_text}
 use Rattle.pp_share.proofs.JoinLemmas.{get_or-front, behind_in, behind_past}
-use Rattle.pp_merge.proofs.JoinedTables.{HasIds, Holds, words, own_samples, own_mappings}
+use Rattle.pp_merge.proofs.JoinedTables.{HasIds, Stands, Holds, words, own_samples, own_mappings}
 use Rattle.pp_share.proofs.EntryLemmas.{index_next}
 use Rattle.pp_share.proofs.SharedFunctions.{text_laws}
 
@@ -41,40 +41,46 @@ pub join_from-append : (a : Profile) (qs : List Profile) (q : Profile)
 join_from-append a [] q = refl
 join_from-append a (r ∷ qs) q = join_from-append (chained a (moved_behind (sizes_of a) r)) qs q
 
+-- A list begins with these entries.
+pub record Begins {A : Type 0} (front all : List A) : Type 0 where
+  pub more : List A
+  pub is : all ≡ front ++ more
+
+begins_all : {A : Type 0} (xs : List A) → Begins xs xs
+begins_all xs = record { more = []; is = sym (append-nil xs) }
+
+begins_less : {A : Type 0} (xs ys : List A) {all : List A} → Begins (xs ++ ys) all → Begins xs all
+begins_less xs ys begins = record { more = ys ++ begins.more; is = begins.is ∙ append_assoc xs ys begins.more }
+
+-- what comes next stands behind what is in front, and what is first behind nothing
+stands_next : {A : Type 0} (xs ys : List A) {all : List A} → Begins (xs ++ ys) all → Stands (length xs) ys all
+stands_next xs ys begins = record { before = xs; behind = begins.more; long = refl; is = begins.is ∙ append_assoc xs ys begins.more }
+
+stands_first : {A : Type 0} (xs : List A) {all : List A} → Begins xs all → Stands 0 xs all
+stands_first xs begins = record { before = []; behind = begins.more; long = refl; is = begins.is }
+
 -- The tables of the first profile stand in front in the second one.
 pub record Extends (a b : Profile) : Type 0 where
-  pub texts_more : List (List ℕ)
-  pub mappings_more : List Mapping
-  pub functions_more : List Function
-  pub locations_more : List Location
-  pub texts : b.text ≡ a.text ++ texts_more
-  pub mappings : b.mapping ≡ a.mapping ++ mappings_more
-  pub functions : b.function ≡ a.function ++ functions_more
-  pub locations : b.location ≡ a.location ++ locations_more
+  pub texts : Begins a.text b.text
+  pub mappings : Begins a.mapping b.mapping
+  pub functions : Begins a.function b.function
+  pub locations : Begins a.location b.location
 
 pub extends_from : (a : Profile) (qs : List Profile) → Extends a (join_from a qs)
 extends_from a [] = record {
-  texts_more = [];
-  mappings_more = [];
-  functions_more = [];
-  locations_more = [];
-  texts = sym (append-nil a.text);
-  mappings = sym (append-nil a.mapping);
-  functions = sym (append-nil a.function);
-  locations = sym (append-nil a.location);
+  texts = begins_all a.text;
+  mappings = begins_all a.mapping;
+  functions = begins_all a.function;
+  locations = begins_all a.location;
 }
 extends_from a (q ∷ qs) =
     let b = moved_behind (sizes_of a) q in
     let rest = extends_from (chained a b) qs in
     record {
-      texts_more = b.text ++ rest.texts_more;
-      mappings_more = b.mapping ++ rest.mappings_more;
-      functions_more = b.function ++ rest.functions_more;
-      locations_more = b.location ++ rest.locations_more;
-      texts = rest.texts ∙ append_assoc a.text b.text rest.texts_more;
-      mappings = rest.mappings ∙ append_assoc a.mapping b.mapping rest.mappings_more;
-      functions = rest.functions ∙ append_assoc a.function b.function rest.functions_more;
-      locations = rest.locations ∙ append_assoc a.location b.location rest.locations_more;
+      texts = begins_less a.text b.text rest.texts;
+      mappings = begins_less a.mapping b.mapping rest.mappings;
+      functions = begins_less a.function b.function rest.functions;
+      locations = begins_less a.location b.location rest.locations;
     }
 
 -- the profile that comes next stands in what all are joined to
@@ -83,45 +89,22 @@ holds_next a q qs =
     let b = moved_behind (sizes_of a) q in
     let rest = extends_from (chained a b) qs in
     record {
-      texts_before = a.text;
-      texts_after = rest.texts_more;
-      mappings_before = a.mapping;
-      mappings_after = rest.mappings_more;
-      functions_before = a.function;
-      functions_after = rest.functions_more;
-      locations_before = a.location;
-      locations_after = rest.locations_more;
-      texts_long = refl;
-      mappings_long = refl;
-      functions_long = refl;
-      locations_long = refl;
-      texts = rest.texts ∙ append_assoc a.text b.text rest.texts_more;
-      mappings = rest.mappings ∙ append_assoc a.mapping b.mapping rest.mappings_more;
-      functions = rest.functions ∙ append_assoc a.function b.function rest.functions_more;
-      locations = rest.locations ∙ append_assoc a.location b.location rest.locations_more;
+      texts = stands_next a.text b.text rest.texts;
+      mappings = stands_next a.mapping b.mapping rest.mappings;
+      functions = stands_next a.function b.function rest.functions;
+      locations = stands_next a.location b.location rest.locations;
     }
 
 -- the first profile does too
 pub holds_first : (p : Profile) (ps : List Profile) → Holds no_sizes p (join_from (moved_behind no_sizes p) ps)
 holds_first p ps =
-    let rest = extends_from (moved_behind no_sizes p) ps in
+    let b = moved_behind no_sizes p in
+    let rest = extends_from b ps in
     record {
-      texts_before = [];
-      texts_after = rest.texts_more;
-      mappings_before = [];
-      mappings_after = rest.mappings_more;
-      functions_before = [];
-      functions_after = rest.functions_more;
-      locations_before = [];
-      locations_after = rest.locations_more;
-      texts_long = refl;
-      mappings_long = refl;
-      functions_long = refl;
-      locations_long = refl;
-      texts = rest.texts;
-      mappings = rest.mappings;
-      functions = rest.functions;
-      locations = rest.locations;
+      texts = stands_first b.text rest.texts;
+      mappings = stands_first b.mapping rest.mappings;
+      functions = stands_first b.function rest.functions;
+      locations = stands_first b.location rest.locations;
     }
 
 -- no table of each profile has an entry with the id 0
@@ -206,7 +189,7 @@ module _ (get : Profile → ℤ)
       ext_next = subst (Extends (chained a (moved_behind (sizes_of a) q))) is (extends_from (chained a (moved_behind (sizes_of a) q)) qs)
 
       same : text_of final (get a) ≡ text_of a (get a)
-      same = ap (λ t. get_or t (text_number (get a)) []) ext.texts ∙ get_or-front a.text ext.texts_more (text_number (get a)) [] inside
+      same = ap (λ t. get_or t (text_number (get a)) []) ext.texts.is ∙ get_or-front a.text ext.texts.more (text_number (get a)) [] inside
 
       by : (b : Bool) → bytes_eq (text_of a (get a)) [] ≡ b
           → (text_number (get (chained a (moved_behind (sizes_of a) q))) < length (a.text ++ q.text)
@@ -215,7 +198,7 @@ module _ (get : Profile → ℤ)
       by true e follow =
           let taken : get (chained a (moved_behind (sizes_of a) q)) ≡ (behind_ids (sizes_of a) q).text (get q) =
           chains a q ∙ ap (λ b. if b then (behind_ids (sizes_of a) q).text (get q) else get a) e in
-          let long = ap length ext_next.texts ∙ length-append (a.text ++ q.text) ext_next.texts_more in
+          let long = ap length ext_next.texts.is ∙ length-append (a.text ++ q.text) ext_next.texts.more in
           let below = index_in (sizes_of a) q (length final.text) (omega (arith, long, length-append a.text q.text)) few (omega (arith, inside)) (get q) in
           follow (subst (λ i. text_number i < length (a.text ++ q.text)) (sym taken) (omega (arith, below, length-append a.text q.text)))
           ∙ (λ j. first_nonempty ((ap (text_of final) taken ∙ words (sizes_of a) q final (subst (Holds (sizes_of a) q) is (holds_next a q qs)) ids.0 empty few (get q)) j ∷ map (λ q. text_of q (get q)) qs))
@@ -234,7 +217,7 @@ module _ (get : Profile → ℤ)
       → first_nonempty (text_of final (get (join_from (moved_behind no_sizes p) ps)) ∷ []) ≡ first_nonempty (map (λ q. text_of q (get q)) (p ∷ ps))
   first_all p ps moved is ids some =
       let ext = subst (Extends (moved_behind no_sizes p)) is (extends_from (moved_behind no_sizes p) ps) in
-      let long = ap length ext.texts ∙ length-append p.text ext.texts_more in
+      let long = ap length ext.texts.is ∙ length-append p.text ext.texts.more in
       let below = index_in no_sizes p (length final.text) (omega (arith, long)) few (omega (arith, some)) (get p) in
       first_from (moved_behind no_sizes p) ps is ids.1 (subst (λ i. text_number i < length p.text) (sym moved) (omega (arith, below)))
       ∙ (λ j. first_nonempty ((ap (text_of final) moved ∙ words no_sizes p final (subst (Holds no_sizes p) is (holds_first p ps)) ids.0 empty few (get p)) j ∷ map (λ q. text_of q (get q)) ps))
@@ -260,12 +243,12 @@ module _ (p : Profile) (ps : List Profile) (ids : AllHaveIds (p ∷ ps)) (some :
   pub whole_some : 1 ≤ length final.text
   whole_some =
       let ext = extends_from first ps in
-      let long = ap length ext.texts ∙ length-append p.text ext.texts_more in omega (arith, long, some)
+      let long = ap length ext.texts.is ∙ length-append p.text ext.texts.more in omega (arith, long, some)
 
   pub whole_empty : get_or final.text 0 [] ≡ []
   whole_empty =
       let ext = extends_from first ps in
-      ap (λ t. get_or t 0 []) ext.texts ∙ get_or-front p.text ext.texts_more 0 [] (omega (arith, some)) ∙ starts
+      ap (λ t. get_or t 0 []) ext.texts.is ∙ get_or-front p.text ext.texts.more 0 [] (omega (arith, some)) ∙ starts
 
   mappings_all : mappings_of final ≡ all_mappings (p ∷ ps)
   mappings_all =

@@ -1,5 +1,6 @@
 -- The tables of profiles that are joined, as their references are read there.
-use Rattle.std.proofs.Common.{◌≡◌, ℕ, ◌+◌, ◌<◌, ℤ, List, [], ◌++◌, map, length, length-append, get_or, Option, None, Some, refl, sym, ap, ◌∙◌, inl, inr, arith}
+use Rattle.std.proofs.Common.{◌≡◌, ℕ, ◌+◌, ◌<◌, ℤ, List, [], ◌++◌, map, find, length, length-append, get_or, Option, None, Some, refl, sym, ap, ◌∙◌, inl, inr, arith}
+use Rattle.std.specs.Prelude.{◌==◌}
 use Rattle.std.specs.Option.{option_map, option_map_or, unwrap_or}
 use Rattle.std.proofs.lemmas.Bool.{cases_lt}
 use Rattle.std.proofs.lemmas.List.{length-map, map-append, get_or_past}
@@ -25,37 +26,46 @@ pub record HasIds (q : Profile) : Type 0 where
   pub functions : NoneZero (λ (f : Function). f.id) q.function
   pub locations : NoneZero (λ (l : Location). l.id) q.location
 
+-- A list has these entries, behind as many others as `after` says.
+pub record Stands {A : Type 0} (after : ℕ) (own all : List A) : Type 0 where
+  pub before : List A
+  pub behind : List A
+  pub long : length before ≡ after
+  pub is : all ≡ before ++ (own ++ behind)
+
 -- The joined profile has the tables of one profile, as it stands behind tables of these sizes.
 pub record Holds (after : Sizes) (q joined : Profile) : Type 0 where
-  pub texts_before : List (List ℕ)
-  pub texts_after : List (List ℕ)
-  pub mappings_before : List Mapping
-  pub mappings_after : List Mapping
-  pub functions_before : List Function
-  pub functions_after : List Function
-  pub locations_before : List Location
-  pub locations_after : List Location
-  pub texts_long : length texts_before ≡ after.text
-  pub mappings_long : length mappings_before ≡ after.mapping
-  pub functions_long : length functions_before ≡ after.function
-  pub locations_long : length locations_before ≡ after.location
-  pub texts : joined.text ≡ texts_before ++ (q.text ++ texts_after)
-  pub mappings : joined.mapping ≡ mappings_before ++ (map (renumbered_mapping (behind_ids after q)) q.mapping ++ mappings_after)
-  pub functions : joined.function ≡ functions_before ++ (map (renumbered_function (behind_ids after q)) q.function ++ functions_after)
-  pub locations : joined.location ≡ locations_before ++ (map (renumbered_location (behind_ids after q)) q.location ++ locations_after)
+  pub texts : Stands after.text q.text joined.text
+  pub mappings : Stands after.mapping (map (renumbered_mapping (behind_ids after q)) q.mapping) joined.mapping
+  pub functions : Stands after.function (map (renumbered_function (behind_ids after q)) q.function) joined.function
+  pub locations : Stands after.location (map (renumbered_location (behind_ids after q)) q.location) joined.location
 
-map-three : {A B : Type 0} (f : A → B) (xs ys zs : List A) → map f (xs ++ (ys ++ zs)) ≡ map f xs ++ (map f ys ++ map f zs)
-map-three f xs ys zs = map-append f xs (ys ++ zs) ∙ ap (λ l. map f xs ++ l) (map-append f ys zs)
+-- how long the list is
+pub stands_long : {A : Type 0} {after : ℕ} {own all : List A} (stands : Stands after own all) → length all ≡ after + (length own + length stands.behind)
+stands_long {own = own} stands =
+    ap length stands.is ∙ length-append stands.before (own ++ stands.behind) ∙ (λ j. stands.long j + length-append own stands.behind j)
+
+-- What is read of a table at the new place of an id is what is said of the entry with the id, where entries that change say the same.
+found_there : {A D : Type 0} (id_of : A → ℕ) (change : A → A) (there here : A → D) → ((x : A) → there (change x) ≡ here x) → (items : List A) → NoneZero id_of items
+    → {after : ℕ} {all : List A} → Stands after (map change items) all → (id : ℕ)
+    → place_read (map there all) (behind_id after (length (map id_of items)) (place_id (map id_of items) id)) ≡ option_map here (find (λ x. id_of x == id) items)
+found_there id_of change there here same items none stands id =
+    (λ j. place_read (table j) (behind_id (before j) (length (map id_of items)) (place_id (map id_of items) id)))
+    ∙ found_behind id_of items here (map there stands.before) (map there stands.behind) none id
+  where
+    table : map there _ ≡ map there stands.before ++ (map here items ++ map there stands.behind)
+    table =
+        ap (map there) stands.is ∙ map-append there stands.before (map change items ++ stands.behind)
+        ∙ ap (λ l. map there stands.before ++ l) (map-append there (map change items) stands.behind)
+        ∙ ap (λ l. map there stands.before ++ (l ++ map there stands.behind)) (maps_agree there change here same items)
+
+    before : _ ≡ length (map there stands.before)
+    before = sym (length-map stands.before there ∙ stands.long)
 
 module _ (after : Sizes) (q joined : Profile) (holds : Holds after q joined) (ids : HasIds q)
     (empty : get_or joined.text 0 [] ≡ []) (few : length joined.text < 4611686018427387904) where
   abbrev by : NewIds
   by = behind_ids after q
-
-  long_T : length joined.text ≡ after.text + (length q.text + length holds.texts_after)
-  long_T =
-      ap length holds.texts ∙ length-append holds.texts_before (q.text ++ holds.texts_after)
-      ∙ (λ j. holds.texts_long j + length-append q.text holds.texts_after j)
 
   pub words : (i : ℤ) → text_of joined (by.text i) ≡ text_of q i
   words i = elim (cases_lt (text_number i) (length q.text)) as (λ _. text_of joined (by.text i) ≡ text_of q i) [
@@ -64,41 +74,22 @@ module _ (after : Sizes) (q joined : Profile) (holds : Holds after q joined) (id
         let here : behind_id after.text (length q.text) (text_number i + 1) ≡ after.text + (text_number i + 1) =
         behind_in after.text (length q.text) (text_number i + 1) (λ e. let none : text_number i + 1 ≡ 0 = e in omega (arith, none)) (omega (arith, within)) in
         let next : after.text + (text_number i + 1) ≡ after.text + text_number i + 1 = omega arith in
-        ap (text_of joined) (ap index_of_id (here ∙ next) ∙ index_next (after.text + text_number i) (omega (arith, few, long_T, within)))
-        ∙ (λ j. get_or (holds.texts j) (sym holds.texts_long j + text_number i) [])
-        ∙ get_or-behind holds.texts_before q.text holds.texts_after (text_number i) [] within
+        let long = stands_long holds.texts in
+        ap (text_of joined) (ap index_of_id (here ∙ next) ∙ index_next (after.text + text_number i) (omega (arith, few, long, within)))
+        ∙ (λ j. get_or (holds.texts.is j) (sym holds.texts.long j + text_number i) [])
+        ∙ get_or-behind holds.texts.before q.text holds.texts.behind (text_number i) [] within
     | inr past ↦
         ap (text_of joined) (ap index_of_id (behind_past after.text (length q.text) (text_number i + 1) (omega (arith, past))))
         ∙ empty ∙ sym (get_or_past q.text (text_number i) [] past)
   ]
 
-  functions_are : functions_of joined ≡ map (function_text joined) holds.functions_before ++ (map (function_text q) q.function ++ map (function_text joined) holds.functions_after)
-  functions_are =
-      ap (map (function_text joined)) holds.functions ∙ map-three (function_text joined) holds.functions_before _ holds.functions_after
-      ∙ ap (λ l. map (function_text joined) holds.functions_before ++ (l ++ map (function_text joined) holds.functions_after))
-      (maps_agree (function_text joined) (renumbered_function by) (function_text q) (same_function_text by q joined words) q.function)
-
   pub functions_found : (id : ℕ) → function_placed joined (by.function id) ≡ function_found q id
   functions_found id =
-      (λ j. place_read (functions_are j) (behind_id (before j) (length (map (λ (f : Function). f.id) q.function)) (place_id (map (λ f. f.id) q.function) id)))
-      ∙ found_behind (λ f. f.id) q.function (function_text q) (map (function_text joined) holds.functions_before) (map (function_text joined) holds.functions_after) ids.functions id
-    where
-      before : after.function ≡ length (map (function_text joined) holds.functions_before)
-      before = sym (length-map holds.functions_before (function_text joined) ∙ holds.functions_long)
-
-  mappings_are : mappings_of joined ≡ map (mapping_text joined) holds.mappings_before ++ (map (mapping_text q) q.mapping ++ map (mapping_text joined) holds.mappings_after)
-  mappings_are =
-      ap (map (mapping_text joined)) holds.mappings ∙ map-three (mapping_text joined) holds.mappings_before _ holds.mappings_after
-      ∙ ap (λ l. map (mapping_text joined) holds.mappings_before ++ (l ++ map (mapping_text joined) holds.mappings_after))
-      (maps_agree (mapping_text joined) (renumbered_mapping by) (mapping_text q) (same_mapping_text by q joined words) q.mapping)
+      found_there (λ f. f.id) (renumbered_function by) (function_text joined) (function_text q) (same_function_text by q joined words) q.function ids.functions holds.functions id
 
   pub mappings_found : (id : ℕ) → mapping_placed joined (by.mapping id) ≡ mapping_found q id
   mappings_found id =
-      (λ j. place_read (mappings_are j) (behind_id (before j) (length (map (λ (m : Mapping). m.id) q.mapping)) (place_id (map (λ m. m.id) q.mapping) id)))
-      ∙ found_behind (λ m. m.id) q.mapping (mapping_text q) (map (mapping_text joined) holds.mappings_before) (map (mapping_text joined) holds.mappings_after) ids.mappings id
-    where
-      before : after.mapping ≡ length (map (mapping_text joined) holds.mappings_before)
-      before = sym (length-map holds.mappings_before (mapping_text joined) ∙ holds.mappings_long)
+      found_there (λ m. m.id) (renumbered_mapping by) (mapping_text joined) (mapping_text q) (same_mapping_text by q joined words) q.mapping ids.mappings holds.mappings id
 
   -- the mappings of the profile, as they stand in the joined one
   pub own_mappings : map (mapping_text joined) (map (renumbered_mapping by) q.mapping) ≡ map (mapping_text q) q.mapping
@@ -111,22 +102,13 @@ module _ (after : Sizes) (q joined : Profile) (holds : Holds after q joined) (id
     abbrev here : Location → LocationText
     here = location_text merged (function_found q) (mapping_found q)
 
-    locations_are : locations_of merged joined ≡ map there holds.locations_before ++ (map here q.location ++ map there holds.locations_after)
-    locations_are =
-        ap (map there) holds.locations ∙ map-three there holds.locations_before _ holds.locations_after
-        ∙ ap (λ l. map there holds.locations_before ++ (l ++ map there holds.locations_after))
-        (maps_agree there (renumbered_location by) here
-        (same_location_text by (function_placed joined) (function_found q) functions_found merged (mapping_placed joined) (mapping_found q) mappings_found) q.location)
-
     locations_found : (id : ℕ) → location_placed merged joined (by.location id) ≡ location_found merged q id
     locations_found id =
-        (λ j. unwrap_or (place_read (locations_are j) (behind_id (before j) (length (map (λ (l : Location). l.id) q.location)) (place_id (map (λ l. l.id) q.location) id))) nowhere)
-        ∙ ap (λ o. unwrap_or o nowhere) (found_behind (λ l. l.id) q.location here (map there holds.locations_before) (map there holds.locations_after) ids.locations id)
+        ap (λ o. unwrap_or o nowhere)
+        (found_there (λ l. l.id) (renumbered_location by) there here
+        (same_location_text by (function_placed joined) (function_found q) functions_found merged (mapping_placed joined) (mapping_found q) mappings_found) q.location ids.locations holds.locations id)
         ∙ fused (location_with q id)
       where
-        before : after.location ≡ length (map there holds.locations_before)
-        before = sym (length-map holds.locations_before there ∙ holds.locations_long)
-
         fused : (o : Option Location) → unwrap_or (option_map here o) nowhere ≡ option_map_or here o nowhere
         fused None = refl
         fused (Some l) = refl

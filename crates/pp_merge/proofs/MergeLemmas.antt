@@ -46,7 +46,7 @@ use Rattle.pp_share.proofs.Lists.{all_mapped, all_both, all_filter}
 use Rattle.pp_share.proofs.SumLemmas.{length-total_of}
 use Rattle.pp_share.proofs.SampleKeyLemmas.{sum_by-map}
 use Rattle.pp_share.proofs.JoinLemmas.{behind_in}
-use Rattle.pp_merge.proofs.JoinedTables.{HasIds, Holds}
+use Rattle.pp_merge.proofs.JoinedTables.{HasIds, Holds, stands_long}
 use Rattle.pp_merge.proofs.JoinedAll.{rows, AllHaveIds, holds_next, holds_first, whole, whole_some, whole_empty, whole_gist, whole_duration, whole_rows, whole_types}
 use Rattle.pp_merge.proofs.SettledLemmas.{each_passes, no_column}
 use Rattle.pp_merge.proofs.WrittenValid.{valid_written}
@@ -152,11 +152,10 @@ module _ (final : Profile) where
       q.sample (by_recursion (λ (s : Sample). list_all (stands_in (location_ids q)) s.location_id ≡ true) q.sample
       (passes (λ (s : Sample). list_all (stands_in (location_ids q)) s.location_id) q.sample valid.sample_reference))
     where
-      long : length final.location ≡ after.location + (length q.location + length holds.locations_after)
+      long : length final.location ≡ after.location + (length q.location + length holds.locations.behind)
       long =
-          ap length holds.locations ∙ length-append holds.locations_before _
-          ∙ (λ j. holds.locations_long j + length-append (map (renumbered_location (behind_ids after q)) q.location) holds.locations_after j)
-          ∙ ap (λ n. after.location + (n + length holds.locations_after)) (length-map q.location (renumbered_location (behind_ids after q)))
+          stands_long holds.locations
+          ∙ ap (λ n. after.location + (n + length holds.locations.behind)) (length-map q.location (renumbered_location (behind_ids after q)))
 
       none_zero : AllByRecursion (λ x. x ≢ 0) (location_ids q)
       none_zero = all_mapped (λ x. x ≢ 0) (λ (l : Location). l.id) (λ (l : Location). l.id ≢ 0) (λ l is. is) q.location (has_ids q valid).locations
@@ -183,13 +182,9 @@ module _ (final : Profile) where
       q.sample (by_recursion (λ (s : Sample). list_all (label_has_texts q) s.label ≡ true) q.sample
       (passes (λ (s : Sample). list_all (label_has_texts q) s.label) q.sample valid.sample_text))
     where
-      long : length final.text ≡ after.text + (length q.text + length holds.texts_after)
-      long =
-          ap length holds.texts ∙ length-append holds.texts_before (q.text ++ holds.texts_after)
-          ∙ (λ j. holds.texts_long j + length-append q.text holds.texts_after j)
-
       here : (i : ℤ) → is_text q i ≡ true → is_text_of (length final.text) ((behind_ids after q).text i) ≡ true
       here i is =
+          let long = stands_long holds.texts in
           let below = text_below (length q.text) i is in
           let at : behind_id after.text (length q.text) (text_number i + 1) ≡ after.text + (text_number i + 1) =
           behind_in after.text (length q.text) (text_number i + 1) (λ e. let none : text_number i + 1 ≡ 0 = e in omega (arith, none)) (omega (arith, below)) in

@@ -24,9 +24,8 @@ use Rattle.pp_share.specs.Renumbered.{renumbered_location, renumbered_line}
 use Rattle.pp_share.specs.Shared.{by_functions, alike_functions, with_shared_functions}
 use Rattle.pp_share.proofs.Prefix.{all_tt}
 use Rattle.pp_model.proofs.LookupLemmas.{no_function}
-use Rattle.pp_model.proofs.FirstSightLemmas.{distinct-map, all-seen_after, distinct_apart}
 use Rattle.pp_share.proofs.DistinctLemmas.{distinct_same}
-use Rattle.pp_share.proofs.Agreement.{numbers-map}
+use Rattle.pp_share.proofs.Agreement.{IsTold, once_said, ids_said, left_apart, left_within}
 use Rattle.pp_share.proofs.Deciding.{function_decides}
 use Rattle.pp_share.proofs.Tables.{IsRef, places_tell}
 use Rattle.pp_share.proofs.Lists.{all_mapped}
@@ -60,26 +59,20 @@ module _ (p : Profile) (apart : IsDistinct bytes_eq p.text) (within : AllByRecur
   abbrev given : List ℕ
   given = ids alike_functions p.function
 
-  agree : (f g : Function) → FunctionIn (length p.text) f → FunctionIn (length p.text) g
-      → same_function (function_text p f) (function_text p g) ≡ alike_functions f g
-  agree f g in_f in_g =
-      (λ t. text_tells p apart f.name g.name in_f.name in_g.name t
-      && (text_tells p apart f.system_name g.system_name in_f.system_name in_g.system_name t
-      && (text_tells p apart f.filename g.filename in_f.filename in_g.filename t && int_eq f.start_line g.start_line)))
-
-  laws : IsEquivalence same_function
-  laws = decided same_function function_decides
-
-  table : functions_of r ≡ distinct same_function (functions_of p)
-  table = sym (distinct-map alike_functions same_function (function_text p) (FunctionIn (length p.text)) agree p.function within)
-
-  given_is : given ≡ ids same_function (functions_of p)
-  given_is = ap (map (λ n. n + 1)) (sym (numbers-map alike_functions same_function (function_text p) (FunctionIn (length p.text)) agree p.function within))
+  told : IsTold alike_functions same_function (function_text p) (FunctionIn (length p.text)) p.function
+  told = record {
+    laws = decided same_function function_decides;
+    agree = λ f g in_f in_g t.
+        text_tells p apart f.name g.name in_f.name in_g.name t
+        && (text_tells p apart f.system_name g.system_name in_f.system_name in_g.system_name t
+        && (text_tells p apart f.filename g.filename in_f.filename in_g.filename t && int_eq f.start_line g.start_line));
+    within = within;
+  }
 
   refs : (id : ℕ) → function_placed r (listed_id given id) ≡ function_placed p id
   refs id =
-      (λ j. place_read (table j) (listed_id (given_is j) id))
-      ∙ read_same same_function laws.refl (functions_of p) none_text function_decides id
+      (λ j. place_read (once_said told j) (listed_id (ids_said told j) id))
+      ∙ read_same same_function told.laws.refl (functions_of p) none_text function_decides id
 
   same_locations : (merged : MappingText → MappingText) → locations_of merged r ≡ locations_of merged p
   same_locations merged =
@@ -97,10 +90,10 @@ module _ (p : Profile) (apart : IsDistinct bytes_eq p.text) (within : AllByRecur
   })
 
   pub functions_apart : IsDistinct same_function (functions_of r)
-  functions_apart = subst (IsDistinct same_function) (sym table) (distinct_apart same_function laws (functions_of p))
+  functions_apart = left_apart told
 
   pub functions_kept : AllByRecursion (FunctionIn (length p.text)) r.function
-  functions_kept = all-seen_after alike_functions same_function (function_text p) (FunctionIn (length p.text)) agree [] p.function tt within
+  functions_kept = left_within told
 
   alike_self : (f : Function) → alike_functions f f ≡ true
   alike_self f = (λ t. int_same f.name t && (int_same f.system_name t && (int_same f.filename t && int_same f.start_line t)))
@@ -116,18 +109,16 @@ module _ (p : Profile) (apart : IsDistinct bytes_eq p.text) (within : AllByRecur
 
 -- The profile with each comment once.
 module _ (p : Profile) (apart : IsDistinct bytes_eq p.text) (within : AllByRecursion (InTexts (length p.text)) p.comment) where
-  once : distinct bytes_eq (map (text_of p) p.comment) ≡ map (text_of p) (distinct int_eq p.comment)
-  once = distinct-map int_eq bytes_eq (text_of p) (InTexts (length p.text)) (text_tells p apart) p.comment within
+  noted : IsTold int_eq bytes_eq (text_of p) (InTexts (length p.text)) p.comment
+  noted = record { laws = text_laws; agree = text_tells p apart; within = within }
 
   pub comments_once : distinct bytes_eq (map (text_of p) (distinct int_eq p.comment)) ≡ map (text_of p) (distinct int_eq p.comment)
-  comments_once =
-      ap (distinct bytes_eq) (sym once) ∙ distinct_same bytes_eq text_laws (distinct bytes_eq (map (text_of p) p.comment)) (distinct_apart bytes_eq text_laws (map (text_of p) p.comment))
-      ∙ once
+  comments_once = distinct_same bytes_eq text_laws (map (text_of p) (distinct int_eq p.comment)) (left_apart noted)
 
   pub comments_same : distinct bytes_eq (map (text_of p) (distinct int_eq p.comment) ++ []) ≡ distinct bytes_eq (map (text_of p) p.comment ++ [])
   comments_same =
-      ap (distinct bytes_eq) (append-nil (map (text_of p) (distinct int_eq p.comment))) ∙ comments_once ∙ sym once
+      ap (distinct bytes_eq) (append-nil (map (text_of p) (distinct int_eq p.comment))) ∙ comments_once ∙ once_said noted
       ∙ ap (distinct bytes_eq) (sym (append-nil (map (text_of p) p.comment)))
 
   pub comments_in : AllByRecursion (InTexts (length p.text)) (distinct int_eq p.comment)
-  comments_in = all-seen_after int_eq bytes_eq (text_of p) (InTexts (length p.text)) (text_tells p apart) [] p.comment tt within
+  comments_in = left_within noted

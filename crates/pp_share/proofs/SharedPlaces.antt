@@ -8,7 +8,7 @@ use Rattle.std.specs.List.{AllByRecursion, IsDistinct}
 use Rattle.std.specs.Str.{bytes_eq}
 use Rattle.std.specs.Cmp.{IsEquivalence, nat_eq_equiv, decided}
 use Rattle.std.specs.Cmp.Lexicographic.{lists_equiv, pointwise}
-use Rattle.std.proofs.lemmas.List.{length-map}
+use Rattle.std.proofs.lemmas.List.{length-map, map-id}
 use Rattle.std.proofs.lemmas.List.Folds.{find_at}
 use Rattle.std.proofs.lemmas.Option.{slice_get-get_or}
 use Rattle.std.proofs.lemmas.Simd.{map-map}
@@ -29,8 +29,8 @@ use Rattle.pp_share.specs.PlaceKeys.{mapping_key, start_at, distant, near, equal
 use Rattle.pp_share.specs.Renumbered.{renumbered_sample, renumbered_label}
 use Rattle.pp_share.specs.Shared.{by_locations, alike_mappings, distant_locations, with_shared_places}
 use Rattle.pp_model.proofs.LookupLemmas.{no_mapping}
-use Rattle.pp_model.proofs.FirstSightLemmas.{distinct-map, all-seen_after, distinct_apart}
-use Rattle.pp_share.proofs.Agreement.{numbers-map}
+use Rattle.pp_model.proofs.FirstSightLemmas.{distinct_apart}
+use Rattle.pp_share.proofs.Agreement.{IsTold, once_said, ids_said, left_apart, left_within}
 use Rattle.pp_share.proofs.Deciding.{function_decides, mapping_decides, location_decides}
 use Rattle.pp_share.proofs.MergedMapping.{mapping_laws}
 use Rattle.pp_share.proofs.Tables.{Names, IsRef, read-map}
@@ -128,18 +128,19 @@ module _ (p : Profile) (has : HasFunctions p) where
       ap (λ b. if b then text_of p m.file else text_of p m.build_id) (empty_tells m.build_id is.build_id)
       ∙ chosen_text (int_eq m.build_id (pos 0)) m
 
-  agree_M : (a b : Mapping) → MappingIn n a → MappingIn n b → same_mapping (mapping_text p a) (mapping_text p b) ≡ alike_mappings a b
-  agree_M a b in_a in_b =
-      (λ t. nat_eq (a.limit - a.start) (b.limit - b.start) && (nat_eq a.offset b.offset
-      && ((λ j. bytes_eq (identity_is a in_a j) (identity_is b in_b j))
-      ∙ text_tells p has.texts_apart (mapping_key a).identity (mapping_key b).identity
-      (chosen_in (int_eq a.build_id (pos 0)) a in_a) (chosen_in (int_eq b.build_id (pos 0)) b in_b)) t))
+  told_M : IsTold alike_mappings same_mapping (mapping_text p) (MappingIn n) p.mapping
+  told_M = record {
+    laws = mapping_laws;
+    agree = λ a b in_a in_b t.
+        nat_eq (a.limit - a.start) (b.limit - b.start) && (nat_eq a.offset b.offset
+        && ((λ j. bytes_eq (identity_is a in_a j) (identity_is b in_b j))
+        ∙ text_tells p has.texts_apart (mapping_key a).identity (mapping_key b).identity
+        (chosen_in (int_eq a.build_id (pos 0)) a in_a) (chosen_in (int_eq b.build_id (pos 0)) b in_b)) t);
+    within = has.mappings;
+  }
 
   table_M : mappings_of r ≡ distinct same_mapping MT
-  table_M = sym (distinct-map alike_mappings same_mapping (mapping_text p) (MappingIn n) agree_M p.mapping has.mappings)
-
-  mids_are : mids ≡ ids same_mapping MT
-  mids_are = ap (map (λ k. k + 1)) (sym (numbers-map alike_mappings same_mapping (mapping_text p) (MappingIn n) agree_M p.mapping has.mappings))
+  table_M = once_said told_M
 
   first_kept : (k : ℕ) → k < length MT → slice_get (distinct same_mapping MT) (place_of same_mapping (distinct same_mapping MT) (get_or MT k none_mapping))
       ≡ Some (first_alike MT (get_or MT k none_mapping))
@@ -153,7 +154,7 @@ module _ (p : Profile) (has : HasFunctions p) where
 
   alike_read : (id : ℕ) → mapping_placed r (listed_id mids id) ≡ option_map (first_alike MT) (mapping_placed p id)
   alike_read id =
-      (λ j. place_read (table_M j) (listed_id (mids_are j) id))
+      (λ j. place_read (table_M j) (listed_id (ids_said told_M j) id))
       ∙ read_kept same_mapping mapping_laws.refl MT none_mapping (distinct same_mapping MT) (first_alike MT) refl first_kept id
 
   alike_self : (m : Mapping) → alike_mappings m m ≡ true
@@ -161,9 +162,7 @@ module _ (p : Profile) (has : HasFunctions p) where
       (λ t. nat_eq_equiv.refl (m.limit - m.start) t && (nat_eq_equiv.refl m.offset t && int_same (mapping_key m).identity t))
 
   pub mappings_apart : IsDistinct equal_mapping (mappings_of r)
-  mappings_apart =
-      subst (IsDistinct equal_mapping) (sym table_M)
-      (apart_finer same_mapping equal_mapping finer (distinct same_mapping MT) (distinct_apart same_mapping mapping_laws MT))
+  mappings_apart = apart_finer same_mapping equal_mapping finer (mappings_of r) (left_apart told_M)
     where
       finer : (a b : MappingText) → same_mapping a b ≡ false → equal_mapping a b ≡ false
       finer a b other = by (equal_mapping a b) refl
@@ -175,7 +174,7 @@ module _ (p : Profile) (has : HasFunctions p) where
               absurd (true≢false (sym (ap (same_mapping a) (sym one) ∙ mapping_laws.refl a) ∙ other))
 
   pub mappings_kept : AllByRecursion (MappingIn n) r.mapping
-  mappings_kept = all-seen_after alike_mappings same_mapping (mapping_text p) (MappingIn n) agree_M [] p.mapping tt has.mappings
+  mappings_kept = left_within told_M
 
   -- Locations.
   abbrev FP : ℕ → Option FunctionText
@@ -235,17 +234,17 @@ module _ (p : Profile) (has : HasFunctions p) where
       (subst (λ k. IsRef k a.function_id) long_F ra) (subst (λ k. IsRef k b.function_id) long_F rb) t
       && (int_eq a.line b.line && int_eq a.column b.column))
 
-  agree_L : (a b : Location) → Key a → Key b → same_location (key_text a) (key_text b) ≡ same_place a b
-  agree_L a b in_a in_b =
-      (λ t. refs_tell equal_mapping laws_M (mappings_of r) none_mapping mappings_apart a.mapping_id b.mapping_id
-      (subst (λ k. IsRef k a.mapping_id) long_M in_a.mapping) (subst (λ k. IsRef k b.mapping_id) long_M in_b.mapping) t
-      && (nat_eq a.address b.address
-      && ((pointwise_as same_line equal_line (line_text FP) (λ line. line) (λ (line : Line). IsRef (length p.function) line.function_id) line_tells a.line b.line in_a.lines in_b.lines
-      ∙ (λ j. pointwise equal_line (same_list a.line j) (same_list b.line j))) t && beq a.folded b.folded)))
-    where
-      same_list : (xs : List Line) → map (λ line. line) xs ≡ xs
-      same_list [] = refl
-      same_list (x ∷ xs) = ap (λ l. x ∷ l) (same_list xs)
+  told_L : IsTold same_place same_location key_text Key keys
+  told_L = record {
+    laws = laws_L;
+    agree = λ a b in_a in_b t.
+        refs_tell equal_mapping laws_M (mappings_of r) none_mapping mappings_apart a.mapping_id b.mapping_id
+        (subst (λ k. IsRef k a.mapping_id) long_M in_a.mapping) (subst (λ k. IsRef k b.mapping_id) long_M in_b.mapping) t
+        && (nat_eq a.address b.address
+        && ((pointwise_as same_line equal_line (line_text FP) (λ line. line) (λ (line : Line). IsRef (length p.function) line.function_id) line_tells a.line b.line in_a.lines in_b.lines
+        ∙ (λ j. pointwise equal_line (map-id a.line j) (map-id b.line j))) t && beq a.folded b.folded));
+    within = keys_in;
+  }
 
   described : map key_text keys ≡ locations_of (first_alike MT) p
   described = maps_agree key_text (distant p.mapping (By mids)) (location_text (first_alike MT) FP (mapping_placed p)) key_is p.location
@@ -254,7 +253,7 @@ module _ (p : Profile) (has : HasFunctions p) where
   kept = distinct same_place keys
 
   kept_in : AllByRecursion Key kept
-  kept_in = all-seen_after same_place same_location key_text Key agree_L [] keys tt keys_in
+  kept_in = left_within told_L
 
   near_is : (k : Location) → Key k → location_text (λ m. m) FP (mapping_placed r) (near r.mapping k) ≡ key_text k
   near_is k is = (λ j. record {
@@ -269,15 +268,13 @@ module _ (p : Profile) (has : HasFunctions p) where
   table_L =
       map-map (location_text (λ m. m) FP (mapping_placed r)) (near r.mapping) kept
       ∙ map_as (λ k. location_text (λ m. m) FP (mapping_placed r) (near r.mapping k)) key_text Key near_is kept kept_in
-      ∙ sym (distinct-map same_place same_location key_text Key agree_L keys keys_in) ∙ ap (distinct same_location) described
+      ∙ once_said told_L ∙ ap (distinct same_location) described
 
   abbrev lids : List ℕ
   lids = ids same_place keys
 
   lids_are : lids ≡ ids same_location (locations_of (first_alike MT) p)
-  lids_are =
-      ap (map (λ k. k + 1)) (sym (numbers-map same_place same_location key_text Key agree_L keys keys_in))
-      ∙ ap (ids same_location) described
+  lids_are = ids_said told_L ∙ ap (ids same_location) described
 
   refs_L : (id : ℕ) → location_placed (λ m. m) r (listed_id lids id) ≡ location_placed (first_alike MT) p id
   refs_L id =

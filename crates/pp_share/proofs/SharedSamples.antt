@@ -7,7 +7,7 @@ use Rattle.std.specs.List.{AllByRecursion, IsDistinct}
 use Rattle.std.specs.Str.{bytes_eq}
 use Rattle.std.specs.Cmp.{IsEquivalence, decided}
 use Rattle.std.specs.Cmp.Lexicographic.{pointwise}
-use Rattle.std.proofs.lemmas.List.{length-map}
+use Rattle.std.proofs.lemmas.List.{length-map, map-id}
 use Rattle.std.proofs.lemmas.Simd.{map-map}
 use Rattle.pp_model.specs.declared.profile.Label.{Label}
 use Rattle.pp_model.specs.declared.profile.Profile.{Profile}
@@ -71,16 +71,12 @@ module _ (p : Profile) (texts_apart : IsDistinct bytes_eq p.text) (apart : IsDis
       && (text_tells p texts_apart a.text b.text in_a.text in_b.text t
       && (int_eq a.num b.num && text_tells p texts_apart a.num_unit b.num_unit in_a.num_unit in_b.num_unit t)))
 
-  same_list : {A : Type 0} (xs : List A) → map (λ x. x) xs ≡ xs
-  same_list [] = refl
-  same_list (x ∷ xs) = ap (λ l. x ∷ l) (same_list xs)
-
   agree : (a b : Stack) → StackIn a → StackIn b → same_sample (stack_text a) (stack_text b) ≡ same_stack a b
   agree a b in_a in_b =
       (λ t. (pointwise_as same_location (λ i j. i == j) LP (λ i. i) (Names (length p.location)) location_tells a.0 b.0 in_a.locations in_b.locations
-      ∙ (λ j. pointwise (λ i k. i == k) (same_list a.0 j) (same_list b.0 j))) t
+      ∙ (λ j. pointwise (λ i k. i == k) (map-id a.0 j) (map-id b.0 j))) t
       && (pointwise_as same_label equal_label (label_text (text_of p)) (λ l. l) (LabelIn (length p.text)) label_tells a.1 b.1 in_a.labels in_b.labels
-      ∙ (λ j. pointwise equal_label (same_list a.1 j) (same_list b.1 j))) t)
+      ∙ (λ j. pointwise equal_label (map-id a.1 j) (map-id b.1 j))) t)
 
   abbrev items : List (Stack × List ℤ)
   items = map sample_item p.sample
