@@ -1,15 +1,13 @@
 -- Records that are read one after another, whatever bounds their number.
-use Rattle.std.proofs.Common.{◌≡◌, ℕ, zero, suc, ◌+◌, ◌-◌, ◌<◌, ◌≤◌, Bool, true, false, cond, List, [], ◌∷◌, length, drop, refl, sym, ap, ◌∙◌, arith}
-use Rattle.std.specs.Prelude.{Option, Some, None, Ok, Err, ℤ, pos, nat_lt, nat_le, ◌==◌, slice_get, slice_range, if◌then◌else◌}
-use Rattle.std.specs.Option.{ok_or, option_map_or}
+use Rattle.std.proofs.Common.{◌≡◌, ℕ, zero, suc, ◌+◌, ◌-◌, ◌<◌, ◌≤◌, Bool, true, false, List, [], length, drop, refl, sym, ap, ◌∙◌, arith}
+use Rattle.std.specs.Prelude.{Some, None, Ok, Err, ℤ, nat_lt, nat_le, ◌==◌, slice_range, if◌then◌else◌}
+use Rattle.std.specs.Option.{option_map_or}
 use Rattle.std.proofs.lemmas.Bool.{leb-true}
 use Rattle.std.proofs.lemmas.List.{length-take, length-drop}
-use Rattle.std.proofs.lemmas.Option.{slice_get_within}
 use Rattle.pp_legacy.specs.declared.fault.LegacyFault.{LegacyFault}
-use Rattle.pp_legacy.specs.declared.fault.LegacyKind.{LegacyKind}
 use Rattle.pp_legacy.specs.declared.fault.LegacyKind.TheVariants.{BadRecord, TooLarge}
 use Rattle.pp_legacy.specs.declared.records.Cursor.{Cursor}
-use Rattle.pp_legacy.specs.Steps.{Reading, fault_unless, fault_at}
+use Rattle.pp_legacy.specs.Steps.{Reading, fault_unless}
 use Rattle.pp_legacy.specs.Words.{word_at, behind_words, truncated}
 use Rattle.pp_legacy.specs.Records.{StackRecord, Entries, Found, in_front, trailer_at, entry_at, nanos_with, record_at, entries_in, entries_from}
 use Rattle.pp_base.specs.Results.{◌>>=◌}
@@ -18,14 +16,6 @@ use Rattle.pp_base.specs.Results.{◌>>=◌}
 first_read : {A B : Type 0} (r : Reading A) (f : A → Reading B) (y : B) → (r >>= f) ≡ Ok y → (x : A) × (r ≡ Ok x) × (f x ≡ Ok y)
 first_read (Ok x) f y is = (x, refl, is)
 first_read (Err e) f y is = cc
-
--- a word that was read is there
-word_within : (ws : List ℕ) (i w : ℕ) → word_at ws i ≡ Ok w → i < length ws
-word_within ws i w is = by (slice_get ws i) refl is
-  where
-    by : (o : Option ℕ) → slice_get ws i ≡ o → ok_or o (truncated ws) ≡ Ok w → i < length ws
-    by None here read = cc
-    by (Some v) here read = slice_get_within ws i v here
 
 -- the words that were passed are there
 behind_is : (ws : List ℕ) (i count next : ℕ) → behind_words ws i count ≡ Ok next → (next ≡ i + count) × (next ≤ length ws)

@@ -298,12 +298,6 @@ module _ (p : Profile) (ps : List Profile) (valid : AllByRecursion NoRuleFails (
   pub one_merged : written (totalled (length one.sample_type) (gist one)) ≡ merged p ps
   one_merged = (λ j. written (totalled (types_long j) (whole_gist p ps ids start.0 start.1 few j)))
 
-  pub merged_valid : NoRuleFails (merged p ps)
-  merged_valid = valid_written (contents p ps) (fits_contents p ps)
-
-  pub merged_compact : IsCompact (merged p ps)
-  merged_compact = compact_written (contents p ps)
-
 -- What a joined profile keeps to that is to be shared.
 pub record IsShareable (whole : Profile) : Type 0 where
   pub joined : IsJoined whole

@@ -10,11 +10,7 @@ use pp_model::Sample;
 
 /// The known hashes of the samples, if they are also those of the samples with their new ids: if no location and no text
 /// gets another id.
-pub fn kept_hashes(
-    known: Option<Hashes>,
-    samples: &[Sample],
-    by: &Renumbering,
-) -> Option<Hashes>
+pub fn kept_hashes(known: Option<Hashes>, samples: &[Sample], by: &Renumbering) -> Option<Hashes>
     requires { IfSome known (AreOwnHashes samples.now) }
     ensures { IfSome result (AreHashes (new_ids by.now) samples.now) }
 {
