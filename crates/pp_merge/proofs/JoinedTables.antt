@@ -13,7 +13,7 @@ use Rattle.pp_merge.specs.declared.join.Sizes.{Sizes}
 use Rattle.pp_share.specs.Behind.{behind_id}
 use Rattle.pp_share.specs.Ids.{place_id, index_of_id}
 use Rattle.pp_share.specs.Described.{MappingText, LocationText, function_text, mapping_text, location_text, sample_text, nowhere, function_found, mapping_found, location_found, samples_found}
-use Rattle.pp_share.specs.Placed.{functions_of, mappings_of, function_placed, mapping_placed, locations_of, location_placed}
+use Rattle.pp_share.specs.Placed.{function_placed, mapping_placed, location_placed}
 use Rattle.pp_share.specs.Renumbered.{NewIds, renumbered_sample, renumbered_function, renumbered_mapping, renumbered_location}
 use Rattle.pp_merge.specs.Joined.{behind_ids}
 use Rattle.pp_share.proofs.EntryLemmas.{index_next}

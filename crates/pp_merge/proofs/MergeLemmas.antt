@@ -1,5 +1,5 @@
 -- What follows where profiles can be merged: they can be joined, and what is left of them is what merging gives.
-use Rattle.std.proofs.Common.{◌≡◌, ◌≢◌, ℕ, ◌+◌, ◌<◌, ◌≤◌, Bool, true, false, true≢false, cond, not, ◌||◌, ◌&&◌, nat_lt, ℤ, pos, nat_abs, List, [], ◌∷◌, ◌++◌, map, filter, length, length-append, get_or, sum_by, Option, None, Some, refl, sym, ap, subst, ◌∙◌, inl, inr, if◌then◌else◌, arith}
+use Rattle.std.proofs.Common.{◌≡◌, ◌≢◌, ℕ, ◌+◌, ◌<◌, ◌≤◌, Bool, true, false, true≢false, cond, not, ◌||◌, ◌&&◌, nat_lt, ℤ, pos, nat_abs, List, [], ◌∷◌, map, filter, length, get_or, sum_by, Option, None, Some, refl, sym, ap, subst, ◌∙◌, inl, inr, if◌then◌else◌, arith}
 use Rattle.std.specs.Prelude.{◌==◌, position, Ok}
 use Rattle.std.specs.List.{All, AllByRecursion, flat_map, position_or_len, list_any, list_all, range_with_len}
 use Rattle.std.specs.Option.{option_map, option_or}

@@ -1,5 +1,5 @@
 -- A profile whose equal samples are added up says what it said, added up.
-use Rattle.std.proofs.Common.{◌≡◌, ℕ, ◌&&◌, ℤ, List, [], ◌∷◌, map, filter, length, refl, sym, ap, subst, ◌∙◌}
+use Rattle.std.proofs.Common.{◌≡◌, ℕ, ◌&&◌, ℤ, List, [], map, filter, length, refl, sym, ap, subst, ◌∙◌}
 use Rattle.std.specs.Prelude.{◌==◌}
 use Rattle.std.specs.Ordering.{int_eq}
 use Rattle.std.specs.Option.{unwrap_or}
