@@ -1,3 +1,4 @@
+pub mod AskingLemmas
 mod FilterLemmas
 mod GivingLemmas
 mod StopLemmas

@@ -1,14 +1,12 @@
 -- Where only patterns are asked, the matcher alone tells how it went, and nothing but want of memory stops the asking.
-use Rattle.std.proofs.Common.{◌≡◌, ℕ, Bool, true, false, List, Option, inl, inr, refl, ap}
+use Rattle.std.proofs.Common.{◌≡◌, List, Option, refl}
 use Rattle.std.specs.Prelude.{Result, Ok, Err, None}
-use Rattle.std.proofs.lemmas.Bool.{false≢true}
 use Rattle.pp_base.specs.Judges.{Answer}
 use Rattle.pp_desk.specs.declared.stop.Stop.{Stop}
 use Rattle.pp_desk.specs.declared.stop.Stop.TheVariants as stops
 use Rattle.pp_desk.specs.Asking.{Asking, ◌>>=◌}
-use Rattle.pp_desk.specs.Script.{Script, Give, Make, Step, WriteOut, WriteErr, ReadFile, WriteFile, Ask, NextLine}
-use Rattle.pp_desk.specs.Went.{Went, Ways, Goes, Halts, AtRest, after, parts}
-use Rattle.pp_desk.specs.World.{Told, World}
+use Rattle.pp_desk.specs.Went.{Went, Ways, Goes, Halts, parts}
+use Rattle.pp_desk.specs.World.{World}
 use Rattle.pp_desk.proofs.Quiet.{Only, only_then}
 use Rattle.pp_model.specs.declared.config.Config.{Config}
 use Rattle.pp_model.specs.declared.loaded.Loaded.{Loaded}
@@ -20,51 +18,8 @@ use Rattle.pp_pattern.proofs.AskQuiet.{only_asking, only_load, only_judge}
 use Rattle.pp_pseudo.specs.Basis.{framed_for}
 use Rattle.pp_filter.specs.declared.refusal.Refused.{Refused}
 use Rattle.pp_filter.specs.declared.refusal.Refused.TheVariants.{OfProfile, OfOption}
+use Rattle.pp_filter.proofs.AskingLemmas.{asks, goes_by, halts_by}
 use Rattle.pp_filter.specs.Asked.{Asks, told_by, load, verdicts, filter_loaded, filter, refusal_of}
-
--- a step that asks a pattern
-abbrev asks : Step → Bool
-asks (WriteOut bytes) = false
-asks (WriteErr bytes) = false
-asks (ReadFile path limit) = false
-asks (WriteFile path bytes) = false
-asks (Ask pattern) = true
-asks NextLine = false
-
--- the matcher tells no more where nothing has changed
-same_told : {old new : Told} → new ≡ old → told_by new.answers ≡ told_by old.answers
-same_told is = ap (λ (told : Told). told_by told.answers) is
-
--- between two steps nothing but memory is wanting
-at_rest : (old new : Told) (stop : Stop) → AtRest old new stop → told_by new.answers ≡ told_by old.answers
-at_rest old new stops.Memory is = same_told is
-at_rest old new stop is = absurd is
-
-goes_by : {T : Type 0} (p : Script T) (old new : Told) (x : T) → Only asks p → Goes old new p x
-    → Goes (told_by old.answers) (told_by new.answers) p x
-unfolding Goes
-goes_by (Give y) old new x only went = (same_told went.0, went.1)
-goes_by (Make (WriteOut bytes) p) old new x only went = absurd (false≢true only.0)
-goes_by (Make (WriteErr bytes) p) old new x only went = absurd (false≢true only.0)
-goes_by (Make (ReadFile path limit) p) old new x only went = absurd (false≢true only.0)
-goes_by (Make (WriteFile path bytes) p) old new x only went = absurd (false≢true only.0)
-goes_by (Make (Ask pattern) p) old new x only went =
-    (went.0, tt, goes_by (p went.0) (after old (Ask pattern) went.0) new x (only.1 went.0) went.2)
-goes_by (Make NextLine p) old new x only went = absurd (false≢true only.0)
-
-halts_by : {T : Type 0} (p : Script T) (old new : Told) (stop : Stop) → Only asks p → Halts old new p stop
-    → Halts (told_by old.answers) (told_by new.answers) p stops.Memory
-unfolding Halts
-halts_by (Give y) old new stop only is = at_rest old new stop is
-halts_by (Make step p) old new stop only (inl is) = inl (at_rest old new stop is)
-halts_by (Make (WriteOut bytes) p) old new stop only (inr is) = absurd (false≢true only.0)
-halts_by (Make (WriteErr bytes) p) old new stop only (inr is) = absurd (false≢true only.0)
-halts_by (Make (ReadFile path limit) p) old new stop only (inr is) = absurd (false≢true only.0)
-halts_by (Make (WriteFile path bytes) p) old new stop only (inr is) = absurd (false≢true only.0)
-halts_by (Make (Ask pattern) p) old new stop only (inr (inl is)) = absurd is
-halts_by (Make (Ask pattern) p) old new stop only (inr (inr is)) =
-    inr (inr (is.0, tt, halts_by (p is.0) (after old (Ask pattern) is.0) new stop (only.1 is.0) is.2))
-halts_by (Make NextLine p) old new stop only (inr is) = absurd (false≢true only.0)
 
 -- the patterns of a profile, and then those of a configuration, are all that is asked
 loads_only : (finds : Finds) (p : Profile) → Only asks (load finds p)

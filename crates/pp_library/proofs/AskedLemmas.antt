@@ -8,7 +8,7 @@ use Rattle.pp_desk.specs.Script.{Script, Give, Make, ◌>>=◌}
 use Rattle.pp_desk.specs.Went.{Went, Ways, Goes, Halts, after, parts}
 use Rattle.pp_desk.specs.World.{Told, World}
 use Rattle.pp_desk.proofs.Quiet.{Only}
-use Rattle.pp_library.proofs.AskingLemmas.{asks, goes_by, halts_by}
+use Rattle.pp_filter.proofs.AskingLemmas.{asks, goes_by, halts_by}
 use Rattle.pp_library.specs.Asked.{Asked, value_of}
 
 -- How a stage went that asks patterns alone is what the matcher tells.

@@ -1,4 +1,3 @@
-mod AskingLemmas
 mod AskedLemmas
 mod OneFileLemmas
 mod OfOneLemmas

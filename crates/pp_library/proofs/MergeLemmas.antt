@@ -40,7 +40,7 @@ use Rattle.pp_library.specs.declared.merge_error.MergeError.{MergeError}
 use Rattle.pp_library.specs.declared.merge_error.MergeError.TheVariants as errors
 use Rattle.pp_library.specs.Asked.{Asked, value_of}
 use Rattle.pp_library.specs.Merged.{has_few_columns, are_few, merge_all, merge_error, merge_outcome}
-use Rattle.pp_library.proofs.AskingLemmas.{asks}
+use Rattle.pp_filter.proofs.AskingLemmas.{asks}
 use Rattle.pp_library.proofs.AskedLemmas.{asked_of, asked_map, halts_now}
 
 both_of : (a b : Bool) → (a && b) ≡ true → (a ≡ true) × (b ≡ true)

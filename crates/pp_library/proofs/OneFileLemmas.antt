@@ -28,7 +28,7 @@ use Rattle.pp_pattern.specs.Load.{judge_load}
 use Rattle.pp_pattern.specs.Report.{Finds}
 use Rattle.pp_pattern.proofs.AskQuiet.{only_load}
 use Rattle.pp_filter.specs.Asked.{told_by}
-use Rattle.pp_library.proofs.AskingLemmas.{asks, at_rest, goes_by, halts_by, same_told}
+use Rattle.pp_filter.proofs.AskingLemmas.{asks, at_rest, goes_by, halts_by, same_told}
 use Rattle.pp_load.specs.declared.reading.Read.{Read}
 use Rattle.pp_load.specs.declared.refusal.LoadRefusal.{LoadRefusal}
 use Rattle.pp_load.specs.declared.refusal.LoadRefusal.TheVariants as refusals

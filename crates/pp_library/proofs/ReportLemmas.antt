@@ -20,7 +20,7 @@ use Rattle.pp_model.specs.ReportFacts.{own_pattern, is_counted}
 use Rattle.pp_units.specs.Head.{Facts}
 use Rattle.pp_pattern.specs.Report.{judge, Finds}
 use Rattle.pp_pattern.proofs.AskQuiet.{only_asking, only_judge}
-use Rattle.pp_library.proofs.AskingLemmas.{asks}
+use Rattle.pp_filter.proofs.AskingLemmas.{asks}
 use Rattle.pp_report.specs.declared.refusal.ReportRefusal.{ReportRefusal}
 use Rattle.pp_report.specs.declared.refusal.ReportRefusal.TheVariants.{NoBase}
 use Rattle.pp_report.specs.Base.{lacks_base}
