@@ -1,5 +1,5 @@
 -- Two ways of telling items apart that agree give the same numbers.
-use Rattle.std.proofs.Common.{◌≡◌, ◌+◌, Bool, List, [], map, refl, sym, ap, ◌∙◌}
+use Rattle.std.proofs.Common.{◌≡◌, ◌+◌, Bool, List, [], map, sym, ap, ◌∙◌}
 use Rattle.std.specs.List.{AllByRecursion}
 use Rattle.std.proofs.lemmas.Simd.{map-map}
 use Rattle.pp_base.proofs.Lists.{all_by, map_agree}
@@ -19,15 +19,6 @@ module _ {A B : Type 0} (one : A → A → Bool) (other : B → B → Bool) (des
       ∙ map_agree (λ x. place_of other (map describe few) (describe x)) (place_of one few) xs
       (all_by P (λ x. place_of other (map describe few) (describe x) ≡ place_of one few x)
       (λ x p. place-map one other describe P agree x p few few_all) xs all)
-
--- Items with a key each, and with a description each. Where the keys are one exactly where the descriptions are, the numbers
--- by keys are the numbers by descriptions.
-module _ {X K D : Type 0} (same_key : K → K → Bool) (same_text : D → D → Bool) (key : X → K) (text : X → D) (P : X → Type 0)
-    (agree : (a b : X) → P a → P b → same_key (key a) (key b) ≡ same_text (text a) (text b)) where
-  pub same_numbers : (xs : List X) → AllByRecursion P xs → numbers same_key (map key xs) ≡ numbers same_text (map text xs)
-  same_numbers xs all =
-      numbers-map (λ a b. same_key (key a) (key b)) same_key key P (λ a b p q. refl) xs all
-      ∙ sym (numbers-map (λ a b. same_key (key a) (key b)) same_text text P (λ a b p q. sym (agree a b p q)) xs all)
 
 -- Where descriptions are one exactly where the items are, the items found once are the descriptions found once.
 module _ {A B : Type 0} (one : A → A → Bool) (other : B → B → Bool) (describe : A → B) (agree : (a b : A) → other (describe a) (describe b) ≡ one a b) where

@@ -71,10 +71,6 @@ or_parts : (a b : Bool) → (a || b) ≡ false → (a ≡ false) × (b ≡ false
 or_parts true b is = absurd (true≢false is)
 or_parts false b is = (refl, is)
 
-or_last : (a : Bool) → (a || (true || false)) ≡ true
-or_last true = refl
-or_last false = refl
-
 -- an item that passes a test, and what is known of it
 some_item : {X : Type 0} (test : X → Bool) (P : X → Type 0) (xs : List X) → AllByRecursion P xs → list_any test xs ≡ true → (x : X) × (test x ≡ true) × P x
 some_item test P [] all is = absurd (true≢false (sym is))

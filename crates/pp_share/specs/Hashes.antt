@@ -1,12 +1,12 @@
 -- The hashes by which samples are told apart: by the ids that they have, or once they have new ones.
-use Rattle.std.specs.Prelude.{◌≡◌, ℕ, ◌+◌, ◌++◌, [], ◌∷◌, Bool, true, ◌&&◌, None, ℤ, nat_abs, List, length, map}
+use Rattle.std.specs.Prelude.{◌≡◌, ℕ, ◌+◌, ◌++◌, [], ◌∷◌, ◌&&◌, nat_abs, List, length, map}
 use Rattle.std.specs.List.{list_all, sum_by}
 use Rattle.pp_base.specs.Capped.{capped}
-use Rattle.pp_model.specs.declared.profile.Label.{Label}
 use Rattle.pp_model.specs.declared.profile.Sample.{Sample}
 use Rattle.pp_model.specs.declared.profile.Profile.{Profile}
-use Rattle.pp_model.specs.Rules.{is_text_of, first_failing}
 use Rattle.pp_share.specs.declared.hashes.Hashes.{Hashes}
+use Rattle.pp_share.specs.declared.ids.Ids.TheVariants.{Same}
+use Rattle.pp_share.specs.declared.renumbering.Renumbering.{Renumbering}
 use Rattle.pp_share.specs.Renumbered.{NewIds, renumbered_sample}
 use Rattle.pp_share.specs.SampleKeys.{has_values, sample_hash, summed_samples}
 
@@ -38,19 +38,10 @@ pub record AddsHash (hash : ℕ) (s : Sample) (old new : Hashes) : Type 0 where
   pub values : new.have_values ≡ (old.have_values && has_values s)
   pub together : new.together ≡ capped (old.together + sum_by nat_abs s.value)
 
--- the label's texts are some of n
-abbrev pub names_texts : ℕ → Label → Bool
-names_texts n l = is_text_of n l.key && is_text_of n l.text && is_text_of n l.num_unit
-
--- The hashes of samples by the ids that they have, where the texts of their labels are some of n.
-pub record AreKnown (n : ℕ) (samples : List Sample) (known : Hashes) : Type 0 where
-  pub labels : first_failing (λ s. list_all (names_texts n) s.label) samples ≡ None
-  pub hashes : AreOwnHashes samples known
-
--- samples keep their ids, where the texts of their labels are some of n
-pub record KeepsSamples (n : ℕ) (by : NewIds) : Type 0 where
-  pub locations : (id : ℕ) → by.location id ≡ id
-  pub texts : (i : ℤ) → is_text_of n i ≡ true → by.text i ≡ i
+-- samples keep their ids
+pub record KeepsSamples (by : Renumbering) : Type 0 where
+  pub locations : by.location ≡ Same
+  pub texts : by.text ≡ Same
 
 -- the profile whose samples have their new ids
 abbrev pub with_new_samples : NewIds → Profile → Profile

@@ -1,6 +1,7 @@
 -- Ids of a table's entries, and what they become. An id is a place plus 1, and 0 stands for none.
-use Rattle.std.specs.Prelude.{◌≡◌, ℕ, ◌+◌, ◌-◌, ◌^◌, ◌≤◌, ◌==◌, ◌||◌, nat_le, ℤ, pos, List, slice_index_or, if◌then◌else◌}
+use Rattle.std.specs.Prelude.{◌≡◌, ℕ, ◌+◌, ◌-◌, ◌^◌, ◌≤◌, ◌==◌, ◌||◌, nat_le, true, ℤ, pos, List, slice_index_or, if◌then◌else◌}
 use Rattle.pp_model.specs.Lookup.{text_number}
+use Rattle.pp_model.specs.Rules.{is_text_of}
 use Rattle.pp_share.specs.Behind.{behind_id}
 pub use Rattle.pp_share.specs.MetPlaces.{place_id}
 use Rattle.pp_share.specs.declared.ids.Known.{Known}
@@ -39,3 +40,8 @@ new_text (Moved known behind) index =
     index_of_id (behind_id behind.after behind.len (known_id known (text_number index + 1)))
 new_text (Listed ids) index = index_of_id (place_id ids (text_number index + 1))
 new_text (By ids) index = index_of_id (listed_id ids (text_number index + 1))
+
+-- the index of each of the first `count` texts becomes that of the id at its place among these
+abbrev pub GivesTexts : ℕ → Ids → List ℕ → Type 0
+GivesTexts count by ids = (i : ℤ) → is_text_of count i ≡ true
+    → new_text by i ≡ index_of_id (listed_id ids (text_number i + 1))

@@ -1,10 +1,11 @@
 //! New ids for old ones. An id names an entry of a table, and 0 names none.
-ghost use Rattle.std.specs.Prelude.{◌≡◌, ◌+◌};
+ghost use Rattle.std.specs.Prelude.{◌≡◌, ◌<◌, ◌^◌, ◌+◌, ℕ, List as Seq, length};
 ghost use Rattle.std.specs.Bool.{OnTrue};
 ghost use Rattle.pp_model.specs.Lookup.{text_number};
-ghost use Rattle.pp_share.specs.Ids.{known_id, place_id, listed_id, new_id, new_text, index_of_id};
+ghost use Rattle.pp_share.specs.Ids.{known_id, place_id, listed_id, new_id, new_text, index_of_id, GivesIds, GivesTexts};
 
 use crate::behind::Behind;
+use crate::known::are_in_place;
 use crate::met::Met;
 use indexmap::IndexSet;
 use pp_base::List;
@@ -59,6 +60,16 @@ pub enum Ids {
 }
 
 impl Ids {
+    /// What the ids of texts become, with no list where each id of it stays.
+    pub fn simplified(self) -> Ids
+        ensures { (ids : Seq ℕ) → self ≡ Ids.By ids → GivesTexts (length ids) result ids }
+    {
+        match self {
+            Ids::By(ids) => ids_by(ids),
+            other => other,
+        }
+    }
+
     /// Whether each id stays.
     pub fn keeps_all(&self) -> bool
         ensures { OnTrue result (self.now ≡ Ids.Same) }
@@ -92,6 +103,28 @@ impl Ids {
             Ids::By(ids) => index_of_id(listed(ids.as_slice(), id_of_index(index))),
         }
     }
+}
+
+/// What the ids of a table become, where `ids` has the new one of each. Where no entry repeats, all stay, and the many
+/// references of samples need not be gone through.
+pub fn ids_by(ids: List<u64>) -> Ids
+    ensures ids { GivesIds (length ids) result ids }
+    ensures texts { GivesTexts (length ids) result ids }
+{
+    let _count = count_of(ids.as_slice());
+    if are_in_place(ids.as_slice()) {
+        Ids::Same
+    } else {
+        Ids::By(ids)
+    }
+}
+
+// How many ids there are. A table fits in memory.
+fn count_of(ids: &[u64]) -> usize
+    ensures same { result ≡ length ids.now }
+    ensures few { result < 2 ^ 62 }
+{
+    ids.len()
 }
 
 /// The id of the text with the index: the index plus 1. A negative index stands for text 0.

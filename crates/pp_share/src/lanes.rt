@@ -1,4 +1,4 @@
-//! Samples whose locations and texts become places, of which threads write most.
+//! Samples whose locations and texts become places, of which threads may write most.
 ghost use Rattle.std.specs.Prelude.{◌≡◌, ℕ, ◌<◌, ◌≤◌, List as Seq, length, map, slice_index_or, OnOk, IfOk};
 ghost use Rattle.std.specs.Bool.{OnTrue};
 ghost use Rattle.std.specs.List.{AllByRecursion, flat_map};
@@ -18,17 +18,83 @@ use pp_model::{Profile, Sample};
 use pp_steal::{PIECE, Resources, for_each_on};
 use std::thread::Threads;
 
-/// Does what `place_samples` does, with the samples of a profile. One thread goes over them until each location of the
-/// table was met, mostly soon, and over the labels of all. `with.workers` threads give the others the places of their
-/// locations.
-pub fn place_samples_on<R: Threads + Sync>(
-    with: &Resources<'_, R>,
+/// Who gives samples the places of their locations, once all locations were met.
+pub trait Locator {
+    /// What has to hold where it is used.
+    ghost can: { Self → Type 0 };
+
+    /// Gives the samples from the place `first` on the places of their new locations. It takes no memory.
+    fn locate_rest(
+        &self,
+        samples: &mut List<Sample>,
+        by: &Renumbering,
+        first: usize,
+        locations: &Met,
+    )
+        requires { can self.now }
+        ensures long { length samples.new ≡ length samples.old }
+        ensures each { (i : ℕ) → (other : SampleValue) → i < length samples.old
+            → slice_index_or samples.new i other
+            ≡ placed_from first (new_ids by.now) locations.now i (slice_index_or samples.old i other) };
+}
+
+/// `workers` threads.
+impl<R: Threads + Sync> Locator for Resources<'_, R> {
+    ghost use denote.Param.Send.{IsSync};
+
+    ghost can = { λ with. IsSync R.row };
+
+    fn locate_rest(
+        &self,
+        samples: &mut List<Sample>,
+        by: &Renumbering,
+        first: usize,
+        locations: &Met,
+    ) {
+        let locate = |index: usize, sample: &mut Sample|
+            ensures { sample.exit.now
+                ≡ placed_from first (new_ids by.entry.now) locations.entry.now index sample.entry.now }
+        { locate_from(first, index, by, locations, sample) };
+        for_each_on(
+            self.rt,
+            samples.as_mut_slice(),
+            self.workers as usize,
+            &locate,
+        );
+    }
+}
+
+/// The caller's thread.
+pub struct Alone;
+
+impl Locator for Alone {
+    ghost can = { λ alone. Unit {0} };
+
+    fn locate_rest(
+        &self,
+        samples: &mut List<Sample>,
+        by: &Renumbering,
+        first: usize,
+        locations: &Met,
+    ) {
+        for index in 0..samples.len() {
+            locate_from(first, index, by, locations, samples.item_mut(index));
+        }
+    }
+}
+
+/// Gives the samples of the profile their new ids, and adds the locations and the texts that were not met yet. Each
+/// becomes its place among those that are met. One thread goes over the samples until each location of the table was
+/// met, mostly soon, and over the labels of all. `locator` gives the others the places of their locations.
+pub fn place_samples<L: Locator>(
+    locator: &L,
     p: &mut Profile,
     by: &Renumbering,
     locations: &mut Met,
     texts: &mut Met,
 ) -> Result<(), Memory>
-    requires { AllByRecursion (NamesLocations (length p.old.location))
+    requires can { L.can locator.now }
+    requires named { AllByRecursion (NamesLocations (length p.old.location))
         (map (renumbered_sample (new_ids by.now)) p.old.sample) }
     ensures locations { OnOk result (locations.new ≡ met_after locations.old
         (flat_map location_refs (map (renumbered_sample (new_ids by.now)) p.old.sample))) }
@@ -42,7 +108,7 @@ pub fn place_samples_on<R: Threads + Sync>(
     let count = p.location.len();
     place_labels(&mut p.sample, by, texts)?;
     let first = locate_first(&mut p.sample, by, count, locations)?;
-    locate_rest(with, &mut p.sample, by, first, locations);
+    locator.locate_rest(&mut p.sample, by, first, locations);
     Ok(())
 }
 
@@ -81,30 +147,6 @@ fn locate_first(
         place_each(ids, locations)?;
     }
     Ok(samples.len())
-}
-
-// Gives the samples from the place `first` on the places of their new locations, on `with.workers` threads.
-fn locate_rest<R: Threads + Sync>(
-    with: &Resources<'_, R>,
-    samples: &mut List<Sample>,
-    by: &Renumbering,
-    first: usize,
-    locations: &Met,
-)
-    ensures long { length samples.new ≡ length samples.old }
-    ensures each { (i : ℕ) → (other : SampleValue) → i < length samples.old → slice_index_or samples.new i other
-        ≡ placed_from first (new_ids by.now) locations.now i (slice_index_or samples.old i other) }
-{
-    let locate = |index: usize, sample: &mut Sample|
-        ensures { sample.exit.now
-            ≡ placed_from first (new_ids by.entry.now) locations.entry.now index sample.entry.now }
-    { locate_from(first, index, by, locations, sample) };
-    for_each_on(
-        with.rt,
-        samples.as_mut_slice(),
-        with.workers as usize,
-        &locate,
-    );
 }
 
 // Gives the sample at the index the places of its new locations, unless it stands before the first.

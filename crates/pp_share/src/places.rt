@@ -6,8 +6,7 @@ ghost use Rattle.pp_share.specs.Ids.{GivesIds};
 ghost use Rattle.pp_share.specs.PlaceKeys.{mapping_key, start_at, distant, near, same_place, place_of_key};
 
 use crate::first_sight::{Keyed, keep_firsts, number_each, with_room};
-use crate::ids::Ids;
-use crate::known::are_in_place;
+use crate::ids::{Ids, ids_by};
 use pp_base::{List, Memory};
 use pp_keys::HashKeys;
 use pp_model::{Line, Location, Mapping, Profile};
@@ -97,18 +96,6 @@ fn keys_by(
     let keys = location_keys(alloc, locations, mappings, &by);
     mem::drop(by);
     keys
-}
-
-// What the ids of locations become, where `ids` has the new one of each. Where no location repeats, all stay, and the many
-// locations of samples need not be gone through.
-fn ids_by(ids: List<u64>) -> Ids
-    ensures { GivesIds (length ids) result ids }
-{
-    if are_in_place(ids.as_slice()) {
-        Ids::Same
-    } else {
-        Ids::By(ids)
-    }
 }
 
 // The locations without repeats, in the order of first sight, and the id of each. Their mappings are these.

@@ -1,42 +1,15 @@
-//! Samples whose locations and texts become places while they are met. Samples are many, so they are gone through once.
+//! References that become places while they are met.
 ghost use Rattle.std.specs.Prelude.{◌≡◌, ℕ, List, [], ◌∷◌, map, OnOk};
 ghost use Rattle.std.specs.List.{flat_map};
 ghost use Rattle.pp_share.specs.Ids.{place_id};
-ghost use Rattle.pp_share.specs.Walk.{met_after, IsPlaced, location_refs, text_ids, label_text_ids, sample_text_ids};
-ghost use Rattle.pp_share.specs.Walked.{placed_text, placed_label, placed_sample};
-ghost use Rattle.pp_share.specs.Renumbered.{new_ids, renumbered_sample};
+ghost use Rattle.pp_share.specs.Walk.{met_after, IsPlaced, text_ids, label_text_ids};
+ghost use Rattle.pp_share.specs.Walked.{placed_text, placed_label};
 
 use crate::change::Change;
 use crate::ids::{id_of_index, index_of_id};
 use crate::met::Met;
-use crate::renumbering::Renumbering;
 use pp_base::{List, Memory};
-use pp_model::{Label, Sample};
-
-/// Gives the samples their new ids, and adds the locations and the texts that were not met yet. Each becomes its place
-/// among those that are met.
-pub fn place_samples(
-    samples: &mut List<Sample>,
-    by: &Renumbering,
-    locations: &mut Met,
-    texts: &mut Met,
-) -> Result<(), Memory>
-    ensures locations { OnOk result (locations.new ≡ met_after locations.old
-        (flat_map location_refs (map (renumbered_sample (new_ids by.now)) samples.old))) }
-    ensures texts { OnOk result (texts.new ≡ met_after texts.old
-        (flat_map sample_text_ids (map (renumbered_sample (new_ids by.now)) samples.old))) }
-    ensures placed { OnOk result ((more : List ℕ)
-        → IsPlaced (λ texts. map (placed_sample (met_after locations.new more) texts))
-        texts.new (map (renumbered_sample (new_ids by.now)) samples.old) samples.new) }
-{
-    for index in 0..samples.len() {
-        let sample = samples.item_mut(index);
-        by.change(sample);
-        place_each(&mut sample.location_id, locations)?;
-        place_each(&mut sample.label, texts)?;
-    }
-    Ok(())
-}
+use pp_model::Label;
 
 /// What refers to entries of a table, and is given their places.
 pub trait Place {

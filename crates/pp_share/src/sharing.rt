@@ -1,31 +1,32 @@
 //! A profile with each thing once, in the order of a walk over its samples.
 ghost use Rattle.std.specs.Prelude.{◌≡◌, ℕ, ◌-◌, ◌^◌, ◌<◌, ◌≤◌, nat_abs, length, map, All, IfOk, IfSome, OnOk};
-ghost use Rattle.std.specs.List.{AllByRecursion, filter, list_all, sum_by};
+ghost use Rattle.std.specs.List.{filter, list_all, sum_by};
 ghost use Rattle.pp_model.specs.Sizes.{value_in};
 ghost use Rattle.pp_share.specs.Placed.{gist, totalled};
 ghost use Rattle.pp_share.specs.Renumbered.{NewIds, new_ids, renumbered_sample};
 ghost use Rattle.pp_model.specs.FirstSight.{ids};
 ghost use Rattle.pp_share.specs.Ids.{GivesIds};
-ghost use Rattle.pp_share.specs.Hashes.{AreKnown, AreHashes, with_new_samples, with_sums};
+ghost use Rattle.pp_share.specs.Hashes.{AreHashes, AreOwnHashes, with_new_samples, with_sums};
 ghost use Rattle.pp_share.specs.Repeats.{FindsBelow, IsPair};
 ghost use Rattle.pp_share.specs.Sums.{CanSum};
 ghost use Rattle.pp_share.specs.PlaceKeys.{same_place};
 ghost use Rattle.pp_share.specs.SampleKeys.{has_values};
 ghost use Rattle.pp_share.specs.Shared.{distant_locations, with_shared_functions, with_shared_places};
 ghost use Rattle.pp_share.specs.Written.{written};
-ghost use Rattle.pp_share.specs.Share.{NamesLocations, IsJoined, with_comments_once, with_tables_once};
+ghost use Rattle.pp_share.specs.Share.{IsJoined, with_comments_once, with_tables_once};
 
 use crate::first_sight::number_each;
 use crate::functions::share_functions;
 use crate::hashes::{Hashes, hash_samples, hash_samples_on};
 use crate::ids::Ids;
 use crate::kept::kept_hashes;
+use crate::lanes::Alone;
 use crate::places::share_places;
 use crate::renumbering::Renumbering;
 use crate::repeats::{Repeat, find_repeats, find_repeats_on};
 use crate::samples::{add_repeats, counting};
 use crate::texts::share_texts;
-use crate::write::{write, write_on};
+use crate::write::write;
 use pp_base::{List, Memory};
 use pp_keys::HashKeys;
 use pp_model::{Profile, Sample};
@@ -45,14 +46,14 @@ pub fn share(alloc: Global, hash_keys: HashKeys, p: Profile) -> Result<Profile, 
 {
     let (mut profile, by) = share_tables(alloc, hash_keys, p)?;
     sum_plain(alloc, &mut profile, &by)?;
-    let written = write(alloc, hash_keys, profile, &by);
+    let written = write(alloc, hash_keys, &Alone, profile, &by);
     mem::drop(by);
     written
 }
 
 /// The profile that `share` gives, made by `with.workers` lanes. It does not tell how many there were. `known` are the
-/// hashes of the samples by the ids that they have, if they are known. They serve where none of the texts and locations
-/// that samples name gets another id. Else the samples are hashed anew, in pieces of 1,024.
+/// hashes of the samples by the ids that they have, if they are known. They serve where no text and no location gets
+/// another id. Else the samples are hashed anew, in pieces of 1,024.
 pub fn share_on<R: Threads + Sync>(
     with: &Resources<'_, R>,
     p: Profile,
@@ -62,15 +63,14 @@ pub fn share_on<R: Threads + Sync>(
     requires wide { All (λ s. length s.value ≡ length p.sample_type) p.sample }
     requires fits { (column : ℕ) → column < length p.sample_type
         → sum_by (λ s. nat_abs (value_in s column)) p.sample ≤ 2 ^ 63 - 1 }
-    requires known { IfSome known (AreKnown (length p.text) p.sample) }
+    requires known { IfSome known (AreOwnHashes p.sample) }
     ensures { IfOk result (λ r. r ≡ written (totalled (length p.sample_type) (gist p))) }
 {
-    let texts = p.text.len();
     let (mut profile, by) = share_tables(with.alloc, with.keys, p)?;
     let samples = profile.sample.as_slice();
-    let hashes = hashes_for(with, samples, texts, &by, known)?;
+    let hashes = hashes_for(with, samples, &by, known)?;
     sum_hashed_on(with, &mut profile, &by, &hashes)?;
-    let written = write_on(with, profile, &by);
+    let written = write(with.alloc, with.keys, with, profile, &by);
     mem::drop(by);
     written
 }
@@ -82,7 +82,7 @@ fn share_tables(
     hash_keys: HashKeys,
     p: Profile,
 ) -> Result<(Profile, Renumbering), Memory>
-    requires names { AllByRecursion (NamesLocations (length p.location)) p.sample }
+    requires { IsJoined p }
     ensures tables { IfOk result (λ r. r.0 ≡ record (with_tables_once p) { sample = p.sample }) }
     ensures samples { IfOk result (λ r.
         map (renumbered_sample (new_ids r.1)) p.sample ≡ (with_tables_once p).sample) }
@@ -112,19 +112,17 @@ fn share_entries(alloc: Global, hash_keys: HashKeys, p: Profile) -> Result<(Prof
     share_places(alloc, hash_keys, called)
 }
 
-// The hashes of the samples with their new ids: the known ones where they serve, or new ones. The labels name some of
-// `texts` texts.
+// The hashes of the samples with their new ids: the known ones where they serve, or new ones.
 fn hashes_for<R: Threads + Sync>(
     with: &Resources<'_, R>,
     samples: &[Sample],
-    texts: usize,
     by: &Renumbering,
     known: Option<Hashes>,
 ) -> Result<Hashes, Memory>
-    requires { IfSome known (AreKnown texts samples.now) }
+    requires { IfSome known (AreOwnHashes samples.now) }
     ensures { IfOk result (AreHashes (new_ids by.now) samples.now) }
 {
-    match kept_hashes(known, samples, texts, by) {
+    match kept_hashes(known, samples, by) {
         Some(hashes) => Ok(hashes),
         None => hash_samples_on(with, samples, by),
     }

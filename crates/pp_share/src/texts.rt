@@ -2,6 +2,7 @@
 ghost use Rattle.std.specs.Prelude.{◌≡◌, ◌<◌, ◌^◌, length, map, IfOk, OnOk};
 ghost use Rattle.std.specs.Str.{bytes_eq};
 ghost use Rattle.pp_model.specs.FirstSight.{distinct, ids};
+ghost use Rattle.pp_share.specs.Ids.{GivesTexts};
 ghost use Rattle.pp_share.specs.Shared.{with_shared_texts};
 
 use crate::first_sight::{number_each, with_room};
@@ -42,7 +43,7 @@ pub fn share_texts(
     mut p: Profile,
 ) -> Result<(Profile, Ids), Memory>
     ensures tables { IfOk result (λ r. r.0 ≡ record (with_shared_texts p) { sample = p.sample }) }
-    ensures ids { IfOk result (λ r. r.1 ≡ Ids.By (ids bytes_eq p.text)) }
+    ensures ids { IfOk result (λ r. GivesTexts (length p.text) r.1 (ids bytes_eq p.text)) }
 
     // A table fits in memory.
     ensures few { OnOk result (length p.text < 2 ^ 62) }
@@ -59,7 +60,7 @@ pub fn share_texts(
     renumber_tables(&mut p, &by);
     let text = mem::replace(&mut by.text, Ids::Same);
     mem::drop(by);
-    Ok((p, text))
+    Ok((p, text.simplified()))
 }
 
 // The texts without repeats, and the id of each: its place among them plus 1.

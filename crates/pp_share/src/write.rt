@@ -10,51 +10,33 @@ ghost use Rattle.pp_share.specs.Walk.{met_after, first_text_ids, table_text_ids,
 
 use crate::gather::gather;
 use crate::ids::Ids;
-use crate::lanes::place_samples_on;
+use crate::lanes::{Locator, place_samples};
 use crate::met::Met;
-use crate::placing::place_samples;
 use crate::renumbering::{Renumbering, renumber_tables};
 use crate::walk::{Functions, Mappings, Refers, Texts, meet_each};
 use pp_base::{List, Memory};
 use pp_keys::HashKeys;
 use pp_model::{Function, Location, Mapping, Profile, ValueType};
-use pp_steal::{PIECE, Resources};
 use std::alloc::Global;
 use std::mem;
-use std::thread::Threads;
 
 /// The profile, whose samples still get new ids, with what these name, in the order in which a walk over them meets it:
 /// mappings after the first one, locations, functions, and texts after text 0. Ids are places plus 1, and all else is
-/// left out.
-pub fn write(
+/// left out. The samples name locations of the table, and `locator` writes most of them.
+pub fn write<L: Locator>(
     alloc: Global,
     hash_keys: HashKeys,
+    locator: &L,
     mut p: Profile,
     samples: &Renumbering,
 ) -> Result<Profile, Memory>
+    requires can { L.can locator.now }
+    requires named { AllByRecursion (NamesLocations (length p.location)) (with_new_samples (new_ids samples.now) p).sample }
     ensures { IfOk result (IsWalked (with_new_samples (new_ids samples.now) p)) }
 {
     let mut texts = first_texts(alloc, hash_keys, &p)?;
-    let locations = keep_locations(alloc, hash_keys, &mut p, samples, &mut texts)?;
+    let locations = keep_locations(alloc, hash_keys, locator, &mut p, samples, &mut texts)?;
     write_named(alloc, hash_keys, p, texts, locations)
-}
-
-/// The profile that `write` gives, where the samples name locations of the table. `with.workers` threads write most of
-/// the samples.
-pub fn write_on<R: Threads + Sync>(
-    with: &Resources<'_, R>,
-    mut p: Profile,
-    samples: &Renumbering,
-) -> Result<Profile, Memory>
-    requires { AllByRecursion (NamesLocations (length p.location)) (with_new_samples (new_ids samples.now) p).sample }
-    ensures { IfOk result (IsWalked (with_new_samples (new_ids samples.now) p)) }
-{
-    if with.workers == 1 || p.sample.len() <= PIECE {
-        return write(with.alloc, with.keys, p, samples);
-    }
-    let mut texts = first_texts(with.alloc, with.keys, &p)?;
-    let locations = keep_locations_on(with, &mut p, samples, &mut texts)?;
-    write_named(with.alloc, with.keys, p, texts, locations)
 }
 
 // The profile, of which the samples and the locations are written, and name these texts and locations.
@@ -110,38 +92,23 @@ fn first_texts(alloc: Global, hash_keys: HashKeys, p: &Profile) -> Result<Met, M
 }
 
 // Keeps the locations of the samples, which get their new ids, and gives the ids of what is kept in order.
-fn keep_locations(
+fn keep_locations<L: Locator>(
     alloc: Global,
     hash_keys: HashKeys,
+    locator: &L,
     p: &mut Profile,
     by: &Renumbering,
     texts: &mut Met,
 ) -> Result<Met, Memory>
-    requires { texts.old ≡ met_after [] (first_text_ids p.old) }
-    ensures { IfOk result (IsNamed (with_new_samples (new_ids by.now) p.old) p.new texts.new) }
-{
-    let mut met = Met::new(alloc, hash_keys, p.location.len().saturating_add(1))?;
-    place_samples(&mut p.sample, by, &mut met, texts)?;
-    let locations = mem::replace(&mut p.location, List::new(alloc));
-    p.location = gather(alloc, locations, met.as_slice())?;
-    Ok(met)
-}
-
-// Does what `keep_locations` does, on `with.workers` threads.
-fn keep_locations_on<R: Threads + Sync>(
-    with: &Resources<'_, R>,
-    p: &mut Profile,
-    by: &Renumbering,
-    texts: &mut Met,
-) -> Result<Met, Memory>
+    requires can { L.can locator.now }
     requires named { AllByRecursion (NamesLocations (length p.old.location)) (with_new_samples (new_ids by.now) p.old).sample }
     requires first { texts.old ≡ met_after [] (first_text_ids p.old) }
     ensures { IfOk result (IsNamed (with_new_samples (new_ids by.now) p.old) p.new texts.new) }
 {
-    let mut met = Met::new(with.alloc, with.keys, p.location.len().saturating_add(1))?;
-    place_samples_on(with, p, by, &mut met, texts)?;
-    let locations = mem::replace(&mut p.location, List::new(with.alloc));
-    p.location = gather(with.alloc, locations, met.as_slice())?;
+    let mut met = Met::new(alloc, hash_keys, p.location.len().saturating_add(1))?;
+    place_samples(locator, p, by, &mut met, texts)?;
+    let locations = mem::replace(&mut p.location, List::new(alloc));
+    p.location = gather(alloc, locations, met.as_slice())?;
     Ok(met)
 }
 

@@ -35,4 +35,4 @@ returns-clause-ids c = λ id some within.
     let given : c.in_ok-locations.ids ≡ ids same_place (distant_locations p) = c.in_ok-locations.ensures.ids ∙ ap (ids same_place) keys in
     let long : length c.in_ok-locations.ids ≡ length p.location =
     ap length given ∙ length-ids same_place place_self (distant_locations p) no_location ∙ length-map p.location _ in
-    c.ids_by.ensures id some (omega (arith, within, long)) ∙ ap (λ ns. listed_id ns id) given
+    c.ids_by.ensures.ids id some (omega (arith, within, long)) ∙ ap (λ ns. listed_id ns id) given

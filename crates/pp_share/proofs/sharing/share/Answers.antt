@@ -2,7 +2,7 @@ use Rattle.std.proofs.Common.{subst}
 use Rattle.std.proofs.lemmas.Result.{IfOk-weaker}
 use Rattle.pp_share.specs.Renumbered.{new_ids}
 use Rattle.pp_share.specs.Walked.{IsWalked}
-use Rattle.pp_share.proofs.ShareLemmas.{shared_is, still_wide, still_fits}
+use Rattle.pp_share.proofs.ShareLemmas.{shared_is, shared_named, still_wide, still_fits}
 use Rattle.pp_share.proofs.sharing.share.Goals as goal
 
 -- what is written of the shared tables
@@ -20,3 +20,10 @@ sum_plain-requires c = record {
   wide = still_wide c.args.p c.in_ok-profile.profile c.in_ok-profile.ensures.tables c.requires.wide;
   fits = still_fits c.args.p c.in_ok-profile.profile c.in_ok-profile.ensures.tables c.requires.fits;
 }
+
+-- and so do the locations that samples name
+pub write-written-requires-clause-named : goal.write-written-requires-clause-named
+write-written-requires-clause-named c =
+    let by = new_ids c.in_ok-profile.by in
+    shared_named c.args.p c.requires.joined c.in_ok-profile.ensures.few c.in_ok-profile.profile c.sum_plain.new.p by by c.in_ok-profile.ensures.tables c.in_ok-profile.ensures.samples
+    c.in_ok-sum_plain.ensures

@@ -8,11 +8,11 @@ use Rattle.pp_share.proofs.sharing.share_on.Goals as goal
 -- what is written of the shared tables
 pub returns : goal.returns
 returns g c =
-    IfOk-weaker c.write_on-written.result _ _
+    IfOk-weaker c.write-written.result _ _
     (λ r is.
     shared_is c.args.p c.requires.joined c.in_ok-profile.ensures.few c.in_ok-profile.profile r (new_ids c.in_ok-profile.by) c.in_ok-profile.ensures.tables c.in_ok-profile.ensures.samples
     (subst (λ q. IsWalked q r) c.in_ok-sum_hashed_on.ensures is))
-    c.write_on-written.ensures
+    c.write-written.ensures
 
 -- values stay as they are
 pub sum_hashed_on-requires-clause-sums : goal.sum_hashed_on-requires-clause-sums
@@ -22,8 +22,8 @@ sum_hashed_on-requires-clause-sums g c = λ _ _. record {
 }
 
 -- and so do the locations that samples name
-pub write_on-written-requires-after_bounds : goal.write_on-written-requires-after_bounds
-write_on-written-requires-after_bounds g c = λ _ _.
+pub write-written-requires-clause-named : goal.write-written-requires-clause-named
+write-written-requires-clause-named g c =
     let by = new_ids c.in_ok-profile.by in
     shared_named c.args.p c.requires.joined c.in_ok-profile.ensures.few c.in_ok-profile.profile c.sum_hashed_on.new.p by by c.in_ok-profile.ensures.tables c.in_ok-profile.ensures.samples
     c.in_ok-sum_hashed_on.ensures

@@ -22,8 +22,8 @@ returns-clause-samples c =
     let p : Profile = c.args.p in
     let location = c.in_ok-profile.location in
     let new = ids same_place (distant_locations (with_shared_functions (with_comments_once (with_shared_texts p)))) in
-    moved_samples (record { text = c.in_ok-worded.text; mapping = Same; function = Same; location = location }) (ids bytes_eq p.text) new c.in_ok-worded.ensures.ids (length p.location)
+    moved_samples (record { text = c.in_ok-worded.text; mapping = Same; function = Same; location = location }) (length p.text) (ids bytes_eq p.text) c.in_ok-worded.ensures.ids (length p.location) new
     (subst (λ n. GivesIds n location new) (length-map p.location _)
     (subst (λ (q : Profile). GivesIds (length q.location) location (ids same_place (distant_locations (with_shared_functions (with_comments_once q))))) c.in_ok-worded.ensures.tables
     c.in_ok-profile.ensures.ids))
-    p.sample c.requires.names
+    p.sample c.requires.samples c.requires.labels

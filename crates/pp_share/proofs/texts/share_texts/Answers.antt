@@ -1,9 +1,12 @@
-use Rattle.std.proofs.Common.{◌≡◌, ap, ◌∙◌}
+use Rattle.std.proofs.Common.{◌≡◌, [], length, ap, subst, ◌∙◌}
 use Rattle.std.specs.Str.{bytes_eq}
+use Rattle.std.specs.Cmp.{nat_eq_equiv}
+use Rattle.std.specs.Cmp.Lexicographic.{lists_equiv}
 use Rattle.pp_model.specs.FirstSight.{distinct, ids}
-use Rattle.pp_share.specs.declared.ids.Ids.TheVariants.{By}
+use Rattle.pp_share.specs.Ids.{GivesTexts}
 use Rattle.pp_share.specs.Renumbered.{renumbered_tables}
 use Rattle.pp_share.specs.Shared.{by_texts}
+use Rattle.pp_share.proofs.Once.{length-ids}
 use Rattle.pp_share.proofs.texts.share_texts.Goals as goal
 
 pub returns-clause-tables : goal.returns-clause-tables
@@ -16,4 +19,12 @@ returns-clause-tables c =
     c.renumber_tables.ensures ∙ (λ i. renumbered_tables (by_texts (given i)) (record p { text = table i }))
 
 pub returns-clause-ids : goal.returns-clause-ids
-returns-clause-ids c = c.replace-text.ensures.value ∙ ap By (c.in_ok-texts.ensures.ids ∙ ap (ids bytes_eq) c.replace-texts.ensures.value)
+returns-clause-ids c =
+    let p = c.args.p in
+    let given : c.in_ok-texts.ids ≡ ids bytes_eq p.text =
+    c.in_ok-texts.ensures.ids ∙ ap (ids bytes_eq) c.replace-texts.ensures.value in
+    let long : length c.in_ok-texts.ids ≡ length p.text =
+    ap length given ∙ length-ids bytes_eq (lists_equiv nat_eq_equiv).refl p.text [] in
+    subst (λ n. GivesTexts n c.simplified.result (ids bytes_eq p.text)) long
+    (subst (λ l. GivesTexts (length c.in_ok-texts.ids) c.simplified.result l) given
+    (c.simplified.ensures c.in_ok-texts.ids c.replace-text.ensures.value))

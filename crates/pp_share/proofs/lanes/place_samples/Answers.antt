@@ -11,7 +11,7 @@ use Rattle.pp_share.specs.Walk.{met_after, location_refs}
 use Rattle.pp_share.specs.Walked.{placed_sample}
 use Rattle.pp_share.proofs.Lists.{all_mapped, flat_map-map}
 use Rattle.pp_share.proofs.LocatedLemmas.{all_changed, all_unmapped, met_whole}
-use Rattle.pp_share.proofs.lanes.place_samples_on.Goals as goal
+use Rattle.pp_share.proofs.lanes.place_samples.Goals as goal
 
 -- those behind the first name none that was not met
 pub returns-clause-locations : goal.returns-clause-locations
@@ -27,7 +27,7 @@ returns-clause-locations g c =
     (subst (λ n. AllByRecursion (λ s. NamesLocations n (moved s)) c.place_labels.new.samples) (sym c.len-count.ensures)
     (subst (AllByRecursion (λ s. NamesLocations count (moved s))) (sym worded)
     (all_mapped (λ s. NamesLocations count (moved s)) (with_placed_labels by words) (λ s. NamesLocations count (moved s)) (λ s is. is) xs
-    (all_unmapped (NamesLocations count) moved xs c.requires))))
+    (all_unmapped (NamesLocations count) moved xs c.requires.named))))
     ∙ ap (λ l. met_after before (flat_map (λ s. location_refs (moved s)) l)) worded
     ∙ ap (met_after before) (flat_map-map (λ s. location_refs (moved s)) (with_placed_labels by words) xs ∙ sym (flat_map-map location_refs moved xs))
 
