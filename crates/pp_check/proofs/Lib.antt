@@ -2,7 +2,6 @@ pub mod Order
 pub mod Keeps
 pub mod Stages
 pub mod Repeats
-pub mod KnownLemmas
 pub mod Scans
 pub mod WholeLemmas
 pub mod SoundLemmas

@@ -1,14 +1,13 @@
 -- A scan of ids from the front, which stops at the first one that stands earlier.
 use Rattle.std.proofs.Common.{◌≡◌, ◌+◌, ◌<◌, ℕ, List, Bool, true, false, length, take, map, get_or, sym, ap, subst, ◌∙◌, arith, below_more}
-use Rattle.std.specs.Prelude.{Some, None, not, slice_index}
+use Rattle.std.specs.Prelude.{◌==◌, ◌||◌, Some, None, not, slice_index}
 use Rattle.std.proofs.lemmas.Bool.{not-true, not-false}
 use Rattle.std.proofs.lemmas.List.{get_or-map}
 use Rattle.std.proofs.lemmas.List.{take_all}
 use Rattle.pp_model.specs.Rules.{first_repeated, stands_in}
 use Rattle.pp_check.specs.declared.known.Known.{Known}
 use Rattle.pp_check.specs.Known.{holds, Knows, Inserts}
-use Rattle.pp_check.proofs.Repeats.{repeats, NoneBelow, repeats_first, repeats_nowhere}
-use Rattle.pp_check.proofs.KnownLemmas.{knows_more}
+use Rattle.pp_check.proofs.Repeats.{repeats, NoneBelow, repeats_first, repeats_nowhere, stands_in_more}
 
 -- the ids below the index are known, and none of them stands earlier
 pub record Scanned (known : Known) (ids : List ℕ) (i : ℕ) : Type 0 where
@@ -28,6 +27,11 @@ pub found_again : (known : Known) (ids : List ℕ) (i id : ℕ) (added : Bool) �
     → added ≡ not (holds known id) → added ≡ false → Some i ≡ first_repeated ids
 found_again known ids i id added within scanned is new not_new =
     repeats_first ids i within scanned.distinct (sym (seen_before known ids i id scanned is) ∙ not-false _ (sym new ∙ not_new))
+
+-- one more id of the list is known
+knows_more : (old new : Known) (ids : List ℕ) (i : ℕ) → i < length ids → Knows old (take i ids) → Inserts old new (slice_index ids i) → Knows new (take (i + 1) ids)
+knows_more old new ids i within known adds = λ id.
+    adds id ∙ ap (λ b. b || slice_index ids i == id) (known id) ∙ sym (stands_in_more ids i id within)
 
 -- the scan goes on past a new id
 pub scanned_more : (old new : Known) (ids : List ℕ) (i id : ℕ) (added : Bool) → i < length ids → Scanned old ids i → id ≡ slice_index ids i

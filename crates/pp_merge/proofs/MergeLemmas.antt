@@ -1,10 +1,10 @@
 -- What follows where profiles can be merged: they can be joined, and what is left of them is what merging gives.
-use Rattle.std.proofs.Common.{◌≡◌, ◌≢◌, ℕ, ◌+◌, ◌<◌, ◌≤◌, Bool, true, false, true≢false, cond, not, ◌||◌, ◌&&◌, nat_lt, ℤ, pos, nat_abs, List, [], ◌∷◌, map, filter, length, length-append, get_or, sum_by, Option, None, Some, refl, sym, ap, subst, ◌∙◌, inl, inr, if◌then◌else◌, arith}
+use Rattle.std.proofs.Common.{◌≡◌, ◌≢◌, ℕ, ◌+◌, ◌<◌, ◌≤◌, Bool, true, false, true≢false, cond, not, ◌||◌, ◌&&◌, nat_lt, ℤ, pos, nat_abs, List, [], ◌∷◌, ◌++◌, map, filter, length, length-append, get_or, sum_by, Option, None, Some, refl, sym, ap, subst, ◌∙◌, inl, inr, if◌then◌else◌, arith}
 use Rattle.std.specs.Prelude.{◌==◌, position, Ok}
 use Rattle.std.specs.List.{All, AllByRecursion, flat_map, position_or_len, list_any, list_all, range_with_len}
 use Rattle.std.specs.Option.{option_map, option_or}
 use Rattle.std.specs.Cmp.Lexicographic.{pointwise}
-use Rattle.std.proofs.lemmas.Bool.{eq-eqb, eqb-true, ne_eqb, cases_eq, cond-false, ltb-true, ltb-false}
+use Rattle.std.proofs.lemmas.Bool.{and_parts, eq-eqb, eqb-true, ne_eqb, cases_eq, cond-false, lt-ltb, ltb-true, ltb-false}
 use Rattle.std.proofs.lemmas.List.{length-map}
 use Rattle.std.proofs.lemmas.List.Elements.{All-from_recursion, filter_passes, recursion_from_All}
 use Rattle.std.proofs.lemmas.List.FromFn.{get_or-range_with_len, length-range_with_len}
@@ -14,17 +14,19 @@ use Rattle.pp_base.proofs.Lists.{all_of_map}
 use Rattle.pp_model.specs.declared.profile.Mapping.{Mapping}
 use Rattle.pp_model.specs.declared.profile.Location.{Location}
 use Rattle.pp_model.specs.declared.profile.Function.{Function}
+use Rattle.pp_model.specs.declared.profile.Label.{Label}
 use Rattle.pp_model.specs.declared.profile.Sample.{Sample}
 use Rattle.pp_model.specs.declared.profile.Profile.{Profile}
-use Rattle.pp_model.specs.Rules.{NoRuleFails, IsCompact, first_failing, begins_empty, zero_unless, stands_in, location_ids}
+use Rattle.pp_model.specs.Rules.{NoRuleFails, IsCompact, first_failing, begins_empty, zero_unless, stands_in, location_ids, is_text, is_text_of, label_has_texts}
+use Rattle.pp_model.specs.Lookup.{text_number}
 use Rattle.pp_model.specs.Sizes.{absolute_sum, value_in}
 use Rattle.pp_model.proofs.FirstText.{first_empty, no_fault, some_text}
-use Rattle.pp_model.proofs.RuleLemmas.{passes}
+use Rattle.pp_model.proofs.RuleLemmas.{passes, text_below}
 use Rattle.pp_merge.specs.declared.refusal.What.{What}
 use Rattle.pp_merge.specs.declared.refusal.What.TheVariants.{SampleTypes, PeriodType}
 use Rattle.pp_merge.specs.declared.join.Sizes.{Sizes}
 use Rattle.pp_share.specs.Behind.{behind_id}
-use Rattle.pp_share.specs.Ids.{place_id}
+use Rattle.pp_share.specs.Ids.{place_id, index_of_id}
 use Rattle.pp_share.specs.Header.{type_text}
 use Rattle.pp_share.specs.Alike.{same_sample}
 use Rattle.pp_share.specs.Sums.{counts, keys_of, sum_of, rows_of, summed}
@@ -33,10 +35,11 @@ use Rattle.pp_share.specs.Described.{SampleText}
 use Rattle.pp_merge.specs.Merge.{same_type, has_types_of, has_period_type_of, difference, disagreeing, too_large, all_samples, contents, merged, Merges}
 use Rattle.pp_share.specs.Written.{FitsTypes, written}
 use Rattle.pp_share.specs.Placed.{gist, totalled}
-use Rattle.pp_share.specs.Renumbered.{renumbered_sample, renumbered_location}
-use Rattle.pp_share.specs.Share.{NamesLocations, IsJoined}
+use Rattle.pp_share.specs.Renumbered.{renumbered_label, renumbered_sample, renumbered_location}
+use Rattle.pp_share.specs.Share.{NamesLocations, NamesTexts, names_texts, IsJoined}
 use Rattle.pp_merge.specs.Joined.{behind_ids, moved_behind, sizes_of, no_sizes, chained, join_from, joined}
 use Rattle.pp_merge.specs.Merging.{CanMerge, IsWhole}
+use Rattle.pp_share.proofs.EntryLemmas.{index_next}
 use Rattle.pp_share.proofs.Prefix.{by_recursion, all_tt}
 use Rattle.pp_share.proofs.IdLemmas.{place_missed}
 use Rattle.pp_share.proofs.Lists.{all_mapped, all_both, all_filter}
@@ -170,18 +173,50 @@ module _ (final : Profile) where
           (λ e. let none : position_or_len (λ o. id == o) (location_ids q) + 1 ≡ 0 = e in omega (arith, none)) (omega (arith, below)) in
           (omega (arith, at), omega (arith, at, below, many, long))
 
-  refs_from : (a : Profile) (qs : List Profile) → join_from a qs ≡ final → AllByRecursion NoRuleFails qs
-      → AllByRecursion (NamesLocations (length final.location)) a.sample → AllByRecursion (NamesLocations (length final.location)) (join_from a qs).sample
+  -- and their labels name texts that are there
+  own_labels : length final.text < 4611686018427387904 → (after : Sizes) (q : Profile) → Holds after q final → NoRuleFails q
+      → AllByRecursion (NamesTexts (length final.text)) (map (renumbered_sample (behind_ids after q)) q.sample)
+  own_labels few after q holds valid =
+      all_mapped (NamesTexts (length final.text)) (renumbered_sample (behind_ids after q)) (λ (s : Sample). list_all (label_has_texts q) s.label ≡ true)
+      (λ s is. all_mapped (λ l. names_texts (length final.text) l ≡ true) (renumbered_label (behind_ids after q)) (λ l. label_has_texts q l ≡ true) label s.label
+      (each_passes (label_has_texts q) s.label is))
+      q.sample (by_recursion (λ (s : Sample). list_all (label_has_texts q) s.label ≡ true) q.sample
+      (passes (λ (s : Sample). list_all (label_has_texts q) s.label) q.sample valid.sample_text))
+    where
+      long : length final.text ≡ after.text + (length q.text + length holds.texts_after)
+      long =
+          ap length holds.texts ∙ length-append holds.texts_before (q.text ++ holds.texts_after)
+          ∙ (λ j. holds.texts_long j + length-append q.text holds.texts_after j)
+
+      here : (i : ℤ) → is_text q i ≡ true → is_text_of (length final.text) ((behind_ids after q).text i) ≡ true
+      here i is =
+          let below = text_below (length q.text) i is in
+          let at : behind_id after.text (length q.text) (text_number i + 1) ≡ after.text + (text_number i + 1) =
+          behind_in after.text (length q.text) (text_number i + 1) (λ e. let none : text_number i + 1 ≡ 0 = e in omega (arith, none)) (omega (arith, below)) in
+          let next : after.text + (text_number i + 1) ≡ after.text + text_number i + 1 = omega arith in
+          subst (λ index. is_text_of (length final.text) index ≡ true)
+          (sym (ap index_of_id (at ∙ next) ∙ index_next (after.text + text_number i) (omega (arith, few, long, below))))
+          (lt-ltb (after.text + text_number i) (length final.text) (omega (arith, long, below)))
+
+      label : (l : Label) → label_has_texts q l ≡ true → names_texts (length final.text) (renumbered_label (behind_ids after q) l) ≡ true
+      label l is =
+          let (front, num_unit) = and_parts (is_text q l.key && is_text q l.text) (is_text q l.num_unit) is in
+          let (key, text) = and_parts (is_text q l.key) (is_text q l.text) front in
+          (λ j. (here l.key key j && here l.text text j) && here l.num_unit num_unit j)
+
+-- What holds of the samples of each profile, as they are joined, holds of all.
+module _ (final : Profile) (P : Sample → Type 0)
+    (own : (after : Sizes) (q : Profile) → Holds after q final → NoRuleFails q → AllByRecursion P (map (renumbered_sample (behind_ids after q)) q.sample)) where
+  refs_from : (a : Profile) (qs : List Profile) → join_from a qs ≡ final → AllByRecursion NoRuleFails qs → AllByRecursion P a.sample → AllByRecursion P (join_from a qs).sample
   refs_from a [] is valid all = all
   refs_from a (q ∷ qs) is valid all =
       refs_from (chained a (moved_behind (sizes_of a) q)) qs is valid.1
-      (all_both (NamesLocations (length final.location)) a.sample _ all
-      (own_refs (sizes_of a) q (subst (Holds (sizes_of a) q) is (holds_next a q qs)) valid.0))
+      (all_both P a.sample _ all (own (sizes_of a) q (subst (Holds (sizes_of a) q) is (holds_next a q qs)) valid.0))
 
   pub refs_all : (p : Profile) (ps : List Profile) → join_from (moved_behind no_sizes p) ps ≡ final → AllByRecursion NoRuleFails (p ∷ ps)
-      → AllByRecursion (NamesLocations (length final.location)) (join_from (moved_behind no_sizes p) ps).sample
+      → AllByRecursion P (join_from (moved_behind no_sizes p) ps).sample
   refs_all p ps is valid =
-      refs_from (moved_behind no_sizes p) ps is valid.1 (own_refs no_sizes p (subst (Holds no_sizes p) is (holds_first p ps)) valid.0)
+      refs_from (moved_behind no_sizes p) ps is valid.1 (own no_sizes p (subst (Holds no_sizes p) is (holds_first p ps)) valid.0)
 
 -- What merging gives has a value per type.
 pub fits_contents : (p : Profile) (ps : List Profile) → FitsTypes (contents p ps)
@@ -222,7 +257,8 @@ module _ (p : Profile) (ps : List Profile) (valid : AllByRecursion NoRuleFails (
   one_joined = record {
     some = whole_some p ps ids start.0 start.1 few;
     empty = whole_empty p ps ids start.0 start.1 few;
-    samples = refs_all (join_from (moved_behind no_sizes p) ps) p ps refl valid;
+    samples = refs_all one (NamesLocations (length one.location)) (own_refs one) p ps refl valid;
+    labels = refs_all one (NamesTexts (length one.text)) (own_labels one few) p ps refl valid;
     duration = whole_duration p ps ids start.0 start.1 few;
   }
 
@@ -266,12 +302,6 @@ module _ (p : Profile) (ps : List Profile) (valid : AllByRecursion NoRuleFails (
   -- what is left of the profiles, written anew, is what merging gives
   pub one_merged : written (totalled (length one.sample_type) (gist one)) ≡ merged p ps
   one_merged = (λ j. written (totalled (types_long j) (whole_gist p ps ids start.0 start.1 few j)))
-
-  pub merged_valid : NoRuleFails (merged p ps)
-  merged_valid = valid_written (contents p ps) (fits_contents p ps)
-
-  pub merged_compact : IsCompact (merged p ps)
-  merged_compact = compact_written (contents p ps)
 
 -- What a joined profile keeps to that is to be shared.
 pub record IsShareable (whole : Profile) : Type 0 where

@@ -39,11 +39,6 @@ module _ {A B : Type 0} (before : A → Bool) (after : B → Bool) (f : A → B)
       nowhere after (map f xs) (all_mapped (λ y. after y ≡ true) f xs (all_by (λ x. before x ≡ true) (λ x. after (f x) ≡ true) step xs
       (recursion_from_All (λ x. before x ≡ true) xs (passes before xs none))))
 
-  pub still_all : (xs : List A) → list_all before xs ≡ true → list_all after (map f xs) ≡ true
-  still_all xs all =
-      all_pass after (map f xs) (all_mapped (λ y. after y ≡ true) f xs (all_by (λ x. before x ≡ true) (λ x. after (f x) ≡ true) step xs
-      (recursion_from_All (λ x. before x ≡ true) xs (AllPass-from_list_all before xs all))))
-
 -- a test that follows from another passes for the same items
 module _ {A : Type 0} (before after : A → Bool) (step : (x : A) → before x ≡ true → after x ≡ true) where
   pub nowhere_then : (xs : List A) → first_failing before xs ≡ None → first_failing after xs ≡ None

@@ -1,10 +1,10 @@
-use Rattle.std.proofs.Common.{◌≡◌, w64, ◌∷◌, length, ap, sym, subst, ◌∙◌}
+use Rattle.std.proofs.Common.{◌≡◌, w64, ◌∷◌, ap, sym, subst, ◌∙◌}
 use Rattle.std.specs.List.{AllByRecursion}
 use Rattle.std.proofs.lemmas.Bool.{OnTrue_at}
 use Rattle.std.proofs.lemmas.Int.{to_z-of_z}
 use Rattle.pp_model.specs.declared.profile.Profile.{Profile}
 use Rattle.pp_model.specs.Rules.{NoRuleFails}
-use Rattle.pp_share.specs.Hashes.{AreKnown}
+use Rattle.pp_share.specs.Hashes.{AreOwnHashes}
 use Rattle.pp_merge.specs.Joined.{joined}
 use Rattle.pp_merge.specs.Merging.{StandsAlone}
 use Rattle.pp_merge.proofs.InPlace.{stays_in_place}
@@ -24,13 +24,11 @@ returns-then-stays-clause-whole c =
     (c.with_duration-whole.ensures
     ∙ (λ j. record (c.into_profile.ensures.same j) { duration_nanos = to_z-of_z w64 c.args.duration (record { sfits = c.ranges.duration.sfits }) j }))
 
--- and so do its samples, whose labels name its texts
+-- and so do its samples
 pub returns-then-stays-clause-known : goal.returns-then-stays-clause-known
 returns-then-stays-clause-known c =
     let p : Profile = c.args.first in
-    let valid : NoRuleFails p = subst NoRuleFails c.into_profile.ensures.same c.into_profile.ensures.valid in
     let is : c.with_duration-whole.result ≡ record p { duration_nanos = c.args.duration } =
     c.with_duration-whole.ensures
     ∙ (λ j. record (c.into_profile.ensures.same j) { duration_nanos = to_z-of_z w64 c.args.duration (record { sfits = c.ranges.duration.sfits }) j }) in
-    subst (λ (q : Profile). AreKnown (length q.text) q.sample c.args.hashes) (sym is)
-    (record { labels = valid.sample_text; hashes = c.requires.hashes })
+    subst (λ (q : Profile). AreOwnHashes q.sample c.args.hashes) (sym is) c.requires.hashes
