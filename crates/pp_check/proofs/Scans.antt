@@ -3,7 +3,6 @@ use Rattle.std.proofs.Common.{◌≡◌, ◌+◌, ◌<◌, ℕ, List, Bool, true
 use Rattle.std.specs.Prelude.{◌==◌, ◌||◌, Some, None, not, slice_index}
 use Rattle.std.proofs.lemmas.Bool.{not-true, not-false}
 use Rattle.std.proofs.lemmas.List.{get_or-map}
-use Rattle.std.proofs.lemmas.List.{take_all}
 use Rattle.pp_model.specs.Rules.{first_repeated, stands_in}
 use Rattle.pp_check.specs.declared.known.Known.{Known}
 use Rattle.pp_check.specs.Known.{holds, Knows, Inserts}
@@ -44,7 +43,3 @@ scanned_more old new ids i id added within scanned is new_id added_true adds = r
 -- past the last id none stands earlier
 pub scanned_all : (known : Known) (ids : List ℕ) (i : ℕ) → i ≡ length ids → Scanned known ids i → None ≡ first_repeated ids
 scanned_all known ids i past scanned = repeats_nowhere ids i past scanned.distinct
-
--- past the last id all are known
-pub knows_all : (known : Known) (ids : List ℕ) (i : ℕ) → i ≡ length ids → Scanned known ids i → Knows known ids
-knows_all known ids i past scanned = subst (Knows known) (take_all i ids (omega arith)) scanned.seen

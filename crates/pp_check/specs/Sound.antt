@@ -1,5 +1,5 @@
 -- Samples that break no rule, as they are asked ahead of the others. No public clause cites these.
-use Rattle.std.specs.Prelude.{◌≡◌, Bool, ◌&&◌, None, List}
+use Rattle.std.specs.Prelude.{◌≡◌, Bool, true, ◌&&◌, None, List}
 use Rattle.std.specs.List.{list_all}
 use Rattle.pp_model.specs.declared.profile.Sample.{Sample}
 use Rattle.pp_model.specs.declared.profile.Profile.{Profile}
@@ -25,3 +25,9 @@ pub record HasSoundSamples (p : Profile) : Type 0 where
 pub record IsAsked (p : Profile) (samples : List Sample) (asked : Asked) : Type 0 where
   pub sound : asked.sound ≡ list_all (is_sound p) samples
   pub hashes : AreOwnHashes samples asked.hashes
+
+-- What is told of the profile's samples before its rules are tried: where it is that all are sound, no rule of samples
+-- fails and no rule of the locations' ids. The hashes are told wherever no rule of these ids fails.
+pub record IsAskedAhead (p : Profile) (asked : Asked) : Type 0 where
+  pub sound : asked.sound ≡ true → HasSoundSamples p
+  pub hashes : first_fault_of (location_faults p) ≡ None → AreOwnHashes p.sample asked.hashes

@@ -1,5 +1,5 @@
 //! Asking the samples of a profile, which can be cut anywhere.
-ghost use Rattle.std.specs.Prelude.{◌≡◌, IfOk};
+ghost use Rattle.std.specs.Prelude.{◌≡◌, false, IfOk};
 ghost use Rattle.std.specs.List.{list_all};
 ghost use Rattle.pp_model.specs.Rules.{location_ids};
 ghost use Rattle.pp_check.specs.Known.{Knows};
@@ -35,6 +35,19 @@ pub(crate) struct Asked {
     pub(crate) hashes: Hashes,
 }
 
+impl Asked {
+    /// What is told of samples that are not asked.
+    pub(crate) fn unsound(alloc: Global) -> Result<Asked, Memory>
+        ensures { IfOk result (λ asked. asked.sound ≡ false) }
+    {
+        let hashes = Hashes::with_room(alloc, 0)?;
+        Ok(Asked {
+            sound: false,
+            hashes,
+        })
+    }
+}
+
 impl Piecewise<Sample> for Asking<'_> {
     type Out = Asked;
 
@@ -64,8 +77,8 @@ impl Piecewise<Sample> for Asking<'_> {
     }
 }
 
-/// Whether all of these samples are sound.
-pub(crate) fn are_sound(p: &Profile, locations: &Known, samples: &[Sample]) -> bool
+// Whether all of these samples are sound.
+fn are_sound(p: &Profile, locations: &Known, samples: &[Sample]) -> bool
     requires { Knows locations.now (location_ids p.now) }
     ensures { result ≡ list_all (is_sound p.now) samples.now }
 {

@@ -7,7 +7,6 @@ ghost use Rattle.pp_check.specs.Known.{Knows};
 ghost use Rattle.pp_check.specs.Sound.{HasSoundSamples};
 ghost use Rattle.pp_model.specs.Rules.{mapping_ids, function_ids, location_ids};
 
-use crate::asking::are_sound;
 use crate::fault::{CheckRefusal, Table, TableFault, refuse};
 use crate::ids::known_ids;
 use crate::known::Known;
@@ -40,22 +39,8 @@ pub fn check(alloc: Global, p: Profile) -> Result<Valid, CheckRefusal>
     requires { IsIndexed p }
     ensures { Checks p result }
 {
-    let keys = HashKeys::fixed();
-    let samples = ask_samples(alloc, keys, &p)?;
-    try_rules(alloc, keys, &p, samples)?;
+    try_rules(alloc, HashKeys::fixed(), &p, Samples::Unasked)?;
     Ok(Valid::claim(p))
-}
-
-// Asks the ids of the locations and all samples. Samples are many, so one walk asks them for all of their rules.
-fn ask_samples(alloc: Global, keys: HashKeys, p: &Profile) -> Result<Samples, Memory>
-    requires { IsIndexed p.now }
-    ensures { IfOk result (λ samples. samples ≡ Samples.Sound → HasSoundSamples p.now) }
-{
-    match known_locations(alloc, keys, p) {
-        Ok(locations) => Ok(Samples::known(are_sound(p, &locations, p.sample.as_slice()))),
-        Err(CheckRefusal::Fault(_)) => Ok(Samples::Unasked),
-        Err(CheckRefusal::Memory) => Err(Memory),
-    }
 }
 
 /// Tries all rules, in their order. Sound samples and the ids of their locations are left out.

@@ -1,6 +1,6 @@
 -- What follows where profiles can be merged: they can be joined, and what is left of them is what merging gives.
 use Rattle.std.proofs.Common.{◌≡◌, ◌≢◌, ℕ, ◌+◌, ◌<◌, ◌≤◌, Bool, true, false, true≢false, cond, not, ◌||◌, ◌&&◌, nat_lt, ℤ, pos, nat_abs, List, [], ◌∷◌, ◌++◌, map, filter, length, length-append, get_or, sum_by, Option, None, Some, refl, sym, ap, subst, ◌∙◌, inl, inr, if◌then◌else◌, arith}
-use Rattle.std.specs.Prelude.{◌==◌, position, Ok}
+use Rattle.std.specs.Prelude.{◌==◌, position, Ok, Err, IfSome}
 use Rattle.std.specs.List.{All, AllByRecursion, flat_map, position_or_len, list_any, list_all, range_with_len}
 use Rattle.std.specs.Option.{option_map, option_or}
 use Rattle.std.specs.Cmp.Lexicographic.{pointwise}
@@ -25,6 +25,9 @@ use Rattle.pp_model.proofs.RuleLemmas.{passes, text_below}
 use Rattle.pp_merge.specs.declared.refusal.What.{What}
 use Rattle.pp_merge.specs.declared.refusal.What.TheVariants.{SampleTypes, PeriodType}
 use Rattle.pp_merge.specs.declared.join.Sizes.{Sizes}
+use Rattle.pp_merge.specs.declared.refusal.MergeRefusal.{MergeRefusal}
+use Rattle.pp_share.specs.declared.hashes.Hashes.{Hashes}
+use Rattle.pp_share.specs.Hashes.{AreOwnHashes}
 use Rattle.pp_share.specs.Behind.{behind_id}
 use Rattle.pp_share.specs.Ids.{place_id, index_of_id}
 use Rattle.pp_share.specs.Header.{type_text}
@@ -38,7 +41,7 @@ use Rattle.pp_share.specs.Placed.{gist, totalled}
 use Rattle.pp_share.specs.Renumbered.{renumbered_label, renumbered_sample, renumbered_location}
 use Rattle.pp_share.specs.Share.{NamesLocations, NamesTexts, names_texts, IsJoined}
 use Rattle.pp_merge.specs.Joined.{behind_ids, moved_behind, sizes_of, no_sizes, chained, join_from, joined}
-use Rattle.pp_merge.specs.Merging.{CanMerge, IsWhole}
+use Rattle.pp_merge.specs.Merging.{CanMerge, IsShareable, AreKnownAlone}
 use Rattle.pp_share.proofs.EntryLemmas.{index_next}
 use Rattle.pp_share.proofs.Prefix.{by_recursion, all_tt}
 use Rattle.pp_share.proofs.IdLemmas.{place_missed}
@@ -46,6 +49,7 @@ use Rattle.pp_share.proofs.Lists.{all_mapped, all_both, all_filter}
 use Rattle.pp_share.proofs.SumLemmas.{length-total_of}
 use Rattle.pp_share.proofs.SampleKeyLemmas.{sum_by-map}
 use Rattle.pp_share.proofs.JoinLemmas.{behind_in}
+use Rattle.pp_merge.proofs.InPlace.{stays_in_place}
 use Rattle.pp_merge.proofs.JoinedTables.{HasIds, Holds}
 use Rattle.pp_merge.proofs.JoinedAll.{rows, AllHaveIds, holds_next, holds_first, whole, whole_some, whole_empty, whole_gist, whole_duration, whole_rows, whole_types}
 use Rattle.pp_merge.proofs.SettledLemmas.{each_passes, no_column}
@@ -303,47 +307,41 @@ module _ (p : Profile) (ps : List Profile) (valid : AllByRecursion NoRuleFails (
   pub one_merged : written (totalled (length one.sample_type) (gist one)) ≡ merged p ps
   one_merged = (λ j. written (totalled (types_long j) (whole_gist p ps ids start.0 start.1 few j)))
 
--- What a joined profile keeps to that is to be shared.
-pub record IsShareable (whole : Profile) : Type 0 where
-  pub joined : IsJoined whole
-  pub wide : All (λ (s : Sample). length s.value ≡ length whole.sample_type) whole.sample
-  pub fits : (column : ℕ) → column < length whole.sample_type → sum_by (λ (s : Sample). nat_abs (value_in s column)) whole.sample ≤ 9223372036854775807
-
--- what is left of the profiles is what merging gives of them, in order
-pub record IsLeft (p : Profile) (ps : List Profile) (r : Profile) : Type 0 where
-  pub merged_is : r ≡ merged p ps
-  pub valid : NoRuleFails r
-  pub compact : IsCompact r
-
-pub whole_shareable : (p : Profile) (ps : List Profile) (duration : ℤ) (r : Profile) → CanMerge p ps duration → IsWhole p ps r → IsShareable r
-whole_shareable p ps duration r can is =
-    let few = subst (λ (q : Profile). length q.text < 4611686018427387904) is.0 is.1.0 in
-    subst IsShareable (sym is.0)
+-- Profiles that can be merged, one behind the other and with the duration of all.
+pub shareable : (p : Profile) (ps : List Profile) (duration : ℤ) (found r : Profile) → CanMerge p ps duration → found ≡ joined p ps → length found.text < 4611686018427387904
+    → AllByRecursion NoRuleFails (p ∷ ps) → r ≡ record found { duration_nanos = duration } → IsShareable p ps r
+shareable p ps duration found r can is few valid done =
+    let few_joined = subst (λ (q : Profile). length q.text < 4611686018427387904) is few in
+    subst (IsShareable p ps) (sym (done ∙ (λ j. record (is j) { duration_nanos = can.1.1 j })))
     (record {
-      joined = one_joined p ps is.1.1 can.0 can.1.0 few;
-      wide = one_wide p ps is.1.1 can.0 can.1.0 few;
-      fits = one_fits p ps is.1.1 can.0 can.1.0 few;
+      joined = one_joined p ps valid can.0 can.1.0 few_joined;
+      wide = one_wide p ps valid can.0 can.1.0 few_joined;
+      fits = one_fits p ps valid can.0 can.1.0 few_joined;
+      agree = can.0;
+      small = can.1.0;
+      merged_is = one_merged p ps valid can.0 can.1.0 few_joined;
     })
 
-pub whole_left : (p : Profile) (ps : List Profile) (duration : ℤ) (r m : Profile) → CanMerge p ps duration → IsWhole p ps r
-    → m ≡ written (totalled (length r.sample_type) (gist r)) → IsLeft p ps m
-whole_left p ps duration r m can is done =
-    let few = subst (λ (q : Profile). length q.text < 4611686018427387904) is.0 is.1.0 in
-    let same : m ≡ merged p ps =
-    done ∙ ap (λ (q : Profile). written (totalled (length q.sample_type) (gist q))) is.0 ∙ one_merged p ps is.1.1 can.0 can.1.0 few in
-    record {
-      merged_is = same;
-      valid = subst NoRuleFails (sym same) (valid_written (contents p ps) (fits_contents p ps));
-      compact = subst IsCompact (sym same) (compact_written (contents p ps));
-    }
+-- A profile that stands alone keeps its samples, and so their hashes.
+pub known_joined : (p : Profile) (ps : List Profile) (duration : ℤ) (found r : Profile) (known : Option Hashes) → found ≡ joined p ps → NoRuleFails p
+    → r ≡ record found { duration_nanos = duration } → IfSome known (AreKnownAlone p ps) → IfSome known (AreOwnHashes r.sample)
+known_joined p ps duration found r None is valid done none = none
+known_joined p ps duration found r (Some hashes) is valid done known =
+    let same : found ≡ p = is ∙ ap (joined p) known.alone.0 ∙ sym (stays_in_place p valid known.alone.1) in
+    subst (λ (samples : List Sample). AreOwnHashes samples hashes) (sym (ap (λ (q : Profile). q.sample) (done ∙ (λ j. record (same j) { duration_nanos = duration })))) known.own
 
--- the joined profile with the duration of all
-pub whole_is : (p : Profile) (ps : List Profile) (duration : ℤ) (found r : Profile) → CanMerge p ps duration → found ≡ joined p ps → length found.text < 4611686018427387904
-    → AllByRecursion NoRuleFails (p ∷ ps) → r ≡ record found { duration_nanos = duration } → IsWhole p ps r
-whole_is p ps duration found r can is few valid done =
-    (done ∙ (λ j. record (is j) { duration_nanos = can.1.1 j }), (subst (λ (q : Profile). length q.text < 4611686018427387904) (sym done) few, valid))
+-- What is left of the profiles is a valid profile that says nothing twice.
+pub merged_valid : (p : Profile) (ps : List Profile) → NoRuleFails (merged p ps)
+merged_valid p ps = valid_written (contents p ps) (fits_contents p ps)
+
+pub merged_compact : (p : Profile) (ps : List Profile) → IsCompact (merged p ps)
+merged_compact p ps = compact_written (contents p ps)
+
+-- a refusal of the profiles is one of the list
+pub refused_list : (list : List Profile) (p : Profile) (ps : List Profile) (e : MergeRefusal) → list ≡ p ∷ ps → Merges (p ∷ ps) (Err e) → Merges list (Err e)
+refused_list list p ps e same is = subst (λ l. Merges l (Err e)) (sym same) is
 
 -- What the stages answer is what merging answers.
-pub merges_merged : (list : List Profile) (p : Profile) (ps : List Profile) (duration : ℤ) (r : Profile) → list ≡ p ∷ ps → CanMerge p ps duration → r ≡ merged p ps
+pub merges_merged : (list : List Profile) (p : Profile) (ps : List Profile) (whole r : Profile) → list ≡ p ∷ ps → IsShareable p ps whole → r ≡ merged p ps
     → Merges list (Ok r)
-merges_merged list p ps duration r same can is = subst (λ l. Merges l (Ok r)) (sym same) (can.0, (can.1.0, is))
+merges_merged list p ps whole r same can is = subst (λ l. Merges l (Ok r)) (sym same) (can.agree, (can.small, is))

@@ -1,7 +1,6 @@
 -- Numbers tell apart what the items' own test tells apart.
-use Rattle.std.proofs.Common.{◌≡◌, ℕ, suc, ◌+◌, Bool, true, false, true≢false, cond, not, ◌||◌, nat_eq, ◌<◌, length, map, get_or, ◌&&◌, List, [], ◌∷◌, refl, sym, ◌∙◌, arith}
-use Rattle.std.specs.List.{list_any, AllByRecursion}
-use Rattle.std.specs.Cmp.Lexicographic.{pointwise}
+use Rattle.std.proofs.Common.{◌≡◌, ℕ, suc, ◌+◌, Bool, true, false, true≢false, cond, not, ◌||◌, nat_eq, ◌<◌, length, map, get_or, List, [], ◌∷◌, refl, sym, ◌∙◌, arith}
+use Rattle.std.specs.List.{list_any}
 use Rattle.std.specs.Cmp.{IsEquivalence}
 use Rattle.std.proofs.lemmas.List.{get_or-map}
 use Rattle.std.proofs.lemmas.List.Elements.{All-from_recursion}
@@ -45,12 +44,3 @@ module _ {A : Type 0} (same : A → A → Bool) (laws : IsEquivalence same) wher
       let all = All-from_recursion (IsSeen same few) xs (all_seen same laws.refl [] xs) in
       (λ t. nat_eq (get_or-map (place_of same few) xs i d 0 within_i t) (get_or-map (place_of same few) xs j d 0 within_j t))
       ∙ place_tells few (get_or xs i d) (get_or xs j d) (all i d within_i) (all j d within_j)
-
-  -- Lists of places are told apart by numbers as the lists of their items are.
-  pub lists_tell : (xs : List A) (d : A) (is js : List ℕ) → AllByRecursion (λ i. i < length xs) is → AllByRecursion (λ j. j < length xs) js
-      → pointwise nat_eq (map (λ i. get_or (numbers same xs) i 0) is) (map (λ j. get_or (numbers same xs) j 0) js)
-      ≡ pointwise same (map (λ i. get_or xs i d) is) (map (λ j. get_or xs j d) js)
-  lists_tell xs d [] [] wi wj = refl
-  lists_tell xs d [] (j ∷ js) wi wj = refl
-  lists_tell xs d (i ∷ is) [] wi wj = refl
-  lists_tell xs d (i ∷ is) (j ∷ js) wi wj = (λ t. numbers_tell xs d i j wi.0 wj.0 t && lists_tell xs d is js wi.1 wj.1 t)

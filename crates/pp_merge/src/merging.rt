@@ -1,9 +1,9 @@
 //! Several profiles become one.
-ghost use Rattle.std.specs.Prelude.{◌≡◌, ◌+◌, ◌-◌, ◌<◌, ◌≤◌, ◌^◌, ◌∷◌, length, IfOk, IfSome};
+ghost use Rattle.std.specs.Prelude.{◌≡◌, ◌+◌, ◌-◌, ◌<◌, ◌≤◌, ◌^◌, ◌∷◌, length, IfOk, IfErr, IfSome};
 ghost use Rattle.std.specs.Bool.{OnTrue};
 ghost use Rattle.std.specs.List.{AllByRecursion, sum_by};
-ghost use Rattle.pp_merge.specs.Merge.{Merges, merged, too_large};
-ghost use Rattle.pp_merge.specs.Merging.{Admits, CanMerge, IsWhole, StandsAlone};
+ghost use Rattle.pp_merge.specs.Merge.{Merges, too_large};
+ghost use Rattle.pp_merge.specs.Merging.{Admits, AreKnownAlone, CanMerge, IsShareable};
 ghost use Rattle.pp_merge.specs.Together.{sum_of_all};
 ghost use Rattle.pp_share.specs.Hashes.{AreOwnHashes};
 
@@ -19,7 +19,6 @@ use pp_model::{Compact, Profile, Valid};
 use pp_share::{Hashed, Hashes, share, share_on};
 use pp_steal::Resources;
 use std::alloc::Global;
-use std::mem;
 use std::thread::Threads;
 
 /// The profiles as one. Functions, mappings, locations, samples and comments that are equal become one, in the order of
@@ -38,9 +37,9 @@ pub fn merge(alloc: Global, hash_keys: HashKeys, list: List<Valid>) -> Result<Co
     ensures { Merges list result }
 {
     let (first, others) = split(list);
-    let duration = admit(&first, others.as_slice(), false)?;
-    let merged = merge_admitted(alloc, hash_keys, first, others, duration)?;
-    Ok(merged)
+    let (whole, _) = join_admitted(alloc, hash_keys, first, others, None, false)?;
+    let shared = share(alloc, hash_keys, whole)?;
+    Ok(Compact::claim(Valid::claim(shared)))
 }
 
 /// The profile or refusal of `merge`, for profiles whose samples are hashed. A profile that stands alone, with its
@@ -60,10 +59,10 @@ pub fn merge_on<R: Threads + Sync>(
     let (first, hashes) = hashed.into_parts();
     let (others, together) = without_hashes(with.alloc, behind, hashes.together)?;
     let are_small = together <= i64::MAX as u64;
-    let duration = admit(&first, others.as_slice(), are_small)?;
-    let (whole, known) = join_hashed(with.alloc, with.keys, first, others, duration, hashes)?;
-    let merged = share_on(with, whole, known)?;
-    Ok(Compact::claim(Valid::claim(merged)))
+    let (whole, known) =
+        join_admitted(with.alloc, with.keys, first, others, Some(hashes), are_small)?;
+    let shared = share_on(with, whole, known)?;
+    Ok(Compact::claim(Valid::claim(shared)))
 }
 
 // The first of the profiles, and those behind it.
@@ -107,70 +106,58 @@ fn large_column(first: &Valid, others: &[Valid], are_small: bool) -> Option<usiz
     too_large_column(first.get().sample_type.len(), first, others)
 }
 
-// The profiles as one, where they can be merged and have this duration together.
-fn merge_admitted(
+// The profiles one behind the other, with the duration of all, where they can be merged. The hashes of the first one's
+// samples go with it where it stands alone, with its references by place.
+fn join_admitted(
     alloc: Global,
     hash_keys: HashKeys,
     first: Valid,
     others: Vec<Valid>,
-    duration: i64,
-) -> Result<Compact, Memory>
-    requires { CanMerge first others.items duration }
-    ensures { IfOk result (λ r. r ≡ merged first others.items) }
+    hashes: Option<Hashes>,
+    are_small: bool,
+) -> Result<(Profile, Option<Hashes>), MergeRefusal>
+    requires few { length others.items + 1 < 2 ^ 32 }
+    requires columns { length first.sample_type < 2 ^ 32 }
+    requires small { OnTrue are_small (sum_of_all (first ∷ others.items) ≤ 2 ^ 63 - 1) }
+    requires hashes { IfSome hashes (AreOwnHashes first.sample) }
+    ensures whole { IfOk result (λ r. IsShareable first others.items r.0) }
+    ensures known { IfOk result (λ r. IfSome r.1 (AreOwnHashes r.0.sample)) }
+    ensures refused { IfErr result (λ e. Merges (first ∷ others.items) (Err e)) }
 {
-    let whole = join_whole(alloc, hash_keys, first, others, duration)?;
-    let merged = share(alloc, hash_keys, whole)?;
-    Ok(Compact::claim(Valid::claim(merged)))
+    let duration = admit(&first, others.as_slice(), are_small)?;
+    let joined = join_hashed(alloc, hash_keys, first, others, duration, hashes)?;
+    Ok(joined)
 }
 
-// The profiles one behind the other, with the duration of all.
-fn join_whole(
-    alloc: Global,
-    hash_keys: HashKeys,
-    first: Valid,
-    others: Vec<Valid>,
-    duration: i64,
-) -> Result<Profile, Memory>
-    requires { CanMerge first others.items duration }
-    ensures { IfOk result (λ r. IsWhole first others.items r) }
-{
-    let joined = join(alloc, hash_keys, first, others)?;
-    Ok(with_duration(joined, duration))
-}
-
-// `join_whole`, and the hashes of its samples where they are known: a profile that stands alone, with its references by
-// place, keeps those of the first one.
+// The profiles, which can be merged and have this duration together, one behind the other.
 fn join_hashed(
     alloc: Global,
     hash_keys: HashKeys,
     first: Valid,
     others: Vec<Valid>,
     duration: i64,
-    hashes: Hashes,
+    hashes: Option<Hashes>,
 ) -> Result<(Profile, Option<Hashes>), Memory>
     requires can { CanMerge first others.items duration }
-    requires hashes { AreOwnHashes first.sample hashes }
-    ensures whole { IfOk result (λ r. IsWhole first others.items r.0) }
+    requires hashes { IfSome hashes (AreOwnHashes first.sample) }
+    ensures whole { IfOk result (λ r. IsShareable first others.items r.0) }
     ensures known { IfOk result (λ r. IfSome r.1 (AreOwnHashes r.0.sample)) }
 {
-    let stays = stands_alone(&first, others.as_slice());
-    if stays {
-        let whole = with_duration(first.into_profile(), duration);
-        return Ok((whole, Some(hashes)));
-    }
-    mem::drop(hashes);
-    let whole = join_whole(alloc, hash_keys, first, others, duration)?;
-    Ok((whole, None))
+    let known = known_alone(&first, others.as_slice(), hashes);
+    let joined = join(alloc, hash_keys, first, others)?;
+    Ok((with_duration(joined, duration), known))
 }
 
-// Whether the first profile stands alone, with its references by place.
-fn stands_alone(first: &Valid, others: &[Valid]) -> bool
-    ensures { OnTrue result (StandsAlone first.now others.now) }
+// The hashes of the first profile's samples, where it stands alone, with its references by place.
+fn known_alone(first: &Valid, others: &[Valid], hashes: Option<Hashes>) -> Option<Hashes>
+    requires { IfSome hashes (AreOwnHashes first.now.sample) }
+    ensures { IfSome result (AreKnownAlone first.now others.now) }
 {
-    if !others.is_empty() {
-        return false;
+    if others.is_empty() && is_in_place(first.get()) {
+        hashes
+    } else {
+        None
     }
-    is_in_place(first.get())
 }
 
 // The profile with this duration.

@@ -1,7 +1,8 @@
-use Rattle.std.proofs.Common.{subst}
-use Rattle.std.specs.Prelude.{IfOk}
-use Rattle.pp_check.specs.Sound.{IsAsked}
+use Rattle.pp_check.proofs.SoundLemmas.{asked_ahead, not_asked}
 use Rattle.pp_check.proofs.lanes.ask_on.Goals as goal
 
-pub returns : goal.returns
-returns g c = subst (λ samples. IfOk c.run_piecewise.result (IsAsked c.args.p.now samples)) c.as_slice.ensures c.run_piecewise.ensures
+pub returns-in-Ok : goal.returns-in-Ok
+returns-in-Ok g c = asked_ahead c.args.p.now c.ask_samples.result c.in-Ok.ensures.faults c.ask_samples.ensures
+
+pub returns-in-Err-Fault : goal.returns-in-Err-Fault
+returns-in-Err-Fault g c = ?

@@ -1,9 +1,23 @@
-use Rattle.std.proofs.Common.{◌<◌, ◌^◌, length, subst}
+use Rattle.std.proofs.Common.{◌<◌, ◌^◌, length, sym, subst, ◌∙◌}
 use Rattle.std.specs.List.{AllByRecursion}
 use Rattle.pp_model.specs.declared.profile.Profile.{Profile}
+use Rattle.pp_model.specs.Rules.{NoRuleFails, IsCompact}
+use Rattle.pp_merge.proofs.MergeLemmas.{merged_valid, merged_compact, merges_merged}
 use Rattle.pp_merge.proofs.merging.merge.Goals as goal
 
 -- the first profile has few columns, as each has
-pub admit-requires-clause-columns : goal.admit-requires-clause-columns
-admit-requires-clause-columns c =
+pub join_admitted-requires-clause-columns : goal.join_admitted-requires-clause-columns
+join_admitted-requires-clause-columns c =
     (subst (AllByRecursion (λ (p : Profile). length p.sample_type < 2 ^ 32)) c.split-first.ensures c.requires.columns).0
+
+-- what is left is valid and compact
+pub claim-requires : goal.claim-requires
+claim-requires c = subst NoRuleFails (sym (c.in_ok-shared.ensures ∙ c.in_ok-whole.ensures.whole.merged_is)) (merged_valid _ _)
+
+pub claim-requires-2 : goal.claim-requires-2
+claim-requires-2 c = subst IsCompact (sym (c.claim.ensures ∙ c.in_ok-shared.ensures ∙ c.in_ok-whole.ensures.whole.merged_is)) (merged_compact _ _)
+
+pub returns : goal.returns
+returns c =
+    merges_merged c.args.list _ _ c.in_ok-whole.whole c.claim-2.result c.split-first.ensures c.in_ok-whole.ensures.whole
+    (c.claim-2.ensures ∙ c.claim.ensures ∙ c.in_ok-shared.ensures ∙ c.in_ok-whole.ensures.whole.merged_is)
