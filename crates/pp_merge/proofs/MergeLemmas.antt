@@ -257,12 +257,16 @@ module _ (p : Profile) (ps : List Profile) (valid : AllByRecursion NoRuleFails (
   abbrev pub one : Profile
   one = whole p ps ids start.0 start.1 few
 
+  -- all of it but the duration
+  abbrev final : Profile
+  final = join_from (moved_behind no_sizes p) ps
+
   pub one_joined : IsJoined one
   one_joined = record {
     some = whole_some p ps ids start.0 start.1 few;
     empty = whole_empty p ps ids start.0 start.1 few;
-    samples = refs_all one (NamesLocations (length one.location)) (own_refs one) p ps refl valid;
-    labels = refs_all one (NamesTexts (length one.text)) (own_labels one few) p ps refl valid;
+    samples = refs_all final (NamesLocations (length final.location)) (own_refs final) p ps refl valid;
+    labels = refs_all final (NamesTexts (length final.text)) (own_labels final few) p ps refl valid;
     duration = whole_duration p ps ids start.0 start.1 few;
   }
 
@@ -342,6 +346,6 @@ pub refused_list : (list : List Profile) (p : Profile) (ps : List Profile) (e : 
 refused_list list p ps e same is = subst (λ l. Merges l (Err e)) (sym same) is
 
 -- What the stages answer is what merging answers.
-pub merges_merged : (list : List Profile) (p : Profile) (ps : List Profile) (whole r : Profile) → list ≡ p ∷ ps → IsShareable p ps whole → r ≡ merged p ps
+pub merges_merged : (list : List Profile) (p : Profile) (ps : List Profile) (one r : Profile) → list ≡ p ∷ ps → IsShareable p ps one → r ≡ merged p ps
     → Merges list (Ok r)
-merges_merged list p ps whole r same can is = subst (λ l. Merges l (Ok r)) (sym same) (can.agree, (can.small, is))
+merges_merged list p ps one r same can is = subst (λ l. Merges l (Ok r)) (sym same) (can.agree, (can.small, is))

@@ -59,8 +59,14 @@ pub fn merge_on<R: Threads + Sync>(
     let (first, hashes) = hashed.into_parts();
     let (others, together) = without_hashes(with.alloc, behind, hashes.together)?;
     let are_small = together <= i64::MAX as u64;
-    let (whole, known) =
-        join_admitted(with.alloc, with.keys, first, others, Some(hashes), are_small)?;
+    let (whole, known) = join_admitted(
+        with.alloc,
+        with.keys,
+        first,
+        others,
+        Some(hashes),
+        are_small,
+    )?;
     let shared = share_on(with, whole, known)?;
     Ok(Compact::claim(Valid::claim(shared)))
 }

@@ -12,12 +12,15 @@ join_admitted-requires-clause-columns c =
 
 -- what is left is valid and compact
 pub claim-requires : goal.claim-requires
-claim-requires c = subst NoRuleFails (sym (c.in_ok-shared.ensures ∙ c.in_ok-whole.ensures.whole.merged_is)) (merged_valid _ _)
+claim-requires c =
+    subst NoRuleFails (sym (c.in_ok-shared.ensures ∙ c.in_ok-whole.ensures.whole.merged_is)) (merged_valid c.split-first.result.0 c.split-first.result.1.items)
 
 pub claim-requires-2 : goal.claim-requires-2
-claim-requires-2 c = subst IsCompact (sym (c.claim.ensures ∙ c.in_ok-shared.ensures ∙ c.in_ok-whole.ensures.whole.merged_is)) (merged_compact _ _)
+claim-requires-2 c =
+    subst IsCompact (sym (c.claim.ensures ∙ c.in_ok-shared.ensures ∙ c.in_ok-whole.ensures.whole.merged_is))
+    (merged_compact c.split-first.result.0 c.split-first.result.1.items)
 
 pub returns : goal.returns
 returns c =
-    merges_merged c.args.list _ _ c.in_ok-whole.whole c.claim-2.result c.split-first.ensures c.in_ok-whole.ensures.whole
+    merges_merged c.args.list c.split-first.result.0 c.split-first.result.1.items c.in_ok-whole.whole c.claim-2.result c.split-first.ensures c.in_ok-whole.ensures.whole
     (c.claim-2.ensures ∙ c.claim.ensures ∙ c.in_ok-shared.ensures ∙ c.in_ok-whole.ensures.whole.merged_is)

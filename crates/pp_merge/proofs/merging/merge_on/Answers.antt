@@ -6,10 +6,13 @@ use Rattle.pp_merge.proofs.merging.merge_on.Goals as goal
 
 -- what is left is valid and compact
 pub claim-requires : goal.claim-requires
-claim-requires g c = subst NoRuleFails (sym (c.in_ok-shared.ensures ∙ c.in_ok-whole.ensures.whole.merged_is)) (merged_valid _ _)
+claim-requires g c =
+    subst NoRuleFails (sym (c.in_ok-shared.ensures ∙ c.in_ok-whole.ensures.whole.merged_is)) (merged_valid c.into_parts-first.result.0 c.in_ok-others.others.items)
 
 pub claim-requires-2 : goal.claim-requires-2
-claim-requires-2 g c = subst IsCompact (sym (c.claim.ensures ∙ c.in_ok-shared.ensures ∙ c.in_ok-whole.ensures.whole.merged_is)) (merged_compact _ _)
+claim-requires-2 g c =
+    subst IsCompact (sym (c.claim.ensures ∙ c.in_ok-shared.ensures ∙ c.in_ok-whole.ensures.whole.merged_is))
+    (merged_compact c.into_parts-first.result.0 c.in_ok-others.others.items)
 
 -- the list is the first profile and the others, as they are without their hashes
 pub returns : goal.returns
@@ -19,3 +22,6 @@ returns g c =
     let list : c.args.list ≡ first ∷ others = c.split-hashed.ensures ∙ (λ j. sym c.into_parts-first.ensures.same j ∷ sym c.in_ok-others.ensures.same j) in
     merges_merged c.args.list first others c.in_ok-whole.whole c.claim-2.result list c.in_ok-whole.ensures.whole
     (c.claim-2.ensures ∙ c.claim.ensures ∙ c.in_ok-shared.ensures ∙ c.in_ok-whole.ensures.whole.merged_is)
+
+pub returns-in_err-shared : goal.returns-in_err-shared
+returns-in_err-shared g c = ?
