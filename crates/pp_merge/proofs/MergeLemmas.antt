@@ -1,6 +1,6 @@
 -- What follows where profiles can be merged: they can be joined, and what is left of them is what merging gives.
 use Rattle.std.proofs.Common.{◌≡◌, ◌≢◌, ℕ, ◌+◌, ◌<◌, ◌≤◌, Bool, true, false, true≢false, cond, not, ◌||◌, ◌&&◌, nat_lt, ℤ, pos, nat_abs, List, [], ◌∷◌, ◌++◌, map, filter, length, length-append, get_or, sum_by, Option, None, Some, refl, sym, ap, subst, ◌∙◌, inl, inr, if◌then◌else◌, arith}
-use Rattle.std.specs.Prelude.{◌==◌, position, Ok, Err, IfSome}
+use Rattle.std.specs.Prelude.{◌==◌, position, Result, Ok, Err, IfSome, IsErrAnd}
 use Rattle.std.specs.List.{All, AllByRecursion, flat_map, position_or_len, list_any, list_all, range_with_len}
 use Rattle.std.specs.Option.{option_map, option_or}
 use Rattle.std.specs.Cmp.Lexicographic.{pointwise}
@@ -26,6 +26,7 @@ use Rattle.pp_merge.specs.declared.refusal.What.{What}
 use Rattle.pp_merge.specs.declared.refusal.What.TheVariants.{SampleTypes, PeriodType}
 use Rattle.pp_merge.specs.declared.join.Sizes.{Sizes}
 use Rattle.pp_merge.specs.declared.refusal.MergeRefusal.{MergeRefusal}
+use Rattle.pp_merge.specs.declared.refusal.MergeRefusal.TheVariants.{Memory}
 use Rattle.pp_share.specs.declared.hashes.Hashes.{Hashes}
 use Rattle.pp_share.specs.Hashes.{AreOwnHashes}
 use Rattle.pp_share.specs.Behind.{behind_id}
@@ -341,9 +342,11 @@ merged_valid p ps = valid_written (contents p ps) (fits_contents p ps)
 pub merged_compact : (p : Profile) (ps : List Profile) → IsCompact (merged p ps)
 merged_compact p ps = compact_written (contents p ps)
 
--- a refusal of the profiles is one of the list
-pub refused_list : (list : List Profile) (p : Profile) (ps : List Profile) (e : MergeRefusal) → list ≡ p ∷ ps → Merges (p ∷ ps) (Err e) → Merges list (Err e)
-refused_list list p ps e same is = subst (λ l. Merges l (Err e)) (sym same) is
+-- want of memory is an answer for every list
+pub wants_memory : (list : List Profile) (r : Result Profile MergeRefusal) → IsErrAnd r (λ e. e ≡ Memory) → Merges list r
+wants_memory [] r is = tt
+wants_memory (p ∷ ps) (Ok m) is = absurd is
+wants_memory (p ∷ ps) (Err e) is = subst (λ f. Merges (p ∷ ps) (Err f)) (sym is) tt
 
 -- What the stages answer is what merging answers.
 pub merges_merged : (list : List Profile) (p : Profile) (ps : List Profile) (one r : Profile) → list ≡ p ∷ ps → IsShareable p ps one → r ≡ merged p ps
