@@ -37,7 +37,7 @@ use Rattle.pp_library.specs.declared.tabling.Figure.{Figure}
 use Rattle.pp_library.specs.declared.tabling.FigureTable.{FigureTable}
 use Rattle.pp_library.specs.declared.report_error.ReportError.{ReportError}
 use Rattle.pp_library.specs.Asked.{Asked, value_of}
-use Rattle.pp_library.specs.Figures.{TablesPrintFigures, figure_of, figure_line, figures_by, figures_outcome, figures_settled, printed_figures, table_with, table_figures, table_text, without_edges, HasEdgesOn, HasEdges}
+use Rattle.pp_library.specs.Figures.{TablesPrintFigures, figure_of, figure_line, figures_by, figures_outcome, figures_settled, printed_figures, table_with, table_figures, figures_text, without_edges, HasEdgesOn, HasEdges}
 use Rattle.pp_library.specs.Reports.{report_text}
 use Rattle.pp_library.proofs.AskedLemmas.{asked_of, asked_map, asked_ends}
 use Rattle.pp_library.proofs.ReportLemmas.{only_prepare}
@@ -53,7 +53,7 @@ module _ {A : Type 0} (row : A → KeyRow) where
 
 -- a table's lines are those of its figures
 lines_printed : (p : Profile) (f : Finders) (config : Config) (column : Option ℕ)
-    → exact_table p f config column (node_limit config.nodecount 0) (unit_text p column) ≡ table_text (figures_by p f config column)
+    → exact_table p f config column (node_limit config.nodecount 0) (unit_text p column) ≡ figures_text (figures_by p f config column)
 lines_printed p f config column =
     ap (λ lines. exact_heading (unit_text p column) ++ lines)
     (lines_map (key_row (report_samples p f config column)) (first_report_keys p f config column (node_limit config.nodecount 0)))
