@@ -110,7 +110,8 @@ abbrev pub printed_figures : Result FigureTable ReportRefusal â†’ Result (List â
 printed_figures (Ok figures) = Ok (figures_text figures)
 printed_figures (Err refusal) = Err refusal
 
--- The table report asks the patterns that the figures ask, and prints these, a line for each, or is refused as they are.
+-- The table report asks the patterns that the figures ask, and prints these, a line for each, or is refused as they
+-- are.
 abbrev pub TablesPrintFigures : Type 0
 TablesPrintFigures =
     (finds : Finds) (l : Loaded) (base : Option BaseKind) (config : Config)

@@ -8,7 +8,7 @@ ghost use Rattle.pp_count.specs.Counted.{FitSums};
 ghost use Rattle.pp_count.specs.Seeing.{HoldsFilters};
 ghost use Rattle.pp_graph.specs.KeyRows.{row_at};
 ghost use Rattle.pp_graph.specs.Trim.{node_limit};
-ghost use Rattle.pp_report.specs.Heads.{type_of_column, kind_text, unit_text};
+ghost use Rattle.pp_report.specs.Heads.{kind_text, unit_text};
 ghost use Rattle.pp_report.specs.Prepared.{answered, AreCounts, HasCounts, IsPrepared};
 ghost use Rattle.pp_report.specs.Tagged.{basis_of};
 ghost use Rattle.pp_library.specs.Asked.{Asked, value_of};
@@ -23,9 +23,9 @@ use pp_desk::{Desk, Objects, Stop};
 use pp_grain::{Key, write_name};
 use pp_graph::{node_limit, rank_all};
 use pp_keys::HashKeys;
-use pp_model::{Config, Loaded, Profile, Report, ValueType, text_of};
+use pp_model::{Config, Loaded, Profile, Report};
 use pp_pseudo::basis;
-use pp_report::{Counts, Host, Prepared, ReportRefusal, prepare};
+use pp_report::{Counts, Host, Prepared, ReportRefusal, kind_text, prepare, unit_text};
 use std::alloc::Global;
 use std::mem;
 use std::thread::Threads;
@@ -305,31 +305,4 @@ fn name_of(alloc: Global, l: &Loaded, key: &Key) -> Result<Text, Memory>
     let mut name = Text::new(alloc);
     write_name(l, key, &mut name)?;
     Ok(name)
-}
-
-// The name of the column's type, and nothing without a column.
-fn kind_text(p: &Profile, column: Option<u32>) -> &[u8]
-    ensures { result.now ≡ kind_text p.now column }
-{
-    match type_of(p, column) {
-        Some(kind) => text_of(p, kind.kind),
-        None => &[],
-    }
-}
-
-// The unit of the column's values, and nothing without a column.
-fn unit_text(p: &Profile, column: Option<u32>) -> &[u8]
-    ensures { result.now ≡ unit_text p.now column }
-{
-    match type_of(p, column) {
-        Some(kind) => text_of(p, kind.unit),
-        None => &[],
-    }
-}
-
-// The sample type of the column, if there is one.
-fn type_of(p: &Profile, column: Option<u32>) -> Option<ValueType>
-    ensures { result ≡ type_of_column p.now column }
-{
-    p.sample_type.as_slice().get(column? as usize).copied()
 }
