@@ -57,7 +57,11 @@ fn merge_few(alloc: Global, keys: HashKeys, profiles: List<Valid>) -> Result<Com
 }
 
 // The merged profile with what its own patterns find.
-fn judge_at<M: Matcher>(alloc: Global, profile: Compact, desk: &mut MatcherDesk<'_, M>) -> Result<Countable, MergeError>
+fn judge_at<M: Matcher>(
+    alloc: Global,
+    profile: Compact,
+    desk: &mut MatcherDesk<'_, M>,
+) -> Result<Countable, MergeError>
     requires { IsCountable profile }
     ensures went { Asked (M.answers desk.old.matcher.now) (M.answers desk.new.matcher.now)
         (with_verdicts M.finds profile) (merge_outcome result) }
