@@ -107,7 +107,7 @@ fn figures_at<R: Threads + Sync, D: Desk>(
         keys: HashKeys::fixed(),
         gate: &OpenGate,
     };
-    let prepared = prepare(&with, &l.loaded, &Report::Table, config, desk);
+    let prepared = prepare(&with, &l.loaded, None, &Report::Table, config, desk);
     answer_of::<R, D>(rt, alloc, &l.loaded, config, prepared)
 }
 
