@@ -23,13 +23,14 @@ use Rattle.pp_load.specs.declared.refusal.LoadRefusal.{LoadRefusal}
 use Rattle.pp_load.specs.Load.{load}
 use Rattle.pp_options.specs.declared.plan.Plan.{Plan}
 use Rattle.pp_options.specs.declared.usage.UsageFault.{UsageFault}
+use Rattle.pp_options.specs.Help.{topic_asked}
 use Rattle.pp_options.specs.Plans.{request_of}
 use Rattle.pp_options.specs.Words as options
 use Rattle.pp_pattern.specs.Load.{load_verdicts}
 use Rattle.pp_pattern.specs.Report.{Finds}
 use Rattle.pp_engine.specs.Endings.{cause_of_stop, fault_line}
 use Rattle.pp_engine.specs.Leaves.{IsLoadedBy, Leaves}
-use Rattle.pp_engine.specs.Words.{plan_in, planned}
+use Rattle.pp_engine.specs.Words.{performed, plan_in, planned}
 use Rattle.pp_engine.proofs.Courses.{only_looks}
 use Rattle.pp_engine.proofs.LoadQuiet.{load_looks}
 use Rattle.pp_engine.proofs.PlanLemmas.{planned_is}
@@ -146,13 +147,15 @@ pub leaves_stopped : (finds : Finds) (plan : Option Plan) (old : Told) (answers 
 leaves_stopped finds plan old answers more s there left same is = rw (same, line_stops s) is
 
 -- words that are a plan leave what it leaves
-pub leaves_planned : (finds : Finds) (words : List (List ℕ)) (plan : Plan) (old : Told) (answers : Option (List Answer)) (stopped : Bool) (there left : Option Loaded) → options.words words ≡ Ok (request_of plan)
-    → Leaves finds (Some plan) old answers stopped there left → Leaves finds (plan_in None (planned words)) old answers stopped there left
-leaves_planned finds words plan old answers stopped there left is own =
-    subst (λ said. Leaves finds (plan_in None said) old answers stopped there left) (sym (planned_is words (Ok plan) is)) own
+pub leaves_planned : (finds : Finds) (words : List (List ℕ)) (plan : Plan) (old : Told) (answers : Option (List Answer)) (stopped : Bool) (there left : Option Loaded) → topic_asked words ≡ None
+    → options.words words ≡ Ok (request_of plan) → Leaves finds (Some plan) old answers stopped there left → Leaves finds (performed words) old answers stopped there left
+leaves_planned finds words plan old answers stopped there left none is own =
+    subst (λ topic. Leaves finds (plan_in topic (planned words)) old answers stopped there left) (sym none)
+    (subst (λ said. Leaves finds (plan_in None said) old answers stopped there left) (sym (planned_is words (Ok plan) is)) own)
 
 -- and wrong words leave what stood there
-pub leaves_unplanned : (finds : Finds) (words : List (List ℕ)) (fault : UsageFault) (old : Told) (answers : Option (List Answer)) (stopped : Bool) (there : Option Loaded) → options.words words ≡ Err fault
-    → Leaves finds (plan_in None (planned words)) old answers stopped there there
-leaves_unplanned finds words fault old answers stopped there is =
-    subst (λ said. Leaves finds (plan_in None said) old answers stopped there there) (sym (planned_is words (Err fault) is)) refl
+pub leaves_unplanned : (finds : Finds) (words : List (List ℕ)) (fault : UsageFault) (old : Told) (answers : Option (List Answer)) (stopped : Bool) (there : Option Loaded) → topic_asked words ≡ None
+    → options.words words ≡ Err fault → Leaves finds (performed words) old answers stopped there there
+leaves_unplanned finds words fault old answers stopped there none is =
+    subst (λ topic. Leaves finds (plan_in topic (planned words)) old answers stopped there there) (sym none)
+    (subst (λ said. Leaves finds (plan_in None said) old answers stopped there there) (sym (planned_is words (Err fault) is)) refl)

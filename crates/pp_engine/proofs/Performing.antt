@@ -12,20 +12,25 @@ use Rattle.pp_engine.specs.declared.ending.Cause.TheVariants as causes
 use Rattle.pp_engine.specs.Messages.{usage_line}
 use Rattle.pp_engine.specs.Reporting.{end_with}
 use Rattle.pp_engine.specs.Session.{perform, perform_words, begin, session}
-use Rattle.pp_engine.specs.Words.{planned, plan_in, performed}
+use Rattle.pp_engine.specs.Words.{planned, plan_in, performed, said_by}
 use Rattle.pp_engine.proofs.PlanLemmas.{planned_is}
 use Rattle.pp_pattern.specs.Report.{Finds}
 
--- words that are a plan
-pub perform_plan : (finds : Finds) (words : List (List ℕ)) (plan : Plan) → options.words words ≡ Ok (request_of plan) → perform_words finds (planned words) ≡ perform finds plan
-unfolding perform_words
-perform_plan finds words plan is = ap (perform_words finds) (planned_is words (Ok plan) is)
+-- A session of words that tell nothing of the program does what they ask for.
+module _ (finds : Finds) (words : List (List ℕ)) (none : topic_asked words ≡ None) where
+  by_words : (said : Result Plan UsageFault) → options.words words ≡ said_by said → session finds words ≡ perform_words finds said
+  unfolding session begin
+  by_words said is = ap (begin finds words) none ∙ ap (perform_words finds) (planned_is words said is)
 
--- words of which one is wrong
-pub perform_fault : (finds : Finds) (words : List (List ℕ)) (fault : UsageFault) → options.words words ≡ Err fault
-    → perform_words finds (planned words) ≡ end_with (usage_line fault) (causes.Usage fault)
-unfolding perform_words
-perform_fault finds words fault is = ap (perform_words finds) (planned_is words (Err fault) is)
+  -- words that are a plan
+  pub session_plan : (plan : Plan) → options.words words ≡ Ok (request_of plan) → session finds words ≡ perform finds plan
+  unfolding perform_words
+  session_plan plan is = by_words (Ok plan) is
+
+  -- words of which one is wrong
+  pub session_fault : (fault : UsageFault) → options.words words ≡ Err fault → session finds words ≡ end_with (usage_line fault) (causes.Usage fault)
+  unfolding perform_words
+  session_fault fault is = by_words (Err fault) is
 
 said_performed : (finds : Finds) (said : Result Plan UsageFault) (plan : Plan) → plan_in None said ≡ Some plan → perform_words finds said ≡ perform finds plan
 unfolding perform_words

@@ -44,7 +44,7 @@ pub fn run_program<R: Threads + Sync, F: Files, I: Source, O: Sink, E: Sink, M: 
 {
     match words {
         Ok(words) => exit_code(run(with, &words, files, input, out, err, matcher, profile)),
-        Err(_) => exit_code(end_without_words(err)),
+        Err(Memory) => exit_code(end_without_words(err)),
     }
 }
 

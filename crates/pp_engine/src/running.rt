@@ -46,36 +46,6 @@ pub fn run<R: Threads + Sync, F: Files, I: Source, O: Sink, E: Sink, M: Matcher,
         (fault_counts (F.faults files.new) (I.faults input.new) (O.faults out.new) (E.faults err.new)) profile.new)
         result.cause }
 {
-    run_objects(with, words, files, input, out, err, matcher, profile)
-}
-
-// `run` by the clauses of which all else follows.
-fn run_objects<R: Threads + Sync, F: Files, I: Source, O: Sink, E: Sink, M: Matcher, G: Gate>(
-    with: &Host<'_, R, G>,
-    words: &[Text],
-    files: &mut F,
-    input: &mut I,
-    out: &mut O,
-    err: &mut E,
-    matcher: &mut M,
-    profile: &mut Option<Loaded>,
-) -> Ending
-    ensures status { result.status ≡ status_of result.cause }
-    ensures ending { Ran (session M.finds words.now)
-        (told_at (outside (O.written out.old) (E.written err.old) (F.content files.old) (F.reads files.old))
-        (F.locked files.old) (I.left input.old) (M.answers matcher.old))
-        (outside (O.written out.new) (E.written err.new) (F.content files.new) (F.reads files.new))
-        (M.answers matcher.new) (I.left input.old) (I.left input.new)
-        (fault_counts (F.faults files.old) (I.faults input.old) (O.faults out.old) (E.faults err.old))
-        (fault_counts (F.faults files.new) (I.faults input.new) (O.faults out.new) (E.faults err.new))
-        result.cause }
-    ensures unread { starts_shell words.now ≡ false → I.left input.new ≡ I.left input.old }
-    ensures taken { TakesFront INPUT_LIMIT (I.left input.old) (I.left input.new) }
-    ensures profile { Leaves M.finds (performed words.now)
-        (told_at (outside (O.written out.old) (E.written err.old) (F.content files.old) (F.reads files.old))
-        (F.locked files.old) (I.left input.old) (M.answers matcher.old)) (M.answers matcher.new)
-        (is_some (fault_line result.cause)) profile.old profile.new }
-{
     let mut reader = None;
     let mut objects = Objects {
         alloc: with.alloc,

@@ -18,7 +18,7 @@ ghost use Rattle.pp_engine.specs.declared.ending.Cause.TheVariants as causes;
 
 use crate::ending::Cause;
 use crate::message::{input_too_long_line, line_fault_line};
-use crate::reporting::report_on;
+use crate::reporting::{hand_out_made, noted_report};
 use pp_base::{Gate, Memory, Text};
 use pp_desk::{Desk, InputLine, Stop};
 use pp_model::{BaseKind, Config, Loaded};
@@ -186,7 +186,7 @@ fn obey_or_complain<R: Threads + Sync, D: Desk, G: Gate>(
 }
 
 // What a line asks for. An assignment alone changes the configuration of the next line.
-#[tactic(auto, using(pp_desk::proofs::Going::going), unfolding(crate::specs::Shell::obey))]
+#[tactic(auto, using(pp_desk::proofs::Going::going), unfolding(crate::specs::Shell::obey, crate::specs::Reporting::report_on))]
 fn obey<R: Threads + Sync, D: Desk, G: Gate>(
     with: &Host<'_, R, G>,
     l: &Loaded,
@@ -219,7 +219,8 @@ fn obey<R: Threads + Sync, D: Desk, G: Gate>(
             config: own,
             to,
         } => {
-            report_on(with, l, base, report, own, to.as_ref(), desk)?;
+            let made = noted_report(with, l, base, report, own, desk)?;
+            hand_out_made(with.alloc, report, to.as_ref(), made, desk)?;
             Ok(None)
         }
     }

@@ -96,7 +96,7 @@ fn figures_at<R: Threads + Sync, M: Matcher>(
         keys: HashKeys::fixed(),
         gate: &OpenGate,
     };
-    let prepared = prepare(&with, &l.loaded, &Report::Table, config, desk);
+    let prepared = prepare(&with, &l.loaded, None, &Report::Table, config, desk);
     answer_of::<R, M>(rt, alloc, &l.loaded, config, prepared)
 }
 

@@ -1,6 +1,6 @@
 -- What the writers of reports ask for, and what they leave.
-use Rattle.std.proofs.Common.{◌≡◌, ℕ, true, List, [], ◌++◌, refl, sym, ap, ◌∙◌, subst}
-use Rattle.std.specs.Prelude.{Option, Some, None, Result, Ok, Err, IfOk, if◌then◌else◌}
+use Rattle.std.proofs.Common.{◌≡◌, ℕ, Bool, true, false, List, [], ◌++◌, refl, sym, ap, ◌∙◌, subst}
+use Rattle.std.specs.Prelude.{Option, Some, None, Result, Ok, Err, IfOk, unwrap_or, if◌then◌else◌}
 use Rattle.pp_base.specs.declared.memory.Memory.{Memory}
 use Rattle.pp_desk.specs.declared.stop.Stop.{Stop}
 use Rattle.pp_desk.specs.Script.{Script, Give, Make, ◌>>=◌}
@@ -22,12 +22,14 @@ use Rattle.pp_source.specs.Listing.{with_report, added_report}
 use Rattle.pp_samples.specs.Comments.{comments_text}
 use Rattle.pp_dump.specs.Saved.{saved}
 use Rattle.pp_report.specs.declared.prepared.Counts.{Counts}
+use Rattle.pp_report.specs.declared.prepared.Prepared.{Prepared}
 use Rattle.pp_report.specs.declared.refusal.ReportRefusal.{ReportRefusal}
 use Rattle.pp_report.specs.declared.refusal.ReportRefusal.TheVariants.{NoBase, NoMatch}
 use Rattle.pp_report.specs.Base.{lacks_base}
 use Rattle.pp_report.specs.Patterns.{report_finders}
-use Rattle.pp_report.specs.Prepared.{Showing, AreCounts, HasCounts}
+use Rattle.pp_report.specs.Prepared.{Showing, showing, AreCounts, HasCounts, IsPrepared}
 use Rattle.pp_report.specs.SavedText.{IsProtoOf}
+use Rattle.pp_report.specs.Tagged.{basis_of}
 use Rattle.pp_report.specs.Reports.{of_found, finish, finish_made, finish_on, finish_by, text_by, answer_of_text, answer_of_outcome}
 use Rattle.pp_report.proofs.PreparingLemmas.{uncounted_comments}
 
@@ -80,7 +82,7 @@ module _ (script : Script (Option (List ℕ))) where
 
 module _ (finds : Finds) (l : Loaded) (report : Report) (config : Config) where
   -- a comments report has counted nothing
-  pub finish_comments : (w : World) (s : Showing) (text : List ℕ) → report ≡ reports.Comments → text ≡ comments_text l.profile
+  finish_comments : (w : World) (s : Showing) (text : List ℕ) → report ≡ reports.Comments → text ≡ comments_text l.profile
       → Went w w (finish_on finds l report config s) (Ok (Ok text))
   unfolding finish_on text_by
   finish_comments w s text comments is =
@@ -88,20 +90,59 @@ module _ (finds : Finds) (l : Loaded) (report : Report) (config : Config) where
       (subst (λ t. Went {T = Result (List ℕ) ReportRefusal} w w (Give (Ok (comments_text l.profile))) (Ok (Ok t))) (sym is) (gives w (Ok (comments_text l.profile))))
 
   -- what was counted, where something was
-  pub counts_at : (column : Option ℕ) (all : Option Counts) (counts : Counts) → all ≡ Some counts → HasCounts finds l report config column all
+  counts_at : (column : Option ℕ) (all : Option Counts) (counts : Counts) → all ≡ Some counts → HasCounts finds l report config column all
       → AreCounts finds l report config column counts
   counts_at column all counts is has = subst (λ c. HasCounts finds l report config column c) is has
 
   -- a report without counts is one of comments
-  pub is_comments : (column : Option ℕ) (all : Option Counts) → all ≡ None → HasCounts finds l report config column all → report ≡ reports.Comments
+  is_comments : (column : Option ℕ) (all : Option Counts) → all ≡ None → HasCounts finds l report config column all → report ≡ reports.Comments
   is_comments column all is has = uncounted_comments report (subst (λ c. HasCounts finds l report config column c) is has)
+
+module _ (finds : Finds) (l : Loaded) (base : Option BaseKind) (report : Report) (config : Config) (s : Showing) (a b : World) where
+  by_lack : (lacks : Bool) → lacks_base base l.profile report ≡ lacks → (r : Result (Result (List ℕ) ReportRefusal) Stop)
+      → Went a b (if lacks then Give (Err NoBase) else finish_made finds l report config s) r → Went a b (finish finds l base report config s) r
+  by_lack lacks is r went = subst (λ (no : Bool). Went a b (if no then Give (Err NoBase) else finish_made finds l report config s) r) (sym is) went
 
 -- a report that lacks its base is refused
 pub finish_lacks : (finds : Finds) (l : Loaded) (base : Option BaseKind) (report : Report) (config : Config) (s : Showing) (w : World) → lacks_base base l.profile report ≡ true
     → Went {T = Result (List ℕ) ReportRefusal} w w (finish finds l base report config s) (Ok (Err NoBase))
-finish_lacks finds l base report config s w lacks =
-    subst (λ b. Went {T = Result (List ℕ) ReportRefusal} w w (if b then Give (Err NoBase) else finish_made finds l report config s) (Ok (Err NoBase))) (sym lacks)
-    (gives w (Err NoBase))
+finish_lacks finds l base report config s w lacks = by_lack finds l base report config s w w true lacks (Ok (Err NoBase)) (gives w (Err NoBase))
+
+module _ (finds : Finds) (l : Loaded) (report : Report) (config : Config) (prepared : Prepared) (is : IsPrepared finds l report config prepared)
+    (over : Loaded) (made_of : over ≡ unwrap_or prepared.tagged l) where
+  over_basis : over ≡ basis_of report l config
+  over_basis = made_of ∙ is.basis
+
+  -- what was counted is of the profile that the report is made of
+  pub counts_over : (counts : Counts) → prepared.counts ≡ Some counts → AreCounts finds over report config prepared.shows.column counts
+  counts_over counts some =
+      subst (λ q. AreCounts finds q report config prepared.shows.column counts) (sym over_basis)
+      (counts_at finds (basis_of report l config) report config prepared.shows.column prepared.counts counts some is.settled.has_counts)
+
+  module _ (base : Option BaseKind) (a b : World) (has : lacks_base base l.profile report ≡ false) where
+    -- how its text went is how the report went
+    pub finish_over : (r : Result (Result (List ℕ) ReportRefusal) Stop) → Went a b (finish_on finds over report config (showing prepared.shows)) r
+        → Went a b (finish finds l base report config (showing prepared.shows)) r
+    finish_over r went =
+        by_lack finds l base report config (showing prepared.shows) a b false has r
+        (subst (λ q. Went a b (finish_on finds q report config (showing prepared.shows)) r) over_basis went)
+
+  module _ (none : prepared.counts ≡ None) (base : Option BaseKind) (w : World) (has : lacks_base base l.profile report ≡ false) where
+    comments_report : report ≡ reports.Comments
+    comments_report = is_comments finds (basis_of report l config) report config prepared.shows.column prepared.counts none is.settled.has_counts
+
+    by_comments : (text : Result (List ℕ) Memory) → IfOk text (λ t. t ≡ comments_text over.profile) → Went w w (finish_on finds over report config (showing prepared.shows)) (answer_of_text text)
+    by_comments (Ok text) made = finish_comments finds over report config w (showing prepared.shows) text comments_report made
+    by_comments (Err e) made = wants w _
+
+    -- nothing was counted of a report that is one of comments
+    pub finish_uncounted : (text : Result (List ℕ) Memory) (r : Result (Result (List ℕ) ReportRefusal) Stop) → IfOk text (λ t. t ≡ comments_text over.profile)
+        → r ≡ answer_of_text text → Went w w (finish finds l base report config (showing prepared.shows)) r
+    finish_uncounted text r made answer = finish_over base w w has r (subst (λ x. Went w w (finish_on finds over report config (showing prepared.shows)) x) (sym answer) (by_comments text made))
+
+    -- and so none of a profile that is saved
+    pub uncounted_unsaved : {C : Type 0} → report ≡ reports.Proto → C
+    uncounted_unsaved proto = let clash : reports.Comments ≡ reports.Proto = sym comments_report ∙ proto in absurd (cc clash)
 
 -- the text of a saved profile
 module _ (w : World) (p : Profile) (f : Finders) (config : Config) (column : Option ℕ) (h : Facts) where

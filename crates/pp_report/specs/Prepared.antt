@@ -1,5 +1,5 @@
 -- What is settled before the text of a report is made: what it shows, what it asks for, and its notes.
-use Rattle.std.specs.Prelude.{◌≡◌, ℕ, false, List, [], Option, Some, None, Result, Ok, Err, option_map, unwrap_or, if◌then◌else◌}
+use Rattle.std.specs.Prelude.{◌≡◌, ◌×◌, ℕ, false, List, [], Option, Some, None, Result, Ok, Err, option_map, unwrap_or, if◌then◌else◌}
 use Rattle.pp_base.specs.Front.{IsFront}
 use Rattle.pp_desk.specs.declared.stop.Stop.{Stop}
 use Rattle.pp_desk.specs.Asking.{Asking, ◌>>=◌, go_on}
@@ -22,7 +22,7 @@ use Rattle.pp_report.specs.declared.prepared.Prepared.{Prepared}
 use Rattle.pp_report.specs.declared.refusal.ReportRefusal.{ReportRefusal}
 use Rattle.pp_report.specs.declared.refusal.ReportRefusal.TheVariants.{BadSampleIndex, UnitMismatch}
 use Rattle.pp_report.specs.Heads.{wanted_unit, unit_text}
-use Rattle.pp_report.specs.Notes.{notes_by, notes_text}
+use Rattle.pp_report.specs.Notes.{notes_text}
 use Rattle.pp_report.specs.Patterns.{report_finders, ask_patterns}
 use Rattle.pp_report.specs.Tagged.{basis_of}
 
@@ -97,6 +97,13 @@ answered (Ok (Ok prepared)) = Ok (Ok (settled_by prepared))
 answered (Ok (Err refusal)) = Ok (Err refusal)
 answered (Err stop) = Err stop
 
+-- the answer of counting, as the script of a report that shows this has it
+abbrev pub counts_settled : Showing → Result (Result (Counts × List ℕ) ReportRefusal) Stop
+    → Result (Result Settled ReportRefusal) Stop
+counts_settled showing (Ok (Ok made)) = Ok (Ok (record { showing = showing; notes = made.1 }))
+counts_settled showing (Ok (Err refusal)) = Ok (Err refusal)
+counts_settled showing (Err stop) = Err stop
+
 -- The verdicts are those of the report's patterns, and the samples are counted by them.
 pub record AreCounts (finds : Finds) (l : Loaded) (report : Report) (config : Config) (shown_column : Option ℕ)
     (counts : Counts) : Type 0 where
@@ -122,28 +129,8 @@ pub record IsPrepared (finds : Finds) (l : Loaded) (report : Report) (config : C
   pub basis : unwrap_or prepared.tagged l ≡ basis_of report l config
   pub settled : IsPreparedOn finds (basis_of report l config) report config prepared
 
--- What was prepared is so, where it is known what the report shows. No public clause cites it.
-pub record IsCounted (finds : Finds) (l : Loaded) (report : Report) (config : Config) (known : Shows)
-    (prepared : Prepared) : Type 0 where
-  pub shows_that : prepared.shows ≡ known
-  pub has_counts : HasCounts finds l report config known.column prepared.counts
-  pub notes_front : IsFront prepared.notes (notes_of finds l report config)
-
--- What was prepared is so, where it is known what the report shows, over the profile that the report is made of. No
--- public clause cites it.
-pub record IsCountedOver (finds : Finds) (l made_of : Loaded) (report : Report) (config : Config) (known : Shows)
-    (prepared : Prepared) : Type 0 where
-  pub basis : unwrap_or prepared.tagged l ≡ made_of
-  pub settled : IsCounted finds made_of report config known prepared
-
--- The samples are counted by these verdicts, and the notes are those by their matches. No public clause cites it.
-pub record IsCountedBy (l : Loaded) (config : Config) (known : Shows) (v : Verdicts) (prepared : Prepared)
-    : Type 0 where
-  pub sums : Counted
-  pub are : prepared ≡ record {
-    notes = notes_by config sums.matched.slots;
-    shows = known;
-    counts = Some (record { verdicts = v; counted = sums });
-    tagged = None;
-  }
-  pub counts_all : IsCountedOf l v config known.column sums
+-- These are the counts of a report that is made of the profile, and its notes. No public clause cites it.
+pub record AreCountsNoted (finds : Finds) (l : Loaded) (report : Report) (config : Config) (shown_column : Option ℕ)
+    (made : Counts × List ℕ) : Type 0 where
+  pub counts : AreCounts finds l report config shown_column made.0
+  pub notes : made.1 ≡ notes_of finds l report config

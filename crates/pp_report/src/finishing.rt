@@ -1,12 +1,13 @@
 //! The text of a report.
-ghost use Rattle.std.specs.Prelude.{◌≡◌};
+ghost use Rattle.std.specs.Prelude.{◌≡◌, option_map};
 ghost use Rattle.pp_desk.specs.Went.{Went};
 ghost use Rattle.pp_model.specs.declared.report.Report.TheVariants.{Proto};
 ghost use Rattle.pp_model.specs.Finders.{Finders};
 ghost use Rattle.pp_units.specs.Head.{facts};
+ghost use Rattle.pp_units.specs.Shown.{shown};
 ghost use Rattle.pp_count.specs.Seeing.{HoldsFilters};
-ghost use Rattle.pp_report.specs.Prepared.{showing, AreCounts, HasCounts, IsPrepared};
-ghost use Rattle.pp_report.specs.Reports.{finish, finish_made, finish_on, text_by, list_text, answer_of_text, answer_of_outcome};
+ghost use Rattle.pp_report.specs.Prepared.{showing, IsPrepared};
+ghost use Rattle.pp_report.specs.Reports.{finish, finish_by, text_by, list_text, answer_of_text, answer_of_outcome};
 ghost use Rattle.pp_report.specs.SavedText.{OnText, IsProtoOf, IsProtoBy};
 ghost use Rattle.pp_report.specs.Tagged.{basis_of};
 
@@ -16,29 +17,26 @@ use crate::comparing::{changes, compare};
 use crate::exports::{folded, table};
 use crate::heads::head_of;
 use crate::host::Host;
-use crate::prepared::{Counts, Prepared};
-use crate::shows::Shows;
+use crate::prepared::Prepared;
 use crate::subject::Subject;
-use crate::task::Task;
 use crate::texts::{account, comments, peek, proto, raw, tags, top, traces};
 use crate::trees::tree_report;
 use pp_base::{Gate, Memory, Text};
 use pp_count::Survey;
 use pp_desk::{Desk, Stop};
-use pp_model::{BaseKind, Config, Loaded, Report};
+use pp_model::{Config, Loaded, Report};
 use pp_pseudo::basis;
-use pp_source::write_list;
+use pp_source::{ListRefusal, write_list};
+use pp_units::Unit;
 use std::alloc::Global;
 use std::mem;
 use std::thread::Threads;
 
 /// The text of a report that was prepared. It is `NoMatch` where the pattern of a peek or list report finds nothing,
-/// and `NoBase` where a compare or changes report has no base: `base` is the kind of the base that was given, if one
-/// was. Only a list report reads files.
+/// and `NoBase` where a compare or changes report has no base. Only a list report reads files.
 pub fn finish<R: Threads + Sync, D: Desk, G: Gate>(
     with: &Host<'_, R, G>,
     l: &Loaded,
-    base: Option<BaseKind>,
     report: &Report,
     config: &Config,
     prepared: Prepared,
@@ -46,32 +44,14 @@ pub fn finish<R: Threads + Sync, D: Desk, G: Gate>(
 ) -> Result<Result<Text, ReportRefusal>, Stop>
     requires { IsPrepared D.finds l.now report.now config.now prepared }
     ensures went { Went (D.world desk.old) (D.world desk.new)
-        (finish D.finds l.now base report.now config.now (showing prepared.shows)) result }
+        (finish D.finds l.now prepared.base report.now config.now (showing prepared.shows)) result }
     ensures saved { report.now ≡ Proto → OnText result
         (IsProtoBy D.finds (basis_of report.now l.now config.now) config.now) }
 {
-    if lacks_base(base, l, report) {
+    if lacks_base(prepared.base, l, report) {
         mem::drop(prepared);
         return Ok(Err(ReportRefusal::NoBase));
     }
-    finish_made(with, l, report, config, prepared, desk)
-}
-
-// The text of a report that lacks no base.
-fn finish_made<R: Threads + Sync, D: Desk, G: Gate>(
-    with: &Host<'_, R, G>,
-    l: &Loaded,
-    report: &Report,
-    config: &Config,
-    prepared: Prepared,
-    desk: &mut D,
-) -> Result<Result<Text, ReportRefusal>, Stop>
-    requires { IsPrepared D.finds l.now report.now config.now prepared }
-    ensures went { Went (D.world desk.old) (D.world desk.new)
-        (finish_made D.finds l.now report.now config.now (showing prepared.shows)) result }
-    ensures saved { report.now ≡ Proto → OnText result
-        (IsProtoBy D.finds (basis_of report.now l.now config.now) config.now) }
-{
     let Prepared {
         shows,
         counts,
@@ -79,67 +59,47 @@ fn finish_made<R: Threads + Sync, D: Desk, G: Gate>(
         ..
     } = prepared;
     let over = basis(&tagged, l);
-    let task = Task {
-        l: over,
-        report,
-        config,
+    let Some(counts) = counts else {
+        let text = answer_of_text(comments(with.alloc, over));
+        mem::drop(shows);
+        mem::drop(tagged);
+        return text;
     };
-    let text = finish_on(with, &task, shows, &counts, desk);
+    let survey = Survey {
+        l: over,
+        v: &counts.verdicts,
+        config,
+        column: shows.column,
+        counted: &counts.counted,
+    };
+    let text = finish_by(with, report, &survey, shows.unit, desk);
     mem::drop(counts);
     mem::drop(tagged);
     text
 }
 
-// The text of a report that shows this.
-#[tactic(auto, using(pp_desk::proofs::Going::going), unfolding(crate::specs::Reports::finish_on))]
-fn finish_on<'x, R: Threads + Sync, D: Desk, G: Gate>(
+// The text of a report whose values are printed in the unit that is asked for, if one is.
+fn finish_by<R: Threads + Sync, D: Desk, G: Gate>(
     with: &Host<'_, R, G>,
-    task: &Task<'x>,
-    shows: Shows,
-    counts: &'x Option<Counts>,
+    report: &Report,
+    survey: &Survey<'_>,
+    unit: Option<Unit>,
     desk: &mut D,
 ) -> Result<Result<Text, ReportRefusal>, Stop>
-    requires { HasCounts D.finds task.now.l.now task.now.report.now task.now.config.now
-        shows.column counts.now }
-    ensures went { let t = task.now in Went (D.world desk.old) (D.world desk.new)
-        (finish_on D.finds t.l.now t.report.now t.config.now (showing shows)) result }
-    ensures saved { let t = task.now in t.report.now ≡ Proto →
-        OnText result (IsProtoBy D.finds t.l.now t.config.now) }
+    ensures went { let s = survey.now in (f : Finders) →
+        HoldsFilters s.l.now s.v.now s.config.now f → Went (D.world desk.old) (D.world desk.new)
+        (finish_by s.l.now.profile f s.config.now
+        (record { column = s.column; wanted = option_map shown unit }) report.now) result }
+    ensures saved { let s = survey.now in (f : Finders) →
+        HoldsFilters s.l.now s.v.now s.config.now f →
+        report.now ≡ Proto → OnText result (IsProtoOf s.l.now.profile f s.config.now) }
 {
-    match counts {
-        Some(counts) => finish_counts(with, task, shows, counts, desk),
-        None => Ok(Ok(comments(with.alloc, task.l)?)),
-    }
-}
-
-// The text of a report that has counted this.
-fn finish_counts<'x, R: Threads + Sync, D: Desk, G: Gate>(
-    with: &Host<'_, R, G>,
-    task: &Task<'x>,
-    shows: Shows,
-    counts: &'x Counts,
-    desk: &mut D,
-) -> Result<Result<Text, ReportRefusal>, Stop>
-    requires { AreCounts D.finds task.now.l.now task.now.report.now task.now.config.now
-        shows.column counts.now }
-    ensures went { let t = task.now in Went (D.world desk.old) (D.world desk.new)
-        (finish_on D.finds t.l.now t.report.now t.config.now (showing shows)) result }
-    ensures saved { let t = task.now in t.report.now ≡ Proto →
-        OnText result (IsProtoBy D.finds t.l.now t.config.now) }
-{
-    let survey = Survey {
-        l: task.l,
-        v: &counts.verdicts,
-        config: task.config,
-        column: shows.column,
-        counted: &counts.counted,
-    };
-    let head = head_of(with.alloc, task.l, shows, counts.counted.total)?;
+    let head = head_of(with.alloc, survey, unit)?;
     let subject = Subject {
-        survey,
+        survey: *survey,
         head: &head,
     };
-    text_by(with, task.report, &subject, desk)
+    text_by(with, report, &subject, desk)
 }
 
 // The text of a report with this head.
@@ -213,6 +173,6 @@ fn list<D: Desk>(
     let mut text = Text::new(alloc);
     match write_list(alloc, &subject.survey, subject.head, desk, &mut text)? {
         Ok(()) => Ok(Ok(text)),
-        Err(_) => Ok(Err(ReportRefusal::NoMatch)),
+        Err(ListRefusal::NoMatch) => Ok(Err(ReportRefusal::NoMatch)),
     }
 }

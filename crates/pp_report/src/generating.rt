@@ -70,10 +70,10 @@ pub fn generate<'x, R: Threads + Sync, D: Desk, G: Gate>(
         keys: HashKeys::fixed(),
         gate,
     };
-    match prepare(&with, l, report, config, desk)? {
+    match prepare(&with, l, base, report, config, desk)? {
         Err(refusal) => Ok(Err(refusal)),
         Ok(prepared) => match notes.extend(prepared.notes.as_slice()) {
-            Ok(()) => finish(&with, l, base, report, config, prepared, desk),
+            Ok(()) => finish(&with, l, report, config, prepared, desk),
             Err(Memory) => {
                 mem::drop(prepared);
                 Err(Stop::Memory)

@@ -4,22 +4,23 @@ ghost use Rattle.pp_units.specs.Head.{facts};
 ghost use Rattle.pp_units.specs.Shown.{Shown, shown, picked};
 ghost use Rattle.pp_report.specs.Heads.{first_file, kind_text, unit_text, head_of};
 
-use crate::shows::{Shows, kind_text, unit_text};
+use crate::shows::{kind_text, unit_text};
 use pp_base::{Memory, Text};
-use pp_model::{Loaded, Profile, text_of};
+use pp_count::Survey;
+use pp_model::{Profile, text_of};
 use pp_units::{Head, Unit, pick_unit};
 use std::alloc::Global;
 
-/// The head of a report that shows this, over the total.
-pub fn head_of(alloc: Global, l: &Loaded, shows: Shows, total: u64) -> Result<Head, Memory>
-    ensures { IfOk result (λ head. facts head
-        ≡ head_of l.now.profile shows.column (option_map shown shows.unit) total) }
+/// The head of a report whose values are printed in the unit that is asked for, if one is.
+pub fn head_of(alloc: Global, survey: &Survey<'_>, wanted: Option<Unit>) -> Result<Head, Memory>
+    ensures { let s = survey.now in IfOk result (λ head. facts head
+        ≡ head_of s.l.now.profile s.column (option_map shown wanted) s.counted.now.total) }
 {
-    let p = l.profile.get();
-    let unit = printed_unit(alloc, shows.unit, total, unit_text(p, shows.column))?;
+    let (p, total) = (survey.l.profile.get(), survey.counted.total);
+    let unit = printed_unit(alloc, wanted, total, unit_text(p, survey.column))?;
     Ok(Head {
         file: Text::from_slice(alloc, first_file(p))?,
-        kind: Text::from_slice(alloc, kind_text(p, shows.column))?,
+        kind: Text::from_slice(alloc, kind_text(p, survey.column))?,
         duration: p.duration_nanos,
         total,
         unit,

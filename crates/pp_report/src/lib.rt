@@ -2,9 +2,8 @@
 //! text, or why it is not made.
 //!
 //! A report has two stages, which `generating` calls one after the other. `preparing` decides column and unit
-//! (`shows`), makes frames from labels (`tagging`), asks the patterns (`asking`), counts, and notes what matched
-//! nothing (`notes`). `finishing` makes the text, by `texts`, `trees`, `comparing` or `exports`, under the head of
-//! `heads`.
+//! (`shows`), makes frames from labels, asks the patterns (`asking`), counts, and notes what matched nothing (`notes`).
+//! `finishing` makes the text, by `texts`, `trees`, `comparing` or `exports`, under the head of `heads`.
 //!
 //! `refusal` and `message` have why a report is not made. `saved` states what a saved profile keeps.
 #![tactic(auto)]
@@ -25,8 +24,6 @@ mod refusal;
 mod saved;
 mod shows;
 mod subject;
-mod tagging;
-mod task;
 mod texts;
 mod trees;
 

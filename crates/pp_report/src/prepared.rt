@@ -3,7 +3,7 @@
 use crate::shows::Shows;
 use pp_base::Text;
 use pp_count::Counted;
-use pp_model::{Loaded, Verdicts};
+use pp_model::{BaseKind, Loaded, Verdicts};
 
 /// What the patterns of a report find, and what its samples come to.
 #[derive(Drop)]
@@ -17,6 +17,8 @@ pub struct Counts {
 /// What is settled before the text of a report is made.
 #[derive(Drop)]
 pub struct Prepared {
+    /// The kind of the base that was given, None where none was.
+    pub base: Option<BaseKind>,
     /// A line for each option that is in force and matches nothing.
     pub notes: Text,
     /// The column of values, and the unit that is asked for.

@@ -1,6 +1,6 @@
-use Rattle.pp_engine.proofs.Runs.{runs}
+use Rattle.pp_engine.proofs.Runs.{runs, takes_few}
 use Rattle.pp_engine.proofs.running.run.Goals as goal
 
 pub returns-clause-runs : goal.returns-clause-runs
 returns-clause-runs g c =
-    runs _ _ _ _ _ c.run_objects.ensures.ending c.run_objects.ensures.unread c.run_objects.ensures.taken c.run_objects.ensures.profile
+    runs _ _ _ _ _ c.run_session.ensures.ending c.run_session.ensures.unread (takes_few _ _ _ _ c.run_session.ensures.taken) c.run_session.ensures.profile

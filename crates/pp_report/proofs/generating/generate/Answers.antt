@@ -1,10 +1,11 @@
 use Rattle.std.proofs.Common.{◌++◌, ap, ◌∙◌, subst}
 use Rattle.std.specs.Prelude.{Ok, Result}
-use Rattle.std.proofs.lemmas.Result.{err_from_is_err_and}
+use Rattle.std.proofs.lemmas.Result.{err_from_is_err_and, IfOk-at_ok}
 use Rattle.pp_base.proofs.TextLemmas.{on_err}
 use Rattle.pp_desk.specs.Went.{Went}
 use Rattle.pp_report.specs.declared.refusal.ReportRefusal.{ReportRefusal}
-use Rattle.pp_report.specs.Prepared.{Settled, prepare, answered, settled_by}
+use Rattle.pp_report.specs.Prepared.{Settled, prepare, answered, settled_by, showing}
+use Rattle.pp_report.specs.Reports.{finish}
 use Rattle.pp_model.specs.declared.report.Report.{Report}
 use Rattle.pp_report.specs.SavedText.{IsProtoBy, IsSavedText}
 use Rattle.pp_report.specs.Tagged.{basis_of}
@@ -46,7 +47,9 @@ returns-in-Ok-extend-clause-went g c =
     rw notes (report_finished g.D.Desk.finds c.args.l.now c.args.base c.args.report.now c.args.config.now _ _ (settled_by c.in-Ok.prepared)
     (subst (λ answer. Went {T = Result Settled ReportRefusal} (g.D.Desk.world c.args.desk.now) (g.D.Desk.world c.prepare.new.desk)
     (prepare g.D.Desk.finds c.args.l.now c.args.report.now c.args.config.now) (answered (Ok answer))) c.in-Ok.is c.in_ok-refusal.ensures.went)
-    _ c.finish.result c.finish.ensures.went)
+    _ c.finish.result
+    (subst (λ base. Went (g.D.Desk.world c.prepare.new.desk) (g.D.Desk.world c.finish.new.desk) (finish g.D.Desk.finds c.args.l.now base c.args.report.now c.args.config.now (showing c.in-Ok.prepared.shows)) c.finish.result)
+    (IfOk-at_ok _ c.in-Ok.is c.in_ok-refusal.ensures.base) c.finish.ensures.went))
 
 -- the text of a proto report
 pub returns-in-Ok-extend-clause-saved : goal.returns-in-Ok-extend-clause-saved
