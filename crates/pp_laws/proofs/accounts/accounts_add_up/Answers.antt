@@ -1,5 +1,5 @@
-use Rattle.pp_account.proofs.Summing.{samples_add_up, others_drop_none, nodes_add_up, values_add_up}
-use Rattle.pp_account.proofs.laws.accounts_add_up.Goals as goal
+use Rattle.pp_laws.proofs.Accounted.{samples_add_up, others_drop_none, nodes_add_up, values_add_up}
+use Rattle.pp_laws.proofs.accounts.accounts_add_up.Goals as goal
 
 pub returns-clause-samples : goal.returns-clause-samples
 returns-clause-samples c = samples_add_up

@@ -1,5 +1,5 @@
 //! The law of the account report.
-ghost use Rattle.pp_account.specs.Laws.{SamplesAddUp, OthersDropNone, NodesAddUp, ValuesAddUp};
+ghost use Rattle.pp_laws.specs.Accounts.{SamplesAddUp, OthersDropNone, NodesAddUp, ValuesAddUp};
 
 // What would break it: a filter that is asked before the one in front of it, or a sample that two filters are said to
 // drop. Also a limit that is applied before the keys that are too light are left out.

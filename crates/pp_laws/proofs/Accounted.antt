@@ -33,7 +33,7 @@ use Rattle.pp_laws.proofs.AddingUp.{all_counted}
 use Rattle.pp_account.specs.declared.portion.Portion.{Portion}
 use Rattle.pp_account.specs.Account.{AccountRow, dropping, filter_row}
 use Rattle.pp_account.specs.First.{finds_or, first_filter, slot_else, is_filter, is_in_force}
-use Rattle.pp_account.specs.Laws.{together, SamplesAddUp, OthersDropNone, NodesAddUp, ValuesAddUp}
+use Rattle.pp_laws.specs.Accounts.{together, SamplesAddUp, OthersDropNone, NodesAddUp, ValuesAddUp}
 use Rattle.pp_account.specs.Nodes.{keys_portion, light_keys, keys_beyond, past_limit}
 use Rattle.pp_account.specs.Portions.{portion_of, dropped_samples, is_bare, bare_samples}
 use Rattle.pp_account.proofs.Each.{never_emptied}
