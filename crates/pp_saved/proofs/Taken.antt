@@ -23,7 +23,7 @@ use Rattle.pp_report.specs.declared.refusal.ReportRefusal.{ReportRefusal}
 use Rattle.pp_model.specs.ReportFacts.{own_pattern}
 use Rattle.pp_report.specs.Patterns.{ask_patterns, of_judged}
 use Rattle.pp_report.specs.Prepared.{Showing, Settled, prepare_counts, settled_of}
-use Rattle.pp_report.specs.SavedText.{AllTaken}
+use Rattle.pp_saved.specs.SavedBytes.{AllTaken}
 
 -- Where each pattern is taken, the script gives this value; it does nothing but ask.
 abbrev pub GivesTaken : {T : Type 0} → Script T → T → Type 0

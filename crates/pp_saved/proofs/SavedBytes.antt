@@ -1,6 +1,6 @@
 -- The text of a proto report loads as the profile that was saved, which reports as its filters did.
 use Rattle.std.proofs.Common.{◌≡◌, ℕ, ◌<◌, ◌-◌, ◌==◌, ◌^◌, Bool, true, false, cond, List, [], ◌∷◌, length, refl, sym, ap, ◌∙◌, subst, arith}
-use Rattle.std.specs.Prelude.{⊤, IfOk, nat_lt, not, bytes_eq, Option, Some, None, Result, Ok, Err, option_map, position, if◌then◌else◌}
+use Rattle.std.specs.Prelude.{⊤, nat_lt, not, bytes_eq, Option, Some, None, Result, Ok, Err, option_map, position, if◌then◌else◌}
 use Rattle.std.specs.List.{AllByRecursion, list_all, prefix_len}
 use Rattle.std.specs.Char.{is_ascii_digit}
 use Rattle.std.specs.Option.{MatchOption}
@@ -9,7 +9,6 @@ use Rattle.std.proofs.lemmas.Bool.{ltb-true, eqb-false}
 use Rattle.std.proofs.lemmas.Option.{none-some, same_Some}
 use Rattle.pp_base.specs.FileMap.{FileMap}
 use Rattle.pp_base.specs.Judges.{Answer}
-use Rattle.pp_desk.specs.declared.stop.Stop.{Stop}
 use Rattle.pp_desk.specs.Asking.{go_on}
 use Rattle.pp_desk.specs.Script.{Give, Script}
 use Rattle.pp_model.specs.declared.config.Config.{Config}
@@ -26,32 +25,27 @@ use Rattle.pp_model.specs.Rules.{NoRuleFails}
 use Rattle.pp_model.specs.Sizes.{IsCountable}
 use Rattle.pp_units.specs.Shown.{Shown}
 use Rattle.pp_count.specs.Matches.{matches_of}
-use Rattle.pp_share.specs.Header.{HeaderText}
-use Rattle.pp_merge.specs.Merge.{merged}
 use Rattle.pp_pattern.specs.Report.{Finds}
 use Rattle.pp_tables.specs.Encode.{encode}
-use Rattle.pp_tables.specs.Read.{read}
 use Rattle.pp_count.specs.Column.{column_of, column_at, column_named, default_column, first_else, last_of, type_named}
-use Rattle.pp_dump.specs.Saved.{saved}
-use Rattle.pp_dump.specs.Unfiltered.{KeepsHeader}
-use Rattle.pp_saved.specs.Figures.{figures}
-use Rattle.pp_saved.specs.Kept.{IsLasting}
-use Rattle.pp_saved.specs.Premises.{CanSave, CountsFiltered, HasFiltersOf, IsSource, unfiltered}
-use Rattle.pp_saved.proofs.SavedSizes.{saved_sizes}
 use Rattle.pp_report.specs.declared.refusal.ReportRefusal.{ReportRefusal}
 use Rattle.pp_report.specs.Heads.{wanted_unit, unit_text}
 use Rattle.pp_report.specs.Notes.{note_unless, notes_by}
 use Rattle.pp_report.specs.Patterns.{report_finders}
 use Rattle.pp_report.specs.Prepared.{Showing, Settled, in_column, in_unit, prepare, prepare_on, prepare_showing, settled_of, showing_for}
 use Rattle.pp_report.specs.Reports.{Reported, finish, finish_on, report_script, report_settled, reported_with, text_by}
-use Rattle.pp_report.specs.SavedReports.{IsPlain, IsSavedOf, NamesNoKey, ReportAlike, saved_by}
-use Rattle.pp_report.specs.SavedText.{AllTaken, IsProtoBy, IsProtoOf, IsSavedText, OnText, ReportsAlike, outcome_over, report_figures}
-use Rattle.pp_report.specs.StaysSaved.{stays_saved}
+use Rattle.pp_report.specs.SavedText.{IsProtoBy}
 use Rattle.pp_report.specs.Tagged.{basis_of}
 use Rattle.pp_report.proofs.PreparingLemmas.{showing_counts}
-use Rattle.pp_report.proofs.SavedLemmas.{figures_are, on_staying, plain_basis, saved_reports, types_are}
-use Rattle.pp_report.proofs.Taken.{GivesTaken, gives_counts, taken_course, taken_then}
 use Rattle.pp_report.proofs.TypesLemmas.{same_column}
+use Rattle.pp_saved.specs.Figures.{figures}
+use Rattle.pp_saved.specs.Premises.{CanSave, CountsFiltered, HasFiltersOf, IsSource, unfiltered}
+use Rattle.pp_saved.specs.SavedBytes.{AllTaken, IsSavedText, ReportsAlike, SavedBytes, outcome_over, report_figures}
+use Rattle.pp_saved.specs.SavedReports.{IsPlain, IsSavedOf, NamesNoKey, ReportAlike, saved_by}
+use Rattle.pp_saved.specs.StaysSaved.{stays_saved}
+use Rattle.pp_saved.proofs.SavedReports.{figures_are, on_staying, plain_basis, saved_reports, types_are}
+use Rattle.pp_saved.proofs.SavedSizes.{saved_sizes}
+use Rattle.pp_saved.proofs.Taken.{GivesTaken, gives_counts, taken_course, taken_then}
 
 -- ---- the column that is asked for is one of the profile
 
@@ -285,37 +279,7 @@ proto_text finds l config text countable is = record {
       (record { profile = saved.profile ∙ sym (saved_same finds l config c has); drop = saved.drop; keep = saved.keep }) plain;
 }
 
--- what was saved lasts
-pub lasting : {E : Type 0} (p : Profile) (r : Result Profile E) → IfOk r (λ q. NoRuleFails q) → IfOk r (λ q. merged q [] ≡ q) → IfOk r (KeepsHeader p) → IfOk r IsLasting
-lasting p (Ok q) valid settled header = record {
-  valid = valid;
-  settled = settled;
-  drop = ap (λ (h : HeaderText). h.drop_frames) header.header;
-  keep = ap (λ (h : HeaderText). h.keep_frames) header.header;
-}
-lasting p (Err e) valid settled header = tt
-
--- its text, as it was written
-pub proto_of : {E : Type 0} (p : Profile) (f : Finders) (config : Config) (q r : Profile) (written : Result (List ℕ) E) → r ≡ q → q ≡ saved p f config → IsLasting q
-    → NoRuleFails p → AllByRecursion (λ m. m.start < 2 ^ 64) p.mapping → IfOk written (λ text. text ≡ encode r) → IfOk written (λ text. read text ≡ Ok r)
-    → IfOk written (IsProtoOf p f config)
-proto_of p f config q r (Ok text) same is lasts valid starts bytes again = record {
-  bytes = bytes ∙ ap encode (same ∙ is);
-  again = again ∙ ap (λ (x : Profile). Ok x) (same ∙ is);
-  lasts = subst IsLasting is lasts;
-  valid = valid;
-  starts = starts;
-}
-proto_of p f config q r (Err e) same is lasts valid starts bytes again = tt
-
--- of a text that was made
-pub on_text : (P Q : List ℕ → Type 0) (result : Result (Result (List ℕ) ReportRefusal) Stop) → ((text : List ℕ) → P text → Q text) → OnText result P → OnText result Q
-on_text P Q (Ok (Ok text)) each holds = each text holds
-on_text P Q (Ok (Err refusal)) each holds = tt
-on_text P Q (Err stop) each holds = tt
-
 -- The text of a proto report, where no frames are made from labels.
-pub saved_text : (finds : Finds) (l : Loaded) (config : Config) (text : List ℕ) → IsCountable l.profile → NamesNoKey config
-    → IsProtoBy finds (basis_of reports.Proto l config) config text → IsSavedText finds l config text
-saved_text finds l config text countable keyless is =
+pub saved_bytes : SavedBytes
+saved_bytes finds l config text countable keyless is =
     proto_text finds l config text countable (subst (λ (q : Loaded). IsProtoBy finds q config text) (plain_basis reports.Proto l config keyless) is)

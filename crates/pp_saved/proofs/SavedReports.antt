@@ -25,11 +25,6 @@ use Rattle.pp_calltree.specs.Text.{calltree_text}
 use Rattle.pp_export.specs.Folded.{folded_text}
 use Rattle.pp_export.specs.Table.{exact_table}
 use Rattle.pp_dump.specs.Saved.{saved}
-use Rattle.pp_saved.specs.Figures.{Figures, figures}
-use Rattle.pp_saved.specs.Kept.{PrintAlike}
-use Rattle.pp_saved.specs.Premises.{CanSave, unfiltered, own_alone}
-use Rattle.pp_saved.proofs.SavedAlike.{saved_figures, saved_texts}
-use Rattle.pp_saved.proofs.Saving.{is_saved}
 use Rattle.pp_report.specs.declared.refusal.ReportRefusal.TheVariants.{NoMatch}
 use Rattle.pp_report.specs.declared.texts.TheConstants.{TREE_NODES}
 use Rattle.pp_report.specs.Heads.{report_head, unit_text}
@@ -40,9 +35,14 @@ use Rattle.pp_report.specs.Prepared.{Showing, showing_for}
 use Rattle.pp_report.specs.Reports.{finish, finish_made, finish_on, text_by}
 use Rattle.pp_pseudo.specs.Basis.{framed_by}
 use Rattle.pp_report.specs.Tagged.{basis_of}
-use Rattle.pp_report.specs.SavedReports.{SavedReports, IsSavedOf, NamesNoKey}
-use Rattle.pp_report.specs.StaysSaved.{stays_saved}
+use Rattle.pp_saved.specs.SavedReports.{SavedReports, IsSavedOf, NamesNoKey}
+use Rattle.pp_saved.specs.StaysSaved.{stays_saved}
 use Rattle.pp_report.proofs.TypesLemmas.{HasTypesOf, same_showing, same_unit, type_is, types_by_header}
+use Rattle.pp_saved.specs.Figures.{Figures, figures}
+use Rattle.pp_saved.specs.Kept.{PrintAlike}
+use Rattle.pp_saved.specs.Premises.{CanSave, unfiltered, own_alone}
+use Rattle.pp_saved.proofs.SavedAlike.{saved_figures, saved_texts}
+use Rattle.pp_saved.proofs.Saving.{is_saved}
 
 -- the head follows from the figures
 abbrev head_by : Figures → Option Shown → Facts

@@ -10,11 +10,11 @@ use Rattle.pp_model.specs.Conditions.{IsColumnOf}
 use Rattle.pp_pattern.specs.Report.{Finds}
 use Rattle.pp_pseudo.specs.KeyList.{key_list}
 use Rattle.pp_dump.specs.Saved.{saved}
-use Rattle.pp_saved.specs.Premises.{CanSave, unfiltered}
 use Rattle.pp_report.specs.Patterns.{report_finders}
 use Rattle.pp_report.specs.Prepared.{Showing, showing_for}
 use Rattle.pp_report.specs.Reports.{finish}
-use Rattle.pp_report.specs.StaysSaved.{stays_saved}
+use Rattle.pp_saved.specs.Premises.{CanSave, unfiltered}
+use Rattle.pp_saved.specs.StaysSaved.{stays_saved}
 
 -- the profile that a proto report writes
 abbrev pub saved_by : Finds → Loaded → Config → Profile
