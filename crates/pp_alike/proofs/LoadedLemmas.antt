@@ -69,9 +69,9 @@ use Rattle.pp_load.proofs.JoiningLemmas.{bases_taken, front_joins, one_of, pair_
 use Rattle.pp_load.proofs.KindLemmas.{agreed, nothing_found}
 use Rattle.pp_load.proofs.StartLemmas.{decoded_has, same_Ok}
 use Rattle.pp_engine.proofs.Gives.{Gives, course_gives, gives_after, gives_then}
-use Rattle.pp_engine.proofs.RegionLemmas.{IsSmall, regions_small}
-use Rattle.pp_engine.proofs.MergedTells.{fitting, merged_fitting, negated_fitting, scaled_fitting}
-use Rattle.pp_engine.proofs.TellsFitting.{HasNumbers, HasPlace, HasRange, TellsFitting}
+use Rattle.pp_alike.proofs.RegionLemmas.{IsSmall, regions_small}
+use Rattle.pp_alike.proofs.MergedTells.{fitting, merged_fitting, negated_fitting, scaled_fitting}
+use Rattle.pp_alike.proofs.TellsFitting.{HasNumbers, HasPlace, HasRange, TellsFitting}
 
 -- ---- steps that may be refused
 

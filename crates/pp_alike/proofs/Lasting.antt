@@ -25,7 +25,7 @@ use Rattle.pp_engine.specs.declared.shell.TheConstants.{MOST_LINES}
 use Rattle.pp_engine.specs.Reporting.{noted_report, tell_locked, save, hand_out, hand_out_made, report_on}
 use Rattle.pp_engine.specs.Shell.{Turn, complain, obey, obey_or_complain, follow, turn, shell}
 use Rattle.pp_engine.specs.Turns.{turns, given_or}
-use Rattle.pp_engine.proofs.LineLemmas.{is_last, AreEnded, lines_ended, lines_few}
+use Rattle.pp_alike.proofs.LineLemmas.{is_last, AreEnded, lines_ended, lines_few}
 use Rattle.pp_engine.proofs.Quiet.{quiet_noted}
 use Rattle.pp_pattern.specs.Report.{Finds}
 

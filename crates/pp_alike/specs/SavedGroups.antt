@@ -19,14 +19,14 @@ use Rattle.pp_options.specs.declared.origin.Origin.TheVariants.{Path, Gen}
 use Rattle.pp_options.specs.declared.plan.Plan.{Plan}
 use Rattle.pp_pattern.specs.Report.{Finds}
 use Rattle.pp_saved.specs.Premises.{unfiltered}
-use Rattle.pp_report.specs.SavedReports.{NamesNoKey}
+use Rattle.pp_saved.specs.SavedReports.{NamesNoKey}
 use Rattle.pp_steps.specs.Premises.{HasFirstMappings, LosesNoSample}
 use Rattle.pp_steps.specs.Refused.{IsMergeable, one_group}
 use Rattle.pp_steps.specs.Steps.{Group, sources_of, all_sources, merged_group, at_once, in_steps}
 use Rattle.pp_engine.specs.declared.ending.Cause.{Cause}
 use Rattle.pp_engine.specs.declared.ending.Cause.TheVariants as causes
-use Rattle.pp_engine.specs.Alike.{after_loading}
-use Rattle.pp_engine.specs.SavedFiles.{SessionOf, course_in}
+use Rattle.pp_alike.specs.Alike.{after_loading}
+use Rattle.pp_alike.specs.SavedFiles.{SessionOf, course_in}
 use Rattle.pp_engine.specs.Session.{session}
 use Rattle.pp_engine.specs.Words.{performed}
 

@@ -29,22 +29,22 @@ use Rattle.pp_load.proofs.AloneLemmas.{settled_files_load}
 use Rattle.pp_load.proofs.DecodeLemmas.{written_loaded}
 use Rattle.pp_options.specs.declared.plan.Plan.{Plan}
 use Rattle.pp_pattern.specs.Report.{Finds}
-use Rattle.pp_saved.specs.Kept.{IsLasting}
+use Rattle.pp_report.specs.SavedText.{IsLasting}
 use Rattle.pp_saved.specs.Premises.{CanSave, IsSource, unfiltered}
 use Rattle.pp_saved.proofs.SavedAlike.{saved_lasts}
 use Rattle.pp_saved.proofs.SavedWhole.{saved_whole}
 use Rattle.pp_report.specs.Patterns.{report_finders}
 use Rattle.pp_report.specs.Reports.{report_script, reported_with}
-use Rattle.pp_report.specs.SavedReports.{IsSavedOf, NamesNoKey, saved_by}
-use Rattle.pp_report.proofs.SavedTextLemmas.{ComeToOne, both, can_save, proto_taken, saved_same}
-use Rattle.pp_report.proofs.Taken.{GivesTaken}
-use Rattle.pp_engine.specs.SavedFiles.{SessionOf, course_in, loading_in, HasSourcesOf, PassOn, ReportsStaying, IsOfSources, StandAt, AreSameBut, ReportedAlike, SavedFilesReportAlike, SavedFilesSaveAlike}
-use Rattle.pp_engine.proofs.AlikeLemmas.{course_apart}
-use Rattle.pp_engine.proofs.LoadedLemmas.{IsLoadable, loaded_is}
+use Rattle.pp_saved.specs.SavedReports.{IsSavedOf, NamesNoKey, saved_by}
+use Rattle.pp_saved.proofs.SavedBytes.{ComeToOne, both, can_save, proto_taken, saved_same}
+use Rattle.pp_saved.proofs.Taken.{GivesTaken}
+use Rattle.pp_alike.specs.SavedFiles.{SessionOf, course_in, loading_in, HasSourcesOf, PassOn, ReportsStaying, IsOfSources, StandAt, AreSameBut, ReportedAlike, SavedFilesReportAlike, SavedFilesSaveAlike}
+use Rattle.pp_alike.proofs.AlikeLemmas.{course_apart}
+use Rattle.pp_alike.proofs.LoadedLemmas.{IsLoadable, loaded_is}
 use Rattle.pp_engine.proofs.LoadQuiet.{load_looks}
-use Rattle.pp_engine.proofs.ReportSessions.{Ends, taken_same, looks_same, session_ends}
-use Rattle.pp_engine.proofs.SavedFits.{saved_fits, saved_countable}
-use Rattle.pp_engine.proofs.TellsFitting.{HasRange}
+use Rattle.pp_alike.proofs.ReportSessions.{Ends, taken_same, looks_same, session_ends}
+use Rattle.pp_alike.proofs.SavedFits.{saved_fits, saved_countable}
+use Rattle.pp_alike.proofs.TellsFitting.{HasRange}
 
 -- plans of the same sources load by the same steps
 same_load : (finds : Finds) (plan other : Plan) → HasSourcesOf plan other → load finds other ≡ load finds plan

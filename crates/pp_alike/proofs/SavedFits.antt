@@ -41,7 +41,7 @@ use Rattle.pp_dump.specs.Saved.{cut_sample, cut_samples, saved, saved_contents}
 use Rattle.pp_saved.proofs.CutSamples.{locations_each, rows_long}
 use Rattle.pp_saved.proofs.SavedHead.{same_duration}
 use Rattle.pp_saved.proofs.SavedSizes.{sizes_within}
-use Rattle.pp_engine.proofs.TellsFitting.{HasNumbers, HasPlace, LineTextFits, LocationTextFits, NumbersFit, RangeFits, StartFits, TellsFitting, at_place, functions_fit, kept_hold, location_fits, mappings_fit, ranges_fit}
+use Rattle.pp_alike.proofs.TellsFitting.{HasNumbers, HasPlace, LineTextFits, LocationTextFits, NumbersFit, RangeFits, StartFits, TellsFitting, at_place, functions_fit, kept_hold, location_fits, mappings_fit, ranges_fit}
 
 -- ---- each entry of a table has a byte
 

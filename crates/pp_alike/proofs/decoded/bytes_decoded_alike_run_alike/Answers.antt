@@ -1,7 +1,7 @@
 use Rattle.std.proofs.Common.{sym, ◌∙◌}
 use Rattle.pp_load.proofs.DecodeLemmas.{written_loaded, legacy_valid, legacy_loaded}
-use Rattle.pp_engine.proofs.AlikeLemmas.{runs_alike}
-use Rattle.pp_engine.proofs.laws.bytes_decoded_alike_run_alike.Goals as goal
+use Rattle.pp_alike.proofs.AlikeLemmas.{runs_alike}
+use Rattle.pp_alike.proofs.decoded.bytes_decoded_alike_run_alike.Goals as goal
 
 pub returns-clause-alike : goal.returns-clause-alike
 returns-clause-alike c = runs_alike

@@ -13,7 +13,7 @@ use Rattle.pp_desk.specs.Effects.{ToOut, ToErr, ToFile, FromFile, reads_of}
 use Rattle.pp_desk.specs.Lines.{next_of, after_next}
 use Rattle.pp_desk.specs.Script.{Script, Give, Make, WriteOut, WriteErr, ReadFile, WriteFile, Ask, NextLine}
 use Rattle.pp_desk.specs.Went.{content_within}
-use Rattle.pp_engine.specs.SavedGroups.{AgreeAt}
+use Rattle.pp_alike.specs.SavedGroups.{AgreeAt}
 
 or_second : (a b : Bool) → b ≡ true → (a || b) ≡ true
 or_second true b is = refl

@@ -56,9 +56,9 @@ use Rattle.pp_load.specs.Reads.{size_limit, bytes_found, read_path, loaded_or, w
 use Rattle.pp_load.specs.Sources.{nothing_read, within_size_limit, with_profile, with_bytes}
 use Rattle.pp_load.specs.Steps as steps
 use Rattle.pp_load.specs.Steps.{unless}
-use Rattle.pp_engine.specs.SavedGroups.{HasProfiles, bytes_of}
+use Rattle.pp_alike.specs.SavedGroups.{HasProfiles, bytes_of}
 use Rattle.pp_engine.proofs.Courses.{AreReads}
-use Rattle.pp_engine.proofs.LoadedLemmas.{is_decoded}
+use Rattle.pp_alike.proofs.LoadedLemmas.{is_decoded}
 
 -- ---- lists that are the same
 

@@ -23,12 +23,12 @@ use Rattle.pp_pattern.specs.Report.{Finds}
 use Rattle.pp_report.specs.declared.refusal.ReportRefusal.{ReportRefusal}
 use Rattle.pp_report.specs.Messages.{report_refusal_line}
 use Rattle.pp_report.specs.Reports.{Reported, reported_with, report_script}
-use Rattle.pp_report.specs.SavedText.{AllTaken}
-use Rattle.pp_report.proofs.Taken.{GivesTaken, taken_course}
+use Rattle.pp_saved.specs.SavedBytes.{AllTaken}
+use Rattle.pp_saved.proofs.Taken.{GivesTaken, taken_course}
 use Rattle.pp_engine.specs.declared.ending.Cause.{Cause}
 use Rattle.pp_engine.specs.declared.ending.Cause.TheVariants as causes
 use Rattle.pp_engine.specs.Reporting.{Tells, noted_report, end_with, end_report, report_once}
-use Rattle.pp_engine.specs.SavedFiles.{SessionOf, course_in, loading_in}
+use Rattle.pp_alike.specs.SavedFiles.{SessionOf, course_in, loading_in}
 use Rattle.pp_engine.specs.Session.{serve, serve_loaded, perform}
 use Rattle.pp_engine.proofs.Courses.{AreReads, only_looks, joined, course_both, only_reads, outs_more, errs_more, files_more}
 use Rattle.pp_engine.proofs.LoadQuiet.{load_looks, load_writes_nothing}

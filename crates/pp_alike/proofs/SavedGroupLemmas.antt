@@ -38,22 +38,22 @@ use Rattle.pp_options.specs.declared.plan.Plan.{Plan}
 use Rattle.pp_pattern.specs.Report.{Finds}
 use Rattle.pp_saved.proofs.SavedWhole.{saved_whole}
 use Rattle.pp_report.specs.Patterns.{report_finders}
-use Rattle.pp_report.specs.SavedReports.{saved_by}
-use Rattle.pp_report.proofs.SavedTextLemmas.{proto_taken}
+use Rattle.pp_saved.specs.SavedReports.{saved_by}
+use Rattle.pp_saved.proofs.SavedBytes.{proto_taken}
 use Rattle.pp_engine.specs.declared.ending.Cause.{Cause}
-use Rattle.pp_engine.specs.Alike.{after_loading}
-use Rattle.pp_engine.specs.SavedFiles.{course_in, loading_in}
-use Rattle.pp_engine.specs.SavedGroups.{AgreeAt, GoAlike, HasBytes, HasProfiles, PrintsMerge, SavedGroup, SavedGroupsAreMerges, SavedGroupsGoAsOne, SavedGroupsLoadAsOne, SavedInSteps, SavesWhole, groups_of, printed}
+use Rattle.pp_alike.specs.Alike.{after_loading}
+use Rattle.pp_alike.specs.SavedFiles.{course_in, loading_in}
+use Rattle.pp_alike.specs.SavedGroups.{AgreeAt, GoAlike, HasBytes, HasProfiles, PrintsMerge, SavedGroup, SavedGroupsAreMerges, SavedGroupsGoAsOne, SavedGroupsLoadAsOne, SavedInSteps, SavesWhole, groups_of, printed}
 use Rattle.pp_engine.specs.Session.{perform, serve, serve_loaded, session}
 use Rattle.pp_engine.specs.Words.{performed}
 use Rattle.pp_engine.proofs.Courses.{course_both, errs_more, files_more, joined, outs_more, rest_of}
 use Rattle.pp_engine.proofs.LoadQuiet.{load_looks}
-use Rattle.pp_engine.proofs.LoadedLemmas.{IsLoadable, loaded_is}
+use Rattle.pp_alike.proofs.LoadedLemmas.{IsLoadable, loaded_is}
 use Rattle.pp_engine.proofs.Performing.{plan_performed}
-use Rattle.pp_engine.proofs.ReportSessions.{Ends, session_ends}
-use Rattle.pp_engine.proofs.SameReads.{same_reads}
-use Rattle.pp_engine.proofs.SavedFits.{saved_fits}
-use Rattle.pp_engine.proofs.SourcesLoaded.{drop_kept, keep_kept, kindless, loaded_course, mappings_start, reads_for, size_after, size_within, sources_load, sources_start, sources_valid, they_are_reads}
+use Rattle.pp_alike.proofs.ReportSessions.{Ends, session_ends}
+use Rattle.pp_alike.proofs.SameReads.{same_reads}
+use Rattle.pp_alike.proofs.SavedFits.{saved_fits}
+use Rattle.pp_alike.proofs.SourcesLoaded.{drop_kept, keep_kept, kindless, loaded_course, mappings_start, reads_for, size_after, size_within, sources_load, sources_start, sources_valid, they_are_reads}
 
 -- ---- what the session of a group prints
 

@@ -39,7 +39,7 @@ use Rattle.pp_options.specs.declared.plan.Plan.{Plan}
 use Rattle.pp_pattern.specs.Load.{judge_load}
 use Rattle.pp_pattern.specs.Report.{Finds}
 use Rattle.pp_engine.specs.declared.ending.Cause.{Cause}
-use Rattle.pp_engine.specs.Alike.{DifferAt, is_within_limits, after_loading, RunAlike}
+use Rattle.pp_alike.specs.Alike.{DifferAt, is_within_limits, after_loading, RunAlike}
 use Rattle.pp_engine.specs.Session.{serve_loaded, perform}
 use Rattle.pp_pattern.proofs.AskQuiet.{only_asking, only_load}
 use Rattle.pp_engine.proofs.Courses.{only_looks, joined, rest_of, course_both}

@@ -20,9 +20,9 @@ use Rattle.pp_load.specs.Reads.{size_limit}
 use Rattle.pp_options.specs.declared.plan.Plan.{Plan}
 use Rattle.pp_pattern.specs.Report.{Finds}
 use Rattle.pp_saved.specs.Premises.{HasFiltersOf, CountsFiltered, unfiltered}
-use Rattle.pp_report.specs.SavedReports.{IsPlain, NamesNoKey}
-use Rattle.pp_report.specs.SavedText.{AllTaken}
-use Rattle.pp_report.specs.StaysSaved.{stays_saved}
+use Rattle.pp_saved.specs.SavedReports.{IsPlain, NamesNoKey}
+use Rattle.pp_saved.specs.SavedBytes.{AllTaken}
+use Rattle.pp_saved.specs.StaysSaved.{stays_saved}
 use Rattle.pp_engine.specs.declared.ending.Cause.{Cause}
 use Rattle.pp_engine.specs.declared.ending.Cause.TheVariants as causes
 use Rattle.pp_engine.specs.Session.{session}

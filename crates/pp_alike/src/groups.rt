@@ -1,5 +1,5 @@
-//! What holds of sessions over what other sessions saved. These functions do nothing: their clauses are the laws.
-ghost use Rattle.pp_engine.specs.SavedGroups.{SavedGroupsAreMerges, SavedGroupsGoAsOne, SavedGroupsLoadAsOne};
+//! What holds of sessions over files that other sessions saved, each of a group of sources.
+ghost use Rattle.pp_alike.specs.SavedGroups.{SavedGroupsAreMerges, SavedGroupsGoAsOne, SavedGroupsLoadAsOne};
 
 // What would break it: sources that are not merged as one, patterns that a merge keeps of its own, bytes that are not
 // read as what was saved.

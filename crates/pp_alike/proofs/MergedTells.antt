@@ -24,7 +24,7 @@ use Rattle.pp_merge.specs.Merge.{all_mappings, all_samples, contents, merged}
 use Rattle.pp_merge.specs.Scale.{base_label, base_texts, labelled_sample, negated, negated_sample, normalized, normalized_sample}
 use Rattle.pp_merge.proofs.SettledLemmas.{all_any, all_flat, all_join, found_holds}
 use Rattle.pp_load.proofs.GeneratedRows.{int_fits}
-use Rattle.pp_engine.proofs.TellsFitting.{HasNumbers, HasPlace, HasRange, LineTextFits, LocationTextFits, NumbersFit, RangeFits, TellsFitting, at_place, functions_fit, kept_hold, location_fits, locations_fit, mappings_fit, ranges_fit}
+use Rattle.pp_alike.proofs.TellsFitting.{HasNumbers, HasPlace, HasRange, LineTextFits, LocationTextFits, NumbersFit, RangeFits, TellsFitting, at_place, functions_fit, kept_hold, location_fits, locations_fit, mappings_fit, ranges_fit}
 
 -- ---- numbers
 
