@@ -1,10 +1,10 @@
 //! The session: all that is done for the words after the program's name, by one report or in the shell, and how it
 //! ends.
 //!
-//! Begin with `running` (`run`): `program` makes it the program's one call. `session` reads the words, loads, and goes on with one report
-//! (`reporting`) or the shell (`shell`). `ending` has the causes of an end and `message` the lines that tell them. The
-//! definition that `run` is proved against is `specs/Session.antt`. Its laws are those of `pp_alike`, but for `laws`,
-//! which holds of any words, and `reports_are_told`.
+//! Begin with `running` (`run`): `program` makes it the program's one call. `session` reads the words, loads, and goes on
+//! with one report (`reporting`) or the shell (`shell`). `ending` has the causes of an end and `message` the lines that
+//! tell them. The definition that `run` is proved against is `specs/Session.antt`. `laws` says what words ask for. Which
+//! sessions go alike is said by the laws of `pp_alike`.
 #![tactic(auto)]
 
 mod ending;
