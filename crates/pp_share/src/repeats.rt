@@ -166,12 +166,21 @@ fn of_class<'a>(
     Ok(placed)
 }
 
-// Sorts the samples by kind, and those of one kind by place.
+// Sorts the samples by kind, and those of one kind by place. Samples of one hash are mostly equal. Then they are in order
+// once they are sorted by hash and place, and the second sort compares each with the one before it, and ends.
 fn sort_placed(by: &Renumbering, placed: &mut Vec<Placed>)
     ensures sorted { IsSorted (placed_cmp (new_ids by.now)) placed.new.items }
     ensures same { IsPermutation placed.old.items placed.new.items }
 {
+    sort_by_hash(placed);
     placed.sort_unstable_by(|a, b| placed_order(by, a, b));
+}
+
+// Sorts the samples by hash, and those of one hash by place. It looks at no sample.
+fn sort_by_hash(placed: &mut Vec<Placed>)
+    ensures { IsPermutation placed.old.items placed.new.items }
+{
+    placed.sort_unstable_by(|a, b| a.hash.cmp(&b.hash).then(a.place.cmp(&b.place)));
 }
 
 fn placed_order(by: &Renumbering, a: &Placed, b: &Placed) -> Ordering
