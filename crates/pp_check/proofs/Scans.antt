@@ -1,5 +1,5 @@
 -- A scan of ids from the front, which stops at the first one that stands earlier.
-use Rattle.std.proofs.Common.{◌≡◌, ◌+◌, ◌<◌, ℕ, List, Bool, true, false, length, take, map, get_or, sym, ap, subst, ◌∙◌, arith, below_more}
+use Rattle.std.proofs.Common.{◌≡◌, ◌+◌, ◌<◌, ℕ, List, Bool, true, false, length, take, map, get_or, sym, ap, subst, ◌∙◌, below_more}
 use Rattle.std.specs.Prelude.{◌==◌, ◌||◌, Some, None, not, slice_index}
 use Rattle.std.proofs.lemmas.Bool.{not-true, not-false}
 use Rattle.std.proofs.lemmas.List.{get_or-map}

@@ -17,9 +17,9 @@ use pp_share::Hashed;
 use pp_steal::{Resources, run_piecewise};
 use std::thread::Threads;
 
-/// Tries the table rules as `check` does, and hashes each sample by the ids that it has. Samples are asked for all of their
-/// rules at once, in pieces of 1,024 on `with.workers` lanes. The answer does not tell how many there were. Where a rule of
-/// samples or of the locations' ids fails, all rules are tried on one thread.
+/// Tries the table rules as `check` does, and hashes each sample by the ids that it has. Samples are asked for all their
+/// rules in one walk, in pieces of 1,024 on `with.workers` lanes. The answer does not tell how many there were. Where a
+/// rule of samples or of the locations' ids fails, all rules are tried on one thread.
 pub fn check_on<R: Threads + Sync>(
     with: &Resources<'_, R>,
     p: Profile,

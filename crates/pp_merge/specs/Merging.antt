@@ -31,8 +31,8 @@ Admits p ps (Err (TotalTooLarge column)) =
     (disagreeing p 1 ps ≡ None) × (too_large (length p.sample_type) (p ∷ ps) ≡ Some column)
 Admits p ps (Err Memory) = ⊥
 
--- The profile stands for p and ps, which can be merged: equal things in it can be made one, and that is then p and ps as
--- one.
+-- The profile stands for p and ps, which can be merged: equal things in it can be made one, and that is then what
+-- merging gives.
 pub record IsShareable (p : Profile) (ps : List Profile) (whole : Profile) : Type 0 where
   pub joined : IsJoined whole
   pub wide : All (λ (s : Sample). length s.value ≡ length whole.sample_type) whole.sample
