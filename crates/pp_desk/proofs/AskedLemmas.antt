@@ -1,5 +1,5 @@
 -- Scripts that ask patterns alone: a matcher tells how they went, and nothing but want of memory stops them.
-use Rattle.std.proofs.Common.{◌≡◌, ◌≤◌, Bool, true, false, List, Option, Some, None, option_map, inl, inr, refl, ap, arith}
+use Rattle.std.proofs.Common.{◌≡◌, Bool, true, false, List, Option, Some, None, option_map, inl, inr, refl, ap, arith}
 use Rattle.std.specs.Prelude.{Result, Ok, Err, IfErr}
 use Rattle.std.specs.Borrow.{GName}
 use Rattle.std.proofs.lemmas.Bool.{false≢true}
@@ -10,7 +10,7 @@ use Rattle.pp_desk.specs.declared.stop.Stop.TheVariants as stops
 use Rattle.pp_desk.specs.Asked.{Asked, told_by, value_of, world_by}
 use Rattle.pp_desk.specs.Script.{Script, Give, Make, Step, WriteOut, WriteErr, ReadFile, WriteFile, Ask, NextLine, ◌>>=◌}
 use Rattle.pp_desk.specs.Went.{Went, Ways, Goes, Halts, HasFailed, AtRest, after, parts}
-use Rattle.pp_desk.specs.World.{Told, World}
+use Rattle.pp_desk.specs.World.{Told}
 use Rattle.pp_desk.proofs.Quiet.{Only}
 
 -- ---- at a desk that is a matcher alone

@@ -1,5 +1,5 @@
 -- How a script went that a matcher alone answers.
-use Rattle.std.specs.Prelude.{ℕ, List, Option, Some, None, Result, Ok, Err}
+use Rattle.std.specs.Prelude.{List, Option, Some, None, Result, Ok, Err}
 use Rattle.std.specs.Borrow.{GName}
 use Rattle.pp_base.specs.Judges.{Answer}
 use Rattle.pp_desk.specs.declared.stop.Stop.{Stop}
