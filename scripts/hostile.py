@@ -1,7 +1,7 @@
 #!/usr/bin/env python3
 """Runs the built program on files that somebody could make to be slow, and compares processor times.
 
-usage: hostile.py [--counts N,N] [--shapes NAME,NAME] [--size PARTS] [--list] PROGRAM
+usage: hostile.py [--counts N,N] [--shapes NAME,NAME] [--size PARTS] [--list] [--jobs N] PROGRAM
 
 First come files whose entries meet in a few slots of hash tables, if these hash with a known seed: scripts/hostile.c, which
 needs a C compiler (CC, or cc), writes one of each kind, and a plain one of the same shape. The hostile one may take 1.5 times
@@ -16,6 +16,7 @@ A run has 60 seconds of the processor and 12 GB. The status is 0 where all is wi
 """
 
 import argparse
+import concurrent.futures
 import os
 import pathlib
 import resource
@@ -193,23 +194,28 @@ def least(program, words, path):
     return seconds, status
 
 
-def compare_kinds(program, folder, counts):
-    """Prints a line for each kind and count, and gives the findings."""
+def write_kinds(folder, counts):
+    """Writes the hostile file and the plain one of each kind, in a folder for each count."""
     compiler = os.environ.get("CC", "cc")
     writer = folder / "hostile"
     subprocess.run([compiler, "-O2", "-o", writer, ROOT / "scripts" / "hostile.c"], check=True)
     for count in counts:
-        subprocess.run([writer, str(count), folder], check=True)
-        for kind, words in KINDS.items():
-            for _ in range(PAIRS):
-                hostile, one = least(program, words, folder / f"{kind}-hostile")
-                plain, other = least(program, words, folder / f"{kind}-plain")
-                if hostile <= RATIO * plain + SLACK:
-                    break
-            line = f"{kind} of {count}: hostile {hostile:.3f} s, plain {plain:.3f} s, {hostile / plain:.1f} times"
-            print(line, flush=True)
-            if hostile > RATIO * plain + SLACK or one or other:
-                yield f"{line}, status {one} and {other}"
+        (folder / str(count)).mkdir()
+        subprocess.run([writer, str(count), folder / str(count)], check=True)
+
+
+def compare_kind(program, folder, count, kind):
+    """Prints a line for the kind and count. Gives no runs, and the findings."""
+    words, place = KINDS[kind], folder / str(count)
+    for _ in range(PAIRS):
+        hostile, one = least(program, words, place / f"{kind}-hostile")
+        plain, other = least(program, words, place / f"{kind}-plain")
+        if hostile <= RATIO * plain + SLACK:
+            break
+    line = f"{kind} of {count}: hostile {hostile:.3f} s, plain {plain:.3f} s, {hostile / plain:.1f} times"
+    print(line, flush=True)
+    is_slow = hostile > RATIO * plain + SLACK or one or other
+    return [], [f"{line}, status {one} and {other}"] if is_slow else []
 
 
 def try_shape(program, folder, name, size, told):
@@ -259,6 +265,7 @@ def arguments():
     parser.add_argument("--shapes", default=",".join(SHAPES), help="joined by commas; empty for none")
     parser.add_argument("--size", type=int, default=100, metavar="PARTS", help="hundredths of the long files' size (100)")
     parser.add_argument("--list", action="store_true", help="print each run on a long file")
+    parser.add_argument("--jobs", type=int, default=2, help="kinds and shapes side by side (2)")
     return parser.parse_args()
 
 
@@ -272,11 +279,14 @@ def main():
         folder = pathlib.Path(folder)
         # Of the source that list shows.
         (folder / "f.c").write_bytes(b"w\n" * 1_000_000)
-        findings += compare_kinds(program, folder, counts)
-        for name in shapes:
-            new, found = try_shape(program, folder, name, given.size, given.list)
-            taken += new
-            findings += found
+        write_kinds(folder, counts)
+        with concurrent.futures.ProcessPoolExecutor(given.jobs) as pool:
+            # Shapes take longest, and so come first.
+            tries = [pool.submit(try_shape, program, folder, name, given.size, given.list) for name in shapes]
+            tries += [pool.submit(compare_kind, program, folder, count, kind) for count in counts for kind in KINDS]
+            for new, found in (one.result() for one in tries):
+                taken += new
+                findings += found
     for finding in findings:
         print(f"too slow: {finding}")
     slowest = max(taken, default=(0, 0, "none"))

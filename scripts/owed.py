@@ -11,6 +11,8 @@ are left out and counted: the text of --help, devices and folders of the system.
 """
 
 import argparse
+import multiprocessing
+import os
 import pathlib
 import sys
 
@@ -28,6 +30,8 @@ from transcripts import Reader, sessions_of, spelled
 OWED = (b">", b">*", b"!", b"=", b"+", b"+=", b"-")
 # So many equal lines are written as one with a count.
 MANY = 5
+# The sessions that are compared, each with the name of its file.
+SESSIONS = []
 
 
 def is_of_the_system(session):
@@ -151,14 +155,28 @@ def compared(session):
     return len(words), 0, texts
 
 
-def check(paths):
+def compared_at(number):
+    return compared(SESSIONS[number][1])
+
+
+def size_at(number):
+    """How many bytes the session is given."""
+    session = SESSIONS[number][1]
+    return len(session.texts[ord("<")]) + sum(map(len, session.files.values()))
+
+
+def check(paths, jobs):
+    SESSIONS.extend((path.name, session) for path in paths for session in sessions_of(path))
+    # The largest come first, so that none is waited for at the end. Each process has the sessions from this one, by fork.
+    order = sorted(range(len(SESSIONS)), key=size_at, reverse=True)
+    with multiprocessing.get_context("fork").Pool(jobs) as pool:
+        found = dict(zip(order, pool.imap(compared_at, order)))
     ran = left_out = differ = 0
-    for path in paths:
-        for session in sessions_of(path):
-            count, silent, texts = compared(session)
-            ran, left_out, differ = ran + count, left_out + silent, differ + bool(texts)
-            if texts:
-                print("\n".join([f"{path.name}: {session.title}"] + texts), flush=True)
+    for number, (name, session) in enumerate(SESSIONS):
+        count, silent, texts = found[number]
+        ran, left_out, differ = ran + count, left_out + silent, differ + bool(texts)
+        if texts:
+            print("\n".join([f"{name}: {session.title}"] + texts), flush=True)
     print(f"{ran} commands of transcripts compared with the model, {differ} sessions differ, {left_out} commands left out")
     return differ == 0
 
@@ -170,6 +188,7 @@ def arguments():
     parser.add_argument("file", nargs="*", type=pathlib.Path, help="transcripts; with --check all, if none is named")
     parser.add_argument("--write", action="store_true", help="write into the files")
     parser.add_argument("--check", action="store_true", help="compare, and write nothing")
+    parser.add_argument("--jobs", type=int, default=os.cpu_count() or 1, help="sessions that are compared side by side")
     given = parser.parse_args()
     if not given.file and not given.check:
         parser.error("no file is named")
@@ -179,7 +198,7 @@ def arguments():
 def main():
     given = arguments()
     if given.check:
-        sys.exit(0 if check(given.file or sorted(DATA.glob("*.txt"))) else 1)
+        sys.exit(0 if check(given.file or sorted(DATA.glob("*.txt")), given.jobs) else 1)
     for path in given.file:
         text = rewritten(path)
         if given.write:

@@ -12,7 +12,8 @@ The status is 1 where something differs, else 0.
 """
 
 import argparse
-import concurrent.futures
+import functools
+import multiprocessing
 import os
 import pathlib
 import sys
@@ -24,6 +25,9 @@ import launcher
 import machine
 from running import DATA, SHOWN, run
 from transcripts import sessions_of, spelled
+
+# What is done side by side: each a function and what it is given.
+JOBS = []
 
 
 def make_files(place, session):
@@ -79,33 +83,44 @@ def findings_of(program, session):
     return findings
 
 
-def run_transcripts(program, path, jobs):
+def try_session(program, session):
+    """Whether the session ran, and its differences. One that only objects in memory can have is left out."""
+    is_possible = not session.is_for_memory()
+    return is_possible, findings_of(program, session) if is_possible else []
+
+
+def try_check(check, make):
+    """How many things the check looked at, and a text for each that differs."""
+    with tempfile.TemporaryDirectory(prefix="machine") as place:
+        found = list(check(make(place)))
+    findings = [
+        f"{title} is\n    {left!r:.{SHOWN}}\n  owed is\n    {owed!r:.{SHOWN}}" for title, left, owed in found if left != owed
+    ]
+    return len(found), findings
+
+
+def done(number):
+    function, *given = JOBS[number]
+    return function(*given)
+
+
+def run_transcripts(name, sessions, found):
     """Prints a line for the file, and each difference. Gives how many sessions ran, and how many differ."""
-    sessions = list(sessions_of(path))
-    possible = [session for session in sessions if not session.is_for_memory()]
-    with concurrent.futures.ThreadPoolExecutor(jobs) as pool:
-        findings = list(pool.map(lambda session: findings_of(program, session), possible))
-    differ = sum(1 for found in findings if found)
-    left_out = len(sessions) - len(possible)
-    print(f"{path.name}: {len(possible)} sessions, {differ} differ, {left_out} left out", flush=True)
-    for session, found in zip(possible, findings):
-        if found:
-            print("\n".join([session.title] + found), flush=True)
-    return len(possible), differ
+    tried = [next(found) for _ in sessions]
+    ran, differ = sum(is_possible for is_possible, _ in tried), sum(bool(findings) for _, findings in tried)
+    print(f"{name}: {ran} sessions, {differ} differ, {len(tried) - ran} left out", flush=True)
+    for session, (_, findings) in zip(sessions, tried):
+        if findings:
+            print("\n".join([session.title] + findings), flush=True)
+    return ran, differ
 
 
-def run_checks(checks, make):
-    """Prints a line for each check that differs, and how many there are. Gives both numbers."""
-    count = differ = 0
-    for check in checks:
-        with tempfile.TemporaryDirectory(prefix="machine") as place:
-            for title, left, owed in check(make(place)):
-                count += 1
-                if left != owed:
-                    differ += 1
-                    print(f"{title} is\n    {left!r:.{SHOWN}}\n  owed is\n    {owed!r:.{SHOWN}}")
-    print(f"{count} checks by code, {differ} differ", flush=True)
-    return count, differ
+def run_checks(checks, found):
+    """Prints what differs, and how many checks there are. Gives both numbers."""
+    tried = [next(found) for _ in checks]
+    count, findings = sum(it[0] for it in tried), sum((it[1] for it in tried), [])
+    print("\n".join(findings + [f"{count} checks by code, {len(findings)} differ"]), flush=True)
+    return count, len(findings)
 
 
 def arguments():
@@ -126,15 +141,21 @@ def arguments():
 def main():
     given = arguments()
     program = os.path.abspath(given.program)
-    paths = given.transcript or sorted(DATA.glob("*.txt"))
     begun = time.time()
-    ran = [run_transcripts(program, path, given.jobs) for path in paths]
-    checked = []
-    if not given.transcript:
-        checked.append(run_checks(machine.CHECKS, lambda place: machine.Machine(program, place)))
+    files = [(path.name, list(sessions_of(path))) for path in given.transcript or sorted(DATA.glob("*.txt"))]
+    groups = []
     if given.launcher:
-        checked.append(run_checks(launcher.CHECKS, launcher.Tree))
-        checked.append(run_checks(installing.CHECKS, installing.Tree))
+        groups += [[(try_check, check, kind.Tree) for check in kind.CHECKS] for kind in (launcher, installing)]
+    if not given.transcript:
+        groups.append([(try_check, check, functools.partial(machine.Machine, program)) for check in machine.CHECKS])
+    # Checks take longest, and so come first.
+    JOBS.extend(job for group in groups for job in group)
+    JOBS.extend((try_session, program, session) for _, sessions in files for session in sessions)
+    # Each process has the jobs from this one, by fork.
+    with multiprocessing.get_context("fork").Pool(given.jobs) as pool:
+        found = pool.imap(done, range(len(JOBS)))
+        checked = [run_checks(group, found) for group in groups]
+        ran = [run_transcripts(name, sessions, found) for name, sessions in files]
     sessions, checks, differ = (sum(it[0] for it in ran), sum(it[0] for it in checked), sum(it[1] for it in ran + checked))
     print(f"{sessions} sessions, {checks} checks by code; {differ} differ; {time.time() - begun:.1f} seconds")
     sys.exit(1 if differ else 0)
