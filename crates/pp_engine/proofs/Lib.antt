@@ -2,7 +2,7 @@ pub mod Turning
 pub mod Returns
 pub mod PlanLemmas
 pub mod Performing
-pub mod Refused
+pub mod Serving
 pub mod Gives
 pub mod SessionEnds
 pub mod LoadQuiet

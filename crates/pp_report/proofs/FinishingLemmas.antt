@@ -110,7 +110,7 @@ finish_lacks finds l base report config s w lacks = by_lack finds l base report 
 
 module _ (finds : Finds) (l : Loaded) (report : Report) (config : Config) (prepared : Prepared) (is : IsPrepared finds l report config prepared)
     (over : Loaded) (made_of : over ≡ unwrap_or prepared.tagged l) where
-  over_basis : over ≡ basis_of report l config
+  pub over_basis : over ≡ basis_of report l config
   over_basis = made_of ∙ is.basis
 
   -- what was counted is of the profile that the report is made of
@@ -139,10 +139,6 @@ module _ (finds : Finds) (l : Loaded) (report : Report) (config : Config) (prepa
     pub finish_uncounted : (text : Result (List ℕ) Memory) (r : Result (Result (List ℕ) ReportRefusal) Stop) → IfOk text (λ t. t ≡ comments_text over.profile)
         → r ≡ answer_of_text text → Went w w (finish finds l base report config (showing prepared.shows)) r
     finish_uncounted text r made answer = finish_over base w w has r (subst (λ x. Went w w (finish_on finds over report config (showing prepared.shows)) x) (sym answer) (by_comments text made))
-
-    -- and so none of a profile that is saved
-    pub uncounted_unsaved : {C : Type 0} → report ≡ reports.Proto → C
-    uncounted_unsaved proto = let clash : reports.Comments ≡ reports.Proto = sym comments_report ∙ proto in absurd (cc clash)
 
 -- the text of a saved profile
 module _ (w : World) (p : Profile) (f : Finders) (config : Config) (column : Option ℕ) (h : Facts) where

@@ -1,5 +1,5 @@
 -- What is settled before the text of a report is made: what it shows, what it asks for, and its notes.
-use Rattle.std.specs.Prelude.{◌≡◌, ◌×◌, ℕ, false, List, [], Option, Some, None, Result, Ok, Err, option_map, unwrap_or, if◌then◌else◌}
+use Rattle.std.specs.Prelude.{◌≡◌, ℕ, false, List, [], Option, Some, None, Result, Ok, Err, option_map, unwrap_or, if◌then◌else◌}
 use Rattle.pp_base.specs.Front.{IsFront}
 use Rattle.pp_desk.specs.declared.stop.Stop.{Stop}
 use Rattle.pp_desk.specs.Asking.{Asking, ◌>>=◌, go_on}

@@ -1,5 +1,5 @@
 //! What is settled before the text of a report is made.
-ghost use Rattle.std.specs.Prelude.{◌≡◌, ◌×◌, Some, IfOk};
+ghost use Rattle.std.specs.Prelude.{◌≡◌, IfOk};
 ghost use Rattle.pp_desk.specs.Went.{Went};
 ghost use Rattle.pp_model.specs.Conditions.{IsColumnOf};
 ghost use Rattle.pp_model.specs.Sizes.{IsCountable};

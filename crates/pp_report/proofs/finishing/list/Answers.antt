@@ -27,10 +27,10 @@ returns-in-Ok g c = λ f holds.
     (list_written (list_report s.l.now.profile f s.config.now s.column (facts c.args.subject.now.head.now)) _ _ c.new-text.result c.new-text.ensures c.write_list.new.out c.in_ok-write_list.field-0 (c.in_ok-write_list.ensures.went f holds))
 
 -- nothing was found
-pub returns-in-Err : goal.returns-in-Err
+pub returns-in-Err-NoMatch : goal.returns-in-Err-NoMatch
 unfolding list_text
-returns-in-Err g c = λ f holds.
+returns-in-Err-NoMatch g c = λ f holds.
     let s = c.args.subject.now.survey in
     subst (λ ended. Went {T = Result (List ℕ) ReportRefusal} (g.D.Desk.world c.args.desk.now) (g.D.Desk.world c.write_list.new.desk) (list_text s.l.now.profile f s.config.now s.column (facts c.args.subject.now.head.now))
-    (Ok (of_ended c.write_list.new.out ended))) c.in-Err.is
+    (Ok (of_ended c.write_list.new.out ended))) c.in-Err-NoMatch.is
     (list_written (list_report s.l.now.profile f s.config.now s.column (facts c.args.subject.now.head.now)) _ _ c.new-text.result c.new-text.ensures c.write_list.new.out c.in_ok-write_list.field-0 (c.in_ok-write_list.ensures.went f holds))
