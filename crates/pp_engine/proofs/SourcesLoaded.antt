@@ -56,7 +56,7 @@ use Rattle.pp_load.specs.Reads.{size_limit, bytes_found, read_path, loaded_or, w
 use Rattle.pp_load.specs.Sources.{nothing_read, within_size_limit, with_profile, with_bytes}
 use Rattle.pp_load.specs.Steps as steps
 use Rattle.pp_load.specs.Steps.{unless}
-use Rattle.pp_engine.specs.SavedGroups.{HasProfiles, bytes_of}
+use Rattle.pp_engine.specs.SavedGroups.{HasProfiles, source_bytes}
 use Rattle.pp_engine.proofs.Courses.{AreReads}
 use Rattle.pp_engine.proofs.LoadedLemmas.{is_decoded}
 
@@ -199,7 +199,7 @@ module _ (files : FileMap) (locked : List (List ℕ)) (lines : List InputLine) (
       last
 
   origins_read : (read : Read) (origins : List Origin) (all : List (List ℕ)) (ps : List Profile)
-      → map (bytes_of files) origins ≡ map Some all → map (decoded 0) all ≡ map Ok ps → size_after read.size all ≤ size_limit
+      → map (source_bytes files) origins ≡ map Some all → map (decoded 0) all ≡ map Ok ps → size_after read.size all ≤ size_limit
       → over (reading_on read origins) ≡ after_reads origins (over (asking.◌>>=◌ (next (read_more read all ps)) last))
   unfolding read_all read_next read_bytes read_path asking.◌>>=◌ scripts.◌>>=◌
   origins_read read [] [] ps found are short = refl
@@ -207,7 +207,7 @@ module _ (files : FileMap) (locked : List (List ℕ)) (lines : List InputLine) (
   origins_read read (origin ∷ origins) [] ps found are short = absurd cc
   origins_read read (origin ∷ origins) (bytes ∷ all) [] found are short = absurd cc
   origins_read read (Path path ∷ origins) (bytes ∷ all) (p ∷ ps) found are short =
-      let f = same_cons (content_at files path) (Some bytes) (map (bytes_of files) origins) (map Some all) found in
+      let f = same_cons (content_at files path) (Some bytes) (map (source_bytes files) origins) (map Some all) found in
       let d = same_cons (decoded 0 bytes) (Ok p) (map (decoded 0) all) (map Ok ps) are in
       let behind : size_after (read.size + length bytes) all ≤ size_limit = short in
       let within : read.size + length bytes ≤ size_limit = omega (arith, behind, size_within (read.size + length bytes) all) in
@@ -215,7 +215,7 @@ module _ (files : FileMap) (locked : List (List ℕ)) (lines : List InputLine) (
       ∙ ap (λ (more : Result Read LoadRefusal). does (FromFile path) (over (with_read origins more))) (one_read read bytes p within d.0)
       ∙ ap (does (FromFile path)) (origins_read (with_profile read (length bytes) p) origins all ps f.1 d.1 behind)
   origins_read read (Gen samples ∷ origins) (bytes ∷ all) (p ∷ ps) found are short =
-      let f = same_cons (Some (generated samples)) (Some bytes) (map (bytes_of files) origins) (map Some all) found in
+      let f = same_cons (Some (generated samples)) (Some bytes) (map (source_bytes files) origins) (map Some all) found in
       let d = same_cons (decoded 0 bytes) (Ok p) (map (decoded 0) all) (map Ok ps) are in
       let behind : size_after (read.size + length bytes) all ≤ size_limit = short in
       let within : read.size + length bytes ≤ size_limit = omega (arith, behind, size_within (read.size + length bytes) all) in
@@ -300,7 +300,7 @@ module _ (finds : Finds) (plan : Plan) (files : FileMap) (p : Profile) (ps : Lis
     (drop_none : text_of p p.drop_frames ≡ []) (keep_none : text_of p p.keep_frames ≡ []) where
   as_many : length plan.origins ≡ length (p ∷ ps)
   as_many =
-      sym (length-map plan.origins (bytes_of files)) ∙ ap (λ (l : List (Option (List ℕ))). length l) have.has.found ∙ length-map have.bytes Some
+      sym (length-map plan.origins (source_bytes files)) ∙ ap (λ (l : List (Option (List ℕ))). length l) have.has.found ∙ length-map have.bytes Some
       ∙ sym (length-map have.bytes (decoded 0)) ∙ ap (λ (l : List (Result Profile LoadRefusal)). length l) have.are ∙ length-map (p ∷ ps) Ok
 
   after : combining finds (length plan.origins) plan.normalize (read_more nothing_read have.bytes (p ∷ ps)).profiles ≡ Give (Ok (loaded_of (merged p ps) None None))

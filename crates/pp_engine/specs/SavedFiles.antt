@@ -91,7 +91,7 @@ pub record AreSameBut (path : List ℕ) (files other : FileMap) (read : List (Li
 
 -- Both sessions print the same on standard output and end alike, and neither writes a file. The second tells the same
 -- on standard error, behind notes on filters that match nothing.
-pub record PrintAlike (c d : Course Cause) : Type 0 where
+pub record SessionsPrintAlike (c d : Course Cause) : Type 0 where
   pub out : outs c.effects ≡ outs d.effects
   pub ending : c.value ≡ d.value
   pub notes : List ℕ
@@ -102,7 +102,7 @@ pub record PrintAlike (c d : Course Cause) : Type 0 where
 -- What the first session prints is a file that the second reports as the third does its sources. The first ends done.
 pub record ReportedAlike (c d e : Course Cause) : Type 0 where
   pub saved : c.value ≡ causes.Done
-  pub alike : PrintAlike d e
+  pub alike : SessionsPrintAlike d e
 
 -- So it is where the first session loads a profile of which no value is below 0 and no sample is of a base.
 abbrev pub SavedFilesReportAlike : Type 0

@@ -31,14 +31,14 @@ use Rattle.pp_engine.specs.Session.{session}
 use Rattle.pp_engine.specs.Words.{performed}
 
 -- the bytes of a source: a file's, or those that are made
-abbrev pub bytes_of : FileMap → Origin → Option (List ℕ)
-bytes_of files (Path path) = content_at files path
-bytes_of files (Gen samples) = Some (generated samples)
+abbrev pub source_bytes : FileMap → Origin → Option (List ℕ)
+source_bytes files (Path path) = content_at files path
+source_bytes files (Gen samples) = Some (generated samples)
 
 -- The plan has no bases, and its sources have these bytes, which are together no more than are loaded.
 pub record HasBytes (plan : Plan) (files : FileMap) (all : List (List ℕ)) : Type 0 where
   pub no_bases : plan.bases ≡ []
-  pub found : map (bytes_of files) plan.origins ≡ map Some all
+  pub found : map (source_bytes files) plan.origins ≡ map Some all
   pub short : sum_by (λ (bytes : List ℕ). length bytes) all ≤ size_limit
 
 -- The plan has no bases, and its sources are these profiles. They do not depend on the numbers of the sources.

@@ -18,8 +18,8 @@ use Rattle.pp_laws.specs.Figures.{NoneNegative}
 abbrev pub amounts_in : List (Seen Written) → Written → Amounts
 amounts_in frames line = amounts_of (map (renamed source_line) frames) line
 
--- The flat of the routine of a frame is the sum of the flats of its lines, those of no number among them. No line of it has a greater
--- cum, where no value is negative.
+-- The flat of the routine of a frame is the sum of the flats of its lines, those of no number among them. No line of it
+-- has a greater cum, where no value is negative.
 pub record IsSumOfLines (p : Profile) (f : Finders) (config : Config) (column : Option ℕ) (w : Written) : Type 0 where
   pub flat : (routine_amounts (report_frames p f config column) w).flat
       ≡ int_sum (map (λ line. (amounts_in (report_frames p f config column) line).flat)
