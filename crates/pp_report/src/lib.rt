@@ -38,5 +38,5 @@ pub use prepared::{Counts, Prepared};
 pub use preparing::prepare;
 pub use refusal::ReportRefusal;
 pub use saved::saved_reports;
-pub use shows::Shows;
+pub use shows::{Shows, kind_text, unit_text};
 pub use texts::limit_of_trees;
