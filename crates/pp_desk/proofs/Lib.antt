@@ -1,5 +1,6 @@
 pub mod Going
 pub mod AskingLemmas
+pub mod AskedLemmas
 pub mod Looping
 pub mod Turning
 pub mod Leaves

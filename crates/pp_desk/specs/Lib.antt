@@ -10,3 +10,4 @@ pub mod Effects
 pub mod Course
 pub mod Taking
 pub mod Closes
+pub mod Asked

@@ -3,7 +3,7 @@
 //!
 //! A stage is a function over a desk. Its main clause says that it went as its script, `Went old new script result`. A
 //! script is a definition, mostly of the stage's name and with its cases: it gives a value, or makes a step at the
-//! outside and goes on by the reply.
+//! outside and goes on by the reply. A stage that asks patterns alone needs no more than a `MatcherDesk`.
 #![tactic(auto)]
 
 mod desk;
@@ -11,6 +11,7 @@ mod file_content;
 mod halt;
 mod input_line;
 mod line_reader;
+mod matcher_desk;
 mod objects;
 mod stop;
 mod window;
@@ -20,5 +21,6 @@ pub use file_content::FileContent;
 pub use halt::{Halt, settle};
 pub use input_line::InputLine;
 pub use line_reader::{INPUT_LIMIT, LINE_LIMIT, LineRead, LineReader, limits_of_input};
+pub use matcher_desk::MatcherDesk;
 pub use objects::Objects;
 pub use stop::Stop;
