@@ -1,3 +1,2 @@
 mod FilterLemmas
 mod GivingLemmas
-mod StopLemmas

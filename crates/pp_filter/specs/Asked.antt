@@ -1,12 +1,8 @@
 -- The patterns that are asked of a matcher before a profile is filtered, and what comes of their answers.
-use Rattle.std.specs.Prelude.{Bool, List, None, Option, Result, Ok, Err}
-use Rattle.pp_base.specs.Judges.{Answer}
-use Rattle.pp_desk.specs.declared.stop.Stop.TheVariants as stops
+use Rattle.std.specs.Prelude.{Bool, List, Option, Some, None, option_map, Result, Ok, Err}
 use Rattle.pp_desk.specs.Asking.{Asking, ◌>>=◌}
 use Rattle.pp_desk.specs.Script as scripts
 use Rattle.pp_desk.specs.Script.{Give}
-use Rattle.pp_desk.specs.Went.{Goes, Halts}
-use Rattle.pp_desk.specs.World.{Told}
 use Rattle.pp_model.specs.declared.config.Config.{Config}
 use Rattle.pp_model.specs.declared.loaded.Loaded.{Loaded}
 use Rattle.pp_model.specs.declared.profile.Profile.{Profile}
@@ -55,32 +51,14 @@ filter finds p config = do
   l ← load finds p
   filter_loaded finds (framed_for l config) config
 
--- the refusal that tells of a pattern
-abbrev pub refusal_of : Refused → FilterRefusal
-refusal_of (OfProfile DropFrames) = refusals.DropFrames
-refusal_of (OfProfile KeepFrames) = refusals.KeepFrames
-refusal_of (OfOption refused) = refusals.Pattern refused.option
+-- the pattern of which the refusal tells; want of memory tells of none
+abbrev pub refused_by : FilterRefusal → Option Refused
+refused_by refusals.DropFrames = Some (OfProfile DropFrames)
+refused_by refusals.KeepFrames = Some (OfProfile KeepFrames)
+refused_by (refusals.Pattern option) = Some (OfOption (record { option = option }))
+refused_by refusals.Memory = None
 
--- what is told where a matcher alone tells something
-abbrev pub told_by : Option (List Answer) → Told
-told_by answers = record {
-  out = None;
-  err = None;
-  files = None;
-  locked = None;
-  reads = None;
-  lines = None;
-  unread = None;
-  answers = answers;
-}
-
--- The answers of the matcher have grown by those to the script's patterns, and the outcome is the script's; or memory
--- was wanting on its way.
-abbrev pub Asks : {T : Type 0} → Option (List Answer) → Option (List Answer) → Asking Refused T → Result T FilterRefusal
-    → Type 0
-Asks old new script (Ok value) = Goes (told_by old) (told_by new) script (Ok value)
-Asks old new script (Err refusals.DropFrames) = Goes (told_by old) (told_by new) script (Err (OfProfile DropFrames))
-Asks old new script (Err refusals.KeepFrames) = Goes (told_by old) (told_by new) script (Err (OfProfile KeepFrames))
-Asks old new script (Err (refusals.Pattern option)) =
-    Goes (told_by old) (told_by new) script (Err (OfOption (record { option = option })))
-Asks old new script (Err refusals.Memory) = Halts (told_by old) (told_by new) script stops.Memory
+-- what was given, or the pattern that was refused; nothing where memory was wanting
+abbrev pub filter_outcome : {T : Type 0} → Result T FilterRefusal → Option (Result T Refused)
+filter_outcome (Ok given) = Some (Ok given)
+filter_outcome (Err refusal) = option_map Err (refused_by refusal)

@@ -1,8 +1,9 @@
 //! The whole call.
-ghost use Rattle.std.specs.Prelude.{◌≡◌, IfOk, None};
+ghost use Rattle.std.specs.Prelude.{◌≡◌, IfOk, None, Some};
+ghost use Rattle.pp_desk.specs.Asked.{Asked};
 ghost use Rattle.pp_desk.specs.Asking.{settled};
 ghost use Rattle.pp_desk.specs.Went.{Went};
-ghost use Rattle.pp_filter.specs.Asked.{Asks, filter, filter_loaded, refusal_of};
+ghost use Rattle.pp_filter.specs.Asked.{filter, filter_loaded, filter_outcome, refused_by};
 ghost use Rattle.pp_filter.specs.Filtered.{saved_of, SavesFiltered};
 ghost use Rattle.pp_model.specs.Finders.{Finders};
 ghost use Rattle.pp_model.specs.Sizes.{IsCountable};
@@ -13,9 +14,9 @@ ghost use Rattle.pp_dump.specs.Saved.{saved};
 use crate::FilterRefusal;
 use crate::judging::{load, verdicts};
 use crate::refusal::Refused;
-use pp_base::{CalmFiles, CalmSink, CalmSource, List, Matcher, Memory, OpenGate, Text};
+use pp_base::{Matcher, Memory, OpenGate};
 use pp_count::count;
-use pp_desk::{Desk, Halt, Objects};
+use pp_desk::{Desk, Halt, MatcherDesk};
 use pp_dump::saved_profile;
 use pp_keys::HashKeys;
 use pp_model::{Compact, Config, Loaded, Verdicts};
@@ -38,39 +39,29 @@ pub fn filtered<R: Threads + Sync, M: Matcher>(
     matcher: &mut M,
 ) -> Result<Compact, FilterRefusal>
     requires { IsCountable profile }
-    ensures went { Asks (M.answers matcher.old) (M.answers matcher.new) (filter M.finds profile config.now) result }
+    ensures went { Asked (M.answers matcher.old) (M.answers matcher.new)
+        (filter M.finds profile config.now) (filter_outcome result) }
     ensures saved { IfOk result (SavesFiltered M.finds profile config.now) }
 {
-    // No step of the work but the matcher's touches these.
-    let mut files = CalmFiles::new(alloc, List::new(alloc), List::new(alloc));
-    let mut input = CalmSource::new(Text::new(alloc), 1);
-    let mut out = CalmSink::new(alloc, 1);
-    let mut err = CalmSink::new(alloc, 1);
-    let mut desk = Objects {
-        alloc,
-        files: &mut files,
-        input: &mut input,
-        out: &mut out,
-        err: &mut err,
+    let mut desk = MatcherDesk {
         matcher: &mut *matcher,
-        reader: &mut None,
     };
     filter_at(rt, alloc, profile, config, &mut desk)
 }
 
-// `filtered` at a desk, which has the matcher.
-fn filter_at<R: Threads + Sync, D: Desk>(
+// `filtered` at the desk of the matcher.
+fn filter_at<R: Threads + Sync, M: Matcher>(
     rt: &R,
     alloc: Global,
     profile: Compact,
     config: &Config,
-    desk: &mut D,
+    desk: &mut MatcherDesk<'_, M>,
 ) -> Result<Compact, FilterRefusal>
     requires { IsCountable profile }
-    ensures went { Asks (D.world desk.old).told.answers (D.world desk.new).told.answers
-        (filter D.finds profile config.now) result }
-    ensures saved { IfOk result (SavesFiltered D.finds profile config.now) }
-    ensures same { (D.world desk.new).names ≡ (D.world desk.old).names }
+    ensures went { Asked (M.answers desk.old.matcher.now) (M.answers desk.new.matcher.now)
+        (filter M.finds profile config.now) (filter_outcome result) }
+    ensures saved { IfOk result (SavesFiltered M.finds profile config.now) }
+    ensures same { desk.new.matcher.ghost_name ≡ desk.old.matcher.ghost_name }
 {
     match filter(rt, alloc, profile, config, desk) {
         Ok(saved) => Ok(saved),
@@ -82,7 +73,7 @@ fn filter_at<R: Threads + Sync, D: Desk>(
 
 // The refusal that tells which pattern was refused.
 fn refusal_of(refused: Refused) -> FilterRefusal
-    ensures { result ≡ refusal_of refused }
+    ensures { refused_by result ≡ Some refused }
 {
     match refused {
         Refused::OfProfile(FramesRefused::DropFrames) => FilterRefusal::DropFrames,
