@@ -1,12 +1,13 @@
 -- The figures of a ranking.
 use Rattle.std.proofs.Common.{◌≡◌, ℕ, List, [], ◌∷◌, ◌++◌, map, Option, None, option_map, inl, inr, refl, sym, ap, ◌∙◌, subst, ◌⊎◌}
 use Rattle.std.specs.Prelude.{Result, Ok, Err, IfOk}
+use Rattle.std.specs.Borrow.{GName}
+use Rattle.pp_base.specs.Judges.{Answer}
 use Rattle.std.specs.List.{flat_map}
 use Rattle.pp_desk.specs.declared.stop.Stop.{Stop}
 use Rattle.pp_desk.specs.Script as scripts
 use Rattle.pp_desk.specs.Script.{Script, Give, Make}
 use Rattle.pp_desk.specs.Went.{Went}
-use Rattle.pp_desk.specs.World.{World}
 use Rattle.pp_model.specs.declared.config.Config.{Config}
 use Rattle.pp_model.specs.declared.loaded.Loaded.{Loaded}
 use Rattle.pp_model.specs.declared.profile.Profile.{Profile}
@@ -36,11 +37,10 @@ use Rattle.pp_library.specs.declared.edging.FigureEdge.{FigureEdge}
 use Rattle.pp_library.specs.declared.tabling.Figure.{Figure}
 use Rattle.pp_library.specs.declared.tabling.FigureTable.{FigureTable}
 use Rattle.pp_library.specs.declared.report_error.ReportError.{ReportError}
-use Rattle.pp_library.specs.Asked.{Asked, value_of}
-use Rattle.pp_library.specs.Figures.{TablesPrintFigures, figure_of, figure_line, figures_by, figures_outcome, figures_settled, printed_figures, table_with, table_figures, table_text, without_edges, HasEdgesOn, HasEdges}
+use Rattle.pp_desk.specs.Asked.{Asked, value_of, world_by}
+use Rattle.pp_library.specs.Figures.{TablesPrintFigures, figure_of, figure_line, figures_by, figures_outcome, figures_settled, printed_figures, table_with, table_figures, figures_text, without_edges, HasEdgesOn, HasEdges}
 use Rattle.pp_library.specs.Reports.{report_text}
-use Rattle.pp_library.proofs.AskedLemmas.{asked_of, asked_map, asked_ends}
-use Rattle.pp_library.proofs.ReportLemmas.{only_prepare}
+use Rattle.pp_desk.proofs.AskedLemmas.{asked_by, asked_map, asked_ends}
 
 module _ {A : Type 0} (row : A → KeyRow) where
   figures_map : (xs : List A) → map (λ x. figure_of (row x)) xs ≡ map figure_of (map row xs)
@@ -53,7 +53,7 @@ module _ {A : Type 0} (row : A → KeyRow) where
 
 -- a table's lines are those of its figures
 lines_printed : (p : Profile) (f : Finders) (config : Config) (column : Option ℕ)
-    → exact_table p f config column (node_limit config.nodecount 0) (unit_text p column) ≡ table_text (figures_by p f config column)
+    → exact_table p f config column (node_limit config.nodecount 0) (unit_text p column) ≡ figures_text (figures_by p f config column)
 lines_printed p f config column =
     ap (λ lines. exact_heading (unit_text p column) ++ lines)
     (lines_map (key_row (report_samples p f config column)) (first_report_keys p f config column (node_limit config.nodecount 0)))
@@ -98,19 +98,19 @@ figures_are r p q column n m rows others same total alike is =
     subst (λ (made : FigureTable). IfOk r (λ x. without_edges x ≡ made)) (λ i. table_with (same i) column (total i) (alike i)) is
 
 -- The answer is what was settled, or memory was wanting.
-pub went_figures : (finds : Finds) (l : Loaded) (config : Config) (old new : World) (prepared : Result (Result Settled ReportRefusal) Stop) (result : Result FigureTable ReportError)
-    → Went old new (prepare finds l Table config) prepared
+pub went_figures : (finds : Finds) (l : Loaded) (config : Config) (name other : GName) (old new : Option (List Answer)) (prepared : Result (Result Settled ReportRefusal) Stop) (result : Result FigureTable ReportError)
+    → Went (world_by name old) (world_by other new) (prepare finds l Table config) prepared
     → (figures_outcome result ≡ None) ⊎ (figures_outcome result ≡ option_map (figures_settled finds l config) (value_of prepared))
-    → Asked old.told.answers new.told.answers (table_figures finds l config) (figures_outcome result)
+    → Asked old new (table_figures finds l config) (figures_outcome result)
 unfolding table_figures
-went_figures finds l config old new prepared result went is =
-    let whole : Asked old.told.answers new.told.answers (scripts.◌>>=◌ (prepare finds l Table config) (λ answer. Give (figures_settled finds l config answer))) (option_map (figures_settled finds l config) (value_of prepared)) =
-    asked_map (figures_settled finds l config) (prepare finds l Table config) _ _ _ (asked_of (prepare finds l Table config) (only_prepare finds (basis_of Table l config) config Table) old new prepared went) in
+went_figures finds l config name other old new prepared result went is =
+    let whole : Asked old new (scripts.◌>>=◌ (prepare finds l Table config) (λ answer. Give (figures_settled finds l config answer))) (option_map (figures_settled finds l config) (value_of prepared)) =
+    asked_map (figures_settled finds l config) (prepare finds l Table config) _ _ _ (asked_by (prepare finds l Table config) name other old new prepared went) in
     by is whole
   where
     by : (figures_outcome result ≡ None) ⊎ (figures_outcome result ≡ option_map (figures_settled finds l config) (value_of prepared))
-        → Asked old.told.answers new.told.answers (scripts.◌>>=◌ (prepare finds l Table config) (λ answer. Give (figures_settled finds l config answer))) (option_map (figures_settled finds l config) (value_of prepared))
-        → Asked old.told.answers new.told.answers (scripts.◌>>=◌ (prepare finds l Table config) (λ answer. Give (figures_settled finds l config answer))) (figures_outcome result)
+        → Asked old new (scripts.◌>>=◌ (prepare finds l Table config) (λ answer. Give (figures_settled finds l config answer))) (option_map (figures_settled finds l config) (value_of prepared))
+        → Asked old new (scripts.◌>>=◌ (prepare finds l Table config) (λ answer. Give (figures_settled finds l config answer))) (figures_outcome result)
     by (inl none) whole = rw none (asked_ends _ _ _ _ whole)
     by (inr is) whole = rw is whole
 

@@ -1,5 +1,3 @@
-mod AskingLemmas
-mod AskedLemmas
 mod OneFileLemmas
 mod OfOneLemmas
 mod ReportLemmas

@@ -1,6 +1,7 @@
 -- What merging comes to, and that it can be counted.
 use Rattle.std.proofs.Common.{◌≡◌, ◌≢◌, ℕ, ◌+◌, ◌-◌, ◌^◌, ◌<◌, Bool, true, false, ◌&&◌, List, [], ◌∷◌, length, take, get_or, Option, Some, None, option_map, refl, sym, ap, ◌∙◌, subst, arith, le_refl, take_all}
 use Rattle.std.specs.Prelude.{Result, Ok, Err, IfOk, nat_lt}
+use Rattle.std.specs.Borrow.{GName}
 use Rattle.std.specs.List.{AllByRecursion, list_all, sum_by}
 use Rattle.std.proofs.lemmas.Bool.{ltb-true, ltb-false, false≢true}
 use Rattle.pp_base.specs.Judges.{Answer}
@@ -10,8 +11,6 @@ use Rattle.pp_base.proofs.Lists.{all_append, all_by}
 use Rattle.pp_desk.specs.declared.stop.Stop.{Stop}
 use Rattle.pp_desk.specs.Asking.{go_on}
 use Rattle.pp_desk.specs.Went.{Went, Goes}
-use Rattle.pp_desk.specs.World.{World}
-use Rattle.pp_filter.specs.Asked.{told_by}
 use Rattle.pp_model.specs.declared.loaded.Loaded.{Loaded}
 use Rattle.pp_model.specs.declared.profile.Profile.{Profile}
 use Rattle.pp_model.specs.Rules.{NoRuleFails}
@@ -36,14 +35,12 @@ use Rattle.pp_load.proofs.KindLemmas.{all_of_kinds, merged_kinds}
 use Rattle.pp_pattern.specs.declared.load.FramesRefused.{FramesRefused}
 use Rattle.pp_pattern.specs.Load.{judge_load}
 use Rattle.pp_pattern.specs.Report.{Finds}
-use Rattle.pp_pattern.proofs.AskQuiet.{only_load}
 use Rattle.pp_library.specs.declared.countable.Countable.{Countable}
 use Rattle.pp_library.specs.declared.merge_error.MergeError.{MergeError}
 use Rattle.pp_library.specs.declared.merge_error.MergeError.TheVariants as errors
-use Rattle.pp_library.specs.Asked.{Asked, value_of}
+use Rattle.pp_desk.specs.Asked.{Asked, told_by, value_of, world_by}
 use Rattle.pp_library.specs.Merged.{has_few_columns, are_few, merge_all, merge_error, merge_outcome}
-use Rattle.pp_library.proofs.AskingLemmas.{asks}
-use Rattle.pp_library.proofs.AskedLemmas.{asked_of, asked_map, halts_now}
+use Rattle.pp_desk.proofs.AskedLemmas.{asked_by, asked_map, halts_now}
 
 both_of : (a b : Bool) → (a && b) ≡ true → (a ≡ true) × (b ≡ true)
 both_of true true is = (refl, refl)
@@ -176,10 +173,10 @@ few_refused (merging_refusals.TotalTooLarge column) is = absurd (cc)
 few_refused merging_refusals.Memory is = absurd (cc)
 
 -- The answer is the profile with what its patterns find.
-pub went_judged : (finds : Finds) (p : Profile) (old new : World) (judged : Result (Result (Option (List Bool) × Option (List Bool)) FramesRefused) Stop) (result : Result Countable MergeError)
-    → Went old new (judge_load finds p) judged → merge_outcome result ≡ option_map (loaded_or finds p) (value_of judged)
-    → Asked old.told.answers new.told.answers (with_verdicts finds p) (merge_outcome result)
+pub went_judged : (finds : Finds) (p : Profile) (name other : GName) (old new : Option (List Answer)) (judged : Result (Result (Option (List Bool) × Option (List Bool)) FramesRefused) Stop)
+    (result : Result Countable MergeError) → Went (world_by name old) (world_by other new) (judge_load finds p) judged → merge_outcome result ≡ option_map (loaded_or finds p) (value_of judged)
+    → Asked old new (with_verdicts finds p) (merge_outcome result)
 unfolding with_verdicts
-went_judged finds p old new judged result went is =
-    subst (λ outcome. Asked old.told.answers new.told.answers (with_verdicts finds p) outcome) (sym is)
-    (asked_map (loaded_or finds p) (judge_load finds p) _ _ _ (asked_of (judge_load finds p) (only_load asks (λ pattern. refl) finds p) old new judged went))
+went_judged finds p name other old new judged result went is =
+    subst (λ outcome. Asked old new (with_verdicts finds p) outcome) (sym is)
+    (asked_map (loaded_or finds p) (judge_load finds p) _ _ _ (asked_by (judge_load finds p) name other old new judged went))

@@ -28,9 +28,9 @@ use Rattle.pp_load.specs.Steps.{Loading, ◌>>=◌, unless}
 use Rattle.pp_library.specs.declared.countable.Countable.{Countable}
 use Rattle.pp_library.specs.declared.load_error.LoadError.{LoadError}
 use Rattle.pp_library.specs.declared.load_error.LoadError.TheVariants as errors
-use Rattle.pp_library.specs.Asked.{Asked, value_of}
+use Rattle.pp_desk.specs.Asked.{Asked, value_of}
 use Rattle.pp_library.specs.Loads.{IsOfOne, profile_of, load_bytes, outcome_of}
-use Rattle.pp_library.proofs.AskedLemmas.{goes_then}
+use Rattle.pp_desk.proofs.AskedLemmas.{goes_then}
 
 -- a refusal among those that an error tells
 abbrev OfOne : {A : Type 0} → Loading A → Type 0

@@ -8,6 +8,7 @@ use Rattle.pp_desk.specs.declared.file_content.FileContent.{FileContent}
 use Rattle.pp_desk.specs.declared.file_content.FileContent.TheVariants as contents
 use Rattle.pp_desk.specs.declared.stop.Stop.{Stop}
 use Rattle.pp_desk.specs.declared.stop.Stop.TheVariants as stops
+use Rattle.pp_desk.specs.Asked.{Asked, told_by, value_of}
 use Rattle.pp_desk.specs.Asking as asking
 use Rattle.pp_desk.specs.Course.{course, does}
 use Rattle.pp_desk.specs.Effects.{FromFile}
@@ -15,6 +16,7 @@ use Rattle.pp_desk.specs.Script as scripts
 use Rattle.pp_desk.specs.Script.{Script, Give, Make, ReadFile}
 use Rattle.pp_desk.specs.Went.{Went, Ways, Goes, Halts, InPart, IsReply, after, content_within, parts}
 use Rattle.pp_desk.specs.World.{Told, World}
+use Rattle.pp_desk.proofs.AskedLemmas.{asks, at_rest, goes_by, halts_by, halts_now, same_told}
 use Rattle.pp_desk.proofs.Quiet.{Only, only_then}
 use Rattle.pp_model.specs.declared.loaded.Loaded.{Loaded}
 use Rattle.pp_model.specs.declared.profile.Profile.{Profile}
@@ -25,8 +27,6 @@ use Rattle.pp_options.specs.declared.plan.Plan.{Plan}
 use Rattle.pp_pattern.specs.Load.{judge_load}
 use Rattle.pp_pattern.specs.Report.{Finds}
 use Rattle.pp_pattern.proofs.AskQuiet.{only_load}
-use Rattle.pp_filter.specs.Asked.{told_by}
-use Rattle.pp_library.proofs.AskingLemmas.{asks, at_rest, goes_by, halts_by, same_told}
 use Rattle.pp_load.specs.declared.reading.Read.{Read}
 use Rattle.pp_load.specs.declared.refusal.LoadRefusal.{LoadRefusal}
 use Rattle.pp_load.specs.declared.refusal.LoadRefusal.TheVariants as refusals
@@ -38,9 +38,7 @@ use Rattle.pp_load.specs.Reads.{size_limit, bytes_found, read_path, with_verdict
 use Rattle.pp_load.specs.Sources.{nothing_read, within_size_limit, with_profile, with_bytes}
 use Rattle.pp_load.specs.Steps as steps
 use Rattle.pp_load.specs.Steps.{Loading}
-use Rattle.pp_library.specs.Asked.{Asked, value_of}
 use Rattle.pp_library.specs.Loads.{BytesLoadAsFiles, profile_of, load_bytes, held_files}
-use Rattle.pp_library.proofs.AskedLemmas.{halts_now}
 
 -- ---- the script of a plan with one file
 

@@ -17,8 +17,8 @@ use Rattle.pp_graph.specs.Cuts.{kept_flags}
 use Rattle.pp_graph.proofs.Between.{between}
 use Rattle.pp_graph.proofs.Chaining.{eqb-not}
 use Rattle.pp_library.specs.declared.edging.FigureEdge.{FigureEdge}
-use Rattle.pp_library.specs.Edges.{AreRowEdges, edges_at}
-use Rattle.pp_library.specs.Places.{ArePlaced, placed_between, placed_edge}
+use Rattle.pp_library.specs.Edges.{AreRowEdges, edges_of_rows}
+use Rattle.pp_library.specs.Places.{HasRowPlaces, placed_between, placed_edge}
 
 -- one item more
 pub placed_next : (f : Edge → Option FigureEdge) (edges : List Edge) (i : ℕ) (d : Edge) (o : Option FigureEdge) (so_far : List FigureEdge) → i < length edges → o ≡ f (get_or edges i d)
@@ -51,7 +51,7 @@ no_place names k = elim (cases_lt k names) [
 ]
 
 -- no row has a place yet
-pub placed_none : (names : ℕ) (order : List ℕ) (places : List (Option ℕ)) → places ≡ replicate names None → ArePlaced names order 0 places
+pub placed_none : (names : ℕ) (order : List ℕ) (places : List (Option ℕ)) → places ≡ replicate names None → HasRowPlaces names order 0 places
 placed_none names order places is = record {
   long = ap length is ∙ length-replicate names None;
   found = λ i within. absurd (omega (arith, within));
@@ -60,7 +60,7 @@ placed_none names order places is = record {
 
 -- the next row gets its place
 pub placed_more : (names i : ℕ) (order : List ℕ) (places : List (Option ℕ)) → i < length order → get_or order i 0 < names → AllPairs (λ a b. a ≢ b) order
-    → ArePlaced names order i places → ArePlaced names order (i + 1) (set places (get_or order i 0) (Some i))
+    → HasRowPlaces names order i places → HasRowPlaces names order (i + 1) (set places (get_or order i 0) (Some i))
 placed_more names i order places within below once placed = record {
   long = length-set places (get_or order i 0) (Some i) ∙ placed.long;
   found = λ j earlier. elim (cases_eq j i) [
@@ -110,7 +110,7 @@ one_placed i j sum (Some q) (Some r) rest = elim (cases_eq q i) [
   ]
 ]
 
-module _ (names : ℕ) (order : List ℕ) (places : List (Option ℕ)) (placed : ArePlaced names order (length order) places) where
+module _ (names : ℕ) (order : List ℕ) (places : List (Option ℕ)) (placed : HasRowPlaces names order (length order) places) where
   place_by : (i k : ℕ) (o : Option ℕ) → i < length order → get_or places k None ≡ o → is_place i o ≡ eqb k (get_or order i 0)
   place_by i k None within is = sym (eqb-not k (get_or order i 0) (λ same. none_not i (sym is ∙ ap (λ m. get_or places m None) same ∙ placed.found i within)))
   place_by i k (Some q) within is = elim (cases_eq q i) [
@@ -125,7 +125,7 @@ module _ (names : ℕ) (order : List ℕ) (places : List (Option ℕ)) (placed :
 
   -- the edges from one row to another are those between their names
   between_rows : (i j : ℕ) → i < length order → j < length order → (edges : List Edge)
-      → edges_at i j (filter_map (placed_edge places) edges)
+      → edges_of_rows i j (filter_map (placed_edge places) edges)
       ≡ map (λ (e : Edge). moved i j e.value) (edges_between (get_or order i 0) (get_or order j 0) edges)
   between_rows i j in_i in_j [] = refl
   between_rows i j in_i in_j (e ∷ edges) =
@@ -153,7 +153,7 @@ module _ (names : ℕ) (order : List ℕ) (places : List (Option ℕ)) (placed :
 module _ (p : Profile) (samples : List (Seen Written)) (names : List Key) (distinct : AllPairs (λ a b. a ≢ b) (map (key_written p) names))
     (order : List ℕ) (below : All (λ n. n < length names) order) (once : AllPairs (λ a b. a ≢ b) order)
     (edges : List Edge) (are : AreEdgesOf p samples names (kept_flags (length names) order) edges)
-    (places : List (Option ℕ)) (placed : ArePlaced (length names) order (length order) places) where
+    (places : List (Option ℕ)) (placed : HasRowPlaces (length names) order (length order) places) where
   abbrev keys : List Written
   keys = map (written_key p names) order
 
@@ -166,7 +166,7 @@ module _ (p : Profile) (samples : List (Seen Written)) (names : List Key) (disti
       (within, sym (get_or-map (written_key p names) order a 0 k within) ∙ get_or_from_slice_get keys a k k found)
 
   each_row : (a b : ℕ) (caller callee : Written) → slice_get keys a ≡ Some caller → slice_get keys b ≡ Some callee
-      → edges_at a b (filter_map (placed_edge places) edges)
+      → edges_of_rows a b (filter_map (placed_edge places) edges)
       ≡ cond (edge_occurs key_cmp kept samples caller callee) (moved a b (edge_sum key_cmp kept samples caller callee) ∷ []) []
   each_row a b caller callee at_a at_b =
       let one = key_is a caller at_a in

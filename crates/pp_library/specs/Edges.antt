@@ -8,15 +8,15 @@ use Rattle.pp_count.specs.Sums.{Seen, has}
 use Rattle.pp_library.specs.declared.edging.FigureEdge.{FigureEdge}
 
 -- the edges from one row to another
-abbrev pub edges_at : ℕ → ℕ → List FigureEdge → List FigureEdge
-edges_at a b edges = filter (λ e. e.caller == a && e.callee == b) edges
+abbrev pub edges_of_rows : ℕ → ℕ → List FigureEdge → List FigureEdge
+edges_of_rows a b edges = filter (λ e. e.caller == a && e.callee == b) edges
 
--- The edges are those of the samples between these keys, by their places: each pair that occurs over these keys has one,
--- and no other has any.
+-- The edges are those of the samples between these keys, by their places: each pair that occurs over these keys has
+-- one, and no other has any.
 pub record AreRowEdges (samples : List (Seen Written)) (keys : List Written) (edges : List FigureEdge) : Type 0 where
   pub within : All (λ e. (e.caller < length keys) × (e.callee < length keys)) edges
   pub each : (a b : ℕ) (caller callee : Written) → slice_get keys a ≡ Some caller → slice_get keys b ≡ Some callee
-      → edges_at a b edges
+      → edges_of_rows a b edges
       ≡ (if edge_occurs key_cmp (λ k. has key_cmp k keys) samples caller callee
       then record { caller = a; callee = b; sum = edge_sum key_cmp (λ k. has key_cmp k keys) samples caller callee } ∷ []
       else [])

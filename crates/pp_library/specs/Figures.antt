@@ -102,15 +102,16 @@ abbrev pub figure_line : Figure → List ℕ
 figure_line figure = row_line (record { flat = figure.flat; cum = figure.cum; name = figure.name })
 
 -- the text of the table report with these figures
-abbrev pub table_text : FigureTable → List ℕ
-table_text figures = exact_heading figures.unit ++ flat_map figure_line figures.rows
+abbrev pub figures_text : FigureTable → List ℕ
+figures_text figures = exact_heading figures.unit ++ flat_map figure_line figures.rows
 
 -- the text with these figures, or the refusal in their place
 abbrev pub printed_figures : Result FigureTable ReportRefusal → Result (List ℕ) ReportRefusal
-printed_figures (Ok figures) = Ok (table_text figures)
+printed_figures (Ok figures) = Ok (figures_text figures)
 printed_figures (Err refusal) = Err refusal
 
--- The table report asks the patterns that the figures ask, and prints these, a line for each, or is refused as they are.
+-- The table report asks the patterns that the figures ask, and prints these, a line for each, or is refused as they
+-- are.
 abbrev pub TablesPrintFigures : Type 0
 TablesPrintFigures =
     (finds : Finds) (l : Loaded) (base : Option BaseKind) (config : Config)

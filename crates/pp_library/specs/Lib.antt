@@ -1,4 +1,3 @@
-pub mod Asked
 pub mod Edges
 pub mod Figures
 pub mod Loads

@@ -27,8 +27,8 @@ are_few list =
     nat_lt (length list) (2 ^ 32) && list_all has_few_columns list
     && nat_lt (sum_by (λ p. length p.sample) list) (2 ^ 32)
 
--- Asks for the own patterns of the profiles as one, and gives it with what they find. The command makes such a profile of
--- its sources.
+-- Asks for the own patterns of the profiles as one, and gives it with what they find. The command makes such a profile
+-- of its sources.
 unfoldable pub merge_all : Finds → List Profile → Asking LoadRefusal Loaded
 merge_all finds list = go_on (with_verdicts finds) (combined (length list) None false list)
 

@@ -5,7 +5,7 @@ use Rattle.pp_count.specs.declared.edge.Edge.{Edge}
 use Rattle.pp_library.specs.declared.edging.FigureEdge.{FigureEdge}
 
 -- For each of the names the place of its number among the first n of the order, if it stands there.
-pub record ArePlaced (names : ℕ) (order : List ℕ) (n : ℕ) (places : List (Option ℕ)) : Type 0 where
+pub record HasRowPlaces (names : ℕ) (order : List ℕ) (n : ℕ) (places : List (Option ℕ)) : Type 0 where
   pub long : length places ≡ names
   pub found : (i : ℕ) → i < n → slice_index_or places (slice_index_or order i 0) None ≡ Some i
   pub only : (k q : ℕ) → slice_index_or places k None ≡ Some q → (q < n) × (slice_index_or order q 0 ≡ k)

@@ -7,7 +7,7 @@ ghost use Rattle.pp_count.specs.Seeing.{HoldsFilters};
 ghost use Rattle.pp_graph.specs.Cuts.{kept_flags};
 ghost use Rattle.pp_graph.specs.Trimmed.{written_order};
 ghost use Rattle.pp_library.specs.Edges.{AreRowEdges};
-ghost use Rattle.pp_library.specs.Places.{ArePlaced, placed_edge};
+ghost use Rattle.pp_library.specs.Places.{HasRowPlaces, placed_edge};
 
 use pp_base::{List, Memory, OpenGate};
 use pp_count::{Edge, Survey, edges};
@@ -73,7 +73,7 @@ fn none_kept(alloc: Global, names: u64) -> Result<List<bool>, Memory>
 fn places_of(alloc: Global, names: u64, order: &[u64]) -> Result<List<Option<u64>>, Memory>
     requires below { All (λ n. n < names) order.now }
     requires once { AllPairs (λ a b. a ≢ b) order.now }
-    ensures { IfOk result (ArePlaced names order.now (length order.now)) }
+    ensures { IfOk result (HasRowPlaces names order.now (length order.now)) }
 {
     let mut places = no_places(alloc, names)?;
     for row in 0..order.len() {

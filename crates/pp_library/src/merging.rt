@@ -7,14 +7,14 @@ ghost use Rattle.pp_model.specs.Rules.{NoRuleFails};
 ghost use Rattle.pp_model.specs.Sizes.{IsCountable};
 ghost use Rattle.pp_model.specs.Judged.{loaded_of};
 ghost use Rattle.pp_pattern.specs.Load.{load_verdicts, drop_finder, keep_finder};
-ghost use Rattle.pp_library.specs.Asked.{Asked, value_of};
+ghost use Rattle.pp_desk.specs.Asked.{Asked, value_of};
 ghost use Rattle.pp_library.specs.Merged.{are_few, has_few_columns, merge_all, merge_outcome};
 ghost use Rattle.pp_library.specs.declared.merge_error.MergeError.TheVariants as errors;
 
 use crate::countable::Countable;
 use crate::merge_error::MergeError;
-use pp_base::{CalmFiles, CalmSink, CalmSource, List, Matcher, Text};
-use pp_desk::{Desk, Objects, Stop};
+use pp_base::{List, Matcher};
+use pp_desk::{MatcherDesk, Stop};
 use pp_keys::HashKeys;
 use pp_merge::MergeRefusal;
 use pp_model::{Compact, Loaded, Valid};
@@ -39,20 +39,8 @@ pub fn merge<R: RandomSource, M: Matcher>(
         return Err(MergeError::TooMany);
     }
     let profile = merge_few(alloc, HashKeys::random(rt), profiles)?;
-
-    // No step but the matcher's touches these.
-    let mut files = CalmFiles::new(alloc, List::new(alloc), List::new(alloc));
-    let mut input = CalmSource::new(Text::new(alloc), 1);
-    let mut out = CalmSink::new(alloc, 1);
-    let mut err = CalmSink::new(alloc, 1);
-    let mut desk = Objects {
-        alloc,
-        files: &mut files,
-        input: &mut input,
-        out: &mut out,
-        err: &mut err,
+    let mut desk = MatcherDesk {
         matcher: &mut *matcher,
-        reader: &mut None,
     };
     judge_at(alloc, profile, &mut desk)
 }
@@ -69,29 +57,33 @@ fn merge_few(alloc: Global, keys: HashKeys, profiles: List<Valid>) -> Result<Com
 }
 
 // The merged profile with what its own patterns find.
-fn judge_at<D: Desk>(alloc: Global, profile: Compact, desk: &mut D) -> Result<Countable, MergeError>
+fn judge_at<M: Matcher>(
+    alloc: Global,
+    profile: Compact,
+    desk: &mut MatcherDesk<'_, M>,
+) -> Result<Countable, MergeError>
     requires { IsCountable profile }
-    ensures went { Asked (D.world desk.old).told.answers (D.world desk.new).told.answers
-        (with_verdicts D.finds profile) (merge_outcome result) }
+    ensures went { Asked (M.answers desk.old.matcher.now) (M.answers desk.new.matcher.now)
+        (with_verdicts M.finds profile) (merge_outcome result) }
     ensures few { result ≢ Err errors.TooMany }
-    ensures same { (D.world desk.new).names ≡ (D.world desk.old).names }
+    ensures same { desk.new.matcher.ghost_name ≡ desk.old.matcher.ghost_name }
 {
     let judged = judge_load(alloc, desk, &profile);
-    answer_of::<D>(profile, judged)
+    answer_of::<M>(profile, judged)
 }
 
 // The profile with the verdicts of its patterns, or why it has none.
-fn answer_of<D: Desk>(
+fn answer_of<M: Matcher>(
     profile: Compact,
     judged: Result<Result<(Option<List<bool>>, Option<List<bool>>), FramesRefused>, Stop>,
 ) -> Result<Countable, MergeError>
     requires countable { IsCountable profile }
-    requires found { IfOk judged (λ answer. IfOk answer (λ v. v ≡ load_verdicts D.finds profile)) }
-    ensures is { merge_outcome result ≡ option_map (loaded_or D.finds profile) (value_of judged) }
+    requires found { IfOk judged (λ answer. IfOk answer (λ v. v ≡ load_verdicts M.finds profile)) }
+    ensures is { merge_outcome result ≡ option_map (loaded_or M.finds profile) (value_of judged) }
     ensures few { result ≢ Err errors.TooMany }
 {
     match judged {
-        Ok(Ok(found)) => Ok(with_found::<D>(profile, found)),
+        Ok(Ok(found)) => Ok(with_found::<M>(profile, found)),
         Ok(Err(FramesRefused::DropFrames)) => Err(MergeError::DropFrames),
         Ok(Err(FramesRefused::KeepFrames)) => Err(MergeError::KeepFrames),
         // Nothing but memory can be wanting where only patterns are asked.
@@ -100,14 +92,14 @@ fn answer_of<D: Desk>(
 }
 
 // The profile with what its patterns find.
-fn with_found<D: Desk>(
+fn with_found<M: Matcher>(
     profile: Compact,
     found: (Option<List<bool>>, Option<List<bool>>),
 ) -> Countable
     requires countable { IsCountable profile }
-    requires found { found ≡ load_verdicts D.finds profile }
+    requires found { found ≡ load_verdicts M.finds profile }
     ensures { result.loaded
-        ≡ loaded_of profile (drop_finder D.finds profile) (keep_finder D.finds profile) }
+        ≡ loaded_of profile (drop_finder M.finds profile) (keep_finder M.finds profile) }
 {
     Countable {
         loaded: Loaded {

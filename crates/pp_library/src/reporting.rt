@@ -1,12 +1,12 @@
 //! The text of a report.
 ghost use Rattle.std.specs.Prelude.{◌≡◌, false};
-ghost use Rattle.pp_library.specs.Asked.{Asked, value_of};
+ghost use Rattle.pp_desk.specs.Asked.{Asked, value_of};
 ghost use Rattle.pp_library.specs.Reports.{reads_sources, report_text, report_outcome};
 
 use crate::countable::Countable;
 use crate::report_error::ReportError;
-use pp_base::{CalmFiles, CalmSink, CalmSource, List, Matcher, OpenGate, Text};
-use pp_desk::{Desk, Objects, Stop};
+use pp_base::{Matcher, OpenGate, Text};
+use pp_desk::{MatcherDesk, Stop};
 use pp_model::{Config, Report};
 use pp_report::{ReportRefusal, generate};
 use std::alloc::Global;
@@ -39,36 +39,24 @@ pub fn report<R: Threads + Sync, M: Matcher>(
     ensures { Asked (M.answers matcher.old) (M.answers matcher.new)
         (report_text M.finds l.now.loaded l.now.base report.now config.now) (report_outcome result) }
 {
-    // No step of such a report but the matcher's touches these.
-    let mut files = CalmFiles::new(alloc, List::new(alloc), List::new(alloc));
-    let mut input = CalmSource::new(Text::new(alloc), 1);
-    let mut out = CalmSink::new(alloc, 1);
-    let mut err = CalmSink::new(alloc, 1);
-    let mut desk = Objects {
-        alloc,
-        files: &mut files,
-        input: &mut input,
-        out: &mut out,
-        err: &mut err,
+    let mut desk = MatcherDesk {
         matcher: &mut *matcher,
-        reader: &mut None,
     };
     report_at(rt, alloc, l, report, config, &mut desk)
 }
 
-// The report at a desk, without its notes.
-fn report_at<R: Threads + Sync, D: Desk>(
+// The report at the desk of the matcher, without its notes.
+fn report_at<R: Threads + Sync, M: Matcher>(
     rt: &R,
     alloc: Global,
     l: &Countable,
     report: &Report,
     config: &Config,
-    desk: &mut D,
+    desk: &mut MatcherDesk<'_, M>,
 ) -> Result<Text, ReportError>
-    requires { reads_sources report.now ≡ false }
-    ensures went { Asked (D.world desk.old).told.answers (D.world desk.new).told.answers
-        (report_text D.finds l.now.loaded l.now.base report.now config.now) (report_outcome result) }
-    ensures same { (D.world desk.new).names ≡ (D.world desk.old).names }
+    ensures went { Asked (M.answers desk.old.matcher.now) (M.answers desk.new.matcher.now)
+        (report_text M.finds l.now.loaded l.now.base report.now config.now) (report_outcome result) }
+    ensures same { desk.new.matcher.ghost_name ≡ desk.old.matcher.ghost_name }
 {
     let mut notes = Text::new(alloc);
     let made = generate(

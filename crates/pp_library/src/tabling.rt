@@ -8,24 +8,24 @@ ghost use Rattle.pp_count.specs.Counted.{FitSums};
 ghost use Rattle.pp_count.specs.Seeing.{HoldsFilters};
 ghost use Rattle.pp_graph.specs.KeyRows.{row_at};
 ghost use Rattle.pp_graph.specs.Trim.{node_limit};
-ghost use Rattle.pp_report.specs.Heads.{type_of_column, kind_text, unit_text};
+ghost use Rattle.pp_report.specs.Heads.{kind_text, unit_text};
 ghost use Rattle.pp_report.specs.Prepared.{answered, AreCounts, HasCounts, IsPrepared};
 ghost use Rattle.pp_report.specs.Tagged.{basis_of};
-ghost use Rattle.pp_library.specs.Asked.{Asked, value_of};
+ghost use Rattle.pp_desk.specs.Asked.{Asked, value_of};
 ghost use Rattle.pp_library.specs.Figures.{figure_of, figures_by, figures_on, figures_settled, table_with, without_edges, table_figures, figures_outcome, HasEdges, HasEdgesOn, HasEdgesBy};
 
 use crate::countable::Countable;
 use crate::edging::{FigureEdge, row_edges};
 use crate::report_error::ReportError;
-use pp_base::{CalmFiles, CalmSink, CalmSource, List, Matcher, Memory, OpenGate, Text};
+use pp_base::{List, Matcher, Memory, OpenGate, Text};
 use pp_count::{Sums, Survey};
-use pp_desk::{Desk, Objects, Stop};
+use pp_desk::{MatcherDesk, Stop};
 use pp_grain::{Key, write_name};
 use pp_graph::{node_limit, rank_all};
 use pp_keys::HashKeys;
-use pp_model::{Config, Loaded, Profile, Report, ValueType, text_of};
+use pp_model::{Config, Loaded, Profile, Report};
 use pp_pseudo::basis;
-use pp_report::{Counts, Host, Prepared, ReportRefusal, prepare};
+use pp_report::{Counts, Host, Prepared, ReportRefusal, kind_text, prepare, unit_text};
 use std::alloc::Global;
 use std::mem;
 use std::thread::Threads;
@@ -71,35 +71,24 @@ pub fn figures<R: Threads + Sync, M: Matcher>(
         (table_figures M.finds l.now.loaded config.now) (figures_outcome result) }
     ensures edges { IfOk result (λ figures. HasEdges M.finds l.now.loaded config.now figures.edges) }
 {
-    // No step of a table but the matcher's touches these.
-    let mut files = CalmFiles::new(alloc, List::new(alloc), List::new(alloc));
-    let mut input = CalmSource::new(Text::new(alloc), 1);
-    let mut out = CalmSink::new(alloc, 1);
-    let mut err = CalmSink::new(alloc, 1);
-    let mut desk = Objects {
-        alloc,
-        files: &mut files,
-        input: &mut input,
-        out: &mut out,
-        err: &mut err,
+    let mut desk = MatcherDesk {
         matcher: &mut *matcher,
-        reader: &mut None,
     };
     figures_at(rt, alloc, l, config, &mut desk)
 }
 
-// The figures at a desk.
-fn figures_at<R: Threads + Sync, D: Desk>(
+// The figures at the desk of the matcher.
+fn figures_at<R: Threads + Sync, M: Matcher>(
     rt: &R,
     alloc: Global,
     l: &Countable,
     config: &Config,
-    desk: &mut D,
+    desk: &mut MatcherDesk<'_, M>,
 ) -> Result<FigureTable, ReportError>
-    ensures went { Asked (D.world desk.old).told.answers (D.world desk.new).told.answers
-        (table_figures D.finds l.now.loaded config.now) (figures_outcome result) }
-    ensures edges { IfOk result (λ figures. HasEdges D.finds l.now.loaded config.now figures.edges) }
-    ensures same { (D.world desk.new).names ≡ (D.world desk.old).names }
+    ensures went { Asked (M.answers desk.old.matcher.now) (M.answers desk.new.matcher.now)
+        (table_figures M.finds l.now.loaded config.now) (figures_outcome result) }
+    ensures edges { IfOk result (λ figures. HasEdges M.finds l.now.loaded config.now figures.edges) }
+    ensures same { desk.new.matcher.ghost_name ≡ desk.old.matcher.ghost_name }
 {
     let with = Host {
         rt,
@@ -108,24 +97,24 @@ fn figures_at<R: Threads + Sync, D: Desk>(
         gate: &OpenGate,
     };
     let prepared = prepare(&with, &l.loaded, &Report::Table, config, desk);
-    answer_of::<R, D>(rt, alloc, &l.loaded, config, prepared)
+    answer_of::<R, M>(rt, alloc, &l.loaded, config, prepared)
 }
 
 // The figures of what was prepared, or why there are none.
-fn answer_of<R: Threads + Sync, D: Desk>(
+fn answer_of<R: Threads + Sync, M: Matcher>(
     rt: &R,
     alloc: Global,
     l: &Loaded,
     config: &Config,
     prepared: Result<Result<Prepared, ReportRefusal>, Stop>,
 ) -> Result<FigureTable, ReportError>
-    requires { IfOk prepared (λ answer. IfOk answer (IsPrepared D.finds l.now Table config.now)) }
+    requires { IfOk prepared (λ answer. IfOk answer (IsPrepared M.finds l.now Table config.now)) }
     ensures is { (figures_outcome result ≡ None) ⊎ (figures_outcome result
-        ≡ option_map (figures_settled D.finds l.now config.now) (value_of (answered prepared))) }
-    ensures edges { IfOk result (λ figures. HasEdges D.finds l.now config.now figures.edges) }
+        ≡ option_map (figures_settled M.finds l.now config.now) (value_of (answered prepared))) }
+    ensures edges { IfOk result (λ figures. HasEdges M.finds l.now config.now figures.edges) }
 {
     match prepared {
-        Ok(Ok(prepared)) => Ok(figures_of::<R, D>(rt, alloc, l, config, prepared)?),
+        Ok(Ok(prepared)) => Ok(figures_of::<R, M>(rt, alloc, l, config, prepared)?),
         Ok(Err(refusal)) => Err(ReportError::from(refusal)),
         // Nothing but memory can be wanting where only patterns are asked.
         Err(_) => Err(ReportError::Memory),
@@ -133,17 +122,17 @@ fn answer_of<R: Threads + Sync, D: Desk>(
 }
 
 // The figures of what was prepared.
-fn figures_of<R: Threads + Sync, D: Desk>(
+fn figures_of<R: Threads + Sync, M: Matcher>(
     rt: &R,
     alloc: Global,
     l: &Loaded,
     config: &Config,
     prepared: Prepared,
 ) -> Result<FigureTable, Memory>
-    requires { IsPrepared D.finds l.now Table config.now prepared }
+    requires { IsPrepared M.finds l.now Table config.now prepared }
     ensures is { IfOk result (λ figures. without_edges figures
-        ≡ figures_on D.finds (basis_of Table l.now config.now) config.now prepared.shows.column) }
-    ensures edges { IfOk result (λ figures. HasEdges D.finds l.now config.now figures.edges) }
+        ≡ figures_on M.finds (basis_of Table l.now config.now) config.now prepared.shows.column) }
+    ensures edges { IfOk result (λ figures. HasEdges M.finds l.now config.now figures.edges) }
 {
     let Prepared {
         shows,
@@ -152,14 +141,14 @@ fn figures_of<R: Threads + Sync, D: Desk>(
         ..
     } = prepared;
     let over = basis(&tagged, l);
-    let figures = figures_on::<R, D>(rt, alloc, over, config, shows.column, &counts);
+    let figures = figures_on::<R, M>(rt, alloc, over, config, shows.column, &counts);
     mem::drop(counts);
     mem::drop(tagged);
     figures
 }
 
 // The figures of the profile that is counted.
-fn figures_on<R: Threads + Sync, D: Desk>(
+fn figures_on<R: Threads + Sync, M: Matcher>(
     rt: &R,
     alloc: Global,
     l: &Loaded,
@@ -167,18 +156,18 @@ fn figures_on<R: Threads + Sync, D: Desk>(
     column: Option<u32>,
     counts: &Option<Counts>,
 ) -> Result<FigureTable, Memory>
-    requires { HasCounts D.finds l.now Table config.now column counts.now }
+    requires { HasCounts M.finds l.now Table config.now column counts.now }
     ensures is { IfOk result (λ figures. without_edges figures
-        ≡ figures_on D.finds l.now config.now column) }
-    ensures edges { IfOk result (λ figures. HasEdgesOn D.finds l.now config.now column figures.edges) }
+        ≡ figures_on M.finds l.now config.now column) }
+    ensures edges { IfOk result (λ figures. HasEdgesOn M.finds l.now config.now column figures.edges) }
 {
     match counts {
-        Some(counts) => figures_counted::<R, D>(rt, alloc, l, config, column, counts),
+        Some(counts) => figures_counted::<R, M>(rt, alloc, l, config, column, counts),
         None => unreachable!(),
     }
 }
 
-fn figures_counted<R: Threads + Sync, D: Desk>(
+fn figures_counted<R: Threads + Sync, M: Matcher>(
     rt: &R,
     alloc: Global,
     l: &Loaded,
@@ -186,10 +175,10 @@ fn figures_counted<R: Threads + Sync, D: Desk>(
     column: Option<u32>,
     counts: &Counts,
 ) -> Result<FigureTable, Memory>
-    requires { AreCounts D.finds l.now Table config.now column counts.now }
+    requires { AreCounts M.finds l.now Table config.now column counts.now }
     ensures is { IfOk result (λ figures. without_edges figures
-        ≡ figures_on D.finds l.now config.now column) }
-    ensures edges { IfOk result (λ figures. HasEdgesOn D.finds l.now config.now column figures.edges) }
+        ≡ figures_on M.finds l.now config.now column) }
+    ensures edges { IfOk result (λ figures. HasEdgesOn M.finds l.now config.now column figures.edges) }
 {
     let survey = Survey {
         l,
@@ -305,31 +294,4 @@ fn name_of(alloc: Global, l: &Loaded, key: &Key) -> Result<Text, Memory>
     let mut name = Text::new(alloc);
     write_name(l, key, &mut name)?;
     Ok(name)
-}
-
-// The name of the column's type, and nothing without a column.
-fn kind_text(p: &Profile, column: Option<u32>) -> &[u8]
-    ensures { result.now ≡ kind_text p.now column }
-{
-    match type_of(p, column) {
-        Some(kind) => text_of(p, kind.kind),
-        None => &[],
-    }
-}
-
-// The unit of the column's values, and nothing without a column.
-fn unit_text(p: &Profile, column: Option<u32>) -> &[u8]
-    ensures { result.now ≡ unit_text p.now column }
-{
-    match type_of(p, column) {
-        Some(kind) => text_of(p, kind.unit),
-        None => &[],
-    }
-}
-
-// The sample type of the column, if there is one.
-fn type_of(p: &Profile, column: Option<u32>) -> Option<ValueType>
-    ensures { result ≡ type_of_column p.now column }
-{
-    p.sample_type.as_slice().get(column? as usize).copied()
 }

@@ -1,5 +1,5 @@
 use Rattle.std.proofs.Common.{ℕ, arith, subst}
-use Rattle.pp_library.specs.Places.{ArePlaced}
+use Rattle.pp_library.specs.Places.{HasRowPlaces}
 use Rattle.pp_library.proofs.PlaceLemmas.{placed_more}
 use Rattle.pp_library.proofs.edging.places_of.Goals as goal
 
@@ -12,4 +12,4 @@ loop-row-preserved c =
 -- at the end each row has it
 pub returns : goal.returns
 returns c =
-    subst (λ (n : ℕ). ArePlaced c.args.names c.args.order.now n c.loop-row.places) (omega (arith, c.loop-row-test.false, c.loop-row.auto.row-end)) c.loop-row.invariant
+    subst (λ (n : ℕ). HasRowPlaces c.args.names c.args.order.now n c.loop-row.places) (omega (arith, c.loop-row-test.false, c.loop-row.auto.row-end)) c.loop-row.invariant

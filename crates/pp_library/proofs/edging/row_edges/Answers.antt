@@ -7,7 +7,7 @@ use Rattle.pp_graph.specs.Cuts.{kept_flags}
 use Rattle.pp_graph.specs.Trimmed.{written_order}
 use Rattle.pp_graph.proofs.Flags.{length-flags}
 use Rattle.pp_library.specs.Edges.{AreRowEdges}
-use Rattle.pp_library.specs.Places.{ArePlaced, placed_edge}
+use Rattle.pp_library.specs.Places.{HasRowPlaces, placed_edge}
 use Rattle.pp_library.proofs.PlaceLemmas.{are_row_edges}
 use Rattle.pp_library.proofs.edging.row_edges.Goals as goal
 
@@ -30,5 +30,5 @@ returns g c = λ f h.
     c.requires.below c.requires.once c.in_ok-edges.edges
     (subst (λ (keep : List Bool). AreEdgesOf p samples names keep c.in_ok-edges.edges) (c.in_ok-keep.ensures ∙ (λ i. kept_flags (c.len-names.ensures.len i) c.args.order.now)) (c.in_ok-edges.ensures.edges f h))
     c.in_ok-places.places
-    (subst (λ (n : ℕ). ArePlaced n c.args.order.now (length c.args.order.now) c.in_ok-places.places) c.len-names.ensures.len c.in_ok-places.ensures)))
+    (subst (λ (n : ℕ). HasRowPlaces n c.args.order.now (length c.args.order.now) c.in_ok-places.places) c.len-names.ensures.len c.in_ok-places.ensures)))
     c.placed_edges.ensures

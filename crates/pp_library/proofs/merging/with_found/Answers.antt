@@ -10,8 +10,8 @@ pub invariant_of-result : goal.invariant_of-result
 invariant_of-result g c =
     let p = c.args.profile in
     record {
-      drop_fits = subst (λ verdicts. ForSome verdicts (λ found. length found ≡ length p.text)) (sym (ap (λ v. v.0) c.requires.found)) (judged_fits p (drop_finder g.D.Desk.finds p));
-      keep_fits = subst (λ verdicts. ForSome verdicts (λ found. length found ≡ length p.text)) (sym (ap (λ v. v.1) c.requires.found)) (judged_fits p (keep_finder g.D.Desk.finds p));
+      drop_fits = subst (λ verdicts. ForSome verdicts (λ found. length found ≡ length p.text)) (sym (ap (λ v. v.0) c.requires.found)) (judged_fits p (drop_finder g.M.Matcher.finds p));
+      keep_fits = subst (λ verdicts. ForSome verdicts (λ found. length found ≡ length p.text)) (sym (ap (λ v. v.1) c.requires.found)) (judged_fits p (keep_finder g.M.Matcher.finds p));
     }
 
 -- the verdicts are what the patterns find

@@ -12,6 +12,6 @@ returns-clause-edges g c =
     let config = c.args.config.now in
     let shows = c.args.prepared.shows in
     IfOk-weaker c.figures_on-figures.result _ _
-    (λ figures own. has_edges g.D.Desk.finds c.args.l.now config (showing shows) figures.edges c.requires.settled.shows_what
-    (subst (λ (over : Loaded). HasEdgesOn g.D.Desk.finds over config shows.column figures.edges) (c.basis-over.ensures ∙ c.requires.basis) own))
+    (λ figures own. has_edges g.M.Matcher.finds c.args.l.now config (showing shows) figures.edges c.requires.settled.shows_what
+    (subst (λ (over : Loaded). HasEdgesOn g.M.Matcher.finds over config shows.column figures.edges) (c.basis-over.ensures ∙ c.requires.basis) own))
     c.figures_on-figures.ensures.edges
