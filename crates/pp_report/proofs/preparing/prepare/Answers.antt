@@ -42,7 +42,7 @@ returns-then-not-is_counted-clause-prepared g c =
 
 -- frames leave the sample types
 pub counts_for-requires-clause-column : goal.counts_for-requires-clause-column
-counts_for-requires-clause-column g c =
+counts_for-requires-clause-column g c = λ _ _.
     let yes : is_counted c.args.report.now ≡ true = search rules in
     let over = c.basis.ensures ∙ c.in-Ok-framed_for.ensures.framed ∙ basis_counted c.args.l.now c.args.report.now c.args.config.now yes in
     subst (λ (q : Loaded). IsColumnOf q.profile c.in-Ok.shows.column) (sym over)
