@@ -66,6 +66,24 @@ pub fn merge_on<R: Threads + Sync>(
     Ok(Compact::claim(Valid::claim(merged)))
 }
 
+/// The profile or refusal of `merge`, for profiles whose samples are not hashed yet: they are hashed, sorted and placed
+/// on `with.workers` lanes. The answer does not tell how many there were.
+pub(crate) fn merge_plain_on<R: Threads + Sync>(
+    with: &Resources<'_, R>,
+    list: List<Valid>,
+) -> Result<Compact, MergeRefusal>
+    requires some { 0 < length list }
+    requires few { length list < 2 ^ 32 }
+    requires columns { AllByRecursion (λ p. length p.sample_type < 2 ^ 32) list }
+    requires samples { sum_by (λ p. length p.sample) list < 2 ^ 32 }
+    ensures { Merges list result }
+{
+    let (first, others) = split(list);
+    let duration = admit(&first, others.as_slice(), false)?;
+    let merged = merge_admitted_on(with, first, others, duration)?;
+    Ok(merged)
+}
+
 // The first of the profiles, and those behind it.
 fn split<T: Drop>(list: List<T>) -> (T, Vec<T>)
     requires { 0 < length list }
@@ -120,6 +138,21 @@ fn merge_admitted(
 {
     let whole = join_whole(alloc, hash_keys, first, others, duration)?;
     let merged = share(alloc, hash_keys, whole)?;
+    Ok(Compact::claim(Valid::claim(merged)))
+}
+
+// Does what `merge_admitted` does, on `with.workers` lanes.
+fn merge_admitted_on<R: Threads + Sync>(
+    with: &Resources<'_, R>,
+    first: Valid,
+    others: Vec<Valid>,
+    duration: i64,
+) -> Result<Compact, Memory>
+    requires { CanMerge first others.items duration }
+    ensures { IfOk result (λ r. r ≡ merged first others.items) }
+{
+    let whole = join_whole(with.alloc, with.keys, first, others, duration)?;
+    let merged = share_on(with, whole, None)?;
     Ok(Compact::claim(Valid::claim(merged)))
 }
 
