@@ -1,13 +1,13 @@
 -- Samples that are added, with locations that are cut.
-use Rattle.std.proofs.Common.{◌≡◌, ℕ, Bool, true, false, List, [], ◌∷◌, ◌++◌, length, Option, sym, ap, subst, ◌∙◌, arith, append_assoc}
+use Rattle.std.proofs.Common.{◌≡◌, ℕ, Bool, true, false, List, [], ◌∷◌, ◌++◌, length, Option, refl, sym, ap, subst, ◌∙◌, arith, append_assoc}
 use Rattle.std.specs.Prelude.{◌==◌}
-use Rattle.std.specs.List.{flat_map, list_all}
+use Rattle.std.specs.List.{flat_map, list_all, slice_get}
 use Rattle.std.specs.Option.{option_map_or}
 use Rattle.std.proofs.lemmas.Bool.{eqb-true}
 use Rattle.std.proofs.lemmas.List.Sums.{AllPass-from_list_all}
 use Rattle.std.proofs.lemmas.List.{map-append, append-nil}
 use Rattle.std.proofs.lemmas.Grind.{flat_map-append}
-use Rattle.std.proofs.lemmas.List.Elements.{recursion_from_All}
+use Rattle.std.proofs.lemmas.List.Elements.{filter_map-append, recursion_from_All}
 use Rattle.pp_base.specs.Front.{IsFront}
 use Rattle.pp_base.proofs.Lists.{all_append}
 use Rattle.pp_model.specs.declared.frame.Frame.{Frame}
@@ -17,10 +17,12 @@ use Rattle.pp_model.specs.declared.profile.Location.{Location}
 use Rattle.pp_model.specs.declared.profile.Sample.{Sample}
 use Rattle.pp_model.specs.declared.profile.Profile.{Profile}
 use Rattle.pp_model.specs.declared.verdicts.Verdicts.{Verdicts}
-use Rattle.pp_model.specs.Conditions.{IsSampleOf}
+use Rattle.pp_model.specs.Conditions.{IsSampleOf, RefersTo}
 use Rattle.pp_model.specs.Finders.{Finders, HoldsFinders}
-use Rattle.pp_model.specs.Rules.{NoRuleFails, label_has_texts}
+use Rattle.pp_model.specs.Frames.{stack_of}
+use Rattle.pp_model.specs.Rules.{NoRuleFails, IsCompact, label_has_texts}
 use Rattle.pp_model.proofs.RuleLemmas.{passes}
+use Rattle.pp_count.specs.Counts.{samples_at}
 use Rattle.pp_stack.specs.Runs.{kept_if}
 use Rattle.pp_tags.specs.Labels.{key_text}
 use Rattle.pp_tags.specs.TagFilters.{shown_labels, is_shown}
@@ -28,8 +30,9 @@ use Rattle.pp_share.proofs.NumberedLemmas.{all_pass}
 use Rattle.pp_merge.proofs.SettledLemmas.{all_filtered}
 use Rattle.pp_restack.specs.Places.{ArePlaces, IsCutSample, spread_in}
 use Rattle.pp_restack.proofs.Placing.{front_front, samples_still, spreads_still}
-use Rattle.pp_restack.proofs.CutValid.{some_type}
-use Rattle.pp_dump.specs.Places.{spread_of, spread_left, PlacesLeft, AddsSamples}
+use Rattle.pp_restack.proofs.CutValid.{own_places, some_type}
+use Rattle.pp_dump.specs.Places.{spread_of, spread_left, PlacesLeft, AddsSamples, AreCopies, StaysWhole}
+use Rattle.pp_dump.proofs.WholeStacks.{whole_entries}
 
 -- nothing is added for samples of which nothing is left
 pub adds_none : (l : Loaded) (v : Verdicts) (samples before : List Sample) (old new : List Location) → ArePlaces l.profile new → IsFront old new
@@ -65,6 +68,46 @@ adds_both l v first second a b c x y z one two =
           map-append (spread_in z) one.added two.added
           ∙ (λ i. (spreads_still y z two.front p one.added one.each ∙ one.are f finds) i ++ two.are f finds i)
           ∙ sym (flat_map-append (spread_left p f) first second);
+    }
+
+-- what is added behind other samples
+pub adds_behind : (l : Loaded) (v : Verdicts) (samples front back : List Sample) (locations : List Location) → AddsSamples l v samples [] locations back locations
+    → AddsSamples l v samples front locations (front ++ back) locations
+adds_behind l v samples front back locations adds = record {
+  places = adds.places;
+  front = adds.front;
+  added = adds.added;
+  is = ap (λ (behind : List Sample). front ++ behind) adds.is;
+  each = adds.each;
+  are = adds.are;
+}
+
+-- no samples are copies of none
+pub copies_none : (l : Loaded) (v : Verdicts) → NoRuleFails l.profile → IsCompact l.profile → AreCopies l v [] []
+copies_none l v valid compact =
+    adds_none l v [] [] l.profile.location l.profile.location (own_places l.profile valid compact) ([], sym (append-nil l.profile.location)) (λ f finds. refl)
+
+-- copies of some samples and then of others
+pub copies_both : (l : Loaded) (v : Verdicts) (xs ys : List ℕ) (front back : List Sample) → AreCopies l v xs front → AreCopies l v ys back → AreCopies l v (xs ++ ys) (front ++ back)
+copies_both l v xs ys front back first second =
+    let locations = l.profile.location in
+    subst (λ (samples : List Sample). AddsSamples l v samples [] locations (front ++ back) locations) (sym (filter_map-append (slice_get l.profile.sample) xs ys))
+    (adds_both l v (samples_at l.profile xs) (samples_at l.profile ys) [] front (front ++ back) locations locations locations first
+    (adds_behind l v (samples_at l.profile ys) front back locations second))
+
+-- of a sample that stays whole the ids are those of its whole stack
+pub left_whole : (l : Loaded) (v : Verdicts) (s : Sample) → NoRuleFails l.profile → IsCompact l.profile → StaysWhole l v → RefersTo l.profile s
+    → PlacesLeft l v s l.profile.location l.profile.location true s.location_id
+left_whole l v s valid compact whole refers =
+    let own : IsFront l.profile.location l.profile.location = ([], sym (append-nil l.profile.location)) in
+    record {
+      places = own_places l.profile valid compact;
+      front = own;
+      stack = stack_of l.profile s;
+      left = λ f finds. sym (whole f finds s);
+      entries = λ _. whole_entries l.profile compact.locations s l.profile.location refers own;
+      valid = valid;
+      compact = compact;
     }
 
 -- the shown ones of labels that name texts do too

@@ -13,3 +13,4 @@ pub mod SavedHeader
 pub mod SeenSums
 pub mod NaturalStacks
 mod Lookups
+pub mod CutParts

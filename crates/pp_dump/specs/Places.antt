@@ -1,5 +1,5 @@
 -- Samples that the filters leave, with locations that are cut. No public clause cites them.
-use Rattle.std.specs.Prelude.{◌≡◌, ℕ, ◌<◌, ◌^◌, Bool, true, List, [], ◌∷◌, ◌++◌, map}
+use Rattle.std.specs.Prelude.{◌≡◌, ℕ, ◌<◌, ◌^◌, Bool, true, Some, List, [], ◌∷◌, ◌++◌, map}
 use Rattle.std.specs.List.{flat_map, AllByRecursion}
 use Rattle.std.specs.Option.{option_map_or}
 use Rattle.pp_base.specs.Front.{IsFront}
@@ -11,6 +11,7 @@ use Rattle.pp_model.specs.declared.profile.Profile.{Profile}
 use Rattle.pp_model.specs.declared.verdicts.Verdicts.{Verdicts}
 use Rattle.pp_model.specs.Conditions.{HasVerdicts}
 use Rattle.pp_model.specs.Finders.{Finders, HoldsFinders}
+use Rattle.pp_model.specs.Frames.{stack_of}
 use Rattle.pp_model.specs.Rules.{NoRuleFails, IsCompact}
 use Rattle.pp_count.specs.Counts.{samples_at}
 use Rattle.pp_stack.specs.Filters.{frames_of_sample}
@@ -65,6 +66,17 @@ pub record AddsSamples (l : Loaded) (v : Verdicts) (samples : List Sample) (befo
   pub each : AllByRecursion (IsCutSample l.profile new) added
   pub are : (f : Finders) → HoldsFinders l v f
       → map (spread_in new) added ≡ flat_map (spread_left l.profile f) samples
+
+-- No stack filter is in force: each sample is kept with its whole stack.
+abbrev pub StaysWhole : Loaded → Verdicts → Type 0
+StaysWhole l v =
+    (f : Finders) → HoldsFinders l v f
+    → (s : Sample) → frames_of_sample l.profile f s ≡ Some (stack_of l.profile s)
+
+-- The samples are those with these numbers, as the filters leave them, over the locations of the profile.
+abbrev pub AreCopies : Loaded → Verdicts → List ℕ → List Sample → Type 0
+AreCopies l v kept samples =
+    AddsSamples l v (samples_at l.profile kept) [] l.profile.location samples l.profile.location
 
 -- The profile is the one that is merged alone: what the stack filters leave of the samples with these numbers.
 pub record IsCutOf (l : Loaded) (v : Verdicts) (kept : List ℕ) (q : Profile) : Type 0 where

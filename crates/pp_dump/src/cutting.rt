@@ -8,7 +8,7 @@ use pp_base::{List, Memory};
 use pp_keys::HashKeys;
 use pp_model::{Label, Loaded, Profile, Sample, Stack, Verdicts};
 use pp_restack::{Places, no_items, place_stack, places_of, sample_with};
-use pp_stack::{VerdictTables, filter_into, keeps_all};
+use pp_stack::{VerdictTables, filter_into};
 use pp_tags::show_tags_into;
 use std::alloc::Global;
 
@@ -104,10 +104,6 @@ fn place_sample(
 {
     let p = l.profile.get();
     cut.ids.truncate(0);
-    if keeps_all(l, v) {
-        cut.ids.extend(s.location_id.as_slice())?;
-        return Ok(true);
-    }
     if !filter_into(l, v, tables, s, &mut cut.stack)? {
         return Ok(false);
     }

@@ -1,7 +1,8 @@
 //! The profile that a report saves, and the report raw, which prints it table by table.
 //!
 //! `saved` makes the profile that a report saves: `cutting` filters each sample's stack, and pp_restack makes a profile
-//! of the stacks that are left. `raw` prints a profile, with `samples`, `locations` and `digits` below it.
+//! of the stacks that are left. Where no stack is filtered, `whole` copies the samples on the lanes. `raw` prints a profile,
+//! with `samples`, `locations` and `digits` below it.
 #![tactic(auto)]
 
 mod cutting;
@@ -10,6 +11,7 @@ mod locations;
 mod raw;
 mod samples;
 mod saved;
+mod whole;
 
 pub use raw::write_raw;
 pub use saved::saved_profile;

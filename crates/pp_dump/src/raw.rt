@@ -10,17 +10,23 @@ use crate::locations::{put_locations, put_mappings};
 use crate::samples::put_samples;
 use pp_base::{Memory, Text};
 use pp_model::{Compact, Profile, text_of};
-use std::alloc::Global;
+use pp_steal::Resources;
+use std::thread::Threads;
 
 /// Appends the header, the samples with their labels, the locations with their lines and the mappings of the profile,
-/// each in lines of its own. `Err` is want of memory, and leaves `out` as it was.
-pub fn write_raw(alloc: Global, p: &Compact, out: &mut Text) -> Result<(), Memory>
+/// each in lines of its own. Samples are written in pieces on `with.workers` lanes. `Err` is want of memory, and leaves
+/// `out` as it was.
+pub fn write_raw<R: Threads + Sync>(
+    with: &Resources<'_, R>,
+    p: &Compact,
+    out: &mut Text,
+) -> Result<(), Memory>
     ensures ok { OnOk result (out.new ≡ out.old ++ raw_text p.now) }
     ensures err { OnErr result (out.new ≡ out.old) }
 {
-    let mut lines = Text::new(alloc);
+    let mut lines = Text::new(with.alloc);
     put_header(p.get(), &mut lines)?;
-    put_tables(alloc, p.get(), &mut lines)?;
+    put_tables(with, p.get(), &mut lines)?;
     out.append(lines)
 }
 
@@ -130,11 +136,15 @@ fn put_number(label: &[u8], n: i64, lines: &mut Text) -> Result<(), Memory>
 }
 
 // The samples and the tables that they name.
-fn put_tables(alloc: Global, p: &Profile, lines: &mut Text) -> Result<(), Memory>
+fn put_tables<R: Threads + Sync>(
+    with: &Resources<'_, R>,
+    p: &Profile,
+    lines: &mut Text,
+) -> Result<(), Memory>
     requires { IsCompact p.now }
     ensures { IfOk result (λ _. lines.new ≡ lines.old ++ tables_text p.now) }
 {
-    put_samples(p, lines)?;
-    put_locations(alloc, p, lines)?;
-    put_mappings(alloc, p, lines)
+    put_samples(with, p, lines)?;
+    put_locations(with.alloc, p, lines)?;
+    put_mappings(with.alloc, p, lines)
 }

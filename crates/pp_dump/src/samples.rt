@@ -6,22 +6,100 @@ ghost use Rattle.pp_dump.specs.Raw.{samples_text, types_line, type_word, spaced,
 use crate::digits::{put_decimal, put_right_signed, put_signed};
 use pp_base::{Memory, Text};
 use pp_model::{Label, Profile, Sample, ValueType, text_of};
+use pp_steal::{Piecewise, Resources, run_piecewise};
 use pp_tags::has_text;
+use std::alloc::Global;
+use std::thread::Threads;
 
-/// Appends the sample types, and for each sample its values, its locations and its labels.
-pub fn put_samples(p: &Profile, lines: &mut Text) -> Result<(), Memory>
+// How many samples a wave has. So no more than their lines stand in memory twice.
+const WAVE: usize = 16_384;
+
+/// Appends the sample types, and for each sample its values, its locations and its labels. Samples are written in
+/// pieces of 1,024 on `with.workers` lanes. The lines do not tell how many there were.
+pub fn put_samples<R: Threads + Sync>(
+    with: &Resources<'_, R>,
+    p: &Profile,
+    lines: &mut Text,
+) -> Result<(), Memory>
     ensures { IfOk result (λ _. lines.new ≡ lines.old ++ samples_text p.now) }
 {
     lines.extend(b"Samples:\n")?;
     put_types(p, lines)?;
-    put_each_sample(p, lines)
+    put_all_samples(with, p, lines)
 }
 
-fn put_each_sample(p: &Profile, lines: &mut Text) -> Result<(), Memory>
+// The lines of all samples. One lane needs no pieces.
+fn put_all_samples<R: Threads + Sync>(
+    with: &Resources<'_, R>,
+    p: &Profile,
+    lines: &mut Text,
+) -> Result<(), Memory>
     ensures { IfOk result (λ _.
         lines.new ≡ lines.old ++ flat_map (sample_lines p.now) p.now.sample) }
 {
-    for s in p.sample.as_slice() {
+    let samples = p.sample.as_slice();
+    if with.workers == 1 {
+        return put_each_sample(p, samples, lines);
+    }
+    for wave in 0..samples.len().div_ceil(WAVE) {
+        let start = wave * WAVE;
+        let len = (samples.len() - start).min(WAVE);
+        put_wave(with, p, &samples[start..start + len], lines)?;
+    }
+    Ok(())
+}
+
+fn put_wave<R: Threads + Sync>(
+    with: &Resources<'_, R>,
+    p: &Profile,
+    wave: &[Sample],
+    lines: &mut Text,
+) -> Result<(), Memory>
+    ensures { IfOk result (λ _. lines.new ≡ lines.old ++ flat_map (sample_lines p.now) wave.now) }
+{
+    let alloc = with.alloc;
+    let text = run_piecewise(with, &Writing { alloc, p }, wave)?;
+    lines.append(text)
+}
+
+// Writing of samples, which can be done for any part of them.
+#[derive(Drop)]
+struct Writing<'a> {
+    // Where the lines are allocated.
+    alloc: Global,
+    p: &'a Profile,
+}
+
+impl Piecewise<Sample> for Writing<'_> {
+    type Out = Text;
+
+    ghost use Rattle.std.specs.Prelude.{◌≡◌};
+    ghost use Rattle.std.specs.List.{flat_map};
+    ghost use Rattle.pp_dump.specs.Raw.{sample_lines};
+
+    ghost right = { λ work samples text. text ≡ flat_map (sample_lines work.p.now) samples };
+
+    fn begin(&self, _: usize) -> Result<Text, Memory> {
+        Ok(Text::new(self.alloc))
+    }
+
+    fn run(&self, samples: &[Sample]) -> Result<Text, Memory> {
+        let mut text = Text::new(self.alloc);
+        put_each_sample(self.p, samples, &mut text)?;
+        Ok(text)
+    }
+
+    fn append(&self, mut front: Text, back: Text) -> Result<Text, Memory> {
+        front.append(back)?;
+        Ok(front)
+    }
+}
+
+fn put_each_sample(p: &Profile, samples: &[Sample], lines: &mut Text) -> Result<(), Memory>
+    ensures { IfOk result (λ _.
+        lines.new ≡ lines.old ++ flat_map (sample_lines p.now) samples.now) }
+{
+    for s in samples {
         put_sample(p, s, lines)?;
     }
     Ok(())

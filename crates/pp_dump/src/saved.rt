@@ -14,18 +14,21 @@ ghost use Rattle.pp_count.specs.Seeing.{HoldsFilters, filtered_from};
 ghost use Rattle.pp_dump.specs.Saved.{saved};
 ghost use Rattle.pp_dump.specs.Stacks.{KeepsStacks};
 ghost use Rattle.pp_dump.specs.Unfiltered.{KeepsSums, KeepsKeys, KeepsHeader};
-ghost use Rattle.pp_dump.specs.Places.{IsCutOf};
+ghost use Rattle.pp_dump.specs.Places.{IsCutOf, StaysWhole};
 
 use crate::cutting::{cut_samples, none_cut};
+use crate::whole::copy_samples_on;
 use pp_base::Memory;
 use pp_count::Counted;
 use pp_keys::HashKeys;
-use pp_merge::merge_alone;
+use pp_merge::merge_alone_on;
 use pp_model::{Compact, Loaded, Profile, Valid, Verdicts};
-use pp_restack::with_cut;
-use pp_stack::VerdictTables;
+use pp_restack::{places_of, with_cut};
+use pp_stack::{VerdictTables, keeps_all};
+use pp_steal::Resources;
 use std::alloc::Global;
 use std::mem;
+use std::thread::Threads;
 
 /// What the filters leave of the profile, merged alone: the samples with the frames and labels that they leave and with
 /// all their values, and the locations with the lines that are left. It has no patterns of its own, and the rest of the
@@ -34,8 +37,11 @@ use std::mem;
 /// without filters, and where values are divided by 1, a report adds up the same for each key. `Err` is want of memory.
 ///
 /// The profile can be counted, and so can what is left of it, each sample of which is kept once.
-pub fn saved_profile(
-    alloc: Global,
+///
+/// Samples whose stacks stay whole are copied in pieces of 1,024 on `with.workers` lanes. Lanes also hash, sort and place
+/// what is left. The answer does not tell how many there were.
+pub fn saved_profile<R: Threads + Sync>(
+    with: &Resources<'_, R>,
     l: &Loaded,
     v: &Verdicts,
     c: &Counted,
@@ -65,16 +71,14 @@ pub fn saved_profile(
     // The mappings were read, and no number that was read has more than 64 bits.
     ensures starts { IfOk result (λ _. AllByRecursion (λ m. m.start < 2 ^ 64) l.now.profile.mapping) }
 {
-    let hash_keys = c.sums.names.hash_keys();
-    let cut = cut_profile(alloc, hash_keys, l, v, c.kept.as_slice())?;
-    let q = merge_alone(alloc, hash_keys, cut)?;
+    let cut = cut_profile(with, l, v, c.kept.as_slice())?;
+    let q = merge_alone_on(with, cut)?;
     Ok(q)
 }
 
 // The profile that is merged alone.
-fn cut_profile(
-    alloc: Global,
-    hash_keys: HashKeys,
+fn cut_profile<R: Threads + Sync>(
+    with: &Resources<'_, R>,
     l: &Loaded,
     v: &Verdicts,
     kept: &[u32],
@@ -82,14 +86,48 @@ fn cut_profile(
     requires { HasVerdicts l.now.profile v.now }
     ensures { IfOk result (λ q. IsCutOf l.now v.now kept.now q) }
 {
-    let tables = VerdictTables::new(alloc, l, v)?;
-    let cut = cut_by_tables(alloc, hash_keys, l, v, &tables, kept);
-    mem::drop(tables);
-    let q = cut?;
+    let q = left_profile(with, l, v, kept)?;
     Ok(Valid::claim(q))
 }
 
-// The profile that is merged alone, as tables, by the tables of these verdicts.
+// The profile that is merged alone, as tables.
+fn left_profile<R: Threads + Sync>(
+    with: &Resources<'_, R>,
+    l: &Loaded,
+    v: &Verdicts,
+    kept: &[u32],
+) -> Result<Profile, Memory>
+    requires { HasVerdicts l.now.profile v.now }
+    ensures { IfOk result (λ q. IsCutOf l.now v.now kept.now q) }
+{
+    if keeps_all(l, v) {
+        return whole_profile(with, l, v, kept);
+    }
+    let tables = VerdictTables::new(with.alloc, l, v)?;
+    let cut = cut_by_tables(with.alloc, with.keys, l, v, &tables, kept);
+    mem::drop(tables);
+    cut
+}
+
+// Does what `left_profile` does, where stacks stay whole.
+fn whole_profile<R: Threads + Sync>(
+    with: &Resources<'_, R>,
+    l: &Loaded,
+    v: &Verdicts,
+    kept: &[u32],
+) -> Result<Profile, Memory>
+    requires verdicts { HasVerdicts l.now.profile v.now }
+    requires whole { StaysWhole l.now v.now }
+    ensures { IfOk result (λ q. IsCutOf l.now v.now kept.now q) }
+{
+    let alloc = with.alloc;
+    let samples = copy_samples_on(with, l, v, kept)?;
+    let p = l.profile.get();
+    let places = places_of(alloc, with.keys, p)?;
+    with_cut(alloc, p, samples, places.locations)
+}
+
+// Does what `left_profile` does, by the tables of these verdicts.
 fn cut_by_tables(
     alloc: Global,
     hash_keys: HashKeys,

@@ -22,6 +22,7 @@ use pp_keys::HashKeys;
 use pp_model::{Compact, Config, Loaded, Verdicts};
 use pp_pattern::{FramesRefused, PatternRefused};
 use pp_pseudo::{basis, framed_for};
+use pp_steal::Resources;
 use std::alloc::Global;
 use std::thread::Threads;
 
@@ -135,5 +136,11 @@ fn save<R: Threads + Sync>(
         IfOk result (λ q. q ≡ saved l.now.profile f config.now) }
 {
     let counted = count(rt, alloc, HashKeys::fixed(), l, v, config, None, &OpenGate)?;
-    saved_profile(alloc, l, v, &counted)
+    let with = Resources {
+        rt,
+        alloc,
+        workers: config.workers,
+        keys: HashKeys::fixed(),
+    };
+    saved_profile(&with, l, v, &counted)
 }

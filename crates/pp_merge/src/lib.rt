@@ -20,7 +20,7 @@ mod subtracting;
 mod together;
 mod totals;
 
-pub use alone::merge_alone;
+pub use alone::{merge_alone, merge_alone_on};
 pub use compatible::agree;
 pub use laws::{
     absolute_sums_are_within, merged_is_again, merged_is_settled, sums_are_kept,

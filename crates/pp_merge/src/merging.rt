@@ -71,6 +71,24 @@ pub fn merge_on<R: Threads + Sync>(
     Ok(Compact::claim(Valid::claim(shared)))
 }
 
+/// The profile or refusal of `merge`, for profiles whose samples are not hashed yet: they are hashed, sorted and placed
+/// on `with.workers` lanes. The answer does not tell how many there were.
+pub(crate) fn merge_plain_on<R: Threads + Sync>(
+    with: &Resources<'_, R>,
+    list: List<Valid>,
+) -> Result<Compact, MergeRefusal>
+    requires some { 0 < length list }
+    requires few { length list < 2 ^ 32 }
+    requires columns { AllByRecursion (λ p. length p.sample_type < 2 ^ 32) list }
+    requires samples { sum_by (λ p. length p.sample) list < 2 ^ 32 }
+    ensures { Merges list result }
+{
+    let (first, others) = split(list);
+    let (whole, _) = join_admitted(with.alloc, with.keys, first, others, None, false)?;
+    let shared = share_on(with, whole, None)?;
+    Ok(Compact::claim(Valid::claim(shared)))
+}
+
 // The first of the profiles, and those behind it.
 fn split<T: Drop>(list: List<T>) -> (T, Vec<T>)
     requires { 0 < length list }

@@ -1,6 +1,8 @@
 //! What a session has of the machine.
 
 use pp_keys::HashKeys;
+use pp_model::Config;
+use pp_steal::Resources;
 use std::alloc::Global;
 
 /// What a session has of the machine that it runs on, apart from the objects of the outside.
@@ -14,4 +16,16 @@ pub struct Host<'a, R, G> {
     pub keys: HashKeys,
     /// What each lane passes before and after a piece that it counts.
     pub gate: &'a G,
+}
+
+impl<'a, R, G> Host<'a, R, G> {
+    /// What a call on as many workers as the configuration has is lent.
+    pub fn resources(&self, config: &Config) -> Resources<'a, R> {
+        Resources {
+            rt: self.rt,
+            alloc: self.alloc,
+            workers: config.workers,
+            keys: self.keys,
+        }
+    }
 }

@@ -27,7 +27,8 @@ use pp_dump::{saved_profile, write_raw};
 use pp_graph::{node_limit, rank, trim};
 use pp_model::{Compact, Config, Loaded};
 use pp_samples::{write_comments, write_tags_of, write_traces_of};
-use pp_tables::write_profile;
+use pp_steal::Resources;
+use pp_tables::write_profile_on;
 use pp_top::write_top;
 use pp_tree::{write_peek, write_tree};
 use std::alloc::Global;
@@ -150,7 +151,7 @@ pub fn tags(alloc: Global, subject: &Subject<'_, '_>) -> Result<Text, Memory>
 }
 
 // The saved profile.
-fn saved(alloc: Global, survey: &Survey<'_>) -> Result<Compact, Memory>
+fn saved<R: Threads + Sync>(with: &Resources<'_, R>, survey: &Survey<'_>) -> Result<Compact, Memory>
     ensures saved { let s = survey.now in (f : Finders) →
         HoldsFilters s.l.now s.v.now s.config.now f →
         IfOk result (λ q. q ≡ saved s.l.now.profile f s.config.now) }
@@ -158,18 +159,22 @@ fn saved(alloc: Global, survey: &Survey<'_>) -> Result<Compact, Memory>
     ensures starts { IfOk result (λ _.
         AllByRecursion (λ m. m.start < 2 ^ 64) survey.now.l.now.profile.mapping) }
 {
-    saved_profile(alloc, survey.l, survey.v, survey.counted)
+    saved_profile(with, survey.l, survey.v, survey.counted)
 }
 
 /// The raw report: the saved profile, table by table.
-pub fn raw(alloc: Global, survey: &Survey<'_>) -> Result<Text, Memory>
+pub fn raw<R: Threads + Sync, G: Gate>(
+    with: &Host<'_, R, G>,
+    survey: &Survey<'_>,
+) -> Result<Text, Memory>
     ensures { let s = survey.now in (f : Finders) →
         HoldsFilters s.l.now s.v.now s.config.now f →
         IfOk result (λ text. text ≡ raw_text (saved s.l.now.profile f s.config.now)) }
 {
-    let saved = saved(alloc, survey)?;
-    let mut text = Text::new(alloc);
-    write_raw(alloc, &saved, &mut text)?;
+    let with = with.resources(survey.config);
+    let saved = saved(&with, survey)?;
+    let mut text = Text::new(with.alloc);
+    write_raw(&with, &saved, &mut text)?;
     Ok(text)
 }
 
@@ -183,13 +188,17 @@ pub fn comments(alloc: Global, l: &Loaded) -> Result<Text, Memory>
 }
 
 /// The bytes of the saved profile, which load as that profile.
-pub fn proto(alloc: Global, survey: &Survey<'_>) -> Result<Text, Memory>
+pub fn proto<R: Threads + Sync, G: Gate>(
+    with: &Host<'_, R, G>,
+    survey: &Survey<'_>,
+) -> Result<Text, Memory>
     ensures { let s = survey.now in (f : Finders) →
         HoldsFilters s.l.now s.v.now s.config.now f →
         IfOk result (IsProtoOf s.l.now.profile f s.config.now) }
 {
     // The profile keeps the table rules.
     let _profile = survey.l.profile.get();
-    let saved = saved(alloc, survey)?;
-    write_profile(alloc, saved.valid())
+    let with = with.resources(survey.config);
+    let saved = saved(&with, survey)?;
+    write_profile_on(&with, saved.valid())
 }

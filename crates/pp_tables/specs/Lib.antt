@@ -9,3 +9,4 @@ pub mod Fits
 pub mod Joined
 pub mod Skim
 pub mod Apart
+pub mod Pieces

@@ -2,13 +2,17 @@
 ghost use Rattle.std.specs.Prelude.{◌≡◌, ◌++◌, Ok, OnOk, IfOk};
 ghost use Rattle.pp_tables.specs.Encode.{period_type_field, table_bytes, header_bytes, encode};
 ghost use Rattle.pp_tables.specs.Fits.{ValueTypeFits, TablesFit, HeaderFits, NumbersFit};
+ghost use Rattle.pp_tables.specs.Pieces.{entry_bytes, EntriesFit};
 ghost use Rattle.pp_tables.specs.Read.{read};
 
 use crate::spelled::{Spelled, put_bool, put_int, put_message, put_messages, put_packed_ints};
+use crate::waves::put_samples_on;
 use pp_base::{Memory, Text};
 use pp_model::{Function, Label, Line, Location, Mapping, Profile, Sample, Valid, ValueType};
+use pp_steal::Resources;
 use pp_wire::{put_number, put_packed};
 use std::alloc::Global;
+use std::thread::Threads;
 
 impl Spelled for ValueType {
     ghost use Rattle.pp_tables.specs.Encode.{value_type_bytes};
@@ -193,6 +197,22 @@ pub fn write_profile(alloc: Global, p: &Valid) -> Result<Text, Memory>
     Ok(text)
 }
 
+/// The bytes that `write_profile` gives. The samples are written in pieces of 1,024 on `with.workers` lanes. The bytes do
+/// not tell how many there were.
+#[tactic(auto, using(crate::proofs::Numbers::written_back))]
+pub fn write_profile_on<R: Threads + Sync>(
+    with: &Resources<'_, R>,
+    p: &Valid,
+) -> Result<Text, Memory>
+    ensures bytes { IfOk result (λ text. text ≡ encode p.now) }
+    ensures again { IfOk result (λ text. read text ≡ Ok p.now) }
+{
+    let text = bytes_on(with, p.get())?;
+    // No text has 2^64 bytes.
+    let _len = text.len();
+    Ok(text)
+}
+
 fn bytes_of(alloc: Global, p: &Profile) -> Result<Text, Memory>
     ensures bytes { IfOk result (λ text. text ≡ encode p.now) }
     ensures numbers { IfOk result (λ _. NumbersFit p.now) }
@@ -200,6 +220,16 @@ fn bytes_of(alloc: Global, p: &Profile) -> Result<Text, Memory>
     let mut out = Text::new(alloc);
     put_tables(alloc, &mut out, p)?;
     put_header(alloc, &mut out, p)?;
+    Ok(out)
+}
+
+fn bytes_on<R: Threads + Sync>(with: &Resources<'_, R>, p: &Profile) -> Result<Text, Memory>
+    ensures bytes { IfOk result (λ text. text ≡ encode p.now) }
+    ensures numbers { IfOk result (λ _. NumbersFit p.now) }
+{
+    let mut out = Text::new(with.alloc);
+    put_tables_on(with, &mut out, p)?;
+    put_header(with.alloc, &mut out, p)?;
     Ok(out)
 }
 
@@ -211,6 +241,27 @@ fn put_tables(alloc: Global, out: &mut Text, p: &Profile) -> Result<(), Memory>
     put_messages(alloc, out, 1, p.sample_type.as_slice())?;
     // repeated Sample sample = 2;
     put_messages(alloc, out, 2, p.sample.as_slice())?;
+    put_entries(alloc, out, p)
+}
+
+fn put_tables_on<R: Threads + Sync>(
+    with: &Resources<'_, R>,
+    out: &mut Text,
+    p: &Profile,
+) -> Result<(), Memory>
+    ensures written { OnOk result (out.new ≡ out.old ++ table_bytes p.now) }
+    ensures numbers { OnOk result (TablesFit p.now) }
+{
+    put_messages(with.alloc, out, 1, p.sample_type.as_slice())?;
+    put_samples_on(with, out, p.sample.as_slice())?;
+    put_entries(with.alloc, out, p)
+}
+
+// The tables behind the samples.
+fn put_entries(alloc: Global, out: &mut Text, p: &Profile) -> Result<(), Memory>
+    ensures written { OnOk result (out.new ≡ out.old ++ entry_bytes p.now) }
+    ensures numbers { OnOk result (EntriesFit p.now) }
+{
     // repeated Mapping mapping = 3;
     put_messages(alloc, out, 3, p.mapping.as_slice())?;
     // repeated Location location = 4;

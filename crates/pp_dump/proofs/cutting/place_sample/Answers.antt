@@ -1,35 +1,13 @@
-use Rattle.std.proofs.Common.{◌≡◌, ℕ, Bool, List, [], ◌++◌, map, sym, ap, subst, ◌∙◌}
+use Rattle.std.proofs.Common.{ℕ, Bool, List, [], map, sym, ap, subst, ◌∙◌}
 use Rattle.std.proofs.lemmas.Bool.{false≢true}
 use Rattle.std.proofs.lemmas.List.{append-nil}
 use Rattle.pp_model.specs.declared.frame.Frame.{Frame}
 use Rattle.pp_model.specs.declared.profile.Profile.{Profile}
-use Rattle.pp_model.specs.Frames.{stack_of}
 use Rattle.pp_model.specs.Rules.{NoRuleFails, IsCompact}
 use Rattle.pp_stack.specs.Runs.{kept_if}
 use Rattle.pp_restack.specs.Stacks.{by_place, cut_location}
 use Rattle.pp_restack.specs.Places.{KeepsPlaces, AreEntries, AppendsEntries}
-use Rattle.pp_dump.proofs.WholeStacks.{whole_entries}
 use Rattle.pp_dump.proofs.cutting.place_sample.Goals as goal
-
--- the stack is whole
-pub returns-then-keeps_all-clause-left : goal.returns-then-keeps_all-clause-left
-returns-then-keeps_all-clause-left c =
-    let p = c.args.l.now.profile in
-    let s = c.args.s.now in
-    let old = c.args.cut.now.places.locations in
-    let same = c.get-p.ensures.same in
-    let compact = subst IsCompact same c.get-p.ensures.compact in
-    let ids : c.extend.new.self ≡ s.location_id = c.in_ok-extend.ensures.ok ∙ (λ i. c.truncate.ensures i ++ c.as_slice.ensures i) in
-    record {
-      places = c.requires.can.places;
-      front = ([], sym (append-nil old));
-      stack = stack_of p s;
-      left = λ f finds. sym (c.keeps_all.ensures f finds c.if-keeps_all.true s);
-      entries = λ _. subst (AreEntries old (map (cut_location p) (by_place (stack_of p s)))) (sym ids)
-          (whole_entries p compact.locations s old c.requires.refers c.requires.can.front);
-      valid = subst NoRuleFails same c.get-p.ensures.valid;
-      compact = compact;
-    }
 
 -- nothing is left
 pub returns-then-not-branch-clause-left : goal.returns-then-not-branch-clause-left

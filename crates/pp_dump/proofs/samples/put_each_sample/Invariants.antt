@@ -4,4 +4,4 @@ use Rattle.pp_dump.specs.Raw.{sample_lines}
 use Rattle.pp_dump.proofs.samples.put_each_sample.Given as goal
 
 abbrev pub invariant-loop-s : goal.invariant-loop-s
-invariant-loop-s l = l.lines ≡ l.initial.lines ++ flat_map (sample_lines l.p) (take l.s-index l.s-items)
+invariant-loop-s l = l.lines ≡ l.initial.lines ++ flat_map (sample_lines l.p) (take l.s-index l.samples)

@@ -1,7 +1,6 @@
-use Rattle.std.proofs.Common.{Result, Ok, Err, IfOk, ◌<◌, ◌^◌, List, [], sym, ap, subst, ◌∙◌}
+use Rattle.std.proofs.Common.{◌<◌, ◌^◌, List, [], sym, ap, subst, ◌∙◌}
 use Rattle.std.specs.List.{AllByRecursion}
 use Rattle.std.proofs.lemmas.List.{append-nil}
-use Rattle.pp_base.specs.declared.memory.Memory.{Memory}
 use Rattle.pp_model.specs.declared.profile.Location.{Location}
 use Rattle.pp_model.specs.declared.profile.Mapping.{Mapping}
 use Rattle.pp_model.specs.declared.profile.Sample.{Sample}
@@ -11,6 +10,7 @@ use Rattle.pp_count.specs.Counts.{samples_at}
 use Rattle.pp_restack.specs.Places.{ArePlaces, with_cut}
 use Rattle.pp_restack.proofs.CutValid.{own_places}
 use Rattle.pp_dump.specs.Places.{AddsSamples}
+use Rattle.pp_dump.proofs.CutParts.{left_with}
 use Rattle.pp_dump.proofs.saved.cut_by_tables.Goals as goal
 
 -- the locations of the profile are places of it, and stand first
@@ -24,12 +24,6 @@ cut_samples-requires c = record {
       (own_places c.get-p.result.now c.get-p.ensures.valid c.get-p.ensures.compact));
   front = ([], c.in_ok-cut.ensures.locations ∙ ap (λ (p : Profile). p.location) c.get-p.ensures.same ∙ sym (append-nil c.args.l.now.profile.location));
 }
-
--- a profile with these samples and locations is what was cut, and the mappings were read
-left_with : (r : Result Profile Memory) (P Q : Profile → Type 0) (starts : Type 0) → (starts → (x : Profile) → P x → Q x)
-    → IfOk r P → IfOk r (λ _. starts) → IfOk r Q
-left_with (Ok x) P Q starts both is read = both read x is
-left_with (Err e) P Q starts both is read = tt
 
 pub returns : goal.returns
 returns c =

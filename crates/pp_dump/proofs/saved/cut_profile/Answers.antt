@@ -7,7 +7,7 @@ use Rattle.pp_dump.proofs.saved.cut_profile.Goals as goal
 
 -- what is merged alone keeps the table rules
 pub claim-requires : goal.claim-requires
-claim-requires c =
+claim-requires g c =
     let is = c.in_ok-q.ensures in
     let p = c.args.l.now.profile in
     subst NoRuleFails (sym is.is)

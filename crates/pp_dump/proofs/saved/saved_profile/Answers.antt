@@ -1,4 +1,4 @@
-use Rattle.std.proofs.Common.{◌≡◌, [], length, sym, ap, subst, ◌∙◌}
+use Rattle.std.proofs.Common.{rules, ◌≡◌, [], length, sym, ap, subst, ◌∙◌}
 use Rattle.pp_model.specs.declared.profile.Profile.{Profile}
 use Rattle.pp_model.specs.Rules.{NoRuleFails, IsCompact}
 use Rattle.pp_merge.specs.Merge.{contents, merged}
@@ -24,15 +24,17 @@ use Rattle.pp_dump.proofs.CutSizes.{cut_countable}
 use Rattle.pp_dump.proofs.saved.saved_profile.Goals as goal
 
 -- what was cut has samples of the profile, each at most once
-pub merge_alone-requires : goal.merge_alone-requires
-merge_alone-requires c =
-    let is = c.in_ok-cut.ensures in
-    cut_countable c.args.l.now c.args.v.now c.as_slice.result.now c.in_ok-cut.cut is c.requires.verdicts
-    (subst (AreRisingBetween 0 (length c.args.l.now.profile.sample)) (sym c.as_slice.ensures) c.requires.kept) c.requires.countable
+pub merge_alone_on-requires : goal.merge_alone_on-requires
+merge_alone_on-requires g c =
+    let is = c.in_ok-cut.ensures in (
+      search rules,
+      cut_countable c.args.l.now c.args.v.now c.as_slice.result.now c.in_ok-cut.cut is c.requires.verdicts
+          (subst (AreRisingBetween 0 (length c.args.l.now.profile.sample)) (sym c.as_slice.ensures) c.requires.kept) c.requires.countable,
+    )
 
 -- what was cut is merged alone
 pub returns-clause-saved : goal.returns-clause-saved
-returns-clause-saved c f config holds kept =
+returns-clause-saved g c f config holds kept =
     let is = c.in_ok-cut.ensures in
     c.in_ok-q.ensures ∙ ap (λ (p : Profile). merged p []) is.is
     ∙ ap written
@@ -40,7 +42,7 @@ returns-clause-saved c f config holds kept =
 
 -- so it keeps the stacks that the filters leave
 pub returns-clause-stacks : goal.returns-clause-stacks
-returns-clause-stacks c f config holds kept again =
+returns-clause-stacks g c f config holds kept again =
     let is = c.in_ok-cut.ensures in
     let p = c.args.l.now.profile in
     let cut = with_cut p is.samples is.locations in
@@ -53,7 +55,7 @@ returns-clause-stacks c f config holds kept again =
 
 -- and what is merged alone stays as it is
 pub returns-clause-again : goal.returns-clause-again
-returns-clause-again c =
+returns-clause-again g c =
     let is = c.in_ok-cut.ensures in
     let cut = with_cut c.args.l.now.profile is.samples is.locations in
     let merge : c.in_ok-q.q ≡ merged cut [] = c.in_ok-q.ensures ∙ ap (λ (p : Profile). merged p []) is.is in
@@ -62,20 +64,20 @@ returns-clause-again c =
 
 -- what is merged keeps the table rules
 pub returns-clause-valid : goal.returns-clause-valid
-returns-clause-valid c = alone_valid c.in_ok-cut.cut c.in_ok-q.q c.in_ok-q.ensures
+returns-clause-valid g c = alone_valid c.in_ok-cut.cut c.in_ok-q.q c.in_ok-q.ensures
 
 -- without filters its stacks are left whole, so the sums are kept
 pub returns-clause-sums : goal.returns-clause-sums
-returns-clause-sums c f config holds kept again =
+returns-clause-sums g c f config holds kept again =
     let q = c.in_ok-q.q in
     let compact : IsCompact q = alone_compact c.in_ok-cut.cut q c.in_ok-q.ensures in
     let valid : NoRuleFails q = alone_valid c.in_ok-cut.cut q c.in_ok-q.ensures in
-    keeps_sums c.args.l.now.profile f config q (returns-clause-stacks c f config holds kept again)
+    keeps_sums c.args.l.now.profile f config q (returns-clause-stacks g c f config holds kept again)
     (λ d tagfocus tagignore. whole_left q compact.locations d tagfocus tagignore valid)
 
 -- and where no value is below 0 the keys that occur
 pub returns-clause-keys : goal.returns-clause-keys
-returns-clause-keys c f config holds kept again =
+returns-clause-keys g c f config holds kept again =
     let is = c.in_ok-cut.ensures in
     let p = c.args.l.now.profile in
     let q = c.in_ok-q.q in
@@ -85,17 +87,17 @@ returns-clause-keys c f config holds kept again =
     let starts = starts_of p is.samples is.locations is.starts in
     let same : contents cut [] ≡ saved_contents p f config =
     contents_saved c.args.l.now c.args.v.now f config c.as_slice.result.now is.samples is.locations is.valid holds.found (c.as_slice.ensures ∙ kept) is.adds in
-    let saved_is : q ≡ saved p f config = returns-clause-saved c f config holds kept in
+    let saved_is : q ≡ saved p f config = returns-clause-saved g c f config holds kept in
     subst (KeepsKeys p f config) (sym saved_is)
     (λ least d alike column within.
     keeps_keys column p f config is.valid within least (subst IsSettled same (settled_contents cut [] starts)) (left_is p f config is.valid starts again)
-    (subst (KeepsSums p f config) saved_is (returns-clause-sums c f config holds kept again))
+    (subst (KeepsSums p f config) saved_is (returns-clause-sums g c f config holds kept again))
     (λ e tagfocus tagignore. whole_left (saved p f config) (subst IsCompact saved_is compact).locations e tagfocus tagignore (subst NoRuleFails saved_is valid))
     d alike)
 
 -- the header is that of what was cut, so the columns are those of the profile
 pub returns-clause-header : goal.returns-clause-header
-returns-clause-header c =
+returns-clause-header g c =
     let is = c.in_ok-cut.ensures in
     let p = c.args.l.now.profile in
     let cut = with_cut p is.samples is.locations in
@@ -108,4 +110,4 @@ returns-clause-header c =
 
 -- each mapping was read
 pub returns-clause-starts : goal.returns-clause-starts
-returns-clause-starts c = c.in_ok-cut.ensures.starts
+returns-clause-starts g c = c.in_ok-cut.ensures.starts
