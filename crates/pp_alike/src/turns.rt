@@ -1,5 +1,5 @@
 //! What holds of the shell's turns, of which a session has a number that no input uses up.
-ghost use Rattle.std.specs.Prelude.{◌≡◌, ◌+◌, ℕ, List, Some};
+ghost use Rattle.std.specs.Prelude.{◌≡◌, ◌+◌, ℕ, List, Option, Some};
 ghost use Rattle.pp_desk.specs.Lines.{lines_of};
 ghost use Rattle.pp_desk.specs.Went.{Goes};
 ghost use Rattle.pp_desk.specs.World.{Told};
