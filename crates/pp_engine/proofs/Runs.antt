@@ -3,7 +3,7 @@ use Rattle.std.proofs.Common.{◌≡◌, ◌⊎◌, inl, inr, ℕ, true, false, 
 use Rattle.std.specs.Prelude.{Result, Ok, Err, IfOk, IfErr, IfSome, IfNone, IsNone, is_some, option_map}
 use Rattle.std.proofs.lemmas.Bool.{false≢true}
 use Rattle.std.proofs.lemmas.List.{append-nil}
-use Rattle.std.proofs.lemmas.Option.{MatchOption-at_none, none-some}
+use Rattle.std.proofs.lemmas.Option.{MatchOption-at_none}
 use Rattle.pp_base.specs.Fault.{Rose}
 use Rattle.pp_base.specs.FileMap.{FileMap}
 use Rattle.pp_base.specs.Front.{IsFront}
@@ -16,7 +16,7 @@ use Rattle.pp_desk.specs.Closes.{Closes}
 use Rattle.pp_desk.specs.Course.{outside_of, given}
 use Rattle.pp_desk.specs.Effects.{ToErr, Outside, outside, Did}
 use Rattle.pp_desk.specs.Lines.{lines_of}
-use Rattle.pp_desk.specs.Reader.{IsLeftBehind, ReaderHeld, lines_from, unread_by}
+use Rattle.pp_desk.specs.Reader.{IsLeftBehind}
 use Rattle.pp_desk.specs.Went.{Went, parts, Ways, Goes, Halts, HasFailed, IsTakenOn}
 use Rattle.pp_desk.specs.World.{Told, Faults, Later, HasTaken, intake, World}
 use Rattle.pp_desk.proofs.Closing.{did_more, given_is}
@@ -107,12 +107,6 @@ taken_front finds words a b c line s w t = taken_taken a.intake b.intake c.intak
 -- from a fresh reader on, no more than the limit is taken
 pub takes_few : (old new : Option (List ℕ)) (most left : ℕ) → HasTaken (intake old most) (intake new left) → TakesFront most old new
 takes_few old new most left t = record { taken = t.taken; few = omega (arith, t.room); front = t.front }
-
--- an input of which no byte was read and no line taken is left as it was
-pub left_alone : (reader : Option ReaderHeld) (old new : Option (List ℕ)) → unread_by reader new ≡ old → option_map (lines_from reader) new ≡ option_map lines_of old → new ≡ old
-left_alone None old new unread lines = unread
-left_alone (Some r) old None unread lines = unread
-left_alone (Some r) old (Some left) unread lines = absurd (none-some _ (sym (lines ∙ ap (option_map lines_of) (sym unread))))
 
 -- the objects are the same ones at the end
 pub same_whole : (finds : Finds) (words : List (List ℕ)) (a b : World) (x : Cause) → Went a b (session finds words) (Ok x) → b.names ≡ a.names
