@@ -1,8 +1,8 @@
-mod Firsts
+pub mod Firsts
 mod Counting
-mod Each
+pub mod Each
 mod Putting
-mod Noding
+pub mod Filtered
+pub mod Noding
 mod Lining
-mod Summing
 mod Examples

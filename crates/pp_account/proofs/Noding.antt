@@ -27,7 +27,7 @@ use Rattle.pp_graph.specs.Trim.{all_report_keys, candidate_keys, is_heavy_key, s
 use Rattle.pp_graph.specs.Trimmed.{int_sum, IsWholeRanking}
 use Rattle.pp_graph.proofs.KeyRowLemmas.{row_is}
 use Rattle.pp_graph.proofs.Ordering.{report_total, report_same}
-use Rattle.pp_laws.proofs.Listed.{each_once-filter}
+use Rattle.pp_account.proofs.Filtered.{each_once-filter}
 use Rattle.pp_account.specs.declared.nodes.NodePortions.{NodePortions}
 use Rattle.pp_account.specs.Lines.{AreNodesOf}
 use Rattle.pp_account.specs.Nodes.{keys_portion, light_keys, past_limit, numbers_portion, numbers_where, is_where, node_portions}

@@ -4,4 +4,3 @@ pub mod Adding
 pub mod Nodes
 pub mod Account
 pub mod Lines
-pub mod Laws

@@ -4,7 +4,6 @@
 
 mod account;
 mod first;
-mod laws;
 mod nodes;
 mod portion;
 mod portions;
@@ -12,4 +11,3 @@ mod rows;
 mod samples;
 
 pub use account::write_account;
-pub use laws::accounts_add_up;

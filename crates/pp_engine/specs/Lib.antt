@@ -8,8 +8,5 @@ pub mod Shell
 pub mod Words
 pub mod Session
 pub mod Validity
-pub mod Alike
-pub mod SavedFiles
-pub mod SavedGroups
 pub mod Leaves
 pub mod Run

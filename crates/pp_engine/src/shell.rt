@@ -1,16 +1,13 @@
 // The shell: lines that are read one by one, each obeyed before the next is read.
-ghost use Rattle.std.specs.Prelude.{◌≡◌, ◌+◌, ℕ, List, Option, IfOk, OnOk, OnErr};
-ghost use Rattle.pp_desk.specs.Lines.{lines_of};
+ghost use Rattle.std.specs.Prelude.{◌≡◌, ◌+◌, Option, IfOk, OnOk, OnErr};
 ghost use Rattle.pp_desk.specs.Script.{write_out};
-ghost use Rattle.pp_desk.specs.Went.{Goes, Went, beside};
-ghost use Rattle.pp_desk.specs.World.{Told};
+ghost use Rattle.pp_desk.specs.Went.{Went, beside};
 ghost use Rattle.pp_model.specs.declared.config.Config.{Config};
 ghost use Rattle.pp_model.specs.declared.loaded.Loaded.{Loaded};
 ghost use Rattle.pp_model.specs.declared.report.BaseKind.{BaseKind};
 ghost use Rattle.pp_model.specs.Sizes.{IsCountable};
 ghost use Rattle.pp_options.specs.Listing.{options_text};
 ghost use Rattle.pp_shell.specs.Lines.{line_command};
-ghost use Rattle.pp_pattern.specs.Report.{Finds};
 ghost use Rattle.pp_engine.specs.declared.ending.Cause.{Cause};
 ghost use Rattle.pp_engine.specs.Shell.{shell, turn, follow, obey, obey_or_complain, complain, without_return, prompt, prompt_end, help};
 ghost use Rattle.pp_engine.specs.Turns.{turns};
@@ -263,13 +260,3 @@ fn complain<D: Desk>(alloc: Global, fault: &LineFault, desk: &mut D) -> Result<(
     let line = line_fault_line(alloc, fault)?;
     desk.write_err(line.as_slice())
 }
-
-/// The law of the shell's turns: over an input that tells its bytes they never run out. With more of them the same is
-/// done, whatever were given after the last.
-#[tactic(auto, using(crate::proofs::Lasting::shell_lasts))]
-pub fn turns_suffice()
-    ensures { (finds : Finds) (l : Loaded) (base : Option BaseKind) (config : Config)
-        (old new : Told) (input : List ℕ) (x other : Cause) (more : ℕ) → old.lines ≡ Some (lines_of input)
-        → Goes old new (shell finds l base config) x
-        → Goes old new (turns (turn finds l base) other (MOST_LINES + more) config) x }
-{}

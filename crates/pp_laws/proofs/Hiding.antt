@@ -10,7 +10,7 @@ use Rattle.pp_count.specs.Ranks.{each_once}
 use Rattle.pp_graph.specs.Trim.{is_heavy_key, report_order, shown_keys}
 use Rattle.pp_graph.proofs.Ordering.{report_total, report_same}
 use Rattle.pp_laws.specs.Rows.{TrimmingHides}
-use Rattle.pp_laws.proofs.Listed.{each_once-filter}
+use Rattle.pp_account.proofs.Filtered.{each_once-filter}
 use Rattle.pp_laws.proofs.AddingUp.{heavy_always}
 
 kept_all : {X : Type 0} (test : X → Bool) (xs : List X) → ((x : X) → test x ≡ true) → filter test xs ≡ xs

@@ -19,3 +19,4 @@ pub mod Labelled
 pub mod Comparing
 mod SumsMoved
 mod LoadedOrder
+mod Accounted

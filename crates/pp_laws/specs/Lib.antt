@@ -9,3 +9,4 @@ pub mod Scales
 pub mod Merged
 pub mod Bases
 pub mod Compared
+pub mod Accounts

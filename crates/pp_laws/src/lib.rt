@@ -5,6 +5,7 @@
 //! `flats` (nothing is lost) and `merged` (reports of a merge are sums).
 #![tactic(auto)]
 
+mod accounts;
 mod bases;
 mod bounds;
 mod compared;
@@ -16,6 +17,7 @@ mod rows;
 mod scales;
 mod units;
 
+pub use accounts::accounts_add_up;
 pub use bases::differences_are_differences;
 pub use bounds::{
     edges_are_within, figures_are_within, percentages_are_within, shared_keys_are_whole,

@@ -3,7 +3,5 @@ pub mod TypesLemmas
 pub mod PreparingLemmas
 pub mod FinishingLemmas
 pub mod GeneratingLemmas
-pub mod SavedLemmas
-pub mod Taken
-pub mod SavedTextLemmas
+pub mod ProtoLemmas
 mod Rows

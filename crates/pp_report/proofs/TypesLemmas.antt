@@ -21,11 +21,10 @@ use Rattle.pp_merge.proofs.WrittenValid.{last_texts, texts_of_types}
 use Rattle.pp_count.specs.Column.{column_of}
 use Rattle.pp_count.proofs.Columns.{type_names, columns_alike}
 use Rattle.pp_dump.proofs.SavedHeader.{first_alone}
-use Rattle.pp_saved.specs.Figures.{column_type}
 use Rattle.pp_restack.specs.Stacks.{patternless}
 use Rattle.pp_pseudo.specs.KeyList.{key_list}
 use Rattle.pp_pseudo.specs.WithTags.{tagged, tagged_contents}
-use Rattle.pp_report.specs.Heads.{type_of_column, unit_text, wanted_unit}
+use Rattle.pp_report.specs.Heads.{column_type, type_of_column, unit_text, wanted_unit}
 use Rattle.pp_report.specs.Prepared.{in_column, in_unit, showing_for}
 use Rattle.pp_pseudo.specs.Basis.{framed_by, framed_for}
 use Rattle.pp_report.specs.Tagged.{basis_of}

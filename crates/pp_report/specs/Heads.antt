@@ -1,5 +1,5 @@
 -- What a report shows: its column, its unit and the head above it.
-use Rattle.std.specs.Prelude.{ℕ, List, [], ◌∷◌, codes, bytes_eq, slice_get, Option, None, Some, option_map, unwrap_or, if◌then◌else◌}
+use Rattle.std.specs.Prelude.{ℕ, List, [], ◌∷◌, codes, bytes_eq, map, slice_get, Option, None, Some, option_map, unwrap_or, if◌then◌else◌}
 use Rattle.std.specs.Option.{option_and_then, option_map_or}
 use Rattle.pp_model.specs.declared.config.Config.{Config}
 use Rattle.pp_model.specs.declared.profile.Profile.{Profile}
@@ -8,11 +8,16 @@ use Rattle.pp_model.specs.Finders.{Finders}
 use Rattle.pp_model.specs.Lookup.{text_of}
 use Rattle.pp_units.specs.Head.{Facts}
 use Rattle.pp_units.specs.Shown.{Shown, picked_for_each, forced, picked}
+use Rattle.pp_share.specs.Header.{TypeText, type_text}
 use Rattle.pp_count.specs.Counts.{total_of}
 
 -- the sample type of the column, if there is one
 abbrev pub type_of_column : Profile → Option ℕ → Option ValueType
 type_of_column p column = option_and_then (slice_get p.sample_type) column
+
+-- the type of the column, written out
+abbrev pub column_type : Profile → Option ℕ → Option TypeText
+column_type p column = option_and_then (slice_get (map (type_text p) p.sample_type)) column
 
 -- the name of the column's type, and nothing without a column
 abbrev pub kind_text : Profile → Option ℕ → List ℕ

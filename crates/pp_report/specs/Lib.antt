@@ -6,6 +6,4 @@ pub mod Patterns
 pub mod Tagged
 pub mod Prepared
 pub mod Reports
-pub mod StaysSaved
-pub mod SavedReports
 pub mod SavedText

@@ -7,8 +7,7 @@ ghost use Rattle.pp_model.specs.Sizes.{IsCountable};
 ghost use Rattle.pp_report.specs.Prepared.{notes_of};
 ghost use Rattle.pp_report.specs.Tagged.{basis_of};
 ghost use Rattle.pp_report.specs.Reports.{report_script, reported, appended_text};
-ghost use Rattle.pp_report.specs.SavedReports.{NamesNoKey};
-ghost use Rattle.pp_report.specs.SavedText.{OnText, IsSavedText};
+ghost use Rattle.pp_report.specs.SavedText.{OnText, IsProtoBy};
 
 use crate::ReportRefusal;
 use crate::finishing::finish;
@@ -35,12 +34,8 @@ use std::thread::Threads;
 /// the text `true`, as in a difference that was saved. `Err` is the failure of a file that a list report reads, or want
 /// of memory; a front of the notes is appended then.
 ///
-/// Where no frames are made from labels, the text of a proto report is read as the profile that was saved. That profile
-/// keeps the table rules, stays as it is when it is merged alone, and has no patterns of its own. Without filters it
-/// has the figures that the loaded one has with them. Its top, tree, peek, table and folded come to the same text or
-/// refusal. This holds under each configuration with the same filters that has relative_percentages on, path_tree off
-/// and divide_by 1, and makes no frames from labels. The loaded profile stays as it is when it is merged alone, and none
-/// of its values is below 0. No sample carries `pprof::base` of the text `true`, and the matcher refuses no pattern.
+/// The text of a proto report is read as the profile that was saved. That profile keeps the table rules, stays as it is
+/// when it is merged alone, and has no patterns of its own. `pp_saved::saved_bytes` says what follows for its reports.
 pub fn generate<'x, R: Threads + Sync, D: Desk, G: Gate>(
     rt: &'x R,
     alloc: Global,
@@ -60,9 +55,9 @@ pub fn generate<'x, R: Threads + Sync, D: Desk, G: Gate>(
     ensures stopped { OnErr result (IsFront (appended_text notes.old notes.new)
         (notes_of D.finds (basis_of report.now l.now config.now) report.now config.now)) }
 
-    // A saved profile loads, and reports as its filters did.
-    ensures saved { report.now ≡ Proto → NamesNoKey config.now →
-        OnText result (IsSavedText D.finds l.now config.now) }
+    // What is saved is read again.
+    ensures saved { report.now ≡ Proto → OnText result
+        (IsProtoBy D.finds (basis_of report.now l.now config.now) config.now) }
 {
     let with = Host {
         rt,

@@ -5,7 +5,7 @@
 //! (`shows`), makes frames from labels, asks the patterns (`asking`), counts, and notes what matched nothing (`notes`).
 //! `finishing` makes the text, by `texts`, `trees`, `comparing` or `exports`, under the head of `heads`.
 //!
-//! `refusal` and `message` have why a report is not made. `saved` states what a saved profile keeps.
+//! `refusal` and `message` have why a report is not made. What the reports of a saved profile are is a law of `pp_saved`.
 #![tactic(auto)]
 
 mod asking;
@@ -21,7 +21,6 @@ mod notes;
 mod prepared;
 mod preparing;
 mod refusal;
-mod saved;
 mod shows;
 mod subject;
 mod texts;
@@ -34,6 +33,5 @@ pub use message::refusal_line;
 pub use prepared::{Counts, Prepared};
 pub use preparing::prepare;
 pub use refusal::ReportRefusal;
-pub use saved::saved_reports;
 pub use shows::Shows;
 pub use texts::limit_of_trees;

@@ -13,10 +13,9 @@ ghost use Rattle.pp_samples.specs.TagLines.{tags_text};
 ghost use Rattle.pp_dump.specs.Raw.{raw_text};
 ghost use Rattle.pp_samples.specs.Comments.{comments_text};
 ghost use Rattle.pp_dump.specs.Saved.{saved};
-ghost use Rattle.pp_saved.specs.Kept.{IsLasting};
 ghost use Rattle.pp_report.specs.declared.texts.TheConstants.{TREE_NODES};
 ghost use Rattle.pp_report.specs.Reports.{peek_outcome};
-ghost use Rattle.pp_report.specs.SavedText.{IsProtoOf};
+ghost use Rattle.pp_report.specs.SavedText.{IsLasting, IsProtoOf};
 
 use crate::ReportRefusal;
 use crate::host::Host;

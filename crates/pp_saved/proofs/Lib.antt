@@ -11,3 +11,6 @@ pub mod Saving
 pub mod PathsAlike
 pub mod SavedAlike
 pub mod SavedWhole
+pub mod SavedReports
+pub mod Taken
+pub mod SavedBytes

@@ -17,7 +17,8 @@ use Rattle.pp_count.specs.Seeing.{filtered_stack, seen_with, framed_with}
 use Rattle.pp_count.specs.Counts.{total_over}
 use Rattle.pp_count.specs.Counted.{report_frames, report_samples}
 use Rattle.pp_count.specs.Ranks.{each_once}
-use Rattle.pp_saved.specs.Figures.{Figures, figures, column_type, mapped_file, is_found_frame}
+use Rattle.pp_report.specs.Heads.{column_type, first_file}
+use Rattle.pp_saved.specs.Figures.{Figures, figures, is_found_frame}
 use Rattle.pp_saved.specs.Premises.{unfiltered, own_alone}
 
 module _ (q : Profile) (f : Finders) (config : Config) (column : Option ℕ) where
@@ -43,7 +44,7 @@ module _ (q : Profile) (f : Finders) (config : Config) (column : Option ℕ) whe
     column = column;
     value_type = column_type q column;
     total = total_over q d column (if d.relative_percentages then filter (λ s. is_some (left s)) q.sample else q.sample);
-    file = mapped_file q;
+    file = first_file q;
     duration = q.duration_nanos;
     keys = each_once key_cmp (all_keys (samples_by left));
     finds = λ test k. list_any (λ s. list_any (is_found_frame d test k) s.keys) (frames_by left);

@@ -15,7 +15,8 @@ use Rattle.pp_grain.proofs.CallerLemmas.{key_cmp_total, key_cmp_ties}
 use Rattle.pp_count.specs.Ranks.{each_once}
 use Rattle.pp_count.proofs.EachOnce.{same_ties}
 use Rattle.pp_count.proofs.Ties.{key_decides, tied}
-use Rattle.pp_laws.proofs.Listed.{each_once_members, each_once_same, each_once-filter, each_once_apart}
+use Rattle.pp_account.proofs.Filtered.{each_once-filter}
+use Rattle.pp_laws.proofs.Listed.{each_once_members, each_once_same, each_once_apart}
 
 -- the key is among those that pass a test
 among : (test : Written → Bool) (xs : List Written) (k : Written) → list_any (eq_by_cmp key_cmp k) (filter test xs) ≡ (test k && list_any (eq_by_cmp key_cmp k) xs)

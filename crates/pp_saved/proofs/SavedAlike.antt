@@ -32,7 +32,8 @@ use Rattle.pp_dump.proofs.SeenSums.{IsNatural}
 use Rattle.pp_dump.proofs.WholeStacks.{whole_left}
 use Rattle.pp_laws.proofs.Listed.{each_once_same}
 use Rattle.pp_laws.proofs.Sampling.{sum_where-weighed}
-use Rattle.pp_saved.specs.Figures.{Figures, figures, is_found_frame, mapped_file}
+use Rattle.pp_report.specs.Heads.{first_file}
+use Rattle.pp_saved.specs.Figures.{Figures, figures, is_found_frame}
 use Rattle.pp_saved.specs.Premises.{CanSave, unfiltered, own_alone}
 use Rattle.pp_saved.specs.Kept.{SavedFigures, SavedTexts, SavedColumns, SavedLasts}
 use Rattle.pp_saved.specs.Layouts.{top_layout, tree_layout, peek_layout, table_layout}
@@ -136,7 +137,7 @@ module _ (p : Profile) (f : Finders) (config : Config) (q : Profile) (can : CanS
       column = column;
       value_type = same_type p q column is.header.header i;
       total = total_is i;
-      file = (ap mapped_file is.is ∙ same_file p f config) i;
+      file = (ap first_file is.is ∙ same_file p f config) i;
       duration = (ap (λ (r : Profile). r.duration_nanos) is.is ∙ same_duration p f config can.settled) i;
       keys = keys_are i;
       finds = λ test k. same.frames (list_any (is_found_frame config test k)) i;

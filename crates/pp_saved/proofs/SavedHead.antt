@@ -19,7 +19,7 @@ use Rattle.pp_merge.proofs.RoundTrip.{IsText, text_again}
 use Rattle.pp_merge.proofs.WrittenValid.{texts_of_mappings}
 use Rattle.pp_restack.specs.Stacks.{cut_location, cut_text, patternless}
 use Rattle.pp_dump.specs.Saved.{saved_contents, saved}
-use Rattle.pp_saved.specs.Figures.{column_type, mapped_file}
+use Rattle.pp_report.specs.Heads.{column_type, first_file}
 use Rattle.pp_saved.proofs.CutSamples.{locations_each}
 
 -- The types are those of the profile.
@@ -45,7 +45,7 @@ abbrev file_in : List MappingText → List ℕ
 file_in ms = option_map_or (λ (m : MappingText). m.file) (slice_get ms 0) []
 
 -- of a profile that is written, the first mapping's file
-written_file : (c : Contents) → mapped_file (written c) ≡ file_in (mappings c)
+written_file : (c : Contents) → first_file (written c) ≡ file_in (mappings c)
 written_file c = by (mappings c) (texts_of_mappings c)
   where
     by : (ms : List MappingText) → AllByRecursion (λ m. AllByRecursion (IsText c) (m.file ∷ m.build_id ∷ [])) ms
@@ -70,13 +70,13 @@ module _ (p : Profile) (f : Finders) (config : Config) where
       ap (λ (ms : List Mapping). option_map (first_alike (all_mappings (p ∷ []))) (option_map (mapping_text p) (find (λ m. m.id == (cut_location p group).mapping_id) ms))) none
 
   -- The first mapping's file is that of the profile.
-  pub same_file : mapped_file (saved p f config) ≡ mapped_file p
+  pub same_file : first_file (saved p f config) ≡ first_file p
   same_file = written_file c ∙ by p.mapping refl
     where
       rest : List MappingText
       rest = filter_map (λ (l : LocationText). l.mapping) (locations c)
 
-      by : (ms : List Mapping) → p.mapping ≡ ms → file_in (mappings c) ≡ mapped_file p
+      by : (ms : List Mapping) → p.mapping ≡ ms → file_in (mappings c) ≡ first_file p
       by [] is =
           (λ i. file_in (distinct equal_mapping (option_to_list (slice_get (map (mapping_text p) (is i) ++ []) 0) ++ rest)))
           ∙ ap (λ (ms : List MappingText). file_in (distinct equal_mapping ms))

@@ -29,7 +29,8 @@ use Rattle.pp_merge.proofs.WrittenCompact.{compact_written}
 use Rattle.pp_restack.specs.Stacks.{by_place, cut_location, cut_text}
 use Rattle.pp_dump.specs.Saved.{cut_sample, cut_samples, saved_contents}
 use Rattle.pp_dump.proofs.WholeStacks.{all_shown, groups_located, none_dropped}
-use Rattle.pp_saved.specs.Kept.{IsLasting, SavedWhole}
+use Rattle.pp_report.specs.SavedText.{IsLasting}
+use Rattle.pp_saved.specs.Kept.{SavedWhole}
 use Rattle.pp_saved.specs.Premises.{unfiltered}
 
 module _ (p : Profile) (lasts : IsLasting p) (config : Config) where

@@ -1,21 +1,20 @@
 -- The figures of a report: all that the layouts of top, tree, peek and table read of a profile.
-use Rattle.std.specs.Prelude.{ℕ, ℤ, ◌&&◌, Bool, List, [], map, slice_get, Option, option_map}
+use Rattle.std.specs.Prelude.{ℕ, ℤ, ◌&&◌, Bool, List, Option, option_map}
 use Rattle.std.specs.List.{list_any}
-use Rattle.std.specs.Option.{option_and_then, option_map_or}
 use Rattle.std.specs.Ordering.{eq_by_cmp}
 use Rattle.pp_model.specs.declared.config.Config.{Config}
 use Rattle.pp_model.specs.declared.profile.Profile.{Profile}
 use Rattle.pp_model.specs.Finders.{Finders}
-use Rattle.pp_model.specs.Lookup.{text_of}
 use Rattle.pp_model.specs.FrameTexts.{Written}
 use Rattle.pp_grain.specs.Keys.{key_cmp, key_texts}
-use Rattle.pp_share.specs.Header.{TypeText, type_text}
+use Rattle.pp_share.specs.Header.{TypeText}
 use Rattle.pp_count.specs.Column.{column_of}
 use Rattle.pp_count.specs.Sums.{Seen, all_keys, flat, cum}
 use Rattle.pp_count.specs.EdgeSums.{edge_occurs, edge_sum}
 use Rattle.pp_count.specs.Counts.{total_of}
 use Rattle.pp_count.specs.Counted.{report_samples, report_frames}
 use Rattle.pp_count.specs.Ranks.{each_once}
+use Rattle.pp_report.specs.Heads.{column_type, first_file}
 
 -- What a report says of a profile by one column.
 pub record Figures : Type 0 where
@@ -39,14 +38,6 @@ pub record Figures : Type 0 where
   pub occurs_pair : (Written → Bool) → Written → Written → Bool
   pub sum_of_pair : (Written → Bool) → Written → Written → ℤ
 
--- the type of the column, written out
-abbrev pub column_type : Profile → Option ℕ → Option TypeText
-column_type p column = option_and_then (slice_get (map (type_text p) p.sample_type)) column
-
--- the path of the first mapping's file, and nothing where there is no mapping
-abbrev pub mapped_file : Profile → List ℕ
-mapped_file p = option_map_or (λ m. text_of p m.file) (slice_get p.mapping 0) []
-
 -- the frame's function text passes the test, and the key is the frame's
 abbrev pub is_found_frame : Config → (List ℕ → Bool) → Written → Written → Bool
 is_found_frame config test k w =
@@ -60,7 +51,7 @@ figures p f config column =
       column = column;
       value_type = column_type p column;
       total = total_of p f config column;
-      file = mapped_file p;
+      file = first_file p;
       duration = p.duration_nanos;
       keys = each_once key_cmp (all_keys samples);
       finds = λ test k.

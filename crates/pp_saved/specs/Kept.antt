@@ -5,7 +5,6 @@ use Rattle.pp_model.specs.declared.config.Config.{Config}
 use Rattle.pp_model.specs.declared.profile.Profile.{Profile}
 use Rattle.pp_model.specs.Conditions.{IsColumnOf}
 use Rattle.pp_model.specs.Finders.{Finders, no_finders}
-use Rattle.pp_model.specs.Lookup.{text_of}
 use Rattle.pp_units.specs.Head.{Facts}
 use Rattle.pp_model.specs.Rules.{NoRuleFails}
 use Rattle.pp_model.specs.Sizes.{absolute_sum}
@@ -18,6 +17,7 @@ use Rattle.pp_tree.specs.Tree.{tree_text}
 use Rattle.pp_tree.specs.Peek.{peek_text}
 use Rattle.pp_export.specs.Folded.{folded_text}
 use Rattle.pp_export.specs.Table.{exact_table}
+use Rattle.pp_report.specs.SavedText.{IsLasting}
 use Rattle.pp_saved.specs.Figures.{figures}
 use Rattle.pp_saved.specs.Premises.{CanSave, unfiltered, own_alone}
 
@@ -55,14 +55,7 @@ SavedColumns =
     (p : Profile) (f : Finders) (config : Config) (text : List ℕ)
     → CanSave p config → column_of (saved p f config) text ≡ column_of p text
 
--- The profile keeps the table rules, stays as it is when it is merged alone, and has no pattern of its own.
-pub record IsLasting (q : Profile) : Type 0 where
-  pub valid : NoRuleFails q
-  pub settled : merged q [] ≡ q
-  pub drop : text_of q q.drop_frames ≡ []
-  pub keep : text_of q q.keep_frames ≡ []
-
--- So it is with each saved profile, under three premises on the profile that it is saved from. No table rule fails
+-- A saved profile lasts, under three premises on the profile that it is saved from. No table rule fails
 -- there, its mappings start below 2^64, and it stays as it is when it is merged alone.
 abbrev pub SavedLasts : Type 0
 SavedLasts =

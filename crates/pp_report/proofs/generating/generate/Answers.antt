@@ -6,10 +6,6 @@ use Rattle.pp_desk.specs.Went.{Went}
 use Rattle.pp_report.specs.declared.refusal.ReportRefusal.{ReportRefusal}
 use Rattle.pp_report.specs.Prepared.{Settled, prepare, answered, settled_by, showing}
 use Rattle.pp_report.specs.Reports.{finish}
-use Rattle.pp_model.specs.declared.report.Report.{Report}
-use Rattle.pp_report.specs.SavedText.{IsProtoBy, IsSavedText}
-use Rattle.pp_report.specs.Tagged.{basis_of}
-use Rattle.pp_report.proofs.SavedTextLemmas.{on_text, saved_text}
 use Rattle.pp_report.proofs.GeneratingLemmas.{added_none, added_some, none_front, report_stopped, report_refused, report_wants, report_finished}
 use Rattle.pp_report.proofs.generating.generate.Goals as goal
 
@@ -50,13 +46,3 @@ returns-in-Ok-extend-clause-went g c =
     _ c.finish.result
     (subst (λ base. Went (g.D.Desk.world c.prepare.new.desk) (g.D.Desk.world c.finish.new.desk) (finish g.D.Desk.finds c.args.l.now base c.args.report.now c.args.config.now (showing c.in-Ok.prepared.shows)) c.finish.result)
     (IfOk-at_ok _ c.in-Ok.is c.in_ok-refusal.ensures.base) c.finish.ensures.went))
-
--- the text of a proto report
-pub returns-in-Ok-extend-clause-saved : goal.returns-in-Ok-extend-clause-saved
-returns-in-Ok-extend-clause-saved g c proto keyless =
-    let finds = g.D.Desk.finds in
-    let l = c.args.l.now in
-    let config = c.args.config.now in
-    on_text (IsProtoBy finds (basis_of c.args.report.now l config) config) (IsSavedText finds l config) c.finish.result
-    (λ text is. saved_text finds l config text c.requires keyless (subst (λ (r : Report). IsProtoBy finds (basis_of r l config) config text) proto is))
-    (c.finish.ensures.saved proto)

@@ -1,6 +1,6 @@
 use Rattle.std.proofs.Common.{subst}
 use Rattle.pp_model.specs.Rules.{NoRuleFails}
-use Rattle.pp_report.proofs.SavedTextLemmas.{proto_of}
+use Rattle.pp_report.proofs.ProtoLemmas.{proto_of}
 use Rattle.pp_report.proofs.texts.proto.Goals as goal
 
 -- the text was written of what was saved

@@ -1,4 +1,4 @@
-use Rattle.pp_report.proofs.SavedTextLemmas.{lasting}
+use Rattle.pp_report.proofs.ProtoLemmas.{lasting}
 use Rattle.pp_report.proofs.texts.saved.Goals as goal
 
 -- the numbers of the samples that were kept rise

@@ -1,0 +1,13 @@
+mod LineLemmas
+mod Lasting
+mod RegionLemmas
+mod TellsFitting
+mod MergedTells
+mod LoadedLemmas
+mod SavedFits
+mod AlikeLemmas
+mod ReportSessions
+mod SavedFileLemmas
+mod SourcesLoaded
+mod SameReads
+mod SavedGroupLemmas

@@ -1,0 +1,5 @@
+use Rattle.pp_alike.proofs.SavedFileLemmas.{saved_files_save_alike}
+use Rattle.pp_alike.proofs.files.saved_files_save_alike.Goals as goal
+
+pub returns : goal.returns
+returns c = saved_files_save_alike

@@ -1,5 +1,0 @@
-use Rattle.pp_engine.proofs.SavedGroupLemmas.{saved_groups_load_as_one}
-use Rattle.pp_engine.proofs.groups.saved_groups_load_as_one.Goals as goal
-
-pub returns : goal.returns
-returns c = saved_groups_load_as_one

@@ -1,5 +1,0 @@
-use Rattle.pp_engine.proofs.SavedFileLemmas.{saved_files_report_alike}
-use Rattle.pp_engine.proofs.laws.saved_files_report_alike.Goals as goal
-
-pub returns : goal.returns
-returns c = saved_files_report_alike
