@@ -2,18 +2,17 @@
 use Rattle.std.proofs.Common.{◌≡◌, ℕ, List, refl, sym, subst}
 use Rattle.std.specs.Prelude.{Option, Result, Ok, Err}
 use Rattle.pp_desk.specs.declared.stop.Stop.{Stop}
-use Rattle.pp_desk.specs.Script.{Give, write_err}
+use Rattle.pp_desk.specs.Script.{Give}
 use Rattle.pp_desk.specs.Went.{Went}
 use Rattle.pp_desk.specs.World.{World}
-use Rattle.pp_desk.proofs.Going.{goes_give, goes_second, stops_first}
+use Rattle.pp_desk.proofs.Going.{goes_give, goes_second}
 use Rattle.pp_model.specs.declared.config.Config.{Config}
 use Rattle.pp_model.specs.declared.loaded.Loaded.{Loaded}
 use Rattle.pp_model.specs.declared.report.BaseKind.{BaseKind}
 use Rattle.pp_model.specs.declared.report.Report.{Report}
 use Rattle.pp_pattern.specs.Report.{Finds}
 use Rattle.pp_report.specs.declared.refusal.ReportRefusal.{ReportRefusal}
-use Rattle.pp_report.specs.Prepared.{Settled, prepare}
-use Rattle.pp_report.specs.Reports.{finish}
+use Rattle.pp_report.specs.Prepared.{prepare}
 use Rattle.pp_engine.specs.declared.ending.Cause.{Cause}
 use Rattle.pp_engine.specs.Reporting.{end_report, hand_out_made, note_and_finish, noted_report, report_on, report_once}
 use Rattle.pp_engine.specs.Shell.{obey, going_on}
@@ -26,28 +25,7 @@ module _ (finds : Finds) (l : Loaded) (base : Option BaseKind) (report : Report)
   unfolding noted_report note_and_finish
   refused_early refusal went = goes_give a b (prepare finds l report config) (note_and_finish finds l base report config) (Err refusal) (Err refusal) went refl
 
-  module _ (settled : Settled) (went : Went a b (prepare finds l report config) (Ok (Ok settled))) (c : World) where
-    -- its notes could not be told
-    pub notes_stopped : (s : Stop) → Went b c (write_err settled.notes) (Err s) → Went a c (noted_report finds l base report config) (Err s)
-    unfolding noted_report note_and_finish
-    notes_stopped s notes =
-        goes_second a b c (prepare finds l report config) (note_and_finish finds l base report config) (Ok settled) (Err s) went
-        (stops_first b c (write_err settled.notes) (λ told. finish finds l base report config settled.showing) s notes)
-
-    -- they were, and its text went some way
-    pub report_finished : (told : Unit {0}) → Went b c (write_err settled.notes) (Ok told) → (d : World) (r : Result (Result (List ℕ) ReportRefusal) Stop)
-        → Went c d (finish finds l base report config settled.showing) r → Went a d (noted_report finds l base report config) r
-    unfolding noted_report note_and_finish
-    report_finished told notes d r text =
-        goes_second a b d (prepare finds l report config) (note_and_finish finds l base report config) (Ok settled) r went
-        (goes_second b c d (write_err settled.notes) (λ told. finish finds l base report config settled.showing) told r notes text)
-
-  -- the report that the words ask for was stopped
-  pub once_stopped : (s : Stop) → Went a b (noted_report finds l base report config) (Err s) → Went a b (report_once finds l base report config) (Err s)
-  unfolding report_once
-  once_stopped s went = stops_first a b (noted_report finds l base report config) (end_report report) s went
-
-  -- or it came to a text or a refusal, and that was told
+  -- the report that the words ask for came to a text or a refusal, and that was told
   pub once_ended : (made : Result (List ℕ) ReportRefusal) → Went a b (noted_report finds l base report config) (Ok made) → (c : World) (r : Result Cause Stop)
       → Went b c (end_report report made) r → Went a c (report_once finds l base report config) r
   unfolding report_once
