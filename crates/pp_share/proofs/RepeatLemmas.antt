@@ -215,49 +215,7 @@ module _ (by : NewIds) (samples : List Sample) (hashes : List ℕ) (class : ℕ)
       (sym (stack_ties by x.sample.now y.sample.now) ∙ (λ j. same_stack (own_stack x is_x j) (own_stack y is_y j)) ∙ same) in
       (λ j. ordering_then ((ap (λ h. nat_cmp h y.hash) hash ∙ tied_itself nat_cmp_total y.hash) j) (level j))
 
-  -- What is found by hashes alone, where the samples of each pair are equal.
-  module _ (placed : List Placed) (repeats : List Repeat) (all_placed : All (IsPlaced hashes samples class) placed)
-      (found : FindsRepeats hash_cmp placed (length placed) repeats) where
-    is_one : (one : Placed) → Contains placed one → IsPlaced hashes samples class one
-    is_one one has = All-contains (IsPlaced hashes samples class) placed one all_placed has
-
-    -- each names two of the samples
-    pub pairs_found : All (IsPair (length samples)) repeats
-    pairs_found =
-        All-weaker (IsRepeated hash_cmp placed) (IsPair (length samples))
-        (λ r is. record {
-          earlier = is.earlier;
-          within = subst (λ k. k < length samples) (sym is.later) (is_one is.other is.has_other).within;
-        })
-        repeats found.repeated
-
-    still_least : (one : Placed) → IsLeast hash_cmp placed one → IsLeast (hash_stack_cmp by) placed one
-    still_least one least k d within level =
-        least k d within (first_level (hash_cmp (get_or placed k d) one) (stack_cmp by (get_or placed k d).sample.now one.sample.now) level)
-
-    pub equal_found : All (AreEqual by samples) repeats → FindsRepeats (hash_stack_cmp by) placed (length placed) repeats
-    equal_found equal = record {
-      repeated = λ i d within.
-          let r : Repeat = get_or repeats i d in
-          let is = found.repeated i d within in
-          record {
-            one = is.one;
-            other = is.other;
-            has = is.has;
-            has_other = is.has_other;
-            first = is.first;
-            later = is.later;
-            earlier = is.earlier;
-            kind =
-                of_kind is.one is.other (is_one is.one is.has) (is_one is.other is.has_other)
-                ((λ j. same_stack (stack_at by samples (sym is.first j)) (stack_at by samples (sym is.later j))) ∙ equal i d within);
-            least = still_least is.one is.least;
-          };
-      others = λ k d within not_later. still_least (get_or placed k d) (found.others k d within not_later);
-    }
-
-  module _ (first placed : List Placed) (repeats : List Repeat) (are : ArePlaced hashes samples class (length samples) first)
-      (moved : IsPermutation first placed) (found : FindsRepeats (hash_stack_cmp by) placed (length placed) repeats) where
+  module _ (first placed : List Placed) (are : ArePlaced hashes samples class (length samples) first) (moved : IsPermutation first placed) where
     all_placed : All (IsPlaced hashes samples class) placed
     all_placed = All-permutation (IsPlaced hashes samples class) first placed moved are.are
 
@@ -280,28 +238,67 @@ module _ (by : NewIds) (samples : List Sample) (hashes : List ℕ) (class : ℕ)
             let at : x.place ≡ k = eqb-true x.place k here in
             absurd (omega (arith, below, at, lowest (of_kind x y is_x is_y (ap (λ i. same_stack (stack_at by samples i) (stack_at by samples y.place)) at ∙ same))))
 
-    is_repeat : (r : Repeat) → IsRepeated (hash_stack_cmp by) placed r → IsRepeat by samples r
-    is_repeat r is =
-        let is_one = All-contains (IsPlaced hashes samples class) placed is.one all_placed is.has in
-        let is_other = All-contains (IsPlaced hashes samples class) placed is.other all_placed is.has_other in
-        record {
-          earlier = is.earlier;
-          within = subst (λ k. k < length samples) (sym is.later) is_other.within;
-          same =
-              (λ j. same_stack (stack_at by samples (is.first j)) (stack_at by samples (is.later j))) ∙ alike is.one is.other is_one is_other is.kind;
-          first = subst (IsFirst by samples) (sym is.first) (is_first is.one is_one is.least);
-        }
+    is_one : (one : Placed) → Contains placed one → IsPlaced hashes samples class one
+    is_one one has = All-contains (IsPlaced hashes samples class) placed one all_placed has
 
-    pub class_found : FindsOfClass by samples class repeats
-    class_found = record {
+    is_repeat : (r : Repeat) → IsRepeated (hash_stack_cmp by) placed r → IsRepeat by samples r
+    is_repeat r is = record {
+      earlier = is.earlier;
+      within = subst (λ k. k < length samples) (sym is.later) (is_one is.other is.has_other).within;
+      same =
+          (λ j. same_stack (stack_at by samples (is.first j)) (stack_at by samples (is.later j)))
+          ∙ alike is.one is.other (is_one is.one is.has) (is_one is.other is.has_other) is.kind;
+      first = subst (IsFirst by samples) (sym is.first) (is_first is.one (is_one is.one is.has) is.least);
+    }
+
+    pub class_found : (repeats : List Repeat) → FindsRepeats (hash_stack_cmp by) placed (length placed) repeats → FindsOfClass by samples class repeats
+    class_found repeats found = record {
       repeated = All-weaker (IsRepeated (hash_stack_cmp by) placed) (IsRepeat by samples) is_repeat repeats found.repeated;
       others = λ place within of_class not_later.
           let (x, here, (is_x, least)) =
-          some_item (λ (one : Placed). one.place == place) (λ (one : Placed). IsPlaced hashes samples class one × (is_later repeats one.place ≡ false → IsLeast (hash_stack_cmp by) placed one)) placed
+          some_item (λ (one : Placed). one.place == place)
+          (λ (one : Placed). IsPlaced hashes samples class one × (is_later repeats one.place ≡ false → IsLeast (hash_stack_cmp by) placed one)) placed
           (by_recursion _ placed (λ i d inside. (all_placed i d inside, found.others i d inside))) (stands place within (ap class_of (hash_at place within) ∙ of_class)) in
           let at : x.place ≡ place = eqb-true x.place place here in
           subst (IsFirst by samples) at (is_first x is_x (least (ap (is_later repeats) at ∙ not_later)));
     }
+
+    -- what has the least place among those of its hash has it among those of its kind
+    least_too : (one : Placed) → IsLeast hash_cmp placed one → IsLeast (hash_stack_cmp by) placed one
+    least_too one least k d within level =
+        least k d within (first_level (hash_cmp (get_or placed k d) one) (stack_cmp by (get_or placed k d).sample.now one.sample.now) level)
+
+    -- what is found by hashes alone
+    module _ (repeats : List Repeat) (found : FindsRepeats hash_cmp placed (length placed) repeats) where
+      pub pairs_found : All (IsPair (length samples)) repeats
+      pairs_found =
+          All-weaker (IsRepeated hash_cmp placed) (IsPair (length samples))
+          (λ r is. record {
+            earlier = is.earlier;
+            within = subst (λ k. k < length samples) (sym is.later) (is_one is.other is.has_other).within;
+          })
+          repeats found.repeated
+
+      pub equal_found : All (AreEqual by samples) repeats → FindsOfClass by samples class repeats
+      equal_found equal =
+          class_found repeats (record {
+            repeated = λ i d within.
+                let is = found.repeated i d within in
+                record {
+                  one = is.one;
+                  other = is.other;
+                  has = is.has;
+                  has_other = is.has_other;
+                  first = is.first;
+                  later = is.later;
+                  earlier = is.earlier;
+                  kind =
+                      of_kind is.one is.other (is_one is.one is.has) (is_one is.other is.has_other)
+                      ((λ j. same_stack (stack_at by samples (sym is.first j)) (stack_at by samples (sym is.later j))) ∙ equal i d within);
+                  least = least_too is.one is.least;
+                };
+            others = λ k d within not_later. least_too (get_or placed k d) (found.others k d within not_later);
+          })
 
 -- one class more
 pub class_more : (by : NewIds) (samples : List Sample) (class : ℕ) (all part now : List Repeat) → FindsBelow by samples class all → FindsOfClass by samples class part → now ≡ all ++ part

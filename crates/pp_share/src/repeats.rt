@@ -174,6 +174,7 @@ fn of_class<'a>(
 }
 
 // By what samples are of one kind.
+#[derive(Clone, Copy)]
 enum KindBy<'a> {
     // By their hashes. No sample is looked at.
     Hash,
@@ -201,9 +202,12 @@ fn placed_order(kind: &KindBy, a: &Placed, b: &Placed) -> Ordering
 fn kind_order(kind: &KindBy, a: &Placed, b: &Placed) -> Ordering
     ensures { result ≡ kind_cmp kind.now a.now b.now }
 {
-    match (kind, a.hash.cmp(&b.hash)) {
-        (KindBy::Stack(by), Ordering::Equal) => stack_order(by, a.sample, b.sample),
-        (_, other) => other,
+    match kind {
+        KindBy::Hash => a.hash.cmp(&b.hash),
+        KindBy::Stack(by) => match a.hash.cmp(&b.hash) {
+            Ordering::Equal => stack_order(by, a.sample, b.sample),
+            other => other,
+        },
     }
 }
 

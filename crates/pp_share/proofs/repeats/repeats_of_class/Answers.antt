@@ -1,10 +1,4 @@
 use Rattle.std.proofs.Common.{List, length, subst}
-use Rattle.std.proofs.lemmas.Result.{IfOk-weaker}
-use Rattle.pp_share.specs.declared.repeats.Placed.{Placed}
-use Rattle.pp_share.specs.Renumbered.{new_ids}
-use Rattle.pp_share.specs.Repeats.{FindsRepeats}
-use Rattle.pp_share.specs.StackOrder.{hash_stack_cmp}
-use Rattle.pp_share.proofs.RepeatLemmas.{class_found}
 use Rattle.pp_share.proofs.repeats.repeats_of_class.Goals as goal
 
 pub are_equal-requires : goal.are_equal-requires
