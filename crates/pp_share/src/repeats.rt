@@ -137,14 +137,11 @@ fn repeats_of_class(
     ensures { IfOk result (λ repeats. FindsOfClass (new_ids by.now) samples.now class repeats.items) }
 {
     let mut placed = of_class(alloc, hashes, samples, class)?;
-    sort_placed(&KindBy::Hash, &mut placed);
-    let mut repeats = repeats_in(alloc, &KindBy::Hash, &placed)?;
-    sort_repeats(&mut repeats);
+    let repeats = sort_out(alloc, &KindBy::Hash, &mut placed)?;
     if are_equal(by, samples, &repeats) {
         return Ok(repeats);
     }
-    sort_placed(&KindBy::Stack(by), &mut placed);
-    repeats_in(alloc, &KindBy::Stack(by), &placed)
+    sort_out(alloc, &KindBy::Stack(by), &mut placed)
 }
 
 // The samples of the class, in order.
@@ -180,6 +177,18 @@ enum KindBy<'a> {
     Hash,
     // By their hashes, and by what they are with their new ids.
     Stack(&'a Renumbering),
+}
+
+// Sorts the samples. The answer are those that follow one of their kind, in the order of their places.
+fn sort_out(alloc: Global, kind: &KindBy, placed: &mut Vec<Placed>) -> Result<Vec<Repeat>, Memory>
+    ensures same { IsPermutation placed.old.items placed.new.items }
+    ensures found { IfOk result (λ repeats.
+        FindsRepeats (kind_cmp kind.now) placed.new.items (length placed.new.items) repeats.items) }
+{
+    sort_placed(kind, placed);
+    let mut repeats = repeats_in(alloc, kind, placed.as_slice())?;
+    sort_repeats(&mut repeats);
+    Ok(repeats)
 }
 
 // Sorts the samples by kind, and those of one kind by place.
