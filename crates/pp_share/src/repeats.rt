@@ -124,8 +124,8 @@ impl Job for Classes<'_> {
     }
 }
 
-// The samples of the class that are equal to earlier ones. Those of one hash are mostly equal: each is compared with the
-// first of them. Where one differs, the samples are sorted.
+// The samples of the class that are equal to earlier ones. Those of one hash are mostly equal: each is compared with
+// the first of them. Where one differs, all are sorted by what they are.
 fn repeats_of_class(
     alloc: Global,
     by: &Renumbering,
