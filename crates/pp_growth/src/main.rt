@@ -15,10 +15,9 @@ use std::thread::Threads;
 
 fn main(rt: HostRuntime) -> Result<()> {
     let alloc = rt.alloc();
-    let mut matcher = RegexMatcher::new(alloc);
     let old = Text::from_vec(fs::read(&rt, "monday.pb")?);
     let new = Text::from_vec(fs::read(&rt, "tuesday.pb")?);
-    let (text, saved) = days(&rt, alloc, old, new, &mut matcher)?;
+    let (text, saved) = days(&rt, alloc, old, new, &mut Config::standard(alloc)?)?;
     fs::write(&rt, "parser.pb", saved.as_slice())?;
     Ok(rt.stdout().write_all(text.as_slice())?)
 }
@@ -29,33 +28,45 @@ fn days<R: Threads + Sync + RandomSource>(
     alloc: Global,
     old: Text,
     new: Text,
-    matcher: &mut RegexMatcher,
+    config: &mut Config,
 ) -> Result<(Text, Text)> {
-    let old = load(rt, alloc, old, matcher)?;
-    let new = load(rt, alloc, new, matcher)?;
-    let mut out = Text::new(alloc);
-    let mut config = Config::standard(alloc)?;
-    for column in 0..new.profile().sample_type.len() {
-        let column = format!(in alloc; "{column}")?;
-        config.sample_index = Text::from_slice(alloc, column.as_bytes())?;
-        let before = figures(rt, alloc, &old, &config, matcher)?;
-        let after = figures(rt, alloc, &new, &config, matcher)?;
-        put_column(alloc, &before, &after, &mut out)?;
-    }
+    let mut matcher = RegexMatcher::new(alloc);
+    let old = load(rt, alloc, old, &mut matcher)?;
+    let new = load(rt, alloc, new, &mut matcher)?;
+    let mut out = columns(rt, alloc, &old, &new, config)?;
 
     // Both days as one profile, whose samples carry their days.
     let mut both = List::new(alloc);
     both.push(set_label(alloc, old.into_valid(), b"day", b"monday")?)?;
     both.push(set_label(alloc, new.into_valid(), b"day", b"tuesday")?)?;
-    let both = merge(rt, alloc, both, matcher)?;
+    let both = merge(rt, alloc, both, &mut matcher)?;
 
     // What goes through the parser is saved, and shown by days.
     config.focus = Text::from_slice(alloc, b"^json[.]")?;
-    let saved = report(rt, alloc, &both, &Report::Proto, &config, matcher)?;
+    let saved = report(rt, alloc, &both, &Report::Proto, config, &mut matcher)?;
     config.tagroot = Text::from_slice(alloc, b"day")?;
-    let top = report(rt, alloc, &both, &Report::Top, &config, matcher)?;
-    out.append(top)?;
+    out.append(report(rt, alloc, &both, &Report::Top, config, &mut matcher)?)?;
     Ok((out, saved))
+}
+
+// For each column its first functions, and those that grew.
+fn columns<R: Threads + Sync>(
+    rt: &R,
+    alloc: Global,
+    old: &Countable,
+    new: &Countable,
+    config: &mut Config,
+) -> Result<Text> {
+    let mut out = Text::new(alloc);
+    let mut matcher = RegexMatcher::new(alloc);
+    for column in 0..new.profile().sample_type.len() {
+        let column = format!(in alloc; "{column}")?;
+        config.sample_index = Text::from_slice(alloc, column.as_bytes())?;
+        let before = figures(rt, alloc, old, config, &mut matcher)?;
+        let after = figures(rt, alloc, new, config, &mut matcher)?;
+        put_column(alloc, &before, &after, &mut out)?;
+    }
+    Ok(out)
 }
 
 // The first three functions of the new day, and those whose cum grew by more than a tenth.
@@ -76,10 +87,8 @@ fn put_column(alloc: Global, old: &FigureTable, new: &FigureTable, out: &mut Tex
 
 fn cum_of(figures: &FigureTable, name: &[u8]) -> i64 {
     let mut rows = figures.rows.as_slice().iter();
-    match rows.find(|row| row.name.as_slice() == name) {
-        Some(row) => row.cum,
-        None => 0,
-    }
+    let row = rows.find(|row| row.name.as_slice() == name);
+    row.map_or(0, |row| row.cum)
 }
 
 fn put_row(alloc: Global, row: &Figure, out: &mut Text) -> Result<()> {
