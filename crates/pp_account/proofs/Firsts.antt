@@ -74,7 +74,7 @@ tagged true false frames (Some slot) is = is
 -- The filters leave exactly the samples that none of them is the first to drop.
 pub left_or_dropped : (p : Profile) (f : Finders) (config : Config) (s : Sample) → is_some (filtered_stack p f config s) ≡ not (is_some (first_filter p f config s))
 left_or_dropped p f config s =
-    tagged (selects_or true p (filter_in_force config.tagfocus) f.tagfocus s) (selects_or false p (filter_in_force config.tagignore) f.tagignore s)
+    tagged (selects_or true p (filter_in_force config.filtering.tagfocus) f.tagfocus s) (selects_or false p (filter_in_force config.filtering.tagignore) f.tagignore s)
     (frames_of_sample p f s) (first_of_stack (written p) f (load_pruned (written p) f (stack_of p s)))
     (stack_left (written p) f (load_pruned (written p) f (stack_of p s)))
 

@@ -30,13 +30,13 @@ dropping =
 
 -- the value of the filter's variable as it stands
 abbrev pub filter_text : Config → Slot → List ℕ
-filter_text config slots.Ignore = config.ignore
-filter_text config slots.Focus = config.focus
-filter_text config slots.Hide = config.hide
-filter_text config slots.Show = config.show
-filter_text config slots.ShowFrom = config.show_from
-filter_text config slots.TagFocus = config.tagfocus
-filter_text config slots.TagIgnore = config.tagignore
+filter_text config slots.Ignore = config.filtering.ignore
+filter_text config slots.Focus = config.filtering.focus
+filter_text config slots.Hide = config.filtering.hide
+filter_text config slots.Show = config.filtering.show
+filter_text config slots.ShowFrom = config.filtering.show_from
+filter_text config slots.TagFocus = config.filtering.tagfocus
+filter_text config slots.TagIgnore = config.filtering.tagignore
 filter_text config _ = []
 
 -- the name of a filter's row: its variable and the value of that

@@ -38,8 +38,8 @@ first_of_stack told f stack =
 -- The tag filter that is the first to drop the sample: tagfocus where it doesn't select it, tagignore where it does.
 abbrev pub first_of_tags : Profile → Finders → Config → Sample → Option Slot
 first_of_tags p f config s =
-    if not (selects_or true p (filter_in_force config.tagfocus) f.tagfocus s) then Some slots.TagFocus
-    else (if selects_or false p (filter_in_force config.tagignore) f.tagignore s then Some slots.TagIgnore
+    if not (selects_or true p (filter_in_force config.filtering.tagfocus) f.tagfocus s) then Some slots.TagFocus
+    else (if selects_or false p (filter_in_force config.filtering.tagignore) f.tagignore s then Some slots.TagIgnore
     else None)
 
 -- the first, and where there is none the second
@@ -72,6 +72,6 @@ is_in_force f config slots.Focus = is_some f.focus
 is_in_force f config slots.Hide = is_some f.hide
 is_in_force f config slots.Show = is_some f.show
 is_in_force f config slots.ShowFrom = is_some f.show_from
-is_in_force f config slots.TagFocus = is_some (filter_in_force config.tagfocus)
-is_in_force f config slots.TagIgnore = is_some (filter_in_force config.tagignore)
+is_in_force f config slots.TagFocus = is_some (filter_in_force config.filtering.tagfocus)
+is_in_force f config slots.TagIgnore = is_some (filter_in_force config.filtering.tagignore)
 is_in_force f config _ = false

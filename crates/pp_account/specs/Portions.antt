@@ -21,7 +21,7 @@ use Rattle.pp_account.specs.First.{first_filter, is_filter}
 abbrev pub portion_of : Config → Option ℕ → List Sample → Portion
 portion_of config column samples = record {
   count = length samples;
-  value = selected_all column config.divide_by samples;
+  value = selected_all column config.presentation.divide_by samples;
 }
 
 -- the samples that this filter is the first to drop

@@ -52,7 +52,7 @@ fn survey_nodes(alloc: Global, survey: &Survey<'_>, limit: u32) -> Result<NodePo
         alloc,
         counted,
         ranked.order.as_slice(),
-        config.nodefraction,
+        config.presentation.nodefraction,
         limit,
     )
 }

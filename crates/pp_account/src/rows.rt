@@ -126,13 +126,13 @@ fn filter_text(config: &Config, slot: Slot) -> &[u8]
     ensures { result.now ≡ filter_text config.now slot }
 {
     match slot {
-        Slot::Ignore => config.ignore.as_slice(),
-        Slot::Focus => config.focus.as_slice(),
-        Slot::Hide => config.hide.as_slice(),
-        Slot::Show => config.show.as_slice(),
-        Slot::ShowFrom => config.show_from.as_slice(),
-        Slot::TagFocus => config.tagfocus.as_slice(),
-        Slot::TagIgnore => config.tagignore.as_slice(),
+        Slot::Ignore => config.filtering.ignore.as_slice(),
+        Slot::Focus => config.filtering.focus.as_slice(),
+        Slot::Hide => config.filtering.hide.as_slice(),
+        Slot::Show => config.filtering.show.as_slice(),
+        Slot::ShowFrom => config.filtering.show_from.as_slice(),
+        Slot::TagFocus => config.filtering.tagfocus.as_slice(),
+        Slot::TagIgnore => config.filtering.tagignore.as_slice(),
         Slot::PruneFrom | Slot::TagShow | Slot::TagHide | Slot::Own => b"",
     }
 }

@@ -80,9 +80,9 @@ fn add_sample(
     ensures { let w = scope.now in (f : Finders) → HoldsFilters w.l.now w.v.now w.config.now f →
         IfOk result (λ _. portions.new ≡ with_sample (first_filter w.l.now.profile f w.config.now s.now)
         (is_bare w.l.now.profile f w.config.now w.column s.now)
-        (selected w.column w.config.now.divide_by s.now) portions.old) }
+        (selected w.column w.config.now.presentation.divide_by s.now) portions.old) }
 {
-    let value = selected(scope.l, s, scope.column, scope.config.divide_by);
+    let value = selected(scope.l, s, scope.column, scope.config.presentation.divide_by);
     let is_kept = see(scope, s, &mut room.stack, &mut room.keys)?;
     let filter = filter_unless(scope, s, is_kept, &mut room.stack)?;
     portions.add(filter, is_bare(is_kept, value, &room.keys), value);

@@ -58,8 +58,8 @@ module _ (keep : Kept) (p : Profile) (f : Finders) (config : Config) (column : O
       → option_map (framed_with kept config column s) o ≡ option_map (renamed (left_of_frame keep)) (option_map (framed_with p config column s) o)
   stack_left s None each = refl
   stack_left s (Some stack) each = λ i. Some (record {
-    value = selected column config.divide_by s;
-    keys = ((λ j. map (λ x. each x j) (counted_frames config.noinlines stack)) ∙ sym (map_twice (left_of_frame keep) (written p) (counted_frames config.noinlines stack))) i;
+    value = selected column config.presentation.divide_by s;
+    keys = ((λ j. map (λ x. each x j) (counted_frames config.grouping.noinlines stack)) ∙ sym (map_twice (left_of_frame keep) (written p) (counted_frames config.grouping.noinlines stack))) i;
   })
 
   -- With inlined frames patterns find the same.
@@ -113,7 +113,7 @@ module _ (keep : Kept) (p : Profile) (f : Finders) (config : Config) (column : O
       all : Matches f.focus → Matches f.ignore → Matches f.hide → Matches f.show → Matches f.show_from → matches_of kept f config ≡ matches_of p f config
       all focus ignore hide show show_from = λ i.
           focus i ∷ ignore i ∷ hide i ∷ show i ∷ show_from i
-          ∷ tag_match p config.tagfocus f.tagfocus p.sample ∷ tag_match p config.tagignore f.tagignore p.sample
+          ∷ tag_match p config.filtering.tagfocus f.tagfocus p.sample ∷ tag_match p config.filtering.tagignore f.tagignore p.sample
           ∷ true ∷ key_match p f.tagshow p.sample ∷ key_match p f.taghide p.sample ∷ []
 
       by : (b : Bool) → keep.inline_frames ≡ b → patterns_stay b keep p f → matches_of kept f config ≡ matches_of p f config
@@ -136,7 +136,7 @@ module _ (keep : Kept) (p : Profile) (f : Finders) (config : Config) (column : O
         some = ap is_some after ∙ by_tags (passes_tags p f config s) ∙ sym (ap is_some before);
         frames =
             ap (option_map (framed_with kept config column s)) after
-            ∙ framed_tags (passes_tags p f config s) (counted_left keep p empty config.noinlines 0 s.location_id counted)
+            ∙ framed_tags (passes_tags p f config s) (counted_left keep p empty config.grouping.noinlines 0 s.location_id counted)
             ∙ sym (ap (λ o. option_map (renamed (left_of_frame keep)) (option_map (framed_with p config column s) o)) before);
       }
     where
@@ -145,10 +145,10 @@ module _ (keep : Kept) (p : Profile) (f : Finders) (config : Config) (column : O
       by_tags false = refl
 
       framed_tags : (b : Bool)
-          → map (written kept) (counted_frames config.noinlines (stack_of kept s)) ≡ map (left_of_frame keep) (map (written p) (counted_frames config.noinlines (stack_of p s)))
+          → map (written kept) (counted_frames config.grouping.noinlines (stack_of kept s)) ≡ map (left_of_frame keep) (map (written p) (counted_frames config.grouping.noinlines (stack_of p s)))
           → option_map (framed_with kept config column s) (cond b (Some (stack_of kept s)) None)
           ≡ option_map (renamed (left_of_frame keep)) (option_map (framed_with p config column s) (cond b (Some (stack_of p s)) None))
-      framed_tags true keys = λ i. Some (record { value = selected column config.divide_by s; keys = keys i })
+      framed_tags true keys = λ i. Some (record { value = selected column config.presentation.divide_by s; keys = keys i })
       framed_tags false keys = refl
 
   -- either way
@@ -172,7 +172,7 @@ module _ (keep : Kept) (p : Profile) (f : Finders) (config : Config) (column : O
     pub are_left : AreLeft keep p f config column
     are_left = record {
       numbers = λ i. numbers_from (λ s. some_left s i) 0 p.sample;
-      total = λ i. total_over p config column (cond config.relative_percentages (filter (λ s. some_left s i) p.sample) p.sample);
+      total = λ i. total_over p config column (cond config.presentation.relative_percentages (filter (λ s. some_left s i) p.sample) p.sample);
       frames = frames_left;
       matches = matches_left stay;
       own = λ functions.
@@ -186,7 +186,7 @@ module _ (keep : Kept) (p : Profile) (f : Finders) (config : Config) (column : O
             list_any-map (left_of_frame keep) (finds_own f) ws
             ∙ (λ i. list_any (λ w. option_map_or (λ find. find (cond (functions i) w.function [])) f.own false) ws)
 
-    pub samples_stay : keeps_keys keep config.grain config.showcolumns ≡ true → report_samples kept f config column ≡ report_samples p f config column
+    pub samples_stay : keeps_keys keep config.grouping.grain config.grouping.showcolumns ≡ true → report_samples kept f config column ≡ report_samples p f config column
     samples_stay all =
         sym (keyed_report kept f config column)
         ∙ ap (map (renamed (key_of_written config))) frames_left
@@ -197,7 +197,7 @@ module _ (keep : Kept) (p : Profile) (f : Finders) (config : Config) (column : O
         keys_same : (s : Seen Written) → renamed (key_of_written config) (renamed (left_of_frame keep) s) ≡ renamed (key_of_written config) s
         keys_same s = λ i. record {
           value = s.value;
-          keys = (map_twice (key_of_written config) (left_of_frame keep) s.keys ∙ (λ j. map (λ w. key_left keep config.grain config.showcolumns w all j) s.keys)) i;
+          keys = (map_twice (key_of_written config) (left_of_frame keep) s.keys ∙ (λ j. map (λ w. key_left keep config.grouping.grain config.grouping.showcolumns w all j) s.keys)) i;
         }
 
 pub frames_are_left : FramesAreLeft
@@ -220,11 +220,11 @@ sums_are_same keep p f config column sums valid stay all given =
 -- stacks that no filter cut
 pub keys_are_same : KeysStay
 keys_are_same keep p config s valid counted all =
-    sym (map_twice key (written kept) (counted_frames config.noinlines (stack_of kept s)))
-    ∙ ap (map key) (counted_left keep p (text_zero p valid) config.noinlines 0 s.location_id counted)
-    ∙ map_twice key (left_of_frame keep) (map (written p) (counted_frames config.noinlines (stack_of p s)))
-    ∙ (λ i. map (λ w. key_left keep config.grain config.showcolumns w all i) (map (written p) (counted_frames config.noinlines (stack_of p s))))
-    ∙ map_twice key (written p) (counted_frames config.noinlines (stack_of p s))
+    sym (map_twice key (written kept) (counted_frames config.grouping.noinlines (stack_of kept s)))
+    ∙ ap (map key) (counted_left keep p (text_zero p valid) config.grouping.noinlines 0 s.location_id counted)
+    ∙ map_twice key (left_of_frame keep) (map (written p) (counted_frames config.grouping.noinlines (stack_of p s)))
+    ∙ (λ i. map (λ w. key_left keep config.grouping.grain config.grouping.showcolumns w all i) (map (written p) (counted_frames config.grouping.noinlines (stack_of p s))))
+    ∙ map_twice key (written p) (counted_frames config.grouping.noinlines (stack_of p s))
   where
     kept : Profile
     kept = aggregated keep p

@@ -22,7 +22,7 @@ abbrev pub KeysStay : Type 0
 KeysStay =
     (keep : Kept) (p : Profile) (config : Config) (s : Sample)
     → NoRuleFails p → keeps_counted keep config ≡ true
-    → keeps_keys keep config.grain config.showcolumns ≡ true
+    → keeps_keys keep config.grouping.grain config.grouping.showcolumns ≡ true
     → keys_of_stack (aggregated keep p) config (stack_of (aggregated keep p) s)
     ≡ keys_of_stack p config (stack_of p s)
 
@@ -50,7 +50,7 @@ abbrev pub SamplesStay : Type 0
 SamplesStay =
     (keep : Kept) (p : Profile) (f : Finders) (config : Config) (column : Option ℕ)
     → NoRuleFails p → FramesStay keep p f config
-    → keeps_keys keep config.grain config.showcolumns ≡ true
+    → keeps_keys keep config.grouping.grain config.grouping.showcolumns ≡ true
     → report_samples (aggregated keep p) f config column ≡ report_samples p f config column
 
 -- Sums by keys, as counting gives them of the one, are those of the other: their keys name the same texts.
@@ -58,7 +58,7 @@ abbrev pub SumsStay : Type 0
 SumsStay =
     (keep : Kept) (p : Profile) (f : Finders) (config : Config) (column : Option ℕ) (sums : Sums)
     → NoRuleFails p → FramesStay keep p f config
-    → keeps_keys keep config.grain config.showcolumns ≡ true
+    → keeps_keys keep config.grouping.grain config.grouping.showcolumns ≡ true
     → AreSumsOf p (report_samples p f config column) sums
     → AreSumsOf (aggregated keep p) (report_samples (aggregated keep p) f config column) sums
 

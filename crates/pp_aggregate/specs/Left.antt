@@ -2,8 +2,8 @@
 use Rattle.std.specs.Prelude.{◌≡◌, Bool, true, false, not, ◌&&◌, ◌||◌, [], Option, None, if◌then◌else◌}
 use Rattle.std.specs.Option.{option_map_or}
 use Rattle.pp_model.specs.declared.config.Config.{Config}
-use Rattle.pp_model.specs.declared.config.Grain.{Grain}
-use Rattle.pp_model.specs.declared.config.Grain.TheVariants.{Functions, FileFunctions, Files, Lines, Addresses}
+use Rattle.pp_model.specs.declared.grouping.Grain.{Grain}
+use Rattle.pp_model.specs.declared.grouping.Grain.TheVariants.{Functions, FileFunctions, Files, Lines, Addresses}
 use Rattle.pp_model.specs.declared.frame.Frame.{Frame}
 use Rattle.pp_model.specs.declared.profile.Profile.{Profile}
 use Rattle.pp_model.specs.Finders.{Finder, Finders}
@@ -38,7 +38,7 @@ keeps_keys keep Addresses showcolumns = keeps_lines keep showcolumns && keep.add
 
 -- each frame that the report counts is kept
 abbrev pub keeps_counted : Kept → Config → Bool
-keeps_counted keep config = keep.inline_frames || config.noinlines
+keeps_counted keep config = keep.inline_frames || config.grouping.noinlines
 
 -- the pattern finds the frame; one that isn't in force finds none
 abbrev pub finds_in_force : Option Finder → Written → Bool

@@ -63,7 +63,7 @@ fn write_path_nodes(
         ≡ out.old ++ calltree_text l.now.profile f config.now column (facts head.now)) }
     ensures err { OnErr result (out.new ≡ out.old) }
 {
-    let shown = shown_nodes(alloc, t, head.total, config.nodefraction)?;
+    let shown = shown_nodes(alloc, t, head.total, config.presentation.nodefraction)?;
     let dropped = t.len() - shown.len();
     let mut text = Text::new(alloc);
     put_tree(alloc, l, &shown, dropped, head, &mut text)?;

@@ -57,7 +57,7 @@ pub fn write_changes(
         l: survey.l,
         sums: &survey.counted.sums,
         base,
-        sort: survey.config.sort,
+        sort: survey.config.presentation.sort,
     };
     put_heading(unit, &mut text)?;
     put_lines(alloc, &table, t.order.as_slice(), &mut text)?;

@@ -49,7 +49,7 @@ pub fn write_compare(
         l: survey.l,
         sums: &survey.counted.sums,
         base,
-        sort: survey.config.sort,
+        sort: survey.config.presentation.sort,
         head,
     };
     let change = counted_whole(survey);

@@ -211,7 +211,7 @@ module _ (l : Loaded) (v : Verdicts) (config : Config) (column : Option ℕ) (co
 
     -- the sums of the tallies are those of the base's samples
     pub base_sums_are : (f : Finders) (kept : List ℕ) → HoldsFilters l v config f → kept ≡ filtered_from l.profile f config 0 l.profile.sample
-        → chosen ≡ filter (is_base_number l.profile) kept → base.whole ≡ selected_all column config.divide_by (samples_at l.profile chosen)
+        → chosen ≡ filter (is_base_number l.profile) kept → base.whole ≡ selected_all column config.presentation.divide_by (samples_at l.profile chosen)
         → AreBaseSums l.profile f config column sums base
     base_sums_are f kept holds kept_is chosen_is whole_is =
         let seen_is : weighed (T f holds) ≡ base_report_samples l.profile f config column =
@@ -223,8 +223,8 @@ module _ (l : Loaded) (v : Verdicts) (config : Config) (column : Option ℕ) (co
           cum = cums_are
               ∙ same_map (λ n. (at n).cum) (λ n. cum key_cmp (weighed (T f holds)) (name n)) numbers (λ i d here. cum_at f holds (get_or numbers i d) (numbered i d here))
               ∙ sym (map_twice (cum key_cmp (weighed (T f holds))) name numbers) ∙ (λ i. map (cum key_cmp (seen_is i)) (sym written_are i));
-          whole = whole_is ∙ ap (λ (ns : List ℕ). selected_all column config.divide_by (samples_at l.profile ns)) chosen_is
-              ∙ ap (selected_all column config.divide_by) (base_kept l.profile f config column kept kept_is);
+          whole = whole_is ∙ ap (λ (ns : List ℕ). selected_all column config.presentation.divide_by (samples_at l.profile ns)) chosen_is
+              ∙ ap (selected_all column config.presentation.divide_by) (base_kept l.profile f config column kept kept_is);
         }
 
     small_map : (g : ℕ → ℤ) (xs : List ℤ) → xs ≡ map g numbers → ((n : ℕ) → nat_abs (g n) < 2 ^ 63) → All (λ x. nat_abs x < 2 ^ 63) xs
@@ -232,10 +232,10 @@ module _ (l : Loaded) (v : Verdicts) (config : Config) (column : Option ℕ) (co
         subst (λ (x : ℤ). nat_abs x < 2 ^ 63) (sym (get_or-map g numbers i 0 d (omega (arith, here, length-map numbers g)))) (small (get_or numbers i 0)))
 
     -- each sum has a negative
-    pub base_fits : AreRisingBetween 0 (length l.profile.sample) chosen → absolute_all column config.divide_by l.profile.sample < 2 ^ 63 → nat_abs base.whole < 2 ^ 63
+    pub base_fits : AreRisingBetween 0 (length l.profile.sample) chosen → absolute_all column config.presentation.divide_by l.profile.sample < 2 ^ 63 → nat_abs base.whole < 2 ^ 63
         → FitBase sums.names base
     base_fits rising fits small =
-        let within = chosen_within l.profile column config.divide_by chosen rising in
+        let within = chosen_within l.profile column config.presentation.divide_by chosen rising in
         record {
           flats = ap length flats_are ∙ length-map numbers (λ n. (at n).flat) ∙ sym (ap length named ∙ length-map numbers (key_numbered names));
           cums = ap length cums_are ∙ length-map numbers (λ n. (at n).cum) ∙ sym (ap length named ∙ length-map numbers (key_numbered names));

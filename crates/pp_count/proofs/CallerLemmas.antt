@@ -26,7 +26,7 @@ use Rattle.pp_count.specs.Counted.{report_samples, report_frames}
 
 -- what a frame that counts is in a report: its key
 abbrev pub key_of_written : Config → Written → Written
-key_of_written config = key_texts config.grain config.showcolumns
+key_of_written config = key_texts config.grouping.grain config.grouping.showcolumns
 
 -- samples of value 0 are left out alike by keys and by what the keys stand for
 pub weighed-renamed : {J K : Type 0} (f : J → K) (ss : List (Seen J)) → weighed (map (renamed f) ss) ≡ map (renamed f) (weighed ss)
@@ -43,7 +43,7 @@ module _ (p : Profile) (f : Finders) (config : Config) (column : Option ℕ) whe
   keys_of_frames (x ∷ stack) = ap (λ ks. key_of_frame p config x ∷ ks) (keys_of_frames stack)
 
   keyed_stack : (s : Sample) (stack : List Frame) → renamed (key_of_written config) (framed_with p config column s stack) ≡ seen_with p config column s stack
-  keyed_stack s stack = ap (λ ks. record { value = (seen_with p config column s stack).value; keys = ks }) (keys_of_frames (counted_frames config.noinlines stack))
+  keyed_stack s stack = ap (λ ks. record { value = (seen_with p config column s stack).value; keys = ks }) (keys_of_frames (counted_frames config.grouping.noinlines stack))
 
   keyed_option : (s : Sample) (o : Option (List Frame)) (ss : List (Seen Written))
       → map (renamed (key_of_written config)) (cons_option (option_map (framed_with p config column s) o) ss)
@@ -66,12 +66,12 @@ module _ (p : Profile) (f : Finders) (config : Config) (column : Option ℕ) whe
 module _ (l : Loaded) (v : Verdicts) (config : Config) (column : Option ℕ) (names : List Key) where
   -- the sums of consecutive ranges are within the values of their samples
   consecutive_within : (ranges : List (List Sample)) (parts : List Part) (number : ℕ) → AreConsecutive l v config column names number ranges parts
-      → (k : ℕ) → AreWithin (absolute_all column config.divide_by (samples_of_ranges ranges)) (sums_of k (all_sums parts))
+      → (k : ℕ) → AreWithin (absolute_all column config.presentation.divide_by (samples_of_ranges ranges)) (sums_of k (all_sums parts))
   consecutive_within [] [] number are k = record { flat = omega arith; cum = omega arith }
   consecutive_within [] (part ∷ parts) number are k = absurd are
   consecutive_within (samples ∷ ranges) [] number are k = absurd are
   consecutive_within (samples ∷ ranges) (part ∷ parts) number are k =
-      let size : Sample → ℕ = λ s. nat_abs (selected column config.divide_by s) in
+      let size : Sample → ℕ = λ s. nat_abs (selected column config.presentation.divide_by s) in
       let rest = consecutive_within ranges parts (number + length samples) are.1 k in
       let split : sums_of k (part.sums ++ all_sums parts) ≡ sums_of k part.sums ++ sums_of k (all_sums parts) =
       filter-append (λ (e : KeySum). e.key == k) part.sums (all_sums parts) in
@@ -96,7 +96,7 @@ module _ (l : Loaded) (v : Verdicts) (config : Config) (column : Option ℕ) (na
 
   -- The parts of consecutive ranges can be joined where the values of the samples can be added up.
   pub can_join : (ranges : List (List Sample)) (parts : List Part) (number : ℕ) → AreConsecutive l v config column names number ranges parts
-      → absolute_all column config.divide_by (samples_of_ranges ranges) < 2 ^ 63 → CanJoin parts
+      → absolute_all column config.presentation.divide_by (samples_of_ranges ranges) < 2 ^ 63 → CanJoin parts
   can_join ranges parts number are fits = record {
     flat = λ k. omega (arith, fits, (consecutive_within ranges parts number are k).flat);
     cum = λ k. omega (arith, fits, (consecutive_within ranges parts number are k).cum);

@@ -100,8 +100,8 @@ module _ (l : Loaded) (v : Verdicts) (config : Config) (column : Option ℕ) (na
     tallies : (f : Finders) → HoldsFilters l v config f → (k : ℕ) → k < length names
         → IsTallyBy key_cmp (put f samples) (written_key l.profile names k) (at k)
     no_other : (f : Finders) → HoldsFilters l v config f → (k : ℕ) → length names ≤ k → (at k).last ≡ 0
-    flat_within : (k : ℕ) → nat_abs (at k).flat ≤ absolute_all column config.divide_by samples
-    cum_within : (k : ℕ) → nat_abs (at k).cum ≤ absolute_all column config.divide_by samples
+    flat_within : (k : ℕ) → nat_abs (at k).flat ≤ absolute_all column config.presentation.divide_by samples
+    cum_within : (k : ℕ) → nat_abs (at k).cum ≤ absolute_all column config.presentation.divide_by samples
 
   pub none_joined : (number : ℕ) → JoinedTo number [] (λ k. no_tally) [] no_matches
   none_joined number = record {
@@ -118,7 +118,7 @@ module _ (l : Loaded) (v : Verdicts) (config : Config) (column : Option ℕ) (na
       → IsRangePart l v config column names (number + length a) b part
       → JoinedTo number (a ++ b) (λ k. tally_added (at k) (sums_of k part.sums)) (kept ++ part.kept) (either slots part.matched.slots)
   one_joined number a b at kept slots part before is =
-      let size : Sample → ℕ = λ s. nat_abs (selected column config.divide_by s) in
+      let size : Sample → ℕ = λ s. nat_abs (selected column config.presentation.divide_by s) in
       record {
         kept_are = λ f holds. (λ i. before.kept_are f holds i ++ is.kept f holds i)
             ∙ sym (numbers-append (λ x. is_some (filtered_stack l.profile f config x)) number (number + length a) a b refl);

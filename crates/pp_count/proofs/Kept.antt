@@ -51,9 +51,9 @@ kept_samples p f config kept is =
 
 -- their values are within those of all samples
 pub kept_fits : (p : Profile) (f : Finders) (config : Config) (column : Option ℕ) (kept : List ℕ) → kept ≡ filtered_from p f config 0 p.sample
-    → absolute_all column config.divide_by p.sample < 2 ^ 63 → absolute_all column config.divide_by (samples_at p kept) < 2 ^ 63
+    → absolute_all column config.presentation.divide_by p.sample < 2 ^ 63 → absolute_all column config.presentation.divide_by (samples_at p kept) < 2 ^ 63
 kept_fits p f config column kept is fits =
-    let size : Sample → ℕ = λ x. nat_abs (selected column config.divide_by x) in
+    let size : Sample → ℕ = λ x. nat_abs (selected column config.presentation.divide_by x) in
     omega (arith, fits, ap (sum_by size) (kept_samples p f config kept is), filter_size size (λ s. is_some (filtered_stack p f config s)) p.sample)
 
 negated : (n : ℕ) → nat_abs (neg_ℤ (pos n)) ≤ n

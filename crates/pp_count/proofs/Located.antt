@@ -25,7 +25,7 @@ all_count : (stack : List Frame) → counted_frames false stack ≡ stack
 all_count [] = refl
 all_count (f ∷ stack) = ap (λ r. f ∷ r) (all_count stack)
 
-pub keys_of_all : (p : Profile) (config : Config) (stack : List Frame) → config.noinlines ≡ false → all_keys p config stack ≡ keys_of_stack p config stack
+pub keys_of_all : (p : Profile) (config : Config) (stack : List Frame) → config.grouping.noinlines ≡ false → all_keys p config stack ≡ keys_of_stack p config stack
 keys_of_all p config stack all = ap (map (key_of_frame p config)) (sym (ap (λ b. counted_frames b stack) all ∙ all_count stack))
 
 -- a location's frames are written the same wherever it stands in a sample
@@ -36,11 +36,11 @@ rows_anywhere p place location (line ∷ lines) =
     ∙ sym (map-map (written p) (row_frame 0 location) (range_with_len 0 (length (line ∷ lines))))
 
 -- the numbers of a row are those of the location's frames
-row_named : (p : Profile) (config : Config) (names : List Key) (place location : ℕ) (row : List ℕ) → IsRow config.grain config.showcolumns p names location row
+row_named : (p : Profile) (config : Config) (names : List Key) (place location : ℕ) (row : List ℕ) → IsRow config.grouping.grain config.grouping.showcolumns p names location row
     → map (written_key p names) row ≡ all_keys p config (rows place location (lines_at p location))
 row_named p config names place location row is =
-    is.keys ∙ ap (map (key_texts config.grain config.showcolumns)) (sym (rows_anywhere p place location (lines_at p location)))
-    ∙ map-map (key_texts config.grain config.showcolumns) (written p) (rows place location (lines_at p location))
+    is.keys ∙ ap (map (key_texts config.grouping.grain config.grouping.showcolumns)) (sym (rows_anywhere p place location (lines_at p location)))
+    ∙ map-map (key_texts config.grouping.grain config.grouping.showcolumns) (written p) (rows place location (lines_at p location))
 
 -- The key numbers of the locations so far, and the keys of the locations that are left.
 pub record LocatedTo (p : Profile) (config : Config) (table : KeyTable) (ids : List ℕ) (i : ℕ) (keys : List ℕ) : Type 0 where
@@ -56,8 +56,8 @@ pub located_more : (p : Profile) (config : Config) (table : KeyTable) (ids : Lis
     → LocatedTo p config table ids i keys → LocatedTo p config table ids (i + 1) (keys ++ row)
 located_more p config table ids i keys row t here within read so_far =
     let location : ℕ = get_or ids i 0 - 1 in
-    let is : IsRow config.grain config.showcolumns p table.names location row =
-    subst (λ (r : List ℕ). IsRow config.grain config.showcolumns p table.names location r) (sym read) (t.each location within) in
+    let is : IsRow config.grouping.grain config.grouping.showcolumns p table.names location row =
+    subst (λ (r : List ℕ). IsRow config.grouping.grain config.grouping.showcolumns p table.names location r) (sym read) (t.each location within) in
     let name : ℕ → Written = written_key p table.names in
     let rest : List Written = all_keys p config (frames_from p (i + 1) (drop (i + 1) ids)) in
     record {
@@ -72,7 +72,7 @@ located_more p config table ids i keys row t here within read so_far =
     }
 
 -- past the last location all frames have their numbers
-pub located_all : (p : Profile) (config : Config) (table : KeyTable) (ids : List ℕ) (i : ℕ) (keys : List ℕ) → config.noinlines ≡ false → length ids ≤ i
+pub located_all : (p : Profile) (config : Config) (table : KeyTable) (ids : List ℕ) (i : ℕ) (keys : List ℕ) → config.grouping.noinlines ≡ false → length ids ≤ i
     → LocatedTo p config table ids i keys → map (written_key p table.names) keys ≡ keys_of_stack p config (frames_from p 0 ids)
 located_all p config table ids i keys all past so_far =
     sym (append-nil (map (written_key p table.names) keys))

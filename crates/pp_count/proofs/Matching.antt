@@ -88,8 +88,8 @@ module _ (p : Profile) (f : Finders) where
   pub either_match : (config : Config) (a b : List Sample) → either (matches_among p f config a) (matches_among p f config b) ≡ matches_among p f config (a ++ b)
   either_match config a b i =
       frame-append f.focus a b i ∷ frame-append f.ignore a b i ∷ frame-append f.hide a b i ∷ frame-append f.show a b i ∷ frame-append f.show_from a b i
-      ∷ sym (list_any-append (selects_or false p (filter_in_force config.tagfocus) f.tagfocus) a b) i
-      ∷ sym (list_any-append (selects_or false p (filter_in_force config.tagignore) f.tagignore) a b) i
+      ∷ sym (list_any-append (selects_or false p (filter_in_force config.filtering.tagfocus) f.tagfocus) a b) i
+      ∷ sym (list_any-append (selects_or false p (filter_in_force config.filtering.tagignore) f.tagignore) a b) i
       ∷ true ∷ key-append f.tagshow a b i ∷ key-append f.taghide a b i ∷ []
 
   -- a pattern that finds no frame of the profile finds none in its stacks

@@ -54,7 +54,7 @@ all_members p q same =
 seen-append : (scope : Scope) (a b : List Sample) (s t : List (Seen ℕ)) → AreSeen scope a s → AreSeen scope b t → AreSeen scope (a ++ b) (s ++ t)
 seen-append scope a b s t first second =
     let size : Seen ℕ → ℕ = λ x. nat_abs x.value in
-    let all : Sample → ℕ = λ x. nat_abs (selected scope.column (config_of scope).divide_by x) in
+    let all : Sample → ℕ = λ x. nat_abs (selected scope.column (config_of scope).presentation.divide_by x) in
     record {
       below = All-append (HasBelow (length scope.table.now.names)) s t first.below second.below;
       within = omega (arith, first.within, second.within, sum_by-append size s t, sum_by-append all a b);
@@ -142,7 +142,7 @@ front_more samples j = ap (λ n. take n samples) (omega arith) ∙ take-add (PIE
 -- the values of the pieces so far and of the next one are within those of all samples
 pub front_within : (scope : Scope) (samples : List Sample) (j : ℕ) → size_of scope (front_of samples j) + size_of scope (piece_of samples j) ≤ size_of scope samples
 front_within scope samples j =
-    let f : Sample → ℕ = λ x. nat_abs (selected scope.column (config_of scope).divide_by x) in
+    let f : Sample → ℕ = λ x. nat_abs (selected scope.column (config_of scope).presentation.divide_by x) in
     omega (
       arith,
       sum_by-take-le f samples (PIECE * (j + 1)),

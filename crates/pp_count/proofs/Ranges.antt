@@ -31,7 +31,7 @@ name_of scope = written_key (profile_in_scope scope) scope.table.now.names
 
 -- what is seen of the sample where the filters leave this
 abbrev pub seen_if : Scope → Sample → Option (List Written) → Option (Seen Written)
-seen_if scope s keys = option_map (λ ks. record { value = selected scope.column (config_of scope).divide_by s; keys = ks }) keys
+seen_if scope s keys = option_map (λ ks. record { value = selected scope.column (config_of scope).presentation.divide_by s; keys = ks }) keys
 
 seen_is : (scope : Scope) (f : Finders) (s : Sample) (stack : Option (List Frame))
     → option_map (seen_with (profile_in_scope scope) (config_of scope) scope.column s) stack ≡ seen_if scope s (option_map (keys_of_stack (profile_in_scope scope) (config_of scope)) stack)
@@ -53,11 +53,11 @@ IsSeen scope s kept keys = (f : Finders) → HoldsFilters scope.l.now scope.v.no
 
 -- the sample by its key numbers
 abbrev pub by_numbers : Scope → Sample → List ℕ → Seen ℕ
-by_numbers scope s keys = record { value = selected scope.column (config_of scope).divide_by s; keys = keys }
+by_numbers scope s keys = record { value = selected scope.column (config_of scope).presentation.divide_by s; keys = keys }
 
-size_more : (scope : Scope) (samples : List Sample) (s : Sample) → size_of scope (samples ++ s ∷ []) ≡ size_of scope samples + nat_abs (selected scope.column (config_of scope).divide_by s)
+size_more : (scope : Scope) (samples : List Sample) (s : Sample) → size_of scope (samples ++ s ∷ []) ≡ size_of scope samples + nat_abs (selected scope.column (config_of scope).presentation.divide_by s)
 size_more scope samples s =
-    let f : Sample → ℕ = λ x. nat_abs (selected scope.column (config_of scope).divide_by x) in
+    let f : Sample → ℕ = λ x. nat_abs (selected scope.column (config_of scope).presentation.divide_by x) in
     omega (arith, sum_by-append f samples (s ∷ []), sum_by-cons f s [])
 
 -- one more sample, which the filters keep
@@ -136,7 +136,7 @@ counted_none scope number at kept none empty = record {
 -- one more sample that is kept
 pub counted_kept : (scope : Scope) (number i : ℕ) (samples : List Sample) (s : Sample) (keys : List ℕ) (at new : ℕ → Tally) (kept : List ℕ)
     → i < length samples → s ≡ get_or samples i s → IsSeen scope s true keys → All (λ k. k < length scope.table.now.names) keys
-    → ((k : ℕ) → new k ≡ with_seen (selected scope.column (config_of scope).divide_by s) (i + 1) (counted_keys (over_of scope) keys) k (at k))
+    → ((k : ℕ) → new k ≡ with_seen (selected scope.column (config_of scope).presentation.divide_by s) (i + 1) (counted_keys (over_of scope) keys) k (at k))
     → CountedTo scope number i (take i samples) at kept → CountedTo scope number (i + 1) (take (i + 1) samples) new (kept ++ (number + i) ∷ [])
 counted_kept scope number i samples s keys at new kept here at_i is below each so_far =
     let more : List (Seen ℕ) = so_far.seen ++ by_numbers scope s keys ∷ [] in
@@ -174,10 +174,10 @@ counted_dropped scope number i samples s keys at kept here at_i is so_far =
 pub room : (scope : Scope) (number i : ℕ) (samples : List Sample) (s : Sample) (at : ℕ → Tally) (kept : List ℕ)
     → i < length samples → s ≡ get_or samples i s → size_of scope samples < 2 ^ 63
     → CountedTo scope number i (take i samples) at kept
-    → (k : ℕ) → (nat_abs (at k).cum + nat_abs (selected scope.column (config_of scope).divide_by s) < 2 ^ 63)
-    × (nat_abs (at k).flat + nat_abs (selected scope.column (config_of scope).divide_by s) < 2 ^ 63)
+    → (k : ℕ) → (nat_abs (at k).cum + nat_abs (selected scope.column (config_of scope).presentation.divide_by s) < 2 ^ 63)
+    × (nat_abs (at k).flat + nat_abs (selected scope.column (config_of scope).presentation.divide_by s) < 2 ^ 63)
 room scope number i samples s at kept here at_i fits so_far k =
-    let size : Sample → ℕ = λ x. nat_abs (selected scope.column (config_of scope).divide_by x) in
+    let size : Sample → ℕ = λ x. nat_abs (selected scope.column (config_of scope).presentation.divide_by x) in
     let left : size_of scope (take i samples) + size s ≤ size_of scope samples =
     subst (λ (x : Sample). size_of scope (take i samples) + size x ≤ size_of scope samples) (sym at_i) (sum_by_more_le size samples i s here) in
     let counted : List (Seen ℕ) = map (counted_as scope) so_far.seen in (

@@ -36,7 +36,7 @@ number_is p config table f t is =
     let at : ℕ = unwrap_or f.row 0 in
     let place = frame_in f.location (lines_at p f.location) f.row f is.row in
     let numbered = t.each f.location within in
-    let key : Written → Written = key_texts config.grain config.showcolumns in
+    let key : Written → Written = key_texts config.grouping.grain config.grouping.showcolumns in
     let long : length row ≡ length places =
     sym (length-map row (written_key p table.names)) ∙ ap length numbered.keys ∙ length-map (map (written p) places) key ∙ length-map places (written p) in
     let here : at < length row = omega (arith, long, place.0) in
@@ -74,7 +74,7 @@ numbered_none p config table stack keys none = rw none (record { below = λ k d 
 
 -- one more frame, which counts
 pub numbered_more : (p : Profile) (config : Config) (table : KeyTable) (stack : List Frame) (i : ℕ) (keys : List ℕ) (f : Frame) (n : ℕ)
-    → i < length stack → f ≡ get_or stack i f → frame_counts stack i config.noinlines ≡ true
+    → i < length stack → f ≡ get_or stack i f → frame_counts stack i config.grouping.noinlines ≡ true
     → n < length table.names → written_key p table.names n ≡ key_of_frame p config f
     → NumberedTo p config table stack i keys → NumberedTo p config table stack (i + 1) (keys ++ n ∷ [])
 numbered_more p config table stack i keys f n here is counted below named so_far = record {
@@ -84,13 +84,13 @@ numbered_more p config table stack i keys f n here is counted below named so_far
       ∙ append_assoc (map (written_key p table.names) keys) (written_key p table.names n ∷ []) (keys_of_stack p config (drop (i + 1) stack))
       ∙ ap (λ k. map (written_key p table.names) keys ++ k ∷ keys_of_stack p config (drop (i + 1) stack)) named
       ∙ ap (λ fs. map (written_key p table.names) keys ++ map (key_of_frame p config) fs)
-      (one_more stack i config.noinlines f here is counted)
+      (one_more stack i config.grouping.noinlines f here is counted)
       ∙ so_far.named;
 }
 
 -- the numbers of the frames that were read from the stack
 pub numbered_read : (p : Profile) (config : Config) (table : KeyTable) (stack read : List Frame) (i : ℕ) (keys : List ℕ) (d : Frame) (n : ℕ)
-    → read ≡ stack → i < length read → frame_counts stack i config.noinlines ≡ true
+    → read ≡ stack → i < length read → frame_counts stack i config.grouping.noinlines ≡ true
     → n < length table.names → written_key p table.names n ≡ key_of_frame p config (get_or read i d)
     → NumberedTo p config table stack i keys → NumberedTo p config table stack (i + 1) (keys ++ n ∷ [])
 numbered_read p config table stack read i keys d n lent here counted below named so_far =
@@ -100,13 +100,13 @@ numbered_read p config table stack read i keys d n lent here counted below named
 
 -- one more frame, which doesn't
 pub numbered_other : (p : Profile) (config : Config) (table : KeyTable) (stack : List Frame) (i : ℕ) (keys : List ℕ)
-    → i < length stack → frame_counts stack i config.noinlines ≡ false
+    → i < length stack → frame_counts stack i config.grouping.noinlines ≡ false
     → NumberedTo p config table stack i keys → NumberedTo p config table stack (i + 1) keys
 numbered_other p config table stack i keys here other so_far =
     record {
       below = so_far.below;
       named =
-          ap (λ fs. map (written_key p table.names) keys ++ map (key_of_frame p config) fs) (no_more stack i config.noinlines here other)
+          ap (λ fs. map (written_key p table.names) keys ++ map (key_of_frame p config) fs) (no_more stack i config.grouping.noinlines here other)
           ∙ so_far.named;
     }
 

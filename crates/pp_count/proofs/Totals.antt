@@ -31,7 +31,7 @@ totals_none p config column t none = record { all = omega (arith, ap (λ x. x.al
 pub totals_more : (p : Profile) (config : Config) (column : Option ℕ) (a b : List Sample) (t u new : Totals)
     → new ≡ totals_plus t u → AreTotals p config column a t → AreTotals p config column b u → AreTotals p config column (a ++ b) new
 totals_more p config column a b t u new plus first second =
-    let f : Sample → ℕ = λ x. nat_abs (selected column config.divide_by x) in
+    let f : Sample → ℕ = λ x. nat_abs (selected column config.presentation.divide_by x) in
     record {
       all = omega (arith, ap (λ x. x.all) plus, first.all, second.all, sum_by-append f a b);
       base = omega (
@@ -55,7 +55,7 @@ filter_size f q (s ∷ ss) =
 pub scope_totals_none : (p : Profile) (f : Finders) (config : Config) (column : Option ℕ) (t : Totals) → t ≡ record { all = 0; base = 0 }
     → AreTotals p config column (samples_of_total p f config []) t
 scope_totals_none p f config column t none =
-    elim config.relative_percentages as (λ r. AreTotals p config column (cond r (filtered_samples p f config []) []) t) [
+    elim config.presentation.relative_percentages as (λ r. AreTotals p config column (cond r (filtered_samples p f config []) []) t) [
       | true ↦ totals_none p config column t none
       | false ↦ totals_none p config column t none
     ]
@@ -68,7 +68,7 @@ scope_totals_more scope a b t u new plus before next whole f holds =
     let config = config_of scope in
     let of_total : List Sample → List Sample = samples_of_total p f config in
     let both : of_total (a ++ b) ≡ of_total a ++ of_total b =
-    elim config.relative_percentages as (λ r. cond r (filtered_samples p f config (a ++ b)) (a ++ b) ≡ cond r (filtered_samples p f config a) a ++ cond r (filtered_samples p f config b) b) [
+    elim config.presentation.relative_percentages as (λ r. cond r (filtered_samples p f config (a ++ b)) (a ++ b) ≡ cond r (filtered_samples p f config a) a ++ cond r (filtered_samples p f config b) b) [
       | true ↦ filter-append _ a b
       | false ↦ refl
     ] in
@@ -76,13 +76,13 @@ scope_totals_more scope a b t u new plus before next whole f holds =
     (totals_more p config scope.column (of_total a) (of_total b) t u new plus (before whole f holds) (next whole f holds))
 
 -- what percentages are taken of, where the values fit
-pub total_is : (p : Profile) (f : Finders) (config : Config) (column : Option ℕ) (t : Totals) → absolute_all column config.divide_by p.sample < 2 ^ 63
+pub total_is : (p : Profile) (f : Finders) (config : Config) (column : Option ℕ) (t : Totals) → absolute_all column config.presentation.divide_by p.sample < 2 ^ 63
     → AreTotals p config column (samples_of_total p f config p.sample) t → total_by t.base t.all ≡ total_of p f config column
 total_is p f config column t fits are =
-    let size : Sample → ℕ = λ x. nat_abs (selected column config.divide_by x) in
+    let size : Sample → ℕ = λ x. nat_abs (selected column config.presentation.divide_by x) in
     let ss : List Sample = samples_of_total p f config p.sample in
     let within : sum_by size ss < 2 ^ 63 =
-    elim config.relative_percentages as (λ r. sum_by size (cond r (filtered_samples p f config p.sample) p.sample) < 2 ^ 63) [
+    elim config.presentation.relative_percentages as (λ r. sum_by size (cond r (filtered_samples p f config p.sample) p.sample) < 2 ^ 63) [
       | true ↦ omega (arith, fits, filter_size size (λ s. is_some (filtered_stack p f config s)) p.sample)
       | false ↦ fits
     ] in

@@ -31,8 +31,8 @@ pub record CanCount (p : Profile) (v : Verdicts) (config : Config) (of_column : 
   pub countable : IsCountable p
   pub column : IsColumnOf p of_column
   pub verdicts : HasVerdicts p v
-  pub focus : HasItsTags p v.tag (filter_in_force config.tagfocus)
-  pub ignore : HasItsTags p v.tag (filter_in_force config.tagignore)
+  pub focus : HasItsTags p v.tag (filter_in_force config.filtering.tagfocus)
+  pub ignore : HasItsTags p v.tag (filter_in_force config.filtering.tagignore)
 
 -- The samples that put keys into a report: those that the filters leave and whose
 -- selected value isn't 0, with the keys of their frames that count.

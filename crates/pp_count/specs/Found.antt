@@ -12,8 +12,8 @@ use Rattle.pp_count.specs.Seeing.{HoldsFilters}
 
 -- Each list of a tag filter that is in force has a truth value for each text, or without a name for each tag.
 pub record FitTags (p : Profile) (v : Verdicts) (config : Config) : Type 0 where
-  pub focus : FitTagFilter p v.tag (filter_in_force config.tagfocus) v.tagfocus
-  pub ignore : FitTagFilter p v.tag (filter_in_force config.tagignore) v.tagignore
+  pub focus : FitTagFilter p v.tag (filter_in_force config.filtering.tagfocus) v.tagfocus
+  pub ignore : FitTagFilter p v.tag (filter_in_force config.filtering.tagignore) v.tagignore
 
 -- Verdicts that a report can be counted by are what some patterns find, whatever truth values they have.
 abbrev pub VerdictsAreFound : Type 0

@@ -44,8 +44,8 @@ matches_among p f config samples =
     ∷ frame_match p f f.hide samples
     ∷ frame_match p f f.show samples
     ∷ frame_match p f f.show_from samples
-    ∷ tag_match p config.tagfocus f.tagfocus samples
-    ∷ tag_match p config.tagignore f.tagignore samples
+    ∷ tag_match p config.filtering.tagfocus f.tagfocus samples
+    ∷ tag_match p config.filtering.tagignore f.tagignore samples
     ∷ true
     ∷ key_match p f.tagshow samples
     ∷ key_match p f.taghide samples

@@ -55,7 +55,7 @@ pub record IsSoundScope (scope : Scope) : Type 0 where
 
 -- the sum of the absolute selected values of the samples
 abbrev pub size_of : Scope → List Sample → ℕ
-size_of scope samples = absolute_all scope.column scope.config.now.divide_by samples
+size_of scope samples = absolute_all scope.column scope.config.now.presentation.divide_by samples
 
 -- The samples can be numbered, and their values added up.
 pub record AreCountable (scope : Scope) (samples : List Sample) : Type 0 where

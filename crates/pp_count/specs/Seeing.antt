@@ -24,25 +24,25 @@ counted_frames noinlines (f ∷ stack) =
 
 -- the key of the frame, by the configuration's grain
 abbrev pub key_of_frame : Profile → Config → Frame → Written
-key_of_frame p config f = key_texts config.grain config.showcolumns (written p f)
+key_of_frame p config f = key_texts config.grouping.grain config.grouping.showcolumns (written p f)
 
 -- the keys of the frames of a stack that count, leaf first
 abbrev pub keys_of_stack : Profile → Config → List Frame → List Written
 keys_of_stack p config stack =
-    map (key_of_frame p config) (counted_frames config.noinlines stack)
+    map (key_of_frame p config) (counted_frames config.grouping.noinlines stack)
 
 -- The verdicts of a report are what its patterns find: those on stacks, and the parts of its two tag filters.
 pub record HoldsFilters (l : Loaded) (v : Verdicts) (config : Config) (f : Finders) : Type 0 where
   pub found : HoldsFinders l v f
   pub tagfocus
-      : AreTagVerdicts l.profile v.tag (filter_in_force config.tagfocus) f.tagfocus v.tagfocus
+      : AreTagVerdicts l.profile v.tag (filter_in_force config.filtering.tagfocus) f.tagfocus v.tagfocus
   pub tagignore
-      : AreTagVerdicts l.profile v.tag (filter_in_force config.tagignore) f.tagignore v.tagignore
+      : AreTagVerdicts l.profile v.tag (filter_in_force config.filtering.tagignore) f.tagignore v.tagignore
 
 -- whether the sample passes the configuration's tag filters
 abbrev pub passes_tags : Profile → Finders → Config → Sample → Bool
 passes_tags p f config s =
-    is_tag_kept p (filter_in_force config.tagfocus) (filter_in_force config.tagignore) f s
+    is_tag_kept p (filter_in_force config.filtering.tagfocus) (filter_in_force config.filtering.tagignore) f s
 
 -- What the stack filters leave of the sample's stack. None where they or the tag filters drop the sample.
 abbrev pub filtered_stack : Profile → Finders → Config → Sample → Option (List Frame)
@@ -51,8 +51,8 @@ filtered_stack p f config s = if passes_tags p f config s then frames_of_sample 
 -- the sample with the frames of this stack that count, written out
 abbrev pub framed_with : Profile → Config → Option ℕ → Sample → List Frame → Seen Written
 framed_with p config column s stack = record {
-  value = selected column config.divide_by s;
-  keys = map (written p) (counted_frames config.noinlines stack);
+  value = selected column config.presentation.divide_by s;
+  keys = map (written p) (counted_frames config.grouping.noinlines stack);
 }
 
 -- The samples that the filters leave, in order, with their frames that count, written out, in the place of keys.
@@ -63,7 +63,7 @@ framed_samples p f config column samples =
 -- the sample with this stack
 abbrev pub seen_with : Profile → Config → Option ℕ → Sample → List Frame → Seen Written
 seen_with p config column s stack =
-    record { value = selected column config.divide_by s; keys = keys_of_stack p config stack }
+    record { value = selected column config.presentation.divide_by s; keys = keys_of_stack p config stack }
 
 -- The sample as the report sees it, none where the filters drop it.
 abbrev pub seen : Profile → Finders → Config → Option ℕ → Sample → Option (Seen Written)

@@ -161,7 +161,7 @@ fn push_tally(flat: &mut List<i64>, cum: &mut List<i64>, tally: Tally) -> Result
 pub fn counted_whole(survey: &Survey<'_>) -> i64
     ensures { (f : Finders) →
         HoldsFilters survey.now.l.now survey.now.v.now survey.now.config.now f → result
-        ≡ selected_all survey.now.column survey.now.config.now.divide_by
+        ≡ selected_all survey.now.column survey.now.config.now.presentation.divide_by
         (filtered_samples survey.now.l.now.profile f survey.now.config.now
         survey.now.l.now.profile.sample) }
 {
@@ -171,10 +171,10 @@ pub fn counted_whole(survey: &Survey<'_>) -> i64
 
 // The sum of the selected values of the samples with these numbers.
 fn selected_sum(l: &Loaded, config: &Config, column: Option<u32>, numbers: &[u32]) -> i64
-    requires fits { absolute_all column config.now.divide_by l.now.profile.sample < 2 ^ 63 }
+    requires fits { absolute_all column config.now.presentation.divide_by l.now.profile.sample < 2 ^ 63 }
     requires rising { AreRisingBetween 0 (length l.now.profile.sample) numbers.now }
     ensures value { result
-        ≡ selected_all column config.now.divide_by (samples_at l.now.profile numbers.now) }
+        ≡ selected_all column config.now.presentation.divide_by (samples_at l.now.profile numbers.now) }
     ensures small { nat_abs result < 2 ^ 63 }
 {
     let mut sum = 0;
@@ -188,11 +188,11 @@ fn selected_sum(l: &Loaded, config: &Config, column: Option<u32>, numbers: &[u32
 // The selected value of the sample with this number.
 fn value_of(l: &Loaded, config: &Config, column: Option<u32>, number: u32) -> i64
     requires { number < length l.now.profile.sample }
-    ensures { result ≡ selected column config.now.divide_by
+    ensures { result ≡ selected column config.now.presentation.divide_by
         (slice_index_or l.now.profile.sample number no_sample) }
 {
     let samples = l.profile.get().sample.as_slice();
-    selected(l, &samples[number as usize], column, config.divide_by)
+    selected(l, &samples[number as usize], column, config.presentation.divide_by)
 }
 
 fn sum_of(sum: i64, value: i64) -> i64

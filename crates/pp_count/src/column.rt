@@ -23,11 +23,11 @@ pub struct BadSampleIndex;
 /// place, counted from 0. Any other text is the name of a type, of which the first counts.
 pub fn column_of(l: &Loaded, config: &Config) -> Result<Option<u32>, BadSampleIndex>
     requires { length l.now.profile.sample_type < 2 ^ 32 }
-    ensures value { result_ok result ≡ column_of l.now.profile config.now.sample_index }
+    ensures value { result_ok result ≡ column_of l.now.profile config.now.presentation.sample_index }
     ensures bound { IfOk result (IsColumnOf l.now.profile) }
 {
     let p = l.profile.get();
-    let text = config.sample_index.as_slice();
+    let text = config.presentation.sample_index.as_slice();
     if text.is_empty() {
         return Ok(default_column(p));
     }

@@ -47,8 +47,8 @@ impl Filters {
     /// The filters with a table for each pattern in force, for all samples of the profile. `Err` is want of memory.
     pub fn new(alloc: Global, l: &Loaded, v: &Verdicts, config: &Config) -> Result<Filters, Memory>
         requires verdicts { HasVerdicts l.now.profile v.now }
-        requires focus { HasItsTags l.now.profile v.now.tag (filter_in_force config.now.tagfocus) }
-        requires ignore { HasItsTags l.now.profile v.now.tag (filter_in_force config.now.tagignore) }
+        requires focus { HasItsTags l.now.profile v.now.tag (filter_in_force config.now.filtering.tagfocus) }
+        requires ignore { HasItsTags l.now.profile v.now.tag (filter_in_force config.now.filtering.tagignore) }
         ensures { IfOk result (AreFilters l.now.profile v.now config.now) }
     {
         let tags = tag_filters(alloc, config)?;
@@ -63,8 +63,8 @@ impl Filters {
         v: &Verdicts,
         config: &Config,
     ) -> Result<Filters, Memory>
-        requires focus { HasItsTags l.now.profile v.now.tag (filter_in_force config.now.tagfocus) }
-        requires ignore { HasItsTags l.now.profile v.now.tag (filter_in_force config.now.tagignore) }
+        requires focus { HasItsTags l.now.profile v.now.tag (filter_in_force config.now.filtering.tagfocus) }
+        requires ignore { HasItsTags l.now.profile v.now.tag (filter_in_force config.now.filtering.tagignore) }
         ensures { IfOk result (AreFilters l.now.profile v.now config.now) }
     {
         let tags = tag_filters(alloc, config)?;
@@ -77,11 +77,11 @@ type TagFilters = (Option<TagFilter>, Option<TagFilter>);
 
 // The configuration's tag filters, each where it is in force.
 fn tag_filters(alloc: Global, config: &Config) -> Result<TagFilters, Memory>
-    ensures focus { IfOk result (λ tags. tags.0 ≡ filter_in_force config.now.tagfocus) }
-    ensures ignore { IfOk result (λ tags. tags.1 ≡ filter_in_force config.now.tagignore) }
+    ensures focus { IfOk result (λ tags. tags.0 ≡ filter_in_force config.now.filtering.tagfocus) }
+    ensures ignore { IfOk result (λ tags. tags.1 ≡ filter_in_force config.now.filtering.tagignore) }
 {
-    let tagfocus = TagFilter::in_force(alloc, config.tagfocus.as_slice())?;
-    let tagignore = TagFilter::in_force(alloc, config.tagignore.as_slice())?;
+    let tagfocus = TagFilter::in_force(alloc, config.filtering.tagfocus.as_slice())?;
+    let tagignore = TagFilter::in_force(alloc, config.filtering.tagignore.as_slice())?;
     Ok((tagfocus, tagignore))
 }
 

@@ -40,7 +40,7 @@ pub fn see(
     if !tag_kept(scope.l, scope.v, &filters.tagfocus, &filters.tagignore, s) {
         return Ok(false);
     }
-    if !scope.config.noinlines && cuts_nothing(scope.l, scope.v) {
+    if !scope.config.grouping.noinlines && cuts_nothing(scope.l, scope.v) {
         if !keeps_sample(scope.l, scope.v, &filters.tables, s) {
             return Ok(false);
         }
@@ -58,7 +58,7 @@ pub fn see(
 fn number_all(scope: &Scope, s: &Sample, keys: &mut Vec<u64>) -> Result<(), Memory>
     requires refers { RefersTo scope.now.l.now.profile s.now }
     requires table { IsKeyTable scope.now.l.now.profile scope.now.config.now scope.now.table.now }
-    requires all { scope.now.config.now.noinlines ≡ false }
+    requires all { scope.now.config.now.grouping.noinlines ≡ false }
     requires none { keys.old.items ≡ [] }
     ensures below { IfOk result (λ _.
         All (λ k. k < length scope.now.table.now.names) keys.new.items) }
@@ -88,7 +88,7 @@ fn number_stack(scope: &Scope, stack: &Stack, keys: &mut Vec<u64>) -> Result<(),
 {
     let frames = stack.as_slice();
     for (place, frame) in frames.iter().enumerate() {
-        if counted(stack, place, scope.config.noinlines) {
+        if counted(stack, place, scope.config.grouping.noinlines) {
             let number = number_of(scope, frame);
             keys.push(number)?;
         }

@@ -53,7 +53,7 @@ fn number_locations(
 ) -> Result<Rows, Memory>
     requires { All (IsKeyOf l.now.profile) names.old }
     ensures { IfOk result (λ location.
-        AreRows config.now.grain config.now.showcolumns l.now.profile names.new location) }
+        AreRows config.now.grouping.grain config.now.grouping.showcolumns l.now.profile names.new location) }
 {
     let mut location = Rows::new(alloc);
     let mut stack = List::new(alloc);
@@ -78,7 +78,7 @@ fn number_location(
     requires { location < length l.now.profile.location }
     ensures grown { IfOk result (λ _. Grown l.now.profile names.old names.new) }
     ensures row { IfOk result (λ _.
-        IsRow config.now.grain config.now.showcolumns l.now.profile names.new location row.new) }
+        IsRow config.now.grouping.grain config.now.grouping.showcolumns l.now.profile names.new location row.new) }
 {
     row.truncate(0);
     frames_of(l, location, stack)?;
@@ -96,11 +96,11 @@ fn number_frames(
     requires frames { IsStackOf l.now.profile stack.now }
     requires none { row.old ≡ [] }
     ensures grown { IfOk result (λ _. Grown l.now.profile names.old names.new) }
-    ensures row { IfOk result (λ _. IsNumbered config.now.grain config.now.showcolumns
+    ensures row { IfOk result (λ _. IsNumbered config.now.grouping.grain config.now.grouping.showcolumns
         l.now.profile names.new (map (written l.now.profile) stack.now) row.new) }
 {
     for frame in stack {
-        let key = key_of(l, frame, config.grain, config.showcolumns);
+        let key = key_of(l, frame, config.grouping.grain, config.grouping.showcolumns);
         let number = key_number(names, key)?;
         row.push(number)?;
     }

@@ -64,11 +64,11 @@ module _ (column : ℕ) where
       keys))
 
   -- of samples as a report sees them
-  seen_natural : (p : Profile) (f : Finders) (config : Config) → config.divide_by ≡ 1 → AllByRecursion Natural (left_stacks p f config)
+  seen_natural : (p : Profile) (f : Finders) (config : Config) → config.presentation.divide_by ≡ 1 → AllByRecursion Natural (left_stacks p f config)
       → AreNatural (seen_samples p f config (Some column) p.sample)
   seen_natural p f config undivided all =
       subst AreNatural (sym (seen_left p f config column undivided p.sample))
-      (all_mapped (λ (s : Seen Written). IsNatural s.value) (seen_text config.grain config.showcolumns config.noinlines column) (left_stacks p f config) all)
+      (all_mapped (λ (s : Seen Written). IsNatural s.value) (seen_text config.grouping.grain config.grouping.showcolumns config.grouping.noinlines column) (left_stacks p f config) all)
 
   module _ (p : Profile) (f : Finders) (config : Config) (valid : NoRuleFails p) (within : column < length p.sample_type)
       (least : All (λ s. All (λ v. pos 0 ≤ℤ v) s.value) p.sample) where
@@ -87,7 +87,7 @@ module _ (column : ℕ) where
 
     -- What a saved profile counts by values that are at least 0.
     pub keeps_keys : IsSettled (saved_contents p f config) → left_stacks p f config ≡ map with_stack (cut_samples p f config) → KeepsSums p f config (saved p f config)
-        → ((d : Config) → d.tagfocus ≡ [] → d.tagignore ≡ [] → left_stacks (saved p f config) no_finders d ≡ whole_stacks (saved p f config))
+        → ((d : Config) → d.filtering.tagfocus ≡ [] → d.filtering.tagignore ≡ [] → left_stacks (saved p f config) no_finders d ≡ whole_stacks (saved p f config))
         → (d : Config) → SeesAlike config d → SameKeys p f config (saved p f config) d column
     keeps_keys settled left sums whole d alike =
         let q : Profile = saved p f config in

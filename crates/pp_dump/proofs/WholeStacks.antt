@@ -150,7 +150,7 @@ module _ (p : Profile) where
               ∙ ap (map without_id) (sym (groups_located 0 s.location_id));
         }
 
-    module _ (config : Config) (tagfocus : config.tagfocus ≡ []) (tagignore : config.tagignore ≡ []) where
+    module _ (config : Config) (tagfocus : config.filtering.tagfocus ≡ []) (tagignore : config.filtering.tagignore ≡ []) where
       -- what is left of a sample is its stack
       pub none_dropped : (s : Sample) → filtered_stack p no_finders config s ≡ Some (stack_of p s)
       none_dropped s =

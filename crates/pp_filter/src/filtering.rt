@@ -139,7 +139,7 @@ fn save<R: Threads + Sync>(
     let with = Resources {
         rt,
         alloc,
-        workers: config.workers,
+        workers: config.environment.workers,
         keys: HashKeys::fixed(),
     };
     saved_profile(&with, l, v, &counted)

@@ -78,7 +78,7 @@ shown_edges p f config column limit names a b =
     let caller = written_key p names a in
     let callee = written_key p names b in
     if has_heavy_edge key_cmp kept samples (total_of p f config column)
-    config.edgefraction.billionths caller callee
+    config.presentation.edgefraction.billionths caller callee
     then record { from = a; to = b; value = edge_sum key_cmp kept samples caller callee } ∷ []
     else []
 

@@ -76,11 +76,11 @@ module _ (p : Profile) (f : Finders) (config : Config) where
       let left = not_hidden (written p) f stack in
       drops (finds_or (written p) f.ignore stack false) (not (finds_or (written p) f.focus stack true)) (is_emptied stack left)
       (is_emptied left (frames_shown (written p) f left)) (not (is_some (shown_from (written p) f (frames_shown (written p) f left))))
-      (not (selects_or true p (filter_in_force config.tagfocus) f.tagfocus s)) (selects_or false p (filter_in_force config.tagignore) f.tagignore s)
+      (not (selects_or true p (filter_in_force config.filtering.tagfocus) f.tagfocus s)) (selects_or false p (filter_in_force config.filtering.tagignore) f.tagignore s)
 
 -- the values of samples
 abbrev worth : Config → Option ℕ → List Sample → ℤ
-worth config column samples = selected_all column config.divide_by samples
+worth config column samples = selected_all column config.presentation.divide_by samples
 
 -- one sample more ends in one place
 module _ (s : Sample) (a b c d e g h left : List Sample) where
@@ -114,7 +114,7 @@ module _ (s : Sample) (a b c d e g h left : List Sample) where
 
     value_step : (o : Option Slot) → is_dropping o ≡ true → (z : ℤ)
         → z ≡ worth config column a +ℤ (worth config column b +ℤ (worth config column c +ℤ (worth config column d +ℤ (worth config column e +ℤ (worth config column g +ℤ (worth config column h +ℤ (worth config column left +ℤ pos 0)))))))
-        → selected column config.divide_by s +ℤ z ≡ values o
+        → selected column config.presentation.divide_by s +ℤ z ≡ values o
     value_step None is z so = omega (arith, ints, so)
     value_step (Some slots.Ignore) is z so = omega (arith, ints, so)
     value_step (Some slots.Focus) is z so = omega (arith, ints, so)
@@ -252,10 +252,10 @@ module _ (p : Profile) (f : Finders) (config : Config) where
   unstarted s = not (is_some (shown_from (written p) f (frames_shown (written p) f (left_at s))))
 
   abbrev unselected : Sample → Bool
-  unselected s = not (selects_or true p (filter_in_force config.tagfocus) f.tagfocus s)
+  unselected s = not (selects_or true p (filter_in_force config.filtering.tagfocus) f.tagfocus s)
 
   abbrev rejected : Sample → Bool
-  rejected s = selects_or false p (filter_in_force config.tagignore) f.tagignore s
+  rejected s = selects_or false p (filter_in_force config.filtering.tagignore) f.tagignore s
 
   others : (slot : Slot) → is_in_force f config slot ≡ false → (s : Sample) → is_filter slot (first_filter p f config s) ≡ false
   others slots.Ignore none s =
@@ -274,10 +274,10 @@ module _ (p : Profile) (f : Finders) (config : Config) where
       ap (λ b. is_filter slots.ShowFrom (cascade (ignored s) (unfocused s) (hidden s) (unshown s) b (unselected s) (rejected s))) (ap (λ o. not (is_some o)) (unforced f.show_from _ (Some (frames_shown (written p) f (left_at s))) none))
       ∙ not_show_from (ignored s) (unfocused s) (hidden s) (unshown s) (unselected s) (rejected s)
   others slots.TagFocus none s =
-      ap (λ b. is_filter slots.TagFocus (cascade (ignored s) (unfocused s) (hidden s) (unshown s) (unstarted s) b (rejected s))) (ap not (unforced (filter_in_force config.tagfocus) _ true none))
+      ap (λ b. is_filter slots.TagFocus (cascade (ignored s) (unfocused s) (hidden s) (unshown s) (unstarted s) b (rejected s))) (ap not (unforced (filter_in_force config.filtering.tagfocus) _ true none))
       ∙ not_tagfocus (ignored s) (unfocused s) (hidden s) (unshown s) (unstarted s) (rejected s)
   others slots.TagIgnore none s =
-      ap (λ b. is_filter slots.TagIgnore (cascade (ignored s) (unfocused s) (hidden s) (unshown s) (unstarted s) (unselected s) b)) (unforced (filter_in_force config.tagignore) _ false none)
+      ap (λ b. is_filter slots.TagIgnore (cascade (ignored s) (unfocused s) (hidden s) (unshown s) (unstarted s) (unselected s) b)) (unforced (filter_in_force config.filtering.tagignore) _ false none)
       ∙ not_tagignore (ignored s) (unfocused s) (hidden s) (unshown s) (unstarted s) (unselected s)
   others slots.PruneFrom none s = refl
   others slots.TagShow none s = refl
@@ -324,7 +324,7 @@ pub nodes_add_up : NodesAddUp
 nodes_add_up p f config column limit =
     let samples : List (Seen Written) = report_samples p f config column in
     let value : Written → ℤ = flat key_cmp samples in
-    let heavy : Written → Bool = is_heavy_key key_cmp (total_of p f config column) config.nodefraction.billionths samples in
+    let heavy : Written → Bool = is_heavy_key key_cmp (total_of p f config column) config.presentation.nodefraction.billionths samples in
     let keys : List Written = all_report_keys p f config column in
     let shown : List Written = candidate_keys p f config column in
     let are : shown ≡ filter heavy keys = candidates_are p f config column in
@@ -346,14 +346,14 @@ module _ (p : Profile) (f : Finders) (config : Config) (column : Option ℕ) whe
   abbrev bares : List Sample → List Sample
   bares ss = bare_samples p f config column ss
 
-  worth_if : (b : Bool) (s : Sample) (ss : List Sample) → worth config column (cond b (s ∷ ss) ss) ≡ cond b (selected column config.divide_by s +ℤ worth config column ss) (worth config column ss)
+  worth_if : (b : Bool) (s : Sample) (ss : List Sample) → worth config column (cond b (s ∷ ss) ss) ≡ cond b (selected column config.presentation.divide_by s +ℤ worth config column ss) (worth config column ss)
   worth_if true s ss = refl
   worth_if false s ss = refl
 
   left_values : (ss : List Sample) → worth config column (filtered_samples p f config ss) ≡ sum_where has_frames (seen_samples p f config column ss) +ℤ worth config column (bares ss)
   left_values [] = refl
   left_values (s ∷ ss) =
-      let v : ℤ = selected column config.divide_by s in
+      let v : ℤ = selected column config.presentation.divide_by s in
       let left : List Sample = filtered_samples p f config ss in
       elim (filtered_stack p f config s) as (λ (o : Option (List Frame)). worth config column (cond (is_some o) (s ∷ left) left)
       ≡ sum_where has_frames (cons_option (option_map (seen_with p config column s) o) (seen_samples p f config column ss))

@@ -49,7 +49,7 @@ module _ (p : Profile) (values : List ℤ) (s : Sample) where
 
   same_stack : (f : Finders) (config : Config) → filtered_stack p f config (with_values values s) ≡ filtered_stack p f config s
   same_stack f config = λ i.
-      cond (same_tags true (filter_in_force config.tagfocus) f.tagfocus i && not (same_tags false (filter_in_force config.tagignore) f.tagignore i)) (frames_of_sample p f s) None
+      cond (same_tags true (filter_in_force config.filtering.tagfocus) f.tagfocus i && not (same_tags false (filter_in_force config.filtering.tagignore) f.tagignore i)) (frames_of_sample p f s) None
 
 module _ (p : Profile) (f : Finders) (config : Config) (column num den : ℕ) where
   -- what is seen of the sample
@@ -60,7 +60,7 @@ module _ (p : Profile) (f : Finders) (config : Config) (column num den : ℕ) wh
   abbrev seen_after : Sample → Option (Seen Written)
   seen_after s = seen (scaled p column num den) f config (Some column) (scaled_sample column num den s)
 
-  part_scales : (test : List Written → Bool) (s : Sample) → ScalesEvenly column num den config.divide_by s
+  part_scales : (test : List Written → Bool) (s : Sample) → ScalesEvenly column num den config.presentation.divide_by s
       → option_map_or (part test) (seen_after s) (pos 0) *ℤ pos den ≡ option_map_or (part test) (seen_before s) (pos 0) *ℤ pos num
   part_scales test s even =
       ap (λ (o : Option (List Frame)). option_map_or (part test) (option_map (seen_with (scaled p column num den) config (Some column) (scaled_sample column num den s)) o) (pos 0) *ℤ pos den)
@@ -69,15 +69,15 @@ module _ (p : Profile) (f : Finders) (config : Config) (column num den : ℕ) wh
       option_map_or (part test) (option_map (seen_with (scaled p column num den) config (Some column) (scaled_sample column num den s)) o) (pos 0) *ℤ pos den
       ≡ option_map_or (part test) (option_map (seen_with p config (Some column) s) o) (pos 0) *ℤ pos num) [
         | None ↦ zero-*ℤ (pos den) ∙ sym (zero-*ℤ (pos num))
-        | Some stack ↦ of_either (test (keys_of_stack p config stack)) (selected (Some column) config.divide_by s) (selected (Some column) config.divide_by (scaled_sample column num den s)) num den even
+        | Some stack ↦ of_either (test (keys_of_stack p config stack)) (selected (Some column) config.presentation.divide_by s) (selected (Some column) config.presentation.divide_by (scaled_sample column num den s)) num den even
       ]
 
-  parts_scale : (test : List Written → Bool) (ss : List Sample) → AllByRecursion (ScalesEvenly column num den config.divide_by) ss
+  parts_scale : (test : List Written → Bool) (ss : List Sample) → AllByRecursion (ScalesEvenly column num den config.presentation.divide_by) ss
       → AllByRecursion (λ s. option_map_or (part test) (seen_after s) (pos 0) *ℤ pos den ≡ option_map_or (part test) (seen_before s) (pos 0) *ℤ pos num) ss
   parts_scale test [] even = tt
   parts_scale test (s ∷ ss) even = (part_scales test s even.0, parts_scale test ss even.1)
 
-  sums_scale : (test : List Written → Bool) → AllByRecursion (ScalesEvenly column num den config.divide_by) p.sample
+  sums_scale : (test : List Written → Bool) → AllByRecursion (ScalesEvenly column num den config.presentation.divide_by) p.sample
       → sum_where test (report_samples (scaled p column num den) f config (Some column)) *ℤ pos den ≡ sum_where test (report_samples p f config (Some column)) *ℤ pos num
   sums_scale test even =
       let before : Sample → ℤ = λ s. option_map_or (part test) (seen_before s) (pos 0) in
@@ -136,7 +136,7 @@ module _ (p : Profile) (f : Finders) (config : Config) (column : Option ℕ) whe
       option_map_or (part test) (option_map (seen_with (negated Base p) config column (negated_sample s)) o) (pos 0)
       ≡ neg_ℤ (option_map_or (part test) (option_map (seen_with p config column s) o) (pos 0))) [
         | None ↦ refl
-        | Some stack ↦ if_negated (test (keys_of_stack p config stack)) (selected column config.divide_by s) (selected column config.divide_by (negated_sample s)) (selected_negated column config.divide_by s)
+        | Some stack ↦ if_negated (test (keys_of_stack p config stack)) (selected column config.presentation.divide_by s) (selected column config.presentation.divide_by (negated_sample s)) (selected_negated column config.presentation.divide_by s)
       ]
 
   sums_negated : (test : List Written → Bool)

@@ -26,7 +26,7 @@ FlatsAddUp =
 abbrev pub RowsAddUp : Type 0
 RowsAddUp =
     (p : Profile) (f : Finders) (config : Config) (column : Option ℕ)
-    → config.nodefraction.billionths ≡ 0
+    → config.presentation.nodefraction.billionths ≡ 0
     → int_sum (map (flat key_cmp (report_samples p f config column)) (report_keys p f config column 0))
     ≡ sum_where has_frames (seen_samples p f config column p.sample)
 

@@ -53,10 +53,10 @@ module _ {A : Type 0} (row : A → KeyRow) where
 
 -- a table's lines are those of its figures
 lines_printed : (p : Profile) (f : Finders) (config : Config) (column : Option ℕ)
-    → exact_table p f config column (node_limit config.nodecount 0) (unit_text p column) ≡ figures_text (figures_by p f config column)
+    → exact_table p f config column (node_limit config.presentation.nodecount 0) (unit_text p column) ≡ figures_text (figures_by p f config column)
 lines_printed p f config column =
     ap (λ lines. exact_heading (unit_text p column) ++ lines)
-    (lines_map (key_row (report_samples p f config column)) (first_report_keys p f config column (node_limit config.nodecount 0)))
+    (lines_map (key_row (report_samples p f config column)) (first_report_keys p f config column (node_limit config.presentation.nodecount 0)))
 
 scripts_grouped : {A B C : Type 0} (s : Script A) (f : A → Script B) (g : B → Script C) → scripts.◌>>=◌ (scripts.◌>>=◌ s f) g ≡ scripts.◌>>=◌ s (λ x. scripts.◌>>=◌ (f x) g)
 unfolding scripts.◌>>=◌

@@ -58,7 +58,7 @@ abbrev pub figures_by : Profile → Finders → Config → Option ℕ → Figure
 figures_by p f config column =
     table_with p column (total_of p f config column)
     (map (λ k. figure_of (key_row (report_samples p f config column) k))
-    (first_report_keys p f config column (node_limit config.nodecount 0)))
+    (first_report_keys p f config column (node_limit config.presentation.nodecount 0)))
 
 -- the figures of the profile that a table is made of
 abbrev pub figures_on : Finds → Loaded → Config → Option ℕ → FigureTable
@@ -79,7 +79,7 @@ table_figures finds l config =
 abbrev pub HasEdgesBy : Profile → Finders → Config → Option ℕ → List FigureEdge → Type 0
 HasEdgesBy p f config column edges =
     AreRowEdges (report_samples p f config column)
-    (first_report_keys p f config column (node_limit config.nodecount 0)) edges
+    (first_report_keys p f config column (node_limit config.presentation.nodecount 0)) edges
 
 -- They are those of the profile that a table is made of.
 abbrev pub HasEdgesOn : Finds → Loaded → Config → Option ℕ → List FigureEdge → Type 0

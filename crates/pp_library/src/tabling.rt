@@ -221,9 +221,9 @@ fn figures_by<R: Threads + Sync>(
 }
 
 fn limit_of(config: &Config) -> u32
-    ensures { result ≡ node_limit config.now.nodecount 0 }
+    ensures { result ≡ node_limit config.now.presentation.nodecount 0 }
 {
-    node_limit(config.nodecount, 0)
+    node_limit(config.presentation.nodecount, 0)
 }
 
 // The table with these rows.

@@ -55,11 +55,11 @@ module _ (test : Step → Bool) where
     only_frames : (config : Config) (texts : List (List ℕ)) → Only test (judge_frames finds config texts)
     unfolding judge_frames
     only_frames config texts =
-        only_asking (judge_option finds _ texts config.focus) _ (only_option _ texts config.focus)
-        (λ _. only_asking (judge_option finds _ texts config.ignore) _ (only_option _ texts config.ignore)
-        (λ _. only_asking (judge_option finds _ texts config.hide) _ (only_option _ texts config.hide)
-        (λ _. only_asking (judge_option finds _ texts config.show) _ (only_option _ texts config.show)
-        (λ _. only_asking (judge_option finds _ texts config.show_from) _ (only_option _ texts config.show_from) (λ _. tt)))))
+        only_asking (judge_option finds _ texts config.filtering.focus) _ (only_option _ texts config.filtering.focus)
+        (λ _. only_asking (judge_option finds _ texts config.filtering.ignore) _ (only_option _ texts config.filtering.ignore)
+        (λ _. only_asking (judge_option finds _ texts config.filtering.hide) _ (only_option _ texts config.filtering.hide)
+        (λ _. only_asking (judge_option finds _ texts config.filtering.show) _ (only_option _ texts config.filtering.show)
+        (λ _. only_asking (judge_option finds _ texts config.filtering.show_from) _ (only_option _ texts config.filtering.show_from) (λ _. tt)))))
 
     only_filter : (slot : Slot) (p : Profile) (tags : List Tag) (filter : Option TagFilter) → Only test (judge_filter finds slot p tags filter)
     unfolding judge_filter
@@ -75,9 +75,9 @@ module _ (test : Step → Bool) where
     only_names : (config : Config) (own : Option (List ℕ)) (texts : List (List ℕ)) → Only test (judge_names finds config own texts)
     unfolding judge_names
     only_names config own texts =
-        only_asking (judge_option finds _ texts config.prune_from) _ (only_option _ texts config.prune_from)
-        (λ _. only_asking (judge_option finds _ texts config.tagshow) _ (only_option _ texts config.tagshow)
-        (λ _. only_asking (judge_option finds _ texts config.taghide) _ (only_option _ texts config.taghide)
+        only_asking (judge_option finds _ texts config.filtering.prune_from) _ (only_option _ texts config.filtering.prune_from)
+        (λ _. only_asking (judge_option finds _ texts config.filtering.tagshow) _ (only_option _ texts config.filtering.tagshow)
+        (λ _. only_asking (judge_option finds _ texts config.filtering.taghide) _ (only_option _ texts config.filtering.taghide)
         (λ _. only_asking (judge_option finds _ texts (unwrap_or own [])) _ (only_option _ texts (unwrap_or own [])) (λ _. tt))))
 
     only_with : (config : Config) (own : Option (List ℕ)) (p : Profile) (focus ignore : Option TagFilter) → Only test (judge_with finds config own p focus ignore)

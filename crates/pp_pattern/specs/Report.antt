@@ -33,11 +33,11 @@ slot_refused slot = record { option = slot }
 -- Asks for the patterns of frames: focus, ignore, hide, show, show_from.
 unfoldable pub judge_frames : Finds → Config → List (List ℕ) → Asking PatternRefused FrameVerdicts
 judge_frames finds config texts = do
-  focus ← judge_option finds (slot_refused Focus) texts config.focus
-  ignore ← judge_option finds (slot_refused Ignore) texts config.ignore
-  hide ← judge_option finds (slot_refused Hide) texts config.hide
-  show ← judge_option finds (slot_refused Show) texts config.show
-  show_from ← judge_option finds (slot_refused ShowFrom) texts config.show_from
+  focus ← judge_option finds (slot_refused Focus) texts config.filtering.focus
+  ignore ← judge_option finds (slot_refused Ignore) texts config.filtering.ignore
+  hide ← judge_option finds (slot_refused Hide) texts config.filtering.hide
+  show ← judge_option finds (slot_refused Show) texts config.filtering.show
+  show_from ← judge_option finds (slot_refused ShowFrom) texts config.filtering.show_from
   Give (Ok (record {
     focus = focus;
     ignore = ignore;
@@ -74,9 +74,9 @@ judge_tags finds p focus ignore = do
 unfoldable pub judge_names : Finds → Config → Option (List ℕ) → List (List ℕ)
     → Asking PatternRefused NameVerdicts
 judge_names finds config own texts = do
-  prune_from ← judge_option finds (slot_refused PruneFrom) texts config.prune_from
-  tagshow ← judge_option finds (slot_refused TagShow) texts config.tagshow
-  taghide ← judge_option finds (slot_refused TagHide) texts config.taghide
+  prune_from ← judge_option finds (slot_refused PruneFrom) texts config.filtering.prune_from
+  tagshow ← judge_option finds (slot_refused TagShow) texts config.filtering.tagshow
+  taghide ← judge_option finds (slot_refused TagHide) texts config.filtering.taghide
   own ← judge_option finds (slot_refused Own) texts (unwrap_or own [])
   Give (Ok (record { prune_from = prune_from; tagshow = tagshow; taghide = taghide; own = own }))
 
@@ -109,7 +109,7 @@ judge_with finds config own p focus ignore = do
 -- Asks for all patterns of a report that aren't empty. The first that is refused is named, and none is asked after it.
 abbrev pub judge : Finds → Config → Option (List ℕ) → Profile → Asking PatternRefused Verdicts
 judge finds config own p =
-    judge_with finds config own p (filter_in_force config.tagfocus) (filter_in_force config.tagignore)
+    judge_with finds config own p (filter_in_force config.filtering.tagfocus) (filter_in_force config.filtering.tagignore)
 
 -- what the pattern of an option's value finds of the texts, where it is in force
 abbrev pub found_in : Finds → List (List ℕ) → List ℕ → Option (List Bool)
@@ -124,11 +124,11 @@ parts_found finds p tags (Some f) =
 -- the verdicts of the patterns of frames
 abbrev pub frames_found : Finds → Config → List (List ℕ) → FrameVerdicts
 frames_found finds config texts = record {
-  focus = found_in finds texts config.focus;
-  ignore = found_in finds texts config.ignore;
-  hide = found_in finds texts config.hide;
-  show = found_in finds texts config.show;
-  show_from = found_in finds texts config.show_from;
+  focus = found_in finds texts config.filtering.focus;
+  ignore = found_in finds texts config.filtering.ignore;
+  hide = found_in finds texts config.filtering.hide;
+  show = found_in finds texts config.filtering.show;
+  show_from = found_in finds texts config.filtering.show_from;
 }
 
 -- the verdicts of the patterns of tag filters
@@ -142,9 +142,9 @@ tags_found finds p focus ignore = record {
 -- the verdicts of the other patterns
 abbrev pub names_found : Finds → Config → Option (List ℕ) → List (List ℕ) → NameVerdicts
 names_found finds config own texts = record {
-  prune_from = found_in finds texts config.prune_from;
-  tagshow = found_in finds texts config.tagshow;
-  taghide = found_in finds texts config.taghide;
+  prune_from = found_in finds texts config.filtering.prune_from;
+  tagshow = found_in finds texts config.filtering.tagshow;
+  taghide = found_in finds texts config.filtering.taghide;
   own = found_in finds texts (unwrap_or own []);
 }
 
@@ -157,7 +157,7 @@ verdicts_with finds config own p focus ignore =
 -- All verdicts of a report, where no pattern is refused.
 abbrev pub verdicts_of : Finds → Config → Option (List ℕ) → Profile → Verdicts
 verdicts_of finds config own p =
-    verdicts_with finds config own p (filter_in_force config.tagfocus) (filter_in_force config.tagignore)
+    verdicts_with finds config own p (filter_in_force config.filtering.tagfocus) (filter_in_force config.filtering.tagignore)
 
 -- what the parts of a tag filter find, where it is in force
 abbrev pub filter_finders : Finds → Option TagFilter → TagFinders
@@ -168,17 +168,17 @@ abbrev pub finders_of : Finds → Config → Option (List ℕ) → Option Finder
 finders_of finds config own drop keep = record {
   drop = drop;
   keep = keep;
-  focus = finder_in_force finds config.focus;
-  ignore = finder_in_force finds config.ignore;
-  hide = finder_in_force finds config.hide;
-  show = finder_in_force finds config.show;
-  show_from = finder_in_force finds config.show_from;
-  prune_from = finder_in_force finds config.prune_from;
-  tagshow = finder_in_force finds config.tagshow;
-  taghide = finder_in_force finds config.taghide;
+  focus = finder_in_force finds config.filtering.focus;
+  ignore = finder_in_force finds config.filtering.ignore;
+  hide = finder_in_force finds config.filtering.hide;
+  show = finder_in_force finds config.filtering.show;
+  show_from = finder_in_force finds config.filtering.show_from;
+  prune_from = finder_in_force finds config.filtering.prune_from;
+  tagshow = finder_in_force finds config.filtering.tagshow;
+  taghide = finder_in_force finds config.filtering.taghide;
   own = finder_in_force finds (unwrap_or own []);
-  tagfocus = filter_finders finds (filter_in_force config.tagfocus);
-  tagignore = filter_finders finds (filter_in_force config.tagignore);
+  tagfocus = filter_finders finds (filter_in_force config.filtering.tagfocus);
+  tagignore = filter_finders finds (filter_in_force config.filtering.tagignore);
 }
 
 -- What is true of the verdicts of a report, beside the profile's own two lists: they are what the patterns find, with
@@ -187,9 +187,9 @@ pub record AreVerdictsOf (finds : Finds) (config : Config) (own : Option (List �
   pub holds : (drop keep : Option Finder) → l.drop ≡ judged l.profile drop → l.keep ≡ judged l.profile keep
       → HoldsFinders l v (finders_of finds config own drop keep)
   pub fits : HasVerdicts l.profile v
-  pub tagfocus : AreTagVerdicts l.profile v.tag (filter_in_force config.tagfocus)
-      (filter_finders finds (filter_in_force config.tagfocus)) v.tagfocus
-  pub tagignore : AreTagVerdicts l.profile v.tag (filter_in_force config.tagignore)
-      (filter_finders finds (filter_in_force config.tagignore)) v.tagignore
-  pub focus_tags : HasItsTags l.profile v.tag (filter_in_force config.tagfocus)
-  pub ignore_tags : HasItsTags l.profile v.tag (filter_in_force config.tagignore)
+  pub tagfocus : AreTagVerdicts l.profile v.tag (filter_in_force config.filtering.tagfocus)
+      (filter_finders finds (filter_in_force config.filtering.tagfocus)) v.tagfocus
+  pub tagignore : AreTagVerdicts l.profile v.tag (filter_in_force config.filtering.tagignore)
+      (filter_finders finds (filter_in_force config.filtering.tagignore)) v.tagignore
+  pub focus_tags : HasItsTags l.profile v.tag (filter_in_force config.filtering.tagfocus)
+  pub ignore_tags : HasItsTags l.profile v.tag (filter_in_force config.filtering.tagignore)

@@ -107,8 +107,8 @@ fn judge_all<D: Desk>(
     ensures found { IfOk result
         (λ v. v ≡ verdicts_of D.finds config.now (option_copied own.entry) l.now.profile) }
 {
-    let focus = TagFilter::in_force(alloc, config.tagfocus.as_slice())?;
-    let ignore = TagFilter::in_force(alloc, config.tagignore.as_slice())?;
+    let focus = TagFilter::in_force(alloc, config.filtering.tagfocus.as_slice())?;
+    let ignore = TagFilter::in_force(alloc, config.filtering.tagignore.as_slice())?;
     let filters = TagFilters { focus, ignore };
     judge_with(alloc, desk, config, own, l, &filters)
 }
@@ -147,11 +147,11 @@ fn judge_frames<D: Desk>(
         (judge_frames D.finds config.now texts.now) (settled result) }
     ensures found { IfOk result (λ v. v ≡ frames_found D.finds config.now texts.now) }
 {
-    let focus = judge_option(desk, at(Slot::Focus), &config.focus, texts)?;
-    let ignore = judge_option(desk, at(Slot::Ignore), &config.ignore, texts)?;
-    let hide = judge_option(desk, at(Slot::Hide), &config.hide, texts)?;
-    let show = judge_option(desk, at(Slot::Show), &config.show, texts)?;
-    let show_from = judge_option(desk, at(Slot::ShowFrom), &config.show_from, texts)?;
+    let focus = judge_option(desk, at(Slot::Focus), &config.filtering.focus, texts)?;
+    let ignore = judge_option(desk, at(Slot::Ignore), &config.filtering.ignore, texts)?;
+    let hide = judge_option(desk, at(Slot::Hide), &config.filtering.hide, texts)?;
+    let show = judge_option(desk, at(Slot::Show), &config.filtering.show, texts)?;
+    let show_from = judge_option(desk, at(Slot::ShowFrom), &config.filtering.show_from, texts)?;
     Ok(FrameVerdicts {
         focus,
         ignore,
@@ -240,9 +240,9 @@ fn judge_names<D: Desk>(
     ensures found { IfOk result
         (λ v. v ≡ names_found D.finds config.now (option_copied own.entry) texts.now) }
 {
-    let prune_from = judge_option(desk, at(Slot::PruneFrom), &config.prune_from, texts)?;
-    let tagshow = judge_option(desk, at(Slot::TagShow), &config.tagshow, texts)?;
-    let taghide = judge_option(desk, at(Slot::TagHide), &config.taghide, texts)?;
+    let prune_from = judge_option(desk, at(Slot::PruneFrom), &config.filtering.prune_from, texts)?;
+    let tagshow = judge_option(desk, at(Slot::TagShow), &config.filtering.tagshow, texts)?;
+    let taghide = judge_option(desk, at(Slot::TagHide), &config.filtering.taghide, texts)?;
     let own = judge_own(desk, own, texts)?;
     Ok(NameVerdicts {
         prune_from,

@@ -12,4 +12,4 @@ framed_by l roots leaves =
 
 -- the profile with the frames that the configuration asks for
 abbrev pub framed_for : Loaded → Config → Loaded
-framed_for l config = framed_by l (key_list config.tagroot) (key_list config.tagleaf)
+framed_for l config = framed_by l (key_list config.presentation.tagroot) (key_list config.presentation.tagleaf)

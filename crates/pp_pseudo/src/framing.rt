@@ -22,8 +22,8 @@ pub fn framed_for(
     ensures framed { IfOk result (λ framed. unwrap_or framed l.now ≡ framed_for l.now config.now) }
     ensures countable { IfOk result (λ framed. IsCountable (unwrap_or framed l.now).profile) }
 {
-    let roots = key_list(alloc, config.tagroot.as_slice())?;
-    let leaves = key_list(alloc, config.tagleaf.as_slice())?;
+    let roots = key_list(alloc, config.presentation.tagroot.as_slice())?;
+    let leaves = key_list(alloc, config.presentation.tagleaf.as_slice())?;
     framed_by(alloc, hash_keys, l, &roots, &leaves)
 }
 

@@ -64,16 +64,16 @@ module _ (p q : Profile) (same : HasTypesOf p q) where
 
   same_in : (config : Config) (column : Option (Option ℕ)) → in_column q config column ≡ in_column p config column
   same_in config None = refl
-  same_in config (Some column) = ap (λ unit. in_unit column (wanted_unit config.unit unit)) (same_unit column)
+  same_in config (Some column) = ap (λ unit. in_unit column (wanted_unit config.presentation.unit unit)) (same_unit column)
 
-  same_values : (config : Config) → in_column q config (column_of q config.sample_index) ≡ in_column p config (column_of p config.sample_index)
-  same_values config = ap (in_column q config) (same_column config.sample_index) ∙ same_in config (column_of p config.sample_index)
+  same_values : (config : Config) → in_column q config (column_of q config.presentation.sample_index) ≡ in_column p config (column_of p config.presentation.sample_index)
+  same_values config = ap (in_column q config) (same_column config.presentation.sample_index) ∙ same_in config (column_of p config.presentation.sample_index)
 
   -- a report shows the same of both
   pub same_showing : (report : Report) (config : Config) → showing_for report q config ≡ showing_for report p config
   same_showing report config =
-      elim (shows_values report) as (λ values. (if values then in_column q config (column_of q config.sample_index) else Ok (record { column = None; wanted = None }))
-      ≡ (if values then in_column p config (column_of p config.sample_index) else Ok (record { column = None; wanted = None }))) [
+      elim (shows_values report) as (λ values. (if values then in_column q config (column_of q config.presentation.sample_index) else Ok (record { column = None; wanted = None }))
+      ≡ (if values then in_column p config (column_of p config.presentation.sample_index) else Ok (record { column = None; wanted = None }))) [
         | true ↦ same_values config
         | false ↦ refl
       ]
@@ -115,7 +115,7 @@ module _ (l : Loaded) where
   pub basis_types : (report : Report) (config : Config) → HasTypesOf l.profile (basis_of report l config).profile
   unfolding basis_of
   basis_types report config = elim (is_counted report) as (λ counted. HasTypesOf l.profile (if counted then framed_for l config else l).profile) [
-    | true ↦ by_types (key_list config.tagroot) (key_list config.tagleaf)
+    | true ↦ by_types (key_list config.presentation.tagroot) (key_list config.presentation.tagleaf)
     | false ↦ record { types = refl; default = refl }
   ]
 

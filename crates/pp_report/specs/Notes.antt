@@ -38,19 +38,19 @@ note_unless matched slot value =
 -- the notes on the patterns of frames, by which options match
 abbrev pub frame_notes : Config → List Bool → List ℕ
 frame_notes config matched =
-    note_unless matched slots.Focus config.focus
-    ++ note_unless matched slots.Ignore config.ignore
-    ++ note_unless matched slots.Hide config.hide
-    ++ note_unless matched slots.Show config.show
-    ++ note_unless matched slots.ShowFrom config.show_from
+    note_unless matched slots.Focus config.filtering.focus
+    ++ note_unless matched slots.Ignore config.filtering.ignore
+    ++ note_unless matched slots.Hide config.filtering.hide
+    ++ note_unless matched slots.Show config.filtering.show
+    ++ note_unless matched slots.ShowFrom config.filtering.show_from
 
 -- the notes on the patterns of labels, likewise
 abbrev pub tag_notes : Config → List Bool → List ℕ
 tag_notes config matched =
-    note_unless matched slots.TagFocus config.tagfocus
-    ++ note_unless matched slots.TagIgnore config.tagignore
-    ++ note_unless matched slots.TagShow config.tagshow
-    ++ note_unless matched slots.TagHide config.taghide
+    note_unless matched slots.TagFocus config.filtering.tagfocus
+    ++ note_unless matched slots.TagIgnore config.filtering.tagignore
+    ++ note_unless matched slots.TagShow config.filtering.tagshow
+    ++ note_unless matched slots.TagHide config.filtering.taghide
 
 -- The notes by which options match: focus, ignore, hide, show, show_from, tagfocus,
 -- tagignore, prune_from (which is never noted), tagshow and taghide.

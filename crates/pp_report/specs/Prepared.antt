@@ -39,12 +39,12 @@ in_unit column (Some wanted) = Ok (record { column = column; wanted = wanted })
 -- what a report shows, if there is such a column
 abbrev pub in_column : Profile → Config → Option (Option ℕ) → Result Showing ReportRefusal
 in_column p config None = Err BadSampleIndex
-in_column p config (Some column) = in_unit column (wanted_unit config.unit (unit_text p column))
+in_column p config (Some column) = in_unit column (wanted_unit config.presentation.unit (unit_text p column))
 
 -- What a report shows. One that shows no values has no column, and is not refused for it.
 abbrev pub showing_for : Report → Profile → Config → Result Showing ReportRefusal
 showing_for report p config =
-    if shows_values report then in_column p config (column_of p config.sample_index)
+    if shows_values report then in_column p config (column_of p config.presentation.sample_index)
     else Ok (record { column = None; wanted = None })
 
 -- What a report shows, and its notes.

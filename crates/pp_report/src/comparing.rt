@@ -26,7 +26,7 @@ pub fn compare<R: Threads + Sync, G: Gate>(
     ensures { let s = subject.now.survey in (f : Finders) →
         HoldsFilters s.l.now s.v.now s.config.now f →
         IfOk result (λ text. text ≡ compare_text s.l.now.profile f s.config.now s.column
-        (node_limit s.config.now.nodecount 0) (facts subject.now.head.now)) }
+        (node_limit s.config.now.presentation.nodecount 0) (facts subject.now.head.now)) }
 {
     let survey = &subject.survey;
     let (alloc, config) = (with.alloc, survey.config);
@@ -46,7 +46,7 @@ pub fn changes<R: Threads + Sync, G: Gate>(
     ensures { let s = subject.now.survey in (f : Finders) →
         HoldsFilters s.l.now s.v.now s.config.now f →
         IfOk result (λ text. text ≡ changes_text s.l.now.profile f s.config.now s.column
-        (node_limit s.config.now.nodecount 0) (unit_text s.l.now.profile s.column)) }
+        (node_limit s.config.now.presentation.nodecount 0) (unit_text s.l.now.profile s.column)) }
 {
     let survey = &subject.survey;
     let (alloc, config) = (with.alloc, survey.config);

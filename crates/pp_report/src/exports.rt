@@ -40,7 +40,7 @@ pub fn table(alloc: Global, survey: &Survey<'_>) -> Result<Text, Memory>
     ensures { let s = survey.now in (f : Finders) →
         HoldsFilters s.l.now s.v.now s.config.now f →
         IfOk result (λ text. text ≡ exact_table s.l.now.profile f s.config.now s.column
-        (node_limit s.config.now.nodecount 0) (unit_text s.l.now.profile s.column)) }
+        (node_limit s.config.now.presentation.nodecount 0) (unit_text s.l.now.profile s.column)) }
 {
     let (l, counted) = (survey.l, survey.counted);
     let limit = limit_of(survey.config, 0);

@@ -24,7 +24,7 @@ impl<'a, R, G> Host<'a, R, G> {
         Resources {
             rt: self.rt,
             alloc: self.alloc,
-            workers: config.workers,
+            workers: config.environment.workers,
             keys: self.keys,
         }
     }

@@ -20,20 +20,20 @@ pub fn notes_by(alloc: Global, config: &Config, matched: &[bool]) -> Result<Text
 fn put_frame_notes(config: &Config, matched: &[bool], notes: &mut Text) -> Result<(), Memory>
     ensures { IfOk result (λ _. notes.new ≡ notes.old ++ frame_notes config.now matched.now) }
 {
-    put_note(matched, Slot::Focus, &config.focus, notes)?;
-    put_note(matched, Slot::Ignore, &config.ignore, notes)?;
-    put_note(matched, Slot::Hide, &config.hide, notes)?;
-    put_note(matched, Slot::Show, &config.show, notes)?;
-    put_note(matched, Slot::ShowFrom, &config.show_from, notes)
+    put_note(matched, Slot::Focus, &config.filtering.focus, notes)?;
+    put_note(matched, Slot::Ignore, &config.filtering.ignore, notes)?;
+    put_note(matched, Slot::Hide, &config.filtering.hide, notes)?;
+    put_note(matched, Slot::Show, &config.filtering.show, notes)?;
+    put_note(matched, Slot::ShowFrom, &config.filtering.show_from, notes)
 }
 
 fn put_tag_notes(config: &Config, matched: &[bool], notes: &mut Text) -> Result<(), Memory>
     ensures { IfOk result (λ _. notes.new ≡ notes.old ++ tag_notes config.now matched.now) }
 {
-    put_note(matched, Slot::TagFocus, &config.tagfocus, notes)?;
-    put_note(matched, Slot::TagIgnore, &config.tagignore, notes)?;
-    put_note(matched, Slot::TagShow, &config.tagshow, notes)?;
-    put_note(matched, Slot::TagHide, &config.taghide, notes)
+    put_note(matched, Slot::TagFocus, &config.filtering.tagfocus, notes)?;
+    put_note(matched, Slot::TagIgnore, &config.filtering.tagignore, notes)?;
+    put_note(matched, Slot::TagShow, &config.filtering.tagshow, notes)?;
+    put_note(matched, Slot::TagHide, &config.filtering.taghide, notes)
 }
 
 // The note on the variable of this slot and value.

@@ -53,7 +53,7 @@ fn values_shown(
 ) -> Result<Result<Shows, ReportRefusal>, Memory>
     requires { length l.now.profile.sample_type < 2 ^ 32 }
     ensures value { IfOk result (λ answer. result_map_both showing (λ refusal. refusal) answer
-        ≡ in_column l.now.profile config.now (column_of l.now.profile config.now.sample_index)) }
+        ≡ in_column l.now.profile config.now (column_of l.now.profile config.now.presentation.sample_index)) }
     ensures bound { IfOk result (λ answer. IfOk answer
         (λ shows. IsColumnOf l.now.profile shows.column)) }
 {
@@ -61,7 +61,7 @@ fn values_shown(
         return Ok(Err(ReportRefusal::BadSampleIndex));
     };
     let values = unit_text(l.profile.get(), column);
-    let Some(unit) = wanted_unit(alloc, config.unit.as_slice(), values)? else {
+    let Some(unit) = wanted_unit(alloc, config.presentation.unit.as_slice(), values)? else {
         return Ok(Err(ReportRefusal::UnitMismatch));
     };
     Ok(Ok(Shows { column, unit }))

@@ -47,7 +47,7 @@ pub fn top(alloc: Global, subject: &Subject<'_, '_>) -> Result<Text, Memory>
     ensures { let s = subject.now.survey in (f : Finders) →
         HoldsFilters s.l.now s.v.now s.config.now f →
         IfOk result (λ text. text ≡ top_text s.l.now.profile f s.config.now s.column
-        (node_limit s.config.now.nodecount 0) (facts subject.now.head.now)) }
+        (node_limit s.config.now.presentation.nodecount 0) (facts subject.now.head.now)) }
 {
     let s = &subject.survey;
     let limit = limit_of(s.config, 0);
@@ -62,7 +62,7 @@ pub fn account(alloc: Global, subject: &Subject<'_, '_>) -> Result<Text, Memory>
     ensures { let s = subject.now.survey in (f : Finders) →
         HoldsFilters s.l.now s.v.now s.config.now f →
         IfOk result (λ text. text ≡ account_text s.l.now.profile f s.config.now s.column
-        (node_limit s.config.now.nodecount 0) (facts subject.now.head.now)) }
+        (node_limit s.config.now.presentation.nodecount 0) (facts subject.now.head.now)) }
 {
     let s = &subject.survey;
     let limit = limit_of(s.config, 0);
@@ -79,7 +79,7 @@ pub fn tree<R: Threads + Sync, G: Gate>(
     ensures { let s = subject.now.survey in (f : Finders) →
         HoldsFilters s.l.now s.v.now s.config.now f →
         IfOk result (λ text. text ≡ tree_text s.l.now.profile f s.config.now s.column
-        (node_limit s.config.now.nodecount TREE_NODES) (facts subject.now.head.now)) }
+        (node_limit s.config.now.presentation.nodecount TREE_NODES) (facts subject.now.head.now)) }
 {
     let (alloc, s) = (with.alloc, &subject.survey);
     let limit = limit_of(s.config, TREE_NODES);
@@ -91,9 +91,9 @@ pub fn tree<R: Threads + Sync, G: Gate>(
 
 /// The most nodes of a report that has this limit of its own, where 0 is none.
 pub fn limit_of(config: &Config, own: u32) -> u32
-    ensures { result ≡ node_limit config.now.nodecount own }
+    ensures { result ≡ node_limit config.now.presentation.nodecount own }
 {
-    node_limit(config.nodecount, own)
+    node_limit(config.presentation.nodecount, own)
 }
 
 /// The peek report, or `NoMatch` where its pattern finds nothing.

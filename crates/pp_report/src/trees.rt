@@ -24,7 +24,7 @@ pub fn tree_report<R: Threads + Sync, G: Gate>(
         IfOk result (λ text. text ≡ tree_report_text s.l.now.profile f s.config.now s.column
         (facts subject.now.head.now)) }
 {
-    if subject.survey.config.path_tree {
+    if subject.survey.config.presentation.path_tree {
         call_tree(with, subject)
     } else {
         tree(with, subject)

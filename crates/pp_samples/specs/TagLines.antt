@@ -68,7 +68,7 @@ shown_tag_cmp =
 -- the sample with its selected value and the tags that are shown of it
 abbrev pub sample_with_tags : Profile → Finders → Config → Option ℕ → Sample → Seen TagTexts
 sample_with_tags p f config column s = record {
-  value = selected column config.divide_by s;
+  value = selected column config.presentation.divide_by s;
   keys = map (tag_texts p) (shown_labels p f s.label);
 }
 

@@ -53,7 +53,7 @@ trace_text labels value (key ∷ keys) = trace_separator ++ labels ++ frame_line
 abbrev pub trace_of_stack : Profile → Finders → Config → Option ℕ → Shown → Sample → List Written → List ℕ
 trace_of_stack p f config column unit s keys =
     trace_text (flat_map (trace_label_line p) (shown_labels p f s.label))
-    (value_text (selected column config.divide_by s) unit) keys
+    (value_text (selected column config.presentation.divide_by s) unit) keys
 
 -- the lines of a sample, none where the filters drop it
 abbrev pub trace_of : Profile → Finders → Config → Option ℕ → Shown → Sample → List ℕ

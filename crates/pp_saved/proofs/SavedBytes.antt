@@ -98,10 +98,10 @@ module _ (p : Profile) where
 
     in_bound : (o : Option (Option ℕ)) → ((column : Option ℕ) → o ≡ Some column → IsColumnOf p column) → in_column p config o ≡ Ok s → IsColumnOf p s.column
     in_bound None known is = absurd cc
-    in_bound (Some column) known is = unit_bound column (wanted_unit config.unit (unit_text p column)) (known column refl) is
+    in_bound (Some column) known is = unit_bound column (wanted_unit config.presentation.unit (unit_text p column)) (known column refl) is
 
-    values_bound : in_column p config (column_of p config.sample_index) ≡ Ok s → IsColumnOf p s.column
-    values_bound = in_bound (column_of p config.sample_index) (column_bound config.sample_index)
+    values_bound : in_column p config (column_of p config.presentation.sample_index) ≡ Ok s → IsColumnOf p s.column
+    values_bound = in_bound (column_of p config.presentation.sample_index) (column_bound config.presentation.sample_index)
 
     -- what a report shows that stays
     showing_bound : (report : Report) → stays_saved report ≡ true → showing_for report p config ≡ Ok s → IsColumnOf p s.column
@@ -180,8 +180,8 @@ module _ (finds : Finds) (l r : Loaded) (c : Config) (can : CanSave l.profile c)
 
   figures_alike : (report : Report) → report_figures finds r report d ≡ report_figures finds l report c
   figures_alike report =
-      ap (option_map (figures r.profile (report_finders finds r report d) d)) (same_column l.profile r.profile (types_are finds l r report c can is) c.sample_index)
-      ∙ by (column_of l.profile c.sample_index) (column_bound l.profile c.sample_index)
+      ap (option_map (figures r.profile (report_finders finds r report d) d)) (same_column l.profile r.profile (types_are finds l r report c can is) c.presentation.sample_index)
+      ∙ by (column_of l.profile c.presentation.sample_index) (column_bound l.profile c.presentation.sample_index)
     where
       by : (o : Option (Option ℕ)) → ((column : Option ℕ) → o ≡ Some column → IsColumnOf l.profile column)
           → option_map (figures r.profile (report_finders finds r report d) d) o ≡ option_map (figures l.profile (report_finders finds l report c) c) o
@@ -240,18 +240,7 @@ module _ (finds : Finds) (l r : Loaded) (c : Config) (can : CanSave l.profile c)
 
 -- the filters alone tell what is saved
 pub saved_same : (finds : Finds) (l : Loaded) (config c : Config) → HasFiltersOf config c → saved_by finds l c ≡ saved_by finds l config
-saved_same finds l config c has = λ i. saved_by finds l (record config {
-  focus = has.focus i;
-  ignore = has.ignore i;
-  hide = has.hide i;
-  show = has.show i;
-  show_from = has.show_from i;
-  prune_from = has.prune_from i;
-  tagfocus = has.tagfocus i;
-  tagignore = has.tagignore i;
-  tagshow = has.tagshow i;
-  taghide = has.taghide i;
-})
+saved_same finds l config c has = ap (λ filtering. saved_by finds l (record config { filtering = filtering })) has
 
 -- what holds of the loaded profile and of the configuration
 pub can_save : (p : Profile) (c : Config) → NoRuleFails p → AllByRecursion (λ m. m.start < 2 ^ 64) p.mapping → IsSource p → CountsFiltered c → CanSave p c

@@ -152,7 +152,7 @@ on_staying P top tree peek folded table reports.Compare stays = absurd (false≢
 on_staying P top tree peek folded table reports.Changes stays = absurd (false≢true stays)
 on_staying P top tree peek folded table reports.Account stays = absurd (false≢true stays)
 
-module _ (finds : Finds) (l r : Loaded) (config : Config) (by_keys : config.path_tree ≡ false) (s : Showing) (within : IsColumnOf l.profile s.column)
+module _ (finds : Finds) (l r : Loaded) (config : Config) (by_keys : config.presentation.path_tree ≡ false) (s : Showing) (within : IsColumnOf l.profile s.column)
     (can : CanSave l.profile config) (is : IsSavedOf finds l config r) where
   -- the report comes to the same text
   abbrev IsSame : Report → Type 0
@@ -160,7 +160,7 @@ module _ (finds : Finds) (l r : Loaded) (config : Config) (by_keys : config.path
 
   top_is : IsSame reports.Top
   unfolding finish_on text_by
-  top_is = λ i. Give (Ok (top_same finds l r reports.Top config can is s.column within s.wanted (node_limit config.nodecount 0) i))
+  top_is = λ i. Give (Ok (top_same finds l r reports.Top config can is s.column within s.wanted (node_limit config.presentation.nodecount 0) i))
 
   tree_is : IsSame reports.Tree
   unfolding finish_on text_by
@@ -172,9 +172,9 @@ module _ (finds : Finds) (l r : Loaded) (config : Config) (by_keys : config.path
       let g : Finders = report_finders finds r reports.Tree d in
       let h : Facts = report_head p f config s.column s.wanted in
       let k : Facts = report_head q g d s.column s.wanted in
-      (λ i. Give (Ok (if by_keys i then calltree_text q g d s.column k else tree_text q g d s.column (node_limit config.nodecount TREE_NODES) k)))
-      ∙ (λ i. Give (Ok (tree_same finds l r reports.Tree config can is s.column within s.wanted (node_limit config.nodecount TREE_NODES) i)))
-      ∙ (λ i. Give (Ok (if sym by_keys i then calltree_text p f config s.column h else tree_text p f config s.column (node_limit config.nodecount TREE_NODES) h)))
+      (λ i. Give (Ok (if by_keys i then calltree_text q g d s.column k else tree_text q g d s.column (node_limit config.presentation.nodecount TREE_NODES) k)))
+      ∙ (λ i. Give (Ok (tree_same finds l r reports.Tree config can is s.column within s.wanted (node_limit config.presentation.nodecount TREE_NODES) i)))
+      ∙ (λ i. Give (Ok (if sym by_keys i then calltree_text p f config s.column h else tree_text p f config s.column (node_limit config.presentation.nodecount TREE_NODES) h)))
 
   peek_is : (pattern : List ℕ) → IsSame (reports.Peek pattern)
   unfolding finish_on text_by
@@ -184,7 +184,7 @@ module _ (finds : Finds) (l r : Loaded) (config : Config) (by_keys : config.path
 
   table_is : IsSame reports.Table
   unfolding finish_on text_by
-  table_is = λ i. Give (Ok (table_same finds l r reports.Table config can is s.column within s.wanted (node_limit config.nodecount 0) i))
+  table_is = λ i. Give (Ok (table_same finds l r reports.Table config can is s.column within s.wanted (node_limit config.presentation.nodecount 0) i))
 
   folded_is : IsSame reports.Folded
   unfolding finish_on text_by

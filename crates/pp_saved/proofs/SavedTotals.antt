@@ -93,7 +93,7 @@ none_of_base p f config q keeps plain =
         (without_values (whole_stacks q)) keeps.each
 
 -- Without a base, the total over filtered samples is what their absolute values add up to.
-pub relative_total : (p : Profile) (f : Finders) (config : Config) (column : Option ℕ) → config.relative_percentages ≡ true → list_any (is_base p) p.sample ≡ false
+pub relative_total : (p : Profile) (f : Finders) (config : Config) (column : Option ℕ) → config.presentation.relative_percentages ≡ true → list_any (is_base p) p.sample ≡ false
     → total_of p f config column ≡ absolute (seen_samples p f config column p.sample)
 relative_total p f config column relative plain =
     ap (λ (b : Bool). total_over p config column (if b then filtered_samples p f config p.sample else p.sample)) relative

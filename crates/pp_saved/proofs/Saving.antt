@@ -47,7 +47,7 @@ is_saved p f config valid own_starts again =
     let settled : IsSettled c = settled_saved p starts again f config in
     let stacks : KeepsStacks p f config q = keeps_stacks p f config valid starts again settled in
     let q_valid : NoRuleFails q = valid_written c settled.fits in
-    let whole : (d : Config) → d.tagfocus ≡ [] → d.tagignore ≡ [] → left_stacks q no_finders d ≡ whole_stacks q =
+    let whole : (d : Config) → d.filtering.tagfocus ≡ [] → d.filtering.tagignore ≡ [] → left_stacks q no_finders d ≡ whole_stacks q =
     λ d tagfocus tagignore. whole_left q (compact_written c).locations d tagfocus tagignore q_valid in
     let sums : KeepsSums p f config q = keeps_sums p f config q stacks whole in
     let header : header_of q [] ≡ patternless p = ap (λ (what : Contents). what.header) (contents_again c settled) in

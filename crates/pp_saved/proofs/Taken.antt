@@ -118,11 +118,11 @@ module _ (finds : Finds) where
   gives_frames : (config : Config) (texts : List (List ℕ)) → Gives (judge_frames finds config texts)
   unfolding judge_frames
   gives_frames config texts =
-      both (judge_option finds _ texts config.focus) _ (gives_option _ texts config.focus)
-      (λ _. both (judge_option finds _ texts config.ignore) _ (gives_option _ texts config.ignore)
-      (λ _. both (judge_option finds _ texts config.hide) _ (gives_option _ texts config.hide)
-      (λ _. both (judge_option finds _ texts config.show) _ (gives_option _ texts config.show)
-      (λ _. both (judge_option finds _ texts config.show_from) _ (gives_option _ texts config.show_from) (λ _. tt)))))
+      both (judge_option finds _ texts config.filtering.focus) _ (gives_option _ texts config.filtering.focus)
+      (λ _. both (judge_option finds _ texts config.filtering.ignore) _ (gives_option _ texts config.filtering.ignore)
+      (λ _. both (judge_option finds _ texts config.filtering.hide) _ (gives_option _ texts config.filtering.hide)
+      (λ _. both (judge_option finds _ texts config.filtering.show) _ (gives_option _ texts config.filtering.show)
+      (λ _. both (judge_option finds _ texts config.filtering.show_from) _ (gives_option _ texts config.filtering.show_from) (λ _. tt)))))
 
   gives_filter : (slot : Slot) (p : Profile) (tags : List Tag) (filter : Option TagFilter) → Gives (judge_filter finds slot p tags filter)
   unfolding judge_filter
@@ -138,9 +138,9 @@ module _ (finds : Finds) where
   gives_names : (config : Config) (own : Option (List ℕ)) (texts : List (List ℕ)) → Gives (judge_names finds config own texts)
   unfolding judge_names
   gives_names config own texts =
-      both (judge_option finds _ texts config.prune_from) _ (gives_option _ texts config.prune_from)
-      (λ _. both (judge_option finds _ texts config.tagshow) _ (gives_option _ texts config.tagshow)
-      (λ _. both (judge_option finds _ texts config.taghide) _ (gives_option _ texts config.taghide)
+      both (judge_option finds _ texts config.filtering.prune_from) _ (gives_option _ texts config.filtering.prune_from)
+      (λ _. both (judge_option finds _ texts config.filtering.tagshow) _ (gives_option _ texts config.filtering.tagshow)
+      (λ _. both (judge_option finds _ texts config.filtering.taghide) _ (gives_option _ texts config.filtering.taghide)
       (λ _. both (judge_option finds _ texts (unwrap_or own [])) _ (gives_option _ texts (unwrap_or own [])) (λ _. tt))))
 
   gives_with : (config : Config) (own : Option (List ℕ)) (p : Profile) (focus ignore : Option TagFilter) → Gives (judge_with finds config own p focus ignore)

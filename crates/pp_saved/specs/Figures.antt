@@ -41,7 +41,7 @@ pub record Figures : Type 0 where
 -- the frame's function text passes the test, and the key is the frame's
 abbrev pub is_found_frame : Config → (List ℕ → Bool) → Written → Written → Bool
 is_found_frame config test k w =
-    test w.function && eq_by_cmp key_cmp k (key_texts config.grain config.showcolumns w)
+    test w.function && eq_by_cmp key_cmp k (key_texts config.grouping.grain config.grouping.showcolumns w)
 
 -- The figures of a report on the profile, by what its patterns find.
 abbrev pub figures : Profile → Finders → Config → Option ℕ → Figures
@@ -65,4 +65,4 @@ figures p f config column =
 -- The figures of a report on the column that the configuration asks for. Where it asks for no sample type, None is all
 -- that there is.
 abbrev pub asked_figures : Profile → Finders → Config → Option Figures
-asked_figures p f config = option_map (figures p f config) (column_of p config.sample_index)
+asked_figures p f config = option_map (figures p f config) (column_of p config.presentation.sample_index)

@@ -5,8 +5,8 @@ use Rattle.std.specs.Option.{option_map_or}
 use Rattle.std.specs.Ordering.{then_cmp}
 use Rattle.std.specs.declared.cmp.Ordering.{Ordering}
 use Rattle.pp_model.specs.declared.config.Config.{Config}
-use Rattle.pp_model.specs.declared.config.Sort.{Sort}
-use Rattle.pp_model.specs.declared.config.Sort.TheVariants as sorts
+use Rattle.pp_model.specs.declared.presentation.Sort.{Sort}
+use Rattle.pp_model.specs.declared.presentation.Sort.TheVariants as sorts
 use Rattle.pp_model.specs.declared.profile.Profile.{Profile}
 use Rattle.pp_model.specs.Finders.{Finder, Finders}
 use Rattle.pp_model.specs.FrameTexts.{Written}
@@ -65,11 +65,11 @@ module _ (g : Figures) where
   module _ (config : Config) where
     -- whether the key's cum is at least nodefraction of the total
     abbrev pub is_heavy_key : Written → Bool
-    is_heavy_key k = is_heavy g.total config.nodefraction.billionths (g.cum_of k)
+    is_heavy_key k = is_heavy g.total config.presentation.nodefraction.billionths (g.cum_of k)
 
     -- the heavy keys, in report order
     abbrev pub candidates : List Written
-    candidates = each_once (order_by config.sort) (filter is_heavy_key g.keys)
+    candidates = each_once (order_by config.presentation.sort) (filter is_heavy_key g.keys)
 
     -- how many keys are not heavy
     abbrev pub light_keys : ℕ
@@ -79,7 +79,7 @@ module _ (g : Figures) where
     abbrev pub light_pairs : List Written → ℕ
     light_pairs shown =
         sum_by (λ caller. length (filter
-        (is_light_pair (λ k. has key_cmp k shown) config.edgefraction.billionths caller) shown)) shown
+        (is_light_pair (λ k. has key_cmp k shown) config.presentation.edgefraction.billionths caller) shown)) shown
 
     -- the text of the top report with this limit, where 0 is none
     abbrev pub top_layout : ℕ → Facts → List ℕ
@@ -98,12 +98,12 @@ module _ (g : Figures) where
         (length shown) (length candidates)
         ++ table_heading
         ++ tree_nodes_text h.unit h.total (pos 0)
-        (map (node (λ k. has key_cmp k shown) config.edgefraction.billionths) shown)
+        (map (node (λ k. has key_cmp k shown) config.presentation.edgefraction.billionths) shown)
 
     -- the text of the peek report by its own pattern
     abbrev pub peek_layout : Option Finder → Facts → List ℕ
     peek_layout own h =
-        let all = each_once (order_by config.sort) g.keys in
+        let all = each_once (order_by config.presentation.sort) g.keys in
         facts_text h
         ++ showing_line h.unit h.total (int_sum (map g.flat_of all))
         ++ table_heading
@@ -113,7 +113,7 @@ module _ (g : Figures) where
     -- the text of the table report with this limit, where 0 is none, and with this unit of the values
     abbrev pub table_layout : ℕ → List ℕ → List ℕ
     table_layout limit unit =
-        let all = each_once (order_by config.sort) g.keys in
+        let all = each_once (order_by config.presentation.sort) g.keys in
         table.exact_heading unit ++ table.table_rows (map row (shown_keys limit all))
 
 -- The texts of the four reports are these layouts of their figures.

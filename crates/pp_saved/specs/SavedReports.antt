@@ -28,12 +28,12 @@ pub record IsSavedOf (finds : Finds) (l : Loaded) (config : Config) (r : Loaded)
 
 -- No frames are made from labels.
 pub record NamesNoKey (config : Config) : Type 0 where
-  pub roots : key_list config.tagroot ≡ []
-  pub leaves : key_list config.tagleaf ≡ []
+  pub roots : key_list config.presentation.tagroot ≡ []
+  pub leaves : key_list config.presentation.tagleaf ≡ []
 
 -- The tree is by keys, and no frames are made from labels.
 pub record IsPlain (config : Config) : Type 0 where
-  pub path_tree : config.path_tree ≡ false
+  pub path_tree : config.presentation.path_tree ≡ false
   pub keyless : NamesNoKey config
 
 -- Under the second configuration the report of r shows what that of l shows under the first, or is refused likewise;

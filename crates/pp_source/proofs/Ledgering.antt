@@ -4,7 +4,7 @@ use Rattle.std.specs.Ordering.{eq_by_cmp, int_eq, nat_cmp}
 use Rattle.std.proofs.lemmas.Bool.{false≢true}
 use Rattle.std.proofs.lemmas.List.Elements.{All-filter, All-head, All-tail}
 use Rattle.pp_model.specs.declared.config.Config.{Config}
-use Rattle.pp_model.specs.declared.config.Grain.TheVariants.{Lines}
+use Rattle.pp_model.specs.declared.grouping.Grain.TheVariants.{Lines}
 use Rattle.pp_model.specs.declared.profile.Profile.{Profile}
 use Rattle.pp_model.specs.Finders.{Finders}
 use Rattle.pp_model.specs.FirstSight.{place_of}
@@ -55,7 +55,7 @@ module _ (p : Profile) (config : Config) (by : config ≡ by_lines config) (colu
   parts_seen f kept_is are =
       let keyed : map (renamed (written_key p names)) (weighed seen) ≡ map (renamed (key_texts Lines false)) (report_frames p f config column) =
       sym (weighed-renamed (written_key p names) seen) ∙ ap weighed (are ∙ kept_seen p f config column kept kept_is) ∙ sym (keyed_report p f config column)
-      ∙ ap (λ (c : Config). map (renamed (key_texts c.grain c.showcolumns)) (report_frames p f config column)) by in
+      ∙ ap (λ (c : Config). map (renamed (key_texts c.grouping.grain c.grouping.showcolumns)) (report_frames p f config column)) by in
       sym (renamed_twice (part_of part) (written_key p names) (weighed seen)) ∙ ap (map (renamed (part_of part))) keyed ∙ parts_of_frames part (report_frames p f config column)
 
 module _ (p : Profile) (compact : IsCompact p) (zero_text : (text_at p 0 ≡ []) × (0 < length p.text)) (own : Option (List Bool)) (part : KeyPart) (keys : List Key) (of_p : All (IsKeyOf p) keys)

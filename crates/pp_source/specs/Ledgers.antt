@@ -2,7 +2,7 @@
 use Rattle.std.specs.Prelude.{◌≡◌, ℕ, ◌≤◌, nat_lt, Bool, true, false, List, map, All, Option, if◌then◌else◌}
 use Rattle.std.specs.List.{filter}
 use Rattle.pp_model.specs.declared.config.Config.{Config}
-use Rattle.pp_model.specs.declared.config.Grain.TheVariants.{Lines}
+use Rattle.pp_model.specs.declared.grouping.Grain.TheVariants.{Lines}
 use Rattle.pp_model.specs.declared.profile.Profile.{Profile}
 use Rattle.pp_model.specs.declared.profile.Sample.{Sample}
 use Rattle.pp_model.specs.FirstSight.{place_of}
@@ -30,7 +30,8 @@ use Rattle.pp_source.specs.Tally.{new_number, IsTallyBy}
 
 -- the configuration under which the lines of frames are counted
 abbrev pub by_lines : Config → Config
-by_lines config = record config { grain = Lines; showcolumns = false }
+by_lines config =
+    record config { grouping = record config.grouping { grain = Lines; showcolumns = false } }
 
 -- What a walk looks at belongs together.
 pub record IsSoundWalk (walk : Walk) : Type 0 where

@@ -42,7 +42,7 @@ first_present (path ∷ paths) = do
 unfoldable pub source_of : Config → List ℕ → Script Source
 source_of config [] = Give NoName
 source_of config (b ∷ file) =
-    first_present (paths_to_try config.source_path config.trim_path (b ∷ file))
+    first_present (paths_to_try config.environment.source_path config.environment.trim_path (b ∷ file))
 
 -- Reads the sources of these files, one after the other, behind those that were read.
 unfoldable pub read_sources : Config → List Source → List (List ℕ) → Script (List Source)

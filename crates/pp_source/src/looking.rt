@@ -24,8 +24,8 @@ pub fn source_of<D: Desk>(
     if file.is_empty() {
         return Ok(Source::NoName);
     }
-    let source_path = config.source_path.as_slice();
-    let paths = paths_to_try(alloc, source_path, config.trim_path.as_slice(), file)?;
+    let source_path = config.environment.source_path.as_slice();
+    let paths = paths_to_try(alloc, source_path, config.environment.trim_path.as_slice(), file)?;
     first_present(paths.as_slice(), desk)
 }
 

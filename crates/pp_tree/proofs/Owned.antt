@@ -59,7 +59,7 @@ module _ (p : Profile) (f : Finders) (config : Config) (column : Option ℕ) whe
   -- a key that is found is that of a frame that is found
   pub key_match : (k : Written) → is_found_key p f config column k ≡ true → has_own_match p f config column ≡ true
   key_match k some = any_implies (λ (s : Seen Written). list_any (is_own_of f config k) s.keys) (λ (s : Seen Written). list_any (finds_own f) s.keys)
-      (λ s e. any_implies (is_own_of f config k) (finds_own f) (λ w t. first (finds_own f w) (eq_by_cmp key_cmp k (key_texts config.grain config.showcolumns w)) t) s.keys e) (report_frames p f config column) some where
+      (λ s e. any_implies (is_own_of f config k) (finds_own f) (λ w t. first (finds_own f w) (eq_by_cmp key_cmp k (key_texts config.grouping.grain config.grouping.showcolumns w)) t) s.keys e) (report_frames p f config column) some where
         first : (a b : Bool) → (a && b) ≡ true → a ≡ true
         first true b e = refl
         first false b e = e
@@ -69,7 +69,7 @@ module _ (p : Profile) (f : Finders) (config : Config) (column : Option ℕ) whe
   own_in (w ∷ ws) some =
       elim (finds_own f w) as (λ b. finds_own f w ≡ b → (b || list_any (finds_own f) ws) ≡ true → (k : Written) × (list_any (is_own_of f config k) (w ∷ ws) ≡ true)) [
         | true ↦ λ e s.
-            let k : Written = key_texts config.grain config.showcolumns w in
+            let k : Written = key_texts config.grouping.grain config.grouping.showcolumns w in
             let here : list_any (is_own_of f config k) (w ∷ ws) ≡ true = λ i. (e i && tied_self k i) || list_any (is_own_of f config k) ws in
             (k, here)
         | false ↦ λ e s.
@@ -113,7 +113,7 @@ module _ (p : Profile) (f : Finders) (config : Config) (column : Option ℕ) whe
     none_found : (k : Written) (ws : List Written) → list_any (is_own_of f config k) ws ≡ false
     none_found k [] = refl
     none_found k (w ∷ ws) =
-        (λ i. (option_map_or (λ find. find w.function) (not_in_force f.own is i) false && eq_by_cmp key_cmp k (key_texts config.grain config.showcolumns w)) || list_any (is_own_of f config k) ws)
+        (λ i. (option_map_or (λ find. find w.function) (not_in_force f.own is i) false && eq_by_cmp key_cmp k (key_texts config.grouping.grain config.grouping.showcolumns w)) || list_any (is_own_of f config k) ws)
         ∙ none_found k ws
 
     nothing : (k : Written) (ss : List (Seen Written)) → list_any (λ s. list_any (is_own_of f config k) s.keys) ss ≡ false
@@ -124,7 +124,7 @@ module _ (p : Profile) (f : Finders) (config : Config) (column : Option ℕ) whe
     own_frames : (k : Written) (fs : List Frame) → list_any (is_own_of f config k) (map (written p) fs) ≡ list_any (is_own_frame p config find k) fs
     own_frames k [] = refl
     own_frames k (x ∷ fs) = λ i.
-        (option_map_or (λ find. find (written p x).function) (own_is i) false && eq_by_cmp key_cmp k (key_texts config.grain config.showcolumns (written p x)))
+        (option_map_or (λ find. find (written p x).function) (own_is i) false && eq_by_cmp key_cmp k (key_texts config.grouping.grain config.grouping.showcolumns (written p x)))
         || own_frames k fs i
 
     whole : (b : Bool) (o : Option (List Frame)) (stack : List Frame) → cond b o None ≡ Some stack → o ≡ Some stack
@@ -142,10 +142,10 @@ module _ (p : Profile) (f : Finders) (config : Config) (column : Option ℕ) whe
           | None ↦ λ e. over_samples k ss
           | Some stack ↦ λ e.
               let frames : frames_of_sample p f s ≡ Some stack = whole (passes_tags p f config s) (frames_of_sample p f s) stack e in
-              ap (λ o. (not (int_eq (selected column config.divide_by s) (pos 0)) && option_map_or (has_own_frame p config find k) o false)
+              ap (λ o. (not (int_eq (selected column config.presentation.divide_by s) (pos 0)) && option_map_or (has_own_frame p config find k) o false)
               || list_any (has_own_sample p f config column find k) (filter (λ t. is_some (filtered_stack p f config t)) ss)) frames
-              ∙ (λ i. (not (int_eq (selected column config.divide_by s) (pos 0)) && sym (own_frames k (counted_frames config.noinlines stack)) i) || over_samples k ss i)
-              ∙ one (not (int_eq (selected column config.divide_by s) (pos 0))) (framed_with p config column s stack) (weighed (framed_samples p f config column ss))
+              ∙ (λ i. (not (int_eq (selected column config.presentation.divide_by s) (pos 0)) && sym (own_frames k (counted_frames config.grouping.noinlines stack)) i) || over_samples k ss i)
+              ∙ one (not (int_eq (selected column config.presentation.divide_by s) (pos 0))) (framed_with p config column s stack) (weighed (framed_samples p f config column ss))
         ] refl where
           one : (b : Bool) (x : Seen Written) (rest : List (Seen Written))
               → ((b && list_any (is_own_of f config k) x.keys) || list_any (λ t. list_any (is_own_of f config k) t.keys) rest)

@@ -59,7 +59,7 @@ nodes_are p samples sums pairs (n ∷ order) are below = λ i.
 -- the pairs of a tree report
 abbrev pub report_pairs : Profile → Finders → Config → Option ℕ → ℕ → Pairs
 report_pairs p f config column limit = record {
-  shows = has_heavy_edge key_cmp (is_report_key p f config column limit) (report_samples p f config column) (total_of p f config column) config.edgefraction.billionths;
+  shows = has_heavy_edge key_cmp (is_report_key p f config column limit) (report_samples p f config column) (total_of p f config column) config.presentation.edgefraction.billionths;
   value = edge_sum key_cmp (is_report_key p f config column limit) (report_samples p f config column);
   keys = all_keys (report_samples p f config column);
 }

@@ -6,8 +6,8 @@ use Rattle.std.specs.Ordering.{eq_by_cmp, int_eq}
 use Rattle.pp_tree.specs.declared.own.Asked.{Asked}
 use Rattle.pp_model.specs.Conditions.{HasVerdicts}
 use Rattle.pp_model.specs.declared.config.Config.{Config}
-use Rattle.pp_model.specs.declared.config.Grain.{Grain}
-use Rattle.pp_model.specs.declared.config.Grain.TheVariants.{Functions, FileFunctions, Files, Lines, Addresses}
+use Rattle.pp_model.specs.declared.grouping.Grain.{Grain}
+use Rattle.pp_model.specs.declared.grouping.Grain.TheVariants.{Functions, FileFunctions, Files, Lines, Addresses}
 use Rattle.pp_model.specs.declared.frame.Frame.{Frame}
 use Rattle.pp_model.specs.declared.profile.Profile.{Profile}
 use Rattle.pp_model.specs.declared.profile.Sample.{Sample}
@@ -43,18 +43,18 @@ no_frame = record { place = 0; location = 0; row = Option.None }
 -- the frame at the place counts, and is such a one
 abbrev pub is_own_at : Profile → Config → Finder → Written → List Frame → ℕ → Bool
 is_own_at p config find k stack place =
-    frame_counts stack place config.noinlines
+    frame_counts stack place config.grouping.noinlines
     && is_own_frame p config find k (slice_index_or stack place no_frame)
 
 -- one of the stack's frames that count is such a one
 abbrev pub has_own_frame : Profile → Config → Finder → Written → List Frame → Bool
 has_own_frame p config find k stack =
-    list_any (is_own_frame p config find k) (counted_frames config.noinlines stack)
+    list_any (is_own_frame p config find k) (counted_frames config.grouping.noinlines stack)
 
 -- the sample's value isn't 0, and what the stack filters leave of its stack has such a frame
 abbrev pub has_own_sample : Profile → Finders → Config → Option ℕ → Finder → Written → Sample → Bool
 has_own_sample p f config column find k s =
-    not (int_eq (selected column config.divide_by s) (pos 0))
+    not (int_eq (selected column config.presentation.divide_by s) (pos 0))
     && option_map_or (has_own_frame p config find k) (frames_of_sample p f s) false
 
 -- the sample with this number has the key on a frame that the own pattern finds

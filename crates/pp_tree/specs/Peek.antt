@@ -19,7 +19,7 @@ use Rattle.pp_tree.specs.Tree.{near_of}
 -- the own pattern finds the frame's function, and the key is the frame's
 abbrev pub is_own_of : Finders → Config → Written → Written → Bool
 is_own_of f config k w =
-    finds_own f w && eq_by_cmp key_cmp k (key_texts config.grain config.showcolumns w)
+    finds_own f w && eq_by_cmp key_cmp k (key_texts config.grouping.grain config.grouping.showcolumns w)
 
 -- Whether the own pattern finds the function of a frame that counts and has the key.
 abbrev pub is_found_key : Profile → Finders → Config → Option ℕ → Written → Bool

@@ -59,7 +59,7 @@ fn marked_names(alloc: Global, survey: &Survey<'_>, own: &List<bool>) -> Result<
         survey.now.config.now survey.now.column (key_written survey.now.l.now.profile key))
         survey.now.counted.now.sums.names) }
 {
-    if keeps_function(survey.config.grain) {
+    if keeps_function(survey.config.grouping.grain) {
         found_by_functions(alloc, own.as_slice(), &survey.counted.sums.names)
     } else {
         found_by_frames(alloc, survey, own)

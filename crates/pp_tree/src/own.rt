@@ -118,7 +118,7 @@ fn add_sample(
     let Some(sample) = samples.get(number as usize) else {
         return Ok(());
     };
-    if selected(asked.l, sample, asked.column, asked.config.divide_by) == 0 {
+    if selected(asked.l, sample, asked.column, asked.config.presentation.divide_by) == 0 {
         return Ok(());
     }
     if !filter_into(asked.l, asked.v, tables, sample, stack)? {
@@ -166,13 +166,13 @@ fn add_frame(
 {
     let config = asked.config;
     let frame = &stack.as_slice()[place];
-    if !counted(stack, place, config.noinlines) {
+    if !counted(stack, place, config.grouping.noinlines) {
         return Ok(());
     }
     if !is_own(asked, frame) {
         return Ok(());
     }
-    let key = key_of(asked.l, frame, config.grain, config.showcolumns);
+    let key = key_of(asked.l, frame, config.grouping.grain, config.grouping.showcolumns);
     keys.insert(key)?;
     Ok(())
 }

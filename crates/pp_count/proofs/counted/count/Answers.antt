@@ -15,7 +15,7 @@ count_whole-requires-clause-sound g c = λ _ _. subst IsSoundScope (sym c.whole-
 pub count_whole-requires-clause-countable : goal.count_whole-requires-clause-countable
 count_whole-requires-clause-countable g c = λ _ _. subst (λ scope. AreCountable scope (samples_in_scope scope)) (sym c.whole-scope.ensures)
     (record {
-      fits = values_fit c.args.l.now.profile c.args.column c.args.config.now.divide_by c.requires.countable c.requires.column;
+      fits = values_fit c.args.l.now.profile c.args.column c.args.config.now.presentation.divide_by c.requires.countable c.requires.column;
       few = c.requires.countable.samples;
     })
 

@@ -12,7 +12,7 @@ returns c = λ l v config column valid compact can fit.
       finders_found l v focus ignore,
       record {
         found = some_finders l v focus ignore compact.texts can.verdicts;
-        tagfocus = some_parts p compact.texts valid v.tag (filter_in_force config.tagfocus) v.tagfocus can.focus fit.focus;
-        tagignore = some_parts p compact.texts valid v.tag (filter_in_force config.tagignore) v.tagignore can.ignore fit.ignore;
+        tagfocus = some_parts p compact.texts valid v.tag (filter_in_force config.filtering.tagfocus) v.tagfocus can.focus fit.focus;
+        tagignore = some_parts p compact.texts valid v.tag (filter_in_force config.filtering.tagignore) v.tagignore can.ignore fit.ignore;
       },
     )
