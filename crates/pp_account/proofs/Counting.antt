@@ -138,7 +138,7 @@ module _ (p : Profile) (f : Finders) (config : Config) (column : Option ℕ) whe
 
 -- a sample of which this was seen is left without a frame
 bare_by : (p : Profile) (config : Config) (column : Option ℕ) (s : Sample) (left : Option (List Frame)) (kept : Bool) (keys : List Written)
-    → option_map (keys_of_stack p config) left ≡ kept_if kept keys
+    → option_map (keys_of_stack p config.grouping) left ≡ kept_if kept keys
     → (kept && (not (int_eq (selected column config.presentation.divide_by s) (pos 0)) && has_no_items keys))
     ≡ option_map_or (λ x. not (int_eq x.value (pos 0)) && has_no_items x.keys) (option_map (seen_with p config column s) left) false
 bare_by p config column s None true keys is = absurd (none-some keys is)
@@ -151,7 +151,7 @@ has_none f [] = refl
 has_none f (x ∷ xs) = refl
 
 pub bare_is : {A : Type 0} (p : Profile) (f : Finders) (config : Config) (column : Option ℕ) (s : Sample) (name : A → Written) (kept bare : Bool) (value : ℤ) (keys : List A)
-    → option_map (keys_of_stack p config) (filtered_stack p f config s) ≡ kept_if kept (map name keys) → value ≡ selected column config.presentation.divide_by s
+    → option_map (keys_of_stack p config.grouping) (filtered_stack p f config s) ≡ kept_if kept (map name keys) → value ≡ selected column config.presentation.divide_by s
     → bare ≡ (kept && (not (int_eq value (pos 0)) && has_no_items keys)) → bare ≡ is_bare p f config column s
 bare_is p f config column s name kept bare value keys seen value_is is =
     is ∙ (λ i. kept && (not (int_eq (value_is i) (pos 0)) && sym (has_none name keys) i))

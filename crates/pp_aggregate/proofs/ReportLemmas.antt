@@ -107,7 +107,7 @@ module _ (keep : Kept) (p : Profile) (f : Finders) (config : Config) (column : O
   match_none pattern none =
       ap (λ o. frame_match kept f o p.sample) none ∙ sym (ap (λ o. frame_match p f o p.sample) none)
 
-  matches_left : FramesStay keep p f config → matches_of kept f config ≡ matches_of p f config
+  matches_left : FramesStay keep p f config.grouping → matches_of kept f config ≡ matches_of p f config
   matches_left stay = by keep.inline_frames refl stay.patterns
     where
       all : Matches f.focus → Matches f.ignore → Matches f.hide → Matches f.show → Matches f.show_from → matches_of kept f config ≡ matches_of p f config
@@ -126,7 +126,7 @@ module _ (keep : Kept) (p : Profile) (f : Finders) (config : Config) (column : O
           (match_none f.show_from none.show_from)
 
   -- without them
-  last_left : keeps_counted keep config ≡ true → AsksNoFrame f → (s : Sample) → IsLeft s
+  last_left : keeps_counted keep config.grouping ≡ true → AsksNoFrame f → (s : Sample) → IsLeft s
   last_left counted none s =
       let before : filtered_stack p f config s ≡ cond (passes_tags p f config s) (Some (stack_of p s)) None =
       ap (λ o. cond (passes_tags p f config s) o None) (unfiltered (written p) f (stack_of p s) none) in
@@ -152,14 +152,14 @@ module _ (keep : Kept) (p : Profile) (f : Finders) (config : Config) (column : O
       framed_tags false keys = refl
 
   -- either way
-  each_left : FramesStay keep p f config → (s : Sample) → IsLeft s
+  each_left : FramesStay keep p f config.grouping → (s : Sample) → IsLeft s
   each_left stay = by keep.inline_frames refl stay.patterns
     where
       by : (b : Bool) → keep.inline_frames ≡ b → patterns_stay b keep p f → (s : Sample) → IsLeft s
       by true is patterns = whole_left is patterns
       by false is patterns = last_left stay.counted patterns
 
-  module _ (stay : FramesStay keep p f config) where
+  module _ (stay : FramesStay keep p f config.grouping) where
     some_left : (s : Sample) → is_some (filtered_stack kept f config s) ≡ is_some (filtered_stack p f config s)
     some_left s = (each_left stay s).some
 

@@ -21,10 +21,10 @@ use Rattle.pp_aggregate.specs.Left.{left_of_frame, keeps_keys, keeps_counted, Fr
 abbrev pub KeysStay : Type 0
 KeysStay =
     (keep : Kept) (p : Profile) (config : Config) (s : Sample)
-    → NoRuleFails p → keeps_counted keep config ≡ true
+    → NoRuleFails p → keeps_counted keep config.grouping ≡ true
     → keeps_keys keep config.grouping.grain config.grouping.showcolumns ≡ true
-    → keys_of_stack (aggregated keep p) config (stack_of (aggregated keep p) s)
-    ≡ keys_of_stack p config (stack_of p s)
+    → keys_of_stack (aggregated keep p) config.grouping (stack_of (aggregated keep p) s)
+    ≡ keys_of_stack p config.grouping (stack_of p s)
 
 -- With filters, the samples that are kept are the same, of the same values, with what is left of the frames that count.
 -- The same options match something, and the own pattern of a report finds a function where it found one.
@@ -43,13 +43,13 @@ pub record AreLeft (keep : Kept) (p : Profile) (f : Finders) (config : Config) (
 abbrev pub FramesAreLeft : Type 0
 FramesAreLeft =
     (keep : Kept) (p : Profile) (f : Finders) (config : Config) (column : Option ℕ)
-    → NoRuleFails p → FramesStay keep p f config → AreLeft keep p f config column
+    → NoRuleFails p → FramesStay keep p f config.grouping → AreLeft keep p f config column
 
 -- At a grain that looks at nothing that is dropped a report has the same samples by keys, so the same figures.
 abbrev pub SamplesStay : Type 0
 SamplesStay =
     (keep : Kept) (p : Profile) (f : Finders) (config : Config) (column : Option ℕ)
-    → NoRuleFails p → FramesStay keep p f config
+    → NoRuleFails p → FramesStay keep p f config.grouping
     → keeps_keys keep config.grouping.grain config.grouping.showcolumns ≡ true
     → report_samples (aggregated keep p) f config column ≡ report_samples p f config column
 
@@ -57,7 +57,7 @@ SamplesStay =
 abbrev pub SumsStay : Type 0
 SumsStay =
     (keep : Kept) (p : Profile) (f : Finders) (config : Config) (column : Option ℕ) (sums : Sums)
-    → NoRuleFails p → FramesStay keep p f config
+    → NoRuleFails p → FramesStay keep p f config.grouping
     → keeps_keys keep config.grouping.grain config.grouping.showcolumns ≡ true
     → AreSumsOf p (report_samples p f config column) sums
     → AreSumsOf (aggregated keep p) (report_samples (aggregated keep p) f config column) sums

@@ -37,8 +37,8 @@ keeps_keys keep Lines showcolumns = keeps_lines keep showcolumns
 keeps_keys keep Addresses showcolumns = keeps_lines keep showcolumns && keep.addresses
 
 -- each frame that the report counts is kept
-abbrev pub keeps_counted : Kept → Config → Bool
-keeps_counted keep config = keep.inline_frames || config.grouping.noinlines
+abbrev pub keeps_counted : Kept → Grouping → Bool
+keeps_counted keep grouping = keep.inline_frames || grouping.noinlines
 
 -- the pattern finds the frame; one that isn't in force finds none
 abbrev pub finds_in_force : Option Finder → Written → Bool
@@ -82,6 +82,6 @@ patterns_stay true keep p f = FindsLeft keep p f
 patterns_stay false keep p f = AsksNoFrame f
 
 -- The samples that the filters leave do not depend on what is dropped, nor do their frames that count.
-pub record FramesStay (keep : Kept) (p : Profile) (f : Finders) (config : Config) : Type 0 where
-  pub counted : keeps_counted keep config ≡ true
+pub record FramesStay (keep : Kept) (p : Profile) (f : Finders) (grouping : Grouping).grouping : Type 0 where
+  pub counted : keeps_counted keep grouping ≡ true
   pub patterns : patterns_stay keep.inline_frames keep p f

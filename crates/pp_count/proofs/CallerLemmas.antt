@@ -38,9 +38,9 @@ weighed-renamed f (s ∷ ss) =
     ]
 
 module _ (p : Profile) (f : Finders) (config : Config) (column : Option ℕ) where
-  keys_of_frames : (stack : List Frame) → map (key_of_written config) (map (written p) stack) ≡ map (key_of_frame p config) stack
+  keys_of_frames : (stack : List Frame) → map (key_of_written config) (map (written p) stack) ≡ map (key_of_frame p config.grouping) stack
   keys_of_frames [] = refl
-  keys_of_frames (x ∷ stack) = ap (λ ks. key_of_frame p config x ∷ ks) (keys_of_frames stack)
+  keys_of_frames (x ∷ stack) = ap (λ ks. key_of_frame p config.grouping x ∷ ks) (keys_of_frames stack)
 
   keyed_stack : (s : Sample) (stack : List Frame) → renamed (key_of_written config) (framed_with p config column s stack) ≡ seen_with p config column s stack
   keyed_stack s stack = ap (λ ks. record { value = (seen_with p config column s stack).value; keys = ks }) (keys_of_frames (counted_frames config.grouping.noinlines stack))

@@ -40,7 +40,7 @@ use Rattle.pp_count.proofs.Renaming.{occurs_below, occurs_named, cum-renamed, fl
 
 -- The part of a range, by what its samples are.
 pub range_part : (scope : Scope) (number m : ℕ) (samples : List Sample) (part : Part) → scope.over ≡ None → scope.chosen ≡ None → IsCompact (profile_in_scope scope)
-    → IsKeyTable (profile_in_scope scope) (config_of scope) scope.table.now → number ≡ m → IsPartOf scope number samples part
+    → IsKeyTable (profile_in_scope scope) (config_of scope).grouping scope.table.now → number ≡ m → IsPartOf scope number samples part
     → IsRangePart scope.l.now scope.v.now (config_of scope) scope.column scope.table.now.names m samples part
 range_part scope number m samples part none all compact table same is =
     let n : ℕ = length scope.table.now.names in

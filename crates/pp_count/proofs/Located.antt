@@ -18,15 +18,15 @@ use Rattle.pp_count.specs.Seeing.{counted_frames, key_of_frame, keys_of_stack}
 
 -- the keys of all frames
 abbrev pub all_keys : Profile → Config → List Frame → List Written
-all_keys p config stack = map (key_of_frame p config) stack
+all_keys p config stack = map (key_of_frame p config.grouping) stack
 
 -- where inlined frames count, all frames do
 all_count : (stack : List Frame) → counted_frames false stack ≡ stack
 all_count [] = refl
 all_count (f ∷ stack) = ap (λ r. f ∷ r) (all_count stack)
 
-pub keys_of_all : (p : Profile) (config : Config) (stack : List Frame) → config.grouping.noinlines ≡ false → all_keys p config stack ≡ keys_of_stack p config stack
-keys_of_all p config stack all = ap (map (key_of_frame p config)) (sym (ap (λ b. counted_frames b stack) all ∙ all_count stack))
+pub keys_of_all : (p : Profile) (config : Config) (stack : List Frame) → config.grouping.noinlines ≡ false → all_keys p config stack ≡ keys_of_stack p config.grouping stack
+keys_of_all p config stack all = ap (map (key_of_frame p config.grouping)) (sym (ap (λ b. counted_frames b stack) all ∙ all_count stack))
 
 -- a location's frames are written the same wherever it stands in a sample
 rows_anywhere : (p : Profile) (place location : ℕ) (lines : List Line) → map (written p) (rows place location lines) ≡ map (written p) (rows 0 location lines)
@@ -52,7 +52,7 @@ located_none p config table ids keys none = rw none (record { below = λ k d bel
 
 -- one more location, whose row was read
 pub located_more : (p : Profile) (config : Config) (table : KeyTable) (ids : List ℕ) (i : ℕ) (keys row : List ℕ)
-    → IsKeyTable p config table → i < length ids → get_or ids i 0 - 1 < length table.location → row ≡ get_or table.location (get_or ids i 0 - 1) []
+    → IsKeyTable p config.grouping table → i < length ids → get_or ids i 0 - 1 < length table.location → row ≡ get_or table.location (get_or ids i 0 - 1) []
     → LocatedTo p config table ids i keys → LocatedTo p config table ids (i + 1) (keys ++ row)
 located_more p config table ids i keys row t here within read so_far =
     let location : ℕ = get_or ids i 0 - 1 in
@@ -66,14 +66,14 @@ located_more p config table ids i keys row t here within read so_far =
           ap (λ ks. ks ++ rest) (map-append name keys row)
           ∙ append_assoc (map name keys) (map name row) rest
           ∙ ap (λ ks. map name keys ++ ks) (ap (λ ks. ks ++ rest) (row_named p config table.names i location row is)
-          ∙ sym (map-append (key_of_frame p config) (rows i location (lines_at p location)) (frames_from p (i + 1) (drop (i + 1) ids)))
+          ∙ sym (map-append (key_of_frame p config.grouping) (rows i location (lines_at p location)) (frames_from p (i + 1) (drop (i + 1) ids)))
           ∙ ap (λ js. all_keys p config (frames_from p i js)) (sym (drop_more ids i 0 here)))
           ∙ so_far.named;
     }
 
 -- past the last location all frames have their numbers
 pub located_all : (p : Profile) (config : Config) (table : KeyTable) (ids : List ℕ) (i : ℕ) (keys : List ℕ) → config.grouping.noinlines ≡ false → length ids ≤ i
-    → LocatedTo p config table ids i keys → map (written_key p table.names) keys ≡ keys_of_stack p config (frames_from p 0 ids)
+    → LocatedTo p config table ids i keys → map (written_key p table.names) keys ≡ keys_of_stack p config.grouping (frames_from p 0 ids)
 located_all p config table ids i keys all past so_far =
     sym (append-nil (map (written_key p table.names) keys))
     ∙ ap (λ js. map (written_key p table.names) keys ++ all_keys p config (frames_from p i js)) (sym (drop_all i ids past))

@@ -34,13 +34,13 @@ abbrev pub seen_if : Scope → Sample → Option (List Written) → Option (Seen
 seen_if scope s keys = option_map (λ ks. record { value = selected scope.column (config_of scope).presentation.divide_by s; keys = ks }) keys
 
 seen_is : (scope : Scope) (f : Finders) (s : Sample) (stack : Option (List Frame))
-    → option_map (seen_with (profile_in_scope scope) (config_of scope) scope.column s) stack ≡ seen_if scope s (option_map (keys_of_stack (profile_in_scope scope) (config_of scope)) stack)
+    → option_map (seen_with (profile_in_scope scope) (config_of scope) scope.column s) stack ≡ seen_if scope s (option_map (keys_of_stack (profile_in_scope scope) (config_of scope).grouping) stack)
 seen_is scope f s None = refl
 seen_is scope f s (Some x) = refl
 
 -- whether the filters leave something
 pub some_is : (scope : Scope) (stack : Option (List Frame)) (kept : Bool) (keys : List Written)
-    → option_map (keys_of_stack (profile_in_scope scope) (config_of scope)) stack ≡ kept_if kept keys → is_some stack ≡ kept
+    → option_map (keys_of_stack (profile_in_scope scope) (config_of scope).grouping) stack ≡ kept_if kept keys → is_some stack ≡ kept
 some_is scope None true keys e = cc
 some_is scope None false keys e = refl
 some_is scope (Some x) true keys e = refl
@@ -49,7 +49,7 @@ some_is scope (Some x) false keys e = cc
 -- What was found of one sample: the filters keep it or not, and its key numbers.
 abbrev pub IsSeen : Scope → Sample → Bool → List ℕ → Type 0
 IsSeen scope s kept keys = (f : Finders) → HoldsFilters scope.l.now scope.v.now (config_of scope) f
-    → option_map (keys_of_stack (profile_in_scope scope) (config_of scope)) (filtered_stack (profile_in_scope scope) f (config_of scope) s) ≡ kept_if kept (map (name_of scope) keys)
+    → option_map (keys_of_stack (profile_in_scope scope) (config_of scope).grouping) (filtered_stack (profile_in_scope scope) f (config_of scope) s) ≡ kept_if kept (map (name_of scope) keys)
 
 -- the sample by its key numbers
 abbrev pub by_numbers : Scope → Sample → List ℕ → Seen ℕ

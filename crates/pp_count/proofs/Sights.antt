@@ -26,9 +26,9 @@ pub record HasNumber (p : Profile) (config : Config) (table : KeyTable) (f : Fra
   pub location : f.location < length table.location
   pub row : unwrap_or f.row 0 < length (get_or table.location f.location [])
   pub below : number_at table.location f < length table.names
-  pub named : written_key p table.names (number_at table.location f) ≡ key_of_frame p config f
+  pub named : written_key p table.names (number_at table.location f) ≡ key_of_frame p config.grouping f
 
-pub number_is : (p : Profile) (config : Config) (table : KeyTable) (f : Frame) → IsKeyTable p config table → IsFrameOf p f → HasNumber p config table f
+pub number_is : (p : Profile) (config : Config) (table : KeyTable) (f : Frame) → IsKeyTable p config.grouping table → IsFrameOf p f → HasNumber p config table f
 number_is p config table f t is =
     let within : f.location < length table.location = omega (arith, t.count, is.location) in
     let row : List ℕ = get_or table.location f.location [] in
@@ -53,10 +53,10 @@ number_is p config table f t is =
 pub record IsThere (p : Profile) (config : Config) (table : KeyTable) (f : Frame) (row : List ℕ) (at : ℕ) : Type 0 where
   pub within : at < length row
   pub below : get_or row at 0 < length table.names
-  pub named : written_key p table.names (get_or row at 0) ≡ key_of_frame p config f
+  pub named : written_key p table.names (get_or row at 0) ≡ key_of_frame p config.grouping f
 
 pub number_there : (p : Profile) (config : Config) (table : KeyTable) (f : Frame) (row : List ℕ) (at : ℕ)
-    → IsKeyTable p config table → IsFrameOf p f → row ≡ get_or table.location f.location [] → at ≡ unwrap_or f.row 0
+    → IsKeyTable p config.grouping table → IsFrameOf p f → row ≡ get_or table.location f.location [] → at ≡ unwrap_or f.row 0
     → IsThere p config table f row at
 number_there p config table f row at t is read place =
     let has = number_is p config table f t is in
@@ -67,7 +67,7 @@ number_there p config table f row at t is read place =
 -- The key numbers so far, and the keys of the frames that are left.
 pub record NumberedTo (p : Profile) (config : Config) (table : KeyTable) (stack : List Frame) (i : ℕ) (keys : List ℕ) : Type 0 where
   pub below : All (λ k. k < length table.names) keys
-  pub named : map (written_key p table.names) keys ++ keys_of_stack p config (drop i stack) ≡ keys_of_stack p config stack
+  pub named : map (written_key p table.names) keys ++ keys_of_stack p config.grouping (drop i stack) ≡ keys_of_stack p config.grouping stack
 
 pub numbered_none : (p : Profile) (config : Config) (table : KeyTable) (stack : List Frame) (keys : List ℕ) → keys ≡ [] → NumberedTo p config table stack 0 keys
 numbered_none p config table stack keys none = rw none (record { below = λ k d below. absurd (omega (arith, below)); named = refl })
@@ -75,15 +75,15 @@ numbered_none p config table stack keys none = rw none (record { below = λ k d 
 -- one more frame, which counts
 pub numbered_more : (p : Profile) (config : Config) (table : KeyTable) (stack : List Frame) (i : ℕ) (keys : List ℕ) (f : Frame) (n : ℕ)
     → i < length stack → f ≡ get_or stack i f → frame_counts stack i config.grouping.noinlines ≡ true
-    → n < length table.names → written_key p table.names n ≡ key_of_frame p config f
+    → n < length table.names → written_key p table.names n ≡ key_of_frame p config.grouping f
     → NumberedTo p config table stack i keys → NumberedTo p config table stack (i + 1) (keys ++ n ∷ [])
 numbered_more p config table stack i keys f n here is counted below named so_far = record {
   below = All-push (λ k. k < length table.names) keys n so_far.below below;
   named =
-      ap (λ ks. ks ++ keys_of_stack p config (drop (i + 1) stack)) (map-append (written_key p table.names) keys (n ∷ []))
-      ∙ append_assoc (map (written_key p table.names) keys) (written_key p table.names n ∷ []) (keys_of_stack p config (drop (i + 1) stack))
-      ∙ ap (λ k. map (written_key p table.names) keys ++ k ∷ keys_of_stack p config (drop (i + 1) stack)) named
-      ∙ ap (λ fs. map (written_key p table.names) keys ++ map (key_of_frame p config) fs)
+      ap (λ ks. ks ++ keys_of_stack p config.grouping (drop (i + 1) stack)) (map-append (written_key p table.names) keys (n ∷ []))
+      ∙ append_assoc (map (written_key p table.names) keys) (written_key p table.names n ∷ []) (keys_of_stack p config.grouping (drop (i + 1) stack))
+      ∙ ap (λ k. map (written_key p table.names) keys ++ k ∷ keys_of_stack p config.grouping (drop (i + 1) stack)) named
+      ∙ ap (λ fs. map (written_key p table.names) keys ++ map (key_of_frame p config.grouping) fs)
       (one_more stack i config.grouping.noinlines f here is counted)
       ∙ so_far.named;
 }
@@ -91,7 +91,7 @@ numbered_more p config table stack i keys f n here is counted below named so_far
 -- the numbers of the frames that were read from the stack
 pub numbered_read : (p : Profile) (config : Config) (table : KeyTable) (stack read : List Frame) (i : ℕ) (keys : List ℕ) (d : Frame) (n : ℕ)
     → read ≡ stack → i < length read → frame_counts stack i config.grouping.noinlines ≡ true
-    → n < length table.names → written_key p table.names n ≡ key_of_frame p config (get_or read i d)
+    → n < length table.names → written_key p table.names n ≡ key_of_frame p config.grouping (get_or read i d)
     → NumberedTo p config table stack i keys → NumberedTo p config table stack (i + 1) (keys ++ n ∷ [])
 numbered_read p config table stack read i keys d n lent here counted below named so_far =
     let within : i < length stack = omega (arith, here, ap length lent) in
@@ -106,13 +106,13 @@ numbered_other p config table stack i keys here other so_far =
     record {
       below = so_far.below;
       named =
-          ap (λ fs. map (written_key p table.names) keys ++ map (key_of_frame p config) fs) (no_more stack i config.grouping.noinlines here other)
+          ap (λ fs. map (written_key p table.names) keys ++ map (key_of_frame p config.grouping) fs) (no_more stack i config.grouping.noinlines here other)
           ∙ so_far.named;
     }
 
 -- past the last frame all are numbered
 pub numbered_all : (p : Profile) (config : Config) (table : KeyTable) (stack : List Frame) (i : ℕ) (keys : List ℕ) → length stack ≤ i
-    → NumberedTo p config table stack i keys → map (written_key p table.names) keys ≡ keys_of_stack p config stack
+    → NumberedTo p config table stack i keys → map (written_key p table.names) keys ≡ keys_of_stack p config.grouping stack
 numbered_all p config table stack i keys past so_far =
     sym (append-nil (map (written_key p table.names) keys))
-    ∙ ap (λ fs. map (written_key p table.names) keys ++ keys_of_stack p config fs) (sym (drop_of_length-le stack past)) ∙ so_far.named
+    ∙ ap (λ fs. map (written_key p table.names) keys ++ keys_of_stack p config.grouping fs) (sym (drop_of_length-le stack past)) ∙ so_far.named

@@ -81,7 +81,7 @@ pub record IsCountedOf (l : Loaded) (v : Verdicts) (config : Config) (column : O
   pub fits : FitSums c.sums
   pub of_profile : All (IsKeyOf l.profile) c.sums.names
   pub rising : AreRisingBetween 0 (length l.profile.sample) c.kept
-  pub table : IsKeyTable l.profile config c.table
+  pub table : IsKeyTable l.profile config.grouping c.table
   pub filters : AreFilters l.profile v config c.filters
   pub names : c.sums.names ≡ map (key_numbered c.table.names) c.numbers
   pub numbered : All (λ n. n < length c.table.names) c.numbers

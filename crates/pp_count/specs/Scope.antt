@@ -49,7 +49,7 @@ samples_in_scope scope = option_map_or (samples_at (profile_in_scope scope)) (ch
 pub record IsSoundScope (scope : Scope) : Type 0 where
   pub filters : AreFilters (profile_in_scope scope) scope.v.now (config_of scope) scope.filters.now
   pub verdicts : HasVerdicts (profile_in_scope scope) scope.v.now
-  pub table : IsKeyTable (profile_in_scope scope) (config_of scope) scope.table.now
+  pub table : IsKeyTable (profile_in_scope scope) (config_of scope).grouping scope.table.now
   pub few_kept : MatchOption (over_of scope) ⊤ HasPairPlaces
   pub chosen : MatchOption (chosen_of scope) ⊤ (AreRisingBetween 0 (length (profile_in_scope scope).sample))
 

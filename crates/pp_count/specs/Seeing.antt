@@ -23,13 +23,13 @@ counted_frames noinlines (f ∷ stack) =
     else counted_frames noinlines stack
 
 -- the key of the frame, by the configuration's grain
-abbrev pub key_of_frame : Profile → Config → Frame → Written
-key_of_frame p config f = key_texts config.grouping.grain config.grouping.showcolumns (written p f)
+abbrev pub key_of_frame : Profile → Grouping → Frame → Written
+key_of_frame p grouping f = key_texts grouping.grain grouping.showcolumns (written p f)
 
 -- the keys of the frames of a stack that count, leaf first
-abbrev pub keys_of_stack : Profile → Config → List Frame → List Written
-keys_of_stack p config stack =
-    map (key_of_frame p config) (counted_frames config.grouping.noinlines stack)
+abbrev pub keys_of_stack : Profile → Grouping → List Frame → List Written
+keys_of_stack p grouping stack =
+    map (key_of_frame p grouping) (counted_frames grouping.noinlines stack)
 
 -- The verdicts of a report are what its patterns find: those on stacks, and the parts of its two tag filters.
 pub record HoldsFilters (l : Loaded) (v : Verdicts) (config : Config) (f : Finders) : Type 0 where
@@ -63,7 +63,7 @@ framed_samples p f config column samples =
 -- the sample with this stack
 abbrev pub seen_with : Profile → Config → Option ℕ → Sample → List Frame → Seen Written
 seen_with p config column s stack =
-    record { value = selected column config.presentation.divide_by s; keys = keys_of_stack p config stack }
+    record { value = selected column config.presentation.divide_by s; keys = keys_of_stack p config.grouping stack }
 
 -- The sample as the report sees it, none where the filters drop it.
 abbrev pub seen : Profile → Finders → Config → Option ℕ → Sample → Option (Seen Written)

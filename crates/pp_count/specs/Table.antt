@@ -52,5 +52,5 @@ pub record AreRows (grain : Grain) (showcolumns : Bool) (p : Profile) (names : L
   pub distinct : AllPairs (λ a b. a ≢ b) names
 
 -- The table has the key number of each line of each location, by the configuration's grain.
-abbrev pub IsKeyTable : Profile → Config → KeyTable → Type 0
-IsKeyTable p config table = AreRows config.grouping.grain config.grouping.showcolumns p table.names table.location
+abbrev pub IsKeyTable : Profile → Grouping → KeyTable → Type 0
+IsKeyTable p grouping table = AreRows grouping.grain grouping.showcolumns p table.names table.location

@@ -85,7 +85,7 @@ fn table_and_filters(
     requires verdicts { HasVerdicts l.now.profile v.now }
     requires focus { HasItsTags l.now.profile v.now.tag (filter_in_force config.now.filtering.tagfocus) }
     requires ignore { HasItsTags l.now.profile v.now.tag (filter_in_force config.now.filtering.tagignore) }
-    ensures table { IfOk result (λ by. IsKeyTable l.now.profile config.now by.0) }
+    ensures table { IfOk result (λ by. IsKeyTable l.now.profile config.now.grouping by.0) }
     ensures filters { IfOk result (λ by. AreFilters l.now.profile v.now config.now by.1) }
 {
     let table = key_table(alloc, hash_keys, l, config)?;

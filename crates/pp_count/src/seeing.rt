@@ -30,7 +30,7 @@ pub fn see(
         All (λ k. k < length scope.now.table.now.names) keys.new.items) }
     ensures seen { (f : Finders) →
         HoldsFilters scope.now.l.now scope.now.v.now scope.now.config.now f →
-        IfOk result (λ kept. option_map (keys_of_stack scope.now.l.now.profile scope.now.config.now)
+        IfOk result (λ kept. option_map (keys_of_stack scope.now.l.now.profile scope.now.config.now.grouping)
         (filtered_stack scope.now.l.now.profile f scope.now.config.now s.now)
         ≡ kept_if kept (map (written_key scope.now.l.now.profile scope.now.table.now.names)
         keys.new.items)) }
@@ -57,14 +57,14 @@ pub fn see(
 // Adds the key numbers of all frames of the sample, leaf first. No stack is made for it.
 fn number_all(scope: &Scope, s: &Sample, keys: &mut Vec<u64>) -> Result<(), Memory>
     requires refers { RefersTo scope.now.l.now.profile s.now }
-    requires table { IsKeyTable scope.now.l.now.profile scope.now.config.now scope.now.table.now }
+    requires table { IsKeyTable scope.now.l.now.profile scope.now.config.now.grouping scope.now.table.now }
     requires all { scope.now.config.now.grouping.noinlines ≡ false }
     requires none { keys.old.items ≡ [] }
     ensures below { IfOk result (λ _.
         All (λ k. k < length scope.now.table.now.names) keys.new.items) }
     ensures named { IfOk result (λ _.
         map (written_key scope.now.l.now.profile scope.now.table.now.names) keys.new.items
-        ≡ keys_of_stack scope.now.l.now.profile scope.now.config.now
+        ≡ keys_of_stack scope.now.l.now.profile scope.now.config.now.grouping
         (stack_of scope.now.l.now.profile s.now)) }
 {
     // Each id is a place plus 1.
@@ -78,13 +78,13 @@ fn number_all(scope: &Scope, s: &Sample, keys: &mut Vec<u64>) -> Result<(), Memo
 // Adds the key numbers of the frames that count, leaf first.
 fn number_stack(scope: &Scope, stack: &Stack, keys: &mut Vec<u64>) -> Result<(), Memory>
     requires frames { IsStackOf scope.now.l.now.profile stack.now }
-    requires table { IsKeyTable scope.now.l.now.profile scope.now.config.now scope.now.table.now }
+    requires table { IsKeyTable scope.now.l.now.profile scope.now.config.now.grouping scope.now.table.now }
     requires none { keys.old.items ≡ [] }
     ensures below { IfOk result (λ _.
         All (λ k. k < length scope.now.table.now.names) keys.new.items) }
     ensures named { IfOk result (λ _.
         map (written_key scope.now.l.now.profile scope.now.table.now.names) keys.new.items
-        ≡ keys_of_stack scope.now.l.now.profile scope.now.config.now stack.now) }
+        ≡ keys_of_stack scope.now.l.now.profile scope.now.config.now.grouping stack.now) }
 {
     let frames = stack.as_slice();
     for (place, frame) in frames.iter().enumerate() {
@@ -99,10 +99,10 @@ fn number_stack(scope: &Scope, stack: &Stack, keys: &mut Vec<u64>) -> Result<(),
 // The number of the frame's key.
 fn number_of(scope: &Scope, frame: &Frame) -> u64
     requires frame { IsFrameOf scope.now.l.now.profile frame.now }
-    requires table { IsKeyTable scope.now.l.now.profile scope.now.config.now scope.now.table.now }
+    requires table { IsKeyTable scope.now.l.now.profile scope.now.config.now.grouping scope.now.table.now }
     ensures below { result < length scope.now.table.now.names }
     ensures named { written_key scope.now.l.now.profile scope.now.table.now.names result
-        ≡ key_of_frame scope.now.l.now.profile scope.now.config.now frame.now }
+        ≡ key_of_frame scope.now.l.now.profile scope.now.config.now.grouping frame.now }
 {
     let row = scope.table.location.row(frame.location as usize);
     item(row, frame.row.unwrap_or(0))

@@ -37,7 +37,7 @@ impl<'a> Survey<'a> {
 
     /// The key numbers of the report's lines of each location.
     pub fn table(&self) -> &'a KeyTable
-        ensures { IsKeyTable self.now.l.now.profile self.now.config.now result.now }
+        ensures { IsKeyTable self.now.l.now.profile self.now.config.now.grouping result.now }
     {
         &self.counted.table
     }

@@ -32,7 +32,7 @@ pub fn key_table(
     l: &Loaded,
     config: &Config,
 ) -> Result<KeyTable, Memory>
-    ensures { IfOk result (IsKeyTable l.now.profile config.now) }
+    ensures { IfOk result (IsKeyTable l.now.profile config.now.grouping) }
 {
     let mut names = Names::new(alloc, hash_keys)?;
     match number_locations(alloc, l, config, &mut names) {

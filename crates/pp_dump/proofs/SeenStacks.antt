@@ -45,7 +45,7 @@ module _ (p : Profile) (f : Finders) (config : Config) (column : ℕ) (undivided
   abbrev as_seen : StackText × List ℤ → Seen Written
   as_seen = seen_text config.grouping.grain config.grouping.showcolumns config.grouping.noinlines column
 
-  keys_are : (stack : List Frame) → keys_of_stack p config stack
+  keys_are : (stack : List Frame) → keys_of_stack p config.grouping stack
       ≡ map (key_texts config.grouping.grain config.grouping.showcolumns) (counted_places config.grouping.noinlines (map (λ (place : PlaceText). place.frames) (map (left_place p) (by_place stack))))
   keys_are stack =
       sym (map-map (key_texts config.grouping.grain config.grouping.showcolumns) (written p) (counted_frames config.grouping.noinlines stack))

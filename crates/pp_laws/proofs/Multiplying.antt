@@ -69,7 +69,7 @@ module _ (p : Profile) (f : Finders) (config : Config) (column num den : ℕ) wh
       option_map_or (part test) (option_map (seen_with (scaled p column num den) config (Some column) (scaled_sample column num den s)) o) (pos 0) *ℤ pos den
       ≡ option_map_or (part test) (option_map (seen_with p config (Some column) s) o) (pos 0) *ℤ pos num) [
         | None ↦ zero-*ℤ (pos den) ∙ sym (zero-*ℤ (pos num))
-        | Some stack ↦ of_either (test (keys_of_stack p config stack)) (selected (Some column) config.presentation.divide_by s) (selected (Some column) config.presentation.divide_by (scaled_sample column num den s)) num den even
+        | Some stack ↦ of_either (test (keys_of_stack p config.grouping stack)) (selected (Some column) config.presentation.divide_by s) (selected (Some column) config.presentation.divide_by (scaled_sample column num den s)) num den even
       ]
 
   parts_scale : (test : List Written → Bool) (ss : List Sample) → AllByRecursion (ScalesEvenly column num den config.presentation.divide_by) ss
@@ -136,7 +136,7 @@ module _ (p : Profile) (f : Finders) (config : Config) (column : Option ℕ) whe
       option_map_or (part test) (option_map (seen_with (negated Base p) config column (negated_sample s)) o) (pos 0)
       ≡ neg_ℤ (option_map_or (part test) (option_map (seen_with p config column s) o) (pos 0))) [
         | None ↦ refl
-        | Some stack ↦ if_negated (test (keys_of_stack p config stack)) (selected column config.presentation.divide_by s) (selected column config.presentation.divide_by (negated_sample s)) (selected_negated column config.presentation.divide_by s)
+        | Some stack ↦ if_negated (test (keys_of_stack p config.grouping stack)) (selected column config.presentation.divide_by s) (selected column config.presentation.divide_by (negated_sample s)) (selected_negated column config.presentation.divide_by s)
       ]
 
   sums_negated : (test : List Written → Bool)

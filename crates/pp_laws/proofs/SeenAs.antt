@@ -78,11 +78,11 @@ module _ (f : Finders) (config : Config) where
   passes test xs = option_map_or test (shows xs) false
 
   module _ (p : Profile) where
-    keys_mapped : (stack : List Frame) → map (key_of_frame p config) stack ≡ map (key_texts config.grouping.grain config.grouping.showcolumns) (map (λ x. located_by config.grouping.grain (written p x)) stack)
+    keys_mapped : (stack : List Frame) → map (key_of_frame p config.grouping) stack ≡ map (key_texts config.grouping.grain config.grouping.showcolumns) (map (λ x. located_by config.grouping.grain (written p x)) stack)
     keys_mapped [] = refl
     keys_mapped (x ∷ stack) = λ i. key_by config.grouping.grain config.grouping.showcolumns (written p x) i ∷ keys_mapped stack i
 
-    keys_same : (stack : List Frame) → keys_of_stack p config stack ≡ keys_told (map (placed config.grouping.grain p) stack)
+    keys_same : (stack : List Frame) → keys_of_stack p config.grouping stack ≡ keys_told (map (placed config.grouping.grain p) stack)
     keys_same stack = keys_mapped (counted_frames config.grouping.noinlines stack) ∙ ap (map (key_texts config.grouping.grain config.grouping.showcolumns)) (counted_told config.grouping.grain p config.grouping.noinlines stack)
 
     -- A sample is seen by its tags, its value, and what its stack is told as.

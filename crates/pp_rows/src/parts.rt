@@ -133,7 +133,7 @@ fn joined_part(
     table: &KeyTable,
 ) -> Result<Part, Memory>
     requires can { CanCount l.now.profile v.now config.now column }
-    requires table { IsKeyTable l.now.profile config.now table.now }
+    requires table { IsKeyTable l.now.profile config.now.grouping table.now }
     requires pieces { 1024 < length l.now.profile.sample }
 {
     let mut parts = List::new(alloc);

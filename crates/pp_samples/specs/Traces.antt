@@ -59,7 +59,7 @@ trace_of_stack p f config column unit s keys =
 abbrev pub trace_of : Profile → Finders → Config → Option ℕ → Shown → Sample → List ℕ
 trace_of p f config column unit s =
     option_map_or
-    (λ stack. trace_of_stack p f config column unit s (keys_of_stack p config stack))
+    (λ stack. trace_of_stack p f config column unit s (keys_of_stack p config.grouping stack))
     (filtered_stack p f config s) []
 
 -- The text of the traces report.

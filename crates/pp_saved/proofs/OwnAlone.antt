@@ -47,7 +47,7 @@ module _ (q : Profile) (f : Finders) (config : Config) (column : Option ℕ) whe
     file = first_file q;
     duration = q.duration_nanos;
     keys = each_once key_cmp (all_keys (samples_by left));
-    finds = λ test k. list_any (λ s. list_any (is_found_frame d test k) s.keys) (frames_by left);
+    finds = λ test k. list_any (λ s. list_any (is_found_frame d.grouping test k) s.keys) (frames_by left);
     flat_of = flat key_cmp (samples_by left);
     cum_of = cum key_cmp (samples_by left);
     occurs_pair = λ kept. edge_occurs key_cmp kept (samples_by left);

@@ -140,7 +140,7 @@ module _ (p : Profile) (f : Finders) (config : Config) (q : Profile) (can : CanS
       file = (ap first_file is.is ∙ same_file p f config) i;
       duration = (ap (λ (r : Profile). r.duration_nanos) is.is ∙ same_duration p f config can.settled) i;
       keys = keys_are i;
-      finds = λ test k. same.frames (list_any (is_found_frame config test k)) i;
+      finds = λ test k. same.frames (list_any (is_found_frame config.grouping test k)) i;
       flat_of = λ k. same.sums (leads key_cmp k) i;
       cum_of = λ k. same.sums (has key_cmp k) i;
       occurs_pair = λ kept a b. same.some (has_edge key_cmp kept a b) i;

@@ -39,9 +39,9 @@ pub record Figures : Type 0 where
   pub sum_of_pair : (Written → Bool) → Written → Written → ℤ
 
 -- the frame's function text passes the test, and the key is the frame's
-abbrev pub is_found_frame : Config → (List ℕ → Bool) → Written → Written → Bool
-is_found_frame config test k w =
-    test w.function && eq_by_cmp key_cmp k (key_texts config.grouping.grain config.grouping.showcolumns w)
+abbrev pub is_found_frame : Grouping → (List ℕ → Bool) → Written → Written → Bool
+is_found_frame grouping test k w =
+    test w.function && eq_by_cmp key_cmp k (key_texts grouping.grain grouping.showcolumns w)
 
 -- The figures of a report on the profile, by what its patterns find.
 abbrev pub figures : Profile → Finders → Config → Option ℕ → Figures
@@ -55,7 +55,7 @@ figures p f config column =
       duration = p.duration_nanos;
       keys = each_once key_cmp (all_keys samples);
       finds = λ test k.
-          list_any (λ s. list_any (is_found_frame config test k) s.keys) (report_frames p f config column);
+          list_any (λ s. list_any (is_found_frame config.grouping test k) s.keys) (report_frames p f config column);
       flat_of = flat key_cmp samples;
       cum_of = cum key_cmp samples;
       occurs_pair = λ kept. edge_occurs key_cmp kept samples;

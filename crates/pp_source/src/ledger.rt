@@ -76,7 +76,7 @@ fn ledger_in<'x>(
     table: &'x KeyTable,
 ) -> Result<Ledger, Memory>
     requires lines { config.now ≡ by_lines survey.now.config.now }
-    requires table { IsKeyTable survey.now.l.now.profile config.now table.now }
+    requires table { IsKeyTable survey.now.l.now.profile config.now.grouping table.now }
     ensures found { IfOk result (λ ledger.
         AreFound survey.now.l.now.profile survey.now.v.now.own ledger.lines.names.keys) }
     ensures sums { (f : Finders) →

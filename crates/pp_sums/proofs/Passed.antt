@@ -67,7 +67,7 @@ module _ (q : Profile) (plain : IsPlain q) (starts : AllByRecursion (λ m. m.sta
       ∙ (λ i. total_by (nat_abs (asked_alone (counts_in_base f config column divisor) i)) (nat_abs (asked_alone (counts_in f config column divisor) i)))
       ∙ sym (total_said f config column divisor q plain none)
 
-module _ (keep : Kept) (p : Profile) (f : Finders) (config : Config) (column : ℕ) (loaded : IsLoaded p) (nothing : LooksAtNothing keep p f config)
+module _ (keep : Kept) (p : Profile) (f : Finders) (config : Config) (column : ℕ) (loaded : IsLoaded p) (nothing : LooksAtNothing keep p f config.grouping)
     (within : column < length p.sample_type) (divisor : config.presentation.divide_by ≡ 1) where
   abbrev kept : Profile
   kept = aggregated keep p

@@ -54,11 +54,11 @@ module _ (p : Profile) (f : Finders) (config : Config) (column : Option ℕ) whe
       let labels : List ℕ = flat_map (trace_label_line p) (shown_labels p f s.label) in
       let value : ℤ = selected column config.presentation.divide_by s in
       elim (filtered_stack p f config s) as (λ (o : Option (List Frame)).
-      option_map_or (λ stack. trace_text labels (value_text value unit) (keys_of_stack p config stack)) o [] ++ flat_map (trace_of p f config column unit) samples
+      option_map_or (λ stack. trace_text labels (value_text value unit) (keys_of_stack p config.grouping stack)) o [] ++ flat_map (trace_of p f config column unit) samples
       ≡ flat_map (traced_text p f unit) (filter (λ t. has_frames t.1.keys)
       (cons_option (option_map (λ (own : Seen Written). (s, own)) (option_map (seen_with p config column s) o)) (filter_map with_own samples)))) [
         | None ↦ rest
-        | Some stack ↦ elim (keys_of_stack p config stack) as (λ (keys : List Written).
+        | Some stack ↦ elim (keys_of_stack p config.grouping stack) as (λ (keys : List Written).
             trace_text labels (value_text value unit) keys ++ flat_map (trace_of p f config column unit) samples
             ≡ flat_map (traced_text p f unit) (cond (has_frames keys) ((s, record { value = value; keys = keys }) ∷ traced_among samples) (traced_among samples))) [
               | [] ↦ rest

@@ -61,11 +61,11 @@ key_by Lines showcolumns w = refl
 key_by Addresses showcolumns w = refl
 
 module _ (q : Profile) (f : Finders) (config : Config) where
-  keys_mapped : (stack : List Frame) → map (key_of_frame q config) stack ≡ map (key_texts config.grouping.grain config.grouping.showcolumns) (map (λ x. located_by config.grouping.grain (written q x)) stack)
+  keys_mapped : (stack : List Frame) → map (key_of_frame q config.grouping) stack ≡ map (key_texts config.grouping.grain config.grouping.showcolumns) (map (λ x. located_by config.grouping.grain (written q x)) stack)
   keys_mapped [] = refl
   keys_mapped (x ∷ stack) = λ i. key_by config.grouping.grain config.grouping.showcolumns (written q x) i ∷ keys_mapped stack i
 
-  keys_same : (stack : List Frame) → keys_of_stack q config stack ≡ map (key_texts config.grouping.grain config.grouping.showcolumns) (told_counted config.grouping.noinlines (map (placed config.grouping.grain q) stack))
+  keys_same : (stack : List Frame) → keys_of_stack q config.grouping stack ≡ map (key_texts config.grouping.grain config.grouping.showcolumns) (told_counted config.grouping.noinlines (map (placed config.grouping.grain q) stack))
   keys_same stack = keys_mapped (counted_frames config.grouping.noinlines stack) ∙ ap (map (key_texts config.grouping.grain config.grouping.showcolumns)) (counted_told config.grouping.grain q config.grouping.noinlines stack)
 
   -- A sample is seen by its tags, its value, and what its stack is told as.

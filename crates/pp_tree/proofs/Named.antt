@@ -38,10 +38,10 @@ function_kept Addresses columns w keeps = refl
 
 module _ (p : Profile) (f : Finders) (config : Config) (column : Option ℕ) where
   -- a frame that is found has a key that occurs
-  own_occurs : (k : Written) (ws : List Written) → list_any (is_own_of f config k) ws ≡ true → has key_cmp k (map (key_of_written config) ws) ≡ true
+  own_occurs : (k : Written) (ws : List Written) → list_any (is_own_of f config.grouping k) ws ≡ true → has key_cmp k (map (key_of_written config) ws) ≡ true
   own_occurs k ws some =
       list_any-map (key_of_written config) (eq_by_cmp key_cmp k) ws
-      ∙ any_implies (is_own_of f config k) (λ w. eq_by_cmp key_cmp k (key_of_written config w)) (λ w e. second (finds_own f w) (eq_by_cmp key_cmp k (key_of_written config w)) e) ws some where
+      ∙ any_implies (is_own_of f config.grouping k) (λ w. eq_by_cmp key_cmp k (key_of_written config w)) (λ w e. second (finds_own f w) (eq_by_cmp key_cmp k (key_of_written config w)) e) ws some where
         second : (a b : Bool) → (a && b) ≡ true → b ≡ true
         second true b e = e
         second false b e = absurd (false≢true e)
@@ -51,12 +51,12 @@ module _ (p : Profile) (f : Finders) (config : Config) (column : Option ℕ) whe
   found_occurs k some =
       sym (ap (λ ss. occurs key_cmp ss k) (keyed_report p f config column))
       ∙ list_any-map (renamed (key_of_written config)) (λ (s : Seen Written). has key_cmp k s.keys) (report_frames p f config column)
-      ∙ any_implies (λ (s : Seen Written). list_any (is_own_of f config k) s.keys) (λ (s : Seen Written). has key_cmp k (map (key_of_written config) s.keys))
+      ∙ any_implies (λ (s : Seen Written). list_any (is_own_of f config.grouping k) s.keys) (λ (s : Seen Written). has key_cmp k (map (key_of_written config) s.keys))
       (λ s e. own_occurs k s.keys e) (report_frames p f config column) some
 
   module _ (keeps : keeps_function config.grouping.grain ≡ true) (k : Written) where
     -- a frame with the key is found where the key's function is
-    own_by_key : (w : Written) → is_own_of f config k w ≡ (finds_own f k && eq_by_cmp key_cmp k (key_of_written config w))
+    own_by_key : (w : Written) → is_own_of f config.grouping k w ≡ (finds_own f k && eq_by_cmp key_cmp k (key_of_written config w))
     own_by_key w = elim (eq_by_cmp key_cmp k (key_of_written config w)) as (λ b. eq_by_cmp key_cmp k (key_of_written config w) ≡ b → (finds_own f w && b) ≡ (finds_own f k && b)) [
       | true ↦ λ e.
           let same : w.function ≡ k.function = sym (ap (λ (x : Written). x.function) (tied k (key_of_written config w) e) ∙ function_kept config.grouping.grain config.grouping.showcolumns w keeps) in
@@ -67,14 +67,14 @@ module _ (p : Profile) (f : Finders) (config : Config) (column : Option ℕ) whe
       none true = refl
       none false = refl
 
-    in_sample : (b : Bool) → finds_own f k ≡ b → (ws : List Written) → list_any (is_own_of f config k) ws ≡ (b && has key_cmp k (map (key_of_written config) ws))
+    in_sample : (b : Bool) → finds_own f k ≡ b → (ws : List Written) → list_any (is_own_of f config.grouping k) ws ≡ (b && has key_cmp k (map (key_of_written config) ws))
     in_sample true e [] = refl
     in_sample false e [] = refl
     in_sample true e (w ∷ ws) = λ i. (own_by_key w ∙ ap (λ b. b && eq_by_cmp key_cmp k (key_of_written config w)) e) i || in_sample true e ws i
     in_sample false e (w ∷ ws) = λ i. (own_by_key w ∙ ap (λ b. b && eq_by_cmp key_cmp k (key_of_written config w)) e) i || in_sample false e ws i
 
     in_samples : (b : Bool) → finds_own f k ≡ b → (ss : List (Seen Written))
-        → list_any (λ s. list_any (is_own_of f config k) s.keys) ss ≡ (b && occurs key_cmp (map (renamed (key_of_written config)) ss) k)
+        → list_any (λ s. list_any (is_own_of f config.grouping k) s.keys) ss ≡ (b && occurs key_cmp (map (renamed (key_of_written config)) ss) k)
     in_samples true e [] = refl
     in_samples false e [] = refl
     in_samples true e (s ∷ ss) = λ i. in_sample true e s.keys i || in_samples true e ss i

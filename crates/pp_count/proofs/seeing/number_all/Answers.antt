@@ -42,4 +42,4 @@ returns-clause-named c =
     let p = c.args.scope.now.l.now.profile in
     let config = c.args.scope.now.config.now in
     located_all p config c.args.scope.now.table.now c.as_slice-id-items.result.now c.loop-id.id-index c.loop-id.keys.items c.requires.all c.loop-id-test.false c.loop-id.invariant
-    ∙ ap (λ ids. keys_of_stack p config (frames_from p 0 ids)) c.as_slice-id-items.ensures
+    ∙ ap (λ ids. keys_of_stack p config.grouping (frames_from p 0 ids)) c.as_slice-id-items.ensures
