@@ -105,10 +105,10 @@ module _ (p : Profile) (f : Finders) (config : Config) (column : Option ℕ) whe
   -- the portions with one sample more
   pub portions_push : (ss : List Sample) (s : Sample) → length ss + 1 < 2 ^ 64 → absolute_all column config.presentation.divide_by ss + nat_abs (selected column config.presentation.divide_by s) < 2 ^ 63
       → portions_of p f config column (ss ++ s ∷ [])
-      ≡ with_sample (first_filter p f config s) (is_bare p f config column s) (selected column config.presentation.divide_by s) (portions_of p f config column ss)
+      ≡ with_sample (first_filter p f config.filtering s) (is_bare p f config column s) (selected column config.presentation.divide_by s) (portions_of p f config column ss)
   portions_push ss s few fits =
-      let at = λ (slot : Slot). portion_more config column ss s few fits (λ x. is_filter slot (first_filter p f config x)) in
-      let left = portion_more config column ss s few fits (λ x. is_some (filtered_stack p f config x))
+      let at = λ (slot : Slot). portion_more config column ss s few fits (λ x. is_filter slot (first_filter p f config.filtering x)) in
+      let left = portion_more config column ss s few fits (λ x. is_some (filtered_stack p f config.filtering x))
       ∙ ap (λ b. portion_plus_if b (portions_of p f config column ss).left (selected column config.presentation.divide_by s)) (left_or_dropped p f config s) in
       (λ i. record {
         loaded = all_more config column ss s few fits i;
@@ -122,12 +122,12 @@ module _ (p : Profile) (f : Finders) (config : Config) (column : Option ℕ) whe
         left = left i;
         bare = portion_more config column ss s few fits (is_bare p f config column) i;
       })
-      ∙ ended (first_filter p f config s) (is_bare p f config column s) (selected column config.presentation.divide_by s) (portions_of p f config column ss)
+      ∙ ended (first_filter p f config.filtering s) (is_bare p f config column s) (selected column config.presentation.divide_by s) (portions_of p f config column ss)
 
   -- those of the first samples, with one more
   pub portions_more : (ss : List Sample) (i : ℕ) → i < length ss → length ss < 2 ^ 32 → absolute_all column config.presentation.divide_by ss < 2 ^ 63
       → portions_of p f config column (take (i + 1) ss)
-      ≡ with_sample (first_filter p f config (get_or ss i no_sample)) (is_bare p f config column (get_or ss i no_sample))
+      ≡ with_sample (first_filter p f config.filtering (get_or ss i no_sample)) (is_bare p f config column (get_or ss i no_sample))
       (selected column config.presentation.divide_by (get_or ss i no_sample)) (portions_of p f config column (take i ss))
   portions_more ss i here few fits =
       let size : Sample → ℕ = λ x. nat_abs (selected column config.presentation.divide_by x) in
@@ -151,21 +151,21 @@ has_none f [] = refl
 has_none f (x ∷ xs) = refl
 
 pub bare_is : {A : Type 0} (p : Profile) (f : Finders) (config : Config) (column : Option ℕ) (s : Sample) (name : A → Written) (kept bare : Bool) (value : ℤ) (keys : List A)
-    → option_map (keys_of_stack p config.grouping) (filtered_stack p f config s) ≡ kept_if kept (map name keys) → value ≡ selected column config.presentation.divide_by s
+    → option_map (keys_of_stack p config.grouping) (filtered_stack p f config.filtering s) ≡ kept_if kept (map name keys) → value ≡ selected column config.presentation.divide_by s
     → bare ≡ (kept && (not (int_eq value (pos 0)) && has_no_items keys)) → bare ≡ is_bare p f config column s
 bare_is p f config column s name kept bare value keys seen value_is is =
     is ∙ (λ i. kept && (not (int_eq (value_is i) (pos 0)) && sym (has_none name keys) i))
-    ∙ bare_by p config column s (filtered_stack p f config s) kept (map name keys) seen
+    ∙ bare_by p config column s (filtered_stack p f config.filtering s) kept (map name keys) seen
 
 -- the portions of the samples so far, with the next one
 pub next_portions : (p : Profile) (f : Finders) (config : Config) (column : Option ℕ) (ss : List Sample) (i : ℕ) (s : Sample) (old new : PortionsOf)
     → i < length ss → length ss < 2 ^ 32 → absolute_all column config.presentation.divide_by ss < 2 ^ 63 → slice_get ss i ≡ Some s
     → old ≡ portions_of p f config column (take i ss)
-    → new ≡ with_sample (first_filter p f config s) (is_bare p f config column s) (selected column config.presentation.divide_by s) old
+    → new ≡ with_sample (first_filter p f config.filtering s) (is_bare p f config column s) (selected column config.presentation.divide_by s) old
     → new ≡ portions_of p f config column (take (i + 1) ss)
 next_portions p f config column ss i s old new here few fits there so_far is =
-    let more : Sample → PortionsOf = λ x. with_sample (first_filter p f config x) (is_bare p f config column x) (selected column config.presentation.divide_by x) (portions_of p f config column (take i ss)) in
-    is ∙ ap (with_sample (first_filter p f config s) (is_bare p f config column s) (selected column config.presentation.divide_by s)) so_far
+    let more : Sample → PortionsOf = λ x. with_sample (first_filter p f config.filtering x) (is_bare p f config column x) (selected column config.presentation.divide_by x) (portions_of p f config column (take i ss)) in
+    is ∙ ap (with_sample (first_filter p f config.filtering s) (is_bare p f config column s) (selected column config.presentation.divide_by s)) so_far
     ∙ sym (portions_more p f config column ss i here few fits ∙ ap more (get_or_from_slice_get ss i s no_sample there))
 
 -- the samples of a scope in which none are chosen

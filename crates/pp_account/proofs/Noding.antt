@@ -87,7 +87,7 @@ past_fewer size limit ns = elim (limit == 0) as (λ b. sum_by size (cond b [] (d
   | false ↦ omega (arith, sum_by-take-drop size ns limit)
 ]
 
-module _ (l : Loaded) (v : Verdicts) (config : Config) (column : Option ℕ) (f : Finders) (c : Counted) (counted : IsCountedOf l v config column c) (holds : HoldsFilters l v config f) where
+module _ (l : Loaded) (v : Verdicts) (config : Config) (column : Option ℕ) (f : Finders) (c : Counted) (counted : IsCountedOf l v config column c) (holds : HoldsFilters l v config.filtering f) where
   abbrev samples : List (Seen Written)
   samples = report_samples l.profile f config column
 

@@ -25,9 +25,9 @@ portion_of config column samples = record {
 }
 
 -- the samples that this filter is the first to drop
-abbrev pub dropped_samples : Profile → Finders → Config → Slot → List Sample → List Sample
-dropped_samples p f config slot samples =
-    filter (λ s. is_filter slot (first_filter p f config s)) samples
+abbrev pub dropped_samples : Profile → Finders → Filtering → Slot → List Sample → List Sample
+dropped_samples p f filtering slot samples =
+    filter (λ s. is_filter slot (first_filter p f filtering s)) samples
 
 -- the filters leave the sample, its selected value isn't 0, and no frame of it counts
 abbrev pub is_bare : Profile → Finders → Config → Option ℕ → Sample → Bool
@@ -43,13 +43,13 @@ bare_samples p f config column samples = filter (is_bare p f config column) samp
 abbrev pub portions_of : Profile → Finders → Config → Option ℕ → List Sample → PortionsOf
 portions_of p f config column samples = record {
   loaded = portion_of config column samples;
-  ignore = portion_of config column (dropped_samples p f config slots.Ignore samples);
-  focus = portion_of config column (dropped_samples p f config slots.Focus samples);
-  hide = portion_of config column (dropped_samples p f config slots.Hide samples);
-  show = portion_of config column (dropped_samples p f config slots.Show samples);
-  show_from = portion_of config column (dropped_samples p f config slots.ShowFrom samples);
-  tagfocus = portion_of config column (dropped_samples p f config slots.TagFocus samples);
-  tagignore = portion_of config column (dropped_samples p f config slots.TagIgnore samples);
-  left = portion_of config column (filtered_samples p f config samples);
+  ignore = portion_of config column (dropped_samples p f config.filtering slots.Ignore samples);
+  focus = portion_of config column (dropped_samples p f config.filtering slots.Focus samples);
+  hide = portion_of config column (dropped_samples p f config.filtering slots.Hide samples);
+  show = portion_of config column (dropped_samples p f config.filtering slots.Show samples);
+  show_from = portion_of config column (dropped_samples p f config.filtering slots.ShowFrom samples);
+  tagfocus = portion_of config column (dropped_samples p f config.filtering slots.TagFocus samples);
+  tagignore = portion_of config column (dropped_samples p f config.filtering slots.TagIgnore samples);
+  left = portion_of config column (filtered_samples p f config.filtering samples);
   bare = portion_of config column (bare_samples p f config column samples);
 }

@@ -43,9 +43,9 @@ pub fn put_sample_rows(
     out: &mut Text,
 ) -> Result<(), Memory>
     ensures { (f : Finders) →
-        HoldsFilters survey.now.l.now survey.now.v.now survey.now.config.now f →
+        HoldsFilters survey.now.l.now survey.now.v.now survey.now.config.now.filtering f →
         IfOk result (λ _. out.new ≡ out.old
-        ++ sample_lines f survey.now.config.now portions.now (facts head.now)) }
+        ++ sample_lines f survey.now.config.now.filtering portions.now (facts head.now)) }
 {
     let mut scratch = Text::new(alloc);
     put_row(portions.loaded, b"loaded", head, &mut scratch, out)?;
@@ -63,9 +63,9 @@ fn put_filter_rows(
     out: &mut Text,
 ) -> Result<(), Memory>
     ensures { (f : Finders) →
-        HoldsFilters survey.now.l.now survey.now.v.now survey.now.config.now f →
+        HoldsFilters survey.now.l.now survey.now.v.now survey.now.config.now.filtering f →
         IfOk result (λ _. out.new ≡ out.old
-        ++ flat_map (filter_line f survey.now.config.now portions.now (facts head.now)) dropping) }
+        ++ flat_map (filter_line f survey.now.config.now.filtering portions.now (facts head.now)) dropping) }
 {
     let mut room = RowRoom {
         name: Text::new(alloc),
@@ -94,9 +94,9 @@ fn put_filter_row(
     out: &mut Text,
 ) -> Result<(), Memory>
     ensures { (f : Finders) →
-        HoldsFilters survey.now.l.now survey.now.v.now survey.now.config.now f →
+        HoldsFilters survey.now.l.now survey.now.v.now survey.now.config.now.filtering f →
         IfOk result (λ _. out.new ≡ out.old
-        ++ filter_line f survey.now.config.now portions.now (facts head.now) slot) }
+        ++ filter_line f survey.now.config.now.filtering portions.now (facts head.now) slot) }
 {
     if !is_in_force(survey, slot) {
         return Ok(());
@@ -114,7 +114,7 @@ fn put_filter_row(
 
 // The filter's variable and the value of that.
 fn put_filter_name(config: &Config, slot: Slot, out: &mut Text) -> Result<(), Memory>
-    ensures { IfOk result (λ _. out.new ≡ out.old ++ filter_name config.now slot) }
+    ensures { IfOk result (λ _. out.new ≡ out.old ++ filter_name config.now.filtering slot) }
 {
     out.extend(slot.name())?;
     out.extend(b"=")?;
@@ -123,7 +123,7 @@ fn put_filter_name(config: &Config, slot: Slot, out: &mut Text) -> Result<(), Me
 
 // The value of the filter's variable.
 fn filter_text(config: &Config, slot: Slot) -> &[u8]
-    ensures { result.now ≡ filter_text config.now slot }
+    ensures { result.now ≡ filter_text config.now.filtering slot }
 {
     match slot {
         Slot::Ignore => config.filtering.ignore.as_slice(),
@@ -140,8 +140,8 @@ fn filter_text(config: &Config, slot: Slot) -> &[u8]
 // Whether the filter is in force.
 fn is_in_force(survey: &Survey<'_>, slot: Slot) -> bool
     ensures { (f : Finders) →
-        HoldsFilters survey.now.l.now survey.now.v.now survey.now.config.now f →
-        result ≡ is_in_force f survey.now.config.now slot }
+        HoldsFilters survey.now.l.now survey.now.v.now survey.now.config.now.filtering f →
+        result ≡ is_in_force f survey.now.config.now.filtering slot }
 {
     let (v, filters) = (survey.v, survey.filters());
     match slot {

@@ -30,7 +30,7 @@ struct Room {
 /// Where the samples of the report end. `Err` is want of memory.
 pub fn portions_of(alloc: Global, survey: &Survey<'_>) -> Result<Portions, Memory>
     ensures { (f : Finders) →
-        HoldsFilters survey.now.l.now survey.now.v.now survey.now.config.now f →
+        HoldsFilters survey.now.l.now survey.now.v.now survey.now.config.now.filtering f →
         IfOk result (λ d. d ≡ portions_of survey.now.l.now.profile f survey.now.config.now
         survey.now.column survey.now.l.now.profile.sample) }
 {
@@ -52,7 +52,7 @@ fn add_samples(alloc: Global, scope: &Scope) -> Result<Portions, Memory>
     requires sound { IsSoundScope scope.now }
     requires countable { AreCountable scope.now scope.now.l.now.profile.sample }
     requires whole { scope.now.chosen ≡ None }
-    ensures { let w = scope.now in (f : Finders) → HoldsFilters w.l.now w.v.now w.config.now f →
+    ensures { let w = scope.now in (f : Finders) → HoldsFilters w.l.now w.v.now w.config.now.filtering f →
         IfOk result (λ d. d
         ≡ portions_of w.l.now.profile f w.config.now w.column w.l.now.profile.sample) }
 {
@@ -77,8 +77,8 @@ fn add_sample(
     requires sound { IsSoundScope scope.now }
     requires member { IsSampleOf scope.now.l.now.profile s.now }
     requires refers { RefersTo scope.now.l.now.profile s.now }
-    ensures { let w = scope.now in (f : Finders) → HoldsFilters w.l.now w.v.now w.config.now f →
-        IfOk result (λ _. portions.new ≡ with_sample (first_filter w.l.now.profile f w.config.now s.now)
+    ensures { let w = scope.now in (f : Finders) → HoldsFilters w.l.now w.v.now w.config.now.filtering f →
+        IfOk result (λ _. portions.new ≡ with_sample (first_filter w.l.now.profile f w.config.now.filtering s.now)
         (is_bare w.l.now.profile f w.config.now w.column s.now)
         (selected w.column w.config.now.presentation.divide_by s.now) portions.old) }
 {
@@ -107,9 +107,9 @@ fn filter_unless(
     requires sound { IsSoundScope scope.now }
     requires member { IsSampleOf scope.now.l.now.profile s.now }
     requires refers { RefersTo scope.now.l.now.profile s.now }
-    ensures { let w = scope.now in (f : Finders) → HoldsFilters w.l.now w.v.now w.config.now f →
-        is_kept ≡ is_some (filtered_stack w.l.now.profile f w.config.now s.now) →
-        IfOk result (λ slot. slot ≡ first_filter w.l.now.profile f w.config.now s.now) }
+    ensures { let w = scope.now in (f : Finders) → HoldsFilters w.l.now w.v.now w.config.now.filtering f →
+        is_kept ≡ is_some (filtered_stack w.l.now.profile f w.config.now.filtering s.now) →
+        IfOk result (λ slot. slot ≡ first_filter w.l.now.profile f w.config.now.filtering s.now) }
 {
     if is_kept {
         return Ok(None);

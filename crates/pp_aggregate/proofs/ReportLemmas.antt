@@ -46,11 +46,11 @@ module _ (keep : Kept) (p : Profile) (f : Finders) (config : Config) (column : O
 
   -- what is seen of a sample
   abbrev framed : Profile → Sample → Option (Seen Written)
-  framed q s = option_map (framed_with q config column s) (filtered_stack q f config s)
+  framed q s = option_map (framed_with q config column s) (filtered_stack q f config.filtering s)
 
   -- The sample is dropped as before, or has what is left of its frames that count.
   record IsLeft (s : Sample) : Type 0 where
-    some : is_some (filtered_stack kept f config s) ≡ is_some (filtered_stack p f config s)
+    some : is_some (filtered_stack kept f config.filtering s) ≡ is_some (filtered_stack p f config.filtering s)
     frames : framed kept s ≡ option_map (renamed (left_of_frame keep)) (framed p s)
 
   -- of one stack
@@ -82,10 +82,10 @@ module _ (keep : Kept) (p : Profile) (f : Finders) (config : Config) (column : O
       let stacks : frames_of_sample kept f s ≡ frames_of_sample p f s =
       ap (filtered (written kept) f) (frames_whole keep p empty whole 0 s.location_id)
       ∙ same_filtered (written kept) (written p) f (find_same whole left) (stack_of p s) in
-      let same : filtered_stack kept f config s ≡ filtered_stack p f config s = ap (λ o. cond (passes_tags p f config s) o None) stacks in
+      let same : filtered_stack kept f config.filtering s ≡ filtered_stack p f config.filtering s = ap (λ o. cond (passes_tags p f config.filtering s) o None) stacks in
       record {
         some = ap is_some same;
-        frames = ap (option_map (framed_with kept config column s)) same ∙ stack_left s (filtered_stack p f config s) (frame_whole keep p empty whole);
+        frames = ap (option_map (framed_with kept config column s)) same ∙ stack_left s (filtered_stack p f config.filtering s) (frame_whole keep p empty whole);
       }
 
   -- the pattern has a match where it had one
@@ -107,16 +107,16 @@ module _ (keep : Kept) (p : Profile) (f : Finders) (config : Config) (column : O
   match_none pattern none =
       ap (λ o. frame_match kept f o p.sample) none ∙ sym (ap (λ o. frame_match p f o p.sample) none)
 
-  matches_left : FramesStay keep p f config.grouping → matches_of kept f config ≡ matches_of p f config
+  matches_left : FramesStay keep p f config.grouping → matches_of kept f config.filtering ≡ matches_of p f config.filtering
   matches_left stay = by keep.inline_frames refl stay.patterns
     where
-      all : Matches f.focus → Matches f.ignore → Matches f.hide → Matches f.show → Matches f.show_from → matches_of kept f config ≡ matches_of p f config
+      all : Matches f.focus → Matches f.ignore → Matches f.hide → Matches f.show → Matches f.show_from → matches_of kept f config.filtering ≡ matches_of p f config.filtering
       all focus ignore hide show show_from = λ i.
           focus i ∷ ignore i ∷ hide i ∷ show i ∷ show_from i
           ∷ tag_match p config.filtering.tagfocus f.tagfocus p.sample ∷ tag_match p config.filtering.tagignore f.tagignore p.sample
           ∷ true ∷ key_match p f.tagshow p.sample ∷ key_match p f.taghide p.sample ∷ []
 
-      by : (b : Bool) → keep.inline_frames ≡ b → patterns_stay b keep p f → matches_of kept f config ≡ matches_of p f config
+      by : (b : Bool) → keep.inline_frames ≡ b → patterns_stay b keep p f → matches_of kept f config.filtering ≡ matches_of p f config.filtering
       by true is left =
           let same = find_same is left in
           let each = match_whole is left in
@@ -128,15 +128,15 @@ module _ (keep : Kept) (p : Profile) (f : Finders) (config : Config) (column : O
   -- without them
   last_left : keeps_counted keep config.grouping ≡ true → AsksNoFrame f → (s : Sample) → IsLeft s
   last_left counted none s =
-      let before : filtered_stack p f config s ≡ cond (passes_tags p f config s) (Some (stack_of p s)) None =
-      ap (λ o. cond (passes_tags p f config s) o None) (unfiltered (written p) f (stack_of p s) none) in
-      let after : filtered_stack kept f config s ≡ cond (passes_tags p f config s) (Some (stack_of kept s)) None =
-      ap (λ o. cond (passes_tags p f config s) o None) (unfiltered (written kept) f (stack_of kept s) none) in
+      let before : filtered_stack p f config.filtering s ≡ cond (passes_tags p f config.filtering s) (Some (stack_of p s)) None =
+      ap (λ o. cond (passes_tags p f config.filtering s) o None) (unfiltered (written p) f (stack_of p s) none) in
+      let after : filtered_stack kept f config.filtering s ≡ cond (passes_tags p f config.filtering s) (Some (stack_of kept s)) None =
+      ap (λ o. cond (passes_tags p f config.filtering s) o None) (unfiltered (written kept) f (stack_of kept s) none) in
       record {
-        some = ap is_some after ∙ by_tags (passes_tags p f config s) ∙ sym (ap is_some before);
+        some = ap is_some after ∙ by_tags (passes_tags p f config.filtering s) ∙ sym (ap is_some before);
         frames =
             ap (option_map (framed_with kept config column s)) after
-            ∙ framed_tags (passes_tags p f config s) (counted_left keep p empty config.grouping.noinlines 0 s.location_id counted)
+            ∙ framed_tags (passes_tags p f config.filtering s) (counted_left keep p empty config.grouping.noinlines 0 s.location_id counted)
             ∙ sym (ap (λ o. option_map (renamed (left_of_frame keep)) (option_map (framed_with p config column s) o)) before);
       }
     where
@@ -160,7 +160,7 @@ module _ (keep : Kept) (p : Profile) (f : Finders) (config : Config) (column : O
       by false is patterns = last_left stay.counted patterns
 
   module _ (stay : FramesStay keep p f config.grouping) where
-    some_left : (s : Sample) → is_some (filtered_stack kept f config s) ≡ is_some (filtered_stack p f config s)
+    some_left : (s : Sample) → is_some (filtered_stack kept f config.filtering s) ≡ is_some (filtered_stack p f config.filtering s)
     some_left s = (each_left stay s).some
 
     pub frames_left : report_frames kept f config column ≡ map (renamed (left_of_frame keep)) (report_frames p f config column)

@@ -30,12 +30,12 @@ KeysStay =
 -- The same options match something, and the own pattern of a report finds a function where it found one.
 pub record AreLeft (keep : Kept) (p : Profile) (f : Finders) (config : Config) (column : Option ℕ) : Type 0 where
   pub numbers
-      : filtered_from (aggregated keep p) f config 0 p.sample ≡ filtered_from p f config 0 p.sample
+      : filtered_from (aggregated keep p) f config.filtering 0 p.sample ≡ filtered_from p f config.filtering 0 p.sample
   pub total : total_of (aggregated keep p) f config column ≡ total_of p f config column
   pub frames
       : report_frames (aggregated keep p) f config column
       ≡ map (renamed (left_of_frame keep)) (report_frames p f config column)
-  pub matches : matches_of (aggregated keep p) f config ≡ matches_of p f config
+  pub matches : matches_of (aggregated keep p) f config.filtering ≡ matches_of p f config.filtering
   pub own : keep.functions ≡ true
       → has_own_match (aggregated keep p) f config column ≡ has_own_match p f config column
 

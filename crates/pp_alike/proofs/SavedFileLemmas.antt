@@ -73,7 +73,7 @@ module _ (finds : Finds) {saving reading : Plan} (path : List ℕ) (l : Loaded) 
     (first : SessionOf saving) (second : SessionOf reading) (loaded : (loading_in finds first).value ≡ Ok l)
     (stand : StandAt path (outs (course_in finds first).effects) second.files) where
   abbrev f : Finders
-  f = report_finders finds l reports.Proto saving.config
+  f = report_finders finds l reports.Proto saving.config.filtering
 
   -- what is saved
   abbrev q : Profile

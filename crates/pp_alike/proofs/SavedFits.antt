@@ -137,13 +137,13 @@ module _ (p : Profile) (fits : TellsFitting p) where
 
   module _ (f : Finders) (config : Config) where
     abbrev c : Contents
-    c = saved_contents p f config
+    c = saved_contents p f config.filtering
 
     abbrev q : Profile
-    q = saved p f config
+    q = saved p f config.filtering
 
     abbrev items : List (SampleText × List ℤ)
-    items = cut_samples p f config
+    items = cut_samples p f config.filtering
 
     all_locations : AllByRecursion LocationTextFits (locations c)
     all_locations = locations_each p f config LocationTextFits cut_fits
@@ -162,9 +162,9 @@ module _ (p : Profile) (fits : TellsFitting p) where
     labels_fit : AllByRecursion (λ (s : SampleText × List ℤ). NumbersFit s.0) c.samples
     labels_fit =
         kept_hold NumbersFit (length p.sample_type) items
-        (all_some (λ (item : SampleText × List ℤ). NumbersFit item.0) (λ s. option_map (cut_sample p f s) (filtered_stack p f config s)) p.sample
-        (all_by HasNumbers (λ (s : Sample). (y : SampleText × List ℤ) → option_map (cut_sample p f s) (filtered_stack p f config s) ≡ Some y → NumbersFit y.0)
-        (λ s own y found. one_label s own (filtered_stack p f config s) y found) p.sample fits.labels))
+        (all_some (λ (item : SampleText × List ℤ). NumbersFit item.0) (λ s. option_map (cut_sample p f s) (filtered_stack p f config.filtering s)) p.sample
+        (all_by HasNumbers (λ (s : Sample). (y : SampleText × List ℤ) → option_map (cut_sample p f s) (filtered_stack p f config.filtering s) ≡ Some y → NumbersFit y.0)
+        (λ s own y found. one_label s own (filtered_stack p f config.filtering s) y found) p.sample fits.labels))
 
     module _ (valid : NoRuleFails p) (countable : IsCountable p) where
       sums_within : (column : ℕ) → column < length p.sample_type → absolute_sum q column ≤ 2 ^ 63 - 1

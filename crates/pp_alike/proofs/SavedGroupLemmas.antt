@@ -98,7 +98,7 @@ module _ (finds : Finds) (g : SavedGroup) (saves : SavesWhole g) (can : IsMergea
   fits : length (encode q) < 2 ^ 32 → ProfileFits q
   fits small =
       subst ProfileFits same
-      (saved_fits q known.fits (report_finders finds l reports.Proto g.plan.config) g.plan.config known.valid known.countable (subst (λ (p : Profile). length (encode p) < 2 ^ 32) (sym same) small) known.alone)
+      (saved_fits q known.fits (report_finders finds l reports.Proto g.plan.config.filtering) g.plan.config known.valid known.countable (subst (λ (p : Profile). length (encode p) < 2 ^ 32) (sym same) small) known.alone)
 
   prints_merge : PrintsMerge finds g
   prints_merge = record {

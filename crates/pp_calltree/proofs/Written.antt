@@ -17,7 +17,7 @@ use Rattle.pp_calltree.specs.Tree.{IsTreeOf}
 use Rattle.pp_calltree.proofs.Pruning.{pruned_is}
 
 pub text_is : (l : Loaded) (v : Verdicts) (config : Config) (column : Option ℕ) (f : Finders) (nodes shown : List PathNode) (h : Facts)
-    → IsTreeOf l v config column nodes → HoldsFilters l v config f → AreShown h.total config.presentation.nodefraction.billionths nodes shown
+    → IsTreeOf l v config column nodes → HoldsFilters l v config.filtering f → AreShown h.total config.presentation.nodefraction.billionths nodes shown
     → path_nodes_text h (length nodes - length shown) (map (node_row l.profile) shown) ≡ calltree_text l.profile f config column h
 text_is l v config column f nodes shown h tree holds are =
     let rows : map (node_row l.profile) shown ≡ shown_nodes l.profile f config column h.total =

@@ -27,7 +27,7 @@ use Rattle.pp_compare.proofs.Fitting.{whole_differs}
 use Rattle.pp_compare.proofs.Naming.{rows_are}
 
 pub ranked_is : (l : Loaded) (v : Verdicts) (config : Config) (column : Option ℕ) (limit : ℕ) (f : Finders) (c : Counted) (base : BaseSums) (change : ℤ) (t : Ranked) (h : Facts)
-    → CanCount l.profile v config column → IsCountedOf l v config column c → IsRankedOf l v config column limit c t → HoldsFilters l v config f
+    → CanCount l.profile v config.filtering column → IsCountedOf l v config column c → IsRankedOf l v config column limit c t → HoldsFilters l v config.filtering f
     → AreBaseSums l.profile f config column c.sums base → change ≡ filtered_whole l.profile f config column l.profile.sample
     → compared_ranking l.profile config.presentation.sort c.sums base change t h ≡ compare_text l.profile f config column limit h
 ranked_is l v config column limit f c base change t h can counted ranked holds base_are is_whole =
@@ -46,7 +46,7 @@ ranked_is l v config column limit f c base change t h can counted ranked holds b
     ++ rows i
 
 pub changes_are : (l : Loaded) (v : Verdicts) (config : Config) (column : Option ℕ) (limit : ℕ) (f : Finders) (c : Counted) (base : BaseSums) (t : Ranked) (unit : List ℕ)
-    → CanCount l.profile v config column → IsCountedOf l v config column c → IsWholeRanking l v config column limit c t → HoldsFilters l v config f
+    → CanCount l.profile v config.filtering column → IsCountedOf l v config column c → IsWholeRanking l v config column limit c t → HoldsFilters l v config.filtering f
     → AreBaseSums l.profile f config column c.sums base
     → changes_heading unit ++ flat_map (λ n. change_line (compared_at l.profile config.presentation.sort c.sums base n)) t.order ≡ changes_text l.profile f config column limit unit
 changes_are l v config column limit f c base t unit can counted ranked holds base_are =

@@ -72,7 +72,7 @@ figure sorts.Cum samples k = cum key_cmp samples k
 -- the sum of the selected values of those of the samples that the filters leave
 abbrev pub filtered_whole : Profile → Finders → Config → Option ℕ → List Sample → ℤ
 filtered_whole p f config column samples =
-    selected_all column config.presentation.divide_by (filtered_samples p f config samples)
+    selected_all column config.presentation.divide_by (filtered_samples p f config.filtering samples)
 
 -- the row of all samples that the filters leave
 abbrev pub whole_row : Profile → Finders → Config → Option ℕ → ComparedRow

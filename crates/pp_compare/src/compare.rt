@@ -37,7 +37,7 @@ pub fn write_compare(
     ensures ok { (limit : ℕ) (f : Finders) →
         IsRankedOf survey.now.l.now survey.now.v.now survey.now.config.now survey.now.column limit
         survey.now.counted.now t.now →
-        HoldsFilters survey.now.l.now survey.now.v.now survey.now.config.now f →
+        HoldsFilters survey.now.l.now survey.now.v.now survey.now.config.now.filtering f →
         AreBaseSums survey.now.l.now.profile f survey.now.config.now survey.now.column
         survey.now.counted.now.sums base.now →
         OnOk result (out.new ≡ out.old ++ compare_text survey.now.l.now.profile f

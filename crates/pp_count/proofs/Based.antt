@@ -83,28 +83,28 @@ filter_swap t u (s ∷ ss) =
 
 module _ (p : Profile) (f : Finders) (config : Config) (column : Option ℕ) where
   abbrev passes : Sample → Bool
-  passes s = is_some (filtered_stack p f config s)
+  passes s = is_some (filtered_stack p f config.filtering s)
 
   -- of samples that the filters drop nothing is seen
   pub seen_passing : (ss : List Sample) → seen_samples p f config column (filter passes ss) ≡ seen_samples p f config column ss
   seen_passing [] = refl
   seen_passing (s ∷ ss) =
-      elim (filtered_stack p f config s) as (λ o. filtered_stack p f config s ≡ o
+      elim (filtered_stack p f config.filtering s) as (λ o. filtered_stack p f config.filtering s ≡ o
       → seen_samples p f config column (cond (is_some o) (s ∷ filter passes ss) (filter passes ss)) ≡ cons_option (option_map (seen_with p config column s) o) (seen_samples p f config column ss)) [
         | None ↦ λ is. seen_passing ss
         | Some stack ↦ λ is. λ i. cons_option (option_map (seen_with p config column s) (is i)) (seen_passing ss i)
       ] refl
 
   -- of those that they leave all is seen
-  pub kept_seen : (kept : List ℕ) → kept ≡ filtered_from p f config 0 p.sample → seen_samples p f config column (samples_at p kept) ≡ seen_samples p f config column p.sample
+  pub kept_seen : (kept : List ℕ) → kept ≡ filtered_from p f config.filtering 0 p.sample → seen_samples p f config column (samples_at p kept) ≡ seen_samples p f config column p.sample
   kept_seen kept is = ap (seen_samples p f config column) (kept_samples p f config kept is) ∙ seen_passing p.sample
 
   -- the base's samples among those that are kept
-  pub base_kept : (kept : List ℕ) → kept ≡ filtered_from p f config 0 p.sample
-      → samples_at p (filter (is_base_number p) kept) ≡ filtered_samples p f config (base_samples p)
+  pub base_kept : (kept : List ℕ) → kept ≡ filtered_from p f config.filtering 0 p.sample
+      → samples_at p (filter (is_base_number p) kept) ≡ filtered_samples p f config.filtering (base_samples p)
   base_kept kept is = base_chosen p kept ∙ ap (filter (is_base p)) (kept_samples p f config kept is) ∙ filter_swap (is_base p) passes p.sample
 
-  pub base_seen : (kept : List ℕ) → kept ≡ filtered_from p f config 0 p.sample
+  pub base_seen : (kept : List ℕ) → kept ≡ filtered_from p f config.filtering 0 p.sample
       → seen_samples p f config column (samples_at p (filter (is_base_number p) kept)) ≡ seen_samples p f config column (base_samples p)
   base_seen kept is = ap (seen_samples p f config column) (base_kept kept is) ∙ seen_passing (base_samples p)
 
@@ -187,7 +187,7 @@ module _ (l : Loaded) (v : Verdicts) (config : Config) (column : Option ℕ) (co
   S_below : All (HasBelow (length names)) S
   S_below = All-filter (λ (s : Seen ℕ). not (int_eq s.value (pos 0))) (HasBelow (length names)) tallies.seen tallies.below
 
-  module _ (f : Finders) (holds : HoldsFilters l v config f) where
+  module _ (f : Finders) (holds : HoldsFilters l v config.filtering f) where
     abbrev T : List (Seen Written)
     T = seen_samples l.profile f config column (samples_at l.profile chosen)
 
@@ -210,7 +210,7 @@ module _ (l : Loaded) (v : Verdicts) (config : Config) (column : Option ℕ) (co
     written_are = ap (map (key_written l.profile)) named ∙ map_twice (key_written l.profile) (key_numbered names) numbers
 
     -- the sums of the tallies are those of the base's samples
-    pub base_sums_are : (f : Finders) (kept : List ℕ) → HoldsFilters l v config f → kept ≡ filtered_from l.profile f config 0 l.profile.sample
+    pub base_sums_are : (f : Finders) (kept : List ℕ) → HoldsFilters l v config.filtering f → kept ≡ filtered_from l.profile f config.filtering 0 l.profile.sample
         → chosen ≡ filter (is_base_number l.profile) kept → base.whole ≡ selected_all column config.presentation.divide_by (samples_at l.profile chosen)
         → AreBaseSums l.profile f config column sums base
     base_sums_are f kept holds kept_is chosen_is whole_is =

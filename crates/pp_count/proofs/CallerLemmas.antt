@@ -55,8 +55,8 @@ module _ (p : Profile) (f : Finders) (config : Config) (column : Option ℕ) whe
   pub keyed_frames : (samples : List Sample) → map (renamed (key_of_written config)) (framed_samples p f config column samples) ≡ seen_samples p f config column samples
   keyed_frames [] = refl
   keyed_frames (s ∷ samples) =
-      keyed_option s (filtered_stack p f config s) (framed_samples p f config column samples)
-      ∙ ap (cons_option (option_map (seen_with p config column s) (filtered_stack p f config s))) (keyed_frames samples)
+      keyed_option s (filtered_stack p f config.filtering s) (framed_samples p f config column samples)
+      ∙ ap (cons_option (option_map (seen_with p config column s) (filtered_stack p f config.filtering s))) (keyed_frames samples)
 
   -- The samples that put frames into the report put keys into it, each frame its key.
   pub keyed_report : map (renamed (key_of_written config)) (report_frames p f config column) ≡ report_samples p f config column

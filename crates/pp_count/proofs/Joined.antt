@@ -50,7 +50,7 @@ range_part scope number m samples part none all compact table same is =
     let sums_are : AreKeySums S part.sums = subst (λ (r : List (Seen ℕ)). AreKeySums (weighed r) part.sums) (plain scope none is.seen) is.sums in
     let far = apart (profile_in_scope scope) compact scope.table.now.names table.keys table.distinct in
     record {
-      kept = λ f holds. is.kept f holds ∙ ap (λ j. filtered_from (profile_in_scope scope) f (config_of scope) j samples) same;
+      kept = λ f holds. is.kept f holds ∙ ap (λ j. filtered_from (profile_in_scope scope) f (config_of scope).filtering j samples) same;
       sums = λ f holds.
           let T_is : map (renamed name) S ≡ weighed (seen_samples (profile_in_scope scope) f (config_of scope) scope.column samples) =
           sym (weighed-renamed name is.seen) ∙ ap weighed (is.are.are f holds) in
@@ -95,11 +95,11 @@ module _ (l : Loaded) (v : Verdicts) (config : Config) (column : Option ℕ) (na
 
   -- The samples of the ranges so far are in the tallies, and the numbers of those that the filters leave are listed.
   pub record JoinedTo (number : ℕ) (samples : List Sample) (at : ℕ → Tally) (kept : List ℕ) (slots : List Bool) : Type 0 where
-    kept_are : (f : Finders) → HoldsFilters l v config f → kept ≡ filtered_from l.profile f config number samples
-    slots_are : (f : Finders) → HoldsFilters l v config f → slots ≡ matches_among l.profile f config samples
-    tallies : (f : Finders) → HoldsFilters l v config f → (k : ℕ) → k < length names
+    kept_are : (f : Finders) → HoldsFilters l v config.filtering f → kept ≡ filtered_from l.profile f config.filtering number samples
+    slots_are : (f : Finders) → HoldsFilters l v config.filtering f → slots ≡ matches_among l.profile f config.filtering samples
+    tallies : (f : Finders) → HoldsFilters l v config.filtering f → (k : ℕ) → k < length names
         → IsTallyBy key_cmp (put f samples) (written_key l.profile names k) (at k)
-    no_other : (f : Finders) → HoldsFilters l v config f → (k : ℕ) → length names ≤ k → (at k).last ≡ 0
+    no_other : (f : Finders) → HoldsFilters l v config.filtering f → (k : ℕ) → length names ≤ k → (at k).last ≡ 0
     flat_within : (k : ℕ) → nat_abs (at k).flat ≤ absolute_all column config.presentation.divide_by samples
     cum_within : (k : ℕ) → nat_abs (at k).cum ≤ absolute_all column config.presentation.divide_by samples
 
@@ -121,7 +121,7 @@ module _ (l : Loaded) (v : Verdicts) (config : Config) (column : Option ℕ) (na
       let size : Sample → ℕ = λ s. nat_abs (selected column config.presentation.divide_by s) in
       record {
         kept_are = λ f holds. (λ i. before.kept_are f holds i ++ is.kept f holds i)
-            ∙ sym (numbers-append (λ x. is_some (filtered_stack l.profile f config x)) number (number + length a) a b refl);
+            ∙ sym (numbers-append (λ x. is_some (filtered_stack l.profile f config.filtering x)) number (number + length a) a b refl);
         slots_are = λ f holds. (λ i. either (before.slots_are f holds i) (is.matched f holds i)) ∙ either_match l.profile f config a b;
         tallies = λ f holds k below.
             let w : Written = written_key l.profile names k in

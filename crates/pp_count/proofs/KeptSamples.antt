@@ -30,15 +30,15 @@ module _ {A : Type 0} (p : Profile) (f : Finders) (config : Config) (make : Samp
       ∙ ap (λ (o : Option (List Frame)). option_map_or (make s) o [] ++ flat_map (λ x. option_map_or (make x) (frames_of_sample p f x) []) xs) (sym is)
 
   made_from : (xs : List Sample)
-      → flat_map (λ s. option_map_or (make s) (filtered_stack p f config s) []) xs
-      ≡ flat_map (λ s. option_map_or (make s) (frames_of_sample p f s) []) (filtered_samples p f config xs)
+      → flat_map (λ s. option_map_or (make s) (filtered_stack p f config.filtering s) []) xs
+      ≡ flat_map (λ s. option_map_or (make s) (frames_of_sample p f s) []) (filtered_samples p f config.filtering xs)
   made_from [] = refl
-  made_from (s ∷ xs) = one_left s (passes_tags p f config s) (frames_of_sample p f s) (filtered_samples p f config xs) _ (made_from xs) refl
+  made_from (s ∷ xs) = one_left s (passes_tags p f config.filtering s) (frames_of_sample p f s) (filtered_samples p f config.filtering xs) _ (made_from xs) refl
 
   -- What is made of all samples by what the filters leave is made of those with these numbers by what the stack filters
   -- leave.
-  pub made_of_kept : (kept : List ℕ) → kept ≡ filtered_from p f config 0 p.sample
-      → flat_map (λ s. option_map_or (make s) (filtered_stack p f config s) []) p.sample
+  pub made_of_kept : (kept : List ℕ) → kept ≡ filtered_from p f config.filtering 0 p.sample
+      → flat_map (λ s. option_map_or (make s) (filtered_stack p f config.filtering s) []) p.sample
       ≡ flat_map (λ s. option_map_or (make s) (frames_of_sample p f s) []) (samples_at p kept)
   made_of_kept kept is =
       made_from p.sample ∙ ap (flat_map (λ s. option_map_or (make s) (frames_of_sample p f s) [])) (sym (kept_samples p f config kept is))

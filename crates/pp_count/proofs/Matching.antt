@@ -79,13 +79,13 @@ module _ (p : Profile) (f : Finders) where
   key-none (Some find) = refl
 
   -- no samples have no matches
-  pub none_match : (config : Config) → no_matches ≡ matches_among p f config []
+  pub none_match : (config : Config) → no_matches ≡ matches_among p f config.filtering []
   none_match config i =
       frame-none f.focus i ∷ frame-none f.ignore i ∷ frame-none f.hide i ∷ frame-none f.show i ∷ frame-none f.show_from i
       ∷ false ∷ false ∷ true ∷ key-none f.tagshow i ∷ key-none f.taghide i ∷ []
 
   -- the matches of two ranges are those of either
-  pub either_match : (config : Config) (a b : List Sample) → either (matches_among p f config a) (matches_among p f config b) ≡ matches_among p f config (a ++ b)
+  pub either_match : (config : Config) (a b : List Sample) → either (matches_among p f config.filtering a) (matches_among p f config.filtering b) ≡ matches_among p f config.filtering (a ++ b)
   either_match config a b i =
       frame-append f.focus a b i ∷ frame-append f.ignore a b i ∷ frame-append f.hide a b i ∷ frame-append f.show a b i ∷ frame-append f.show_from a b i
       ∷ sym (list_any-append (selects_or false p (filter_in_force config.filtering.tagfocus) f.tagfocus) a b) i

@@ -82,7 +82,7 @@ counted_more scope number m a b at new old_kept new_kept part next before is kep
       (tallies_joined _ _ at new part.sums before.tallies is.sums each k);
   earlier = λ k. rw (each k) (last_added (at k) (sums_of k part.sums) (before.earlier k));
   kept = λ f holds. kept ∙ (λ i. before.kept f holds i ++ is.kept f holds i)
-      ∙ sym (numbers-append (λ x. is_some (filtered_stack (profile_in_scope scope) f (config_of scope) x)) number m a b next);
+      ∙ sym (numbers-append (λ x. is_some (filtered_stack (profile_in_scope scope) f (config_of scope).filtering x)) number m a b next);
   rising = subst (AreRisingBetween number (number + length (a ++ b))) (sym kept)
       (rising-append number m (number + length (a ++ b)) old_kept part.kept (omega (arith, next)) (omega (arith, next, length-append a b))
       (rising_high number (number + length a) m old_kept (omega (arith, next)) before.rising)

@@ -48,8 +48,8 @@ some_is scope (Some x) false keys e = cc
 
 -- What was found of one sample: the filters keep it or not, and its key numbers.
 abbrev pub IsSeen : Scope → Sample → Bool → List ℕ → Type 0
-IsSeen scope s kept keys = (f : Finders) → HoldsFilters scope.l.now scope.v.now (config_of scope) f
-    → option_map (keys_of_stack (profile_in_scope scope) (config_of scope).grouping) (filtered_stack (profile_in_scope scope) f (config_of scope) s) ≡ kept_if kept (map (name_of scope) keys)
+IsSeen scope s kept keys = (f : Finders) → HoldsFilters scope.l.now scope.v.now (config_of scope).filtering f
+    → option_map (keys_of_stack (profile_in_scope scope) (config_of scope).grouping) (filtered_stack (profile_in_scope scope) f (config_of scope).filtering s) ≡ kept_if kept (map (name_of scope) keys)
 
 -- the sample by its key numbers
 abbrev pub by_numbers : Scope → Sample → List ℕ → Seen ℕ
@@ -72,7 +72,7 @@ seen_more scope samples ss s keys is below so_far = record {
   are = λ f holds.
       map-append (renamed (name_of scope)) ss (by_numbers scope s keys ∷ [])
       ∙ (λ i. so_far.are f holds i ++ cons_option (seen_if scope s (sym (is f holds) i)) [])
-      ∙ ap (λ o. seen_samples (profile_in_scope scope) f (config_of scope) scope.column samples ++ cons_option o []) (sym (seen_is scope f s (filtered_stack (profile_in_scope scope) f (config_of scope) s)))
+      ∙ ap (λ o. seen_samples (profile_in_scope scope) f (config_of scope) scope.column samples ++ cons_option o []) (sym (seen_is scope f s (filtered_stack (profile_in_scope scope) f (config_of scope).filtering s)))
       ∙ sym (filter_map-append (seen (profile_in_scope scope) f (config_of scope) scope.column) samples (s ∷ []));
 }
 
@@ -85,7 +85,7 @@ seen_same scope samples ss s keys is so_far = record {
   are = λ f holds.
       sym (append-nil (map (renamed (name_of scope)) ss))
       ∙ (λ i. so_far.are f holds i ++ cons_option (seen_if scope s (sym (is f holds) i)) [])
-      ∙ ap (λ o. seen_samples (profile_in_scope scope) f (config_of scope) scope.column samples ++ cons_option o []) (sym (seen_is scope f s (filtered_stack (profile_in_scope scope) f (config_of scope) s)))
+      ∙ ap (λ o. seen_samples (profile_in_scope scope) f (config_of scope) scope.column samples ++ cons_option o []) (sym (seen_is scope f s (filtered_stack (profile_in_scope scope) f (config_of scope).filtering s)))
       ∙ sym (filter_map-append (seen (profile_in_scope scope) f (config_of scope) scope.column) samples (s ∷ []));
 }
 
@@ -100,12 +100,12 @@ numbers-append test n m (s ∷ a) b e =
 
 -- the numbers with that of one more sample
 kept_more : (scope : Scope) (f : Finders) (number i : ℕ) (samples : List Sample) (s : Sample) (kept : Bool) (keys : List ℕ)
-    → HoldsFilters scope.l.now scope.v.now (config_of scope) f → IsSeen scope s kept keys → length samples ≡ i
-    → filtered_from (profile_in_scope scope) f (config_of scope) number (samples ++ s ∷ []) ≡ filtered_from (profile_in_scope scope) f (config_of scope) number samples ++ cond kept ((number + i) ∷ []) []
+    → HoldsFilters scope.l.now scope.v.now (config_of scope).filtering f → IsSeen scope s kept keys → length samples ≡ i
+    → filtered_from (profile_in_scope scope) f (config_of scope).filtering number (samples ++ s ∷ []) ≡ filtered_from (profile_in_scope scope) f (config_of scope).filtering number samples ++ cond kept ((number + i) ∷ []) []
 kept_more scope f number i samples s kept keys holds is long =
-    numbers-append (λ x. is_some (filtered_stack (profile_in_scope scope) f (config_of scope) x)) number (number + i) samples (s ∷ []) (omega (arith, long))
-    ∙ ap (λ w. filtered_from (profile_in_scope scope) f (config_of scope) number samples ++ cond w ((number + i) ∷ []) [])
-    (some_is scope (filtered_stack (profile_in_scope scope) f (config_of scope) s) kept (map (name_of scope) keys) (is f holds))
+    numbers-append (λ x. is_some (filtered_stack (profile_in_scope scope) f (config_of scope).filtering x)) number (number + i) samples (s ∷ []) (omega (arith, long))
+    ∙ ap (λ w. filtered_from (profile_in_scope scope) f (config_of scope).filtering number samples ++ cond w ((number + i) ∷ []) [])
+    (some_is scope (filtered_stack (profile_in_scope scope) f (config_of scope).filtering s) kept (map (name_of scope) keys) (is f holds))
 
 -- what is counted of samples is as large as they are
 pub counted_size : (scope : Scope) (ss : List (Seen ℕ)) → absolute (map (counted_as scope) ss) ≡ absolute ss
@@ -165,7 +165,7 @@ counted_dropped scope number i samples s keys at kept here at_i is so_far =
       are = seen_same scope (take i samples) so_far.seen s keys is so_far.are;
       tallies = so_far.tallies;
       earlier = λ k. omega (arith, so_far.earlier k);
-      kept = λ f holds. so_far.kept f holds ∙ sym (append-nil (filtered_from (profile_in_scope scope) f (config_of scope) number (take i samples)))
+      kept = λ f holds. so_far.kept f holds ∙ sym (append-nil (filtered_from (profile_in_scope scope) f (config_of scope).filtering number (take i samples)))
           ∙ sym (kept_more scope f number i (take i samples) s false keys holds is (length-take-le i samples (omega (arith, here))));
       rising = rising_high number (number + length (take i samples)) (number + length (take i samples ++ s ∷ [])) kept (omega (arith, length-append (take i samples) (s ∷ []))) so_far.rising;
     })

@@ -55,7 +55,7 @@ filter_size f q (s ∷ ss) =
 pub scope_totals_none : (p : Profile) (f : Finders) (config : Config) (column : Option ℕ) (t : Totals) → t ≡ record { all = 0; base = 0 }
     → AreTotals p config column (samples_of_total p f config []) t
 scope_totals_none p f config column t none =
-    elim config.presentation.relative_percentages as (λ r. AreTotals p config column (cond r (filtered_samples p f config []) []) t) [
+    elim config.presentation.relative_percentages as (λ r. AreTotals p config column (cond r (filtered_samples p f config.filtering []) []) t) [
       | true ↦ totals_none p config column t none
       | false ↦ totals_none p config column t none
     ]
@@ -68,7 +68,7 @@ scope_totals_more scope a b t u new plus before next whole f holds =
     let config = config_of scope in
     let of_total : List Sample → List Sample = samples_of_total p f config in
     let both : of_total (a ++ b) ≡ of_total a ++ of_total b =
-    elim config.presentation.relative_percentages as (λ r. cond r (filtered_samples p f config (a ++ b)) (a ++ b) ≡ cond r (filtered_samples p f config a) a ++ cond r (filtered_samples p f config b) b) [
+    elim config.presentation.relative_percentages as (λ r. cond r (filtered_samples p f config.filtering (a ++ b)) (a ++ b) ≡ cond r (filtered_samples p f config.filtering a) a ++ cond r (filtered_samples p f config.filtering b) b) [
       | true ↦ filter-append _ a b
       | false ↦ refl
     ] in
@@ -82,8 +82,8 @@ total_is p f config column t fits are =
     let size : Sample → ℕ = λ x. nat_abs (selected column config.presentation.divide_by x) in
     let ss : List Sample = samples_of_total p f config p.sample in
     let within : sum_by size ss < 2 ^ 63 =
-    elim config.presentation.relative_percentages as (λ r. sum_by size (cond r (filtered_samples p f config p.sample) p.sample) < 2 ^ 63) [
-      | true ↦ omega (arith, fits, filter_size size (λ s. is_some (filtered_stack p f config s)) p.sample)
+    elim config.presentation.relative_percentages as (λ r. sum_by size (cond r (filtered_samples p f config.filtering p.sample) p.sample) < 2 ^ 63) [
+      | true ↦ omega (arith, fits, filter_size size (λ s. is_some (filtered_stack p f config.filtering s)) p.sample)
       | false ↦ fits
     ] in
     let base_is : t.base ≡ sum_by size (filter (is_base p) ss) = omega (arith, within, are.base, filter_size size (is_base p) ss) in

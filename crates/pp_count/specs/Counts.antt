@@ -38,9 +38,9 @@ abbrev pub is_base : Profile → Sample → Bool
 is_base p s = list_any (is_base_label p) s.label
 
 -- the samples that the filters leave
-abbrev pub filtered_samples : Profile → Finders → Config → List Sample → List Sample
-filtered_samples p f config samples =
-    filter (λ s. is_some (filtered_stack p f config s)) samples
+abbrev pub filtered_samples : Profile → Finders → Filtering → List Sample → List Sample
+filtered_samples p f filtering samples =
+    filter (λ s. is_some (filtered_stack p f filtering s)) samples
 
 -- the samples with these numbers; no public clause cites it
 abbrev pub samples_at : Profile → List ℕ → List Sample
@@ -59,7 +59,7 @@ total_over p config column samples =
 -- The samples that percentages are taken of: all of these, or under relative_percentages those that the filters leave.
 abbrev pub samples_of_total : Profile → Finders → Config → List Sample → List Sample
 samples_of_total p f config samples =
-    if config.presentation.relative_percentages then filtered_samples p f config samples else samples
+    if config.presentation.relative_percentages then filtered_samples p f config.filtering samples else samples
 
 -- what percentages are taken of
 abbrev pub total_of : Profile → Finders → Config → Option ℕ → ℕ

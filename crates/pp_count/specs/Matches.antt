@@ -37,23 +37,23 @@ tag_match p text parts samples = list_any (selects_or false p (filter_in_force t
 
 -- Whether each option has a match among these samples: focus, ignore, hide, show, show_from, tagfocus, tagignore,
 -- prune_from, tagshow and taghide. prune_from is never without one.
-abbrev pub matches_among : Profile → Finders → Config → List Sample → List Bool
-matches_among p f config samples =
+abbrev pub matches_among : Profile → Finders → Filtering → List Sample → List Bool
+matches_among p f filtering samples =
     frame_match p f f.focus samples
     ∷ frame_match p f f.ignore samples
     ∷ frame_match p f f.hide samples
     ∷ frame_match p f f.show samples
     ∷ frame_match p f f.show_from samples
-    ∷ tag_match p config.filtering.tagfocus f.tagfocus samples
-    ∷ tag_match p config.filtering.tagignore f.tagignore samples
+    ∷ tag_match p filtering.tagfocus f.tagfocus samples
+    ∷ tag_match p filtering.tagignore f.tagignore samples
     ∷ true
     ∷ key_match p f.tagshow samples
     ∷ key_match p f.taghide samples
     ∷ []
 
 -- whether each option has a match among all loaded samples
-abbrev pub matches_of : Profile → Finders → Config → List Bool
-matches_of p f config = matches_among p f config p.sample
+abbrev pub matches_of : Profile → Finders → Filtering → List Bool
+matches_of p f filtering = matches_among p f filtering p.sample
 
 -- the matches of no samples
 abbrev pub no_matches : List Bool

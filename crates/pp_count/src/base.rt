@@ -52,7 +52,7 @@ pub fn base_sums<R: Threads + Sync, G: Gate>(
     gate: &G,
 ) -> Result<BaseSums, Memory>
     ensures sums { (f : Finders) →
-        HoldsFilters survey.now.l.now survey.now.v.now survey.now.config.now f →
+        HoldsFilters survey.now.l.now survey.now.v.now survey.now.config.now.filtering f →
         IfOk result (AreBaseSums survey.now.l.now.profile f survey.now.config.now
         survey.now.column survey.now.counted.now.sums) }
     ensures fits { IfOk result (FitBase survey.now.counted.now.sums.names) }
@@ -160,9 +160,9 @@ fn push_tally(flat: &mut List<i64>, cum: &mut List<i64>, tally: Tally) -> Result
 /// The sum of the selected values of the samples that the filters leave.
 pub fn counted_whole(survey: &Survey<'_>) -> i64
     ensures { (f : Finders) →
-        HoldsFilters survey.now.l.now survey.now.v.now survey.now.config.now f → result
+        HoldsFilters survey.now.l.now survey.now.v.now survey.now.config.now.filtering f → result
         ≡ selected_all survey.now.column survey.now.config.now.presentation.divide_by
-        (filtered_samples survey.now.l.now.profile f survey.now.config.now
+        (filtered_samples survey.now.l.now.profile f survey.now.config.now.filtering
         survey.now.l.now.profile.sample) }
 {
     let kept = survey.counted.kept.as_slice();

@@ -49,7 +49,7 @@ impl Filters {
         requires verdicts { HasVerdicts l.now.profile v.now }
         requires focus { HasItsTags l.now.profile v.now.tag (filter_in_force config.now.filtering.tagfocus) }
         requires ignore { HasItsTags l.now.profile v.now.tag (filter_in_force config.now.filtering.tagignore) }
-        ensures { IfOk result (AreFilters l.now.profile v.now config.now) }
+        ensures { IfOk result (AreFilters l.now.profile v.now config.now.filtering) }
     {
         let tags = tag_filters(alloc, config)?;
         let tables = VerdictTables::new(alloc, l, v)?;
@@ -65,7 +65,7 @@ impl Filters {
     ) -> Result<Filters, Memory>
         requires focus { HasItsTags l.now.profile v.now.tag (filter_in_force config.now.filtering.tagfocus) }
         requires ignore { HasItsTags l.now.profile v.now.tag (filter_in_force config.now.filtering.tagignore) }
-        ensures { IfOk result (AreFilters l.now.profile v.now config.now) }
+        ensures { IfOk result (AreFilters l.now.profile v.now config.now.filtering) }
     {
         let tags = tag_filters(alloc, config)?;
         Ok(with_tables(tags, VerdictTables::none()))

@@ -29,7 +29,7 @@ pub fn count_piece(
     table: &KeyTable,
     piece: u32,
 ) -> Result<Part, Memory>
-    requires can { CanCount l.now.profile v.now config.now column }
+    requires can { CanCount l.now.profile v.now config.now.filtering column }
     requires table { IsKeyTable l.now.profile config.now.grouping table.now }
     requires starts { PIECE * piece < length l.now.profile.sample }
     ensures { IfOk result (IsRangePart l.now v.now config.now column table.now.names

@@ -29,9 +29,9 @@ pub fn see(
     ensures below { IfOk result (λ _.
         All (λ k. k < length scope.now.table.now.names) keys.new.items) }
     ensures seen { (f : Finders) →
-        HoldsFilters scope.now.l.now scope.now.v.now scope.now.config.now f →
+        HoldsFilters scope.now.l.now scope.now.v.now scope.now.config.now.filtering f →
         IfOk result (λ kept. option_map (keys_of_stack scope.now.l.now.profile scope.now.config.now.grouping)
-        (filtered_stack scope.now.l.now.profile f scope.now.config.now s.now)
+        (filtered_stack scope.now.l.now.profile f scope.now.config.now.filtering s.now)
         ≡ kept_if kept (map (written_key scope.now.l.now.profile scope.now.table.now.names)
         keys.new.items)) }
 {

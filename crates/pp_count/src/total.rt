@@ -50,8 +50,8 @@ impl Totals {
 pub(crate) fn totals_of(scope: &Scope, s: &Sample, value: i64, left: bool) -> Totals
     requires value { value ≡ selected scope.now.column scope.now.config.now.presentation.divide_by s.now }
     requires left { (f : Finders) →
-        HoldsFilters scope.now.l.now scope.now.v.now scope.now.config.now f →
-        is_some (filtered_stack (profile_in_scope scope.now) f scope.now.config.now s.now) ≡ left }
+        HoldsFilters scope.now.l.now scope.now.v.now scope.now.config.now.filtering f →
+        is_some (filtered_stack (profile_in_scope scope.now) f scope.now.config.now.filtering s.now) ≡ left }
     ensures { HasTotals scope.now (s.now ∷ []) result }
 {
     match scope.chosen {

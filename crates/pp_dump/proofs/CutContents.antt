@@ -36,19 +36,19 @@ module _ (p : Profile) (f : Finders) (config : Config) where
   one_told s (Some stack) rest = ap (λ ls. (record { locations = ls; labels = map (label_text (text_of p)) (shown_labels p f s.label) }, s.value) ∷ rest) (groups_told p (by_place stack))
 
   all_told : (xs : List Sample)
-      → map (told p) (flat_map (λ s. option_map_or (spread_of p f s) (filtered_stack p f config s) []) xs)
-      ≡ filter_map (λ s. option_map (cut_sample p f s) (filtered_stack p f config s)) xs
+      → map (told p) (flat_map (λ s. option_map_or (spread_of p f s) (filtered_stack p f config.filtering s) []) xs)
+      ≡ filter_map (λ s. option_map (cut_sample p f s) (filtered_stack p f config.filtering s)) xs
   all_told [] = refl
   all_told (s ∷ xs) =
-      map-append (told p) (option_map_or (spread_of p f s) (filtered_stack p f config s) []) _
-      ∙ ap (λ rest. map (told p) (option_map_or (spread_of p f s) (filtered_stack p f config s) []) ++ rest) (all_told xs)
-      ∙ one_told s (filtered_stack p f config s) _
+      map-append (told p) (option_map_or (spread_of p f s) (filtered_stack p f config.filtering s) []) _
+      ∙ ap (λ rest. map (told p) (option_map_or (spread_of p f s) (filtered_stack p f config.filtering s) []) ++ rest) (all_told xs)
+      ∙ one_told s (filtered_stack p f config.filtering s) _
 
 -- What the profile says that is merged alone is what the saved profile says.
 pub contents_saved : (l : Loaded) (v : Verdicts) (f : Finders) (config : Config) (kept : List ℕ) (samples : List Sample) (locations : List Location)
-    → NoRuleFails l.profile → HoldsFinders l v f → kept ≡ filtered_from l.profile f config 0 l.profile.sample
+    → NoRuleFails l.profile → HoldsFinders l v f → kept ≡ filtered_from l.profile f config.filtering 0 l.profile.sample
     → AddsSamples l v (samples_at l.profile kept) [] l.profile.location samples locations
-    → contents (with_cut l.profile samples locations) [] ≡ saved_contents l.profile f config
+    → contents (with_cut l.profile samples locations) [] ≡ saved_contents l.profile f config.filtering
 contents_saved l v f config kept samples locations valid finds is adds =
     let p : Profile = l.profile in
     let each = subst (AllByRecursion (IsCutSample p locations)) (sym adds.is) adds.each in

@@ -118,33 +118,33 @@ module _ (p : Profile) (f : Finders) (config : Config) (valid : NoRuleFails p) w
   refers = recursion_from_All (RefersTo p) p.sample (λ k d within. refers_from_valid p (get_or p.sample k d) valid (sample_at p k d within))
 
   -- each sample that is left has a value per column
-  pub wide : AllByRecursion (λ item. length item.1 ≡ length p.sample_type) (cut_samples p f config)
+  pub wide : AllByRecursion (λ item. length item.1 ≡ length p.sample_type) (cut_samples p f config.filtering)
   wide =
-      all_some (λ item. length item.1 ≡ length p.sample_type) (λ s. option_map (cut_sample p f s) (filtered_stack p f config s)) p.sample
-      (recursion_from_All _ p.sample (λ k d within item is. one (get_or p.sample k d) (filtered_stack p f config (get_or p.sample k d)) (eqb-true _ _ (passes _ p.sample valid.values k d within)) item is))
+      all_some (λ item. length item.1 ≡ length p.sample_type) (λ s. option_map (cut_sample p f s) (filtered_stack p f config.filtering s)) p.sample
+      (recursion_from_All _ p.sample (λ k d within item is. one (get_or p.sample k d) (filtered_stack p f config.filtering (get_or p.sample k d)) (eqb-true _ _ (passes _ p.sample valid.values k d within)) item is))
     where
       one : (s : Sample) (o : Option (List Frame)) → length s.value ≡ length p.sample_type → (item : SampleText × List ℤ) → option_map (cut_sample p f s) o ≡ Some item → length item.1 ≡ length p.sample_type
       one s None fits item is = absurd (none-some item is)
       one s (Some stack) fits item is = ap (λ (x : SampleText × List ℤ). length x.1) (sym (same_Some (cut_sample p f s stack) item is)) ∙ fits
 
   -- the samples that the filters leave, of a profile that stays as it is when it is merged alone
-  pub left_is : AllByRecursion (λ m. m.start < 2 ^ 64) (all_mappings (p ∷ [])) → merged p [] ≡ p → left_stacks p f config ≡ map with_stack (cut_samples p f config)
+  pub left_is : AllByRecursion (λ m. m.start < 2 ^ 64) (all_mappings (p ∷ [])) → merged p [] ≡ p → left_stacks p f config.filtering ≡ map with_stack (cut_samples p f config.filtering)
   left_is starts again =
       let compact : IsCompact p = subst IsCompact again (compact_written (contents p [])) in
       left_are p (text_zero p valid) starts again f config compact.locations p.sample refers
 
   -- The saved profile of such a one.
-  pub keeps_stacks : AllByRecursion (λ m. m.start < 2 ^ 64) (all_mappings (p ∷ [])) → merged p [] ≡ p → IsSettled (saved_contents p f config)
-      → KeepsStacks p f config (saved p f config)
+  pub keeps_stacks : AllByRecursion (λ m. m.start < 2 ^ 64) (all_mappings (p ∷ [])) → merged p [] ≡ p → IsSettled (saved_contents p f config.filtering)
+      → KeepsStacks p f config.filtering (saved p f config.filtering)
   keeps_stacks starts again settled =
-      let c : Contents = saved_contents p f config in
+      let c : Contents = saved_contents p f config.filtering in
       let n : ℕ = length p.sample_type in
-      let items : List (SampleText × List ℤ) = cut_samples p f config in
-      let whole : whole_stacks (saved p f config) ≡ map with_stack c.samples = whole_back c settled in
-      let left : left_stacks p f config ≡ map with_stack items = left_is starts again in
+      let items : List (SampleText × List ℤ) = cut_samples p f config.filtering in
+      let whole : whole_stacks (saved p f config.filtering) ≡ map with_stack c.samples = whole_back c settled in
+      let left : left_stacks p f config.filtering ≡ map with_stack items = left_is starts again in
       record {
         each =
-            subst (λ (those : List (StackText × List ℤ)). All (Contains (without_values those)) (without_values (whole_stacks (saved p f config)))) (sym left)
+            subst (λ (those : List (StackText × List ℤ)). All (Contains (without_values those)) (without_values (whole_stacks (saved p f config.filtering)))) (sym left)
             (subst (λ (these : List (StackText × List ℤ)). All (Contains (without_values (map with_stack items))) (without_values these)) (sym whole) (left_among n items));
         apart = subst (λ (these : List (StackText × List ℤ)). AllPairs (λ a b. a ≢ b) (without_values these)) (sym whole) (stacks_apart c settled);
         counted = subst (All (λ s. counts s ≡ true)) (sym whole) (stacks_count c settled);

@@ -64,22 +64,22 @@ module _ (p : Profile) (f : Finders) (config : Config) (column : ℕ) (undivided
   one_more (Some x) rest = refl
 
   -- the samples that the filters leave, as the report sees them
-  pub seen_left : (xs : List Sample) → filter_map (seen p f config (Some column)) xs ≡ map as_seen (filter_map (λ s. option_map (left_stack p f s) (filtered_stack p f config s)) xs)
+  pub seen_left : (xs : List Sample) → filter_map (seen p f config (Some column)) xs ≡ map as_seen (filter_map (λ s. option_map (left_stack p f s) (filtered_stack p f config.filtering s)) xs)
   seen_left [] = refl
   seen_left (s ∷ xs) =
-      (λ i. cons_option (one_seen s (filtered_stack p f config s) i) (seen_left xs i))
-      ∙ one_more (option_map (left_stack p f s) (filtered_stack p f config s)) _
+      (λ i. cons_option (one_seen s (filtered_stack p f config.filtering s) i) (seen_left xs i))
+      ∙ one_more (option_map (left_stack p f s) (filtered_stack p f config.filtering s)) _
 
   -- The sum over the samples that are seen follows from the stacks that are left.
   pub sum_left : (test : List Written → Bool) → sum_where test (seen_samples p f config (Some column) p.sample)
-      ≡ sum_passing (λ s. test (keys_of_text config.grouping.grain config.grouping.showcolumns config.grouping.noinlines s)) column (left_stacks p f config)
+      ≡ sum_passing (λ s. test (keys_of_text config.grouping.grain config.grouping.showcolumns config.grouping.noinlines s)) column (left_stacks p f config.filtering)
   sum_left test =
       ap (sum_where test) (seen_left p.sample)
-      ∙ sum_seen config.grouping.grain config.grouping.showcolumns config.grouping.noinlines column test (left_stacks p f config)
+      ∙ sum_seen config.grouping.grain config.grouping.showcolumns config.grouping.noinlines column test (left_stacks p f config.filtering)
 
 -- A profile that keeps the stacks keeps the sums, where without filters its stacks are left whole.
-pub keeps_sums : (p : Profile) (f : Finders) (config : Config) (q : Profile) → KeepsStacks p f config q
-    → ((d : Config) → d.filtering.tagfocus ≡ [] → d.filtering.tagignore ≡ [] → left_stacks q no_finders d ≡ whole_stacks q) → KeepsSums p f config q
+pub keeps_sums : (p : Profile) (f : Finders) (config : Config) (q : Profile) → KeepsStacks p f config.filtering q
+    → ((d : Config) → d.filtering.tagfocus ≡ [] → d.filtering.tagignore ≡ [] → left_stacks q no_finders d.filtering ≡ whole_stacks q) → KeepsSums p f config q
 keeps_sums p f config q keeps whole d alike test column within =
     sum_left q no_finders d column alike.undivided test
     ∙ (λ i. sum_passing (λ s. test (keys_of_text (alike.grain i) (alike.showcolumns i) (alike.noinlines i) s)) column (whole d alike.tagfocus alike.tagignore i))

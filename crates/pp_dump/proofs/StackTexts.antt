@@ -107,8 +107,8 @@ module _ (p : Profile) (empty : text_at p 0 ≡ []) (starts : AllByRecursion (λ
         ap (λ (places : List PlaceText). Some (record { places = places; labels = map (label_text (text_of p)) (shown_labels p f s.label) }, s.value))
         (sym (map_each place_of (cut_text p) (left_place p) (by_place stack) (all_by (IsGroup p) _ (λ group is. sym (place_left group is)) (by_place stack) (are_groups p stack is))))
 
-    filtered_coheres : (s : Sample) → RefersTo p s → IfSome (filtered_stack p f config s) (Coheres p)
-    filtered_coheres s refers = by (passes_tags p f config s)
+    filtered_coheres : (s : Sample) → RefersTo p s → IfSome (filtered_stack p f config.filtering s) (Coheres p)
+    filtered_coheres s refers = by (passes_tags p f config.filtering s)
       where
         by : (b : Bool) → IfSome (if b then frames_of_sample p f s else None) (Coheres p)
         by true = left_coheres p f s numbered refers
@@ -120,9 +120,9 @@ module _ (p : Profile) (empty : text_at p 0 ≡ []) (starts : AllByRecursion (λ
 
     -- The samples that the filters leave of these.
     pub left_are : (xs : List Sample) → AllByRecursion (RefersTo p) xs
-        → filter_map (λ s. option_map (left_stack p f s) (filtered_stack p f config s)) xs
-        ≡ map with_stack (filter_map (λ s. option_map (cut_sample p f s) (filtered_stack p f config s)) xs)
+        → filter_map (λ s. option_map (left_stack p f s) (filtered_stack p f config.filtering s)) xs
+        ≡ map with_stack (filter_map (λ s. option_map (cut_sample p f s) (filtered_stack p f config.filtering s)) xs)
     left_are [] all = refl
     left_are (s ∷ xs) all =
-        (λ i. cons_option (one_left s (filtered_stack p f config s) (filtered_coheres s all.0) i) (left_are xs all.1 i))
-        ∙ one_more (option_map (cut_sample p f s) (filtered_stack p f config s)) _
+        (λ i. cons_option (one_left s (filtered_stack p f config.filtering s) (filtered_coheres s all.0) i) (left_are xs all.1 i))
+        ∙ one_more (option_map (cut_sample p f s) (filtered_stack p f config.filtering s)) _

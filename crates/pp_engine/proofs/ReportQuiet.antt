@@ -33,23 +33,23 @@ use Rattle.pp_engine.proofs.Courses.{only_looks, writes_nothing}
 
 module _ (test : Step → Bool) where
   module _ (asks : (pattern : List ℕ) → test (Ask pattern) ≡ true) (finds : Finds) (l : Loaded) (config : Config) where
-    only_patterns : (report : Report) → Only test (ask_patterns finds l report config)
+    only_patterns : (report : Report) → Only test (ask_patterns finds l report config.filtering)
     unfolding ask_patterns
-    only_patterns report = only_then test (judge finds config (own_pattern report) l.profile) _ (only_judge test asks finds config (own_pattern report) l.profile) (λ judged. tt)
+    only_patterns report = only_then test (judge finds config.filtering (own_pattern report) l.profile) _ (only_judge test asks finds config (own_pattern report) l.profile) (λ judged. tt)
 
-    only_counts : (report : Report) (showing : Showing) → Only test (prepare_counts finds l report config showing)
+    only_counts : (report : Report) (showing : Showing) → Only test (prepare_counts finds l report config.filtering showing)
     unfolding prepare_counts
-    only_counts report showing = only_asking test (ask_patterns finds l report config) _ (only_patterns report) (λ _. tt)
+    only_counts report showing = only_asking test (ask_patterns finds l report config.filtering) _ (only_patterns report) (λ _. tt)
 
-    only_showing : (report : Report) (showing : Showing) → Only test (prepare_showing finds l report config showing)
+    only_showing : (report : Report) (showing : Showing) → Only test (prepare_showing finds l report config.filtering showing)
     unfolding prepare_showing
     only_showing report showing =
-        elim (is_counted report) as (λ counted. Only test (if counted then prepare_counts finds l report config showing else Give (Ok (record { showing = showing; notes = [] })))) [
+        elim (is_counted report) as (λ counted. Only test (if counted then prepare_counts finds l report config.filtering showing else Give (Ok (record { showing = showing; notes = [] })))) [
           | true ↦ only_counts report showing
           | false ↦ tt
         ]
 
-    only_settled : (report : Report) (shows : Result Showing ReportRefusal) → Only test (go_on (prepare_showing finds l report config) shows)
+    only_settled : (report : Report) (shows : Result Showing ReportRefusal) → Only test (go_on (prepare_showing finds l report config.filtering) shows)
     only_settled report (Ok showing) = only_showing report showing
     only_settled report (Err refusal) = tt
 

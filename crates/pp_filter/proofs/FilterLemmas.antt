@@ -17,8 +17,8 @@ use Rattle.pp_count.specs.Seeing.{HoldsFilters}
 use Rattle.pp_filter.specs.Filtered.{own_finders, filtered_profile, SavesFiltered}
 
 -- The verdicts are what the finders find.
-pub filter_holds : (finds : Finds) (l : Loaded) (config : Config) (v : Verdicts) → AreVerdictsOf finds config None l v → IsCompact l.profile
-    → HoldsFilters l v config (own_finders finds l config)
+pub filter_holds : (finds : Finds) (l : Loaded) (config : Config) (v : Verdicts) → AreVerdictsOf finds config.filtering None l v → IsCompact l.profile
+    → HoldsFilters l v config.filtering (own_finders finds l config.filtering)
 filter_holds finds l config v are compact = record {
   found = are.holds (option_map (finder_by l.profile) l.drop) (option_map (finder_by l.profile) l.keep)
       (same_judged l.profile l.drop compact l.drop_fits) (same_judged l.profile l.keep compact l.keep_fits);
@@ -27,8 +27,8 @@ filter_holds finds l config v are compact = record {
 }
 
 -- The samples can be counted by them.
-pub can_save : (finds : Finds) (l : Loaded) (config : Config) (v : Verdicts) → AreVerdictsOf finds config None l v → IsCountable l.profile
-    → CanCount l.profile v config None
+pub can_save : (finds : Finds) (l : Loaded) (config : Config) (v : Verdicts) → AreVerdictsOf finds config.filtering None l v → IsCountable l.profile
+    → CanCount l.profile v config.filtering None
 can_save finds l config v are countable = record {
   countable = countable;
   column = tt;

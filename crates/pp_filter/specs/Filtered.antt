@@ -11,18 +11,18 @@ use Rattle.pp_pseudo.specs.Basis.{framed_for}
 use Rattle.pp_dump.specs.Saved.{saved}
 
 -- what the patterns find: those of the configuration, and the profile's own two
-abbrev pub own_finders : Finds → Loaded → Config → Finders
-own_finders finds l config =
-    finders_of finds config None (option_map (finder_by l.profile) l.drop)
+abbrev pub own_finders : Finds → Loaded → Filtering → Finders
+own_finders finds l filtering =
+    finders_of finds filtering None (option_map (finder_by l.profile) l.drop)
     (option_map (finder_by l.profile) l.keep)
 
 -- the profile that is saved of a loaded one
-abbrev pub saved_of : Finds → Loaded → Config → Profile
-saved_of finds l config = saved l.profile (own_finders finds l config) config
+abbrev pub saved_of : Finds → Loaded → Filtering → Profile
+saved_of finds l filtering = saved l.profile (own_finders finds l filtering) filtering
 
 -- the profile that the filters leave of the loaded one, which first gets the frames that the configuration asks for
 abbrev pub filtered_profile : Finds → Loaded → Config → Profile
-filtered_profile finds l config = saved_of finds (framed_for l config) config
+filtered_profile finds l config = saved_of finds (framed_for l config) config.filtering
 
 -- The profile is what is saved of the other one, once that is loaded with what its own patterns find.
 abbrev pub SavesFiltered : Finds → Profile → Config → Profile → Type 0

@@ -52,9 +52,9 @@ pub fn verdicts<D: Desk>(
     config: &Config,
     desk: &mut D,
 ) -> Result<Verdicts, Halt<Refused>>
-    ensures went { Went (D.world desk.old) (D.world desk.new) (verdicts D.finds l.now config.now)
+    ensures went { Went (D.world desk.old) (D.world desk.new) (verdicts D.finds l.now config.now.filtering)
         (settled result) }
-    ensures found { IfOk result (AreVerdictsOf D.finds config.now None l.now) }
+    ensures found { IfOk result (AreVerdictsOf D.finds config.now.filtering None l.now) }
 {
     match judge(alloc, desk, config, None, l)? {
         Ok(verdicts) => Ok(verdicts),

@@ -22,7 +22,7 @@ use Rattle.pp_graph.proofs.Between.{heavy_between, light_count_is}
 
 module _ (l : Loaded) (v : Verdicts) (config : Config) (column : Option ℕ) (limit : ℕ) (c : Counted) (counted : IsCountedOf l v config column c) (t : Trimmed)
     (ranked : IsRankedOf l v config column limit c t.ranked) (edges : List Edge)
-    (are : (f : Finders) → HoldsFilters l v config f → AreEdgesOf l.profile (report_samples l.profile f config column) c.sums.names (kept_flags (length c.sums.names) t.ranked.order) edges) where
+    (are : (f : Finders) → HoldsFilters l v config.filtering f → AreEdgesOf l.profile (report_samples l.profile f config column) c.sums.names (kept_flags (length c.sums.names) t.ranked.order) edges) where
   pub trimmed_of : AreEdgesLinked t.graph → HasNodes c.sums t.graph
       → live_edges t.graph ≡ filter (is_heavy_edge c.total config.presentation.edgefraction.billionths) edges
       → t.dropped_edges ≡ length (filter (is_light_edge c.total config.presentation.edgefraction.billionths) edges)

@@ -32,10 +32,10 @@ module _ (l : Loaded) (v : Verdicts) (config : Config) (column : Option ℕ) (c 
   abbrev pub free : Config
   free = record config { presentation = record config.presentation { nodefraction = none } }
 
-  there : (f : Finders) → HoldsFilters l v config f → HoldsFilters l v free f
+  there : (f : Finders) → HoldsFilters l v config.filtering f → HoldsFilters l v free.filtering f
   there f holds = record { found = holds.found; tagfocus = holds.tagfocus; tagignore = holds.tagignore }
 
-  back : (f : Finders) → HoldsFilters l v free f → HoldsFilters l v config f
+  back : (f : Finders) → HoldsFilters l v free.filtering f → HoldsFilters l v config.filtering f
   back f holds = record { found = holds.found; tagfocus = holds.tagfocus; tagignore = holds.tagignore }
 
   -- the count does not depend on the fraction

@@ -70,7 +70,7 @@ drops false false false false false false true = refl
 drops false false false false false false false = refl
 
 module _ (p : Profile) (f : Finders) (config : Config) where
-  pub one_of_seven : (s : Sample) → is_dropping (first_filter p f config s) ≡ true
+  pub one_of_seven : (s : Sample) → is_dropping (first_filter p f config.filtering s) ≡ true
   one_of_seven s =
       let stack = load_pruned (written p) f (stack_of p s) in
       let left = not_hidden (written p) f stack in
@@ -130,17 +130,17 @@ module _ (s : Sample) (a b c d e g h left : List Sample) where
 
 module _ (p : Profile) (f : Finders) (config : Config) (column : Option ℕ) where
   abbrev part : Slot → List Sample → List Sample
-  part slot ss = dropped_samples p f config slot ss
+  part slot ss = dropped_samples p f config.filtering slot ss
 
   abbrev ends : List Sample → Portion
-  ends ss = together (map (λ slot. portion_of config column (part slot ss)) dropping ++ portion_of config column (filtered_samples p f config ss) ∷ [])
+  ends ss = together (map (λ slot. portion_of config column (part slot ss)) dropping ++ portion_of config column (filtered_samples p f config.filtering ss) ∷ [])
 
   all_end : (ss : List Sample) → (length ss ≡ (ends ss).count) × (worth config column ss ≡ (ends ss).value)
   all_end [] = (refl, refl)
   all_end (s ∷ ss) =
       let rest = all_end ss in
-      let left : List Sample = filtered_samples p f config ss in
-      let first : Option Slot = first_filter p f config s in (
+      let left : List Sample = filtered_samples p f config.filtering ss in
+      let first : Option Slot = first_filter p f config.filtering s in (
         count_step s (part slots.Ignore ss) (part slots.Focus ss) (part slots.Hide ss) (part slots.Show ss) (part slots.ShowFrom ss) (part slots.TagFocus ss) (part slots.TagIgnore ss) left
             first (one_of_seven p f config s) (length ss) rest.0
             ∙ ap (λ b. length (part slots.Ignore (s ∷ ss)) + (length (part slots.Focus (s ∷ ss)) + (length (part slots.Hide (s ∷ ss)) + (length (part slots.Show (s ∷ ss)) + (length (part slots.ShowFrom (s ∷ ss))
@@ -257,7 +257,7 @@ module _ (p : Profile) (f : Finders) (config : Config) where
   abbrev rejected : Sample → Bool
   rejected s = selects_or false p (filter_in_force config.filtering.tagignore) f.tagignore s
 
-  others : (slot : Slot) → is_in_force f config slot ≡ false → (s : Sample) → is_filter slot (first_filter p f config s) ≡ false
+  others : (slot : Slot) → is_in_force f config.filtering slot ≡ false → (s : Sample) → is_filter slot (first_filter p f config.filtering s) ≡ false
   others slots.Ignore none s =
       ap (λ b. is_filter slots.Ignore (cascade b (unfocused s) (hidden s) (unshown s) (unstarted s) (unselected s) (rejected s))) (unforced f.ignore _ false none)
       ∙ not_ignore (unfocused s) (hidden s) (unshown s) (unstarted s) (unselected s) (rejected s)
@@ -285,7 +285,7 @@ module _ (p : Profile) (f : Finders) (config : Config) where
   others slots.Own none s = refl
 
 pub others_drop_none : OthersDropNone
-others_drop_none p f config slot none = filter_none (λ s. is_filter slot (first_filter p f config s)) p.sample (others p f config slot none)
+others_drop_none p f config slot none = filter_none (λ s. is_filter slot (first_filter p f config.filtering s)) p.sample (others p f config slot none)
 
 -- keys that pass a test, and the others
 module _ (value : Written → ℤ) (t : Written → Bool) where
@@ -350,12 +350,12 @@ module _ (p : Profile) (f : Finders) (config : Config) (column : Option ℕ) whe
   worth_if true s ss = refl
   worth_if false s ss = refl
 
-  left_values : (ss : List Sample) → worth config column (filtered_samples p f config ss) ≡ sum_where has_frames (seen_samples p f config column ss) +ℤ worth config column (bares ss)
+  left_values : (ss : List Sample) → worth config column (filtered_samples p f config.filtering ss) ≡ sum_where has_frames (seen_samples p f config column ss) +ℤ worth config column (bares ss)
   left_values [] = refl
   left_values (s ∷ ss) =
       let v : ℤ = selected column config.presentation.divide_by s in
-      let left : List Sample = filtered_samples p f config ss in
-      elim (filtered_stack p f config s) as (λ (o : Option (List Frame)). worth config column (cond (is_some o) (s ∷ left) left)
+      let left : List Sample = filtered_samples p f config.filtering ss in
+      elim (filtered_stack p f config.filtering s) as (λ (o : Option (List Frame)). worth config column (cond (is_some o) (s ∷ left) left)
       ≡ sum_where has_frames (cons_option (option_map (seen_with p config column s) o) (seen_samples p f config column ss))
       +ℤ worth config column (cond (option_map_or (λ x. not (int_eq x.value (pos 0)) && has_no_items x.keys) (option_map (seen_with p config column s) o) false) (s ∷ bares ss) (bares ss))) [
         | None ↦ left_values ss

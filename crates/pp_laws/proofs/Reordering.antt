@@ -143,9 +143,9 @@ module _ (p : Profile) (f : Finders) (config : Config) (column : Option ℕ) whe
       ≡ total_by (sum_by (base_size (seen p f config column) (selected column config.presentation.divide_by) (is_base p) config.presentation.relative_percentages) p.sample)
       (sum_by (all_size (seen p f config column) (selected column config.presentation.divide_by) (is_base p) config.presentation.relative_percentages) p.sample)
   total_told =
-      let kept_seen : (s : Sample) → is_some (filtered_stack p f config s) ≡ is_some (seen p f config column s) = λ s.
-      elim (filtered_stack p f config s) as (λ (o : Option (List Frame)). is_some o ≡ is_some (option_map (seen_with p config column s) o)) [ None ↦ refl | Some stack ↦ refl ] in
-      elim config.presentation.relative_percentages as (λ b. total_over p config column (cond b (filtered_samples p f config p.sample) p.sample)
+      let kept_seen : (s : Sample) → is_some (filtered_stack p f config.filtering s) ≡ is_some (seen p f config column s) = λ s.
+      elim (filtered_stack p f config.filtering s) as (λ (o : Option (List Frame)). is_some o ≡ is_some (option_map (seen_with p config column s) o)) [ None ↦ refl | Some stack ↦ refl ] in
+      elim config.presentation.relative_percentages as (λ b. total_over p config column (cond b (filtered_samples p f config.filtering p.sample) p.sample)
       ≡ total_by (sum_by (base_size (seen p f config column) (selected column config.presentation.divide_by) (is_base p) b) p.sample)
       (sum_by (all_size (seen p f config column) (selected column config.presentation.divide_by) (is_base p) b) p.sample)) [
         | true ↦

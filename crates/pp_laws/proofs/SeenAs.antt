@@ -88,11 +88,11 @@ module _ (f : Finders) (config : Config) where
     -- A sample is seen by its tags, its value, and what its stack is told as.
     seen_by : (column : Option ℕ) (s : Sample)
         → seen p f config column s
-        ≡ cond (passes_tags p f config s)
+        ≡ cond (passes_tags p f config.filtering s)
         (option_map (λ keys. record { value = selected column config.presentation.divide_by s; keys = keys }) (shows (map (placed config.grouping.grain p) (stack_of p s)))) None
     seen_by column s =
         let with_keys : List Written → Seen Written = λ keys. record { value = selected column config.presentation.divide_by s; keys = keys } in
-        elim (passes_tags p f config s) as (λ (b : Bool). option_map (seen_with p config column s) (cond b (frames_of_sample p f s) None)
+        elim (passes_tags p f config.filtering s) as (λ (b : Bool). option_map (seen_with p config column s) (cond b (frames_of_sample p f s) None)
         ≡ cond b (option_map with_keys (shows (map (placed config.grouping.grain p) (stack_of p s)))) None) [
           | false ↦ refl
           | true ↦ elim (frames_of_sample p f s) as (λ (o : Option (List Frame)). option_map (seen_with p config column s) o

@@ -107,7 +107,7 @@ module _ (p : Profile) where
     selects_is other (Some f) parts = λ i. option_map_or (λ range. range_is f.name range i) f.range (parts_is f.name parts i)
 
     -- Tag filters are passed by what the labels say.
-    pub tags_is : (f : Finders) (config : Config) → passes_tags p f config s ≡ tags_told f config (map said s.label)
+    pub tags_is : (f : Finders) (config : Config) → passes_tags p f config.filtering s ≡ tags_told f config (map said s.label)
     tags_is f config = λ i. selects_is true (filter_in_force config.filtering.tagfocus) f.tagfocus i && not (selects_is false (filter_in_force config.filtering.tagignore) f.tagignore i)
 
 nonzero : (k : ℕ) → int_eq (pos (suc k)) (pos 0) ≡ false

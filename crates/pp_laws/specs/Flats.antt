@@ -18,7 +18,7 @@ use Rattle.pp_laws.specs.Figures.{has_frames}
 abbrev pub FlatsAddUp : Type 0
 FlatsAddUp =
     (l : Loaded) (v : Verdicts) (config : Config) (column : Option ℕ) (c : Counted) (f : Finders)
-    → IsCountedOf l v config column c → HoldsFilters l v config f
+    → IsCountedOf l v config column c → HoldsFilters l v config.filtering f
     → int_sum c.sums.flat
     ≡ sum_where has_frames (seen_samples l.profile f config column l.profile.sample)
 

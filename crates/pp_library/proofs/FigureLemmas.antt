@@ -70,7 +70,7 @@ settled_printed : (finds : Finds) (l : Loaded) (base : Option BaseKind) (config 
 unfolding report_settled finish_on text_by scripts.◌>>=◌
 settled_printed finds l base config (Ok settled) =
     let over = basis_of Table l config in
-    ap (λ (text : List ℕ). Give (Ok text)) (lines_printed over.profile (report_finders finds over Table config) config settled.showing.column)
+    ap (λ (text : List ℕ). Give (Ok text)) (lines_printed over.profile (report_finders finds over Table config.filtering) config settled.showing.column)
 settled_printed finds l base config (Err refusal) = refl
 
 pub tables_print_figures : TablesPrintFigures
@@ -82,7 +82,7 @@ tables_print_figures finds l base config =
 
 -- The rows of a ranking are those of its keys.
 pub ranked_figures : (l : Loaded) (v : Verdicts) (config : Config) (column : Option ℕ) (limit : ℕ) (c : Counted) (t : Ranked) (f : Finders)
-    → IsCountedOf l v config column c → IsWholeRanking l v config column limit c t → HoldsFilters l v config f
+    → IsCountedOf l v config column c → IsWholeRanking l v config column limit c t → HoldsFilters l v config.filtering f
     → map (λ n. figure_of (row_at l.profile c.sums n)) t.order ≡ map (λ k. figure_of (key_row (report_samples l.profile f config column) k)) (first_report_keys l.profile f config column limit)
 ranked_figures l v config column limit c t f counted ranked holds =
     let samples : List (Seen Written) = report_samples l.profile f config column in

@@ -62,7 +62,7 @@ figures_by p f config column =
 
 -- the figures of the profile that a table is made of
 abbrev pub figures_on : Finds → Loaded → Config → Option ℕ → FigureTable
-figures_on finds l config column = figures_by l.profile (report_finders finds l Table config) config column
+figures_on finds l config column = figures_by l.profile (report_finders finds l Table config.filtering) config column
 
 -- the figures of what was settled, in its column
 abbrev pub figures_settled : Finds → Loaded → Config → Result Settled ReportRefusal → Result FigureTable ReportRefusal
@@ -84,7 +84,7 @@ HasEdgesBy p f config column edges =
 -- They are those of the profile that a table is made of.
 abbrev pub HasEdgesOn : Finds → Loaded → Config → Option ℕ → List FigureEdge → Type 0
 HasEdgesOn finds l config column edges =
-    HasEdgesBy l.profile (report_finders finds l Table config) config column edges
+    HasEdgesBy l.profile (report_finders finds l Table config.filtering) config column edges
 
 -- They are those of the loaded profile, in the column that its table shows.
 abbrev pub HasEdges : Finds → Loaded → Config → List FigureEdge → Type 0

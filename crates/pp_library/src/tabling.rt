@@ -197,11 +197,11 @@ fn figures_by<R: Threads + Sync>(
     survey: &Survey<'_>,
 ) -> Result<FigureTable, Memory>
     ensures is { let s = survey.now in (f : Finders) →
-        HoldsFilters s.l.now s.v.now s.config.now f →
+        HoldsFilters s.l.now s.v.now s.config.now.filtering f →
         IfOk result (λ figures. without_edges figures
         ≡ figures_by s.l.now.profile f s.config.now s.column) }
     ensures edges { let s = survey.now in (f : Finders) →
-        HoldsFilters s.l.now s.v.now s.config.now f →
+        HoldsFilters s.l.now s.v.now s.config.now.filtering f →
         IfOk result (λ figures. HasEdgesBy s.l.now.profile f s.config.now s.column figures.edges) }
 {
     let (l, counted) = (survey.l, survey.counted);

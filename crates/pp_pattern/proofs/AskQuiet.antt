@@ -52,9 +52,9 @@ module _ (test : Step → Bool) where
         only_asking (judge_option finds _ p.text (whole_name (text_of p p.drop_frames))) _ (only_option _ p.text (whole_name (text_of p p.drop_frames)))
         (λ drop. only_asking (judge_option finds _ p.text (whole_name (text_of p p.keep_frames))) _ (only_option _ p.text (whole_name (text_of p p.keep_frames))) (λ keep. tt))
 
-    only_frames : (config : Config) (texts : List (List ℕ)) → Only test (judge_frames finds config texts)
+    only_frames : (config : Config) (texts : List (List ℕ)) → Only test (judge_frames finds config.filtering texts)
     unfolding judge_frames
-    only_frames config texts =
+    only_frames config.filtering texts =
         only_asking (judge_option finds _ texts config.filtering.focus) _ (only_option _ texts config.filtering.focus)
         (λ _. only_asking (judge_option finds _ texts config.filtering.ignore) _ (only_option _ texts config.filtering.ignore)
         (λ _. only_asking (judge_option finds _ texts config.filtering.hide) _ (only_option _ texts config.filtering.hide)
@@ -72,21 +72,21 @@ module _ (test : Step → Bool) where
         only_asking (judge_filter finds _ p _ focus) _ (only_filter _ p _ focus)
         (λ _. only_asking (judge_filter finds _ p _ ignore) _ (only_filter _ p _ ignore) (λ _. tt))
 
-    only_names : (config : Config) (own : Option (List ℕ)) (texts : List (List ℕ)) → Only test (judge_names finds config own texts)
+    only_names : (config : Config) (own : Option (List ℕ)) (texts : List (List ℕ)) → Only test (judge_names finds config.filtering own texts)
     unfolding judge_names
-    only_names config own texts =
+    only_names config.filtering own texts =
         only_asking (judge_option finds _ texts config.filtering.prune_from) _ (only_option _ texts config.filtering.prune_from)
         (λ _. only_asking (judge_option finds _ texts config.filtering.tagshow) _ (only_option _ texts config.filtering.tagshow)
         (λ _. only_asking (judge_option finds _ texts config.filtering.taghide) _ (only_option _ texts config.filtering.taghide)
         (λ _. only_asking (judge_option finds _ texts (unwrap_or own [])) _ (only_option _ texts (unwrap_or own [])) (λ _. tt))))
 
-    only_with : (config : Config) (own : Option (List ℕ)) (p : Profile) (focus ignore : Option TagFilter) → Only test (judge_with finds config own p focus ignore)
+    only_with : (config : Config) (own : Option (List ℕ)) (p : Profile) (focus ignore : Option TagFilter) → Only test (judge_with finds config.filtering own p focus ignore)
     unfolding judge_with
-    only_with config own p focus ignore =
-        only_asking (judge_frames finds config p.text) _ (only_frames config p.text)
+    only_with config.filtering own p focus ignore =
+        only_asking (judge_frames finds config.filtering p.text) _ (only_frames config p.text)
         (λ _. only_asking (judge_tags finds p focus ignore) _ (only_tags p focus ignore)
-        (λ _. only_asking (judge_names finds config own p.text) _ (only_names config own p.text) (λ _. tt)))
+        (λ _. only_asking (judge_names finds config.filtering own p.text) _ (only_names config own p.text) (λ _. tt)))
 
     -- All patterns of a report.
-    pub only_judge : (config : Config) (own : Option (List ℕ)) (p : Profile) → Only test (judge finds config own p)
+    pub only_judge : (config : Config) (own : Option (List ℕ)) (p : Profile) → Only test (judge finds config.filtering own p)
     only_judge config own p = only_with config own p _ _

@@ -49,7 +49,7 @@ has_tags_second p focus ignore = λ f is _. ap (tags_for p focus) is ∙ either_
 
 -- The verdicts of a report are what its patterns find.
 pub verdicts_law : (finds : Finds) (config : Config) (own : Option (List ℕ)) (l : Loaded) →
-    AreVerdictsOf finds config own l (verdicts_of finds config own l.profile)
+    AreVerdictsOf finds config.filtering own l (verdicts_of finds config.filtering own l.profile)
 verdicts_law finds config own l = record {
   holds = λ drop keep dropped kept. record {
     drop = dropped;

@@ -84,11 +84,11 @@ pub fn judge<D: Desk>(
     l: &Loaded,
 ) -> Result<Result<Verdicts, PatternRefused>, Stop>
     ensures went { Went (D.world desk.old) (D.world desk.new)
-        (judge D.finds config.now (option_copied own.entry) l.now.profile) result }
+        (judge D.finds config.now.filtering (option_copied own.entry) l.now.profile) result }
     ensures found { IfOk result (λ judged. IfOk judged
-        (λ v. v ≡ verdicts_of D.finds config.now (option_copied own.entry) l.now.profile)) }
-    ensures law { AreVerdictsOf D.finds config.now (option_copied own.entry) l.now
-        (verdicts_of D.finds config.now (option_copied own.entry) l.now.profile) }
+        (λ v. v ≡ verdicts_of D.finds config.now.filtering (option_copied own.entry) l.now.profile)) }
+    ensures law { AreVerdictsOf D.finds config.now.filtering (option_copied own.entry) l.now
+        (verdicts_of D.finds config.now.filtering (option_copied own.entry) l.now.profile) }
 {
     settle(judge_all(alloc, desk, config, own, l))
 }
@@ -103,9 +103,9 @@ fn judge_all<D: Desk>(
     l: &Loaded,
 ) -> Result<Verdicts, Halt<PatternRefused>>
     ensures went { Went (D.world desk.old) (D.world desk.new)
-        (judge D.finds config.now (option_copied own.entry) l.now.profile) (settled result) }
+        (judge D.finds config.now.filtering (option_copied own.entry) l.now.profile) (settled result) }
     ensures found { IfOk result
-        (λ v. v ≡ verdicts_of D.finds config.now (option_copied own.entry) l.now.profile) }
+        (λ v. v ≡ verdicts_of D.finds config.now.filtering (option_copied own.entry) l.now.profile) }
 {
     let focus = TagFilter::in_force(alloc, config.filtering.tagfocus.as_slice())?;
     let ignore = TagFilter::in_force(alloc, config.filtering.tagignore.as_slice())?;
@@ -124,9 +124,9 @@ fn judge_with<D: Desk>(
     filters: &TagFilters,
 ) -> Result<Verdicts, Halt<PatternRefused>>
     ensures went { Went (D.world desk.old) (D.world desk.new)
-        (judge_with D.finds config.now (option_copied own.entry) l.now.profile filters.now.focus
+        (judge_with D.finds config.now.filtering (option_copied own.entry) l.now.profile filters.now.focus
         filters.now.ignore) (settled result) }
-    ensures found { IfOk result (λ v. v ≡ verdicts_with D.finds config.now (option_copied own.entry)
+    ensures found { IfOk result (λ v. v ≡ verdicts_with D.finds config.now.filtering (option_copied own.entry)
         l.now.profile filters.now.focus filters.now.ignore) }
 {
     let texts = &l.profile.get().text;
@@ -144,8 +144,8 @@ fn judge_frames<D: Desk>(
     texts: &List<Text>,
 ) -> Result<FrameVerdicts, Halt<PatternRefused>>
     ensures went { Went (D.world desk.old) (D.world desk.new)
-        (judge_frames D.finds config.now texts.now) (settled result) }
-    ensures found { IfOk result (λ v. v ≡ frames_found D.finds config.now texts.now) }
+        (judge_frames D.finds config.now.filtering texts.now) (settled result) }
+    ensures found { IfOk result (λ v. v ≡ frames_found D.finds config.now.filtering texts.now) }
 {
     let focus = judge_option(desk, at(Slot::Focus), &config.filtering.focus, texts)?;
     let ignore = judge_option(desk, at(Slot::Ignore), &config.filtering.ignore, texts)?;
@@ -236,9 +236,9 @@ fn judge_names<D: Desk>(
     texts: &List<Text>,
 ) -> Result<NameVerdicts, Halt<PatternRefused>>
     ensures went { Went (D.world desk.old) (D.world desk.new)
-        (judge_names D.finds config.now (option_copied own.entry) texts.now) (settled result) }
+        (judge_names D.finds config.now.filtering (option_copied own.entry) texts.now) (settled result) }
     ensures found { IfOk result
-        (λ v. v ≡ names_found D.finds config.now (option_copied own.entry) texts.now) }
+        (λ v. v ≡ names_found D.finds config.now.filtering (option_copied own.entry) texts.now) }
 {
     let prune_from = judge_option(desk, at(Slot::PruneFrom), &config.filtering.prune_from, texts)?;
     let tagshow = judge_option(desk, at(Slot::TagShow), &config.filtering.tagshow, texts)?;

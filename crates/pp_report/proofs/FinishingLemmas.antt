@@ -86,7 +86,7 @@ module _ (finds : Finds) (l : Loaded) (report : Report) (config : Config) where
       → Went w w (finish_on finds l report config s) (Ok (Ok text))
   unfolding finish_on text_by
   finish_comments w s text comments is =
-      subst (λ r. Went {T = Result (List ℕ) ReportRefusal} w w (finish_by l.profile (report_finders finds l r config) config s r) (Ok (Ok text))) (sym comments)
+      subst (λ r. Went {T = Result (List ℕ) ReportRefusal} w w (finish_by l.profile (report_finders finds l r config.filtering) config s r) (Ok (Ok text))) (sym comments)
       (subst (λ t. Went {T = Result (List ℕ) ReportRefusal} w w (Give (Ok (comments_text l.profile))) (Ok (Ok t))) (sym is) (gives w (Ok (comments_text l.profile))))
 
   -- what was counted, where something was
@@ -142,14 +142,14 @@ module _ (finds : Finds) (l : Loaded) (report : Report) (config : Config) (prepa
 
 -- the text of a saved profile
 module _ (w : World) (p : Profile) (f : Finders) (config : Config) (column : Option ℕ) (h : Facts) where
-  saved_gives : (text : Result (List ℕ) Memory) → IfOk text (IsProtoOf p f config) → Went w w (text_by p f config column h reports.Proto) (answer_of_text text)
+  saved_gives : (text : Result (List ℕ) Memory) → IfOk text (IsProtoOf p f config.filtering) → Went w w (text_by p f config column h reports.Proto) (answer_of_text text)
   unfolding text_by
   saved_gives (Ok text) is =
-      subst (λ t. Went {T = Result (List ℕ) ReportRefusal} w w (Give (Ok (encode (saved p f config)))) (Ok (Ok t))) (sym is.bytes) (gives w (Ok (encode (saved p f config))))
+      subst (λ t. Went {T = Result (List ℕ) ReportRefusal} w w (Give (Ok (encode (saved p f config.filtering)))) (Ok (Ok t))) (sym is.bytes) (gives w (Ok (encode (saved p f config.filtering))))
   saved_gives (Err e) is = wants w _
 
   pub finish_proto : (report : Report) (text : Result (List ℕ) Memory) (r : Result (Result (List ℕ) ReportRefusal) Stop) → report ≡ reports.Proto
-      → r ≡ answer_of_text text → IfOk text (IsProtoOf p f config) → Went w w (text_by p f config column h report) r
+      → r ≡ answer_of_text text → IfOk text (IsProtoOf p f config.filtering) → Went w w (text_by p f config column h report) r
   finish_proto report text r proto made is =
       subst (λ x. Went w w (text_by p f config column h x) r) (sym proto) (subst (λ x. Went w w (text_by p f config column h reports.Proto) x) (sym made) (saved_gives text is))
 

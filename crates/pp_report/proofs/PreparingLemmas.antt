@@ -37,48 +37,48 @@ use Rattle.pp_report.proofs.PatternLemmas.{report_holds, can_count}
 
 module _ (finds : Finds) (l : Loaded) (report : Report) (config : Config) (s : Showing) (a b : World) where
   -- the patterns were stopped
-  pub counts_stop : (stop : Stop) → Went a b (ask_patterns finds l report config) (Err stop)
-      → Went a b (prepare_counts finds l report config s) (counts_settled s (Err stop))
+  pub counts_stop : (stop : Stop) → Went a b (ask_patterns finds l report config.filtering) (Err stop)
+      → Went a b (prepare_counts finds l report config.filtering s) (counts_settled s (Err stop))
   unfolding prepare_counts
-  counts_stop stop went = asking_stops a b (ask_patterns finds l report config) _ stop went
+  counts_stop stop went = asking_stops a b (ask_patterns finds l report config.filtering) _ stop went
 
-  module _ (judged : Result Verdicts ReportRefusal) (went : Went a b (ask_patterns finds l report config) (Ok judged)) where
+  module _ (judged : Result Verdicts ReportRefusal) (went : Went a b (ask_patterns finds l report config.filtering) (Ok judged)) where
     -- one was refused
     pub counts_refused : (r : ReportRefusal) → judged ≡ Err r
-        → Went a b (prepare_counts finds l report config s) (counts_settled s (Ok (Err r)))
+        → Went a b (prepare_counts finds l report config.filtering s) (counts_settled s (Ok (Err r)))
     unfolding prepare_counts
     counts_refused r is =
-        asking_refused a b (ask_patterns finds l report config) _ r (subst (λ j. Went a b (ask_patterns finds l report config) (Ok j)) is went)
+        asking_refused a b (ask_patterns finds l report config.filtering) _ r (subst (λ j. Went a b (ask_patterns finds l report config.filtering) (Ok j)) is went)
 
     module _ (v : Verdicts) (is : judged ≡ Ok v) where
-      asked : Went a b (ask_patterns finds l report config) (Ok (Ok v))
-      asked = subst (λ j. Went a b (ask_patterns finds l report config) (Ok j)) is went
+      asked : Went a b (ask_patterns finds l report config.filtering) (Ok (Ok v))
+      asked = subst (λ j. Went a b (ask_patterns finds l report config.filtering) (Ok j)) is went
 
       -- memory was wanting after them
-      pub counts_want : Went a b (prepare_counts finds l report config s) (counts_settled s (Err stops.Memory))
+      pub counts_want : Went a b (prepare_counts finds l report config.filtering s) (counts_settled s (Err stops.Memory))
       unfolding prepare_counts
-      counts_want = asking_second a b (ask_patterns finds l report config) _ b v (Err stops.Memory) asked (wants b _)
+      counts_want = asking_second a b (ask_patterns finds l report config.filtering) _ b v (Err stops.Memory) asked (wants b _)
 
       -- all samples were counted
-      pub counts_all : (made : Counts × List ℕ) → made.1 ≡ notes_of finds l report config
-          → Went a b (prepare_counts finds l report config s) (counts_settled s (Ok (Ok made)))
+      pub counts_all : (made : Counts × List ℕ) → made.1 ≡ notes_of finds l report config.filtering
+          → Went a b (prepare_counts finds l report config.filtering s) (counts_settled s (Ok (Ok made)))
       unfolding prepare_counts
       counts_all made notes =
-          asking_second a b (ask_patterns finds l report config) _ b v (Ok (Ok (record { showing = s; notes = made.1 }))) asked
-          (subst (λ text. Went {T = Result Settled ReportRefusal} b b (Give (Ok (settled_of finds l report config s))) (Ok (Ok (record { showing = s; notes = text })))) (sym notes)
-          (asking_gives b (settled_of finds l report config s)))
+          asking_second a b (ask_patterns finds l report config.filtering) _ b v (Ok (Ok (record { showing = s; notes = made.1 }))) asked
+          (subst (λ text. Went {T = Result Settled ReportRefusal} b b (Give (Ok (settled_of finds l report config.filtering s))) (Ok (Ok (record { showing = s; notes = text })))) (sym notes)
+          (asking_gives b (settled_of finds l report config.filtering s)))
 
 -- what was counted by the verdicts of the report's patterns
 pub all_counted : (finds : Finds) (l : Loaded) (report : Report) (config : Config) (column : Option ℕ) (v : Verdicts)
-    → AreVerdictsOf finds config (own_pattern report) l v → IsCompact l.profile → IsCountable l.profile → IsColumnOf l.profile column
+    → AreVerdictsOf finds config.filtering (own_pattern report) l v → IsCompact l.profile → IsCountable l.profile → IsColumnOf l.profile column
     → (counted : Counted) → IsCountedOf l v config column counted → (made : Counts × List ℕ)
-    → made ≡ (record { verdicts = v; counted = counted }, notes_by config counted.matched.slots)
+    → made ≡ (record { verdicts = v; counted = counted }, notes_by config.filtering counted.matched.slots)
     → AreCountsNoted finds l report config column made
 all_counted finds l report config column v are compact countable below counted sums made is =
     let holds = report_holds finds l report config v are compact in
     subst (AreCountsNoted finds l report config column) (sym is) (record {
       counts = record { holds = holds; can = can_count finds l report config v are column countable below; are = sums };
-      notes = ap (notes_by config) (sums.matches (report_finders finds l report config) holds);
+      notes = ap (notes_by config.filtering) (sums.matches (report_finders finds l report config.filtering) holds);
     })
 
 -- a list is a front of itself
@@ -104,23 +104,23 @@ uncounted_comments reports.Account uncounted = absurd (true≢false uncounted)
 
 module _ (finds : Finds) (l : Loaded) (report : Report) (config : Config) where
   -- one that is asks for its patterns
-  pub showing_counts : (s : Showing) → is_counted report ≡ true → prepare_showing finds l report config s ≡ prepare_counts finds l report config s
+  pub showing_counts : (s : Showing) → is_counted report ≡ true → prepare_showing finds l report config.filtering s ≡ prepare_counts finds l report config.filtering s
   unfolding prepare_showing
   showing_counts s counted =
-      ap (λ (yes : Bool). if yes then prepare_counts finds l report config s else Give (Ok (record { showing = s; notes = [] }))) counted
+      ap (λ (yes : Bool). if yes then prepare_counts finds l report config.filtering s else Give (Ok (record { showing = s; notes = [] }))) counted
 
   -- it is known what the report shows
   prepare_shown : (a b : World) (s : Showing) (answer : Result (Result Settled ReportRefusal) Stop) → Ok s ≡ showing_for report l.profile config
-      → Went a b (prepare_showing finds l report config s) answer → Went a b (prepare_on finds l report config) answer
+      → Went a b (prepare_showing finds l report config.filtering s) answer → Went a b (prepare_on finds l report config) answer
   unfolding prepare_on
-  prepare_shown a b s answer known went = subst (λ k. Went a b (go_on (prepare_showing finds l report config) k) answer) known went
+  prepare_shown a b s answer known went = subst (λ k. Went a b (go_on (prepare_showing finds l report config.filtering) k) answer) known went
 
   -- it is refused at once
   pub prepare_refused : (w : World) (r : ReportRefusal) → Err r ≡ showing_for report l.profile config
       → Went w w (prepare_on finds l report config) (Ok (Err r))
   unfolding prepare_on
   prepare_refused w r known =
-      subst (λ k. Went {T = Result Settled ReportRefusal} w w (go_on (prepare_showing finds l report config) k) (Ok (Err r))) known (gives w (Err r))
+      subst (λ k. Went {T = Result Settled ReportRefusal} w w (go_on (prepare_showing finds l report config.filtering) k) (Ok (Err r))) known (gives w (Err r))
 
   -- one that isn't counted asks for nothing
   pub prepare_uncounted : (w : World) (s : Showing) → is_counted report ≡ false → Ok s ≡ showing_for report l.profile config
@@ -129,15 +129,15 @@ module _ (finds : Finds) (l : Loaded) (report : Report) (config : Config) where
   prepare_uncounted w s uncounted known =
       let settled : Settled = record { showing = s; notes = [] } in
       prepare_shown w w s (Ok (Ok settled)) known
-      (subst (λ (counted : Bool). Went {T = Result Settled ReportRefusal} w w (if counted then prepare_counts finds l report config s else Give (Ok settled)) (Ok (Ok settled))) (sym uncounted)
+      (subst (λ (counted : Bool). Went {T = Result Settled ReportRefusal} w w (if counted then prepare_counts finds l report config.filtering s else Give (Ok settled)) (Ok (Ok settled))) (sym uncounted)
       (asking_gives w settled))
 
   -- one that is, over a profile that is this one
   pub prepare_counted : (over : Loaded) → over ≡ l → (a b : World) (s : Showing) (answer : Result (Result Settled ReportRefusal) Stop) → is_counted report ≡ true
-      → Ok s ≡ showing_for report l.profile config → Went a b (prepare_counts finds over report config s) answer → Went a b (prepare_on finds l report config) answer
+      → Ok s ≡ showing_for report l.profile config → Went a b (prepare_counts finds over report config.filtering s) answer → Went a b (prepare_on finds l report config) answer
   prepare_counted over same a b s answer counted known went =
       prepare_shown a b s answer known
-      (subst (λ script. Went a b script answer) (sym (showing_counts s counted)) (subst (λ q. Went a b (prepare_counts finds q report config s) answer) same went))
+      (subst (λ script. Went a b script answer) (sym (showing_counts s counted)) (subst (λ q. Went a b (prepare_counts finds q report config.filtering s) answer) same went))
 
 module _ (l : Loaded) (report : Report) (config : Config) where
   -- a report that counts no samples is made of the loaded profile
@@ -160,7 +160,7 @@ module _ (finds : Finds) (l : Loaded) (report : Report) (config : Config) (known
     settled = record {
       shows_what = sym shows;
       has_counts = uncounted;
-      notes_front = (notes_of finds (basis_of report l config) report config, refl);
+      notes_front = (notes_of finds (basis_of report l config) report config.filtering, refl);
     };
   })
 
@@ -176,6 +176,6 @@ module _ (finds : Finds) (l : Loaded) (report : Report) (config : Config) (known
         settled = record {
           shows_what = sym shows;
           has_counts = own.counts;
-          notes_front = front_same made.1 (notes_of finds (basis_of report l config) report config) own.notes;
+          notes_front = front_same made.1 (notes_of finds (basis_of report l config) report config.filtering) own.notes;
         };
       })

@@ -25,9 +25,9 @@ lasting p (Ok q) valid settled header = record {
 lasting p (Err e) valid settled header = tt
 
 -- its text, as it was written
-pub proto_of : {E : Type 0} (p : Profile) (f : Finders) (config : Config) (q r : Profile) (written : Result (List ℕ) E) → r ≡ q → q ≡ saved p f config → IsLasting q
+pub proto_of : {E : Type 0} (p : Profile) (f : Finders) (config : Config) (q r : Profile) (written : Result (List ℕ) E) → r ≡ q → q ≡ saved p f config.filtering → IsLasting q
     → NoRuleFails p → AllByRecursion (λ m. m.start < 2 ^ 64) p.mapping → IfOk written (λ text. text ≡ encode r) → IfOk written (λ text. read text ≡ Ok r)
-    → IfOk written (IsProtoOf p f config)
+    → IfOk written (IsProtoOf p f config.filtering)
 proto_of p f config q r (Ok text) same is lasts valid starts bytes again = record {
   bytes = bytes ∙ ap encode (same ∙ is);
   again = again ∙ ap (λ (x : Profile). Ok x) (same ∙ is);

@@ -36,7 +36,7 @@ unfolding report_refusal_line
 bad_index = refl
 
 -- an option without a match is noted, in the order of the options, and one that is empty is not
-two_notes : notes_by (record defaults { hide = codes "x"; taghide = codes "y"; show = codes "z" })
+two_notes : notes_by (record defaults { hide = codes "x"; taghide = codes "y"; show = codes "z" }).filtering
     (false ∷ false ∷ false ∷ true ∷ false ∷ false ∷ false ∷ true ∷ false ∷ false ∷ [])
     ≡ codes "pprof: hide matched no samples\npprof: taghide matched no samples\n"
 unfolding notes_by note_unless

@@ -15,9 +15,9 @@ use Rattle.pp_report.specs.declared.refusal.ReportRefusal.{ReportRefusal}
 use Rattle.pp_report.specs.declared.refusal.ReportRefusal.TheVariants.{PatternRefused}
 
 -- What the patterns of a report find, and those of its profile.
-abbrev pub report_finders : Finds → Loaded → Report → Config → Finders
-report_finders finds l report config =
-    finders_of finds config (own_pattern report) (option_map (finder_by l.profile) l.drop)
+abbrev pub report_finders : Finds → Loaded → Report → Filtering → Finders
+report_finders finds l report filtering =
+    finders_of finds filtering (own_pattern report) (option_map (finder_by l.profile) l.drop)
     (option_map (finder_by l.profile) l.keep)
 
 -- the answer to the patterns, as one to the report
@@ -26,6 +26,6 @@ of_judged (Ok verdicts) = Ok verdicts
 of_judged (Err refused) = Err (PatternRefused refused.option)
 
 -- Asks for the patterns of a report that aren't empty, up to the first that is refused.
-unfoldable pub ask_patterns : Finds → Loaded → Report → Config → Asking ReportRefusal Verdicts
-ask_patterns finds l report config =
-    judge finds config (own_pattern report) l.profile >>= (λ judged. Give (of_judged judged))
+unfoldable pub ask_patterns : Finds → Loaded → Report → Filtering → Asking ReportRefusal Verdicts
+ask_patterns finds l report filtering =
+    judge finds filtering (own_pattern report) l.profile >>= (λ judged. Give (of_judged judged))

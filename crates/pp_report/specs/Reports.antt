@@ -72,9 +72,9 @@ text_by p f config column h reports.Tree = Give (Ok (tree_report_text p f config
 text_by p f config column h (reports.Peek pattern) = Give (peek_outcome p f config column h)
 text_by p f config column h reports.Traces = Give (Ok (traces_text p f config column h))
 text_by p f config column h reports.Tags = Give (Ok (tags_text p f config column h))
-text_by p f config column h reports.Raw = Give (Ok (raw_text (saved p f config)))
+text_by p f config column h reports.Raw = Give (Ok (raw_text (saved p f config.filtering)))
 text_by p f config column h reports.Comments = Give (Ok (comments_text p))
-text_by p f config column h reports.Proto = Give (Ok (encode (saved p f config)))
+text_by p f config column h reports.Proto = Give (Ok (encode (saved p f config.filtering)))
 text_by p f config column h (reports.List pattern) = list_text p f config column h
 text_by p f config column h reports.Folded = Give (Ok (folded_text p f config column))
 text_by p f config column h reports.Table =
@@ -106,7 +106,7 @@ finish_by p f config showing report =
 unfoldable pub finish_on : Finds → Loaded → Report → Config → Showing
     → Script (Result (List ℕ) ReportRefusal)
 finish_on finds l report config showing =
-    finish_by l.profile (report_finders finds l report config) config showing report
+    finish_by l.profile (report_finders finds l report config.filtering) config showing report
 
 -- What a report of the loaded profile comes to, which may first get frames from labels.
 abbrev pub finish_made : Finds → Loaded → Report → Config → Showing

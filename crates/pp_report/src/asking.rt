@@ -21,9 +21,9 @@ pub fn ask_patterns<D: Desk>(
     desk: &mut D,
 ) -> Result<Result<Verdicts, ReportRefusal>, Stop>
     ensures went { Went (D.world desk.old) (D.world desk.new)
-        (ask_patterns D.finds l.now report.now config.now) result }
+        (ask_patterns D.finds l.now report.now config.now.filtering) result }
     ensures are { IfOk result (λ answer. IfOk answer
-        (AreVerdictsOf D.finds config.now (own_pattern report.now) l.now)) }
+        (AreVerdictsOf D.finds config.now.filtering (own_pattern report.now) l.now)) }
 {
     match judge(alloc, desk, config, report.own_pattern(), l)? {
         Ok(verdicts) => Ok(Ok(verdicts)),

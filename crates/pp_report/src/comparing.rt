@@ -24,7 +24,7 @@ pub fn compare<R: Threads + Sync, G: Gate>(
     subject: &Subject<'_, '_>,
 ) -> Result<Text, Memory>
     ensures { let s = subject.now.survey in (f : Finders) →
-        HoldsFilters s.l.now s.v.now s.config.now f →
+        HoldsFilters s.l.now s.v.now s.config.now.filtering f →
         IfOk result (λ text. text ≡ compare_text s.l.now.profile f s.config.now s.column
         (node_limit s.config.now.presentation.nodecount 0) (facts subject.now.head.now)) }
 {
@@ -44,7 +44,7 @@ pub fn changes<R: Threads + Sync, G: Gate>(
     subject: &Subject<'_, '_>,
 ) -> Result<Text, Memory>
     ensures { let s = subject.now.survey in (f : Finders) →
-        HoldsFilters s.l.now s.v.now s.config.now f →
+        HoldsFilters s.l.now s.v.now s.config.now.filtering f →
         IfOk result (λ text. text ≡ changes_text s.l.now.profile f s.config.now s.column
         (node_limit s.config.now.presentation.nodecount 0) (unit_text s.l.now.profile s.column)) }
 {

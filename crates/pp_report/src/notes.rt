@@ -9,7 +9,7 @@ use std::alloc::Global;
 /// The notes of a report whose options have these matches, in the order of `Matched`.
 #[tactic(auto, unfolding(crate::specs::Notes::notes_by))]
 pub fn notes_by(alloc: Global, config: &Config, matched: &[bool]) -> Result<Text, Memory>
-    ensures { IfOk result (λ notes. notes ≡ notes_by config.now matched.now) }
+    ensures { IfOk result (λ notes. notes ≡ notes_by config.now.filtering matched.now) }
 {
     let mut notes = Text::new(alloc);
     put_frame_notes(config, matched, &mut notes)?;
@@ -18,7 +18,7 @@ pub fn notes_by(alloc: Global, config: &Config, matched: &[bool]) -> Result<Text
 }
 
 fn put_frame_notes(config: &Config, matched: &[bool], notes: &mut Text) -> Result<(), Memory>
-    ensures { IfOk result (λ _. notes.new ≡ notes.old ++ frame_notes config.now matched.now) }
+    ensures { IfOk result (λ _. notes.new ≡ notes.old ++ frame_notes config.now.filtering matched.now) }
 {
     put_note(matched, Slot::Focus, &config.filtering.focus, notes)?;
     put_note(matched, Slot::Ignore, &config.filtering.ignore, notes)?;
@@ -28,7 +28,7 @@ fn put_frame_notes(config: &Config, matched: &[bool], notes: &mut Text) -> Resul
 }
 
 fn put_tag_notes(config: &Config, matched: &[bool], notes: &mut Text) -> Result<(), Memory>
-    ensures { IfOk result (λ _. notes.new ≡ notes.old ++ tag_notes config.now matched.now) }
+    ensures { IfOk result (λ _. notes.new ≡ notes.old ++ tag_notes config.now.filtering matched.now) }
 {
     put_note(matched, Slot::TagFocus, &config.filtering.tagfocus, notes)?;
     put_note(matched, Slot::TagIgnore, &config.filtering.tagignore, notes)?;

@@ -95,7 +95,7 @@ fn counts_for<R: Threads + Sync, D: Desk, G: Gate>(
     requires countable { IsCountable l.now.profile }
     requires column { IsColumnOf l.now.profile shows.now.column }
     ensures went { Went (D.world desk.old) (D.world desk.new)
-        (prepare_counts D.finds l.now report.now config.now (showing shows.now))
+        (prepare_counts D.finds l.now report.now config.now.filtering (showing shows.now))
         (counts_settled (showing shows.now) result) }
     ensures counted { IfOk result (λ answer. IfOk answer
         (AreCountsNoted D.finds l.now report.now config.now shows.now.column)) }
@@ -120,7 +120,7 @@ fn counts_for<R: Threads + Sync, D: Desk, G: Gate>(
 
 // What was counted, and its notes.
 fn noted(alloc: Global, config: &Config, counts: Counts) -> Result<(Counts, Text), Memory>
-    ensures { IfOk result (λ made. made ≡ (counts, notes_by config.now counts.counted.matched.slots)) }
+    ensures { IfOk result (λ made. made ≡ (counts, notes_by config.now.filtering counts.counted.matched.slots)) }
 {
     match notes_by(alloc, config, counts.counted.matched.slots.as_slice()) {
         Ok(notes) => Ok((counts, notes)),

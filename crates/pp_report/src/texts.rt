@@ -45,7 +45,7 @@ pub fn limit_of_trees()
 /// The top report, whose nodes have no limit of their own.
 pub fn top(alloc: Global, subject: &Subject<'_, '_>) -> Result<Text, Memory>
     ensures { let s = subject.now.survey in (f : Finders) →
-        HoldsFilters s.l.now s.v.now s.config.now f →
+        HoldsFilters s.l.now s.v.now s.config.now.filtering f →
         IfOk result (λ text. text ≡ top_text s.l.now.profile f s.config.now s.column
         (node_limit s.config.now.presentation.nodecount 0) (facts subject.now.head.now)) }
 {
@@ -60,7 +60,7 @@ pub fn top(alloc: Global, subject: &Subject<'_, '_>) -> Result<Text, Memory>
 /// The account report, whose nodes have no limit of their own.
 pub fn account(alloc: Global, subject: &Subject<'_, '_>) -> Result<Text, Memory>
     ensures { let s = subject.now.survey in (f : Finders) →
-        HoldsFilters s.l.now s.v.now s.config.now f →
+        HoldsFilters s.l.now s.v.now s.config.now.filtering f →
         IfOk result (λ text. text ≡ account_text s.l.now.profile f s.config.now s.column
         (node_limit s.config.now.presentation.nodecount 0) (facts subject.now.head.now)) }
 {
@@ -77,7 +77,7 @@ pub fn tree<R: Threads + Sync, G: Gate>(
     subject: &Subject<'_, '_>,
 ) -> Result<Text, Memory>
     ensures { let s = subject.now.survey in (f : Finders) →
-        HoldsFilters s.l.now s.v.now s.config.now f →
+        HoldsFilters s.l.now s.v.now s.config.now.filtering f →
         IfOk result (λ text. text ≡ tree_text s.l.now.profile f s.config.now s.column
         (node_limit s.config.now.presentation.nodecount TREE_NODES) (facts subject.now.head.now)) }
 {
@@ -102,7 +102,7 @@ pub fn peek<R: Threads + Sync, G: Gate>(
     subject: &Subject<'_, '_>,
 ) -> Result<Result<Text, ReportRefusal>, Memory>
     ensures { let s = subject.now.survey in (f : Finders) →
-        HoldsFilters s.l.now s.v.now s.config.now f →
+        HoldsFilters s.l.now s.v.now s.config.now.filtering f →
         IfOk result (λ outcome. outcome ≡ peek_outcome s.l.now.profile f s.config.now s.column
         (facts subject.now.head.now)) }
 {
@@ -121,7 +121,7 @@ pub fn traces<R: Threads + Sync, G: Gate>(
     subject: &Subject<'_, '_>,
 ) -> Result<Text, Memory>
     ensures { let s = subject.now.survey in (f : Finders) →
-        HoldsFilters s.l.now s.v.now s.config.now f →
+        HoldsFilters s.l.now s.v.now s.config.now.filtering f →
         IfOk result (λ text. text ≡ traces_text s.l.now.profile f s.config.now s.column
         (facts subject.now.head.now)) }
 {
@@ -141,7 +141,7 @@ pub fn traces<R: Threads + Sync, G: Gate>(
 /// The tags report.
 pub fn tags(alloc: Global, subject: &Subject<'_, '_>) -> Result<Text, Memory>
     ensures { let s = subject.now.survey in (f : Finders) →
-        HoldsFilters s.l.now s.v.now s.config.now f →
+        HoldsFilters s.l.now s.v.now s.config.now.filtering f →
         IfOk result (λ text. text ≡ tags_text s.l.now.profile f s.config.now s.column
         (facts subject.now.head.now)) }
 {
@@ -153,8 +153,8 @@ pub fn tags(alloc: Global, subject: &Subject<'_, '_>) -> Result<Text, Memory>
 // The saved profile.
 fn saved<R: Threads + Sync>(with: &Resources<'_, R>, survey: &Survey<'_>) -> Result<Compact, Memory>
     ensures saved { let s = survey.now in (f : Finders) →
-        HoldsFilters s.l.now s.v.now s.config.now f →
-        IfOk result (λ q. q ≡ saved s.l.now.profile f s.config.now) }
+        HoldsFilters s.l.now s.v.now s.config.now.filtering f →
+        IfOk result (λ q. q ≡ saved s.l.now.profile f s.config.now.filtering) }
     ensures lasts { IfOk result IsLasting }
     ensures starts { IfOk result (λ _.
         AllByRecursion (λ m. m.start < 2 ^ 64) survey.now.l.now.profile.mapping) }
@@ -168,8 +168,8 @@ pub fn raw<R: Threads + Sync, G: Gate>(
     survey: &Survey<'_>,
 ) -> Result<Text, Memory>
     ensures { let s = survey.now in (f : Finders) →
-        HoldsFilters s.l.now s.v.now s.config.now f →
-        IfOk result (λ text. text ≡ raw_text (saved s.l.now.profile f s.config.now)) }
+        HoldsFilters s.l.now s.v.now s.config.now.filtering f →
+        IfOk result (λ text. text ≡ raw_text (saved s.l.now.profile f s.config.now.filtering)) }
 {
     let with = with.resources(survey.config);
     let saved = saved(&with, survey)?;
@@ -193,8 +193,8 @@ pub fn proto<R: Threads + Sync, G: Gate>(
     survey: &Survey<'_>,
 ) -> Result<Text, Memory>
     ensures { let s = survey.now in (f : Finders) →
-        HoldsFilters s.l.now s.v.now s.config.now f →
-        IfOk result (IsProtoOf s.l.now.profile f s.config.now) }
+        HoldsFilters s.l.now s.v.now s.config.now.filtering f →
+        IfOk result (IsProtoOf s.l.now.profile f s.config.now.filtering) }
 {
     // The profile keeps the table rules.
     let _profile = survey.l.profile.get();

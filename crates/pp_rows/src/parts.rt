@@ -132,7 +132,7 @@ fn joined_part(
     column: Option<u32>,
     table: &KeyTable,
 ) -> Result<Part, Memory>
-    requires can { CanCount l.now.profile v.now config.now column }
+    requires can { CanCount l.now.profile v.now config.now.filtering column }
     requires table { IsKeyTable l.now.profile config.now.grouping table.now }
     requires pieces { 1024 < length l.now.profile.sample }
 {

@@ -13,7 +13,7 @@ survey_profile survey = survey.l.now.profile
 
 -- the verdicts are what these patterns find
 abbrev pub FindsInSurvey : Survey → Finders → Type 0
-FindsInSurvey survey f = HoldsFilters survey.l.now survey.v.now survey.config.now f
+FindsInSurvey survey f = HoldsFilters survey.l.now survey.v.now survey.config.now.filtering f
 
 -- the sample with its selected value and the tags that are shown of it
 abbrev pub survey_tagged : Survey → Finders → Sample → Seen TagTexts

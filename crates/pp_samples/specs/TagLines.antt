@@ -75,7 +75,7 @@ sample_with_tags p f config column s = record {
 -- the samples that the filters leave, with their values and the tags that are shown
 abbrev pub tagged_samples : Profile → Finders → Config → Option ℕ → List (Seen TagTexts)
 tagged_samples p f config column =
-    map (sample_with_tags p f config column) (filtered_samples p f config p.sample)
+    map (sample_with_tags p f config column) (filtered_samples p f config.filtering p.sample)
 
 -- the tag has the key
 abbrev pub has_label_key : List ℕ → TagTexts → Bool

@@ -60,7 +60,7 @@ abbrev pub trace_of : Profile → Finders → Config → Option ℕ → Shown �
 trace_of p f config column unit s =
     option_map_or
     (λ stack. trace_of_stack p f config column unit s (keys_of_stack p config.grouping stack))
-    (filtered_stack p f config s) []
+    (filtered_stack p f config.filtering s) []
 
 -- The text of the traces report.
 abbrev pub traces_text : Profile → Finders → Config → Option ℕ → Facts → List ℕ

@@ -26,7 +26,7 @@ IsKeyNumber t number = number < length t.scope.table.now.names
 
 -- the verdicts are what these patterns find
 abbrev pub FindsInTraces : Traces → Finders → Type 0
-FindsInTraces t f = HoldsFilters t.scope.l.now t.scope.v.now t.scope.config.now f
+FindsInTraces t f = HoldsFilters t.scope.l.now t.scope.v.now t.scope.config.now.filtering f
 
 -- the lines of a sample
 abbrev pub sample_trace : Traces → Finders → Sample → List ℕ

@@ -22,10 +22,10 @@ use Rattle.pp_dump.specs.Saved.{cut_sample, cut_samples, saved_contents}
 
 module _ (p : Profile) (f : Finders) (config : Config) where
   abbrev c : Contents
-  c = saved_contents p f config
+  c = saved_contents p f config.filtering
 
   abbrev items : List (SampleText × List ℤ)
-  items = cut_samples p f config
+  items = cut_samples p f config.filtering
 
   one_cut : (P : LocationText → Type 0) → ((group : List Frame) → P (cut_text p group)) → (s : Sample) (o : Option (List Frame)) (y : SampleText × List ℤ)
       → option_map (cut_sample p f s) o ≡ Some y → AllByRecursion P y.0.locations
@@ -41,9 +41,9 @@ module _ (p : Profile) (f : Finders) (config : Config) where
       (all_mapped (λ (s : SampleText × List ℤ). AllByRecursion P s.0.locations) (λ key. (key, sum_of same_sample (length p.sample_type) items key)) (distinct same_sample (keys_of same_sample items))
       (all_distinct (λ (key : SampleText). AllByRecursion P key.locations) same_sample (keys_of same_sample items)
       (all_mapped (λ (key : SampleText). AllByRecursion P key.locations) (λ (item : SampleText × List ℤ). item.0) items
-      (all_some (λ (item : SampleText × List ℤ). AllByRecursion P item.0.locations) (λ s. option_map (cut_sample p f s) (filtered_stack p f config s)) p.sample
-      (all_any (λ (s : Sample). (y : SampleText × List ℤ) → option_map (cut_sample p f s) (filtered_stack p f config s) ≡ Some y → AllByRecursion P y.0.locations)
-      (λ s y found. one_cut P each s (filtered_stack p f config s) y found) p.sample)))))
+      (all_some (λ (item : SampleText × List ℤ). AllByRecursion P item.0.locations) (λ s. option_map (cut_sample p f s) (filtered_stack p f config.filtering s)) p.sample
+      (all_any (λ (s : Sample). (y : SampleText × List ℤ) → option_map (cut_sample p f s) (filtered_stack p f config.filtering s) ≡ Some y → AllByRecursion P y.0.locations)
+      (λ s y found. one_cut P each s (filtered_stack p f config.filtering s) y found) p.sample)))))
 
   -- and of each location.
   pub locations_each : (P : LocationText → Type 0) → ((group : List Frame) → P (cut_text p group)) → AllByRecursion P (locations c)

@@ -65,21 +65,21 @@ module _ (p : Profile) (f : Finders) (config : Config) (column : ℕ) (undivided
 
   framed_left : (xs : List Sample)
       → framed_samples p f config (Some column) xs
-      ≡ map (framed_text config.grouping.noinlines column) (filter_map (λ s. option_map (left_stack p f s) (filtered_stack p f config s)) xs)
+      ≡ map (framed_text config.grouping.noinlines column) (filter_map (λ s. option_map (left_stack p f s) (filtered_stack p f config.filtering s)) xs)
   framed_left [] = refl
   framed_left (s ∷ xs) =
-      (λ i. cons_option (one_framed s (filtered_stack p f config s) i) (framed_left xs i))
-      ∙ one_more (option_map (left_stack p f s) (filtered_stack p f config s)) _
+      (λ i. cons_option (one_framed s (filtered_stack p f config.filtering s) i) (framed_left xs i))
+      ∙ one_more (option_map (left_stack p f s) (filtered_stack p f config.filtering s)) _
 
   -- A sum over samples by their frames follows from the stacks that are left.
   pub sum_framed_left : (test : List Written → Bool) → sum_where test (framed_samples p f config (Some column) p.sample)
-      ≡ sum_passing (λ s. test (frames_of config.grouping.noinlines s)) column (left_stacks p f config)
-  sum_framed_left test = ap (sum_where test) (framed_left p.sample) ∙ sum_framed config.grouping.noinlines column test (left_stacks p f config)
+      ≡ sum_passing (λ s. test (frames_of config.grouping.noinlines s)) column (left_stacks p f config.filtering)
+  sum_framed_left test = ap (sum_where test) (framed_left p.sample) ∙ sum_framed config.grouping.noinlines column test (left_stacks p f config.filtering)
 
   -- Samples whose values are at least 0 are seen so.
   pub framed_natural : (xs : List Sample) → AllByRecursion (λ s. IsNatural (get_or s.value column (pos 0))) xs → AreNatural (framed_samples p f config (Some column) xs)
   framed_natural [] all = tt
-  framed_natural (s ∷ xs) all = by (filtered_stack p f config s) (framed_natural xs all.1)
+  framed_natural (s ∷ xs) all = by (filtered_stack p f config.filtering s) (framed_natural xs all.1)
     where
       by : (o : Option (List Frame)) → AreNatural (framed_samples p f config (Some column) xs)
           → AreNatural (cons_option (option_map (framed_with p config (Some column) s) o) (framed_samples p f config (Some column) xs))
@@ -96,15 +96,15 @@ module _ (p : Profile) (column : ℕ) (valid : NoRuleFails p) (within : column <
       natural (get_or s.value column (pos 0)) (least k d below column (pos 0) (omega (arith, within, wide_enough))))
 
   -- and those of the saved one.
-  pub saved_natural : (f : Finders) (config : Config) → AllByRecursion (λ s. IsNatural (get_or s.value column (pos 0))) (saved p f config).sample
+  pub saved_natural : (f : Finders) (config : Config) → AllByRecursion (λ s. IsNatural (get_or s.value column (pos 0))) (saved p f config.filtering).sample
   saved_natural f config =
-      all_mapped (λ (s : Sample). IsNatural (get_or s.value column (pos 0))) (written_sample (saved_contents p f config)) (saved_contents p f config).samples
-      (summed_natural column (length p.sample_type) (cut_samples p f config) within (wide p f config valid) (cut_natural column p f config valid within least))
+      all_mapped (λ (s : Sample). IsNatural (get_or s.value column (pos 0))) (written_sample (saved_contents p f config.filtering)) (saved_contents p f config.filtering).samples
+      (summed_natural column (length p.sample_type) (cut_samples p f config.filtering) within (wide p f config valid) (cut_natural column p f config valid within least))
 
 -- Frames that are found in a profile are found in one that keeps its stacks, where its values are at least 0.
-pub frames_found : (p : Profile) (f : Finders) (config : Config) (q : Profile) (d : Config) (column : ℕ) → KeepsStacks p f config q
+pub frames_found : (p : Profile) (f : Finders) (config : Config) (q : Profile) (d : Config) (column : ℕ) → KeepsStacks p f config.filtering q
     → column < length p.sample_type → d.grouping.noinlines ≡ config.grouping.noinlines → config.presentation.divide_by ≡ 1 → d.presentation.divide_by ≡ 1
-    → left_stacks q no_finders d ≡ whole_stacks q
+    → left_stacks q no_finders d.filtering ≡ whole_stacks q
     → AllByRecursion (λ s. IsNatural (get_or s.value column (pos 0))) p.sample → AllByRecursion (λ s. IsNatural (get_or s.value column (pos 0))) q.sample
     → (test : List Written → Bool)
     → list_any (λ s. test s.keys) (weighed (framed_samples q no_finders d (Some column) q.sample))

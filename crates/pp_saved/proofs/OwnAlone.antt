@@ -29,7 +29,7 @@ module _ (q : Profile) (f : Finders) (config : Config) (column : Option ℕ) whe
   own_cut [] = refl
   own_cut (x ∷ stack) = refl
 
-  same_stacks : filtered_stack q (own_alone f) d ≡ filtered_stack q no_finders d
+  same_stacks : filtered_stack q (own_alone f) d.filtering ≡ filtered_stack q no_finders d.filtering
   same_stacks = λ i s. own_cut (stack_of q s) i
 
   abbrev samples_by : (Sample → Option (List Frame)) → List (Seen Written)

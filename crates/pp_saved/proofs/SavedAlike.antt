@@ -88,18 +88,18 @@ module _ (p : Profile) (f : Finders) (config : Config) (q : Profile) (can : CanS
     tagignore = refl;
   }
 
-  whole : left_stacks q no_finders d ≡ whole_stacks q
+  whole : left_stacks q no_finders d.filtering ≡ whole_stacks q
   whole = let compact : IsCompact q = subst IsCompact is.again (compact_written (contents q [])) in whole_left q compact.locations d refl refl is.valid
 
   counted : (column : Option ℕ) → IsColumnOf p column → Counted p f config q d column
   counted None within =
-      let ours : report_samples p f config None ≡ [] = none_seen p config (filtered_stack p f config) p.sample in
-      let theirs : report_samples q no_finders d None ≡ [] = none_seen q d (filtered_stack q no_finders d) q.sample in
+      let ours : report_samples p f config None ≡ [] = none_seen p config (filtered_stack p f config.filtering) p.sample in
+      let theirs : report_samples q no_finders d None ≡ [] = none_seen q d (filtered_stack q no_finders d.filtering) q.sample in
       record {
         sums = λ test. ap (sum_where test) (theirs ∙ sym ours);
         some = λ test. ap (list_any (λ (s : Seen Written). test s.keys)) (theirs ∙ sym ours);
         frames = λ test. ap (list_any (λ (s : Seen Written). test s.keys))
-            (none_framed q d (filtered_stack q no_finders d) q.sample ∙ sym (none_framed p config (filtered_stack p f config) p.sample));
+            (none_framed q d (filtered_stack q no_finders d.filtering) q.sample ∙ sym (none_framed p config (filtered_stack p f config.filtering) p.sample));
         absolutes = nothing_adds_up q no_finders d q.sample ∙ sym (nothing_adds_up p f config p.sample);
       }
   counted (Some column) within =
@@ -148,18 +148,18 @@ module _ (p : Profile) (f : Finders) (config : Config) (q : Profile) (can : CanS
     }
 
 -- the saved profile keeps what saving keeps
-saving : (p : Profile) (f : Finders) (config : Config) → CanSave p config → IsSaved p f config (saved p f config)
+saving : (p : Profile) (f : Finders) (config : Config) → CanSave p config → IsSaved p f config (saved p f config.filtering)
 saving p f config can = is_saved p f config can.valid can.starts can.settled
 
 -- The figures are the same,
 pub saved_figures : SavedFigures
 saved_figures p f config column can within =
-    own_figures (saved p f config) f config column ∙ alone p f config (saved p f config) can (saving p f config can) column within
+    own_figures (saved p f config.filtering) f config column ∙ alone p f config (saved p f config.filtering) can (saving p f config can) column within
 
 -- and so are the texts.
 pub saved_texts : SavedTexts
 saved_texts p f config column can within =
-    let q : Profile = saved p f config in
+    let q : Profile = saved p f config.filtering in
     let g : Finders = own_alone f in
     let d : Config = unfiltered config in
     let figs : figures q g d column ≡ figures p f config column = saved_figures p f config column can within in

@@ -129,16 +129,16 @@ module _ (finds : Finds) (l : Loaded) (report : Report) (config : Config) (count
   unfolding report_script report_settled prepare_on
   refused_taken e known =
       taken_then (prepare finds l report config) (report_settled finds l base report config) (Err e) (reported_with [] (Err e))
-      (subst (λ k. GivesTaken (go_on (prepare_showing finds over report config) k) (Err e)) (sym known) refl) refl
+      (subst (λ k. GivesTaken (go_on (prepare_showing finds over report config.filtering) k) (Err e)) (sym known) refl) refl
 
   -- or made of what it shows
   made_taken : (s : Showing) (x : Result (List ℕ) ReportRefusal) → showing_for report over.profile config ≡ Ok s → GivesTaken (finish finds l base report config s) x
-      → GivesTaken (report_script finds l base report config) (reported_with (settled_of finds over report config s).notes x)
+      → GivesTaken (report_script finds l base report config) (reported_with (settled_of finds over report config.filtering s).notes x)
   unfolding report_script report_settled prepare_on
   made_taken s x known made =
-      let settled : Settled = settled_of finds over report config s in
+      let settled : Settled = settled_of finds over report config.filtering s in
       taken_then (prepare finds l report config) (report_settled finds l base report config) (Ok settled) (reported_with settled.notes x)
-      (subst (λ k. GivesTaken (go_on (prepare_showing finds over report config) k) (Ok settled)) (sym known)
+      (subst (λ k. GivesTaken (go_on (prepare_showing finds over report config.filtering) k) (Ok settled)) (sym known)
       (subst (λ script. GivesTaken script (Ok settled)) (sym (showing_counts finds over report config s counted)) (gives_counts finds over report config s)))
       (taken_then (finish finds l base report config s) (λ outcome. Give (reported_with settled.notes outcome)) x (reported_with settled.notes x) made refl)
 
@@ -154,7 +154,7 @@ unfolding finish_on text_by
 proto_taken finds l base config keyless =
     let shown : Showing = record { column = None; wanted = None } in
     let over : Loaded = basis_of reports.Proto l config in
-    let notes : List ℕ = (settled_of finds over reports.Proto config shown).notes in (
+    let notes : List ℕ = (settled_of finds over reports.Proto config.filtering shown).notes in (
       notes,
       subst (λ (q : Loaded). GivesTaken (report_script finds l base reports.Proto config) (reported_with notes (Ok (encode (saved_by finds q config))))) (plain_basis reports.Proto l config keyless)
           (made_taken finds l reports.Proto config refl base shown (Ok (encode (saved_by finds over config))) refl refl),
@@ -170,7 +170,7 @@ pub record ComeToOne (first second : Script Reported) : Type 0 where
   pub noted : GivesTaken second (reported_with notes outcome)
 
 -- without filters there are no notes
-unfiltered_silent : (c : Config) (matched : List Bool) → notes_by (unfiltered c) matched ≡ []
+unfiltered_silent : (c : Config) (matched : List Bool) → notes_by (unfiltered c).filtering matched ≡ []
 unfolding notes_by note_unless
 unfiltered_silent c matched = refl
 
@@ -180,11 +180,11 @@ module _ (finds : Finds) (l r : Loaded) (c : Config) (can : CanSave l.profile c)
 
   figures_alike : (report : Report) → report_figures finds r report d ≡ report_figures finds l report c
   figures_alike report =
-      ap (option_map (figures r.profile (report_finders finds r report d) d)) (same_column l.profile r.profile (types_are finds l r report c can is) c.presentation.sample_index)
+      ap (option_map (figures r.profile (report_finders finds r report d.filtering) d)) (same_column l.profile r.profile (types_are finds l r report c can is) c.presentation.sample_index)
       ∙ by (column_of l.profile c.presentation.sample_index) (column_bound l.profile c.presentation.sample_index)
     where
       by : (o : Option (Option ℕ)) → ((column : Option ℕ) → o ≡ Some column → IsColumnOf l.profile column)
-          → option_map (figures r.profile (report_finders finds r report d) d) o ≡ option_map (figures l.profile (report_finders finds l report c) c) o
+          → option_map (figures r.profile (report_finders finds r report d.filtering) d) o ≡ option_map (figures l.profile (report_finders finds l report c.filtering) c) o
       by None known = refl
       by (Some column) known = ap Some (figures_are finds l r report c can is column (known column refl) None)
 
@@ -216,9 +216,9 @@ module _ (finds : Finds) (l r : Loaded) (c : Config) (can : CanSave l.profile c)
         let theirs : GivesTaken (finish finds r other report d s) made.0 =
         subst (λ script. GivesTaken script made.0) (sym (alike.comes_to s (showing_bound l.profile c s report stays shows) base other)) made.1 in
         record {
-          notes = (settled_of finds (basis_of report l c) report c s).notes;
+          notes = (settled_of finds (basis_of report l c) report c.filtering s).notes;
           outcome = made.0;
-          silent = subst (λ notes. GivesTaken (report_script finds r other report d) (reported_with notes made.0)) (unfiltered_silent c (matches_of (basis_of report r d).profile (report_finders finds (basis_of report r d) report d) d))
+          silent = subst (λ notes. GivesTaken (report_script finds r other report d) (reported_with notes made.0)) (unfiltered_silent c (matches_of (basis_of report r d).profile (report_finders finds (basis_of report r d) report d.filtering) d.filtering))
               (made_taken finds r report d count other s made.0 (saved_own (Ok s) shows) theirs);
           noted = made_taken finds l report c count base s made.0 (own (Ok s) shows) made.1;
         }
@@ -255,13 +255,13 @@ can_save p c valid starts source counts = record {
 }
 
 -- All of it, as it was written.
-proto_text : (finds : Finds) (l : Loaded) (config : Config) (text : List ℕ) → IsCountable l.profile → IsProtoBy finds l config text → IsSavedText finds l config text
+proto_text : (finds : Finds) (l : Loaded) (config : Config) (text : List ℕ) → IsCountable l.profile → IsProtoBy finds l config.filtering text → IsSavedText finds l config text
 proto_text finds l config text countable is = record {
   bytes = is.bytes;
   again = is.again;
   lasts = is.lasts;
   sums = λ column within.
-      omega (arith, saved_sizes l.profile (report_finders finds l reports.Proto config) config column is.valid within, countable.sums column within);
+      omega (arith, saved_sizes l.profile (report_finders finds l reports.Proto config.filtering) config column is.valid within, countable.sums column within);
   reports = λ source c has counts plain r saved.
       reports_alike finds l r c (can_save l.profile c is.valid is.starts source counts)
       (record { profile = saved.profile ∙ sym (saved_same finds l config c has); drop = saved.drop; keep = saved.keep }) plain;
@@ -270,4 +270,4 @@ proto_text finds l config text countable is = record {
 -- The text of a proto report, where no frames are made from labels.
 pub saved_bytes : SavedBytes
 saved_bytes finds l config text countable keyless is =
-    proto_text finds l config text countable (subst (λ (q : Loaded). IsProtoBy finds q config text) (plain_basis reports.Proto l config keyless) is)
+    proto_text finds l config text countable (subst (λ (q : Loaded). IsProtoBy finds q config.filtering text) (plain_basis reports.Proto l config keyless) is)

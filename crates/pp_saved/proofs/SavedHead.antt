@@ -27,7 +27,7 @@ pub same_type : (p q : Profile) (column : Option ℕ) → header_of q [] ≡ pat
 same_type p q column header = ap (λ (h : HeaderText). option_and_then (slice_get h.types) column) header
 
 -- So is the duration of a profile that stays as it is when it is merged alone.
-pub same_duration : (p : Profile) (f : Finders) (config : Config) → merged p [] ≡ p → (saved p f config).duration_nanos ≡ p.duration_nanos
+pub same_duration : (p : Profile) (f : Finders) (config : Config) → merged p [] ≡ p → (saved p f config.filtering).duration_nanos ≡ p.duration_nanos
 same_duration p f config settled = ap (λ (r : Profile). r.duration_nanos) settled
 
 -- what was seen first stays first
@@ -59,7 +59,7 @@ none_some g (x ∷ xs) all = (λ i. cons_option (all.0 i) (none_some g xs all.1 
 
 module _ (p : Profile) (f : Finders) (config : Config) where
   abbrev c : Contents
-  c = saved_contents p f config
+  c = saved_contents p f config.filtering
 
   abbrev Unmapped : LocationText → Type 0
   Unmapped l = l.mapping ≡ None
@@ -70,7 +70,7 @@ module _ (p : Profile) (f : Finders) (config : Config) where
       ap (λ (ms : List Mapping). option_map (first_alike (all_mappings (p ∷ []))) (option_map (mapping_text p) (find (λ m. m.id == (cut_location p group).mapping_id) ms))) none
 
   -- The first mapping's file is that of the profile.
-  pub same_file : first_file (saved p f config) ≡ first_file p
+  pub same_file : first_file (saved p f config.filtering) ≡ first_file p
   same_file = written_file c ∙ by p.mapping refl
     where
       rest : List MappingText

@@ -77,22 +77,22 @@ plain_basis report l config keyless = (λ i. if is_counted report then framed_by
 
 module _ (finds : Finds) (l r : Loaded) (report : Report) (config : Config) (can : CanSave l.profile config) (is : IsSavedOf finds l config r) where
   abbrev f : Finders
-  f = report_finders finds l report config
+  f = report_finders finds l report config.filtering
 
   abbrev g : Finders
-  g = report_finders finds r report (unfiltered config)
+  g = report_finders finds r report (unfiltered config).filtering
 
   -- what is saved doesn't depend on the own pattern
-  profile_is : r.profile ≡ saved l.profile f config
+  profile_is : r.profile ≡ saved l.profile f config.filtering
   profile_is = is.profile
 
   finders_are : g ≡ own_alone f
-  finders_are = λ i. finders_of finds (unfiltered config) (own_pattern report) (option_map (finder_by r.profile) (is.drop i)) (option_map (finder_by r.profile) (is.keep i))
+  finders_are = λ i. finders_of finds (unfiltered config).filtering (own_pattern report) (option_map (finder_by r.profile) (is.drop i)) (option_map (finder_by r.profile) (is.keep i))
 
   pub types_are : HasTypesOf l.profile r.profile
   types_are =
       subst (HasTypesOf l.profile) (sym profile_is)
-      (types_by_header l.profile (saved l.profile f config) (is_saved l.profile f config can.valid can.starts can.settled).header.header)
+      (types_by_header l.profile (saved l.profile f config.filtering) (is_saved l.profile f config can.valid can.starts can.settled).header.header)
 
   module _ (column : Option ℕ) (within : IsColumnOf l.profile column) (wanted : Option Shown) where
     pub figures_are : figures r.profile g (unfiltered config) column ≡ figures l.profile f config column
@@ -168,8 +168,8 @@ module _ (finds : Finds) (l r : Loaded) (config : Config) (by_keys : config.pres
       let q : Profile = r.profile in
       let d : Config = unfiltered config in
       let p : Profile = l.profile in
-      let f : Finders = report_finders finds l reports.Tree config in
-      let g : Finders = report_finders finds r reports.Tree d in
+      let f : Finders = report_finders finds l reports.Tree config.filtering in
+      let g : Finders = report_finders finds r reports.Tree d.filtering in
       let h : Facts = report_head p f config s.column s.wanted in
       let k : Facts = report_head q g d s.column s.wanted in
       (λ i. Give (Ok (if by_keys i then calltree_text q g d s.column k else tree_text q g d s.column (node_limit config.presentation.nodecount TREE_NODES) k)))

@@ -65,22 +65,22 @@ module _ (p : Profile) (lasts : IsLasting p) (config : Config) where
       ∙ ap (map whole_text) (groups_located p 0 s.location_id)
       ∙ all_located s.location_id refers
 
-  one_sample : (s : Sample) → RefersTo p s → option_map (cut_sample p no_finders s) (filtered_stack p no_finders d s) ≡ Some (sample_text found_text (text_of p) s)
+  one_sample : (s : Sample) → RefersTo p s → option_map (cut_sample p no_finders s) (filtered_stack p no_finders d.filtering s) ≡ Some (sample_text found_text (text_of p) s)
   one_sample s refers =
       ap (option_map (cut_sample p no_finders s)) (none_dropped p numbered d refl refl s)
       ∙ (λ i. Some (record { locations = stack_located s refers i; labels = map (label_text (text_of p)) (all_shown p s.label i) }, s.value))
 
   each_sample : (xs : List Sample) → AllByRecursion (RefersTo p) xs
-      → filter_map (λ s. option_map (cut_sample p no_finders s) (filtered_stack p no_finders d s)) xs ≡ map (sample_text found_text (text_of p)) xs
+      → filter_map (λ s. option_map (cut_sample p no_finders s) (filtered_stack p no_finders d.filtering s)) xs ≡ map (sample_text found_text (text_of p)) xs
   each_sample [] all = refl
   each_sample (s ∷ xs) all = λ i. cons_option (one_sample s all.0 i) (each_sample xs all.1 i)
 
-  samples_are : cut_samples p no_finders d ≡ all_samples (p ∷ [])
+  samples_are : cut_samples p no_finders d.filtering ≡ all_samples (p ∷ [])
   samples_are =
       each_sample p.sample (recursion_from_All (RefersTo p) p.sample (λ k e within. refers_from_valid p (get_or p.sample k e) lasts.valid (sample_at p k e within)))
       ∙ sym (append-nil (map (sample_text found_text (text_of p)) p.sample))
 
-  contents_are : saved_contents p no_finders d ≡ contents p []
+  contents_are : saved_contents p no_finders d.filtering ≡ contents p []
   contents_are = λ i. record {
     header = record (header_of p []) { drop_frames = sym lasts.drop i; keep_frames = sym lasts.keep i };
     samples = filter counts (summed same_sample (length p.sample_type) (samples_are i));

@@ -103,7 +103,7 @@ module _ (p : Profile) (starts : AllByRecursion (λ m. m.start < 2 ^ 64) (all_ma
 
   module _ (f : Finders) (config : Config) where
     abbrev c : Contents
-    c = saved_contents p f config
+    c = saved_contents p f config.filtering
 
     fine : AllByRecursion Fine (locations c)
     fine = locations_each p f config Fine cut_fine
@@ -115,11 +115,11 @@ module _ (p : Profile) (starts : AllByRecursion (λ m. m.start < 2 ^ 64) (all_ma
         (all_some Among (λ (l : LocationText). l.mapping) (locations c) (all_by Fine _ (λ l k. k.0) (locations c) fine)))
 
     counted : AllByRecursion (λ s. counts s ≡ true) c.samples
-    counted = recursion_from_All (λ s. counts s ≡ true) _ (filter_passes counts (summed same_sample (length p.sample_type) (cut_samples p f config)))
+    counted = recursion_from_All (λ s. counts s ≡ true) _ (filter_passes counts (summed same_sample (length p.sample_type) (cut_samples p f config.filtering)))
 
-    keys_apart : IsDistinct same_sample (keys_of same_sample (summed same_sample (length p.sample_type) (cut_samples p f config)))
+    keys_apart : IsDistinct same_sample (keys_of same_sample (summed same_sample (length p.sample_type) (cut_samples p f config.filtering)))
     keys_apart =
-        let items : List (SampleText × List ℤ) = cut_samples p f config in
+        let items : List (SampleText × List ℤ) = cut_samples p f config.filtering in
         let keys : List SampleText = distinct same_sample (keys_of same_sample items) in
         subst (IsDistinct same_sample)
         (sym (map_back (λ (item : SampleText × List ℤ). item.0) (λ key. (key, sum_of same_sample (length p.sample_type) items key)) keys (all_any _ (λ key. refl) keys)))
@@ -135,7 +135,7 @@ module _ (p : Profile) (starts : AllByRecursion (λ m. m.start < 2 ^ 64) (all_ma
         rows = all_by (λ s. length s.1 ≡ length p.sample_type) _ (λ s k. k ∙ sym types_length) c.samples (rows_long p f config);
         typed = λ none. no_column c.samples (all_by (λ s. length s.1 ≡ length p.sample_type) _ (λ s k. k ∙ sym types_length ∙ none) c.samples (rows_long p f config)) counted;
       };
-      apart = IsDistinct-keys_filter same_sample counts (summed same_sample (length p.sample_type) (cut_samples p f config)) keys_apart;
+      apart = IsDistinct-keys_filter same_sample counts (summed same_sample (length p.sample_type) (cut_samples p f config.filtering)) keys_apart;
       counted = counted;
       comments = own_settled.comments;
       duration = own_settled.duration;

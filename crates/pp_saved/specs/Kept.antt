@@ -26,7 +26,7 @@ abbrev pub SavedFigures : Type 0
 SavedFigures =
     (p : Profile) (f : Finders) (config : Config) (column : Option ℕ)
     → CanSave p config → IsColumnOf p column
-    → figures (saved p f config) (own_alone f) (unfiltered config) column ≡ figures p f config column
+    → figures (saved p f config.filtering) (own_alone f) (unfiltered config) column ≡ figures p f config column
 
 -- The two reports print the same: top, tree and peek under the same head, whether peek finds anything, table of the
 -- same unit, and folded.
@@ -47,13 +47,13 @@ abbrev pub SavedTexts : Type 0
 SavedTexts =
     (p : Profile) (f : Finders) (config : Config) (column : Option ℕ)
     → CanSave p config → IsColumnOf p column
-    → PrintAlike p f config (saved p f config) (own_alone f) (unfiltered config) column
+    → PrintAlike p f config (saved p f config.filtering) (own_alone f) (unfiltered config) column
 
 -- A text asks for the same column of both.
 abbrev pub SavedColumns : Type 0
 SavedColumns =
     (p : Profile) (f : Finders) (config : Config) (text : List ℕ)
-    → CanSave p config → column_of (saved p f config) text ≡ column_of p text
+    → CanSave p config → column_of (saved p f config.filtering) text ≡ column_of p text
 
 -- A saved profile lasts, under three premises on the profile that it is saved from. No table rule fails
 -- there, its mappings start below 2^64, and it stays as it is when it is merged alone.
@@ -61,14 +61,14 @@ abbrev pub SavedLasts : Type 0
 SavedLasts =
     (p : Profile) (f : Finders) (config : Config)
     → NoRuleFails p → AllByRecursion (λ m. m.start < 2 ^ 64) p.mapping → merged p [] ≡ p
-    → IsLasting (saved p f config)
+    → IsLasting (saved p f config.filtering)
 
 -- Such a profile is itself when it is saved without filters. So saving a saved profile again changes nothing.
 abbrev pub SavedWhole : Type 0
-SavedWhole = (p : Profile) (config : Config) → IsLasting p → saved p no_finders (unfiltered config) ≡ p
+SavedWhole = (p : Profile) (config : Config) → IsLasting p → saved p no_finders (unfiltered config).filtering ≡ p
 
 -- The absolute values of a column add up to no more in the saved profile, so it can be merged where the other one can.
 abbrev pub SavedSizes : Type 0
 SavedSizes =
     (p : Profile) (f : Finders) (config : Config) (column : ℕ) → NoRuleFails p → column < length p.sample_type
-    → absolute_sum (saved p f config) column ≤ absolute_sum p column
+    → absolute_sum (saved p f config.filtering) column ≤ absolute_sum p column

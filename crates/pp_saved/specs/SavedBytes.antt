@@ -26,7 +26,7 @@ use Rattle.pp_saved.specs.StaysSaved.{stays_saved}
 -- the figures of a report, None where it asks for a column that is no sample type
 abbrev pub report_figures : Finds → Loaded → Report → Config → Option Figures
 report_figures finds l report config =
-    asked_figures l.profile (report_finders finds l report config) config
+    asked_figures l.profile (report_finders finds l report config.filtering) config
 
 -- no pattern is refused
 abbrev pub AllTaken : List Answer → Type 0
@@ -80,5 +80,5 @@ abbrev pub SavedBytes : Type 0
 SavedBytes =
     (finds : Finds) (l : Loaded) (config : Config) (text : List ℕ)
     → IsCountable l.profile → NamesNoKey config
-    → IsProtoBy finds (basis_of reports.Proto l config) config text
+    → IsProtoBy finds (basis_of reports.Proto l config) config.filtering text
     → IsSavedText finds l config text

@@ -18,7 +18,7 @@ use Rattle.pp_saved.specs.StaysSaved.{stays_saved}
 
 -- the profile that a proto report writes
 abbrev pub saved_by : Finds → Loaded → Config → Profile
-saved_by finds l config = saved l.profile (report_finders finds l reports.Proto config) config
+saved_by finds l config = saved l.profile (report_finders finds l reports.Proto config.filtering) config.filtering
 
 -- The profile is what a proto report of the other one writes, loaded without any pattern of its own.
 pub record IsSavedOf (finds : Finds) (l : Loaded) (config : Config) (r : Loaded) : Type 0 where

@@ -50,7 +50,7 @@ parts_of_frames part (s ∷ ss) = λ i. record { value = s.value; keys = parts_o
 
 module _ (p : Profile) (config : Config) (by : config ≡ by_lines config) (column : Option ℕ) (kept : List ℕ) (names : List Key) (seen : List (Seen ℕ)) (part : KeyPart) where
   -- what is seen by lines has the parts of the report's frames
-  pub parts_seen : (f : Finders) → kept ≡ filtered_from p f config 0 p.sample → map (renamed (written_key p names)) seen ≡ seen_samples p f config column (samples_at p kept)
+  pub parts_seen : (f : Finders) → kept ≡ filtered_from p f config.filtering 0 p.sample → map (renamed (written_key p names)) seen ≡ seen_samples p f config column (samples_at p kept)
       → map (renamed (λ n. part_of part (written_key p names n))) (weighed seen) ≡ map (renamed (part_of part)) (report_frames p f config column)
   parts_seen f kept_is are =
       let keyed : map (renamed (written_key p names)) (weighed seen) ≡ map (renamed (key_texts Lines false)) (report_frames p f config column) =

@@ -32,7 +32,7 @@ pub fn ledger_of(alloc: Global, survey: &Survey<'_>) -> Result<Ledger, Memory>
     ensures found { IfOk result (λ ledger.
         AreFound survey.now.l.now.profile survey.now.v.now.own ledger.lines.names.keys) }
     ensures sums { (f : Finders) →
-        HoldsFilters survey.now.l.now survey.now.v.now survey.now.config.now f → IfOk result
+        HoldsFilters survey.now.l.now survey.now.v.now survey.now.config.now.filtering f → IfOk result
         (IsLedgerOf survey.now.l.now.profile survey.now.v.now.own
         (report_frames survey.now.l.now.profile f survey.now.config.now survey.now.column)) }
 {
@@ -58,7 +58,7 @@ fn ledger_under(alloc: Global, survey: &Survey<'_>, config: &Config) -> Result<L
     ensures found { IfOk result (λ ledger.
         AreFound survey.now.l.now.profile survey.now.v.now.own ledger.lines.names.keys) }
     ensures sums { (f : Finders) →
-        HoldsFilters survey.now.l.now survey.now.v.now survey.now.config.now f → IfOk result
+        HoldsFilters survey.now.l.now survey.now.v.now survey.now.config.now.filtering f → IfOk result
         (IsLedgerOf survey.now.l.now.profile survey.now.v.now.own
         (report_frames survey.now.l.now.profile f survey.now.config.now survey.now.column)) }
 {
@@ -80,7 +80,7 @@ fn ledger_in<'x>(
     ensures found { IfOk result (λ ledger.
         AreFound survey.now.l.now.profile survey.now.v.now.own ledger.lines.names.keys) }
     ensures sums { (f : Finders) →
-        HoldsFilters survey.now.l.now survey.now.v.now survey.now.config.now f → IfOk result
+        HoldsFilters survey.now.l.now survey.now.v.now survey.now.config.now.filtering f → IfOk result
         (IsLedgerOf survey.now.l.now.profile survey.now.v.now.own
         (report_frames survey.now.l.now.profile f survey.now.config.now survey.now.column)) }
 {
@@ -107,8 +107,8 @@ fn ledger_by(alloc: Global, scope: &Scope<'_>, kept: &[u32]) -> Result<Ledger, M
     ensures found { IfOk result (λ ledger.
         AreFound scope.now.l.now.profile scope.now.v.now.own ledger.lines.names.keys) }
     ensures sums { (f : Finders) →
-        HoldsFilters scope.now.l.now scope.now.v.now scope.now.config.now f →
-        kept.now ≡ filtered_from scope.now.l.now.profile f scope.now.config.now 0
+        HoldsFilters scope.now.l.now scope.now.v.now scope.now.config.now.filtering f →
+        kept.now ≡ filtered_from scope.now.l.now.profile f scope.now.config.now.filtering 0
         scope.now.l.now.profile.sample → IfOk result
         (IsLedgerOf scope.now.l.now.profile scope.now.v.now.own
         (report_frames scope.now.l.now.profile f scope.now.config.now scope.now.column)) }

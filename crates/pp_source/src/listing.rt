@@ -44,7 +44,7 @@ pub fn write_list<D: Desk>(
     out: &mut Text,
 ) -> Result<Result<(), ListRefusal>, Stop>
     ensures went { (f : Finders) →
-        HoldsFilters survey.now.l.now survey.now.v.now survey.now.config.now f →
+        HoldsFilters survey.now.l.now survey.now.v.now survey.now.config.now.filtering f →
         Went (D.world desk.old) (D.world desk.new)
         (added_report out.old (list_report survey.now.l.now.profile f survey.now.config.now
         survey.now.column (facts head.now)))
@@ -67,7 +67,7 @@ fn list_report<D: Desk>(
     desk: &mut D,
 ) -> Result<Option<Text>, Stop>
     ensures { (f : Finders) →
-        HoldsFilters survey.now.l.now survey.now.v.now survey.now.config.now f →
+        HoldsFilters survey.now.l.now survey.now.v.now survey.now.config.now.filtering f →
         Went (D.world desk.old) (D.world desk.new)
         (list_report survey.now.l.now.profile f survey.now.config.now survey.now.column
         (facts head.now)) result }
@@ -94,7 +94,7 @@ fn list_ledger<D: Desk>(
         listing.now.ledger.now.lines.names.keys }
     ensures { (f : Finders) →
         HoldsFilters listing.now.survey.now.l.now listing.now.survey.now.v.now
-        listing.now.survey.now.config.now f →
+        listing.now.survey.now.config.now.filtering f →
         ListsOf listing.now (report_frames listing.now.survey.now.l.now.profile f
         listing.now.survey.now.config.now listing.now.survey.now.column) →
         Went (D.world desk.old) (D.world desk.new)

@@ -32,16 +32,16 @@ module _ (t : List Written → Bool) (p : Profile) (f : Finders) (config : Confi
   all_of ss = seen_samples p f config column ss
 
   abbrev whole_of : List Sample → ℤ
-  whole_of ss = selected_all column config.presentation.divide_by (filtered_samples p f config ss)
+  whole_of ss = selected_all column config.presentation.divide_by (filtered_samples p f config.filtering ss)
 
   -- samples that pass, and those that do not, are all that the filters leave
   parted : (ss : List Sample) → sum_where t (all_of ss) +ℤ sum_where none_of (all_of ss) ≡ whole_of ss
   parted [] = omega (arith, ints)
   parted (s ∷ ss) =
       let rest : sum_where t (all_of ss) +ℤ sum_where none_of (all_of ss) ≡ whole_of ss = parted ss in
-      elim (filtered_stack p f config s) as (λ (o : Option (List Frame)).
+      elim (filtered_stack p f config.filtering s) as (λ (o : Option (List Frame)).
       sum_where t (cons_option (option_map (seen_with p config column s) o) (all_of ss)) +ℤ sum_where none_of (cons_option (option_map (seen_with p config column s) o) (all_of ss))
-      ≡ selected_all column config.presentation.divide_by (cond (is_some o) (s ∷ filtered_samples p f config ss) (filtered_samples p f config ss))) [
+      ≡ selected_all column config.presentation.divide_by (cond (is_some o) (s ∷ filtered_samples p f config.filtering ss) (filtered_samples p f config.filtering ss))) [
         | None ↦ rest
         | Some stack ↦ elim (t (seen_with p config column s stack).keys) as (λ b.
             (cond b (selected column config.presentation.divide_by s) (pos 0) +ℤ sum_where t (all_of ss)) +ℤ (cond (not b) (selected column config.presentation.divide_by s) (pos 0) +ℤ sum_where none_of (all_of ss))

@@ -71,12 +71,12 @@ module _ (q : Profile) (f : Finders) (config : Config) where
   -- A sample is seen by its tags, its value, and what its stack is told as.
   seen_by : (column : Option ℕ) (s : Sample)
       → seen q f config column s
-      ≡ cond (passes_tags q f config s)
+      ≡ cond (passes_tags q f config.filtering s)
       (option_map (λ keys. record { value = selected column config.presentation.divide_by s; keys = keys }) (shows f config (map (placed config.grouping.grain q) (stack_of q s)))) None
   seen_by column s =
       let with_keys : List Written → Seen Written = λ keys. record { value = selected column config.presentation.divide_by s; keys = keys } in
       let told : List (ℕ × Written) → List Written = λ xs. map (key_texts config.grouping.grain config.grouping.showcolumns) (told_counted config.grouping.noinlines xs) in
-      elim (passes_tags q f config s) as (λ (b : Bool). option_map (seen_with q config column s) (cond b (frames_of_sample q f s) None)
+      elim (passes_tags q f config.filtering s) as (λ (b : Bool). option_map (seen_with q config column s) (cond b (frames_of_sample q f s) None)
       ≡ cond b (option_map with_keys (shows f config (map (placed config.grouping.grain q) (stack_of q s)))) None) [
         | false ↦ refl
         | true ↦ elim (frames_of_sample q f s) as (λ (o : Option (List Frame)). option_map (seen_with q config column s) o

@@ -132,18 +132,18 @@ module _ (p : Profile) (f : Finders) (config : Config) (column : Option ℕ) whe
     whole false o stack e = absurd (none-some stack e)
 
     over_samples : (k : Written) (ss : List Sample)
-        → list_any (has_own_sample p f config column find k) (filter (λ s. is_some (filtered_stack p f config s)) ss)
+        → list_any (has_own_sample p f config column find k) (filter (λ s. is_some (filtered_stack p f config.filtering s)) ss)
         ≡ list_any (λ s. list_any (is_own_of f config.grouping k) s.keys) (weighed (framed_samples p f config column ss))
     over_samples k [] = refl
     over_samples k (s ∷ ss) =
-        elim (filtered_stack p f config s) as (λ o. filtered_stack p f config s ≡ o
-        → list_any (has_own_sample p f config column find k) (cond (is_some o) (s ∷ filter (λ t. is_some (filtered_stack p f config t)) ss) (filter (λ t. is_some (filtered_stack p f config t)) ss))
+        elim (filtered_stack p f config.filtering s) as (λ o. filtered_stack p f config.filtering s ≡ o
+        → list_any (has_own_sample p f config column find k) (cond (is_some o) (s ∷ filter (λ t. is_some (filtered_stack p f config.filtering t)) ss) (filter (λ t. is_some (filtered_stack p f config.filtering t)) ss))
         ≡ list_any (λ t. list_any (is_own_of f config.grouping k) t.keys) (weighed (cons_option (option_map (framed_with p config column s) o) (framed_samples p f config column ss)))) [
           | None ↦ λ e. over_samples k ss
           | Some stack ↦ λ e.
-              let frames : frames_of_sample p f s ≡ Some stack = whole (passes_tags p f config s) (frames_of_sample p f s) stack e in
+              let frames : frames_of_sample p f s ≡ Some stack = whole (passes_tags p f config.filtering s) (frames_of_sample p f s) stack e in
               ap (λ o. (not (int_eq (selected column config.presentation.divide_by s) (pos 0)) && option_map_or (has_own_frame p config.grouping find k) o false)
-              || list_any (has_own_sample p f config column find k) (filter (λ t. is_some (filtered_stack p f config t)) ss)) frames
+              || list_any (has_own_sample p f config column find k) (filter (λ t. is_some (filtered_stack p f config.filtering t)) ss)) frames
               ∙ (λ i. (not (int_eq (selected column config.presentation.divide_by s) (pos 0)) && sym (own_frames k (counted_frames config.grouping.noinlines stack)) i) || over_samples k ss i)
               ∙ one (not (int_eq (selected column config.presentation.divide_by s) (pos 0))) (framed_with p config column s stack) (weighed (framed_samples p f config column ss))
         ] refl where
@@ -154,7 +154,7 @@ module _ (p : Profile) (f : Finders) (config : Config) (column : Option ℕ) whe
           one false x rest = refl
 
     -- over the samples that the filters leave, by their numbers
-    pub own_key_is : (kept : List ℕ) → kept ≡ filtered_from p f config 0 p.sample → (k : Written)
+    pub own_key_is : (kept : List ℕ) → kept ≡ filtered_from p f config.filtering 0 p.sample → (k : Written)
         → list_any (has_own_number p f config column find k) kept ≡ is_found_key p f config column k
     own_key_is kept is k =
         sym (any-filter_map (has_own_sample p f config column find k) (slice_get p.sample) kept)
@@ -162,7 +162,7 @@ module _ (p : Profile) (f : Finders) (config : Config) (column : Option ℕ) whe
         ∙ over_samples k p.sample
 
     -- the keys that are gathered over them are those that are found
-    pub keys_found : (numbers kept : List ℕ) (keys : List Key) → numbers ≡ kept → kept ≡ filtered_from p f config 0 p.sample
+    pub keys_found : (numbers kept : List ℕ) (keys : List Key) → numbers ≡ kept → kept ≡ filtered_from p f config.filtering 0 p.sample
         → ((k : Written) → holds_key p keys k ≡ list_any (has_own_number p f config column find k) numbers)
         → (k : Written) → holds_key p keys k ≡ is_found_key p f config column k
     keys_found numbers kept keys lent is gathered k = gathered k ∙ own_key_is numbers (lent ∙ is) k

@@ -65,7 +65,7 @@ report_pairs p f config column limit = record {
 }
 
 module _ (l : Loaded) (v : Verdicts) (config : Config) (column : Option ℕ) (limit : ℕ) (f : Finders) (c : Counted) (t : Trimmed)
-    (counted : IsCountedOf l v config column c) (trimmed : IsTrimmedOf l v config column limit c t) (holds : HoldsFilters l v config f) where
+    (counted : IsCountedOf l v config column c) (trimmed : IsTrimmedOf l v config column limit c t) (holds : HoldsFilters l v config.filtering f) where
   -- the trimmed graph shows them
   pub report_shows : ShowsPairs l.profile c.sums.names t.graph (report_pairs l.profile f config column limit)
   report_shows = record {

@@ -46,7 +46,7 @@ pub fn found_by_frames(
 ) -> Result<List<bool>, Memory>
     requires { survey.now.v.now.own ≡ Some own.now }
     ensures { (f : Finders) →
-        HoldsFilters survey.now.l.now survey.now.v.now survey.now.config.now f →
+        HoldsFilters survey.now.l.now survey.now.v.now survey.now.config.now.filtering f →
         IfOk result (λ found. found ≡ map (λ key. is_found_key survey.now.l.now.profile f
         survey.now.config.now survey.now.column (key_written survey.now.l.now.profile key))
         survey.now.counted.now.sums.names) }

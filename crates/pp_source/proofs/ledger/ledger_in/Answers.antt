@@ -14,7 +14,7 @@ use Rattle.pp_source.proofs.ledger.ledger_in.Goals as goal
 pub ledger_by-requires-clause-sound : goal.ledger_by-requires-clause-sound
 ledger_by-requires-clause-sound c =
     let filters = c.filters.ensures in
-    let by : AreFilters c.args.survey.now.l.now.profile c.args.survey.now.v.now (by_lines c.args.survey.now.config.now) c.filters.result.now =
+    let by : AreFilters c.args.survey.now.l.now.profile c.args.survey.now.v.now (by_lines c.args.survey.now.config.now).filtering c.filters.result.now =
     record {
       focus = filters.focus;
       ignore = filters.ignore;
@@ -24,7 +24,7 @@ ledger_by-requires-clause-sound c =
       reach = filters.reach;
     } in
     record {
-      filters = subst (λ (x : Config). AreFilters c.args.survey.now.l.now.profile c.args.survey.now.v.now x c.filters.result.now) (sym c.requires.lines) by;
+      filters = subst (λ (x : Config). AreFilters c.args.survey.now.l.now.profile c.args.survey.now.v.now x.filtering c.filters.result.now) (sym c.requires.lines) by;
       verdicts = c.args.survey.now.can.verdicts;
       table = c.requires.table;
       few_kept = tt;
@@ -48,8 +48,8 @@ pub returns-clause-sums : goal.returns-clause-sums
 returns-clause-sums c f holds =
     let p : Profile = c.args.survey.now.l.now.profile in
     let is : c.args.config.now ≡ by_lines c.args.survey.now.config.now = c.requires.lines in
-    let by : HoldsFilters c.args.survey.now.l.now c.args.survey.now.v.now (by_lines c.args.survey.now.config.now) f =
+    let by : HoldsFilters c.args.survey.now.l.now c.args.survey.now.v.now (by_lines c.args.survey.now.config.now).filtering f =
     record { found = holds.found; tagfocus = holds.tagfocus; tagignore = holds.tagignore } in
     subst (λ (x : Config). IfOk c.ledger_by.result (IsLedgerOf p c.args.survey.now.v.now.own (report_frames p f x c.args.survey.now.column))) is
-    (c.ledger_by.ensures.sums f (subst (λ (x : Config). HoldsFilters c.args.survey.now.l.now c.args.survey.now.v.now x f) (sym is) by)
-    (subst (λ (x : Config). c.as_slice-kept.result.now ≡ filtered_from p f x 0 p.sample) (sym is) (c.as_slice-kept.ensures ∙ c.args.survey.now.counts.kept f holds)))
+    (c.ledger_by.ensures.sums f (subst (λ (x : Config). HoldsFilters c.args.survey.now.l.now c.args.survey.now.v.now x.filtering f) (sym is) by)
+    (subst (λ (x : Config). c.as_slice-kept.result.now ≡ filtered_from p f x.filtering 0 p.sample) (sym is) (c.as_slice-kept.ensures ∙ c.args.survey.now.counts.kept f holds)))
