@@ -44,7 +44,7 @@ module _ (config : Config) (column : Option ℕ) where
 
   -- one sample more
   portion_push : (ss : List Sample) (s : Sample) → length ss + 1 < 2 ^ 64 → nat_abs (selected_all column config.presentation.divide_by ss) + nat_abs (value s) < 2 ^ 63
-      → portion_of config column (ss ++ s ∷ []) ≡ portion_plus (portion_of config column ss) (value s)
+      → portion_of config.presentation column (ss ++ s ∷ []) ≡ portion_plus (portion_of config.presentation column ss) (value s)
   portion_push ss s few fits = λ i. record {
     count = (length-append ss (s ∷ []) ∙ sym (mod-eq_of_lt few)) i;
     value = (selected-append column config.presentation.divide_by ss s
@@ -54,13 +54,13 @@ module _ (config : Config) (column : Option ℕ) where
 
   module _ (ss : List Sample) (s : Sample) (few : length ss + 1 < 2 ^ 64) (fits : absolute_all column config.presentation.divide_by ss + nat_abs (value s) < 2 ^ 63) where
     -- of those that pass a test
-    pub portion_more : (t : Sample → Bool) → portion_of config column (filter t (ss ++ s ∷ [])) ≡ portion_plus_if (t s) (portion_of config column (filter t ss)) (value s)
+    pub portion_more : (t : Sample → Bool) → portion_of config.presentation column (filter t (ss ++ s ∷ [])) ≡ portion_plus_if (t s) (portion_of config.presentation column (filter t ss)) (value s)
     portion_more t =
-        ap (portion_of config column) (filter-append t ss (s ∷ []))
-        ∙ elim (t s) as (λ b. portion_of config column (filter t ss ++ cond b (s ∷ []) []) ≡ portion_plus_if b (portion_of config column (filter t ss)) (value s)) [
+        ap (portion_of config.presentation column) (filter-append t ss (s ∷ []))
+        ∙ elim (t s) as (λ b. portion_of config.presentation column (filter t ss ++ cond b (s ∷ []) []) ≡ portion_plus_if b (portion_of config.presentation column (filter t ss)) (value s)) [
           | true ↦ portion_push (filter t ss) s (omega (arith, few, count_within))
               (omega (arith, fits, selected_within column config.presentation.divide_by (filter t ss), filter_size (λ x. nat_abs (value x)) t ss))
-          | false ↦ ap (portion_of config column) (append-nil (filter t ss))
+          | false ↦ ap (portion_of config.presentation column) (append-nil (filter t ss))
         ] where
           count_within : length (filter t ss) ≤ length ss
           count_within = shorter ss where
@@ -71,7 +71,7 @@ module _ (config : Config) (column : Option ℕ) where
               | false ↦ omega (arith, shorter xs)
             ]
 
-    pub all_more : portion_of config column (ss ++ s ∷ []) ≡ portion_plus (portion_of config column ss) (value s)
+    pub all_more : portion_of config.presentation column (ss ++ s ∷ []) ≡ portion_plus (portion_of config.presentation column ss) (value s)
     all_more = portion_push ss s few (omega (arith, fits, selected_within column config.presentation.divide_by ss))
 
 -- where a sample ends, by its first filter

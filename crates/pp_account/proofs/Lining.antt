@@ -26,7 +26,7 @@ one_line h false row rest lines is = is
 
 module _ (p : Profile) (f : Finders) (config : Config) (column : Option ℕ) (h : Facts) where
   abbrev row_at : Slot → AccountRow
-  row_at slot = record { portion = portion_of config column (dropped_samples p f config.filtering slot p.sample); name = filter_name config.filtering slot }
+  row_at slot = record { portion = portion_of config.presentation column (dropped_samples p f config.filtering slot p.sample); name = filter_name config.filtering slot }
 
   next : (slot : Slot) (rest : List AccountRow) (lines : List ℕ) → flat_map (account_line h) rest ≡ lines
       → flat_map (account_line h) (filter_row p f config column slot ++ rest) ≡ cond (is_in_force f config.filtering slot) (account_line h (row_at slot)) [] ++ lines

@@ -48,7 +48,7 @@ abbrev pub filter_row : Profile → Finders → Config → Option ℕ → Slot �
 filter_row p f config column slot =
     if is_in_force f config.filtering slot
     then record {
-      portion = portion_of config column (dropped_samples p f config.filtering slot p.sample);
+      portion = portion_of config.presentation column (dropped_samples p f config.filtering slot p.sample);
       name = filter_name config.filtering slot;
     } ∷ []
     else []
@@ -62,12 +62,12 @@ bare_row portion =
 -- leave. The last row is of those that are left without a frame.
 abbrev pub sample_rows : Profile → Finders → Config → Option ℕ → List AccountRow
 sample_rows p f config column =
-    record { portion = portion_of config column p.sample; name = codes "loaded" }
+    record { portion = portion_of config.presentation column p.sample; name = codes "loaded" }
     ∷ flat_map (filter_row p f config column) dropping
     ++ record {
-      portion = portion_of config column (filtered_samples p f config.filtering p.sample);
+      portion = portion_of config.presentation column (filtered_samples p f config.filtering p.sample);
       name = codes "left";
-    } ∷ bare_row (portion_of config column (bare_samples p f config column p.sample))
+    } ∷ bare_row (portion_of config.presentation column (bare_samples p f config column p.sample))
 
 -- The rows of keys under this limit, where 0 is none: those that occur, those that are too light, those that the limit
 -- leaves out, and those that are shown.

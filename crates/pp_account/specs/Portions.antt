@@ -18,10 +18,10 @@ use Rattle.pp_account.specs.declared.portions.Portions.{Portions as PortionsOf}
 use Rattle.pp_account.specs.First.{first_filter, is_filter}
 
 -- how many samples these are, and what their selected values come to
-abbrev pub portion_of : Config → Option ℕ → List Sample → Portion
-portion_of config column samples = record {
+abbrev pub portion_of : Presentation → Option ℕ → List Sample → Portion
+portion_of presentation column samples = record {
   count = length samples;
-  value = selected_all column config.presentation.divide_by samples;
+  value = selected_all column presentation.divide_by samples;
 }
 
 -- the samples that this filter is the first to drop
@@ -42,14 +42,14 @@ bare_samples p f config column samples = filter (is_bare p f config column) samp
 -- Where these samples end.
 abbrev pub portions_of : Profile → Finders → Config → Option ℕ → List Sample → PortionsOf
 portions_of p f config column samples = record {
-  loaded = portion_of config column samples;
-  ignore = portion_of config column (dropped_samples p f config.filtering slots.Ignore samples);
-  focus = portion_of config column (dropped_samples p f config.filtering slots.Focus samples);
-  hide = portion_of config column (dropped_samples p f config.filtering slots.Hide samples);
-  show = portion_of config column (dropped_samples p f config.filtering slots.Show samples);
-  show_from = portion_of config column (dropped_samples p f config.filtering slots.ShowFrom samples);
-  tagfocus = portion_of config column (dropped_samples p f config.filtering slots.TagFocus samples);
-  tagignore = portion_of config column (dropped_samples p f config.filtering slots.TagIgnore samples);
-  left = portion_of config column (filtered_samples p f config.filtering samples);
-  bare = portion_of config column (bare_samples p f config column samples);
+  loaded = portion_of config.presentation column samples;
+  ignore = portion_of config.presentation column (dropped_samples p f config.filtering slots.Ignore samples);
+  focus = portion_of config.presentation column (dropped_samples p f config.filtering slots.Focus samples);
+  hide = portion_of config.presentation column (dropped_samples p f config.filtering slots.Hide samples);
+  show = portion_of config.presentation column (dropped_samples p f config.filtering slots.Show samples);
+  show_from = portion_of config.presentation column (dropped_samples p f config.filtering slots.ShowFrom samples);
+  tagfocus = portion_of config.presentation column (dropped_samples p f config.filtering slots.TagFocus samples);
+  tagignore = portion_of config.presentation column (dropped_samples p f config.filtering slots.TagIgnore samples);
+  left = portion_of config.presentation column (filtered_samples p f config.filtering samples);
+  bare = portion_of config.presentation column (bare_samples p f config column samples);
 }

@@ -172,7 +172,7 @@ module _ (keep : Kept) (p : Profile) (f : Finders) (config : Config) (column : O
     pub are_left : AreLeft keep p f config column
     are_left = record {
       numbers = λ i. numbers_from (λ s. some_left s i) 0 p.sample;
-      total = λ i. total_over p config column (cond config.presentation.relative_percentages (filter (λ s. some_left s i) p.sample) p.sample);
+      total = λ i. total_over p config.presentation column (cond config.presentation.relative_percentages (filter (λ s. some_left s i) p.sample) p.sample);
       frames = frames_left;
       matches = matches_left stay;
       own = λ functions.

@@ -69,7 +69,7 @@ same_loading finds plan other path first third has but =
 
 -- ---- a file that was saved, and a session that loads it
 
-module _ (finds : Finds) {saving reading : Plan} (path : List ℕ) (l : Loaded) (saves : saving.report ≡ Some reports.Proto) (keyless : NamesNoKey saving.config) (file : HasOneFile reading path)
+module _ (finds : Finds) {saving reading : Plan} (path : List ℕ) (l : Loaded) (saves : saving.report ≡ Some reports.Proto) (keyless : NamesNoKey saving.config.presentation) (file : HasOneFile reading path)
     (first : SessionOf saving) (second : SessionOf reading) (loaded : (loading_in finds first).value ≡ Ok l)
     (stand : StandAt path (outs (course_in finds first).effects) second.files) where
   abbrev f : Finders
@@ -138,7 +138,7 @@ module _ (finds : Finds) (saving reading filtering : Plan) (report : Report) (pa
   source : IsSource l.profile
   source = record { settled = own.alone; least = plain.least; plain = plain.plain }
 
-  can : CanSave l.profile c
+  can : CanSave l.profile c.presentation
   can = can_save l.profile c own.valid (starts finds path l pass.saves staying.keyless pass.file first second loaded stand) source staying.counts
 
   third_loaded : (loading_in finds third).value ≡ Ok l

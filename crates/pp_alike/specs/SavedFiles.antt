@@ -70,9 +70,9 @@ pub record PassOn (saving reading filtering : Plan) (report : Report) (path : Li
 -- is by keys, and no frames are made from labels.
 pub record ReportsStaying (saving filtering : Plan) (report : Report) : Type 0 where
   pub stays : stays_saved report ≡ true
-  pub counts : CountsFiltered filtering.config
-  pub plain : IsPlain filtering.config
-  pub keyless : NamesNoKey saving.config
+  pub counts : CountsFiltered filtering.config.presentation
+  pub plain : IsPlain filtering.config.presentation
+  pub keyless : NamesNoKey saving.config.presentation
 
 -- No value of the profile is below 0, and no sample is of a base.
 pub record IsOfSources (p : Profile) : Type 0 where
@@ -122,8 +122,8 @@ pub record SaveAgain (saving again : Plan) (path : List ℕ) : Type 0 where
   pub saves_again : again.report ≡ Some reports.Proto
   pub file : HasOneFile again path
   pub no_filters : again.config ≡ unfiltered again.config
-  pub keyless : NamesNoKey saving.config
-  pub keyless_again : NamesNoKey again.config
+  pub keyless : NamesNoKey saving.config.presentation
+  pub keyless_again : NamesNoKey again.config.presentation
 
 -- Both sessions print the same, and end done.
 pub record SavedAlike (c d : Course Cause) : Type 0 where

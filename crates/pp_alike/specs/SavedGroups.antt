@@ -67,7 +67,7 @@ pub record SavesWhole (g : SavedGroup) : Type 0 where
   pub has : HasProfiles g.plan g.session.files (sources_of g.sources)
   pub saves : g.plan.report ≡ Some reports.Proto
   pub no_filters : g.plan.config ≡ unfiltered g.plan.config
-  pub keyless : NamesNoKey g.plan.config
+  pub keyless : NamesNoKey g.plan.config.presentation
   pub no_drop : text_of g.sources.first g.sources.first.drop_frames ≡ []
   pub no_keep : text_of g.sources.first g.sources.first.keep_frames ≡ []
 

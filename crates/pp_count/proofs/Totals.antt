@@ -24,12 +24,12 @@ pub at_more : (p : Profile) (kept : List ℕ) (i : ℕ) → i < length kept
 at_more p kept i here = ap (samples_at p) (take_more kept i 0 here) ∙ filter_map-append (slice_get p.sample) (take i kept) (get_or kept i 0 ∷ [])
 
 -- the sums over no samples
-pub totals_none : (p : Profile) (config : Config) (column : Option ℕ) (t : Totals) → t ≡ record { all = 0; base = 0 } → AreTotals p config column [] t
+pub totals_none : (p : Profile) (config : Config) (column : Option ℕ) (t : Totals) → t ≡ record { all = 0; base = 0 } → AreTotals p config.presentation column [] t
 totals_none p config column t none = record { all = omega (arith, ap (λ x. x.all) none); base = omega (arith, ap (λ x. x.base) none) }
 
 -- the sums over two ranges
 pub totals_more : (p : Profile) (config : Config) (column : Option ℕ) (a b : List Sample) (t u new : Totals)
-    → new ≡ totals_plus t u → AreTotals p config column a t → AreTotals p config column b u → AreTotals p config column (a ++ b) new
+    → new ≡ totals_plus t u → AreTotals p config.presentation column a t → AreTotals p config.presentation column b u → AreTotals p config.presentation column (a ++ b) new
 totals_more p config column a b t u new plus first second =
     let f : Sample → ℕ = λ x. nat_abs (selected column config.presentation.divide_by x) in
     record {
@@ -53,9 +53,9 @@ filter_size f q (s ∷ ss) =
 
 -- of no samples nothing is left
 pub scope_totals_none : (p : Profile) (f : Finders) (config : Config) (column : Option ℕ) (t : Totals) → t ≡ record { all = 0; base = 0 }
-    → AreTotals p config column (samples_of_total p f config []) t
+    → AreTotals p config.presentation column (samples_of_total p f config []) t
 scope_totals_none p f config column t none =
-    elim config.presentation.relative_percentages as (λ r. AreTotals p config column (cond r (filtered_samples p f config.filtering []) []) t) [
+    elim config.presentation.relative_percentages as (λ r. AreTotals p config.presentation column (cond r (filtered_samples p f config.filtering []) []) t) [
       | true ↦ totals_none p config column t none
       | false ↦ totals_none p config column t none
     ]
@@ -72,12 +72,12 @@ scope_totals_more scope a b t u new plus before next whole f holds =
       | true ↦ filter-append _ a b
       | false ↦ refl
     ] in
-    subst (λ ss. AreTotals p config scope.column ss new) (sym both)
+    subst (λ ss. AreTotals p config.presentation scope.column ss new) (sym both)
     (totals_more p config scope.column (of_total a) (of_total b) t u new plus (before whole f holds) (next whole f holds))
 
 -- what percentages are taken of, where the values fit
 pub total_is : (p : Profile) (f : Finders) (config : Config) (column : Option ℕ) (t : Totals) → absolute_all column config.presentation.divide_by p.sample < 2 ^ 63
-    → AreTotals p config column (samples_of_total p f config p.sample) t → total_by t.base t.all ≡ total_of p f config column
+    → AreTotals p config.presentation column (samples_of_total p f config p.sample) t → total_by t.base t.all ≡ total_of p f config column
 total_is p f config column t fits are =
     let size : Sample → ℕ = λ x. nat_abs (selected column config.presentation.divide_by x) in
     let ss : List Sample = samples_of_total p f config p.sample in

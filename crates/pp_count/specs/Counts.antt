@@ -51,10 +51,10 @@ abbrev pub total_by : ℕ → ℕ → ℕ
 total_by base all = if base == 0 then all else base
 
 -- the sum of the absolute selected values of the base's samples among these, and where it is 0 that of all of them
-abbrev pub total_over : Profile → Config → Option ℕ → List Sample → ℕ
-total_over p config column samples =
-    total_by (absolute_all column config.presentation.divide_by (filter (is_base p) samples))
-    (absolute_all column config.presentation.divide_by samples)
+abbrev pub total_over : Profile → Presentation → Option ℕ → List Sample → ℕ
+total_over p presentation column samples =
+    total_by (absolute_all column presentation.divide_by (filter (is_base p) samples))
+    (absolute_all column presentation.divide_by samples)
 
 -- The samples that percentages are taken of: all of these, or under relative_percentages those that the filters leave.
 abbrev pub samples_of_total : Profile → Finders → Config → List Sample → List Sample
@@ -63,4 +63,4 @@ samples_of_total p f config samples =
 
 -- what percentages are taken of
 abbrev pub total_of : Profile → Finders → Config → Option ℕ → ℕ
-total_of p f config column = total_over p config column (samples_of_total p f config p.sample)
+total_of p f config column = total_over p config.presentation column (samples_of_total p f config p.sample)

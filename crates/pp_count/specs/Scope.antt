@@ -84,7 +84,7 @@ HasMatches scope samples slots =
 abbrev pub HasTotals : Scope → List Sample → Totals → Type 0
 HasTotals scope samples totals =
     scope.chosen ≡ None → (f : Finders) → HoldsFilters scope.l.now scope.v.now (config_of scope).filtering f
-    → AreTotals (profile_in_scope scope) (config_of scope) scope.column
+    → AreTotals (profile_in_scope scope) (config_of scope).presentation scope.column
     (samples_of_total (profile_in_scope scope) f (config_of scope) samples) totals
 
 -- The part is that of these samples, of which the first has this number.

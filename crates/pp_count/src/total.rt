@@ -64,7 +64,7 @@ pub(crate) fn totals_of(scope: &Scope, s: &Sample, value: i64, left: bool) -> To
 // Those of the sample, or of none.
 fn totals_if(scope: &Scope, s: &Sample, value: i64, left: bool) -> Totals
     requires { value ≡ selected scope.now.column scope.now.config.now.presentation.divide_by s.now }
-    ensures { AreTotals (profile_in_scope scope.now) scope.now.config.now scope.now.column
+    ensures { AreTotals (profile_in_scope scope.now) scope.now.config.now.presentation scope.now.column
         (if left then s.now ∷ [] else []) result }
 {
     if left {
@@ -77,7 +77,7 @@ fn totals_if(scope: &Scope, s: &Sample, value: i64, left: bool) -> Totals
 // Those of the sample.
 fn sample_totals(scope: &Scope, s: &Sample, value: i64) -> Totals
     requires { value ≡ selected scope.now.column scope.now.config.now.presentation.divide_by s.now }
-    ensures { AreTotals (profile_in_scope scope.now) scope.now.config.now scope.now.column
+    ensures { AreTotals (profile_in_scope scope.now) scope.now.config.now.presentation scope.now.column
         (s.now ∷ []) result }
 {
     let size = value.unsigned_abs();

@@ -49,7 +49,7 @@ filter_loaded finds l filtering = do
 unfoldable pub filter : Finds → Profile → Config → Asking Refused Profile
 filter finds p config = do
   l ← load finds p
-  filter_loaded finds (framed_for l config) config.filtering
+  filter_loaded finds (framed_for l config.presentation) config.filtering
 
 -- the pattern of which the refusal tells; want of memory tells of none
 abbrev pub refused_by : FilterRefusal → Option Refused

@@ -22,7 +22,7 @@ saved_of finds l filtering = saved l.profile (own_finders finds l filtering) fil
 
 -- the profile that the filters leave of the loaded one, which first gets the frames that the configuration asks for
 abbrev pub filtered_profile : Finds → Loaded → Config → Profile
-filtered_profile finds l config = saved_of finds (framed_for l config) config.filtering
+filtered_profile finds l config = saved_of finds (framed_for l config.presentation) config.filtering
 
 -- The profile is what is saved of the other one, once that is loaded with what its own patterns find.
 abbrev pub SavesFiltered : Finds → Profile → Config → Profile → Type 0

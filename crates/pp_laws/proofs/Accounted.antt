@@ -133,7 +133,7 @@ module _ (p : Profile) (f : Finders) (config : Config) (column : Option ℕ) whe
   part slot ss = dropped_samples p f config.filtering slot ss
 
   abbrev ends : List Sample → Portion
-  ends ss = together (map (λ slot. portion_of config column (part slot ss)) dropping ++ portion_of config column (filtered_samples p f config.filtering ss) ∷ [])
+  ends ss = together (map (λ slot. portion_of config.presentation column (part slot ss)) dropping ++ portion_of config.presentation column (filtered_samples p f config.filtering ss) ∷ [])
 
   all_end : (ss : List Sample) → (length ss ≡ (ends ss).count) × (worth config column ss ≡ (ends ss).value)
   all_end [] = (refl, refl)

@@ -145,12 +145,12 @@ module _ (p : Profile) (f : Finders) (config : Config) (column : Option ℕ) whe
   total_told =
       let kept_seen : (s : Sample) → is_some (filtered_stack p f config.filtering s) ≡ is_some (seen p f config column s) = λ s.
       elim (filtered_stack p f config.filtering s) as (λ (o : Option (List Frame)). is_some o ≡ is_some (option_map (seen_with p config column s) o)) [ None ↦ refl | Some stack ↦ refl ] in
-      elim config.presentation.relative_percentages as (λ b. total_over p config column (cond b (filtered_samples p f config.filtering p.sample) p.sample)
+      elim config.presentation.relative_percentages as (λ b. total_over p config.presentation column (cond b (filtered_samples p f config.filtering p.sample) p.sample)
       ≡ total_by (sum_by (base_size (seen p f config column) (selected column config.presentation.divide_by) (is_base p) b) p.sample)
       (sum_by (all_size (seen p f config column) (selected column config.presentation.divide_by) (is_base p) b) p.sample)) [
         | true ↦
             let kept : Sample → Bool = λ s. is_some (seen p f config column s) in
-            (λ i. total_over p config column (filter (λ s. kept_seen s i) p.sample))
+            (λ i. total_over p config.presentation column (filter (λ s. kept_seen s i) p.sample))
             ∙ (λ i. total_by ((sum_filtered size (is_base p) (filter kept p.sample) ∙ sum_filtered (λ s. cond (is_base p s) (size s) 0) kept p.sample) i) (sum_filtered size kept p.sample i))
         | false ↦ λ i. total_by (sum_filtered size (is_base p) p.sample i) (sum_by size p.sample)
       ]

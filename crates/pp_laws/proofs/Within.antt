@@ -97,7 +97,7 @@ none_among test q (s ∷ ss) none = elim (test s) as (λ b. test s ≡ b → (b 
 
 -- without a base the total is over all samples
 pub plain_total : (p : Profile) (config : Config) (column : Option ℕ) (ss : List Sample) → list_any (is_base p) ss ≡ false
-    → total_over p config column ss ≡ absolute_all column config.presentation.divide_by ss
+    → total_over p config.presentation column ss ≡ absolute_all column config.presentation.divide_by ss
 plain_total p config column ss none =
     ap (λ base. total_by (absolute_all column config.presentation.divide_by base) (absolute_all column config.presentation.divide_by ss)) (none_left (is_base p) ss none)
 
@@ -106,7 +106,7 @@ seen_within : (p : Profile) (f : Finders) (config : Config) (column : Option ℕ
 seen_within p f config column none =
     let size : Sample → ℕ = λ s. nat_abs (selected column config.presentation.divide_by s) in
     let filtered : List Sample = filtered_samples p f config.filtering p.sample in
-    elim config.presentation.relative_percentages as (λ b. absolute (seen_samples p f config column p.sample) ≤ total_over p config column (cond b filtered p.sample)) [
+    elim config.presentation.relative_percentages as (λ b. absolute (seen_samples p f config column p.sample) ≤ total_over p config.presentation column (cond b filtered p.sample)) [
       | true ↦ omega (arith, absolute_seen p f config column p.sample, plain_total p config column filtered (none_among (is_base p) (λ s. is_some (filtered_stack p f config.filtering s)) p.sample none))
       | false ↦ omega (arith, absolute_seen p f config column p.sample, plain_total p config column p.sample none, filter_size size (λ s. is_some (filtered_stack p f config.filtering s)) p.sample)
     ]

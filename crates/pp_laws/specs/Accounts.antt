@@ -24,9 +24,9 @@ together (portion ∷ portions) = record {
 abbrev pub SamplesAddUp : Type 0
 SamplesAddUp =
     (p : Profile) (f : Finders) (config : Config) (column : Option ℕ)
-    → portion_of config column p.sample
-    ≡ together (map (λ slot. portion_of config column (dropped_samples p f config.filtering slot p.sample)) dropping
-    ++ portion_of config column (filtered_samples p f config.filtering p.sample) ∷ [])
+    → portion_of config.presentation column p.sample
+    ≡ together (map (λ slot. portion_of config.presentation column (dropped_samples p f config.filtering slot p.sample)) dropping
+    ++ portion_of config.presentation column (filtered_samples p f config.filtering p.sample) ∷ [])
 
 -- A filter that isn't in force, which has no row, drops no sample.
 abbrev pub OthersDropNone : Type 0
@@ -47,6 +47,6 @@ NodesAddUp =
 abbrev pub ValuesAddUp : Type 0
 ValuesAddUp =
     (p : Profile) (f : Finders) (config : Config) (column : Option ℕ)
-    → (portion_of config column (filtered_samples p f config.filtering p.sample)).value
+    → (portion_of config.presentation column (filtered_samples p f config.filtering p.sample)).value
     ≡ (keys_portion p f config column (all_report_keys p f config column)).value
-    +ℤ (portion_of config column (bare_samples p f config column p.sample)).value
+    +ℤ (portion_of config.presentation column (bare_samples p f config column p.sample)).value

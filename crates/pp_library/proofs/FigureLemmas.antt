@@ -69,7 +69,7 @@ settled_printed : (finds : Finds) (l : Loaded) (base : Option BaseKind) (config 
     ≡ scripts.◌>>=◌ (Give (figures_settled finds l config answer)) (λ made. Give (printed_figures made))
 unfolding report_settled finish_on text_by scripts.◌>>=◌
 settled_printed finds l base config (Ok settled) =
-    let over = basis_of Table l config in
+    let over = basis_of Table l config.presentation in
     ap (λ (text : List ℕ). Give (Ok text)) (lines_printed over.profile (report_finders finds over Table config.filtering) config settled.showing.column)
 settled_printed finds l base config (Err refusal) = refl
 
@@ -115,10 +115,10 @@ went_figures finds l config name other old new prepared result went is =
     by (inr is) whole = rw is whole
 
 -- The edges are those of the column that a table shows.
-pub has_edges : (finds : Finds) (l : Loaded) (config : Config) (shows : Showing) (edges : List FigureEdge) → showing_for Table (basis_of Table l config).profile config ≡ Ok shows
-    → HasEdgesOn finds (basis_of Table l config) config shows.column edges → HasEdges finds l config edges
+pub has_edges : (finds : Finds) (l : Loaded) (config : Config) (shows : Showing) (edges : List FigureEdge) → showing_for Table (basis_of Table l config.presentation).profile config.presentation ≡ Ok shows
+    → HasEdgesOn finds (basis_of Table l config.presentation) config shows.column edges → HasEdges finds l config edges
 has_edges finds l config shows edges is own showing also =
-    subst (λ (column : Option ℕ). HasEdgesOn finds (basis_of Table l config) config column edges) (ap column_in (sym is ∙ also)) own
+    subst (λ (column : Option ℕ). HasEdgesOn finds (basis_of Table l config.presentation) config column edges) (ap column_in (sym is ∙ also)) own
   where
     column_in : Result Showing ReportRefusal → Option ℕ
     column_in (Ok s) = s.column

@@ -67,7 +67,7 @@ figures_on finds l config column = figures_by l.profile (report_finders finds l 
 -- the figures of what was settled, in its column
 abbrev pub figures_settled : Finds → Loaded → Config → Result Settled ReportRefusal → Result FigureTable ReportRefusal
 figures_settled finds l config (Ok settled) =
-    Ok (figures_on finds (basis_of Table l config) config settled.showing.column)
+    Ok (figures_on finds (basis_of Table l config.presentation) config settled.showing.column)
 figures_settled finds l config (Err refusal) = Err refusal
 
 -- Asks for the patterns of a table report, and gives its figures.
@@ -89,8 +89,8 @@ HasEdgesOn finds l config column edges =
 -- They are those of the loaded profile, in the column that its table shows.
 abbrev pub HasEdges : Finds → Loaded → Config → List FigureEdge → Type 0
 HasEdges finds l config edges =
-    (showing : Showing) → showing_for Table (basis_of Table l config).profile config ≡ Ok showing
-    → HasEdgesOn finds (basis_of Table l config) config showing.column edges
+    (showing : Showing) → showing_for Table (basis_of Table l config.presentation).profile config.presentation ≡ Ok showing
+    → HasEdgesOn finds (basis_of Table l config.presentation) config showing.column edges
 
 -- the figures or the refusal, without edges; nothing where memory was wanting
 abbrev pub figures_outcome : Result FigureTable ReportError → Option (Result FigureTable ReportRefusal)

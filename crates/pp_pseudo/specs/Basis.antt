@@ -11,5 +11,5 @@ framed_by l roots leaves =
     if length roots == 0 && length leaves == 0 then l else tagged l roots leaves
 
 -- the profile with the frames that the configuration asks for
-abbrev pub framed_for : Loaded → Config → Loaded
-framed_for l config = framed_by l (key_list config.presentation.tagroot) (key_list config.presentation.tagleaf)
+abbrev pub framed_for : Loaded → Presentation → Loaded
+framed_for l presentation = framed_by l (key_list presentation.tagroot) (key_list presentation.tagleaf)

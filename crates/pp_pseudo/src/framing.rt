@@ -19,7 +19,7 @@ pub fn framed_for(
     config: &Config,
 ) -> Result<Option<Loaded>, Memory>
     requires { IsCountable l.now.profile }
-    ensures framed { IfOk result (λ framed. unwrap_or framed l.now ≡ framed_for l.now config.now) }
+    ensures framed { IfOk result (λ framed. unwrap_or framed l.now ≡ framed_for l.now config.now.presentation) }
     ensures countable { IfOk result (λ framed. IsCountable (unwrap_or framed l.now).profile) }
 {
     let roots = key_list(alloc, config.presentation.tagroot.as_slice())?;

@@ -110,20 +110,20 @@ module _ (finds : Finds) (l : Loaded) (report : Report) (config : Config) where
       ap (λ (yes : Bool). if yes then prepare_counts finds l report config.filtering s else Give (Ok (record { showing = s; notes = [] }))) counted
 
   -- it is known what the report shows
-  prepare_shown : (a b : World) (s : Showing) (answer : Result (Result Settled ReportRefusal) Stop) → Ok s ≡ showing_for report l.profile config
+  prepare_shown : (a b : World) (s : Showing) (answer : Result (Result Settled ReportRefusal) Stop) → Ok s ≡ showing_for report l.profile config.presentation
       → Went a b (prepare_showing finds l report config.filtering s) answer → Went a b (prepare_on finds l report config) answer
   unfolding prepare_on
   prepare_shown a b s answer known went = subst (λ k. Went a b (go_on (prepare_showing finds l report config.filtering) k) answer) known went
 
   -- it is refused at once
-  pub prepare_refused : (w : World) (r : ReportRefusal) → Err r ≡ showing_for report l.profile config
+  pub prepare_refused : (w : World) (r : ReportRefusal) → Err r ≡ showing_for report l.profile config.presentation
       → Went w w (prepare_on finds l report config) (Ok (Err r))
   unfolding prepare_on
   prepare_refused w r known =
       subst (λ k. Went {T = Result Settled ReportRefusal} w w (go_on (prepare_showing finds l report config.filtering) k) (Ok (Err r))) known (gives w (Err r))
 
   -- one that isn't counted asks for nothing
-  pub prepare_uncounted : (w : World) (s : Showing) → is_counted report ≡ false → Ok s ≡ showing_for report l.profile config
+  pub prepare_uncounted : (w : World) (s : Showing) → is_counted report ≡ false → Ok s ≡ showing_for report l.profile config.presentation
       → Went w w (prepare_on finds l report config) (Ok (Ok (record { showing = s; notes = [] })))
   unfolding prepare_showing
   prepare_uncounted w s uncounted known =
@@ -134,24 +134,24 @@ module _ (finds : Finds) (l : Loaded) (report : Report) (config : Config) where
 
   -- one that is, over a profile that is this one
   pub prepare_counted : (over : Loaded) → over ≡ l → (a b : World) (s : Showing) (answer : Result (Result Settled ReportRefusal) Stop) → is_counted report ≡ true
-      → Ok s ≡ showing_for report l.profile config → Went a b (prepare_counts finds over report config.filtering s) answer → Went a b (prepare_on finds l report config) answer
+      → Ok s ≡ showing_for report l.profile config.presentation → Went a b (prepare_counts finds over report config.filtering s) answer → Went a b (prepare_on finds l report config) answer
   prepare_counted over same a b s answer counted known went =
       prepare_shown a b s answer known
       (subst (λ script. Went a b script answer) (sym (showing_counts s counted)) (subst (λ q. Went a b (prepare_counts finds q report config.filtering s) answer) same went))
 
 module _ (l : Loaded) (report : Report) (config : Config) where
   -- a report that counts no samples is made of the loaded profile
-  pub basis_uncounted : is_counted report ≡ false → l ≡ basis_of report l config
+  pub basis_uncounted : is_counted report ≡ false → l ≡ basis_of report l config.presentation
   unfolding basis_of
-  basis_uncounted uncounted = ap (λ (yes : Bool). if yes then framed_for l config else l) (sym uncounted)
+  basis_uncounted uncounted = ap (λ (yes : Bool). if yes then framed_for l config.presentation else l) (sym uncounted)
 
   -- and one that counts them of the one with frames
-  pub basis_counted : is_counted report ≡ true → framed_for l config ≡ basis_of report l config
+  pub basis_counted : is_counted report ≡ true → framed_for l config.presentation ≡ basis_of report l config.presentation
   unfolding basis_of
-  basis_counted counted = ap (λ (yes : Bool). if yes then framed_for l config else l) (sym counted)
+  basis_counted counted = ap (λ (yes : Bool). if yes then framed_for l config.presentation else l) (sym counted)
 
 module _ (finds : Finds) (l : Loaded) (report : Report) (config : Config) (known : Shows)
-    (shows : Ok (showing known) ≡ showing_for report (basis_of report l config).profile config) (prepared : Prepared) where
+    (shows : Ok (showing known) ≡ showing_for report (basis_of report l config.presentation).profile config.presentation) (prepared : Prepared) where
   -- nothing was counted
   pub none_prepared : is_counted report ≡ false → (base : Option BaseKind) → prepared ≡ record { base = base; notes = []; shows = known; counts = None; tagged = None }
       → IsPrepared finds l report config prepared
@@ -160,12 +160,12 @@ module _ (finds : Finds) (l : Loaded) (report : Report) (config : Config) (known
     settled = record {
       shows_what = sym shows;
       has_counts = uncounted;
-      notes_front = (notes_of finds (basis_of report l config) report config.filtering, refl);
+      notes_front = (notes_of finds (basis_of report l config.presentation) report config.filtering, refl);
     };
   })
 
   -- all was counted over the profile that the report is made of
-  pub counts_prepared : (over : Loaded) → over ≡ basis_of report l config → (tagged : Option Loaded) → over ≡ unwrap_or tagged l
+  pub counts_prepared : (over : Loaded) → over ≡ basis_of report l config.presentation → (tagged : Option Loaded) → over ≡ unwrap_or tagged l
       → (base : Option BaseKind) (made : Counts × List ℕ) → AreCountsNoted finds over report config known.column made
       → prepared ≡ record { base = base; notes = made.1; shows = known; counts = Some made.0; tagged = tagged }
       → IsPrepared finds l report config prepared
@@ -176,6 +176,6 @@ module _ (finds : Finds) (l : Loaded) (report : Report) (config : Config) (known
         settled = record {
           shows_what = sym shows;
           has_counts = own.counts;
-          notes_front = front_same made.1 (notes_of finds (basis_of report l config) report config.filtering) own.notes;
+          notes_front = front_same made.1 (notes_of finds (basis_of report l config.presentation) report config.filtering) own.notes;
         };
       })

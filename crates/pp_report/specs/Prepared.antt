@@ -37,14 +37,14 @@ in_unit column None = Err UnitMismatch
 in_unit column (Some wanted) = Ok (record { column = column; wanted = wanted })
 
 -- what a report shows, if there is such a column
-abbrev pub in_column : Profile → Config → Option (Option ℕ) → Result Showing ReportRefusal
-in_column p config None = Err BadSampleIndex
-in_column p config (Some column) = in_unit column (wanted_unit config.presentation.unit (unit_text p column))
+abbrev pub in_column : Profile → Presentation → Option (Option ℕ) → Result Showing ReportRefusal
+in_column p presentation None = Err BadSampleIndex
+in_column p presentation (Some column) = in_unit column (wanted_unit presentation.unit (unit_text p column))
 
 -- What a report shows. One that shows no values has no column, and is not refused for it.
-abbrev pub showing_for : Report → Profile → Config → Result Showing ReportRefusal
-showing_for report p config =
-    if shows_values report then in_column p config (column_of p config.presentation.sample_index)
+abbrev pub showing_for : Report → Profile → Presentation → Result Showing ReportRefusal
+showing_for report p presentation =
+    if shows_values report then in_column p presentation (column_of p presentation.sample_index)
     else Ok (record { column = None; wanted = None })
 
 -- What a report shows, and its notes.
@@ -77,11 +77,11 @@ prepare_showing finds l report filtering showing =
 -- refused for its column or its unit.
 unfoldable pub prepare_on : Finds → Loaded → Report → Config → Asking ReportRefusal Settled
 prepare_on finds l report config =
-    go_on (prepare_showing finds l report config.filtering) (showing_for report l.profile config)
+    go_on (prepare_showing finds l report config.filtering) (showing_for report l.profile config.presentation)
 
 -- What asking comes to for a report of the loaded profile, which may first get frames from labels.
 abbrev pub prepare : Finds → Loaded → Report → Config → Asking ReportRefusal Settled
-prepare finds l report config = prepare_on finds (basis_of report l config) report config
+prepare finds l report config = prepare_on finds (basis_of report l config.presentation) report config
 
 -- what `Shows` says
 abbrev pub showing : Shows → Showing
@@ -119,15 +119,15 @@ HasCounts finds l report config column (Some counts) = AreCounts finds l report 
 -- All is settled for the text of the report that is made of this profile.
 pub record IsPreparedOn (finds : Finds) (l : Loaded) (report : Report) (config : Config) (prepared : Prepared)
     : Type 0 where
-  pub shows_what : showing_for report l.profile config ≡ Ok (showing prepared.shows)
+  pub shows_what : showing_for report l.profile config.presentation ≡ Ok (showing prepared.shows)
   pub has_counts : HasCounts finds l report config prepared.shows.column prepared.counts
   pub notes_front : IsFront prepared.notes (notes_of finds l report config.filtering)
 
 -- What was prepared is so over the loaded profile.
 pub record IsPrepared (finds : Finds) (l : Loaded) (report : Report) (config : Config) (prepared : Prepared)
     : Type 0 where
-  pub basis : unwrap_or prepared.tagged l ≡ basis_of report l config
-  pub settled : IsPreparedOn finds (basis_of report l config) report config prepared
+  pub basis : unwrap_or prepared.tagged l ≡ basis_of report l config.presentation
+  pub settled : IsPreparedOn finds (basis_of report l config.presentation) report config prepared
 
 -- These are the counts of a report that is made of the profile, and its notes. No public clause cites it.
 pub record AreCountsNoted (finds : Finds) (l : Loaded) (report : Report) (config : Config) (shown_column : Option ℕ)

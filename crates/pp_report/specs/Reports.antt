@@ -111,7 +111,7 @@ finish_on finds l report config showing =
 -- What a report of the loaded profile comes to, which may first get frames from labels.
 abbrev pub finish_made : Finds → Loaded → Report → Config → Showing
     → Script (Result (List ℕ) ReportRefusal)
-finish_made finds l report config showing = finish_on finds (basis_of report l config) report config showing
+finish_made finds l report config showing = finish_on finds (basis_of report l config.presentation) report config showing
 
 -- The text of a report of the loaded profile, where a base of this kind was given, if one was; or its refusal for want
 -- of a base.

@@ -8,5 +8,5 @@ use Rattle.pp_pseudo.specs.Basis.{framed_for}
 
 -- What a report is made of, also the texts that its patterns are asked of. One that counts no samples is made of the
 -- loaded profile.
-unfoldable pub basis_of : Report → Loaded → Config → Loaded
-basis_of report l config = if is_counted report then framed_for l config else l
+unfoldable pub basis_of : Report → Loaded → Presentation → Loaded
+basis_of report l presentation = if is_counted report then framed_for l presentation else l

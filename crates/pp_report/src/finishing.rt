@@ -46,7 +46,7 @@ pub fn finish<R: Threads + Sync, D: Desk, G: Gate>(
     ensures went { Went (D.world desk.old) (D.world desk.new)
         (finish D.finds l.now prepared.base report.now config.now (showing prepared.shows)) result }
     ensures saved { report.now ≡ Proto → OnText result
-        (IsProtoBy D.finds (basis_of report.now l.now config.now) config.now.filtering) }
+        (IsProtoBy D.finds (basis_of report.now l.now config.now.presentation) config.now.filtering) }
 {
     if lacks_base(prepared.base, l, report) {
         mem::drop(prepared);

@@ -32,7 +32,7 @@ pub fn shows_for(
 ) -> Result<Result<Shows, ReportRefusal>, Memory>
     requires { length l.now.profile.sample_type < 2 ^ 32 }
     ensures value { IfOk result (λ answer. result_map_both showing (λ refusal. refusal) answer
-        ≡ showing_for report.now l.now.profile config.now) }
+        ≡ showing_for report.now l.now.profile config.now.presentation) }
     ensures bound { IfOk result (λ answer. IfOk answer
         (λ shows. IsColumnOf l.now.profile shows.column)) }
 {
@@ -53,7 +53,7 @@ fn values_shown(
 ) -> Result<Result<Shows, ReportRefusal>, Memory>
     requires { length l.now.profile.sample_type < 2 ^ 32 }
     ensures value { IfOk result (λ answer. result_map_both showing (λ refusal. refusal) answer
-        ≡ in_column l.now.profile config.now (column_of l.now.profile config.now.presentation.sample_index)) }
+        ≡ in_column l.now.profile config.now.presentation (column_of l.now.profile config.now.presentation.sample_index)) }
     ensures bound { IfOk result (λ answer. IfOk answer
         (λ shows. IsColumnOf l.now.profile shows.column)) }
 {

@@ -43,7 +43,7 @@ module _ (q : Profile) (f : Finders) (config : Config) (column : Option ℕ) whe
   figures_by left = record {
     column = column;
     value_type = column_type q column;
-    total = total_over q d column (if d.presentation.relative_percentages then filter (λ s. is_some (left s)) q.sample else q.sample);
+    total = total_over q d.presentation column (if d.presentation.relative_percentages then filter (λ s. is_some (left s)) q.sample else q.sample);
     file = first_file q;
     duration = q.duration_nanos;
     keys = each_once key_cmp (all_keys (samples_by left));

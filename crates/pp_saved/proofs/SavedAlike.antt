@@ -73,7 +73,7 @@ record Counted (p : Profile) (f : Finders) (config : Config) (q : Profile) (d : 
   pub frames : (test : List Written → Bool) → list_any (λ s. test s.keys) (report_frames q no_finders d column) ≡ list_any (λ s. test s.keys) (report_frames p f config column)
   pub absolutes : absolute (seen_samples q no_finders d column q.sample) ≡ absolute (seen_samples p f config column p.sample)
 
-module _ (p : Profile) (f : Finders) (config : Config) (q : Profile) (can : CanSave p config) (is : IsSaved p f config q) where
+module _ (p : Profile) (f : Finders) (config : Config) (q : Profile) (can : CanSave p config.presentation) (is : IsSaved p f config q) where
   abbrev d : Config
   d = unfiltered config
 
@@ -148,7 +148,7 @@ module _ (p : Profile) (f : Finders) (config : Config) (q : Profile) (can : CanS
     }
 
 -- the saved profile keeps what saving keeps
-saving : (p : Profile) (f : Finders) (config : Config) → CanSave p config → IsSaved p f config (saved p f config.filtering)
+saving : (p : Profile) (f : Finders) (config : Config) → CanSave p config.presentation → IsSaved p f config (saved p f config.filtering)
 saving p f config can = is_saved p f config can.valid can.starts can.settled
 
 -- The figures are the same,

@@ -96,16 +96,16 @@ module _ (p : Profile) where
     unit_bound column (Some wanted) bound is =
         let same : ◌≡◌ {A = Showing} (record { column = column; wanted = wanted }) s = cc in subst (λ (t : Showing). IsColumnOf p t.column) same bound
 
-    in_bound : (o : Option (Option ℕ)) → ((column : Option ℕ) → o ≡ Some column → IsColumnOf p column) → in_column p config o ≡ Ok s → IsColumnOf p s.column
+    in_bound : (o : Option (Option ℕ)) → ((column : Option ℕ) → o ≡ Some column → IsColumnOf p column) → in_column p config.presentation o ≡ Ok s → IsColumnOf p s.column
     in_bound None known is = absurd cc
     in_bound (Some column) known is = unit_bound column (wanted_unit config.presentation.unit (unit_text p column)) (known column refl) is
 
-    values_bound : in_column p config (column_of p config.presentation.sample_index) ≡ Ok s → IsColumnOf p s.column
+    values_bound : in_column p config.presentation (column_of p config.presentation.sample_index) ≡ Ok s → IsColumnOf p s.column
     values_bound = in_bound (column_of p config.presentation.sample_index) (column_bound config.presentation.sample_index)
 
     -- what a report shows that stays
-    showing_bound : (report : Report) → stays_saved report ≡ true → showing_for report p config ≡ Ok s → IsColumnOf p s.column
-    showing_bound report stays = on_staying (λ r. showing_for r p config ≡ Ok s → IsColumnOf p s.column) values_bound values_bound (λ pattern. values_bound) values_bound values_bound report stays
+    showing_bound : (report : Report) → stays_saved report ≡ true → showing_for report p config.presentation ≡ Ok s → IsColumnOf p s.column
+    showing_bound report stays = on_staying (λ r. showing_for r p config.presentation ≡ Ok s → IsColumnOf p s.column) values_bound values_bound (λ pattern. values_bound) values_bound values_bound report stays
 
 -- ---- what a report comes to, where no pattern is refused
 
@@ -122,17 +122,17 @@ staying_counted report stays = on_staying (λ r. is_counted r ≡ true) refl ref
 
 module _ (finds : Finds) (l : Loaded) (report : Report) (config : Config) (counted : is_counted report ≡ true) (base : Option BaseKind) where
   abbrev over : Loaded
-  over = basis_of report l config
+  over = basis_of report l config.presentation
 
   -- refused for its column or its unit
-  refused_taken : (e : ReportRefusal) → showing_for report over.profile config ≡ Err e → GivesTaken (report_script finds l base report config) (reported_with [] (Err e))
+  refused_taken : (e : ReportRefusal) → showing_for report over.profile config.presentation ≡ Err e → GivesTaken (report_script finds l base report config) (reported_with [] (Err e))
   unfolding report_script report_settled prepare_on
   refused_taken e known =
       taken_then (prepare finds l report config) (report_settled finds l base report config) (Err e) (reported_with [] (Err e))
       (subst (λ k. GivesTaken (go_on (prepare_showing finds over report config.filtering) k) (Err e)) (sym known) refl) refl
 
   -- or made of what it shows
-  made_taken : (s : Showing) (x : Result (List ℕ) ReportRefusal) → showing_for report over.profile config ≡ Ok s → GivesTaken (finish finds l base report config s) x
+  made_taken : (s : Showing) (x : Result (List ℕ) ReportRefusal) → showing_for report over.profile config.presentation ≡ Ok s → GivesTaken (finish finds l base report config s) x
       → GivesTaken (report_script finds l base report config) (reported_with (settled_of finds over report config.filtering s).notes x)
   unfolding report_script report_settled prepare_on
   made_taken s x known made =
@@ -148,12 +148,12 @@ module _ (finds : Finds) (l : Loaded) (report : Report) (config : Config) (count
     comes_to notes x gives = ap (λ (r : Reported). r.outcome) (taken_course (report_script finds l base report config) (reported_with notes x) files [] [] answers taken gives)
 
 -- a proto report comes to the bytes of what is saved, where no frames are made from labels
-pub proto_taken : (finds : Finds) (l : Loaded) (base : Option BaseKind) (config : Config) → NamesNoKey config
+pub proto_taken : (finds : Finds) (l : Loaded) (base : Option BaseKind) (config : Config) → NamesNoKey config.presentation
     → (notes : List ℕ) × GivesTaken (report_script finds l base reports.Proto config) (reported_with notes (Ok (encode (saved_by finds l config))))
 unfolding finish_on text_by
 proto_taken finds l base config keyless =
     let shown : Showing = record { column = None; wanted = None } in
-    let over : Loaded = basis_of reports.Proto l config in
+    let over : Loaded = basis_of reports.Proto l config.presentation in
     let notes : List ℕ = (settled_of finds over reports.Proto config.filtering shown).notes in (
       notes,
       subst (λ (q : Loaded). GivesTaken (report_script finds l base reports.Proto config) (reported_with notes (Ok (encode (saved_by finds q config))))) (plain_basis reports.Proto l config keyless)
@@ -174,7 +174,7 @@ unfiltered_silent : (c : Config) (matched : List Bool) → notes_by (unfiltered 
 unfolding notes_by note_unless
 unfiltered_silent c matched = refl
 
-module _ (finds : Finds) (l r : Loaded) (c : Config) (can : CanSave l.profile c) (is : IsSavedOf finds l c r) where
+module _ (finds : Finds) (l r : Loaded) (c : Config) (can : CanSave l.profile c.presentation) (is : IsSavedOf finds l c r) where
   abbrev d : Config
   d = unfiltered c
 
@@ -188,20 +188,20 @@ module _ (finds : Finds) (l r : Loaded) (c : Config) (can : CanSave l.profile c)
       by None known = refl
       by (Some column) known = ap Some (figures_are finds l r report c can is column (known column refl) None)
 
-  module _ (plain : IsPlain c) (report : Report) (stays : stays_saved report ≡ true) (base other : Option BaseKind) where
+  module _ (plain : IsPlain c.presentation) (report : Report) (stays : stays_saved report ≡ true) (base other : Option BaseKind) where
     alike : ReportAlike finds l r report c d
     alike = saved_reports finds l r report c stays can plain is
 
     -- what is shown is known of the profile that a report is made of
-    own : (known : Result Showing ReportRefusal) → showing_for report l.profile c ≡ known → showing_for report (basis_of report l c).profile c ≡ known
-    own known shows = ap (λ (q : Loaded). showing_for report q.profile c) (plain_basis report l c plain.keyless) ∙ shows
+    own : (known : Result Showing ReportRefusal) → showing_for report l.profile c.presentation ≡ known → showing_for report (basis_of report l c.presentation).profile c.presentation ≡ known
+    own known shows = ap (λ (q : Loaded). showing_for report q.profile c.presentation) (plain_basis report l c plain.keyless) ∙ shows
 
-    saved_own : (known : Result Showing ReportRefusal) → showing_for report l.profile c ≡ known → showing_for report (basis_of report r d).profile d ≡ known
+    saved_own : (known : Result Showing ReportRefusal) → showing_for report l.profile c.presentation ≡ known → showing_for report (basis_of report r d.presentation).profile d.presentation ≡ known
     saved_own known shows =
-        ap (λ (q : Loaded). showing_for report q.profile d) (plain_basis report r d (record { roots = plain.keyless.roots; leaves = plain.keyless.leaves }))
+        ap (λ (q : Loaded). showing_for report q.profile d.presentation) (plain_basis report r d (record { roots = plain.keyless.roots; leaves = plain.keyless.leaves }))
         ∙ alike.shows ∙ shows
 
-    one_outcome : (known : Result Showing ReportRefusal) → showing_for report l.profile c ≡ known → ComeToOne (report_script finds r other report d) (report_script finds l base report c)
+    one_outcome : (known : Result Showing ReportRefusal) → showing_for report l.profile c.presentation ≡ known → ComeToOne (report_script finds r other report d) (report_script finds l base report c)
     one_outcome (Err e) shows =
         let count = staying_counted report stays in
         record {
@@ -216,19 +216,19 @@ module _ (finds : Finds) (l r : Loaded) (c : Config) (can : CanSave l.profile c)
         let theirs : GivesTaken (finish finds r other report d s) made.0 =
         subst (λ script. GivesTaken script made.0) (sym (alike.comes_to s (showing_bound l.profile c s report stays shows) base other)) made.1 in
         record {
-          notes = (settled_of finds (basis_of report l c) report c.filtering s).notes;
+          notes = (settled_of finds (basis_of report l c.presentation) report c.filtering s).notes;
           outcome = made.0;
-          silent = subst (λ notes. GivesTaken (report_script finds r other report d) (reported_with notes made.0)) (unfiltered_silent c (matches_of (basis_of report r d).profile (report_finders finds (basis_of report r d) report d.filtering) d.filtering))
+          silent = subst (λ notes. GivesTaken (report_script finds r other report d) (reported_with notes made.0)) (unfiltered_silent c (matches_of (basis_of report r d.presentation).profile (report_finders finds (basis_of report r d.presentation) report d.filtering) d.filtering))
               (made_taken finds r report d count other s made.0 (saved_own (Ok s) shows) theirs);
           noted = made_taken finds l report c count base s made.0 (own (Ok s) shows) made.1;
         }
 
     -- Both come to one outcome.
     pub both : ComeToOne (report_script finds r other report d) (report_script finds l base report c)
-    both = one_outcome (showing_for report l.profile c) refl
+    both = one_outcome (showing_for report l.profile c.presentation) refl
 
   -- They report alike.
-  reports_alike : IsPlain c → ReportsAlike finds l r c
+  reports_alike : IsPlain c.presentation → ReportsAlike finds l r c
   reports_alike plain = record {
     figures = figures_alike;
     texts = λ report stays base other files answers others taken others_taken.
@@ -243,7 +243,7 @@ pub saved_same : (finds : Finds) (l : Loaded) (config c : Config) → HasFilters
 saved_same finds l config c has = ap (λ filtering. saved_by finds l (record config { filtering = filtering })) has
 
 -- what holds of the loaded profile and of the configuration
-pub can_save : (p : Profile) (c : Config) → NoRuleFails p → AllByRecursion (λ m. m.start < 2 ^ 64) p.mapping → IsSource p → CountsFiltered c → CanSave p c
+pub can_save : (p : Profile) (c : Config) → NoRuleFails p → AllByRecursion (λ m. m.start < 2 ^ 64) p.mapping → IsSource p → CountsFiltered c.presentation → CanSave p c.presentation
 can_save p c valid starts source counts = record {
   valid = valid;
   starts = starts;

@@ -67,7 +67,7 @@ head_is p f config column wanted =
     }
 
 -- without keys no frames are made from labels
-pub plain_basis : (report : Report) (l : Loaded) (config : Config) → NamesNoKey config → basis_of report l config ≡ l
+pub plain_basis : (report : Report) (l : Loaded) (config : Config) → NamesNoKey config.presentation → basis_of report l config.presentation ≡ l
 unfolding basis_of
 plain_basis report l config keyless = (λ i. if is_counted report then framed_by l (keyless.roots i) (keyless.leaves i) else l) ∙ by (is_counted report)
   where
@@ -75,7 +75,7 @@ plain_basis report l config keyless = (λ i. if is_counted report then framed_by
     by true = refl
     by false = refl
 
-module _ (finds : Finds) (l r : Loaded) (report : Report) (config : Config) (can : CanSave l.profile config) (is : IsSavedOf finds l config r) where
+module _ (finds : Finds) (l r : Loaded) (report : Report) (config : Config) (can : CanSave l.profile config.presentation) (is : IsSavedOf finds l config r) where
   abbrev f : Finders
   f = report_finders finds l report config.filtering
 
@@ -153,7 +153,7 @@ on_staying P top tree peek folded table reports.Changes stays = absurd (false≢
 on_staying P top tree peek folded table reports.Account stays = absurd (false≢true stays)
 
 module _ (finds : Finds) (l r : Loaded) (config : Config) (by_keys : config.presentation.path_tree ≡ false) (s : Showing) (within : IsColumnOf l.profile s.column)
-    (can : CanSave l.profile config) (is : IsSavedOf finds l config r) where
+    (can : CanSave l.profile config.presentation) (is : IsSavedOf finds l config r) where
   -- the report comes to the same text
   abbrev IsSame : Report → Type 0
   IsSame report = finish_on finds r report (unfiltered config) s ≡ finish_on finds l report config s
@@ -194,7 +194,7 @@ module _ (finds : Finds) (l r : Loaded) (config : Config) (by_keys : config.pres
   text_same report stays = on_staying IsSame top_is tree_is peek_is folded_is table_is report stays
 
 -- shows what the configuration shows, filtered or not
-unfiltered_shows : (report : Report) (p : Profile) (config : Config) → showing_for report p (unfiltered config) ≡ showing_for report p config
+unfiltered_shows : (report : Report) (p : Profile) (config : Config) → showing_for report p (unfiltered config).presentation ≡ showing_for report p config.presentation
 unfiltered_shows report p config = refl
 
 -- none of them compares with a base

@@ -96,7 +96,7 @@ none_of_base p f config q keeps plain =
 pub relative_total : (p : Profile) (f : Finders) (config : Config) (column : Option ℕ) → config.presentation.relative_percentages ≡ true → list_any (is_base p) p.sample ≡ false
     → total_of p f config column ≡ absolute (seen_samples p f config column p.sample)
 relative_total p f config column relative plain =
-    ap (λ (b : Bool). total_over p config column (if b then filtered_samples p f config.filtering p.sample else p.sample)) relative
+    ap (λ (b : Bool). total_over p config.presentation column (if b then filtered_samples p f config.filtering p.sample else p.sample)) relative
     ∙ plain_total p config column (filtered_samples p f config.filtering p.sample) (none_among (is_base p) (λ s. is_some (filtered_stack p f config.filtering s)) p.sample plain)
     ∙ sym (absolute_seen p f config column p.sample)
 

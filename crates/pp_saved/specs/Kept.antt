@@ -25,7 +25,7 @@ use Rattle.pp_saved.specs.Premises.{CanSave, unfiltered, own_alone}
 abbrev pub SavedFigures : Type 0
 SavedFigures =
     (p : Profile) (f : Finders) (config : Config) (column : Option ℕ)
-    → CanSave p config → IsColumnOf p column
+    → CanSave p config.presentation → IsColumnOf p column
     → figures (saved p f config.filtering) (own_alone f) (unfiltered config) column ≡ figures p f config column
 
 -- The two reports print the same: top, tree and peek under the same head, whether peek finds anything, table of the
@@ -46,14 +46,14 @@ pub record PrintAlike (p : Profile) (f : Finders) (config : Config) (q : Profile
 abbrev pub SavedTexts : Type 0
 SavedTexts =
     (p : Profile) (f : Finders) (config : Config) (column : Option ℕ)
-    → CanSave p config → IsColumnOf p column
+    → CanSave p config.presentation → IsColumnOf p column
     → PrintAlike p f config (saved p f config.filtering) (own_alone f) (unfiltered config) column
 
 -- A text asks for the same column of both.
 abbrev pub SavedColumns : Type 0
 SavedColumns =
     (p : Profile) (f : Finders) (config : Config) (text : List ℕ)
-    → CanSave p config → column_of (saved p f config.filtering) text ≡ column_of p text
+    → CanSave p config.presentation → column_of (saved p f config.filtering) text ≡ column_of p text
 
 -- A saved profile lasts, under three premises on the profile that it is saved from. No table rule fails
 -- there, its mappings start below 2^64, and it stays as it is when it is merged alone.

@@ -29,18 +29,18 @@ pub record IsSource (p : Profile) : Type 0 where
   pub plain : list_any (is_base p) p.sample ≡ false
 
 -- Total is that of the filtered samples, and values are not divided.
-pub record CountsFiltered (config : Config) : Type 0 where
-  pub relative : config.presentation.relative_percentages ≡ true
-  pub divide_by : config.presentation.divide_by ≡ 1
+pub record CountsFiltered (presentation : Presentation) : Type 0 where
+  pub relative : presentation.relative_percentages ≡ true
+  pub divide_by : presentation.divide_by ≡ 1
 
 -- The profile keeps the table rules, its mappings start below 2^64, and it stays as it is when it is merged alone: so
 -- it is with each that was loaded. No value is below 0, and no sample is one of a base. Total is that of the filtered
 -- samples, and values are not divided.
-pub record CanSave (p : Profile) (config : Config) : Type 0 where
+pub record CanSave (p : Profile) (presentation : Presentation) : Type 0 where
   pub valid : NoRuleFails p
   pub starts : AllByRecursion (λ m. m.start < 2 ^ 64) p.mapping
   pub settled : merged p [] ≡ p
   pub least : All (λ s. All (λ v. pos 0 ≤ℤ v) s.value) p.sample
   pub plain : list_any (is_base p) p.sample ≡ false
-  pub relative : config.presentation.relative_percentages ≡ true
-  pub divide_by : config.presentation.divide_by ≡ 1
+  pub relative : presentation.relative_percentages ≡ true
+  pub divide_by : presentation.divide_by ≡ 1

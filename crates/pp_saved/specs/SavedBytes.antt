@@ -58,7 +58,7 @@ pub record ReportsAlike (finds : Finds) (l r : Loaded) (c : Config) : Type 0 whe
 -- filtered samples, values are not divided, the tree is by keys, and no frames are made from labels.
 abbrev pub ReportsAsFiltered : Finds → Loaded → Config → Type 0
 ReportsAsFiltered finds l config =
-    (c : Config) → HasFiltersOf config c → CountsFiltered c → IsPlain c
+    (c : Config) → HasFiltersOf config c → CountsFiltered c.presentation → IsPlain c.presentation
     → (r : Loaded) → IsSavedOf finds l config r → ReportsAlike finds l r c
 
 -- The text of a proto report.
@@ -79,6 +79,6 @@ pub record IsSavedText (finds : Finds) (l : Loaded) (config : Config) (text : Li
 abbrev pub SavedBytes : Type 0
 SavedBytes =
     (finds : Finds) (l : Loaded) (config : Config) (text : List ℕ)
-    → IsCountable l.profile → NamesNoKey config
-    → IsProtoBy finds (basis_of reports.Proto l config) config.filtering text
+    → IsCountable l.profile → NamesNoKey config.presentation
+    → IsProtoBy finds (basis_of reports.Proto l config.presentation) config.filtering text
     → IsSavedText finds l config text

@@ -27,19 +27,19 @@ pub record IsSavedOf (finds : Finds) (l : Loaded) (config : Config) (r : Loaded)
   pub keep : r.keep ≡ None
 
 -- No frames are made from labels.
-pub record NamesNoKey (config : Config) : Type 0 where
-  pub roots : key_list config.presentation.tagroot ≡ []
-  pub leaves : key_list config.presentation.tagleaf ≡ []
+pub record NamesNoKey (presentation : Presentation) : Type 0 where
+  pub roots : key_list presentation.tagroot ≡ []
+  pub leaves : key_list presentation.tagleaf ≡ []
 
 -- The tree is by keys, and no frames are made from labels.
-pub record IsPlain (config : Config) : Type 0 where
-  pub path_tree : config.presentation.path_tree ≡ false
-  pub keyless : NamesNoKey config
+pub record IsPlain (presentation : Presentation) : Type 0 where
+  pub path_tree : presentation.path_tree ≡ false
+  pub keyless : NamesNoKey presentation
 
 -- Under the second configuration the report of r shows what that of l shows under the first, or is refused likewise;
 -- and it comes to the same text, or finds no function as well, whatever bases were given.
 pub record ReportAlike (finds : Finds) (l r : Loaded) (report : Report) (config d : Config) : Type 0 where
-  pub shows : showing_for report r.profile d ≡ showing_for report l.profile config
+  pub shows : showing_for report r.profile d.presentation ≡ showing_for report l.profile config.presentation
   pub comes_to : (showing : Showing) → IsColumnOf l.profile showing.column
       → (base other : Option BaseKind)
       → finish finds r other report d showing ≡ finish finds l base report config showing
@@ -49,5 +49,5 @@ pub record ReportAlike (finds : Finds) (l r : Loaded) (report : Report) (config 
 abbrev pub SavedReports : Type 0
 SavedReports =
     (finds : Finds) (l r : Loaded) (report : Report) (config : Config)
-    → stays_saved report ≡ true → CanSave l.profile config → IsPlain config
+    → stays_saved report ≡ true → CanSave l.profile config.presentation → IsPlain config.presentation
     → IsSavedOf finds l config r → ReportAlike finds l r report config (unfiltered config)

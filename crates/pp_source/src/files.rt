@@ -62,7 +62,7 @@ pub fn read_sources<D: Desk>(
     desk: &mut D,
 ) -> Result<List<Source>, Stop>
     ensures { Went (D.world desk.old) (D.world desk.new)
-        (read_sources config.now [] (map (λ f. f.now) files.now)) result }
+        (read_sources config.now.environment [] (map (λ f. f.now) files.now)) result }
 {
     let mut sources = List::new(alloc);
     for file in files {

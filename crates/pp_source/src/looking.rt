@@ -19,7 +19,7 @@ pub fn source_of<D: Desk>(
     file: &[u8],
     desk: &mut D,
 ) -> Result<Source, Stop>
-    ensures { Went (D.world desk.old) (D.world desk.new) (source_of config.now file.now) result }
+    ensures { Went (D.world desk.old) (D.world desk.new) (source_of config.now.environment file.now) result }
 {
     if file.is_empty() {
         return Ok(Source::NoName);

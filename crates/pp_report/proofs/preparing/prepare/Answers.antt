@@ -24,7 +24,7 @@ returns-in-Err-framed_for-clause-went g c = wants _ _
 -- it is refused at once
 pub returns-in-Err-clause-went : goal.returns-in-Err-clause-went
 returns-in-Err-clause-went g c =
-    prepare_refused g.D.Desk.finds (basis_of c.args.report.now c.args.l.now c.args.config.now) c.args.report.now c.args.config.now _ c.in-Err.refusal
+    prepare_refused g.D.Desk.finds (basis_of c.args.report.now c.args.l.now c.args.config.now.presentation) c.args.report.now c.args.config.now _ c.in-Err.refusal
     (ap (result_map_both showing (λ (r : ReportRefusal). r)) (sym c.in-Err.is) ∙ c.in_ok-shows.ensures.value ∙ sym (basis_shows c.args.l.now c.args.report.now c.args.config.now))
 
 -- a report that isn't counted asks for nothing
@@ -32,7 +32,7 @@ pub returns-then-not-is_counted-clause-went : goal.returns-then-not-is_counted-c
 returns-then-not-is_counted-clause-went g c =
     let none : is_counted c.args.report.now ≡ false = search rules in
     let known = ap (result_map_both showing (λ (r : ReportRefusal). r)) (sym c.in-Ok.is) ∙ c.in_ok-shows.ensures.value ∙ sym (basis_shows c.args.l.now c.args.report.now c.args.config.now) in
-    rw c.new.ensures (prepare_uncounted g.D.Desk.finds (basis_of c.args.report.now c.args.l.now c.args.config.now) c.args.report.now c.args.config.now _ (showing c.in-Ok.shows) none known)
+    rw c.new.ensures (prepare_uncounted g.D.Desk.finds (basis_of c.args.report.now c.args.l.now c.args.config.now.presentation) c.args.report.now c.args.config.now _ (showing c.in-Ok.shows) none known)
 
 pub returns-then-not-is_counted-clause-prepared : goal.returns-then-not-is_counted-clause-prepared
 returns-then-not-is_counted-clause-prepared g c =
@@ -46,7 +46,7 @@ counts_for-requires-clause-column g c = λ _ _.
     let yes : is_counted c.args.report.now ≡ true = search rules in
     let over = c.basis.ensures ∙ c.in-Ok-framed_for.ensures.framed ∙ basis_counted c.args.l.now c.args.report.now c.args.config.now yes in
     subst (λ (q : Loaded). IsColumnOf q.profile c.in-Ok.shows.column) (sym over)
-    (same_bound c.args.l.now.profile (basis_of c.args.report.now c.args.l.now c.args.config.now).profile
+    (same_bound c.args.l.now.profile (basis_of c.args.report.now c.args.l.now c.args.config.now.presentation).profile
     (basis_types c.args.l.now c.args.report.now c.args.config.now) c.in-Ok.shows.column (IfOk-at_ok _ c.in-Ok.is c.in_ok-shows.ensures.bound))
 
 -- all was counted over the profile with the frames
@@ -55,7 +55,7 @@ returns-in-Ok-Ok-clause-went g c =
     let yes : is_counted c.args.report.now ≡ true = search rules in
     let known = ap (result_map_both showing (λ (r : ReportRefusal). r)) (sym c.in-Ok.is) ∙ c.in_ok-shows.ensures.value ∙ sym (basis_shows c.args.l.now c.args.report.now c.args.config.now) in
     let over = c.basis.ensures ∙ c.in-Ok-framed_for.ensures.framed ∙ basis_counted c.args.l.now c.args.report.now c.args.config.now yes in
-    prepare_counted g.D.Desk.finds (basis_of c.args.report.now c.args.l.now c.args.config.now) c.args.report.now c.args.config.now _ over _ _ (showing c.in-Ok.shows) _
+    prepare_counted g.D.Desk.finds (basis_of c.args.report.now c.args.l.now c.args.config.now.presentation) c.args.report.now c.args.config.now _ over _ _ (showing c.in-Ok.shows) _
     yes known (rw c.in-Ok-Ok.field-0-is at c.in-Ok-Ok.ensures.went)
 
 pub returns-in-Ok-Ok-clause-prepared : goal.returns-in-Ok-Ok-clause-prepared
@@ -72,7 +72,7 @@ returns-in-Ok-Err-clause-went g c =
     let yes : is_counted c.args.report.now ≡ true = search rules in
     let known = ap (result_map_both showing (λ (r : ReportRefusal). r)) (sym c.in-Ok.is) ∙ c.in_ok-shows.ensures.value ∙ sym (basis_shows c.args.l.now c.args.report.now c.args.config.now) in
     let over = c.basis.ensures ∙ c.in-Ok-framed_for.ensures.framed ∙ basis_counted c.args.l.now c.args.report.now c.args.config.now yes in
-    prepare_counted g.D.Desk.finds (basis_of c.args.report.now c.args.l.now c.args.config.now) c.args.report.now c.args.config.now _ over _ _ (showing c.in-Ok.shows) _
+    prepare_counted g.D.Desk.finds (basis_of c.args.report.now c.args.l.now c.args.config.now.presentation) c.args.report.now c.args.config.now _ over _ _ (showing c.in-Ok.shows) _
     yes known (rw c.in-Ok-Err.field-0-is at c.in-Ok-Err.ensures.went)
 
 -- it was stopped over it
@@ -81,5 +81,5 @@ returns-in-Err-counts_for-clause-went g c =
     let yes : is_counted c.args.report.now ≡ true = search rules in
     let known = ap (result_map_both showing (λ (r : ReportRefusal). r)) (sym c.in-Ok.is) ∙ c.in_ok-shows.ensures.value ∙ sym (basis_shows c.args.l.now c.args.report.now c.args.config.now) in
     let over = c.basis.ensures ∙ c.in-Ok-framed_for.ensures.framed ∙ basis_counted c.args.l.now c.args.report.now c.args.config.now yes in
-    prepare_counted g.D.Desk.finds (basis_of c.args.report.now c.args.l.now c.args.config.now) c.args.report.now c.args.config.now _ over _ _ (showing c.in-Ok.shows)
+    prepare_counted g.D.Desk.finds (basis_of c.args.report.now c.args.l.now c.args.config.now.presentation) c.args.report.now c.args.config.now _ over _ _ (showing c.in-Ok.shows)
     (Err c.in-Err-counts_for.stop) yes known c.in-Err-counts_for.ensures.went
