@@ -76,4 +76,4 @@ dropped_within all first count i within here = omega (arith, within, here, lengt
 -- what is left is as small as the whole
 pub dropped_size : (scope : Scope) (all : List Sample) (first : ℕ) → size_of scope all < 2 ^ 63 → size_of scope (drop first all) < 2 ^ 63
 dropped_size scope all first fits =
-    omega (arith, fits, sum_by-take-drop (λ (x : Sample). nat_abs (selected scope.column (config_of scope).presentation.divide_by x)) all first)
+    omega (arith, fits, sum_by-take-drop (λ (x : Sample). nat_abs (selected scope.column scope.config.now.presentation.divide_by x)) all first)

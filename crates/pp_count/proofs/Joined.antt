@@ -40,7 +40,7 @@ use Rattle.pp_count.proofs.Renaming.{occurs_below, occurs_named, cum-renamed, fl
 
 -- The part of a range, by what its samples are.
 pub range_part : (scope : Scope) (number m : ℕ) (samples : List Sample) (part : Part) → scope.over ≡ None → scope.chosen ≡ None → IsCompact (profile_in_scope scope)
-    → IsKeyTable (profile_in_scope scope) (config_of scope).grouping scope.table.now → number ≡ m → IsPartOf scope number samples part
+    → IsKeyTable (profile_in_scope scope) scope.grouping scope.table.now → number ≡ m → IsPartOf scope number samples part
     → IsRangePart scope.l.now scope.v.now (config_of scope) scope.column scope.table.now.names m samples part
 range_part scope number m samples part none all compact table same is =
     let n : ℕ = length scope.table.now.names in
@@ -50,7 +50,7 @@ range_part scope number m samples part none all compact table same is =
     let sums_are : AreKeySums S part.sums = subst (λ (r : List (Seen ℕ)). AreKeySums (weighed r) part.sums) (plain scope none is.seen) is.sums in
     let far = apart (profile_in_scope scope) compact scope.table.now.names table.keys table.distinct in
     record {
-      kept = λ f holds. is.kept f holds ∙ ap (λ j. filtered_from (profile_in_scope scope) f (config_of scope).filtering j samples) same;
+      kept = λ f holds. is.kept f holds ∙ ap (λ j. filtered_from (profile_in_scope scope) f scope.config.now.filtering j samples) same;
       sums = λ f holds.
           let T_is : map (renamed name) S ≡ weighed (seen_samples (profile_in_scope scope) f (config_of scope) scope.column samples) =
           sym (weighed-renamed name is.seen) ∙ ap weighed (is.are.are f holds) in

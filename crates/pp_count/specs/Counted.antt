@@ -60,7 +60,7 @@ pub record FitSums (sums : Sums) : Type 0 where
 
 -- The sums of all samples of the scope are under the keys of these numbers. No public clause cites it.
 pub record AreKeyed (scope : Scope) (keyed : NumberedSums) : Type 0 where
-  pub sums : (f : Finders) → HoldsFilters scope.l.now scope.v.now (config_of scope).filtering f
+  pub sums : (f : Finders) → HoldsFilters scope.l.now scope.v.now scope.config.now.filtering f
       → AreSumsOf (profile_in_scope scope) (report_samples (profile_in_scope scope) f (config_of scope) scope.column) keyed.sums
   pub fits : FitSums keyed.sums
   pub of_profile : All (IsKeyOf (profile_in_scope scope)) keyed.sums.names
